@@ -1,0 +1,12 @@
+-- What is left of a budget of nodes and payload.
+use Rattle.std.specs.Prelude.{◌≡◌, ℕ, ◌+◌, ◌≤◌}
+use Rattle.plist_value.specs.declared.limits.Budget.{Budget}
+
+-- the second budget is the first less so many nodes and so much payload
+pub record Spends (before : Budget) (nodes payload : ℕ) (after : Budget) : Type 0 where
+  pub nodes_left : after.nodes + nodes ≡ before.nodes
+  pub payload_left : after.payload + payload ≡ before.payload
+
+-- so many nodes or so much payload is more than the budget has
+abbrev pub IsOver : Budget → ℕ → ℕ → Type 0
+IsOver before nodes payload = nodes ≤ before.nodes → payload ≤ before.payload → ⊥

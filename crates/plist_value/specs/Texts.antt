@@ -1,0 +1,19 @@
+-- The units of a text, whichever way it is kept.
+use Rattle.std.specs.Prelude.{ℕ, ◌+◌, ◌*◌, List, [], ◌∷◌}
+use Rattle.plist_value.specs.declared.text_ref.Kept.{Kept}
+use Rattle.plist_value.specs.declared.text_ref.Kept.TheVariants.{Units, Ascii, Wide}
+use Rattle.plist_value.specs.declared.text_ref.TextRef.{TextRef}
+
+-- the units that stand in octets two by two, the high octet first; an octet left over gives none
+abbrev pub wide_units : List ℕ → List ℕ
+wide_units [] = []
+wide_units (x ∷ []) = []
+wide_units (high ∷ low ∷ rest) = (256 * high + low) ∷ wide_units rest
+
+abbrev pub units_kept : Kept → List ℕ
+units_kept (Units units) = units.now
+units_kept (Ascii octets) = octets.now
+units_kept (Wide octets) = wide_units octets.now
+
+abbrev pub units_of : TextRef → List ℕ
+units_of t = units_kept t.kept

@@ -1,0 +1,7 @@
+-- The number that a `Whole` stands for.
+use Rattle.std.specs.Prelude.{ℤ}
+use Rattle.plist_value.specs.Numbers.{number_kept}
+use Rattle.plist_value.specs.declared.whole.Whole.{Whole}
+
+abbrev pub number_of : Whole → ℤ
+number_of w = number_kept w.kept

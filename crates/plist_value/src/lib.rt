@@ -1,0 +1,28 @@
+//! The values that property lists spell, and how large they may be.
+#![tactic(auto)]
+
+pub mod limits;
+pub mod scalar_ref;
+pub mod text_ref;
+pub mod utf16;
+pub mod value;
+pub mod whole;
+
+pub use limits::fits;
+pub use scalar_ref::ScalarRef;
+pub use text_ref::TextRef;
+pub use utf16::Utf16;
+pub use value::Value;
+pub use whole::Whole;
+
+/// The greatest number of nodes of a value that is read or written: each scalar, each container and each
+/// key is one node.
+pub const MAX_NODES: u64 = 16_777_216;
+
+/// The greatest depth: a scalar or an empty container has depth 1, any other container one more than the
+/// deepest value in it.
+pub const MAX_DEPTH: u64 = 512;
+
+/// The greatest payload, in octets: two for each UTF-16 unit of a text, one for each octet of data, over
+/// the whole tree, keys included.
+pub const MAX_PAYLOAD: u64 = 1_073_741_824;

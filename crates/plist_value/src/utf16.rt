@@ -1,0 +1,76 @@
+ghost use Rattle.std.specs.Prelude.{◌≡◌, ℕ, List, nat_eq};
+ghost use Rattle.std.specs.Ordering.{nat_cmp, as_partial_cmp};
+ghost use Rattle.std.specs.Cmp.{partial_order_from_own_ties};
+ghost use Rattle.std.specs.Cmp.Lexicographic.{pointwise, slice_cmp};
+ghost use Rattle.std.specs.Cmp.Rules.{comparing};
+ghost use Rattle.std.proofs.Common.{rules};
+
+use std::cmp::Ordering;
+use std::marker::Model;
+
+/// A text: a list of UTF-16 units, any units, lone surrogates too. A contract sees it as that list.
+#[derive(Debug, Drop)]
+pub struct Utf16 {
+    units: Vec<u16>,
+}
+
+impl Model for Utf16 {
+    ghost Value = { List ℕ };
+
+    ghost view = { λ text. text.units.items };
+}
+
+impl Utf16 {
+    /// The text of these units.
+    pub fn from_units(units: Vec<u16>) -> Self
+        ensures { result ≡ units.items }
+    {
+        Utf16 { units }
+    }
+
+    /// The units of the text, in order.
+    pub fn units(&self) -> &[u16]
+        ensures { result.now ≡ self.now }
+    {
+        self.units.as_slice()
+    }
+}
+
+impl PartialEq for Utf16 {
+    ghost eq = { pointwise nat_eq };
+
+    ghost laws = { Prim.search (comparing, rules) };
+
+    fn eq(&self, other: &Utf16) -> bool {
+        self.units() == other.units()
+    }
+}
+
+impl Eq for Utf16 {
+    ghost laws = { Prim.search (comparing, rules) };
+}
+
+/// Unit by unit, a proper prefix first.
+impl Ord for Utf16 {
+    ghost cmp = { slice_cmp nat_cmp };
+
+    ghost total = { Prim.search (comparing, rules) };
+
+    ghost matches_partial_cmp = { Prim.search (comparing, rules) };
+
+    ghost matches_eq = { Prim.search (comparing, rules) };
+
+    fn cmp(&self, other: &Utf16) -> Ordering {
+        self.units().cmp(other.units())
+    }
+}
+
+impl PartialOrd for Utf16 {
+    ghost partial_cmp = { as_partial_cmp (slice_cmp nat_cmp) };
+
+    ghost laws = { partial_order_from_own_ties (Prim.search (comparing, rules)) (Prim.search (comparing, rules)) };
+
+    fn partial_cmp(&self, other: &Utf16) -> Option<Ordering> {
+        Some(self.cmp(other))
+    }
+}
