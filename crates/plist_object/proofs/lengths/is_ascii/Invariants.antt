@@ -1,0 +1,8 @@
+use Rattle.std.proofs.Common.{◌≡◌, nat_lt, drop}
+use Rattle.std.specs.List.{list_all}
+use Rattle.plist_value.specs.Texts.{units_of}
+use Rattle.plist_object.proofs.lengths.is_ascii.Given as goal
+
+abbrev pub invariant-loop-i : goal.invariant-loop-i
+invariant-loop-i l =
+    list_all (λ unit. nat_lt unit 128) (drop l.i (units_of l.text)) ≡ list_all (λ unit. nat_lt unit 128) (units_of l.text)

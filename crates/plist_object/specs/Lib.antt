@@ -1,0 +1,14 @@
+pub use Rattle.plist_value.specs.Plist
+pub use Rattle.plist_value.specs.Limits
+pub use Rattle.plist_value.specs.Texts
+pub use Rattle.plist_value.specs.Scalars
+pub use Rattle.byteorder.specs.Endian
+pub mod Layout
+pub mod Fields
+pub mod Objects
+pub mod Places
+pub mod Views
+pub mod Spelled
+pub mod Spelling
+pub mod Appending
+pub mod Sizes

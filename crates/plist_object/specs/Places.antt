@@ -1,0 +1,37 @@
+-- Where the objects of a laid file stand, and what they hold.
+use Rattle.std.specs.Prelude.{◌≡◌, ℕ, ◌+◌, ◌*◌, ◌<◌, nat_lt, nat_le, ◌&&◌, if◌then◌else◌, List, take, drop, Result, Ok, Err}
+use Rattle.byteorder.specs.Endian.{big_number}
+use Rattle.plist_object.specs.Layout.{Trailer, trailer_of}
+use Rattle.plist_object.specs.Objects.{Held, object_in, ◌>>=◌}
+use Rattle.plist_object.specs.declared.object.ObjectFault.{ObjectFault}
+use Rattle.plist_object.specs.declared.object.ObjectFault.TheVariants.{BadOffset}
+
+-- the entry of the offset table at i
+abbrev pub place_of : List ℕ → ℕ → ℕ
+place_of f i = let x = trailer_of f in big_number x.offset_width (drop (x.table + i * x.offset_width) f)
+
+-- the octets from the place of the object i up to the offset table, where it is behind the header and before
+-- the offset table
+unfoldable pub octets_at : List ℕ → ℕ → Result (List ℕ) ObjectFault
+octets_at f i =
+    let place = place_of f i in
+    let table = (trailer_of f).table in
+    if nat_le 8 place && nat_lt place table then Ok (drop place (take table f)) else Err BadOffset
+
+-- what the object i holds and the octets behind it up to the offset table, or its first fault
+unfoldable pub object_at : List ℕ → ℕ → Result (Held × List ℕ) ObjectFault
+object_at f i = do
+  octets ← octets_at f i
+  object_in (trailer_of f).reference_width octets
+
+-- the object i is one of the file's, and holds this
+pub record Holds (f : List ℕ) (i : ℕ) (held : Held) : Type 0 where
+  pub listed : i < (trailer_of f).count
+  pub behind : List ℕ
+  pub reads : object_at f i ≡ Ok (held, behind)
+
+-- what the object i holds, or its first fault
+unfoldable pub what_holds : List ℕ → ℕ → Result Held ObjectFault
+what_holds f i = do
+  read ← object_at f i
+  Ok read.0

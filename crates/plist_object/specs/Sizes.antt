@@ -1,0 +1,18 @@
+-- How large what is spelled may be, and how long its head is.
+use Rattle.std.specs.Prelude.{ℕ, ◌+◌, ◌<◌, ◌^◌, nat_lt, if◌then◌else◌, length, ⊤}
+use Rattle.plist_value.specs.Plist.{Scalar, text, whole, flag, real4, real8, moment, bytes}
+use Rattle.plist_object.specs.Spelling.{least_width}
+
+-- below 2^32 units or octets
+abbrev pub IsSmall : Scalar → Type 0
+IsSmall (text units) = length units < 2 ^ 32
+IsSmall (whole z) = ⊤
+IsSmall (flag b) = ⊤
+IsSmall (real4 xs) = ⊤
+IsSmall (real8 xs) = ⊤
+IsSmall (moment xs) = ⊤
+IsSmall (bytes xs) = length xs < 2 ^ 32
+
+-- the octets of a marker with its count
+abbrev pub head_size : ℕ → ℕ
+head_size n = if nat_lt n 15 then 1 else 2 + least_width n

@@ -1,0 +1,24 @@
+-- What a contract sees of a file, of references and of an object.
+use Rattle.std.specs.Prelude.{◌≡◌, ℕ, List, Result, Ok, Err}
+use Rattle.plist_value.specs.Scalars.{content_of}
+use Rattle.plist_object.specs.Objects.{Held, holds_scalar, holds_list, holds_table, numbers}
+use Rattle.plist_object.specs.declared.layout.BinFile.{BinFile}
+use Rattle.plist_object.specs.declared.refs.Refs.{Refs}
+use Rattle.plist_object.specs.declared.object.Object.{Object}
+use Rattle.plist_object.specs.declared.object.Object.TheVariants.{Scalar, List as ListOf, Table}
+
+abbrev pub octets_of : BinFile → List ℕ
+octets_of file = file.octets.now
+
+abbrev pub numbers_of : Refs → List ℕ
+numbers_of refs = numbers refs.width refs.count refs.octets.now
+
+abbrev pub held_of : Object → Held
+held_of (Scalar s) = holds_scalar (content_of s)
+held_of (ListOf items) = holds_list (numbers_of items)
+held_of (Table keys values) = holds_table (numbers_of keys) (numbers_of values)
+
+-- what a function returned, seen by the view, is what reading gives: the value, or the fault
+abbrev pub Gives : {X Y E : Type 0} → (X → Y) → Result X E → Result Y E → Type 0
+Gives view (Ok x) read = read ≡ Ok (view x)
+Gives view (Err e) read = read ≡ Err e

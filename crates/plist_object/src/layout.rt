@@ -1,0 +1,198 @@
+ghost use Rattle.std.specs.Prelude.{◌≡◌, ◌+◌, ◌*◌, ◌<◌, ◌≤◌, ◌^◌, ◌↔◌, IsTrue, MatchResult, length};
+ghost use Rattle.std.specs.Option.{SomeIff};
+ghost use Rattle.plist_object.specs.Layout.{IsLaid, IsLayoutFault, trailer_of};
+
+use crate::object::{Object, ObjectFault};
+use crate::reading;
+use crate::refs::number_at;
+use byteorder::{BigEndian, ByteOrder};
+use thiserror::Error;
+
+/// Why octets do not have the layout of a binary property list (CFBinaryPList.c; the bounds and the order
+/// of the tests are our profile).
+#[derive(Clone, Copy, Debug, PartialEq, Eq, Error)]
+pub enum LayoutFault {
+    /// There are fewer than 42 octets.
+    #[error("fewer than 42 octets")]
+    TooShort,
+    /// The first eight octets are not `bplist00`.
+    #[error("the header is not bplist00")]
+    BadHeader,
+    /// A width is not 1 to 8, or there is no object, or the top object is none of them, or the offset
+    /// table does not lie between the objects and the trailer, as long as it has to be.
+    #[error("the trailer's numbers do not fit the file")]
+    BadTrailer,
+}
+
+/// A binary property list, borrowed: octets that have the layout.
+#[derive(Clone, Copy, Debug)]
+pub struct BinFile<'a> {
+    octets: &'a [u8],
+    fields: Fields,
+    ghost laid: { IsLaid octets.now },
+    ghost offset_width_read: { fields.offset_width ≡ (trailer_of octets.now).offset_width },
+    ghost reference_width_read: { fields.reference_width ≡ (trailer_of octets.now).reference_width },
+    ghost count_read: { fields.count ≡ (trailer_of octets.now).count },
+    ghost top_read: { fields.top ≡ (trailer_of octets.now).top },
+    ghost table_read: { fields.table ≡ (trailer_of octets.now).table },
+}
+
+// The numbers in the trailer.
+#[derive(Clone, Copy, Debug)]
+struct Fields {
+    offset_width: u8,
+    reference_width: u8,
+    count: u64,
+    top: u64,
+    table: u64,
+}
+
+impl Fields {
+    ghost use Rattle.plist_object.specs.Fields.{trailer_in};
+
+    fn read(octets: &[u8]) -> Fields
+        requires { 42 ≤ length octets.now }
+        ensures { trailer_in result ≡ trailer_of octets.now }
+    {
+        let size = octets.len();
+        Fields {
+            offset_width: octets[size - 26],
+            reference_width: octets[size - 25],
+            count: BigEndian::read_u64(&octets[size - 24..]),
+            top: BigEndian::read_u64(&octets[size - 16..]),
+            table: BigEndian::read_u64(&octets[size - 8..]),
+        }
+    }
+
+    // The length of a file with this trailer, where it is a number of 64 bits.
+    fn size(&self) -> Option<u64>
+        ensures { SomeIff result (self.now.table + self.now.count * self.now.offset_width + 32 < 2 ^ 64) (self.now.table + self.now.count * self.now.offset_width + 32) }
+    {
+        let entries = self.count.checked_mul(u64::from(self.offset_width))?;
+        self.table.checked_add(entries)?.checked_add(32)
+    }
+}
+
+impl<'a> BinFile<'a> {
+    ghost use Rattle.plist_object.specs.Places.{place_of, octets_at, object_at, what_holds};
+    ghost use Rattle.plist_object.specs.Views.{Gives, held_of, octets_of};
+
+    /// The file in these octets.
+    pub fn of(octets: &'a [u8]) -> Result<BinFile<'a>, LayoutFault>
+        ensures laid { MatchResult result (λ file. octets_of file ≡ octets.entry.now) (λ fault. IsLayoutFault fault octets.entry.now) }
+        ensures ok { MatchResult result (λ _. IsLaid octets.entry.now) (λ _. ¬ IsLaid octets.entry.now) }
+    {
+        if octets.len() < 42 {
+            return Err(LayoutFault::TooShort);
+        }
+        if !octets.starts_with(b"bplist00") {
+            return Err(LayoutFault::BadHeader);
+        }
+        let fields = Fields::read(octets);
+        if !fits(&fields, octets.len()) {
+            return Err(LayoutFault::BadTrailer);
+        }
+        Ok(BinFile { octets, fields })
+    }
+
+    /// The number of objects, at least 1.
+    pub fn count(&self) -> u64
+        ensures { result ≡ (trailer_of (octets_of self.now)).count }
+    {
+        self.fields.count
+    }
+
+    /// The number of the top object, below `count`.
+    pub fn top(&self) -> u64
+        ensures value { result ≡ (trailer_of (octets_of self.now)).top }
+        ensures below { result < (trailer_of (octets_of self.now)).count }
+    {
+        self.fields.top
+    }
+
+    /// How many octets an entry of the offset table has, from 1 to 8.
+    pub fn offset_width(&self) -> u8
+        ensures value { result ≡ (trailer_of (octets_of self.now)).offset_width }
+        ensures least { 1 ≤ result }
+        ensures most { result ≤ 8 }
+    {
+        self.fields.offset_width
+    }
+
+    /// How many octets a reference has, from 1 to 8.
+    pub fn reference_width(&self) -> u8
+        ensures value { result ≡ (trailer_of (octets_of self.now)).reference_width }
+        ensures least { 1 ≤ result }
+        ensures most { result ≤ 8 }
+    {
+        self.fields.reference_width
+    }
+
+    /// The place of the offset table, in octets from the file's first.
+    pub fn table(&self) -> u64
+        ensures value { result ≡ (trailer_of (octets_of self.now)).table }
+        ensures within { result ≤ length (octets_of self.now) }
+    {
+        self.fields.table
+    }
+
+    /// The place of the object `n`, which is below `count`, in octets from the file's first: the entry of
+    /// the offset table.
+    pub fn place(&self, n: u64) -> u64
+        requires { n < (trailer_of (octets_of self.now)).count }
+        ensures { result ≡ place_of (octets_of self.now) n }
+    {
+        let table = &self.octets[self.fields.table as usize..];
+        number_at(table, usize::from(self.fields.offset_width), n as usize)
+    }
+
+    /// What the object `n`, which is below `count`, holds, or its first fault.
+    #[tactic(auto, unfolding(crate::specs::Places::what_holds))]
+    pub fn object(&self, n: u64) -> Result<Object<'a>, ObjectFault>
+        requires { n < (trailer_of (octets_of self.now)).count }
+        ensures { Gives held_of result (what_holds (octets_of self.now) n) }
+    {
+        let (object, _) = self.read(n)?;
+        Ok(object)
+    }
+
+    // What the object holds, and the octets behind it.
+    #[tactic(auto, unfolding(crate::specs::Places::object_at))]
+    fn read(&self, n: u64) -> Result<(Object<'a>, &'a [u8]), ObjectFault>
+        requires { n < (trailer_of (octets_of self.now)).count }
+        ensures { Gives (λ p. (held_of p.0, p.1.now)) result (object_at (octets_of self.now) n) }
+    {
+        let octets = self.octets_at(n)?;
+        reading::object(octets, self.fields.reference_width)
+    }
+
+    #[tactic(auto, unfolding(crate::specs::Places::octets_at))]
+    fn octets_at(&self, n: u64) -> Result<&'a [u8], ObjectFault>
+        requires { n < (trailer_of (octets_of self.now)).count }
+        ensures { Gives (λ octets. octets.now) result (octets_at (octets_of self.now) n) }
+    {
+        let place = self.place(n);
+        let table = self.fields.table;
+        if place < 8 || table <= place {
+            return Err(ObjectFault::BadOffset);
+        }
+        let objects = &self.octets[..table as usize];
+        Ok(&objects[place as usize..])
+    }
+}
+
+ghost use Rattle.plist_object.specs.Layout.{IsTrailer};
+ghost use Rattle.plist_object.specs.Fields.{trailer_in};
+
+// Whether the numbers fit one another, and a file of so many octets.
+fn fits(fields: &Fields, size: usize) -> bool
+    ensures { IsTrue result ↔ IsTrailer size (trailer_in fields.now) }
+{
+    let is_width = |width: u8| 1 <= width && width <= 8;
+    is_width(fields.offset_width)
+        && is_width(fields.reference_width)
+        && 1 <= fields.count
+        && fields.top < fields.count
+        && 9 <= fields.table
+        && fields.size() == Some(size as u64)
+}

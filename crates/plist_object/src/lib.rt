@@ -1,0 +1,16 @@
+//! Binary property lists on borrowed octets: the layout of a file, what stands at a place, and the one
+//! canonical spelling of an object.
+#![tactic(auto)]
+
+pub mod layout;
+pub mod lengths;
+pub mod object;
+pub mod puts;
+mod reading;
+pub mod refs;
+
+pub use layout::{BinFile, LayoutFault};
+pub use lengths::{scalar_length, width_of};
+pub use object::{Object, ObjectFault};
+pub use puts::put_scalar;
+pub use refs::Refs;

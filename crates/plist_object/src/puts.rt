@@ -1,0 +1,166 @@
+ghost use Rattle.std.specs.Prelude.{◌≡◌, ◌+◌, ◌*◌, ◌<◌, ◌≤◌, ◌^◌, [], ◌∷◌, ◌++◌, length, OnOk, OnErr, nat_lt, replicate, true};
+ghost use Rattle.std.specs.List.{list_all};
+ghost use Rattle.byteorder.specs.Endian.{big_bytes};
+ghost use Rattle.plist_value.specs.Plist.{IsWhole};
+ghost use Rattle.plist_value.specs.Texts.{units_of};
+ghost use Rattle.plist_value.specs.Scalars.{content_of};
+ghost use Rattle.plist_object.specs.Appending.{Appends, HasRoom};
+ghost use Rattle.plist_object.specs.Sizes.{IsSmall};
+ghost use Rattle.plist_object.specs.Spelling.{head, least_integer, references, scalar_spelling, text_spelling, whole_spelling};
+
+use crate::lengths::{is_ascii, scalar_length, width_of};
+use byteorder::{BigEndian, ByteOrder};
+use plist_value::{ScalarRef, TextRef};
+use std::alloc::AllocError;
+
+/// Puts the canonical spelling of a scalar behind the octets of `out`, which stay as they are where there
+/// is no memory. A text or data has below 2^32 units or octets.
+pub fn put_scalar(out: &mut Vec<u8>, scalar: &ScalarRef) -> Result<(), AllocError>
+    requires { IsSmall (content_of scalar.now) }
+    ensures ok { OnOk result (out.new.items ≡ out.old.items ++ scalar_spelling (content_of scalar.now)) }
+    ensures err { OnErr result (out.new.items ≡ out.old.items) }
+{
+    out.reserve(scalar_length(scalar) as usize)?;
+    match scalar {
+        ScalarRef::Text(text) => push_text(out, text),
+        ScalarRef::Whole(whole) => push_whole(out, whole.get()),
+        ScalarRef::Flag(flag) => push_octet(out, if *flag { 0x09 } else { 0x08 }),
+        ScalarRef::Real4(octets) => push_marked(out, 0x22, octets),
+        ScalarRef::Real8(octets) => push_marked(out, 0x23, octets),
+        ScalarRef::Moment(octets) => push_marked(out, 0x33, octets),
+        ScalarRef::Bytes(octets) => push_data(out, octets),
+    }
+    Ok(())
+}
+
+fn push_octet(out: &mut Vec<u8>, octet: u8)
+    requires { HasRoom out.old 1 }
+    ensures { Appends out.old out.new (octet ∷ []) }
+{
+    out.push_reserved(octet);
+}
+
+fn push_octets(out: &mut Vec<u8>, octets: &[u8])
+    requires { HasRoom out.old (length octets.now) }
+    ensures { Appends out.old out.new octets.now }
+{
+    out.extend_from_slice(octets).unwrap();
+}
+
+fn push_marked(out: &mut Vec<u8>, marker: u8, octets: &[u8])
+    requires { HasRoom out.old (1 + length octets.now) }
+    ensures { Appends out.old out.new (marker ∷ octets.now) }
+{
+    push_octet(out, marker);
+    push_octets(out, octets);
+}
+
+// The number in so many octets.
+fn push_number(out: &mut Vec<u8>, n: u64, width: u8)
+    requires width_least { 1 ≤ width }
+    requires width_most { width ≤ 8 }
+    requires fits { n < 256 ^ width }
+    requires room { HasRoom out.old width }
+    ensures { Appends out.old out.new (big_bytes width n) }
+{
+    let width = usize::from(width);
+    let mut digits = [0; 8];
+    BigEndian::write_uint(&mut digits, n, width);
+    push_octets(out, &digits[..width]);
+}
+
+fn push_integer(out: &mut Vec<u8>, n: u64)
+    requires { HasRoom out.old (length (least_integer n)) }
+    ensures { Appends out.old out.new (least_integer n) }
+{
+    let width = width_of(n);
+    let marker = match width {
+        1 => 0x10,
+        2 => 0x11,
+        4 => 0x12,
+        _ => 0x13,
+    };
+    push_octet(out, marker);
+    push_number(out, n, width);
+}
+
+// A marker whose low half is the count, or 15 and the count behind it.
+fn push_head(out: &mut Vec<u8>, kind: u8, count: u64)
+    requires kind { kind < 16 }
+    requires room { HasRoom out.old (length (head kind count)) }
+    ensures { Appends out.old out.new (head kind count) }
+{
+    if count < 15 {
+        push_octet(out, 16 * kind + count as u8);
+    } else {
+        push_octet(out, 16 * kind + 15);
+        push_integer(out, count);
+    }
+}
+
+fn push_data(out: &mut Vec<u8>, octets: &[u8])
+    requires { HasRoom out.old (length (head 4 (length octets.now)) + length octets.now) }
+    ensures { Appends out.old out.new (head 4 (length octets.now) ++ octets.now) }
+{
+    push_head(out, 0x4, octets.len() as u64);
+    push_octets(out, octets);
+}
+
+fn push_whole(out: &mut Vec<u8>, number: i128)
+    requires range { IsWhole number }
+    requires room { HasRoom out.old (length (whole_spelling number)) }
+    ensures { Appends out.old out.new (whole_spelling number) }
+{
+    if number < 0 {
+        push_octet(out, 0x13);
+        push_number(out, (number as i64).cast_unsigned(), 8);
+    } else if number < 1 << 63 {
+        push_integer(out, number as u64);
+    } else {
+        push_long_whole(out, number as u64);
+    }
+}
+
+// The number in sixteen octets.
+fn push_long_whole(out: &mut Vec<u8>, n: u64)
+    requires { HasRoom out.old 17 }
+    ensures { Appends out.old out.new (20 ∷ (replicate 8 0 ++ big_bytes 8 n)) }
+{
+    push_marked(out, 0x14, &[0; 8]);
+    push_number(out, n, 8);
+}
+
+fn push_text(out: &mut Vec<u8>, text: &TextRef)
+    requires { HasRoom out.old (length (text_spelling (units_of text.now))) }
+    ensures { Appends out.old out.new (text_spelling (units_of text.now)) }
+{
+    let count = text.len() as u64;
+    if is_ascii(text) {
+        push_head(out, 0x5, count);
+        push_ascii(out, text);
+    } else {
+        push_head(out, 0x6, count);
+        push_wide(out, text);
+    }
+}
+
+// Each unit in one octet.
+fn push_ascii(out: &mut Vec<u8>, text: &TextRef)
+    requires ascii { list_all (λ unit. nat_lt unit 128) (units_of text.now) ≡ true }
+    requires room { HasRoom out.old (length (units_of text.now)) }
+    ensures { Appends out.old out.new (units_of text.now) }
+{
+    for i in 0..text.len() {
+        push_octet(out, text.unit(i) as u8);
+    }
+}
+
+// Each unit in two octets.
+fn push_wide(out: &mut Vec<u8>, text: &TextRef)
+    requires { HasRoom out.old (length (references 2 (units_of text.now))) }
+    ensures { Appends out.old out.new (references 2 (units_of text.now)) }
+{
+    for i in 0..text.len() {
+        push_number(out, u64::from(text.unit(i)), 2);
+    }
+}

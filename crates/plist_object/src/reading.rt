@@ -1,0 +1,232 @@
+// What an object that begins with some octets holds, and the octets behind it. The octets reach up to the
+// offset table.
+ghost use Rattle.std.specs.Prelude.{◌≡◌, ◌≢◌, ◌+◌, ◌*◌, ◌<◌, ◌≤◌, ◌/◌, ◌%◌, length, IfOk};
+ghost use Rattle.byteorder.specs.Endian.{big_number};
+ghost use Rattle.plist_object.specs.Objects.{cut, integer_length, count_spelled, count_of_content, content, whole_in, simple_object, whole_object, real_object, moment_object, data_object, ascii_object, wide_object, list_object, table_object, marked_object, object_in};
+ghost use Rattle.plist_object.specs.Views.{Gives, held_of};
+ghost use Rattle.plist_value.specs.Wholes.{number_of};
+
+use crate::{Object, ObjectFault, Refs};
+use byteorder::{BigEndian, ByteOrder};
+use plist_value::{ScalarRef, TextRef, Whole};
+
+type Read<'a, T> = Result<(T, &'a [u8]), ObjectFault>;
+
+fn cut(octets: &[u8], n: usize) -> Result<(&[u8], &[u8]), ObjectFault>
+    ensures { Gives (λ p. (p.0.now, p.1.now)) result (cut n octets.entry.now) }
+{
+    if octets.len() < n {
+        return Err(ObjectFault::CutObject);
+    }
+    Ok(octets.split_at(n))
+}
+
+fn integer_length(marker: u8) -> Result<usize, ObjectFault>
+    ensures read { result ≡ integer_length marker }
+    ensures small { IfOk result (λ n. (1 ≤ n) × (n ≢ 16 → n ≤ 8)) }
+{
+    match marker {
+        0x10 => Ok(1),
+        0x11 => Ok(2),
+        0x12 => Ok(4),
+        0x13 => Ok(8),
+        0x14 => Ok(16),
+        _ => Err(ObjectFault::BadMarker),
+    }
+}
+
+#[tactic(auto, unfolding(crate::specs::Objects::count_spelled))]
+fn count_spelled(octets: &[u8]) -> Read<'_, u128>
+    ensures { Gives (λ p. (p.0, p.1.now)) result (count_spelled octets.entry.now) }
+{
+    let Some((marker, octets)) = octets.split_first() else {
+        return Err(ObjectFault::CutObject);
+    };
+    let n = integer_length(*marker)?;
+    let (digits, rest) = cut(octets, n)?;
+    Ok((BigEndian::read_uint128(digits, n), rest))
+}
+
+#[tactic(auto, unfolding(crate::specs::Objects::count_of_content))]
+fn count_of_content(octets: &[u8], low: u8) -> Read<'_, u128>
+    ensures { Gives (λ p. (p.0, p.1.now)) result (count_of_content low octets.entry.now) }
+{
+    if low < 15 {
+        Ok((u128::from(low), octets))
+    } else {
+        count_spelled(octets)
+    }
+}
+
+// So many items of so many octets each.
+#[derive(Clone, Copy)]
+struct Counted<'a> {
+    count: u64,
+    octets: &'a [u8],
+}
+
+#[tactic(auto, unfolding(crate::specs::Objects::content))]
+fn content(octets: &[u8], low: u8, unit: usize) -> Read<'_, Counted<'_>>
+    requires { 0 < unit }
+    ensures read { Gives (λ p. (p.0.count, p.0.octets.now, p.1.now)) result (content unit low octets.entry.now) }
+    ensures whole { IfOk result (λ p. length p.0.octets.now ≡ p.0.count * unit) }
+{
+    let (count, octets) = count_of_content(octets, low)?;
+    if count > (octets.len() / unit) as u128 {
+        return Err(ObjectFault::CutObject);
+    }
+    let count = count as usize;
+    let (items, rest) = octets.split_at(count * unit);
+    Ok((
+        Counted {
+            count: count as u64,
+            octets: items,
+        },
+        rest,
+    ))
+}
+
+#[tactic(auto, unfolding(crate::specs::Objects::simple_object))]
+fn simple(octets: &[u8], low: u8) -> Read<'_, Object<'_>>
+    ensures { Gives (λ p. (held_of p.0, p.1.now)) result (simple_object low octets.entry.now) }
+{
+    match low {
+        0x0 => Err(ObjectFault::NullObject),
+        0x8 => Ok((Object::Scalar(ScalarRef::Flag(false)), octets)),
+        0x9 => Ok((Object::Scalar(ScalarRef::Flag(true)), octets)),
+        _ => Err(ObjectFault::BadMarker),
+    }
+}
+
+// The number in all of the octets, of which there are 1, 2, 4, 8 or 16.
+fn whole_in(octets: &[u8], n: usize) -> Result<Whole, ObjectFault>
+    requires whole { length octets.now ≡ n }
+    requires some { 1 ≤ n }
+    requires small { n ≢ 16 → n ≤ 8 }
+    ensures { Gives number_of result (whole_in n octets.now) }
+{
+    let number = match n {
+        16 if BigEndian::read_u64(octets) != 0 => return Err(ObjectFault::WideInteger),
+        16 => i128::from(BigEndian::read_u64(&octets[8..])),
+        8 => i128::from(BigEndian::read_i64(octets)),
+        _ => i128::from(BigEndian::read_uint(octets, n)),
+    };
+    Whole::new(number).ok_or(ObjectFault::WideInteger)
+}
+
+#[tactic(auto, unfolding(crate::specs::Objects::whole_object))]
+fn whole(octets: &[u8], low: u8) -> Read<'_, Object<'_>>
+    requires { low < 16 }
+    ensures { Gives (λ p. (held_of p.0, p.1.now)) result (whole_object low octets.entry.now) }
+{
+    let n = integer_length(0x10 + low)?;
+    let (digits, rest) = cut(octets, n)?;
+    let number = whole_in(digits, n)?;
+    Ok((Object::Scalar(ScalarRef::Whole(number)), rest))
+}
+
+#[tactic(auto, unfolding(crate::specs::Objects::real_object))]
+fn real(octets: &[u8], low: u8) -> Read<'_, Object<'_>>
+    ensures { Gives (λ p. (held_of p.0, p.1.now)) result (real_object low octets.entry.now) }
+{
+    match low {
+        0x2 => {
+            let (real, rest) = octets.split_first_chunk().ok_or(ObjectFault::CutObject)?;
+            Ok((Object::Scalar(ScalarRef::Real4(*real)), rest))
+        }
+        0x3 => {
+            let (real, rest) = octets.split_first_chunk().ok_or(ObjectFault::CutObject)?;
+            Ok((Object::Scalar(ScalarRef::Real8(*real)), rest))
+        }
+        _ => Err(ObjectFault::BadMarker),
+    }
+}
+
+#[tactic(auto, unfolding(crate::specs::Objects::moment_object))]
+fn moment(octets: &[u8], low: u8) -> Read<'_, Object<'_>>
+    ensures { Gives (λ p. (held_of p.0, p.1.now)) result (moment_object low octets.entry.now) }
+{
+    if low != 0x3 {
+        return Err(ObjectFault::BadMarker);
+    }
+    let (moment, rest) = octets.split_first_chunk().ok_or(ObjectFault::CutObject)?;
+    Ok((Object::Scalar(ScalarRef::Moment(*moment)), rest))
+}
+
+#[tactic(auto, unfolding(crate::specs::Objects::data_object))]
+fn data(octets: &[u8], low: u8) -> Read<'_, Object<'_>>
+    ensures { Gives (λ p. (held_of p.0, p.1.now)) result (data_object low octets.entry.now) }
+{
+    let (data, rest) = content(octets, low, 1)?;
+    Ok((Object::Scalar(ScalarRef::Bytes(data.octets)), rest))
+}
+
+#[tactic(auto, unfolding(crate::specs::Objects::ascii_object))]
+fn ascii(octets: &[u8], low: u8) -> Read<'_, Object<'_>>
+    ensures { Gives (λ p. (held_of p.0, p.1.now)) result (ascii_object low octets.entry.now) }
+{
+    let (ascii, rest) = content(octets, low, 1)?;
+    let text = TextRef::of_ascii(ascii.octets).ok_or(ObjectFault::NotAscii)?;
+    Ok((Object::Scalar(ScalarRef::Text(text)), rest))
+}
+
+#[tactic(auto, unfolding(crate::specs::Objects::list_object))]
+fn list(octets: &[u8], low: u8, width: u8) -> Read<'_, Object<'_>>
+    requires width_least { 1 ≤ width }
+    requires width_most { width ≤ 8 }
+    ensures { Gives (λ p. (held_of p.0, p.1.now)) result (list_object width low octets.entry.now) }
+{
+    let (items, rest) = content(octets, low, usize::from(width))?;
+    let refs = Refs::of(items.octets, width, items.count);
+    Ok((Object::List(refs), rest))
+}
+
+#[tactic(auto, unfolding(crate::specs::Objects::table_object))]
+fn table(octets: &[u8], low: u8, width: u8) -> Read<'_, Object<'_>>
+    requires width_least { 1 ≤ width }
+    requires width_most { width ≤ 8 }
+    ensures { Gives (λ p. (held_of p.0, p.1.now)) result (table_object width low octets.entry.now) }
+{
+    let (pairs, rest) = content(octets, low, 2 * usize::from(width))?;
+    let (keys, values) = pairs.octets.split_at(pairs.octets.len() / 2);
+    let keys = Refs::of(keys, width, pairs.count);
+    let values = Refs::of(values, width, pairs.count);
+    Ok((Object::Table(keys, values), rest))
+}
+
+#[tactic(auto, unfolding(crate::specs::Objects::wide_object))]
+fn wide(octets: &[u8], low: u8) -> Read<'_, Object<'_>>
+    ensures { Gives (λ p. (held_of p.0, p.1.now)) result (wide_object low octets.entry.now) }
+{
+    let (wide, rest) = content(octets, low, 2)?;
+    let text = TextRef::of_wide(wide.octets).ok_or(ObjectFault::CutObject)?;
+    Ok((Object::Scalar(ScalarRef::Text(text)), rest))
+}
+
+/// What the object that begins with these octets holds, its references of so many octets each, and the
+/// octets behind it.
+#[tactic(auto, unfolding(crate::specs::Objects::marked_object))]
+pub(crate) fn object(octets: &[u8], width: u8) -> Read<'_, Object<'_>>
+    requires width_least { 1 ≤ width }
+    requires width_most { width ≤ 8 }
+    ensures { Gives (λ p. (held_of p.0, p.1.now)) result (object_in width octets.entry.now) }
+{
+    let Some((marker, octets)) = octets.split_first() else {
+        return Err(ObjectFault::CutObject);
+    };
+    let low = marker % 16;
+    match marker / 16 {
+        0x0 => simple(octets, low),
+        0x1 => whole(octets, low),
+        0x2 => real(octets, low),
+        0x3 => moment(octets, low),
+        0x4 => data(octets, low),
+        0x5 => ascii(octets, low),
+        0x6 => wide(octets, low),
+        0x8 => Err(ObjectFault::UidObject),
+        0xa => list(octets, low, width),
+        0xc => Err(ObjectFault::SetObject),
+        0xd => table(octets, low, width),
+        _ => Err(ObjectFault::BadMarker),
+    }
+}

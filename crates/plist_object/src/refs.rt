@@ -1,0 +1,66 @@
+ghost use Rattle.std.specs.Prelude.{◌≡◌, ◌+◌, ◌*◌, ◌<◌, ◌≤◌, ◌==◌, length, slice_index, drop};
+ghost use Rattle.byteorder.specs.Endian.{big_number};
+
+use byteorder::{BigEndian, ByteOrder};
+
+/// The references of a list or a table, borrowed from a file: numbers of objects, in order.
+#[derive(Clone, Copy, Debug)]
+pub struct Refs<'a> {
+    octets: &'a [u8],
+    width: u8,
+    count: u64,
+    ghost width_least: { 1 ≤ width },
+    ghost width_most: { width ≤ 8 },
+    ghost whole: { length octets.now ≡ count * width },
+}
+
+impl<'a> Refs<'a> {
+    ghost use Rattle.plist_object.specs.Objects.{numbers};
+    ghost use Rattle.plist_object.specs.Views.{numbers_of};
+
+    /// So many numbers of so many octets each.
+    pub(crate) fn of(octets: &'a [u8], width: u8, count: u64) -> Refs<'a>
+        requires width_least { 1 ≤ width }
+        requires width_most { width ≤ 8 }
+        requires whole { length octets.now ≡ count * width }
+        ensures { numbers_of result ≡ numbers width count octets.entry.now }
+    {
+        Refs {
+            octets,
+            width,
+            count,
+        }
+    }
+
+    /// How many references there are.
+    pub fn len(&self) -> u64
+        ensures { result ≡ length (numbers_of self.now) }
+    {
+        self.count
+    }
+
+    /// Whether there is none.
+    pub fn is_empty(&self) -> bool
+        ensures { result ≡ (length (numbers_of self.now) == 0) }
+    {
+        self.len() == 0
+    }
+
+    /// The reference at the place `i`, which is below `len`.
+    pub fn get(&self, i: u64) -> u64
+        requires { i < length (numbers_of self.now) }
+        ensures { result ≡ slice_index (numbers_of self.now) i }
+    {
+        number_at(self.octets, usize::from(self.width), i as usize)
+    }
+}
+
+/// The number at the place `i` among numbers of so many octets each.
+pub(crate) fn number_at(octets: &[u8], width: usize, i: usize) -> u64
+    requires width_least { 1 ≤ width }
+    requires width_most { width ≤ 8 }
+    requires within { i * width + width ≤ length octets.now }
+    ensures { result ≡ big_number width (drop (i * width) octets.now) }
+{
+    BigEndian::read_uint(&octets[i * width..], width)
+}
