@@ -1,8 +1,7 @@
 -- How many octets spelled numbers have.
-use Rattle.std.proofs.Common.{◌≡◌, ℕ, zero, suc, ◌+◌, ◌*◌, List, [], ◌∷◌, length, refl, sym, ap, ◌∙◌, arith, length-append}
-use Rattle.std.proofs.Common.{false, cond, ltb, ◌<◌, ◌≤◌, nat_lt, Bool, true}
+use Rattle.std.proofs.Common.{◌≡◌, ℕ, ◌+◌, ◌*◌, List, [], ◌∷◌, length, refl, arith, length-append}
+use Rattle.std.proofs.Common.{false, cond, ltb, true}
 use Rattle.std.specs.List.{list_all}
-use Rattle.byteorder.specs.Endian.{big_bytes}
 use Rattle.byteorder.specs.Numbers.{length-bytes_high_first}
 use Rattle.plist_object.specs.Spelling.{references, text_spelling, head, least_integer, least_width}
 use Rattle.plist_object.specs.Sizes.{head_size}

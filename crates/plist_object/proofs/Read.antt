@@ -1,5 +1,5 @@
 -- What objects with content hold, once their content was cut off.
-use Rattle.std.proofs.Common.{◌≡◌, ℕ, ◌+◌, ◌*◌, ◌/◌, ◌<◌, ◌≤◌, ltb, lt-ltb, true, List, [], ◌∷◌, length, take, drop, Ok, refl, sym, ap, arith, rules, ◌&&◌}
+use Rattle.std.proofs.Common.{◌≡◌, ℕ, ◌*◌, ◌<◌, ltb, lt-ltb, true, List, [], ◌∷◌, take, drop, Ok, refl, arith}
 use Rattle.std.specs.List.{All, AllByRecursion, list_all}
 use Rattle.std.proofs.lemmas.List.Elements.{recursion_from_All}
 use Rattle.plist_value.specs.Plist.{text}

@@ -12,3 +12,4 @@ pub mod Spelled
 pub mod Spelling
 pub mod Appending
 pub mod Sizes
+pub mod Codes

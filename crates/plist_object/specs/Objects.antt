@@ -1,9 +1,9 @@
 -- What one object holds (CFBinaryPList.c; which faults there are, and their order, is our profile).
-use Rattle.std.specs.Prelude.{ℕ, zero, suc, ◌+◌, ◌*◌, ◌/◌, ◌%◌, ◌==◌, ◌&&◌, nat_lt, nat_le, if◌then◌else◌, ℤ, pos, true, false, List, [], ◌∷◌, length, take, drop, Result, Ok, Err}
+use Rattle.std.specs.Prelude.{ℕ, zero, suc, ◌+◌, ◌*◌, ◌/◌, ◌%◌, ◌==◌, nat_lt, if◌then◌else◌, ℤ, pos, true, false, List, [], ◌∷◌, length, take, drop, Result, Ok, Err, ⊤}
 use Rattle.std.specs.List.{list_all}
 use Rattle.std.specs.Int.{w64, cast_signed}
 use Rattle.byteorder.specs.Endian.{big_number}
-use Rattle.plist_value.specs.Plist.{Scalar, text, whole, flag, real4, real8, moment, bytes}
+use Rattle.plist_value.specs.Plist.{Scalar, text, whole, flag, real4, real8, moment, bytes, IsScalar}
 use Rattle.plist_value.specs.Texts.{wide_units}
 use Rattle.plist_object.specs.declared.object.ObjectFault.{ObjectFault}
 use Rattle.plist_object.specs.declared.object.ObjectFault.TheVariants.{CutObject, BadMarker, NullObject, UidObject, SetObject, NotAscii, WideInteger}
@@ -13,6 +13,12 @@ pub data Held : Type 0 where
   holds_scalar : Scalar → Held
   holds_list : List ℕ → Held
   holds_table : List ℕ → List ℕ → Held
+
+-- a scalar that is held has its numbers in their ranges
+abbrev pub IsHeld : Held → Type 0
+IsHeld (holds_scalar s) = IsScalar s
+IsHeld (holds_list refs) = ⊤
+IsHeld (holds_table keys values) = ⊤
 
 infixl 10 ◌>>=◌
 abbrev pub ◌>>=◌ : {A B : Type 0} → Result A ObjectFault → (A → Result B ObjectFault) → Result B ObjectFault

@@ -1,7 +1,7 @@
 -- Where the objects of a laid file stand, and what they hold.
 use Rattle.std.specs.Prelude.{◌≡◌, ℕ, ◌+◌, ◌*◌, ◌<◌, nat_lt, nat_le, ◌&&◌, if◌then◌else◌, List, take, drop, Result, Ok, Err}
 use Rattle.byteorder.specs.Endian.{big_number}
-use Rattle.plist_object.specs.Layout.{Trailer, trailer_of}
+use Rattle.plist_object.specs.Layout.{trailer_of}
 use Rattle.plist_object.specs.Objects.{Held, object_in, ◌>>=◌}
 use Rattle.plist_object.specs.declared.object.ObjectFault.{ObjectFault}
 use Rattle.plist_object.specs.declared.object.ObjectFault.TheVariants.{BadOffset}

@@ -1,4 +1,4 @@
-ghost use Rattle.std.specs.Prelude.{◌≡◌, ◌+◌, ◌*◌, ◌<◌, ◌≤◌, ◌^◌, ◌↔◌, IsTrue, MatchResult, length};
+ghost use Rattle.std.specs.Prelude.{◌≡◌, ◌+◌, ◌*◌, ◌<◌, ◌≤◌, ◌^◌, ◌↔◌, IsTrue, IfOk, MatchResult, length};
 ghost use Rattle.std.specs.Option.{SomeIff};
 ghost use Rattle.plist_object.specs.Layout.{IsLaid, IsLayoutFault, trailer_of};
 
@@ -12,16 +12,31 @@ use thiserror::Error;
 /// of the tests are our profile).
 #[derive(Clone, Copy, Debug, PartialEq, Eq, Error)]
 pub enum LayoutFault {
-    /// There are fewer than 42 octets.
+    /// 1: there are fewer than 42 octets.
     #[error("fewer than 42 octets")]
     TooShort,
-    /// The first eight octets are not `bplist00`.
+    /// 2: the first eight octets are not `bplist00`.
     #[error("the header is not bplist00")]
     BadHeader,
-    /// A width is not 1 to 8, or there is no object, or the top object is none of them, or the offset
+    /// 3: a width is not 1 to 8, or there is no object, or the top object is none of them, or the offset
     /// table does not lie between the objects and the trailer, as long as it has to be.
     #[error("the trailer's numbers do not fit the file")]
     BadTrailer,
+}
+
+impl LayoutFault {
+    ghost use Rattle.plist_object.specs.Codes.{layout_code};
+
+    /// The number of the refusal.
+    pub fn code(&self) -> u8
+        ensures { result ≡ layout_code self.now }
+    {
+        match self {
+            LayoutFault::TooShort => 1,
+            LayoutFault::BadHeader => 2,
+            LayoutFault::BadTrailer => 3,
+        }
+    }
 }
 
 /// A binary property list, borrowed: octets that have the layout.
@@ -74,6 +89,7 @@ impl Fields {
 }
 
 impl<'a> BinFile<'a> {
+    ghost use Rattle.plist_object.specs.Objects.{IsHeld};
     ghost use Rattle.plist_object.specs.Places.{place_of, octets_at, object_at, what_holds};
     ghost use Rattle.plist_object.specs.Views.{Gives, held_of, octets_of};
 
@@ -150,7 +166,8 @@ impl<'a> BinFile<'a> {
     #[tactic(auto, unfolding(crate::specs::Places::what_holds))]
     pub fn object(&self, n: u64) -> Result<Object<'a>, ObjectFault>
         requires { n < (trailer_of (octets_of self.now)).count }
-        ensures { Gives held_of result (what_holds (octets_of self.now) n) }
+        ensures read { Gives held_of result (what_holds (octets_of self.now) n) }
+        ensures valid { IfOk result (λ object. IsHeld (held_of object)) }
     {
         let (object, _) = self.read(n)?;
         Ok(object)
@@ -160,7 +177,8 @@ impl<'a> BinFile<'a> {
     #[tactic(auto, unfolding(crate::specs::Places::object_at))]
     fn read(&self, n: u64) -> Result<(Object<'a>, &'a [u8]), ObjectFault>
         requires { n < (trailer_of (octets_of self.now)).count }
-        ensures { Gives (λ p. (held_of p.0, p.1.now)) result (object_at (octets_of self.now) n) }
+        ensures read { Gives (λ p. (held_of p.0, p.1.now)) result (object_at (octets_of self.now) n) }
+        ensures valid { IfOk result (λ p. IsHeld (held_of p.0)) }
     {
         let octets = self.octets_at(n)?;
         reading::object(octets, self.fields.reference_width)

@@ -1,3 +1,5 @@
+ghost use Rattle.std.specs.Prelude.{◌≡◌};
+
 use crate::Refs;
 use plist_value::ScalarRef;
 use thiserror::Error;
@@ -13,32 +15,52 @@ pub enum Object<'a> {
     Table(Refs<'a>, Refs<'a>),
 }
 
-/// Why an object does not read. Of several faults the first in the order of the variants of 4, of the
-/// marker, of 6, 11 and 12 is given (our profile).
+/// Why an object does not read (CFBinaryPList.c). Of several faults the first is given in this order: the
+/// place, the marker, a count behind it, that it is cut, its content (our profile).
 #[derive(Clone, Copy, Debug, PartialEq, Eq, Error)]
 pub enum ObjectFault {
-    /// Its place is in the header, or not before the offset table.
+    /// 4: its place is in the header, or not before the offset table.
     #[error("the object's place is not among the objects")]
     BadOffset,
-    /// Its count or its content reaches into the offset table.
+    /// 6: its count or its content reaches into the offset table.
     #[error("the object reaches into the offset table")]
     CutObject,
-    /// Its marker, or that of its count, is none of the format.
+    /// 7: its marker, or that of its count, is none of the format.
     #[error("the object's marker is not known")]
     BadMarker,
-    /// It is a null, which is no property list here.
+    /// 8: it is a null, which is no property list here.
     #[error("the object is a null")]
     NullObject,
-    /// It is a UID, which is no property list here.
+    /// 9: it is a UID, which is no property list here.
     #[error("the object is a UID")]
     UidObject,
-    /// It is a set, which is no property list here.
+    /// 10: it is a set, which is no property list here.
     #[error("the object is a set")]
     SetObject,
-    /// It is an ASCII text with an octet above 7f.
+    /// 11: it is an ASCII text with an octet above 7f.
     #[error("an ASCII text has an octet above 7f")]
     NotAscii,
-    /// It is a whole number of sixteen octets whose first eight are not all zero.
+    /// 12: it is a whole number of sixteen octets whose first eight are not all zero.
     #[error("a whole number of sixteen octets is above 2^64 - 1")]
     WideInteger,
+}
+
+impl ObjectFault {
+    ghost use Rattle.plist_object.specs.Codes.{object_code};
+
+    /// The number of the refusal.
+    pub fn code(&self) -> u8
+        ensures { result ≡ object_code self.now }
+    {
+        match self {
+            ObjectFault::BadOffset => 4,
+            ObjectFault::CutObject => 6,
+            ObjectFault::BadMarker => 7,
+            ObjectFault::NullObject => 8,
+            ObjectFault::UidObject => 9,
+            ObjectFault::SetObject => 10,
+            ObjectFault::NotAscii => 11,
+            ObjectFault::WideInteger => 12,
+        }
+    }
 }

@@ -2,8 +2,10 @@
 // offset table.
 ghost use Rattle.std.specs.Prelude.{◌≡◌, ◌≢◌, ◌+◌, ◌*◌, ◌<◌, ◌≤◌, ◌/◌, ◌%◌, length, IfOk};
 ghost use Rattle.byteorder.specs.Endian.{big_number};
-ghost use Rattle.plist_object.specs.Objects.{cut, integer_length, count_spelled, count_of_content, content, whole_in, simple_object, whole_object, real_object, moment_object, data_object, ascii_object, wide_object, list_object, table_object, marked_object, object_in};
+ghost use Rattle.plist_object.specs.Objects.{IsHeld, holds_scalar, cut, integer_length, count_spelled, count_of_content, content, whole_in, simple_object, whole_object, real_object, moment_object, data_object, ascii_object, wide_object, list_object, table_object, marked_object, object_in};
 ghost use Rattle.plist_object.specs.Views.{Gives, held_of};
+ghost use Rattle.plist_value.specs.Plist.{AreOctets};
+ghost use Rattle.plist_value.specs.Plist as kind;
 ghost use Rattle.plist_value.specs.Wholes.{number_of};
 
 use crate::{Object, ObjectFault, Refs};
@@ -13,7 +15,8 @@ use plist_value::{ScalarRef, TextRef, Whole};
 type Read<'a, T> = Result<(T, &'a [u8]), ObjectFault>;
 
 fn cut(octets: &[u8], n: usize) -> Result<(&[u8], &[u8]), ObjectFault>
-    ensures { Gives (λ p. (p.0.now, p.1.now)) result (cut n octets.entry.now) }
+    ensures parts { Gives (λ p. (p.0.now, p.1.now)) result (cut n octets.entry.now) }
+    ensures octets { IfOk result (λ p. AreOctets p.1.now) }
 {
     if octets.len() < n {
         return Err(ObjectFault::CutObject);
@@ -37,7 +40,8 @@ fn integer_length(marker: u8) -> Result<usize, ObjectFault>
 
 #[tactic(auto, unfolding(crate::specs::Objects::count_spelled))]
 fn count_spelled(octets: &[u8]) -> Read<'_, u128>
-    ensures { Gives (λ p. (p.0, p.1.now)) result (count_spelled octets.entry.now) }
+    ensures read { Gives (λ p. (p.0, p.1.now)) result (count_spelled octets.entry.now) }
+    ensures octets { IfOk result (λ p. AreOctets p.1.now) }
 {
     let Some((marker, octets)) = octets.split_first() else {
         return Err(ObjectFault::CutObject);
@@ -49,7 +53,8 @@ fn count_spelled(octets: &[u8]) -> Read<'_, u128>
 
 #[tactic(auto, unfolding(crate::specs::Objects::count_of_content))]
 fn count_of_content(octets: &[u8], low: u8) -> Read<'_, u128>
-    ensures { Gives (λ p. (p.0, p.1.now)) result (count_of_content low octets.entry.now) }
+    ensures read { Gives (λ p. (p.0, p.1.now)) result (count_of_content low octets.entry.now) }
+    ensures octets { IfOk result (λ p. AreOctets p.1.now) }
 {
     if low < 15 {
         Ok((u128::from(low), octets))
@@ -70,6 +75,7 @@ fn content(octets: &[u8], low: u8, unit: usize) -> Read<'_, Counted<'_>>
     requires { 0 < unit }
     ensures read { Gives (λ p. (p.0.count, p.0.octets.now, p.1.now)) result (content unit low octets.entry.now) }
     ensures whole { IfOk result (λ p. length p.0.octets.now ≡ p.0.count * unit) }
+    ensures octets { IfOk result (λ p. AreOctets p.0.octets.now) }
 {
     let (count, octets) = count_of_content(octets, low)?;
     if count > (octets.len() / unit) as u128 {
@@ -88,7 +94,8 @@ fn content(octets: &[u8], low: u8, unit: usize) -> Read<'_, Counted<'_>>
 
 #[tactic(auto, unfolding(crate::specs::Objects::simple_object))]
 fn simple(octets: &[u8], low: u8) -> Read<'_, Object<'_>>
-    ensures { Gives (λ p. (held_of p.0, p.1.now)) result (simple_object low octets.entry.now) }
+    ensures read { Gives (λ p. (held_of p.0, p.1.now)) result (simple_object low octets.entry.now) }
+    ensures valid { IfOk result (λ p. IsHeld (held_of p.0)) }
 {
     match low {
         0x0 => Err(ObjectFault::NullObject),
@@ -117,7 +124,8 @@ fn whole_in(octets: &[u8], n: usize) -> Result<Whole, ObjectFault>
 #[tactic(auto, unfolding(crate::specs::Objects::whole_object))]
 fn whole(octets: &[u8], low: u8) -> Read<'_, Object<'_>>
     requires { low < 16 }
-    ensures { Gives (λ p. (held_of p.0, p.1.now)) result (whole_object low octets.entry.now) }
+    ensures read { Gives (λ p. (held_of p.0, p.1.now)) result (whole_object low octets.entry.now) }
+    ensures valid { IfOk result (λ p. IsHeld (held_of p.0)) }
 {
     let n = integer_length(0x10 + low)?;
     let (digits, rest) = cut(octets, n)?;
@@ -125,18 +133,40 @@ fn whole(octets: &[u8], low: u8) -> Read<'_, Object<'_>>
     Ok((Object::Scalar(ScalarRef::Whole(number)), rest))
 }
 
+fn real4<'a>(octets: [u8; 4]) -> Object<'a>
+    ensures held { held_of result ≡ holds_scalar (kind.real4 octets) }
+    ensures valid { IsHeld (held_of result) }
+{
+    Object::Scalar(ScalarRef::Real4(octets))
+}
+
+fn real8<'a>(octets: [u8; 8]) -> Object<'a>
+    ensures held { held_of result ≡ holds_scalar (kind.real8 octets) }
+    ensures valid { IsHeld (held_of result) }
+{
+    Object::Scalar(ScalarRef::Real8(octets))
+}
+
+fn date<'a>(octets: [u8; 8]) -> Object<'a>
+    ensures held { held_of result ≡ holds_scalar (kind.moment octets) }
+    ensures valid { IsHeld (held_of result) }
+{
+    Object::Scalar(ScalarRef::Moment(octets))
+}
+
 #[tactic(auto, unfolding(crate::specs::Objects::real_object))]
 fn real(octets: &[u8], low: u8) -> Read<'_, Object<'_>>
-    ensures { Gives (λ p. (held_of p.0, p.1.now)) result (real_object low octets.entry.now) }
+    ensures read { Gives (λ p. (held_of p.0, p.1.now)) result (real_object low octets.entry.now) }
+    ensures valid { IfOk result (λ p. IsHeld (held_of p.0)) }
 {
     match low {
         0x2 => {
             let (real, rest) = octets.split_first_chunk().ok_or(ObjectFault::CutObject)?;
-            Ok((Object::Scalar(ScalarRef::Real4(*real)), rest))
+            Ok((real4(*real), rest))
         }
         0x3 => {
             let (real, rest) = octets.split_first_chunk().ok_or(ObjectFault::CutObject)?;
-            Ok((Object::Scalar(ScalarRef::Real8(*real)), rest))
+            Ok((real8(*real), rest))
         }
         _ => Err(ObjectFault::BadMarker),
     }
@@ -144,18 +174,20 @@ fn real(octets: &[u8], low: u8) -> Read<'_, Object<'_>>
 
 #[tactic(auto, unfolding(crate::specs::Objects::moment_object))]
 fn moment(octets: &[u8], low: u8) -> Read<'_, Object<'_>>
-    ensures { Gives (λ p. (held_of p.0, p.1.now)) result (moment_object low octets.entry.now) }
+    ensures read { Gives (λ p. (held_of p.0, p.1.now)) result (moment_object low octets.entry.now) }
+    ensures valid { IfOk result (λ p. IsHeld (held_of p.0)) }
 {
     if low != 0x3 {
         return Err(ObjectFault::BadMarker);
     }
     let (moment, rest) = octets.split_first_chunk().ok_or(ObjectFault::CutObject)?;
-    Ok((Object::Scalar(ScalarRef::Moment(*moment)), rest))
+    Ok((date(*moment), rest))
 }
 
 #[tactic(auto, unfolding(crate::specs::Objects::data_object))]
 fn data(octets: &[u8], low: u8) -> Read<'_, Object<'_>>
-    ensures { Gives (λ p. (held_of p.0, p.1.now)) result (data_object low octets.entry.now) }
+    ensures read { Gives (λ p. (held_of p.0, p.1.now)) result (data_object low octets.entry.now) }
+    ensures valid { IfOk result (λ p. IsHeld (held_of p.0)) }
 {
     let (data, rest) = content(octets, low, 1)?;
     Ok((Object::Scalar(ScalarRef::Bytes(data.octets)), rest))
@@ -163,7 +195,8 @@ fn data(octets: &[u8], low: u8) -> Read<'_, Object<'_>>
 
 #[tactic(auto, unfolding(crate::specs::Objects::ascii_object))]
 fn ascii(octets: &[u8], low: u8) -> Read<'_, Object<'_>>
-    ensures { Gives (λ p. (held_of p.0, p.1.now)) result (ascii_object low octets.entry.now) }
+    ensures read { Gives (λ p. (held_of p.0, p.1.now)) result (ascii_object low octets.entry.now) }
+    ensures valid { IfOk result (λ p. IsHeld (held_of p.0)) }
 {
     let (ascii, rest) = content(octets, low, 1)?;
     let text = TextRef::of_ascii(ascii.octets).ok_or(ObjectFault::NotAscii)?;
@@ -174,7 +207,8 @@ fn ascii(octets: &[u8], low: u8) -> Read<'_, Object<'_>>
 fn list(octets: &[u8], low: u8, width: u8) -> Read<'_, Object<'_>>
     requires width_least { 1 ≤ width }
     requires width_most { width ≤ 8 }
-    ensures { Gives (λ p. (held_of p.0, p.1.now)) result (list_object width low octets.entry.now) }
+    ensures read { Gives (λ p. (held_of p.0, p.1.now)) result (list_object width low octets.entry.now) }
+    ensures valid { IfOk result (λ p. IsHeld (held_of p.0)) }
 {
     let (items, rest) = content(octets, low, usize::from(width))?;
     let refs = Refs::of(items.octets, width, items.count);
@@ -185,7 +219,8 @@ fn list(octets: &[u8], low: u8, width: u8) -> Read<'_, Object<'_>>
 fn table(octets: &[u8], low: u8, width: u8) -> Read<'_, Object<'_>>
     requires width_least { 1 ≤ width }
     requires width_most { width ≤ 8 }
-    ensures { Gives (λ p. (held_of p.0, p.1.now)) result (table_object width low octets.entry.now) }
+    ensures read { Gives (λ p. (held_of p.0, p.1.now)) result (table_object width low octets.entry.now) }
+    ensures valid { IfOk result (λ p. IsHeld (held_of p.0)) }
 {
     let (pairs, rest) = content(octets, low, 2 * usize::from(width))?;
     let (keys, values) = pairs.octets.split_at(pairs.octets.len() / 2);
@@ -196,7 +231,8 @@ fn table(octets: &[u8], low: u8, width: u8) -> Read<'_, Object<'_>>
 
 #[tactic(auto, unfolding(crate::specs::Objects::wide_object))]
 fn wide(octets: &[u8], low: u8) -> Read<'_, Object<'_>>
-    ensures { Gives (λ p. (held_of p.0, p.1.now)) result (wide_object low octets.entry.now) }
+    ensures read { Gives (λ p. (held_of p.0, p.1.now)) result (wide_object low octets.entry.now) }
+    ensures valid { IfOk result (λ p. IsHeld (held_of p.0)) }
 {
     let (wide, rest) = content(octets, low, 2)?;
     let text = TextRef::of_wide(wide.octets).ok_or(ObjectFault::CutObject)?;
@@ -209,7 +245,8 @@ fn wide(octets: &[u8], low: u8) -> Read<'_, Object<'_>>
 pub(crate) fn object(octets: &[u8], width: u8) -> Read<'_, Object<'_>>
     requires width_least { 1 ≤ width }
     requires width_most { width ≤ 8 }
-    ensures { Gives (λ p. (held_of p.0, p.1.now)) result (object_in width octets.entry.now) }
+    ensures read { Gives (λ p. (held_of p.0, p.1.now)) result (object_in width octets.entry.now) }
+    ensures valid { IfOk result (λ p. IsHeld (held_of p.0)) }
 {
     let Some((marker, octets)) = octets.split_first() else {
         return Err(ObjectFault::CutObject);

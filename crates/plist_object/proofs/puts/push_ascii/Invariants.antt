@@ -1,4 +1,4 @@
-use Rattle.std.proofs.Common.{◌≡◌, ◌+◌, ◌-◌, ◌≤◌, ◌++◌, drop, length, true, nat_lt, vec_len, vec_capacity}
+use Rattle.std.proofs.Common.{◌≡◌, ◌+◌, ◌≤◌, ◌++◌, drop, length, true, nat_lt, vec_len, vec_capacity}
 use Rattle.std.specs.List.{list_all}
 use Rattle.plist_value.specs.Texts.{units_of}
 use Rattle.plist_object.proofs.puts.push_ascii.Given as goal

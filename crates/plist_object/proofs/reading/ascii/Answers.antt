@@ -2,8 +2,8 @@ use Rattle.std.proofs.Common.{refl}
 use Rattle.plist_object.proofs.Read.{ascii_object-reads}
 use Rattle.plist_object.proofs.reading.ascii.Goals as goal
 
-pub returns : goal.returns
-returns c =
+pub returns-clause-read : goal.returns-clause-read
+returns-clause-read c =
     let ascii = c.in_ok-ascii.ascii in
     let found = c.in_ok-text.ensures.ok_part in
     let units = rw found at c.of_ascii.ensures.text in

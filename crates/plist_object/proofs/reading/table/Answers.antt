@@ -2,8 +2,8 @@ use Rattle.std.proofs.Common.{◌≡◌, ◌*◌, ◌/◌, length, arith}
 use Rattle.plist_object.proofs.Read.{table_object-reads}
 use Rattle.plist_object.proofs.reading.table.Goals as goal
 
-pub returns : goal.returns
-returns c =
+pub returns-clause-read : goal.returns-clause-read
+returns-clause-read c =
     let pairs = c.in_ok-pairs.pairs in
     let read = rw c.from.ensures at c.in_ok-pairs.ensures.read in
     let whole = rw c.from.ensures at c.in_ok-pairs.ensures.whole in
