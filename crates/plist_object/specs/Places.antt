@@ -24,14 +24,13 @@ object_at f i = do
   octets ← octets_at f i
   object_in (trailer_of f).reference_width octets
 
--- the object i is one of the file's, and holds this
-pub record Holds (f : List ℕ) (i : ℕ) (held : Held) : Type 0 where
-  pub listed : i < (trailer_of f).count
-  pub behind : List ℕ
-  pub reads : object_at f i ≡ Ok (held, behind)
-
 -- what the object i holds, or its first fault
 unfoldable pub what_holds : List ℕ → ℕ → Result Held ObjectFault
 what_holds f i = do
   read ← object_at f i
   Ok read.0
+
+-- the object i is one of the file's, and holds this
+pub record Holds (f : List ℕ) (i : ℕ) (held : Held) : Type 0 where
+  pub listed : i < (trailer_of f).count
+  pub reads : what_holds f i ≡ Ok held
