@@ -1,3 +1,6 @@
 pub mod Counts
 pub mod Listed
 pub mod Read
+pub mod ReadBack
+pub mod ReadReferences
+pub mod ReadScalars

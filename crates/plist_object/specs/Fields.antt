@@ -4,9 +4,9 @@ use Rattle.plist_object.specs.declared.layout.Fields.{Fields}
 
 abbrev pub trailer_in : Fields → Trailer
 trailer_in x = record {
-    offset_width = x.offset_width;
-    reference_width = x.reference_width;
-    count = x.count;
-    top = x.top;
-    table = x.table
-  }
+  offset_width = x.offset_width;
+  reference_width = x.reference_width;
+  count = x.count;
+  top = x.top;
+  table = x.table;
+}

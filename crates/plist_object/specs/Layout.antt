@@ -23,12 +23,12 @@ pub record Trailer : Type 0 where
 
 abbrev pub trailer_of : List ℕ → Trailer
 trailer_of f = record {
-    offset_width = slice_index f (length f - 26);
-    reference_width = slice_index f (length f - 25);
-    count = number_before_end 24 f;
-    top = number_before_end 16 f;
-    table = number_before_end 8 f
-  }
+  offset_width = slice_index f (length f - 26);
+  reference_width = slice_index f (length f - 25);
+  count = number_before_end 24 f;
+  top = number_before_end 16 f;
+  table = number_before_end 8 f;
+}
 
 -- the trailer's first six octets, which say nothing
 abbrev pub slack_of : List ℕ → List ℕ

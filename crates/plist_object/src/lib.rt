@@ -2,6 +2,7 @@
 //! canonical spelling of an object.
 #![tactic(auto)]
 
+pub mod laws;
 pub mod layout;
 pub mod lengths;
 pub mod object;

@@ -10,5 +10,5 @@ invariant-loop-i l =
       items : l.out.items ++ rest ≡ l.initial.out.items ++ units_of l.text;
       len : vec_len l.out + length rest ≡ vec_len l.initial.out + length (units_of l.text);
       room : vec_capacity l.initial.out ≤ vec_capacity l.out;
-      ascii : list_all (λ unit. nat_lt unit 128) rest ≡ true
+      ascii : list_all (λ unit. nat_lt unit 128) rest ≡ true;
     }

@@ -9,5 +9,5 @@ invariant-loop-i l =
     record {
       items : l.out.items ++ references 2 rest ≡ l.initial.out.items ++ references 2 (units_of l.text);
       len : vec_len l.out + length (references 2 rest) ≡ vec_len l.initial.out + length (references 2 (units_of l.text));
-      room : vec_capacity l.initial.out ≤ vec_capacity l.out
+      room : vec_capacity l.initial.out ≤ vec_capacity l.out;
     }
