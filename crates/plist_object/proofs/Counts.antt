@@ -1,9 +1,9 @@
 -- How many octets spelled numbers have.
-use Rattle.std.proofs.Common.{◌≡◌, ℕ, ◌+◌, ◌*◌, List, [], ◌∷◌, length, refl, arith, length-append}
-use Rattle.std.proofs.Common.{false, cond, ltb, true}
+use Rattle.std.proofs.Common.{◌≡◌, ℕ, ◌+◌, ◌*◌, ◌<◌, ◌≤◌, true, false, cond, ltb, List, [], ◌∷◌, length, drop, get_or, refl, arith, length-append}
+use Rattle.std.proofs.lemmas.List.{drop_more}
 use Rattle.std.specs.List.{list_all}
 use Rattle.byteorder.specs.Numbers.{length-bytes_high_first}
-use Rattle.plist_object.specs.Spelling.{references, text_spelling, head, least_integer, least_width}
+use Rattle.plist_object.specs.Spelling.{references, text_spelling, list_spelling, table_spelling, head, least_integer, least_width}
 use Rattle.plist_object.specs.Sizes.{head_size}
 
 pub length-references : (width : ℕ) (refs : List ℕ) → length (references width refs) ≡ width * length refs
@@ -24,3 +24,20 @@ length-head kind n =
 pub length-wide_text : (units : List ℕ) → list_all (λ u. ltb u 128) units ≡ false → length (text_spelling units) ≡ head_size (length units) + 2 * length units
 length-wide_text units wide =
     rw (wide, length-append) (omega (arith, length-head 6 (length units), length-references 2 units))
+
+pub length-list : (width : ℕ) (refs : List ℕ) → length (list_spelling width refs) ≡ head_size (length refs) + width * length refs
+length-list width refs =
+    rw length-append (omega (arith, length-head 10 (length refs), length-references width refs))
+
+pub length-table : (width : ℕ) (keys values : List ℕ) → length (table_spelling width keys values) ≡ head_size (length keys) + (width * length keys + width * length values)
+length-table width keys values =
+    rw (length-append, length-append) (omega (arith, length-head 13 (length keys), length-references width keys, length-references width values))
+
+-- the octets of a table are those of its parts
+pub length-table_parts : (width : ℕ) (keys values : List ℕ) → length (table_spelling width keys values) ≡ length (head 13 (length keys)) + (length (references width keys) + length (references width values))
+length-table_parts width keys values = rw (length-append, length-append) refl
+
+-- there are the octets of one reference, where one is left
+pub references-first : (width : ℕ) (refs : List ℕ) (i : ℕ) → i < length refs → width ≤ length (references width (drop i refs))
+references-first width refs i h =
+    rw (drop_more refs i 0 h, length-append) (omega (arith, length-bytes_high_first width (get_or refs i 0)))

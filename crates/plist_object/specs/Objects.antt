@@ -1,5 +1,5 @@
 -- What one object holds (CFBinaryPList.c; which faults there are, and their order, is our profile).
-use Rattle.std.specs.Prelude.{ℕ, zero, suc, ◌+◌, ◌*◌, ◌/◌, ◌%◌, ◌==◌, nat_lt, if◌then◌else◌, ℤ, pos, true, false, List, [], ◌∷◌, length, take, drop, Result, Ok, Err, ⊤}
+use Rattle.std.specs.Prelude.{◌≡◌, ℕ, zero, suc, ◌+◌, ◌*◌, ◌/◌, ◌%◌, ◌==◌, nat_lt, if◌then◌else◌, ℤ, pos, true, false, List, [], ◌∷◌, length, take, drop, Result, Ok, Err, ⊤}
 use Rattle.std.specs.List.{list_all}
 use Rattle.std.specs.Int.{w64, cast_signed}
 use Rattle.byteorder.specs.Endian.{big_number}
@@ -14,11 +14,11 @@ pub data Held : Type 0 where
   holds_list : List ℕ → Held
   holds_table : List ℕ → List ℕ → Held
 
--- a scalar that is held has its numbers in their ranges
+-- a scalar that is held has its numbers in their ranges, and a table has as many keys as values
 abbrev pub IsHeld : Held → Type 0
 IsHeld (holds_scalar s) = IsScalar s
 IsHeld (holds_list refs) = ⊤
-IsHeld (holds_table keys values) = ⊤
+IsHeld (holds_table keys values) = length keys ≡ length values
 
 infixl 10 ◌>>=◌
 abbrev pub ◌>>=◌ : {A B : Type 0} → Result A ObjectFault → (A → Result B ObjectFault) → Result B ObjectFault

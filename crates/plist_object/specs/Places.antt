@@ -1,5 +1,5 @@
 -- Where the objects of a laid file stand, and what they hold.
-use Rattle.std.specs.Prelude.{◌≡◌, ℕ, ◌+◌, ◌*◌, ◌<◌, nat_lt, nat_le, ◌&&◌, if◌then◌else◌, List, take, drop, Result, Ok, Err}
+use Rattle.std.specs.Prelude.{◌≡◌, ℕ, ◌+◌, ◌-◌, ◌*◌, ◌<◌, nat_lt, nat_le, ◌&&◌, if◌then◌else◌, List, length, take, drop, Result, Ok, Err}
 use Rattle.byteorder.specs.Endian.{big_number}
 use Rattle.plist_object.specs.Layout.{trailer_of}
 use Rattle.plist_object.specs.Objects.{Held, object_in, ◌>>=◌}
@@ -29,6 +29,12 @@ unfoldable pub what_holds : List ℕ → ℕ → Result Held ObjectFault
 what_holds f i = do
   read ← object_at f i
   Ok read.0
+
+-- where the object i begins, and where the octet behind its last stands, or its first fault
+unfoldable pub span_of : List ℕ → ℕ → Result (ℕ × ℕ) ObjectFault
+span_of f i = do
+  read ← object_at f i
+  Ok (place_of f i, (trailer_of f).table - length read.1)
 
 -- the object i is one of the file's, and holds this
 pub record Holds (f : List ℕ) (i : ℕ) (held : Held) : Type 0 where

@@ -1,5 +1,5 @@
 -- How large what is spelled may be, and how long its head is.
-use Rattle.std.specs.Prelude.{ℕ, ◌+◌, ◌<◌, ◌^◌, nat_lt, if◌then◌else◌, length, ⊤}
+use Rattle.std.specs.Prelude.{ℕ, ◌+◌, ◌<◌, ◌^◌, nat_lt, if◌then◌else◌, length, ⊤, IsTrue, ◌==◌, ◌||◌}
 use Rattle.plist_value.specs.Plist.{Scalar, text, whole, flag, real4, real8, moment, bytes}
 use Rattle.plist_object.specs.Spelling.{least_width}
 
@@ -16,3 +16,7 @@ IsSmall (bytes xs) = length xs < 2 ^ 32
 -- the octets of a marker with its count
 abbrev pub head_size : ℕ → ℕ
 head_size n = if nat_lt n 15 then 1 else 2 + least_width n
+
+-- a width of references: 1, 2, 4 or 8 octets
+abbrev pub IsWidth : ℕ → Type 0
+IsWidth width = IsTrue (width == 1 || width == 2 || width == 4 || width == 8)

@@ -1,6 +1,6 @@
 ghost use Rattle.std.specs.Prelude.{◌≡◌, ◌+◌, ◌*◌, ◌<◌, ◌≤◌, ◌^◌, ◌↔◌, IsTrue, IfOk, MatchResult, length};
 ghost use Rattle.std.specs.Option.{SomeIff};
-ghost use Rattle.plist_object.specs.Layout.{IsLaid, IsLayoutFault, trailer_of};
+ghost use Rattle.plist_object.specs.Layout.{IsLaid, IsLayoutFault, slack_of, trailer_of};
 
 use crate::object::{Object, ObjectFault};
 use crate::reading;
@@ -90,7 +90,7 @@ impl Fields {
 
 impl<'a> BinFile<'a> {
     ghost use Rattle.plist_object.specs.Objects.{IsHeld};
-    ghost use Rattle.plist_object.specs.Places.{place_of, octets_at, object_at, what_holds};
+    ghost use Rattle.plist_object.specs.Places.{place_of, octets_at, object_at, span_of, what_holds};
     ghost use Rattle.plist_object.specs.Views.{Gives, held_of, octets_of};
 
     /// The file in these octets.
@@ -152,6 +152,16 @@ impl<'a> BinFile<'a> {
         self.fields.table
     }
 
+    /// The first six octets of the trailer, which say nothing.
+    pub fn slack(&self) -> [u8; 6]
+        ensures { result ≡ slack_of (octets_of self.now) }
+    {
+        let start = self.octets.len() - 32;
+        let mut slack = [0; 6];
+        slack.copy_from_slice(&self.octets[start..start + 6]);
+        slack
+    }
+
     /// The place of the object `n`, which is below `count`, in octets from the file's first: the entry of
     /// the offset table.
     pub fn place(&self, n: u64) -> u64
@@ -171,6 +181,20 @@ impl<'a> BinFile<'a> {
     {
         let (object, _) = self.read(n)?;
         Ok(object)
+    }
+
+    /// The place of the first octet of the object `n`, which is below `count`, and that of the octet behind
+    /// its last; or its first fault.
+    #[tactic(auto, unfolding(crate::specs::Places::span_of))]
+    pub fn span(&self, n: u64) -> Result<(u64, u64), ObjectFault>
+        requires { n < (trailer_of (octets_of self.now)).count }
+        ensures { result ≡ span_of (octets_of self.now) n }
+    {
+        let (_, behind) = self.read(n)?;
+        Ok((
+            self.place(n),
+            self.fields.table.saturating_sub(behind.len() as u64),
+        ))
     }
 
     // What the object holds, and the octets behind it.

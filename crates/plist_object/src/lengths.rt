@@ -1,11 +1,11 @@
-ghost use Rattle.std.specs.Prelude.{◌≡◌, ◌+◌, ◌*◌, ◌<◌, ◌^◌, length, ℕ};
+ghost use Rattle.std.specs.Prelude.{◌≡◌, ◌+◌, ◌*◌, ◌<◌, ◌^◌, length, List, ℕ};
 ghost use Rattle.std.specs.List.{list_all};
 ghost use Rattle.std.specs.Prelude.{nat_lt};
 ghost use Rattle.plist_value.specs.Plist.{IsWhole};
 ghost use Rattle.plist_value.specs.Texts.{units_of};
 ghost use Rattle.plist_value.specs.Scalars.{content_of};
-ghost use Rattle.plist_object.specs.Spelling.{least_width, head, scalar_spelling, whole_spelling, text_spelling};
-ghost use Rattle.plist_object.specs.Sizes.{IsSmall, head_size};
+ghost use Rattle.plist_object.specs.Spelling.{least_width, list_spelling, scalar_spelling, table_spelling, whole_spelling, text_spelling};
+ghost use Rattle.plist_object.specs.Sizes.{IsSmall, IsWidth, head_size};
 
 use plist_value::{ScalarRef, TextRef};
 
@@ -45,6 +45,26 @@ fn fixed_length(octets: &[u8]) -> u64
     ensures { result ≡ 1 + length octets.now }
 {
     1 + octets.len() as u64
+}
+
+/// How many octets a list of so many references, each of so many octets, has. The width is 1, 2, 4 or 8,
+/// and the count below 2^32.
+pub fn list_length(count: u64, width: u8) -> u64
+    requires width { IsWidth width }
+    requires count { count < 2 ^ 32 }
+    ensures { (refs : List ℕ) → length refs ≡ count → result ≡ length (list_spelling width refs) }
+{
+    head_length(count) + count * u64::from(width)
+}
+
+/// How many octets a table of so many pairs, with references of so many octets, has. The width is 1, 2, 4
+/// or 8, and the count below 2^32.
+pub fn table_length(count: u64, width: u8) -> u64
+    requires width { IsWidth width }
+    requires count { count < 2 ^ 32 }
+    ensures { (keys values : List ℕ) → length keys ≡ count → length values ≡ count → result ≡ length (table_spelling width keys values) }
+{
+    head_length(count) + 2 * count * u64::from(width)
 }
 
 fn text_length(text: &TextRef) -> u64

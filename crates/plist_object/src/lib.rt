@@ -11,7 +11,10 @@ mod reading;
 pub mod refs;
 
 pub use layout::{BinFile, LayoutFault};
-pub use lengths::{scalar_length, width_of};
+pub use lengths::{list_length, scalar_length, table_length, width_of};
 pub use object::{Object, ObjectFault};
-pub use puts::put_scalar;
+pub use puts::{put_list, put_scalar, put_table};
 pub use refs::Refs;
+
+#[cfg(test)]
+mod tests;

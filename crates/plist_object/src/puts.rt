@@ -1,14 +1,14 @@
-ghost use Rattle.std.specs.Prelude.{◌≡◌, ◌+◌, ◌*◌, ◌<◌, ◌≤◌, ◌^◌, [], ◌∷◌, ◌++◌, length, OnOk, OnErr, nat_lt, replicate, true};
+ghost use Rattle.std.specs.Prelude.{◌≡◌, ◌+◌, ◌*◌, ◌<◌, ◌≤◌, ◌^◌, [], ◌∷◌, ◌++◌, length, All, OnOk, OnErr, nat_lt, replicate, true};
 ghost use Rattle.std.specs.List.{list_all};
 ghost use Rattle.byteorder.specs.Endian.{big_bytes};
 ghost use Rattle.plist_value.specs.Plist.{IsWhole};
 ghost use Rattle.plist_value.specs.Texts.{units_of};
 ghost use Rattle.plist_value.specs.Scalars.{content_of};
 ghost use Rattle.plist_object.specs.Appending.{Appends, HasRoom};
-ghost use Rattle.plist_object.specs.Sizes.{IsSmall};
-ghost use Rattle.plist_object.specs.Spelling.{head, least_integer, references, scalar_spelling, text_spelling, whole_spelling};
+ghost use Rattle.plist_object.specs.Sizes.{IsSmall, IsWidth};
+ghost use Rattle.plist_object.specs.Spelling.{head, least_integer, list_spelling, references, table_spelling, scalar_spelling, text_spelling, whole_spelling};
 
-use crate::lengths::{is_ascii, scalar_length, width_of};
+use crate::lengths::{is_ascii, list_length, scalar_length, table_length, width_of};
 use byteorder::{BigEndian, ByteOrder};
 use plist_value::{ScalarRef, TextRef};
 use std::alloc::AllocError;
@@ -31,6 +31,60 @@ pub fn put_scalar(out: &mut Vec<u8>, scalar: &ScalarRef) -> Result<(), AllocErro
         ScalarRef::Bytes(octets) => push_data(out, octets),
     }
     Ok(())
+}
+
+/// Puts a list, its references in so many octets each, behind the octets of `out`, which stay as they are
+/// where there is no memory. The width is 1, 2, 4 or 8; there are below 2^32 references, and each fits the
+/// width.
+pub fn put_list(out: &mut Vec<u8>, width: u8, refs: &[u64]) -> Result<(), AllocError>
+    requires width { IsWidth width }
+    requires count { length refs.now < 2 ^ 32 }
+    requires fit { All (λ reference. reference < 256 ^ width) refs.now }
+    ensures ok { OnOk result (out.new.items ≡ out.old.items ++ list_spelling width refs.now) }
+    ensures err { OnErr result (out.new.items ≡ out.old.items) }
+{
+    let count = refs.len() as u64;
+    out.reserve(list_length(count, width) as usize)?;
+    push_head(out, 0xa, count);
+    push_references(out, width, refs);
+    Ok(())
+}
+
+/// Puts a table, its references to keys and then those to values in so many octets each, behind the
+/// octets of `out`, which stay as they are where there is no memory. The width is 1, 2, 4 or 8; there are
+/// below 2^32 keys and as many values, and each reference fits the width.
+pub fn put_table(
+    out: &mut Vec<u8>,
+    width: u8,
+    keys: &[u64],
+    values: &[u64],
+) -> Result<(), AllocError>
+    requires width { IsWidth width }
+    requires count { length keys.now < 2 ^ 32 }
+    requires pairs { length keys.now ≡ length values.now }
+    requires keys_fit { All (λ reference. reference < 256 ^ width) keys.now }
+    requires values_fit { All (λ reference. reference < 256 ^ width) values.now }
+    ensures ok { OnOk result (out.new.items ≡ out.old.items ++ table_spelling width keys.now values.now) }
+    ensures err { OnErr result (out.new.items ≡ out.old.items) }
+{
+    let count = keys.len() as u64;
+    out.reserve(table_length(count, width) as usize)?;
+    push_head(out, 0xd, count);
+    push_references(out, width, keys);
+    push_references(out, width, values);
+    Ok(())
+}
+
+fn push_references(out: &mut Vec<u8>, width: u8, refs: &[u64])
+    requires width_least { 1 ≤ width }
+    requires width_most { width ≤ 8 }
+    requires fit { All (λ reference. reference < 256 ^ width) refs.now }
+    requires room { HasRoom out.old (length (references width refs.now)) }
+    ensures { Appends out.old out.new (references width refs.now) }
+{
+    for reference in refs {
+        push_number(out, *reference, width);
+    }
 }
 
 fn push_octet(out: &mut Vec<u8>, octet: u8)
