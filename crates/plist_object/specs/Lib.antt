@@ -16,3 +16,5 @@ pub mod Codes
 pub mod Ascending
 pub mod Uniqueness
 pub mod Laws
+pub mod Shortest
+pub mod Heads

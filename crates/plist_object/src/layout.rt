@@ -1,10 +1,11 @@
-ghost use Rattle.std.specs.Prelude.{◌≡◌, ◌+◌, ◌*◌, ◌<◌, ◌≤◌, ◌^◌, ◌↔◌, IsTrue, IfOk, MatchResult, length};
+ghost use Rattle.std.specs.Prelude.{◌≡◌, ◌+◌, ◌*◌, ◌<◌, ◌≤◌, ◌^◌, ◌↔◌, IsTrue, IsOk, IfOk, MatchResult, length};
 ghost use Rattle.std.specs.Option.{SomeIff};
 ghost use Rattle.plist_object.specs.Layout.{IsLaid, IsLayoutFault, slack_of, trailer_of};
 
 use crate::object::{Object, ObjectFault};
 use crate::reading;
 use crate::refs::number_at;
+use crate::shortest::begins_canonically;
 use byteorder::{BigEndian, ByteOrder};
 use thiserror::Error;
 
@@ -91,6 +92,7 @@ impl Fields {
 impl<'a> BinFile<'a> {
     ghost use Rattle.plist_object.specs.Objects.{IsHeld};
     ghost use Rattle.plist_object.specs.Places.{place_of, octets_at, object_at, span_of, what_holds};
+    ghost use Rattle.plist_object.specs.Shortest.{IsShortest};
     ghost use Rattle.plist_object.specs.Views.{Gives, held_of, octets_of};
 
     /// The file in these octets.
@@ -195,6 +197,19 @@ impl<'a> BinFile<'a> {
             self.place(n),
             self.fields.table.saturating_sub(behind.len() as u64),
         ))
+    }
+
+    /// Whether the octets of the object `n`, which is below `count`, are the canonical spelling of what it
+    /// holds, with the file's width of a reference; or its first fault.
+    #[tactic(auto, unfolding(crate::specs::Places::object_at))]
+    pub fn is_shortest(&self, n: u64) -> Result<bool, ObjectFault>
+        requires { n < (trailer_of (octets_of self.now)).count }
+        ensures shortest { IfOk result (λ shortest. IsTrue shortest ↔ IsShortest (octets_of self.now) n) }
+        ensures reads { MatchResult result (λ _. IsOk (object_at (octets_of self.now) n)) (λ fault. object_at (octets_of self.now) n ≡ Err fault) }
+    {
+        let octets = self.octets_at(n)?;
+        let (object, _) = reading::object(octets, self.fields.reference_width)?;
+        Ok(begins_canonically(octets, &object))
     }
 
     // What the object holds, and the octets behind it.

@@ -9,6 +9,7 @@ pub mod object;
 pub mod puts;
 mod reading;
 pub mod refs;
+mod shortest;
 
 pub use layout::{BinFile, LayoutFault};
 pub use lengths::{list_length, scalar_length, table_length, width_of};

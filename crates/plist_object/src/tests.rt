@@ -155,3 +155,23 @@ fn puts_append(rt: HostRuntime) -> Result<(), Fail> {
     assert_eq!(rt; out.as_slice(), octets.as_slice());
     Ok(())
 }
+
+#[test]
+fn shortest_spellings(rt: HostRuntime) -> Result<(), Fail> {
+    let rows: [(&[u8], bool); 8] = [
+        (&[0x51, 0x61], true),
+        (&[0x61, 0, 0x61], false),
+        (&[0x5f, 0x10, 1, 0x61], false),
+        (&[0x13, 0, 0, 0, 0, 0, 0, 0, 5], false),
+        (&[0x10, 5], true),
+        (&[0x50], true),
+        (&[0x60], false),
+        (&[0xa1, 0], true),
+    ];
+    for (object, shortest) in rows {
+        let octets = file(rt.alloc(), object, &[8], 1)?;
+        let file = BinFile::of(octets.as_slice()).ok().ok_or("a laid file")?;
+        assert_eq!(rt; file.is_shortest(0), Ok(shortest));
+    }
+    Ok(())
+}

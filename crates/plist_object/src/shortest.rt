@@ -1,0 +1,126 @@
+// Whether an object begins as the canonical spelling of what it holds: with the marker, and the count or
+// the whole number, in the least width.
+ghost use Rattle.std.specs.Prelude.{◌≡◌, ◌<◌, ◌≤◌, ◌^◌, ◌↔◌, ◌+◌, ◌++◌, IsTrue, length, replicate, take};
+ghost use Rattle.byteorder.specs.Endian.{big_bytes};
+ghost use Rattle.plist_value.specs.Plist.{AreOctets, IsWhole};
+ghost use Rattle.plist_value.specs.Texts.{units_of};
+ghost use Rattle.plist_value.specs.Scalars.{content_of};
+ghost use Rattle.plist_object.specs.Heads.{Begins, BeginsCanonically, BeginsScalar, IsCounted, text_head};
+ghost use Rattle.plist_object.specs.Objects.{holds_scalar};
+ghost use Rattle.plist_object.specs.Spelling.{head, least_integer, whole_spelling};
+ghost use Rattle.plist_object.specs.Views.{held_of};
+
+use crate::Object;
+use crate::lengths::{is_ascii, width_of};
+use byteorder::{BigEndian, ByteOrder};
+use plist_value::{ScalarRef, TextRef};
+
+/// Whether the octets begin as the canonical spelling of what they hold.
+pub(crate) fn begins_canonically(octets: &[u8], object: &Object) -> bool
+    ensures begins { IsTrue result ↔ BeginsCanonically (held_of object.now) octets.now }
+    ensures counted { IsCounted (held_of object.now) }
+    ensures octets { AreOctets octets.now }
+{
+    match object {
+        Object::Scalar(scalar) => begins_scalar(octets, scalar),
+        Object::List(items) => begins_with_head(octets, 0xa, items.len()),
+        Object::Table(keys, _) => begins_with_head(octets, 0xd, keys.len()),
+    }
+}
+
+fn begins_scalar(octets: &[u8], scalar: &ScalarRef) -> bool
+    ensures begins { IsTrue result ↔ BeginsScalar (content_of scalar.now) octets.now }
+    ensures counted { IsCounted (holds_scalar (content_of scalar.now)) }
+{
+    match scalar {
+        ScalarRef::Text(text) => begins_text(octets, text),
+        ScalarRef::Whole(whole) => begins_whole(octets, whole.get()),
+        ScalarRef::Flag(true) => begins(octets, &[0x09]),
+        ScalarRef::Flag(false) => begins(octets, &[0x08]),
+        ScalarRef::Real4(_) => begins(octets, &[0x22]),
+        ScalarRef::Real8(_) => begins(octets, &[0x23]),
+        ScalarRef::Moment(_) => begins(octets, &[0x33]),
+        ScalarRef::Bytes(data) => begins_with_head(octets, 0x4, data.len() as u64),
+    }
+}
+
+fn begins_text(octets: &[u8], text: &TextRef) -> bool
+    ensures begins { IsTrue result ↔ Begins (text_head (units_of text.now)) octets.now }
+    ensures counted { length (units_of text.now) < 2 ^ 64 }
+{
+    let kind = if is_ascii(text) { 0x5 } else { 0x6 };
+    begins_with_head(octets, kind, text.len() as u64)
+}
+
+fn begins_whole(octets: &[u8], number: i128) -> bool
+    requires { IsWhole number }
+    ensures { IsTrue result ↔ Begins (whole_spelling number) octets.now }
+{
+    let Some((marker, digits)) = octets.split_first() else {
+        return false;
+    };
+    if number < 0 {
+        *marker == 0x13 && begins_with_number(digits, (number as i64).cast_unsigned(), 8)
+    } else if number < 1 << 63 {
+        begins_with_integer(octets, number as u64)
+    } else {
+        *marker == 0x14 && begins_with_long(digits, number as u64)
+    }
+}
+
+fn begins_with_head(octets: &[u8], kind: u8, count: u64) -> bool
+    requires { kind < 16 }
+    ensures { IsTrue result ↔ Begins (head kind count) octets.now }
+{
+    let Some((marker, rest)) = octets.split_first() else {
+        return false;
+    };
+    if count < 15 {
+        *marker == 16 * kind + count as u8
+    } else {
+        *marker == 16 * kind + 15 && begins_with_integer(rest, count)
+    }
+}
+
+fn begins_with_integer(octets: &[u8], n: u64) -> bool
+    ensures { IsTrue result ↔ Begins (least_integer n) octets.now }
+{
+    let Some((marker, digits)) = octets.split_first() else {
+        return false;
+    };
+    let width = width_of(n);
+    let expected = match width {
+        1 => 0x10,
+        2 => 0x11,
+        4 => 0x12,
+        _ => 0x13,
+    };
+    *marker == expected && begins_with_number(digits, n, width)
+}
+
+fn begins_with_number(octets: &[u8], n: u64, width: u8) -> bool
+    requires width_least { 1 ≤ width }
+    requires width_most { width ≤ 8 }
+    requires fits { n < 256 ^ width }
+    ensures { IsTrue result ↔ (take width octets.now ≡ big_bytes width n) }
+{
+    let width = usize::from(width);
+    let mut digits = [0; 8];
+    BigEndian::write_uint(&mut digits, n, width);
+    begins(octets, &digits[..width])
+}
+
+// Eight zero octets, and the number in eight.
+fn begins_with_long(octets: &[u8], n: u64) -> bool
+    ensures { IsTrue result ↔ Begins (replicate 8 0 ++ big_bytes 8 n) octets.now }
+{
+    let mut digits = [0; 16];
+    BigEndian::write_u64(&mut digits[8..], n);
+    begins(octets, &digits)
+}
+
+fn begins(octets: &[u8], first: &[u8]) -> bool
+    ensures { IsTrue result ↔ Begins first.now octets.now }
+{
+    octets.starts_with(first)
+}
