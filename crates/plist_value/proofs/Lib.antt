@@ -1,2 +1,4 @@
 pub mod Keys
 pub mod WideUnits
+pub mod Pairs
+pub mod Hashes

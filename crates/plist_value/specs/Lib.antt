@@ -6,3 +6,8 @@ pub mod Texts
 pub mod Scalars
 pub mod Wholes
 pub mod Budget
+pub mod Hashes
+pub mod Equality
+pub mod EqualityLaws
+pub mod Laws
+pub mod Rows

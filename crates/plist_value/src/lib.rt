@@ -1,6 +1,9 @@
 //! The values that property lists spell, and how large they may be.
 #![tactic(auto)]
 
+pub mod copies;
+pub mod equal;
+pub mod laws;
 pub mod limits;
 pub mod scalar_ref;
 pub mod text_ref;
@@ -8,6 +11,8 @@ pub mod utf16;
 pub mod value;
 pub mod whole;
 
+pub use copies::copy;
+pub use equal::same;
 pub use limits::fits;
 pub use scalar_ref::ScalarRef;
 pub use text_ref::TextRef;
@@ -26,3 +31,6 @@ pub const MAX_DEPTH: u64 = 512;
 /// The greatest payload, in octets: two for each UTF-16 unit of a text, one for each octet of data, over
 /// the whole tree, keys included.
 pub const MAX_PAYLOAD: u64 = 1_073_741_824;
+
+#[cfg(test)]
+mod tests;

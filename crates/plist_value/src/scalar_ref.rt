@@ -1,8 +1,17 @@
-ghost use Rattle.std.specs.Prelude.{◌≡◌, ◌↔◌, IsSome, IsNone, IfSome};
+ghost use Rattle.std.specs.Prelude.{◌≡◌, ◌↔◌, IsSome, IsNone, IfSome, fold, ◌++◌, ◌∷◌, []};
+ghost use Rattle.std.specs.Hash as fed;
+ghost use Rattle.std.specs.Ordering.{on};
+ghost use Rattle.std.specs.Cmp.{partial_equiv_from_equiv, on_equiv};
+ghost use Rattle.std.specs.Hash.{on_Alike};
+ghost use Rattle.plist_value.specs.Equality.{scalar_eq, fed_scalar};
+ghost use Rattle.plist_value.specs.EqualityLaws.{scalar_eq-equiv, scalar_eq-fed};
+ghost use Rattle.plist_value.specs.Scalars.{content_of};
 
 use crate::{TextRef, Value, Whole};
+use std::hash::{Hash, Hasher};
 
-/// A value that holds no other, borrowed from a `Value` or from the octets of a file.
+/// A value that holds no other, borrowed from a `Value` or from the octets of a file. Two are equal where
+/// they are of one kind and have the same content, and then they hash alike; so they serve as keys of a map.
 #[derive(Clone, Copy, Debug)]
 pub enum ScalarRef<'a> {
     /// A list of UTF-16 units.
@@ -23,7 +32,6 @@ pub enum ScalarRef<'a> {
 
 impl<'a> ScalarRef<'a> {
     ghost use Rattle.plist_value.specs.Plist.{IsContainer, IsScalar, scalar, real4, real8, moment, bytes};
-    ghost use Rattle.plist_value.specs.Scalars.{content_of};
     ghost use Rattle.plist_value.specs.View.{view};
 
     /// The scalar that the value is, or `None` exactly for a list or a table.
@@ -71,4 +79,65 @@ impl<'a> ScalarRef<'a> {
     {
         ScalarRef::Bytes(octets)
     }
+}
+
+/// The same kind and the same content, wherever each is borrowed from.
+impl<'a> PartialEq for ScalarRef<'a> {
+    ghost eq = { on content_of scalar_eq };
+
+    ghost laws = { partial_equiv_from_equiv (on_equiv content_of scalar_eq-equiv) };
+
+    fn eq(&self, other: &Self) -> bool {
+        match (self, other) {
+            (ScalarRef::Text(text), ScalarRef::Text(other)) => text == other,
+            (ScalarRef::Whole(whole), ScalarRef::Whole(other)) => whole == other,
+            (ScalarRef::Flag(flag), ScalarRef::Flag(other)) => flag == other,
+            (ScalarRef::Real4(octets), ScalarRef::Real4(other)) => octets == other,
+            (ScalarRef::Real8(octets), ScalarRef::Real8(other)) => octets == other,
+            (ScalarRef::Moment(octets), ScalarRef::Moment(other)) => octets == other,
+            (ScalarRef::Bytes(octets), ScalarRef::Bytes(other)) => octets == other,
+            _ => false,
+        }
+    }
+}
+
+impl<'a> Eq for ScalarRef<'a> {
+    ghost laws = { on_equiv content_of scalar_eq-equiv };
+}
+
+/// By the kind and the content alone; octets are fed in one write.
+impl<'a> Hash for ScalarRef<'a> {
+    ghost hash_input = { λ scalar. fed_scalar (content_of scalar) };
+
+    ghost respects_eq = { (on_Alike content_of scalar_eq-fed).fed };
+
+    fn hash<H: Hasher>(&self, state: &mut H) {
+        match self {
+            ScalarRef::Text(text) => hash_kind(0, text, state),
+            ScalarRef::Whole(whole) => hash_kind(1, whole, state),
+            ScalarRef::Flag(flag) => hash_kind(2, flag, state),
+            ScalarRef::Real4(octets) => hash_octets(3, octets, state),
+            ScalarRef::Real8(octets) => hash_octets(4, octets, state),
+            ScalarRef::Moment(octets) => hash_octets(5, octets, state),
+            ScalarRef::Bytes(octets) => {
+                state.write_u8(6);
+                state.write_usize(octets.len());
+                state.write(octets);
+            }
+        }
+    }
+}
+
+fn hash_kind<T: Hash, H: Hasher>(kind: u8, content: &T, state: &mut H)
+    ensures { state.new ≡ fold H.write state.old (fed.u8 kind ++ T.hash_input content.now) }
+{
+    state.write_u8(kind);
+    content.hash(state);
+}
+
+fn hash_octets<H: Hasher>(kind: u8, octets: &[u8], state: &mut H)
+    ensures { state.new ≡ fold H.write state.old (fed.u8 kind ++ octets.now ∷ []) }
+{
+    state.write_u8(kind);
+    state.write(octets);
 }

@@ -1,14 +1,19 @@
 ghost use Rattle.std.specs.Prelude.{◌≡◌, ◌<◌, ◌≤◌, ◌+◌, ◌%◌, ◌↔◌, IsSome, IfSome, All, nat_eq, length, slice_index};
 ghost use Rattle.std.specs.Ordering.{nat_cmp, on, as_partial_cmp};
 ghost use Rattle.std.specs.Cmp.{partial_order_from_own_ties};
-ghost use Rattle.std.specs.Cmp.Lexicographic.{pointwise, slice_cmp};
+ghost use Rattle.std.specs.Cmp.Lexicographic.{pointwise, slice_cmp, bytes_decides};
 ghost use Rattle.std.specs.Cmp.Rules.{comparing};
+ghost use Rattle.std.specs.Hash.{on_Alike, same_Alike};
+ghost use Rattle.plist_value.specs.Hashes.{fed_text, pair_from, word_from};
 ghost use Rattle.std.proofs.Common.{rules};
+ghost use Rattle.plist_value.specs.Texts.{units_of, wide_units};
 
 use std::cmp::Ordering;
+use std::hash::{Hash, Hasher};
 
-/// A text that is borrowed: from UTF-16 units, or from the octets of a file. Texts are compared by their
-/// units, whichever way they are kept.
+/// A text that is borrowed: from UTF-16 units, or from the octets of a file. Texts are equal, ordered and
+/// hashed by their units, whichever way they are kept. That takes no memory and copies nothing: a comparison
+/// reads both up to their first difference, a hash reads all units once.
 #[derive(Clone, Copy, Debug)]
 pub struct TextRef<'a> {
     kept: Kept<'a>,
@@ -24,7 +29,6 @@ enum Kept<'a> {
 
 impl<'a> TextRef<'a> {
     ghost use Rattle.plist_value.specs.Plist.{AreUnits};
-    ghost use Rattle.plist_value.specs.Texts.{units_of, wide_units};
 
     /// The text of these units.
     pub fn of_units(units: &'a [u16]) -> TextRef<'a>
@@ -36,7 +40,7 @@ impl<'a> TextRef<'a> {
         }
     }
 
-    /// The text whose units are these octets, or `None` exactly where an octet is above 7f.
+    /// The text whose units are these octets, or `None` exactly where an octet is above 7f. It reads them once.
     pub fn of_ascii(octets: &'a [u8]) -> Option<TextRef<'a>>
         ensures ascii { IsSome result ↔ All (λ octet. octet < 128) octets.entry.now }
         ensures text { IfSome result (λ t. units_of t ≡ octets.entry.now) }
@@ -96,9 +100,24 @@ impl<'a> TextRef<'a> {
             Kept::Wide(octets) => wide_unit(octets, i),
         }
     }
-}
 
-ghost use Rattle.plist_value.specs.Texts.{wide_units};
+    // The four units from the place `i` on, the first in the lowest bits.
+    fn word_at(&self, i: usize) -> u64
+        requires { i + 4 ≤ length (units_of self.now) }
+        ensures { result ≡ word_from i (units_of self.now) }
+    {
+        prove!(self.len() - i >= 4);
+        u64::from(self.pair_at(i)) + 4_294_967_296 * u64::from(self.pair_at(i + 2))
+    }
+
+    fn pair_at(&self, i: usize) -> u32
+        requires { i + 2 ≤ length (units_of self.now) }
+        ensures { result ≡ pair_from i (units_of self.now) }
+    {
+        prove!(self.len() - i >= 2);
+        u32::from(self.unit(i)) + 65_536 * u32::from(self.unit(i + 1))
+    }
+}
 
 fn plain_unit(units: &[u16], i: usize) -> u16
     requires { i < length units.now }
@@ -114,4 +133,106 @@ fn wide_unit(octets: &[u8], i: usize) -> u16
 {
     prove!(i < octets.len() / 2);
     u16::from_be_bytes([octets[2 * i], octets[2 * i + 1]])
+}
+
+impl<'a> PartialEq for TextRef<'a> {
+    ghost eq = { on units_of (pointwise nat_eq) };
+
+    ghost laws = { Prim.search (comparing, rules) };
+
+    fn eq(&self, other: &Self) -> bool {
+        match (self.kept, other.kept) {
+            (Kept::Units(units), Kept::Units(others)) => units == others,
+            (Kept::Ascii(octets), Kept::Ascii(others)) => octets == others,
+            _ => same_units(self, other),
+        }
+    }
+}
+
+impl<'a> Eq for TextRef<'a> {
+    ghost laws = { Prim.search (comparing, rules) };
+}
+
+/// Unit by unit, a proper prefix first.
+impl<'a> Ord for TextRef<'a> {
+    ghost cmp = { on units_of (slice_cmp nat_cmp) };
+
+    ghost total = { Prim.search (comparing, rules) };
+
+    ghost matches_partial_cmp = { Prim.search (comparing, rules) };
+
+    ghost matches_eq = { Prim.search (comparing, rules) };
+
+    fn cmp(&self, other: &Self) -> Ordering {
+        match (self.kept, other.kept) {
+            (Kept::Units(units), Kept::Units(others)) => units.cmp(others),
+            (Kept::Ascii(octets), Kept::Ascii(others)) => octets.cmp(others),
+            _ => compare_units(self, other),
+        }
+    }
+}
+
+impl<'a> PartialOrd for TextRef<'a> {
+    ghost partial_cmp = { as_partial_cmp (on units_of (slice_cmp nat_cmp)) };
+
+    ghost laws = { partial_order_from_own_ties (Prim.search (comparing, rules)) (Prim.search (comparing, rules)) };
+
+    fn partial_cmp(&self, other: &Self) -> Option<Ordering> {
+        Some(self.cmp(other))
+    }
+}
+
+/// By the units alone, in place: their number, and then four in each write.
+impl<'a> Hash for TextRef<'a> {
+    ghost hash_input = { λ text. fed_text (units_of text) };
+
+    ghost respects_eq = { (on_Alike units_of (same_Alike fed_text bytes_decides)).fed };
+
+    fn hash<H: Hasher>(&self, state: &mut H) {
+        state.write_usize(self.len());
+        let words = self.len() / 4;
+        for i in 0..words {
+            state.write_u64(self.word_at(4 * i));
+        }
+        for i in 4 * words..self.len() {
+            state.write_u16(self.unit(i));
+        }
+    }
+}
+
+// However each is kept; the slices of one kind are compared faster.
+fn same_units(text: &TextRef, other: &TextRef) -> bool
+    ensures { result ≡ pointwise nat_eq (units_of text.now) (units_of other.now) }
+{
+    if text.len() != other.len() {
+        return false;
+    }
+    for i in 0..text.len() {
+        if text.unit(i) != other.unit(i) {
+            return false;
+        }
+    }
+    true
+}
+
+fn compare_units(text: &TextRef, other: &TextRef) -> Ordering
+    ensures { result ≡ slice_cmp nat_cmp (units_of text.now) (units_of other.now) }
+{
+    for i in 0..text.len() {
+        if i >= other.len() {
+            return Ordering::Greater;
+        }
+        let (unit, other_unit) = (text.unit(i), other.unit(i));
+        if unit < other_unit {
+            return Ordering::Less;
+        }
+        if unit > other_unit {
+            return Ordering::Greater;
+        }
+    }
+    if text.len() < other.len() {
+        Ordering::Less
+    } else {
+        Ordering::Equal
+    }
 }

@@ -1,11 +1,16 @@
-ghost use Rattle.std.specs.Prelude.{◌≡◌, ℕ, List, nat_eq};
+ghost use Rattle.std.specs.Prelude.{◌≡◌, ℕ, List, nat_eq, IfOk};
 ghost use Rattle.std.specs.Ordering.{nat_cmp, as_partial_cmp};
 ghost use Rattle.std.specs.Cmp.{partial_order_from_own_ties};
-ghost use Rattle.std.specs.Cmp.Lexicographic.{pointwise, slice_cmp};
+ghost use Rattle.std.specs.Cmp.Lexicographic.{pointwise, slice_cmp, bytes_decides};
 ghost use Rattle.std.specs.Cmp.Rules.{comparing};
+ghost use Rattle.std.specs.Hash.{same_Alike};
+ghost use Rattle.plist_value.specs.Hashes.{fed_text};
 ghost use Rattle.std.proofs.Common.{rules};
 
+use crate::TextRef;
+use std::alloc::{AllocError, Global};
 use std::cmp::Ordering;
+use std::hash::{Hash, Hasher};
 use std::marker::Model;
 
 /// A text: a list of UTF-16 units, any units, lone surrogates too. A contract sees it as that list.
@@ -33,6 +38,17 @@ impl Utf16 {
         ensures { result.now ≡ self.now }
     {
         self.units.as_slice()
+    }
+
+    /// A text of the same units, in memory of its own: one allocation of two octets for each unit.
+    ///
+    /// # Errors
+    ///
+    /// Where there is no memory for the units.
+    pub fn copy(&self, alloc: Global) -> Result<Utf16, AllocError>
+        ensures { IfOk result (λ copy. copy ≡ self.now) }
+    {
+        Ok(Utf16::from_units(Vec::from_slice(alloc, self.units())?))
     }
 }
 
@@ -72,5 +88,16 @@ impl PartialOrd for Utf16 {
 
     fn partial_cmp(&self, other: &Utf16) -> Option<Ordering> {
         Some(self.cmp(other))
+    }
+}
+
+/// By the units alone, as a `TextRef` of them.
+impl Hash for Utf16 {
+    ghost hash_input = { fed_text };
+
+    ghost respects_eq = { (same_Alike fed_text bytes_decides).fed };
+
+    fn hash<H: Hasher>(&self, state: &mut H) {
+        TextRef::of_units(self.units()).hash(state);
     }
 }

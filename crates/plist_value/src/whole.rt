@@ -1,9 +1,12 @@
 ghost use Rattle.std.specs.Prelude.{◌≡◌, ◌↔◌, ℤ, IsSome, IfSome};
 ghost use Rattle.std.specs.Ordering.{int_eq, on};
-ghost use Rattle.std.specs.Cmp.Rules.{comparing};
+ghost use Rattle.std.specs.Cmp.Rules.{comparing, hashing};
+ghost use Rattle.std.specs.Hash as fed;
 ghost use Rattle.std.proofs.Common.{rules};
 ghost use Rattle.plist_value.specs.Plist.{IsWhole};
 ghost use Rattle.plist_value.specs.Numbers.{number_kept};
+
+use std::hash::{Hash, Hasher};
 
 /// A whole number from -2^63 to 2^64 - 1.
 #[derive(Clone, Copy, Debug)]
@@ -63,4 +66,17 @@ impl PartialEq for Whole {
 
 impl Eq for Whole {
     ghost laws = { Prim.search (comparing, rules) };
+}
+
+/// By the number alone.
+impl Hash for Whole {
+    ghost use Rattle.plist_value.specs.Wholes.{number_of};
+
+    ghost hash_input = { λ whole. fed.i128 (number_of whole) };
+
+    ghost respects_eq = { Prim.search (hashing, rules) };
+
+    fn hash<H: Hasher>(&self, state: &mut H) {
+        state.write_i128(self.get());
+    }
 }

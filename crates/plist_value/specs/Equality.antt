@@ -1,0 +1,29 @@
+-- Equality of scalars as a test, and what each scalar feeds a hasher.
+use Rattle.std.specs.Prelude.{ℕ, Bool, false, List, [], ◌∷◌, ◌++◌, length, nat_eq}
+use Rattle.std.specs.Cmp.Lexicographic.{pointwise}
+use Rattle.std.specs.Ordering.{int_eq}
+use Rattle.std.specs.Hash as fed
+use mathlib.Core.Bool.{beq}
+use Rattle.plist_value.specs.Hashes.{fed_text}
+use Rattle.plist_value.specs.Plist.{Scalar, text, whole, flag, real4, real8, moment, bytes}
+
+-- the same kind and the same content
+abbrev pub scalar_eq : Scalar → Scalar → Bool
+scalar_eq (text xs) (text ys) = pointwise nat_eq xs ys
+scalar_eq (whole y) (whole z) = int_eq y z
+scalar_eq (flag b) (flag c) = beq b c
+scalar_eq (real4 xs) (real4 ys) = pointwise nat_eq xs ys
+scalar_eq (real8 xs) (real8 ys) = pointwise nat_eq xs ys
+scalar_eq (moment xs) (moment ys) = pointwise nat_eq xs ys
+scalar_eq (bytes xs) (bytes ys) = pointwise nat_eq xs ys
+scalar_eq s t = false
+
+-- the kind, and then the content; octets go in one piece
+abbrev pub fed_scalar : Scalar → List (List ℕ)
+fed_scalar (text units) = fed.u8 0 ++ fed_text units
+fed_scalar (whole z) = fed.u8 1 ++ fed.i128 z
+fed_scalar (flag b) = fed.u8 2 ++ fed.bool b
+fed_scalar (real4 xs) = fed.u8 3 ++ xs ∷ []
+fed_scalar (real8 xs) = fed.u8 4 ++ xs ∷ []
+fed_scalar (moment xs) = fed.u8 5 ++ xs ∷ []
+fed_scalar (bytes xs) = fed.u8 6 ++ fed.usize (length xs) ++ xs ∷ []
