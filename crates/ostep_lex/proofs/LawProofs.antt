@@ -1,0 +1,191 @@
+-- The laws: one list of tokens at most, and none where a fault stands.
+use Rattle.std.proofs.Common.{ℕ, Bool, true, false, ◌||◌, List, ◌∷◌, ◌≡◌, ◌⊎◌, inl, inr, ⊎_elim, refl, sym, subst}
+use Rattle.std.specs.Prelude.{codes, nat_eq}
+use Rattle.std.specs.List.{starts_with}
+use Rattle.ostep_lex.specs.declared.fault.LexFault.{LexFault}
+use Rattle.ostep_lex.specs.declared.fault.LexFault.TheVariants.{BadUtf8, XmlForm, UnexpectedCharacter, UnclosedString, UnclosedComment, BadEscape, OctalRange, OddData, BadData, BadUtf16, OutOfMemory}
+use Rattle.ostep_lex.specs.Encoding.{Places, places_of, Spells, StopsAt}
+use Rattle.ostep_lex.specs.Cursor.{UnlessMemory}
+use Rattle.ostep_lex.specs.Character.{is_white, less_than}
+use Rattle.ostep_lex.specs.Gap
+use Rattle.ostep_lex.specs.Gap.{Gap, GapPiece}
+use Rattle.ostep_lex.specs.Octets.{Octets}
+use Rattle.ostep_lex.specs.Lexeme
+use Rattle.ostep_lex.specs.Lexeme.{Lexeme, IsToken, Placed}
+use Rattle.ostep_lex.specs.Lexing.{Lexes, none, next, HasTokens, HasNoTokens}
+use Rattle.ostep_lex.specs.Stands
+use Rattle.ostep_lex.specs.Stands.{White, is_of_data, begins_xml, EscapeFault, QuotedFault, OctetsFault, FaultAt, FaultBehind, HasFault, HasXml, Stands}
+use Rattle.ostep_lex.specs.Laws.{OneLexing, TokensContinue, FaultyHasNone}
+use Rattle.ostep_lex.proofs.GapLemmas.{GapPiece-same}
+use Rattle.ostep_lex.proofs.TokenLemmas.{IsToken-gapless, other-octets}
+use Rattle.ostep_lex.proofs.LexingLemmas.{Lexes-same, LexesTo-continue, behind-fault}
+use Rattle.ostep_lex.proofs.OpenLemmas.{behind_mark}
+use Rattle.ostep_lex.proofs.TextLemmas.{Spells-same, StopsAt-none}
+
+-- tokens of one text are tokens of another that the same octets spell
+pub lexes_at : {octets text : List ℕ} {tokens : List Placed} → Spells octets text → HasTokens octets tokens → Lexes (places_of octets) text tokens
+lexes_at {octets} {tokens = tokens} s h = subst (λ x. Lexes (places_of octets) x tokens) (Spells-same h.spells s) h.lexes
+
+pub one_lexing : OneLexing
+one_lexing octets tokens others t o = Lexes-same (lexes_at o.spells t) o.lexes
+
+pub tokens_continue : TokensContinue
+tokens_continue octets tokens all rest b a =
+    let c = LexesTo-continue b.lexes (lexes_at b.spells a) in
+    record { others = c.0; first = c.1; lexes = c.2 }
+
+pub HasFault-none : {octets : List ℕ} {fault : LexFault} → HasFault octets fault → HasNoTokens octets
+HasFault-none {octets} h tokens t = behind-fault h.stands (tokens_continue octets h.tokens tokens h.rest h.before t).lexes
+
+-- white at the front of a text stands before all of its tokens
+white_piece : {c : ℕ} {rest behind : List ℕ} → is_white c ≡ true → GapPiece (c ∷ rest) behind → behind ≡ rest
+white_piece w g = GapPiece-same g (Gap.white w)
+
+white_gap : {c : ℕ} {rest end : List ℕ} → is_white c ≡ true → Gap (c ∷ rest) end → Gap rest end ⊎ (end ≡ c ∷ rest)
+white_gap w Gap.none = inr refl
+white_gap {end = end} w (Gap.piece g s) = inl (subst (λ x. Gap x end) (white_piece w g) s)
+
+no_white : {c : ℕ} {text rest behind : List ℕ} {l : Lexeme} → is_white c ≡ true → IsToken text l behind → text ≡ c ∷ rest → ⊥
+no_white {rest = rest} w t e = IsToken-gapless t rest (subst (λ x. GapPiece x rest) (sym e) (Gap.white w))
+
+behind_white : {p : Places} {c : ℕ} {rest : List ℕ} {tokens : List Placed} → is_white c ≡ true → Lexes p (c ∷ rest) tokens → Lexes p rest tokens
+behind_white w (none g) = ⊎_elim (λ h. none h) (λ e. cc) (white_gap w g)
+behind_white w (next g t r) = ⊎_elim (λ h. next h t r) (λ e. absurd (no_white w t e)) (white_gap w g)
+
+pub White-lexes : {p : Places} {text from : List ℕ} {tokens : List Placed} → White text from → Lexes p text tokens → Lexes p from tokens
+White-lexes Stands.none l = l
+White-lexes (Stands.more w r) l = White-lexes r (behind_white w l)
+
+-- no token begins as an XML property list does
+angle-piece : {rest behind : List ℕ} → GapPiece (less_than ∷ rest) behind → ⊥
+angle-piece (Gap.white w) = cc
+
+angle-octets : {c : ℕ} {rest octets behind : List ℕ} → is_of_data c ≡ false → Octets (c ∷ rest) octets behind → ⊥
+angle-octets d Octets.close = cc
+angle-octets d (Octets.piece e r) = other-octets d e
+
+angle-token : {c : ℕ} {rest behind : List ℕ} {l : Lexeme} → is_of_data c ≡ false → IsToken (less_than ∷ c ∷ rest) l behind → ⊥
+angle-token d (Lexeme.mark m) = cc
+angle-token d (Lexeme.run t b r) = cc
+angle-token d (Lexeme.quoted q r) = cc
+angle-token d (Lexeme.data_token r) = angle-octets d r
+
+angle-gap : {rest end : List ℕ} → Gap (less_than ∷ rest) end → end ≡ less_than ∷ rest
+angle-gap Gap.none = refl
+angle-gap (Gap.piece g s) = absurd (angle-piece g)
+
+angle-lexes : {p : Places} {c : ℕ} {rest : List ℕ} {tokens : List Placed} → is_of_data c ≡ false → Lexes p (less_than ∷ c ∷ rest) tokens → ⊥
+angle-lexes d (none g) = cc (angle-gap g)
+angle-lexes d (next {behind = behind} {lexeme = l} g t r) = angle-token d (subst (λ x. IsToken x l behind) (angle-gap g) t)
+
+begins-lexes : {p : Places} {text : List ℕ} {tokens : List Placed} (c : ℕ) (rest : List ℕ) → text ≡ less_than ∷ c ∷ rest → is_of_data c ≡ false → Lexes p text tokens → ⊥
+begins-lexes {p} {tokens = tokens} c rest e d l = angle-lexes d (subst (λ x. Lexes p x tokens) e l)
+
+either : (a b : Bool) → (a || b) ≡ true → (a ≡ true) ⊎ (b ≡ true)
+either true b e = inl refl
+either false b e = inr e
+
+xml-lexes : {p : Places} {text : List ℕ} {tokens : List Placed} → begins_xml text ≡ true → Lexes p text tokens → ⊥
+xml-lexes {text = text} e l =
+    ⊎_elim
+    (λ f. ⊎_elim (λ g. begins-lexes 63 _ (behind_mark text (codes "<?xml") g) refl l) (λ g. begins-lexes 33 _ (behind_mark text (codes "<!DOCTYPE") g) refl l)
+    (either (starts_with nat_eq text (codes "<?xml")) (starts_with nat_eq text (codes "<!DOCTYPE")) f))
+    (λ f. begins-lexes 112 _ (behind_mark text (codes "<plist") f) refl l)
+    (either (starts_with nat_eq text (codes "<?xml") || starts_with nat_eq text (codes "<!DOCTYPE")) (starts_with nat_eq text (codes "<plist")) e)
+
+pub HasXml-none : {octets : List ℕ} {at : ℕ} → HasXml octets at → HasNoTokens octets
+HasXml-none h tokens t = xml-lexes h.begins (White-lexes h.white (lexes_at h.spells t))
+
+pub StopsAt-tokens : {octets : List ℕ} {at : ℕ} → StopsAt octets at → HasNoTokens octets
+StopsAt-tokens s tokens t = StopsAt-none s t.spells
+
+pub faulty_has_none : FaultyHasNone
+faulty_has_none octets (BadUtf8 at) s n = StopsAt-tokens s.1
+faulty_has_none octets (BadUtf16 at) s n = StopsAt-tokens s.1
+faulty_has_none octets (XmlForm at) s n = HasXml-none s
+faulty_has_none octets OutOfMemory s n = absurd (n refl)
+faulty_has_none octets (UnexpectedCharacter at) s n = HasFault-none s
+faulty_has_none octets (UnclosedString at) s n = HasFault-none s
+faulty_has_none octets (UnclosedComment at) s n = HasFault-none s
+faulty_has_none octets (BadEscape at) s n = HasFault-none s
+faulty_has_none octets (OctalRange at) s n = HasFault-none s
+faulty_has_none octets (OddData at) s n = HasFault-none s
+faulty_has_none octets (BadData at) s n = HasFault-none s
+
+-- the faults that reading tokens meets
+IsLexical : LexFault → Type 0
+IsLexical (BadUtf8 at) = ⊥
+IsLexical (BadUtf16 at) = ⊥
+IsLexical (XmlForm at) = ⊥
+IsLexical OutOfMemory = ⊥
+IsLexical (UnexpectedCharacter at) = Unit {0}
+IsLexical (UnclosedString at) = Unit {0}
+IsLexical (UnclosedComment at) = Unit {0}
+IsLexical (BadEscape at) = Unit {0}
+IsLexical (OctalRange at) = Unit {0}
+IsLexical (OddData at) = Unit {0}
+IsLexical (BadData at) = Unit {0}
+
+escape-lexical : {p : Places} {start : ℕ} {text : List ℕ} {f : LexFault} → EscapeFault p start text f → IsLexical f
+unfolding IsLexical
+escape-lexical Stands.cut_escape = tt
+escape-lexical (Stands.no_digit d) = tt
+escape-lexical (Stands.too_high d h) = tt
+
+quoted-lexical : {p : Places} {start mark : ℕ} {text : List ℕ} {f : LexFault} → QuotedFault p start mark text f → IsLexical f
+unfolding IsLexical
+quoted-lexical Stands.cut_string = tt
+quoted-lexical (Stands.escape e) = escape-lexical e
+quoted-lexical (Stands.piece e f) = quoted-lexical f
+
+octets-lexical : {p : Places} {text : List ℕ} {f : LexFault} → OctetsFault p text f → IsLexical f
+unfolding IsLexical
+octets-lexical Stands.cut_data = tt
+octets-lexical (Stands.other d) = tt
+octets-lexical (Stands.odd h d) = tt
+octets-lexical (Stands.piece e f) = octets-lexical f
+
+fault_at-lexical : {p : Places} {text : List ℕ} {f : LexFault} → FaultAt p text f → IsLexical f
+unfolding IsLexical
+fault_at-lexical (Stands.unexpected m o) = tt
+fault_at-lexical (Stands.comment n) = tt
+fault_at-lexical (Stands.quoted q f) = quoted-lexical f
+fault_at-lexical (Stands.data_token f) = octets-lexical f
+
+behind-lexical : {p : Places} {text : List ℕ} {f : LexFault} → FaultBehind p text f → IsLexical f
+behind-lexical (Stands.gap g f) = fault_at-lexical f
+
+-- so a fault that reading tokens meets stands in the octets
+stands_lexical : (octets : List ℕ) (fault : LexFault) → IsLexical fault → HasFault octets fault → Stands octets fault
+unfolding IsLexical
+stands_lexical octets (BadUtf8 at) i h = absurd i
+stands_lexical octets (BadUtf16 at) i h = absurd i
+stands_lexical octets (XmlForm at) i h = absurd i
+stands_lexical octets OutOfMemory i h = tt
+stands_lexical octets (UnexpectedCharacter at) i h = h
+stands_lexical octets (UnclosedString at) i h = h
+stands_lexical octets (UnclosedComment at) i h = h
+stands_lexical octets (BadEscape at) i h = h
+stands_lexical octets (OctalRange at) i h = h
+stands_lexical octets (OddData at) i h = h
+stands_lexical octets (BadData at) i h = h
+
+pub stands_in : {octets : List ℕ} {fault : LexFault} → HasFault octets fault → Stands octets fault
+stands_in {octets} {fault} h = stands_lexical octets fault (behind-lexical h.stands) h
+
+-- a fault unless it is want of memory, of which nothing is said
+memory_or : (octets : List ℕ) (P : LexFault → Type 0) → ((fault : LexFault) → P fault → Stands octets fault) → (fault : LexFault) → UnlessMemory P fault → Stands octets fault
+memory_or octets P h OutOfMemory u = tt
+memory_or octets P h (BadUtf8 at) u = h (BadUtf8 at) (u (λ e. cc))
+memory_or octets P h (BadUtf16 at) u = h (BadUtf16 at) (u (λ e. cc))
+memory_or octets P h (XmlForm at) u = h (XmlForm at) (u (λ e. cc))
+memory_or octets P h (UnexpectedCharacter at) u = h (UnexpectedCharacter at) (u (λ e. cc))
+memory_or octets P h (UnclosedString at) u = h (UnclosedString at) (u (λ e. cc))
+memory_or octets P h (UnclosedComment at) u = h (UnclosedComment at) (u (λ e. cc))
+memory_or octets P h (BadEscape at) u = h (BadEscape at) (u (λ e. cc))
+memory_or octets P h (OctalRange at) u = h (OctalRange at) (u (λ e. cc))
+memory_or octets P h (OddData at) u = h (OddData at) (u (λ e. cc))
+memory_or octets P h (BadData at) u = h (BadData at) (u (λ e. cc))
+
+pub stands_unless : (octets : List ℕ) (fault : LexFault) → UnlessMemory (HasFault octets) fault → Stands octets fault
+stands_unless octets fault u = memory_or octets (HasFault octets) (λ f h. stands_in h) fault u

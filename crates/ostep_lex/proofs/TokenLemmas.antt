@@ -1,0 +1,228 @@
+-- What stands at a place is one token, and no token where a fault stands.
+use Rattle.std.proofs.Common.{ℕ, ◌<◌, List, [], ◌∷◌, ◌≡◌, ◌==◌, true, false, refl, ap, subst, arith}
+use Rattle.ostep_lex.specs.declared.fault.LexFault.{LexFault}
+use Rattle.ostep_lex.specs.Encoding.{Places}
+use Rattle.ostep_lex.specs.Character.{is_quote, greater_than, is_hexadecimal}
+use Rattle.ostep_lex.specs.Digits.{begins_digit, octal_number}
+use Rattle.ostep_lex.specs.Gap
+use Rattle.ostep_lex.specs.Gap.{GapPiece, NeverCloses}
+use Rattle.ostep_lex.specs.Quoted
+use Rattle.ostep_lex.specs.Quoted.{Run, Escape, Piece, Quoted}
+use Rattle.ostep_lex.specs.Octets
+use Rattle.ostep_lex.specs.Octets.{OctetsPiece, Octets}
+use Rattle.ostep_lex.specs.Lexeme
+use Rattle.ostep_lex.specs.Lexeme.{Lexeme, IsToken}
+use Rattle.ostep_lex.specs.Stands
+use Rattle.ostep_lex.specs.Stands.{is_of_data, EscapeFault, QuotedFault, OctetsFault, FaultAt}
+use Rattle.ostep_lex.proofs.ClassLemmas.{white-run, white-quote, run-quote, white-hexadecimal, mark-white, mark-run, mark-quote, quote-backslash, close-raw, of_data-white, of_data-hexadecimal, unexpected-white, unexpected-run, unexpected-quote}
+use Rattle.ostep_lex.proofs.GapLemmas.{BlockComment-never, IsGapless}
+
+-- two readings of one text agree in what they mean, and in what they leave
+pub record SamePart (u v a b : List ℕ) : Type 0 where
+  pub means : u ≡ v
+  pub leaves : a ≡ b
+
+pub Run-same : {text u v a b : List ℕ} → Run text u a → Run text v b → SamePart u v a b
+Run-same (Quoted.stop e) (Quoted.stop f) = record { means = refl; leaves = refl }
+Run-same (Quoted.stop e) (Quoted.more f s) = cc
+Run-same (Quoted.more e r) (Quoted.stop f) = cc
+Run-same (Quoted.more {c = c} e r) (Quoted.more f s) =
+    let h = Run-same r s in record { means = ap (λ w. c ∷ w) h.means; leaves = h.leaves }
+
+pub Escape-same : {text u v a b : List ℕ} → Escape text u a → Escape text v b → SamePart u v a b
+Escape-same (Quoted.octal e l) (Quoted.octal f m) = record { means = refl; leaves = refl }
+Escape-same (Quoted.octal e l) (Quoted.unit f) = cc
+Escape-same (Quoted.octal e l) (Quoted.character f g) = cc
+Escape-same (Quoted.unit e) (Quoted.octal f m) = cc
+Escape-same (Quoted.unit e) (Quoted.unit f) = record { means = refl; leaves = refl }
+Escape-same (Quoted.unit e) (Quoted.character f g) = cc
+Escape-same (Quoted.character e l) (Quoted.octal f m) = cc
+Escape-same (Quoted.character e l) (Quoted.unit f) = cc
+Escape-same (Quoted.character e l) (Quoted.character f m) = record { means = refl; leaves = refl }
+
+Piece-same : {mark : ℕ} {text u v a b : List ℕ} → Piece mark text u a → Piece mark text v b → SamePart u v a b
+Piece-same (Quoted.raw e) (Quoted.raw f) = record { means = refl; leaves = refl }
+Piece-same (Quoted.raw e) (Quoted.escape s) = cc
+Piece-same (Quoted.escape r) (Quoted.raw f) = cc
+Piece-same (Quoted.escape r) (Quoted.escape s) = Escape-same r s
+
+-- a quote that closes is no piece
+close-piece : {mark c : ℕ} {rest u a : List ℕ} → is_quote mark ≡ true → (c == mark) ≡ true → Piece mark (c ∷ rest) u a → ⊥
+close-piece {mark} {c} q e (Quoted.raw f) = close-raw mark c e f
+close-piece {mark} q e (Quoted.escape s) = quote-backslash mark q e
+
+pub Quoted-same : {mark : ℕ} {text u v a b : List ℕ} → is_quote mark ≡ true → Quoted mark text u a → Quoted mark text v b → SamePart u v a b
+Quoted-same q (Quoted.close e) (Quoted.close f) = record { means = refl; leaves = refl }
+Quoted-same q (Quoted.close e) (Quoted.piece f s) = absurd (close-piece q e f)
+Quoted-same q (Quoted.piece e r) (Quoted.close f) = absurd (close-piece q f e)
+Quoted-same {mark} {b = b} q (Quoted.piece e r) (Quoted.piece {more = us} f s) =
+    let p = Piece-same f e in
+    let h = Quoted-same q r (subst (λ x. Quoted mark x us b) p.leaves s) in
+    record { means = cc (p.means, h.means); leaves = h.leaves }
+
+OctetsPiece-same : {text u v a b : List ℕ} → OctetsPiece text u a → OctetsPiece text v b → SamePart u v a b
+OctetsPiece-same (Octets.white e) (Octets.white f) = record { means = refl; leaves = refl }
+OctetsPiece-same (Octets.white {c = c} e) (Octets.pair f g) = absurd (white-hexadecimal c e f)
+OctetsPiece-same (Octets.pair {c = c} e h) (Octets.white f) = absurd (white-hexadecimal c f e)
+OctetsPiece-same (Octets.pair e h) (Octets.pair f g) = record { means = refl; leaves = refl }
+
+-- the end of a data token is no piece
+greater_than-piece : {rest u a : List ℕ} → OctetsPiece (greater_than ∷ rest) u a → ⊥
+greater_than-piece (Octets.white f) = cc
+greater_than-piece (Octets.pair f g) = cc
+
+pub Octets-same : {text u v a b : List ℕ} → Octets text u a → Octets text v b → SamePart u v a b
+Octets-same Octets.close Octets.close = record { means = refl; leaves = refl }
+Octets-same Octets.close (Octets.piece f s) = absurd (greater_than-piece f)
+Octets-same (Octets.piece e r) Octets.close = absurd (greater_than-piece e)
+Octets-same {b = b} (Octets.piece e r) (Octets.piece {more = us} f s) =
+    let p = OctetsPiece-same f e in
+    let h = Octets-same r (subst (λ x. Octets x us b) p.leaves s) in
+    record { means = cc (p.means, h.means); leaves = h.leaves }
+
+-- two tokens at one place are one
+pub record SameToken (l m : Lexeme) (a b : List ℕ) : Type 0 where
+  pub means : l ≡ m
+  pub leaves : a ≡ b
+
+pub IsToken-same : {from a b : List ℕ} {l m : Lexeme} → IsToken from l a → IsToken from m b → SameToken l m a b
+IsToken-same (Lexeme.mark e) (Lexeme.mark f) = record { means = cc; leaves = refl }
+IsToken-same (Lexeme.mark {c = c} {lexeme = l} e) (Lexeme.run f g s) = absurd (mark-run c l e f)
+IsToken-same (Lexeme.mark {c = c} {lexeme = l} e) (Lexeme.quoted f s) = absurd (mark-quote c l e f)
+IsToken-same (Lexeme.mark e) (Lexeme.data_token s) = cc
+IsToken-same (Lexeme.run {c = c} e i r) (Lexeme.mark {lexeme = l} f) = absurd (mark-run c l f e)
+IsToken-same (Lexeme.run {c = c} e i r) (Lexeme.run f g s) =
+    let h = Run-same r s in record { means = ap (λ w. Lexeme.text (c ∷ w)) h.means; leaves = h.leaves }
+IsToken-same (Lexeme.run {c = c} e i r) (Lexeme.quoted f s) = absurd (run-quote c e f)
+IsToken-same (Lexeme.run e i r) (Lexeme.data_token s) = cc
+IsToken-same (Lexeme.quoted {c = c} e r) (Lexeme.mark {lexeme = l} f) = absurd (mark-quote c l f e)
+IsToken-same (Lexeme.quoted {c = c} e r) (Lexeme.run f g s) = absurd (run-quote c f e)
+IsToken-same (Lexeme.quoted e r) (Lexeme.quoted f s) =
+    let h = Quoted-same e r s in record { means = ap Lexeme.text h.means; leaves = h.leaves }
+IsToken-same (Lexeme.quoted e r) (Lexeme.data_token s) = cc
+IsToken-same (Lexeme.data_token r) (Lexeme.mark f) = cc
+IsToken-same (Lexeme.data_token r) (Lexeme.run f g s) = cc
+IsToken-same (Lexeme.data_token r) (Lexeme.quoted f s) = cc
+IsToken-same (Lexeme.data_token r) (Lexeme.data_token s) =
+    let h = Octets-same r s in record { means = ap Lexeme.octets h.means; leaves = h.leaves }
+
+-- no white and no comment begins where a token does
+token-piece : {from a b : List ℕ} {l : Lexeme} → IsToken from l a → GapPiece from b → ⊥
+token-piece (Lexeme.mark {c = c} {lexeme = l} e) (Gap.white f) = mark-white c l e f
+token-piece (Lexeme.mark e) (Gap.line s) = cc
+token-piece (Lexeme.mark e) (Gap.block s) = cc
+token-piece (Lexeme.run {c = c} e i r) (Gap.white f) = white-run c f e
+token-piece (Lexeme.run e i r) (Gap.line s) = cc
+token-piece (Lexeme.run e i r) (Gap.block s) = cc
+token-piece (Lexeme.quoted {c = c} e r) (Gap.white f) = white-quote c f e
+token-piece (Lexeme.quoted e r) (Gap.line s) = cc
+token-piece (Lexeme.quoted e r) (Gap.block s) = cc
+token-piece (Lexeme.data_token r) (Gap.white f) = cc
+
+pub IsToken-gapless : {from behind : List ℕ} {l : Lexeme} → IsToken from l behind → IsGapless from
+IsToken-gapless t x g = token-piece t g
+
+nothing-piece : {b : List ℕ} → GapPiece [] b → ⊥
+nothing-piece g = elim g [ ]
+
+pub nothing-gapless : IsGapless []
+nothing-gapless x g = nothing-piece g
+
+-- an escape at fault is none
+no_digit-escape : {rest u a : List ℕ} → begins_digit 16 rest ≡ false → Escape (Quoted.unit_letter ∷ rest) u a → ⊥
+no_digit-escape d (Quoted.octal e l) = cc
+no_digit-escape d (Quoted.unit e) = cc
+no_digit-escape d (Quoted.character e f) = cc
+
+too_high-escape : {rest u a : List ℕ} → begins_digit 8 rest ≡ true → 0x7f < (octal_number rest).value → Escape rest u a → ⊥
+too_high-escape d h (Quoted.octal e l) = omega arith
+too_high-escape d h (Quoted.unit e) = cc
+too_high-escape d h (Quoted.character e f) = cc
+
+nothing-escape : {u a : List ℕ} → Escape [] u a → ⊥
+nothing-escape (Quoted.octal e l) = cc
+
+nothing-piece_of_string : {mark : ℕ} {u a : List ℕ} → Piece mark [] u a → ⊥
+nothing-piece_of_string r = elim r [ ]
+
+Piece-fault : {p : Places} {start mark : ℕ} {text u a : List ℕ} {f : LexFault} → EscapeFault p start text f → Piece mark text u a → ⊥
+Piece-fault Stands.cut_escape (Quoted.raw e) = cc
+Piece-fault Stands.cut_escape (Quoted.escape r) = nothing-escape r
+Piece-fault (Stands.no_digit d) (Quoted.raw e) = cc
+Piece-fault (Stands.no_digit d) (Quoted.escape r) = no_digit-escape d r
+Piece-fault (Stands.too_high d h) (Quoted.raw e) = cc
+Piece-fault (Stands.too_high d h) (Quoted.escape r) = too_high-escape d h r
+
+close-fault : (mark : ℕ) {p : Places} {start c : ℕ} {rest : List ℕ} {f : LexFault} → is_quote mark ≡ true → (c == mark) ≡ true → EscapeFault p start (c ∷ rest) f → ⊥
+close-fault mark q e Stands.cut_escape = quote-backslash mark q e
+close-fault mark q e (Stands.no_digit d) = quote-backslash mark q e
+close-fault mark q e (Stands.too_high d h) = quote-backslash mark q e
+
+-- a quoted string at fault is none
+pub Quoted-fault : {p : Places} {start mark : ℕ} {text u a : List ℕ} {f : LexFault} → is_quote mark ≡ true → QuotedFault p start mark text f → Quoted mark text u a → ⊥
+Quoted-fault q Stands.cut_string (Quoted.piece e r) = nothing-piece_of_string e
+Quoted-fault {mark = mark} q (Stands.escape d) (Quoted.close e) = close-fault mark q e d
+Quoted-fault q (Stands.escape d) (Quoted.piece e r) = Piece-fault d e
+Quoted-fault q (Stands.piece e f) (Quoted.close g) = close-piece q g e
+Quoted-fault {mark = mark} {a = a} q (Stands.piece e f) (Quoted.piece {more = us} g r) =
+    Quoted-fault q f (subst (λ x. Quoted mark x us a) (Piece-same g e).leaves r)
+
+nothing-octets : {u a : List ℕ} → OctetsPiece [] u a → ⊥
+nothing-octets r = elim r [ ]
+
+pub other-octets : {c : ℕ} {rest u a : List ℕ} → is_of_data c ≡ false → OctetsPiece (c ∷ rest) u a → ⊥
+other-octets {c} e (Octets.white f) = of_data-white c e f
+other-octets {c} e (Octets.pair f g) = of_data-hexadecimal c e f
+
+odd-octets : {c : ℕ} {rest u a : List ℕ} → is_hexadecimal c ≡ true → begins_digit 16 rest ≡ false → OctetsPiece (c ∷ rest) u a → ⊥
+odd-octets {c} e d (Octets.white f) = white-hexadecimal c f e
+odd-octets e d (Octets.pair f g) = cc
+
+-- a data token at fault is none
+pub Octets-fault : {p : Places} {text u a : List ℕ} {f : LexFault} → OctetsFault p text f → Octets text u a → ⊥
+Octets-fault Stands.cut_data (Octets.piece e r) = nothing-octets e
+Octets-fault (Stands.other e) Octets.close = cc
+Octets-fault (Stands.other e) (Octets.piece f r) = other-octets e f
+Octets-fault (Stands.odd e d) Octets.close = cc
+Octets-fault (Stands.odd e d) (Octets.piece f r) = odd-octets e d f
+Octets-fault (Stands.piece e f) Octets.close = greater_than-piece e
+Octets-fault {a = a} (Stands.piece e f) (Octets.piece {more = us} g r) =
+    Octets-fault f (subst (λ x. Octets x us a) (OctetsPiece-same g e).leaves r)
+
+-- no token, no white and no whole comment begins where a fault stands
+pub IsToken-fault : {p : Places} {from behind : List ℕ} {l : Lexeme} {f : LexFault} → FaultAt p from f → IsToken from l behind → ⊥
+IsToken-fault (Stands.unexpected e o) (Lexeme.mark f) = cc
+IsToken-fault (Stands.unexpected {c = c} e o) (Lexeme.run f g r) = unexpected-run c o f
+IsToken-fault (Stands.unexpected {c = c} e o) (Lexeme.quoted f r) = unexpected-quote c o f
+IsToken-fault (Stands.unexpected e o) (Lexeme.data_token r) = cc
+IsToken-fault (Stands.comment n) (Lexeme.mark f) = cc
+IsToken-fault (Stands.comment n) (Lexeme.run f g r) = cc
+IsToken-fault (Stands.comment n) (Lexeme.quoted f r) = cc
+IsToken-fault (Stands.quoted {c = c} e n) (Lexeme.mark {lexeme = l} f) = mark-quote c l f e
+IsToken-fault (Stands.quoted {c = c} e n) (Lexeme.run f g r) = run-quote c f e
+IsToken-fault (Stands.quoted e n) (Lexeme.quoted f r) = Quoted-fault e n r
+IsToken-fault (Stands.quoted e n) (Lexeme.data_token r) = cc
+IsToken-fault (Stands.data_token n) (Lexeme.mark f) = cc
+IsToken-fault (Stands.data_token n) (Lexeme.run f g r) = cc
+IsToken-fault (Stands.data_token n) (Lexeme.quoted f r) = cc
+IsToken-fault (Stands.data_token n) (Lexeme.data_token r) = Octets-fault n r
+
+fault-piece : {p : Places} {from b : List ℕ} {f : LexFault} → FaultAt p from f → GapPiece from b → ⊥
+fault-piece (Stands.unexpected {c = c} e o) (Gap.white f) = unexpected-white c o f
+fault-piece (Stands.unexpected e o) (Gap.line s) = cc
+fault-piece (Stands.unexpected e o) (Gap.block s) = cc
+fault-piece (Stands.comment n) (Gap.white f) = cc
+fault-piece (Stands.comment n) (Gap.block s) = BlockComment-never n s
+fault-piece (Stands.quoted {c = c} e n) (Gap.white f) = white-quote c f e
+fault-piece (Stands.quoted e n) (Gap.line s) = cc
+fault-piece (Stands.quoted e n) (Gap.block s) = cc
+fault-piece (Stands.data_token n) (Gap.white f) = cc
+
+pub FaultAt-gapless : {p : Places} {from : List ℕ} {f : LexFault} → FaultAt p from f → IsGapless from
+FaultAt-gapless e x g = fault-piece e g
+
+pub FaultAt-nothing : {p : Places} {f : LexFault} → FaultAt p [] f → ⊥
+FaultAt-nothing e = elim e [ ]
+
+pub IsToken-nothing : {behind : List ℕ} {l : Lexeme} → IsToken [] l behind → ⊥
+IsToken-nothing t = elim t [ ]

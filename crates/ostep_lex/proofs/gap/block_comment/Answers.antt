@@ -1,0 +1,17 @@
+use Rattle.std.proofs.Common.{◌∙◌}
+use Rattle.ostep_lex.proofs.GapSteps.{block_more, never_more, block_close, never_none}
+use Rattle.ostep_lex.proofs.gap.block_comment.Goals as goal
+
+pub returns-in-Some-comment_end : goal.returns-in-Some-comment_end
+returns-in-Some-comment_end c =
+    (c.loop-behind.invariant.0 _ (block_close c.in-Some-comment_end.ensures.0), c.in-Some-comment_end.ensures.1 ∙ c.loop-behind.invariant.2)
+
+pub loop-behind-preserved : goal.loop-behind-preserved
+loop-behind-preserved c = (
+  λ end r. c.loop-behind.invariant.0 end (block_more c.in-Some.ensures.0 c.in_default-comment_end.ensures r),
+  λ n. c.loop-behind.invariant.1 (never_more c.in-Some.ensures.0 c.in_default-comment_end.ensures n),
+  c.in-Some.ensures.1 ∙ c.loop-behind.invariant.2,
+)
+
+pub returns : goal.returns
+returns c = c.loop-behind.invariant.1 (never_none c.in_default.ensures)

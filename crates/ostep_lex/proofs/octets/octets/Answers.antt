@@ -1,0 +1,27 @@
+use Rattle.std.proofs.Common.{◌≡◌, ◌++◌, [], subst, append-nil, ◌∙◌}
+use Rattle.ostep_lex.specs.Octets.{Octets, piece}
+use Rattle.ostep_lex.specs.Stands
+use Rattle.ostep_lex.specs.Encoding.{place}
+use Rattle.ostep_lex.specs.Cursor.{ahead}
+use Rattle.ostep_lex.proofs.StringSteps.{appended}
+use Rattle.ostep_lex.proofs.OctetsSteps.{octets_close, cut_fault}
+use Rattle.ostep_lex.proofs.octets.octets.Goals as goal
+
+pub returns-then-c-eq62-clause-ok : goal.returns-then-c-eq62-clause-ok
+returns-then-c-eq62-clause-ok c = record {
+  bytes = subst (λ os. Octets (ahead c.args.cursor) os (ahead c.in-Some.behind)) (append-nil c.loop-c.octets.items)
+      (c.loop-c.invariant.0 [] _ (octets_close _ _ _ c.in-Some.ensures.0 c.if-c-eq62.true));
+  input = c.in-Some.ensures.1 ∙ c.loop-c.invariant.2;
+}
+
+pub loop-c-preserved : goal.loop-c-preserved
+loop-c-preserved c =
+    let p = c.in_ok-rest.ensures.ok in (
+      λ more end r. subst (λ os. Octets (ahead c.args.cursor) os end) (appended _ _ _ more p.appended) (c.loop-c.invariant.0 (p.octets_of ++ more) end (piece p.piece r)),
+      λ fault f. c.loop-c.invariant.1 fault (Stands.piece p.piece f),
+      p.input ∙ c.loop-c.invariant.2,
+    )
+
+pub returns-clause-err : goal.returns-clause-err
+returns-clause-err c n =
+    c.loop-c.invariant.1 _ (cut_fault _ _ _ c.in_default.ensures (subst (λ p. c.place.result ≡ place p (ahead c.loop-c.rest)) c.loop-c.invariant.2 c.place.ensures))

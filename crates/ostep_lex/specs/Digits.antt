@@ -1,0 +1,28 @@
+-- Numbers in digits, as many as stand there up to some count.
+use Rattle.std.specs.Prelude.{ℕ, zero, suc, ◌+◌, ◌*◌, Bool, false, List, [], ◌∷◌, if◌then◌else◌}
+use Rattle.std.specs.Char.{is_digit, digit_value}
+
+-- whether a digit of the base stands at the front
+abbrev pub begins_digit : ℕ → List ℕ → Bool
+begins_digit base [] = false
+begins_digit base (c ∷ rest) = is_digit c base
+
+-- a number, and the text behind its digits
+pub record Number : Type 0 where
+  pub value : ℕ
+  pub behind : List ℕ
+
+-- the number that goes on from high with the digits at the front, at most count of them
+abbrev pub number_from : (base count high : ℕ) → List ℕ → Number
+number_from base zero high text = record { value = high; behind = text }
+number_from base (suc count) high [] = record { value = high; behind = [] }
+number_from base (suc count) high (c ∷ rest) =
+    if is_digit c base then number_from base count (high * base + digit_value c) rest
+    else record { value = high; behind = c ∷ rest }
+
+-- one to three octal digits, and one to four hexadecimal digits
+abbrev pub octal_number : List ℕ → Number
+octal_number text = number_from 8 3 0 text
+
+abbrev pub hexadecimal_number : List ℕ → Number
+hexadecimal_number text = number_from 16 4 0 text

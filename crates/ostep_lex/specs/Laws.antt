@@ -1,0 +1,31 @@
+-- What holds of the definitions alone.
+use Rattle.std.specs.Prelude.{◌≡◌, ℕ, List, ◌++◌}
+use Rattle.ostep_lex.specs.declared.fault.LexFault.{LexFault}
+use Rattle.ostep_lex.specs.declared.fault.LexFault.TheVariants.{OutOfMemory}
+use Rattle.ostep_lex.specs.Encoding.{places_of}
+use Rattle.ostep_lex.specs.Lexeme.{Placed}
+use Rattle.ostep_lex.specs.Lexing.{HasTokens, HasNoTokens, BeginsWithTokens, Lexes}
+use Rattle.ostep_lex.specs.Spans.{HasSpans}
+use Rattle.ostep_lex.specs.Stands.{Stands}
+
+-- no octets have two lists of tokens
+abbrev pub OneLexing : Type 0
+OneLexing = (octets : List ℕ) (tokens others : List Placed) → HasTokens octets tokens → HasTokens octets others → tokens ≡ others
+
+-- octets in which a fault stands have no tokens
+abbrev pub FaultyHasNone : Type 0
+FaultyHasNone = (octets : List ℕ) (fault : LexFault) → Stands octets fault → ¬ (fault ≡ OutOfMemory) → HasNoTokens octets
+
+-- the tokens that the octets begin with are the first of all their tokens, and the others stand in the rest
+pub record Continues (octets : List ℕ) (tokens all : List Placed) (rest : List ℕ) : Type 0 where
+  pub others : List Placed
+  pub first : all ≡ tokens ++ others
+  pub lexes : Lexes (places_of octets) rest others
+
+abbrev pub TokensContinue : Type 0
+TokensContinue = (octets : List ℕ) (tokens all : List Placed) (rest : List ℕ) → BeginsWithTokens octets tokens rest → HasTokens octets all
+    → Continues octets tokens all rest
+
+-- Tokens stand in turn, with gaps before, between and behind them, and the octets of each span spell its token.
+abbrev pub SpansSpell : Type 0
+SpansSpell = (octets : List ℕ) (tokens : List Placed) → HasTokens octets tokens → HasSpans octets tokens

@@ -1,0 +1,62 @@
+-- What a token is, and where it stands.
+use Rattle.std.specs.Prelude.{◌≡◌, ℕ, true, false, ◌==◌, List, ◌∷◌, Option, Some, None, if◌then◌else◌}
+use Rattle.ostep_lex.specs.declared.token.TokenKind.{TokenKind}
+use Rattle.ostep_lex.specs.declared.token.TokenKind.TheVariants.{BraceOpen, BraceClose, ParenOpen, ParenClose, Comma, Semicolon, Equals, Text, Octets as OctetsKind}
+use Rattle.ostep_lex.specs.declared.token.Token.{Token}
+use Rattle.ostep_lex.specs.Character.{less_than, is_run, is_quote}
+use Rattle.ostep_lex.specs.Gap.{begins_comment}
+use Rattle.ostep_lex.specs.Quoted.{Run, Quoted}
+use Rattle.ostep_lex.specs.Octets.{Octets}
+
+pub data Lexeme : Type 0 where
+  brace_open : Lexeme
+  brace_close : Lexeme
+  paren_open : Lexeme
+  paren_close : Lexeme
+  comma : Lexeme
+  semicolon : Lexeme
+  equals : Lexeme
+  text : List ℕ → Lexeme
+  octets : List ℕ → Lexeme
+
+-- the token of a single character, if it is one
+abbrev pub mark_token : ℕ → Option Lexeme
+mark_token c =
+    if c == 123 then Some brace_open
+    else (if c == 125 then Some brace_close
+    else (if c == 40 then Some paren_open
+    else (if c == 41 then Some paren_close
+    else (if c == 44 then Some comma
+    else (if c == 59 then Some semicolon
+    else (if c == 61 then Some equals
+    else None))))))
+
+-- a token stands at the text; behind it the last list stands
+pub data IsToken : List ℕ → Lexeme → List ℕ → Type 0 where
+  mark : {c : ℕ} {lexeme : Lexeme} {rest : List ℕ} → mark_token c ≡ Some lexeme → IsToken (c ∷ rest) lexeme rest
+  run : {c : ℕ} {rest units behind : List ℕ} → is_run c ≡ true → begins_comment (c ∷ rest) ≡ false → Run rest units behind
+      → IsToken (c ∷ rest) (text (c ∷ units)) behind
+  quoted : {c : ℕ} {rest units behind : List ℕ} → is_quote c ≡ true → Quoted c rest units behind
+      → IsToken (c ∷ rest) (text units) behind
+  data_token : {rest bytes behind : List ℕ} → Octets rest bytes behind → IsToken (less_than ∷ rest) (octets bytes) behind
+
+-- a token, with its first octet and the octet after its last
+pub record Placed : Type 0 where
+  pub lexeme : Lexeme
+  pub start : ℕ
+  pub end : ℕ
+
+-- a token of the code as such
+abbrev pub lexeme_of : TokenKind → Lexeme
+lexeme_of BraceOpen = brace_open
+lexeme_of BraceClose = brace_close
+lexeme_of ParenOpen = paren_open
+lexeme_of ParenClose = paren_close
+lexeme_of Comma = comma
+lexeme_of Semicolon = semicolon
+lexeme_of Equals = equals
+lexeme_of (Text units) = text units
+lexeme_of (OctetsKind bytes) = octets bytes.items
+
+abbrev pub placed : Token → Placed
+placed token = record { lexeme = lexeme_of token.kind; start = token.start; end = token.end }

@@ -1,0 +1,14 @@
+pub mod Fault
+pub mod Encoding
+pub mod Source
+pub mod Character
+pub mod Gap
+pub mod Digits
+pub mod Quoted
+pub mod Octets
+pub mod Lexeme
+pub mod Lexing
+pub mod Stands
+pub mod Cursor
+pub mod Spans
+pub mod Laws

@@ -1,0 +1,98 @@
+-- Where each fault of a text stands. Each relation is between the text at a place and the fault that
+-- reading on from there meets.
+use Rattle.std.specs.Prelude.{◌≡◌, ℕ, ◌<◌, Bool, true, false, ◌||◌, ◌==◌, List, [], ◌∷◌, None, nat_eq, codes}
+use Rattle.std.specs.List.{starts_with}
+use Rattle.ostep_lex.specs.declared.fault.LexFault.{LexFault}
+use Rattle.ostep_lex.specs.declared.fault.LexFault.TheVariants.{BadUtf8, XmlForm, UnexpectedCharacter, UnclosedString, UnclosedComment, BadEscape, OctalRange, OddData, BadData, BadUtf16, OutOfMemory}
+use Rattle.ostep_lex.specs.Encoding.{Spells, Places, places_of, place, StopsAt, encoding_of, utf8}
+use Rattle.ostep_lex.specs.Character.{slash, star, less_than, greater_than, backslash, is_white, is_run, is_quote, is_hexadecimal}
+use Rattle.ostep_lex.specs.Digits.{begins_digit, octal_number}
+use Rattle.ostep_lex.specs.Gap.{Gap, NeverCloses}
+use Rattle.ostep_lex.specs.Quoted.{unit_letter, Piece}
+use Rattle.ostep_lex.specs.Octets.{OctetsPiece}
+use Rattle.ostep_lex.specs.Lexeme.{mark_token, Placed}
+use Rattle.ostep_lex.specs.Lexing.{BeginsWithTokens}
+
+-- an escape whose backslash stands first, in a string whose quote stands at the place start
+pub data EscapeFault (p : Places) (start : ℕ) : List ℕ → LexFault → Type 0 where
+  cut_escape : EscapeFault p start (backslash ∷ []) (UnclosedString start)
+  no_digit : {rest : List ℕ} → begins_digit 16 rest ≡ false
+      → EscapeFault p start (backslash ∷ unit_letter ∷ rest) (BadEscape (place p (backslash ∷ unit_letter ∷ rest)))
+  too_high : {rest : List ℕ} → begins_digit 8 rest ≡ true → 0x7f < (octal_number rest).value
+      → EscapeFault p start (backslash ∷ rest) (OctalRange (place p (backslash ∷ rest)))
+
+-- behind a quote that stands at the place start: pieces, and no end or such an escape
+pub data QuotedFault (p : Places) (start mark : ℕ) : List ℕ → LexFault → Type 0 where
+  cut_string : QuotedFault p start mark [] (UnclosedString start)
+  escape : {text : List ℕ} {fault : LexFault} → EscapeFault p start text fault → QuotedFault p start mark text fault
+  piece : {text units rest : List ℕ} {fault : LexFault} → Piece mark text units rest → QuotedFault p start mark rest fault
+      → QuotedFault p start mark text fault
+
+-- whether a pair of digits, white or `>` may begin with the character
+abbrev pub is_of_data : ℕ → Bool
+is_of_data c = is_white c || is_hexadecimal c || (c == greater_than)
+
+-- behind a `<`: pieces, and no end, a character that is of no data, or a lone digit
+pub data OctetsFault (p : Places) : List ℕ → LexFault → Type 0 where
+  cut_data : OctetsFault p [] (BadData (place p []))
+  other : {c : ℕ} {rest : List ℕ} → is_of_data c ≡ false → OctetsFault p (c ∷ rest) (BadData (place p (c ∷ rest)))
+  odd : {c : ℕ} {rest : List ℕ} → is_hexadecimal c ≡ true → begins_digit 16 rest ≡ false
+      → OctetsFault p (c ∷ rest) (OddData (place p (c ∷ rest)))
+  piece : {text octets rest : List ℕ} {fault : LexFault} → OctetsPiece text octets rest → OctetsFault p rest fault
+      → OctetsFault p text fault
+
+-- whether the character begins a token other than a mark, white, or a comment
+abbrev pub begins_other : ℕ → Bool
+begins_other c = is_white c || is_run c || is_quote c || (c == less_than)
+
+-- where a token or a comment should begin
+pub data FaultAt (p : Places) : List ℕ → LexFault → Type 0 where
+  unexpected : {c : ℕ} {rest : List ℕ} → mark_token c ≡ None → begins_other c ≡ false
+      → FaultAt p (c ∷ rest) (UnexpectedCharacter (place p (c ∷ rest)))
+  comment : {rest : List ℕ} → NeverCloses rest → FaultAt p (slash ∷ star ∷ rest) (UnclosedComment (place p (slash ∷ star ∷ rest)))
+  quoted : {c : ℕ} {rest : List ℕ} {fault : LexFault} → is_quote c ≡ true → QuotedFault p (place p (c ∷ rest)) c rest fault
+      → FaultAt p (c ∷ rest) fault
+  data_token : {rest : List ℕ} {fault : LexFault} → OctetsFault p rest fault → FaultAt p (less_than ∷ rest) fault
+
+-- behind a gap
+pub data FaultBehind (p : Places) : List ℕ → LexFault → Type 0 where
+  gap : {text from : List ℕ} {fault : LexFault} → Gap text from → FaultAt p from fault → FaultBehind p text fault
+
+-- white characters, or nothing
+pub data White : List ℕ → List ℕ → Type 0 where
+  none : {rest : List ℕ} → White rest rest
+  more : {c : ℕ} {rest behind : List ℕ} → is_white c ≡ true → White rest behind → White (c ∷ rest) behind
+
+-- whether an XML property list begins at the text
+abbrev pub begins_xml : List ℕ → Bool
+begins_xml text = starts_with nat_eq text (codes "<?xml") || starts_with nat_eq text (codes "<!DOCTYPE") || starts_with nat_eq text (codes "<plist")
+
+-- the octets are those of a text in which the fault stands behind tokens and a gap
+pub record HasFault (octets : List ℕ) (fault : LexFault) : Type 0 where
+  pub tokens : List Placed
+  pub rest : List ℕ
+  pub before : BeginsWithTokens octets tokens rest
+  pub stands : FaultBehind (places_of octets) rest fault
+
+-- the octets are those of a text that begins, behind white, as an XML property list does
+pub record HasXml (octets : List ℕ) (at : ℕ) : Type 0 where
+  pub text : List ℕ
+  pub spells : Spells octets text
+  pub from : List ℕ
+  pub white : White text from
+  pub begins : begins_xml from ≡ true
+  pub stands : at ≡ place (places_of octets) from
+
+-- the octets have the fault at its place
+abbrev pub Stands : List ℕ → LexFault → Type 0
+Stands octets (BadUtf8 at) = (encoding_of octets ≡ utf8) × StopsAt octets at
+Stands octets (BadUtf16 at) = ¬ (encoding_of octets ≡ utf8) × StopsAt octets at
+Stands octets (XmlForm at) = HasXml octets at
+Stands octets OutOfMemory = Unit {0}
+Stands octets (UnexpectedCharacter at) = HasFault octets (UnexpectedCharacter at)
+Stands octets (UnclosedString at) = HasFault octets (UnclosedString at)
+Stands octets (UnclosedComment at) = HasFault octets (UnclosedComment at)
+Stands octets (BadEscape at) = HasFault octets (BadEscape at)
+Stands octets (OctalRange at) = HasFault octets (OctalRange at)
+Stands octets (OddData at) = HasFault octets (OddData at)
+Stands octets (BadData at) = HasFault octets (BadData at)

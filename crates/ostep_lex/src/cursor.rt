@@ -1,0 +1,98 @@
+ghost use Rattle.std.specs.Prelude.{◌≡◌, false, [], ◌∷◌, ◌≤◌, MatchOption, IfOk, IfErr, length};
+ghost use Rattle.ostep_lex.specs.Source.{IsWhole, octets_in};
+
+use crate::fault::LexFault;
+use crate::source::{ByteOrder, Source, behind_characters};
+use std::str;
+
+/// A place in an input, and the characters from there on. It is passed by value.
+#[derive(Clone, Copy)]
+pub struct Cursor<'a> {
+    source: Source<'a>,
+    end: usize,
+    ghost whole: { IsWhole source },
+    ghost within: { length (octets_in source) ≤ end },
+}
+
+impl<'a> Cursor<'a> {
+    ghost use Rattle.ostep_lex.specs.Cursor.{ahead, place_at, SameInput, begins_with};
+    ghost use Rattle.ostep_lex.specs.Cursor.{Holds, IsBadUtf8, IsBadUtf16};
+    ghost use Rattle.ostep_lex.specs.Encoding.{utf8, StopsBehind};
+    ghost use Rattle.ostep_lex.specs.Source.{encoding_by};
+
+    /// The place: how many octets of the input stand before it, the mark's included.
+    #[tactic(auto, unfolding(crate::specs::Cursor::ahead, crate::specs::Cursor::places_in))]
+    pub fn place(self) -> usize
+        ensures { result ≡ place_at self.entry }
+    {
+        self.end - self.source.len()
+    }
+
+    /// The first character from the cursor on, and the cursor behind it.
+    #[tactic(auto, unfolding(crate::specs::Cursor::ahead, crate::specs::Cursor::places_in))]
+    pub(crate) fn first(self) -> Option<(char, Cursor<'a>)>
+        ensures { MatchOption result (ahead self.entry ≡ []) (λ found.
+            (ahead self.entry ≡ found.0 ∷ ahead found.1) × SameInput self.entry found.1) }
+    {
+        let (first, source) = self.source.first()?;
+        Some((
+            first,
+            Cursor {
+                source,
+                end: self.end,
+            },
+        ))
+    }
+
+    /// The cursor behind the character, if it stands first.
+    pub(crate) fn behind(self, wanted: char) -> Option<Cursor<'a>>
+        ensures { MatchOption result (begins_with wanted (ahead self.entry) ≡ false) (λ behind.
+            (ahead self.entry ≡ wanted ∷ ahead behind) × SameInput self.entry behind) }
+    {
+        match self.first() {
+            Some((c, behind)) if c == wanted => Some(behind),
+            _ => None,
+        }
+    }
+
+    /// The cursor before UTF-8 octets at the end of an input of `end` octets.
+    #[tactic(auto, unfolding(crate::specs::Cursor::ahead, crate::specs::Cursor::places_in))]
+    pub(crate) fn of_utf8(octets: &'a [u8], end: usize) -> Result<Cursor<'a>, LexFault>
+        requires { length octets.now ≤ end }
+        ensures ok { IfOk result (Holds utf8 octets.now end) }
+        ensures err { IfErr result (IsBadUtf8 (StopsBehind utf8 octets.now end)) }
+    {
+        match str::from_utf8(octets) {
+            Ok(text) => Ok(Cursor {
+                source: Source::Utf8(text),
+                end,
+            }),
+            Err(error) => Err(LexFault::BadUtf8 {
+                octet: end - octets.len() + error.valid_up_to(),
+            }),
+        }
+    }
+
+    /// The cursor before UTF-16 octets at the end of an input of `end` octets.
+    #[tactic(auto, unfolding(crate::specs::Cursor::ahead, crate::specs::Cursor::places_in))]
+    pub(crate) fn of_utf16(
+        order: ByteOrder,
+        octets: &'a [u8],
+        end: usize,
+    ) -> Result<Cursor<'a>, LexFault>
+        requires { length octets.now ≤ end }
+        ensures ok { IfOk result (Holds (encoding_by order) octets.now end) }
+        ensures err { IfErr result (IsBadUtf16 (StopsBehind (encoding_by order) octets.now end)) }
+    {
+        let rest = behind_characters(order, octets);
+        if !rest.is_empty() {
+            return Err(LexFault::BadUtf16 {
+                octet: end - rest.len(),
+            });
+        }
+        Ok(Cursor {
+            source: Source::Utf16(order, octets),
+            end,
+        })
+    }
+}

@@ -1,0 +1,100 @@
+ghost use Rattle.std.specs.Prelude.{◌≡◌, false, ◌∷◌, MatchOption, IfOk, IfErr};
+ghost use Rattle.ostep_lex.specs.Character.{slash as slash_code, star};
+ghost use Rattle.ostep_lex.specs.Gap.{LineComment, BlockComment, NeverCloses, closes_comment, begins_gap};
+ghost use Rattle.ostep_lex.specs.Stands.{FaultAt, FaultBehind};
+ghost use Rattle.ostep_lex.specs.Cursor.{ahead, places_in, SameInput, PassesPiece, PassesGap};
+
+use crate::character::{is_line_end, is_white};
+use crate::cursor::Cursor;
+use crate::fault::LexFault;
+
+/// Behind `//`: up to a line end, or the end.
+fn line_comment(cursor: Cursor<'_>) -> Cursor<'_>
+    ensures comment { LineComment (ahead cursor.entry) (ahead result) }
+    ensures input { SameInput cursor.entry result }
+{
+    let mut rest = cursor;
+    while let Some((c, behind)) = rest.first() {
+        if is_line_end(c) {
+            break;
+        }
+        rest = behind;
+    }
+    rest
+}
+
+/// Behind the `*/` that stands at the cursor, if one does.
+fn comment_end(cursor: Cursor<'_>) -> Option<Cursor<'_>>
+    ensures { MatchOption result (closes_comment (ahead cursor.entry) ≡ false) (λ end.
+        (ahead cursor.entry ≡ star ∷ slash_code ∷ ahead end) × SameInput cursor.entry end) }
+{
+    cursor.behind('*')?.behind('/')
+}
+
+/// Behind `/*`: behind the first `*/`. None where there is none.
+fn block_comment(cursor: Cursor<'_>) -> Option<Cursor<'_>>
+    ensures { MatchOption result (NeverCloses (ahead cursor.entry)) (λ end.
+        BlockComment (ahead cursor.entry) (ahead end) × SameInput cursor.entry end) }
+{
+    let mut rest = cursor;
+    while let Some((_, behind)) = rest.first() {
+        if let Some(end) = comment_end(rest) {
+            return Some(end);
+        }
+        rest = behind;
+    }
+    None
+}
+
+/// Behind the comment at the cursor, whose first slash stands before `slash`. None where no comment
+/// begins.
+fn comment<'a>(cursor: Cursor<'a>, slash: Cursor<'a>) -> Result<Option<Cursor<'a>>, LexFault>
+    requires slash { ahead cursor ≡ slash_code ∷ ahead slash }
+    requires input { SameInput cursor slash }
+    ensures ok { IfOk result (λ found.
+        MatchOption found (begins_gap (ahead cursor.entry) ≡ false) (PassesPiece cursor.entry)) }
+    ensures err { IfErr result (FaultAt (places_in cursor.entry) (ahead cursor.entry)) }
+{
+    if let Some(text) = slash.behind('/') {
+        return Ok(Some(line_comment(text)));
+    }
+    let Some(text) = slash.behind('*') else {
+        return Ok(None);
+    };
+    match block_comment(text) {
+        Some(end) => Ok(Some(end)),
+        None => Err(LexFault::UnclosedComment {
+            octet: cursor.place(),
+        }),
+    }
+}
+
+/// Behind the white character or the comment at the cursor. None where neither stands there.
+fn gap_piece(cursor: Cursor<'_>) -> Result<Option<Cursor<'_>>, LexFault>
+    ensures ok { IfOk result (λ found.
+        MatchOption found (begins_gap (ahead cursor.entry) ≡ false) (PassesPiece cursor.entry)) }
+    ensures err { IfErr result (FaultAt (places_in cursor.entry) (ahead cursor.entry)) }
+{
+    let Some((c, behind)) = cursor.first() else {
+        return Ok(None);
+    };
+    if c == '/' {
+        comment(cursor, behind)
+    } else if is_white(c) {
+        Ok(Some(behind))
+    } else {
+        Ok(None)
+    }
+}
+
+/// Behind all white and all comments at the cursor.
+pub fn gap(cursor: Cursor<'_>) -> Result<Cursor<'_>, LexFault>
+    ensures ok { IfOk result (PassesGap cursor.entry) }
+    ensures err { IfErr result (FaultBehind (places_in cursor.entry) (ahead cursor.entry)) }
+{
+    let mut rest = cursor;
+    while let Some(behind) = gap_piece(rest)? {
+        rest = behind;
+    }
+    Ok(rest)
+}

@@ -1,0 +1,129 @@
+ghost use Rattle.std.specs.Prelude.{◌≡◌, ℕ, ◌<◌, List, [], ◌∷◌, ◌++◌, false, length, option_map, map};
+ghost use Rattle.std.specs.Prelude.{MatchOption, IfSome, IfOk, IfErr};
+ghost use Rattle.ostep_lex.specs.Gap.{begins_gap};
+ghost use Rattle.ostep_lex.specs.Lexeme.{lexeme_of, mark_token, Placed, placed};
+ghost use Rattle.ostep_lex.specs.Lexing.{HasTokens, HasNoTokens};
+ghost use Rattle.ostep_lex.specs.Spans.{HasSpans};
+ghost use Rattle.ostep_lex.specs.Stands.{FaultAt, Stands};
+ghost use Rattle.ostep_lex.specs.Cursor.{ahead, places_in, PassesToken, StandsBehind, UnlessMemory};
+
+use crate::character::{is_quote, is_run};
+use crate::cursor::Cursor;
+use crate::fault::LexFault;
+use crate::gap::gap;
+use crate::octets::octets;
+use crate::opening::open;
+use crate::quoted::{quoted, run};
+use crate::token::{Token, TokenKind};
+use plist_value::Utf16;
+use std::alloc::Global;
+
+/// The token of a single character.
+fn mark_token(c: char) -> Option<TokenKind>
+    ensures { option_map lexeme_of result ≡ mark_token c }
+{
+    match c {
+        '{' => Some(TokenKind::BraceOpen),
+        '}' => Some(TokenKind::BraceClose),
+        '(' => Some(TokenKind::ParenOpen),
+        ')' => Some(TokenKind::ParenClose),
+        ',' => Some(TokenKind::Comma),
+        ';' => Some(TokenKind::Semicolon),
+        '=' => Some(TokenKind::Equals),
+        _ => None,
+    }
+}
+
+/// The token at the cursor, where a token should begin, and the cursor behind it. None at the end.
+fn token_here(
+    alloc: Global,
+    cursor: Cursor<'_>,
+) -> Result<Option<(TokenKind, Cursor<'_>)>, LexFault>
+    requires { begins_gap (ahead cursor) ≡ false }
+    ensures ok { IfOk result (λ found. MatchOption found (ahead cursor.entry ≡ [])
+        (λ token. PassesToken (lexeme_of token.0) cursor.entry token.1)) }
+    ensures err { IfErr result (UnlessMemory
+        (FaultAt (places_in cursor.entry) (ahead cursor.entry))) }
+{
+    let Some((c, behind)) = cursor.first() else {
+        return Ok(None);
+    };
+    if let Some(kind) = mark_token(c) {
+        return Ok(Some((kind, behind)));
+    }
+    if is_run(c) {
+        let (units, end) = run(alloc, cursor)?;
+        return Ok(Some((TokenKind::Text(Utf16::from_units(units)), end)));
+    }
+    if is_quote(c) {
+        let (units, end) = quoted(alloc, c, cursor.place(), behind)?;
+        return Ok(Some((TokenKind::Text(Utf16::from_units(units)), end)));
+    }
+    if c == '<' {
+        let (octets, end) = octets(alloc, behind)?;
+        return Ok(Some((TokenKind::Octets(octets), end)));
+    }
+    Err(LexFault::UnexpectedCharacter {
+        octet: cursor.place(),
+    })
+}
+
+/// The next token behind white and comments, and the cursor behind it. None where no token follows.
+pub fn next_token(
+    alloc: Global,
+    cursor: Cursor<'_>,
+) -> Result<Option<(Token, Cursor<'_>)>, LexFault>
+    // Where the cursor stands behind tokens of an input, these are all of its tokens, or one more.
+    ensures ok { (octets : List ℕ) (tokens : List Placed) → StandsBehind octets tokens cursor.entry
+        → IfOk result (λ found. MatchOption found (HasTokens octets tokens)
+        (λ token. StandsBehind octets (tokens ++ placed token.0 ∷ []) token.1)) }
+    // Each token takes a character at least.
+    ensures shorter { IfOk result (λ found.
+        IfSome found (λ token. length (ahead token.1) < length (ahead cursor.entry))) }
+    // The fault stands at its place in that input, which has no tokens.
+    ensures stands { (octets : List ℕ) (tokens : List Placed)
+        → StandsBehind octets tokens cursor.entry → IfErr result (Stands octets) }
+    ensures refused { (octets : List ℕ) (tokens : List Placed)
+        → StandsBehind octets tokens cursor.entry
+        → IfErr result (UnlessMemory (λ fault. HasNoTokens octets)) }
+{
+    let start = gap(cursor)?;
+    match token_here(alloc, start)? {
+        Some((kind, end)) => Ok(Some((
+            Token {
+                kind,
+                start: start.place(),
+                end: end.place(),
+            },
+            end,
+        ))),
+        None => Ok(None),
+    }
+}
+
+/// The tokens of a text, in turn. The places of each count octets of the input, its mark included.
+/// White and comments stand before, between and behind them.
+///
+/// # Errors
+///
+/// `BadUtf8` or `BadUtf16` where the octets are no text; else `XmlForm` where an XML property list
+/// begins; else the first fault from the left that reading the tokens meets; `OutOfMemory` at any
+/// moment.
+pub fn tokens(alloc: Global, octets: &[u8]) -> Result<Vec<Token>, LexFault>
+    // The octets are those of a text with these tokens, which stand where they say.
+    ensures ok { IfOk result (λ tokens. HasTokens octets.now (map placed tokens.items)) }
+    // They stand in turn, with gaps before, between and behind them; each span spells its token.
+    ensures spans { IfOk result (λ tokens. HasSpans octets.now (map placed tokens.items)) }
+    // The fault stands at its place.
+    ensures stands { IfErr result (Stands octets.now) }
+    // There are no tokens.
+    ensures refused { IfErr result (UnlessMemory (λ fault. HasNoTokens octets.now)) }
+{
+    let mut found = Vec::new(alloc);
+    let mut rest = open(octets)?;
+    while let Some((token, behind)) = next_token(alloc, rest)? {
+        found.push(token)?;
+        rest = behind;
+    }
+    Ok(found)
+}

@@ -1,0 +1,27 @@
+//! The tokens of property lists in text form.
+//!
+//! The form is that of Apple's guide "Old-Style ASCII Property Lists", in our profile: the text is
+//! UTF-8, or UTF-16 of either order behind its mark; white and comments stand between tokens.
+#![tactic(auto)]
+
+mod character;
+pub mod cursor;
+mod digits;
+pub mod fault;
+mod gap;
+pub mod laws;
+pub mod lexer;
+mod octets;
+mod opening;
+mod quoted;
+mod source;
+pub mod token;
+
+pub use cursor::Cursor;
+pub use fault::LexFault;
+pub use lexer::{next_token, tokens};
+pub use opening::open;
+pub use token::{Token, TokenKind};
+
+#[cfg(test)]
+mod tests;

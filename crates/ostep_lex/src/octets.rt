@@ -1,0 +1,71 @@
+ghost use Rattle.std.specs.Prelude.{◌≡◌, ◌≢◌, ◌∷◌, false, MatchOption, IfOk, IfErr};
+ghost use Rattle.ostep_lex.specs.Character.{greater_than};
+ghost use Rattle.ostep_lex.specs.Digits.{begins_digit};
+ghost use Rattle.ostep_lex.specs.Stands.{OctetsFault};
+ghost use Rattle.ostep_lex.specs.Cursor.{ahead, places_in, SameInput, UnlessMemory};
+ghost use Rattle.ostep_lex.specs.Cursor.{PassesDigit, OctetsAppends, PassesOctets};
+
+use crate::character::is_white;
+use crate::cursor::Cursor;
+use crate::fault::LexFault;
+use std::alloc::Global;
+
+/// The value of the hexadecimal digit at the cursor, and the cursor behind it.
+fn digit(cursor: Cursor<'_>) -> Option<(u32, Cursor<'_>)>
+    ensures { MatchOption result (begins_digit 16 (ahead cursor.entry) ≡ false)
+        (λ found. PassesDigit found.0 cursor.entry found.1) }
+{
+    let (c, behind) = cursor.first()?;
+    Some((c.to_digit(16)?, behind))
+}
+
+/// Passes white, or appends the octet of two hexadecimal digits. The first character is `c` and
+/// stands before `behind`.
+fn push_octet<'a>(
+    octets: &mut Vec<u8>,
+    cursor: Cursor<'a>,
+    c: char,
+    behind: Cursor<'a>,
+) -> Result<Cursor<'a>, LexFault>
+    requires first { ahead cursor ≡ c ∷ ahead behind }
+    requires open { c ≢ greater_than }
+    requires input { SameInput cursor behind }
+    ensures ok { IfOk result (OctetsAppends octets.old.items octets.new.items cursor.entry) }
+    ensures err { IfErr result (UnlessMemory
+        (OctetsFault (places_in cursor.entry) (ahead cursor.entry))) }
+{
+    if is_white(c) {
+        return Ok(behind);
+    }
+    let Some((high, second)) = digit(cursor) else {
+        return Err(LexFault::BadData {
+            octet: cursor.place(),
+        });
+    };
+    let Some((low, end)) = digit(second) else {
+        return Err(LexFault::OddData {
+            octet: cursor.place(),
+        });
+    };
+    octets.push((high * 16 + low) as u8)?;
+    Ok(end)
+}
+
+/// The octets of the data token behind its `<`, and the cursor behind its `>`.
+pub fn octets(alloc: Global, cursor: Cursor<'_>) -> Result<(Vec<u8>, Cursor<'_>), LexFault>
+    ensures ok { IfOk result (λ found. PassesOctets cursor.entry found.1 found.0.items) }
+    ensures err { IfErr result (UnlessMemory
+        (OctetsFault (places_in cursor.entry) (ahead cursor.entry))) }
+{
+    let mut octets = Vec::new(alloc);
+    let mut rest = cursor;
+    while let Some((c, behind)) = rest.first() {
+        if c == '>' {
+            return Ok((octets, behind));
+        }
+        rest = push_octet(&mut octets, rest, c, behind)?;
+    }
+    Err(LexFault::BadData {
+        octet: rest.place(),
+    })
+}

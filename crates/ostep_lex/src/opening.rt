@@ -1,0 +1,94 @@
+ghost use Rattle.std.specs.Prelude.{◌≡◌, [], nat_eq, IfOk, IfErr};
+ghost use Rattle.std.specs.List.{starts_with};
+ghost use Rattle.ostep_lex.specs.Lexing.{HasNoTokens};
+ghost use Rattle.ostep_lex.specs.Stands.{Stands, begins_xml, White};
+ghost use Rattle.ostep_lex.specs.Cursor.{ahead, SameInput, Opens, StandsBehind};
+
+use crate::character::is_white;
+use crate::cursor::Cursor;
+use crate::fault::LexFault;
+use crate::source::ByteOrder;
+
+const BIG_MARK: [u8; 2] = [0xfe, 0xff];
+
+const LITTLE_MARK: [u8; 2] = [0xff, 0xfe];
+
+const UTF8_MARK: [u8; 3] = [0xef, 0xbb, 0xbf];
+
+/// The cursor before the text of the input, in the encoding that its mark chooses.
+fn text_of(octets: &[u8]) -> Result<Cursor<'_>, LexFault>
+    ensures ok { IfOk result (Opens octets.now) }
+    ensures err { IfErr result (Stands octets.now) }
+    ensures memory { IfErr result (λ fault. ¬ (fault ≡ LexFault.OutOfMemory)) }
+{
+    let end = octets.len();
+    if octets.starts_with(&BIG_MARK) {
+        Cursor::of_utf16(ByteOrder::Big, &octets[2..], end)
+    } else if octets.starts_with(&LITTLE_MARK) {
+        Cursor::of_utf16(ByteOrder::Little, &octets[2..], end)
+    } else if octets.starts_with(&UTF8_MARK) {
+        Cursor::of_utf8(&octets[3..], end)
+    } else {
+        Cursor::of_utf8(octets, end)
+    }
+}
+
+/// Behind all white at the cursor.
+fn behind_white(cursor: Cursor<'_>) -> Cursor<'_>
+    ensures white { White (ahead cursor.entry) (ahead result) }
+    ensures input { SameInput cursor.entry result }
+{
+    let mut rest = cursor;
+    while let Some((c, behind)) = rest.first() {
+        if !is_white(c) {
+            break;
+        }
+        rest = behind;
+    }
+    rest
+}
+
+/// Whether the ASCII word stands at the cursor.
+fn begins_with(cursor: Cursor<'_>, word: &[u8]) -> bool
+    ensures { result ≡ starts_with nat_eq (ahead cursor.entry) word.now }
+{
+    let mut rest = cursor;
+    for octet in word {
+        let Some(behind) = rest.behind(char::from(*octet)) else {
+            return false;
+        };
+        rest = behind;
+    }
+    true
+}
+
+/// Whether an XML property list begins at the cursor.
+fn begins_xml(cursor: Cursor<'_>) -> bool
+    ensures { result ≡ begins_xml (ahead cursor.entry) }
+{
+    begins_with(cursor, b"<?xml")
+        || begins_with(cursor, b"<!DOCTYPE")
+        || begins_with(cursor, b"<plist")
+}
+
+/// The cursor before the text of an input: UTF-8, or UTF-16 behind its mark.
+///
+/// # Errors
+///
+/// `BadUtf8` or `BadUtf16` where the octets are no text, else `XmlForm` where the text begins,
+/// behind white, with `<?xml`, `<!DOCTYPE` or `<plist`. No memory is taken.
+pub fn open(octets: &[u8]) -> Result<Cursor<'_>, LexFault>
+    ensures ok { IfOk result (StandsBehind octets.now []) }
+    ensures stands { IfErr result (Stands octets.now) }
+    // There are no tokens: no memory is taken, so no refusal is for want of it.
+    ensures refused { IfErr result (λ fault. HasNoTokens octets.now) }
+{
+    let cursor = text_of(octets)?;
+    let text = behind_white(cursor);
+    if begins_xml(text) {
+        return Err(LexFault::XmlForm {
+            octet: text.place(),
+        });
+    }
+    Ok(cursor)
+}

@@ -1,0 +1,184 @@
+ghost use Rattle.std.specs.Prelude.{◌≡◌, ◌==◌, ◌++◌, ◌∷◌, true, false, List, ℕ, OnOk, IfOk, IfErr};
+ghost use Rattle.std.specs.Char.Escape.{encode_utf16};
+ghost use Rattle.ostep_lex.specs.Digits.{begins_digit};
+ghost use Rattle.ostep_lex.specs.Quoted.{escaped, unit_letter};
+ghost use Rattle.ostep_lex.specs.Character.{backslash as backslash_code, is_quote};
+ghost use Rattle.ostep_lex.specs.Stands.{EscapeFault, QuotedFault};
+ghost use Rattle.ostep_lex.specs.Cursor.{ahead, places_in, SameInput, UnlessMemory};
+ghost use Rattle.ostep_lex.specs.Cursor.{EscapeAppends, PieceAppends, PassesQuoted, PassesRun};
+
+use crate::character::is_run;
+use crate::cursor::Cursor;
+use crate::digits::{begins_digit, number};
+use crate::fault::LexFault;
+use std::alloc::{AllocError, Global};
+
+/// The units of the run at the cursor, as many run characters as stand there, and the cursor behind
+/// it.
+pub fn run(alloc: Global, cursor: Cursor<'_>) -> Result<(Vec<u16>, Cursor<'_>), AllocError>
+    ensures { IfOk result (λ found. PassesRun cursor.entry found.1 found.0.items) }
+{
+    let mut units = Vec::new(alloc);
+    let mut rest = cursor;
+    while let Some((c, behind)) = rest.first() {
+        if !is_run(c) {
+            break;
+        }
+        units.push(c as u16)?;
+        rest = behind;
+    }
+    Ok((units, rest))
+}
+
+/// Appends the units of the character.
+fn push_character(units: &mut Vec<u16>, c: char) -> Result<(), AllocError>
+    ensures { OnOk result (units.new.items ≡ units.old.items ++ encode_utf16 c) }
+{
+    let code = u32::from(c);
+    if code < 0x1_0000 {
+        units.push(code as u16)?;
+    } else {
+        let high = code - 0x1_0000;
+        units.push((0xd800 + high / 0x400) as u16)?;
+        units.push((0xdc00 + high % 0x400) as u16)?;
+    }
+    Ok(())
+}
+
+/// The character that a letter stands for behind a backslash; any other stands for itself.
+fn escaped_character(c: char) -> char
+    ensures { encode_utf16 result ≡ escaped c }
+{
+    match c {
+        'a' => '\u{7}',
+        'b' => '\u{8}',
+        'f' => '\u{c}',
+        'n' => '\n',
+        'r' => '\r',
+        't' => '\t',
+        'v' => '\u{b}',
+        _ => c,
+    }
+}
+
+/// Appends the unit of an octal escape, whose backslash stands at `backslash` and whose digits
+/// stand behind it.
+fn push_octal<'a>(
+    units: &mut Vec<u16>,
+    backslash: Cursor<'a>,
+    digits: Cursor<'a>,
+) -> Result<Cursor<'a>, LexFault>
+    requires backslash { ahead backslash ≡ backslash_code ∷ ahead digits }
+    requires digits { begins_digit 8 (ahead digits) ≡ true }
+    requires input { SameInput backslash digits }
+    ensures ok { IfOk result (EscapeAppends units.old.items units.new.items digits.entry) }
+    ensures err { (start : ℕ) → IfErr result (UnlessMemory
+        (EscapeFault (places_in backslash.entry) start (ahead backslash.entry))) }
+{
+    let (value, end) = number(digits, 8, 3);
+    if value > 0o177 {
+        return Err(LexFault::OctalRange {
+            octet: backslash.place(),
+        });
+    }
+    units.push(value as u16)?;
+    Ok(end)
+}
+
+/// Appends the unit of an escape of hexadecimal digits, whose backslash stands at `backslash` and
+/// whose digits stand behind its `U`.
+fn push_unit<'a>(
+    units: &mut Vec<u16>,
+    backslash: Cursor<'a>,
+    letter: Cursor<'a>,
+    digits: Cursor<'a>,
+) -> Result<Cursor<'a>, LexFault>
+    requires backslash { ahead backslash ≡ backslash_code ∷ ahead letter }
+    requires letter { ahead letter ≡ unit_letter ∷ ahead digits }
+    requires input { (SameInput backslash letter) × SameInput letter digits }
+    ensures ok { IfOk result (EscapeAppends units.old.items units.new.items letter.entry) }
+    ensures err { (start : ℕ) → IfErr result (UnlessMemory
+        (EscapeFault (places_in backslash.entry) start (ahead backslash.entry))) }
+{
+    if !begins_digit(digits, 16) {
+        return Err(LexFault::BadEscape {
+            octet: backslash.place(),
+        });
+    }
+    let (value, end) = number(digits, 16, 4);
+    units.push(value as u16)?;
+    Ok(end)
+}
+
+/// Appends the units of the escape at the cursor, which stands behind the backslash of a string
+/// whose quote stands at the place `start`.
+fn push_escape<'a>(
+    units: &mut Vec<u16>,
+    start: usize,
+    backslash: Cursor<'a>,
+    cursor: Cursor<'a>,
+) -> Result<Cursor<'a>, LexFault>
+    requires backslash { ahead backslash ≡ backslash_code ∷ ahead cursor }
+    requires input { SameInput backslash cursor }
+    ensures ok { IfOk result (EscapeAppends units.old.items units.new.items cursor.entry) }
+    ensures err { IfErr result (UnlessMemory
+        (EscapeFault (places_in backslash.entry) start (ahead backslash.entry))) }
+{
+    let Some((c, behind)) = cursor.first() else {
+        return Err(LexFault::UnclosedString { octet: start });
+    };
+    if c.is_digit(8) {
+        return push_octal(units, backslash, cursor);
+    }
+    if c == 'U' {
+        return push_unit(units, backslash, cursor, behind);
+    }
+    push_character(units, escaped_character(c))?;
+    Ok(behind)
+}
+
+/// Appends the units of the piece at the cursor, whose first character is `c` and stands before
+/// `behind`.
+fn push_piece<'a>(
+    units: &mut Vec<u16>,
+    start: usize,
+    cursor: Cursor<'a>,
+    c: char,
+    behind: Cursor<'a>,
+) -> Result<Cursor<'a>, LexFault>
+    requires first { ahead cursor ≡ c ∷ ahead behind }
+    requires input { SameInput cursor behind }
+    ensures ok { (mark : ℕ) → (c == mark) ≡ false
+        → IfOk result (PieceAppends mark units.old.items units.new.items cursor.entry) }
+    ensures err { IfErr result (UnlessMemory
+        (EscapeFault (places_in cursor.entry) start (ahead cursor.entry))) }
+{
+    if c == '\\' {
+        return push_escape(units, start, cursor, behind);
+    }
+    push_character(units, c)?;
+    Ok(behind)
+}
+
+/// The units of the string behind its quote, which stands at the place `start`, and the cursor
+/// behind the quote that closes it.
+pub fn quoted(
+    alloc: Global,
+    mark: char,
+    start: usize,
+    cursor: Cursor<'_>,
+) -> Result<(Vec<u16>, Cursor<'_>), LexFault>
+    ensures ok { IfOk result (λ found. PassesQuoted mark cursor.entry found.1 found.0.items) }
+    ensures err { IfErr result (UnlessMemory
+        (QuotedFault (places_in cursor.entry) start mark (ahead cursor.entry))) }
+{
+    let mut units = Vec::new(alloc);
+    let mut rest = cursor;
+    while let Some((c, behind)) = rest.first() {
+        if c == mark {
+            return Ok((units, behind));
+        }
+        rest = push_piece(&mut units, start, rest, c, behind)?;
+    }
+    Err(LexFault::UnclosedString { octet: start })
+}

@@ -1,0 +1,110 @@
+ghost use Rattle.std.specs.Prelude.{◌≡◌, ◌+◌, ◌++◌, [], ◌∷◌, ◌<◌, MatchOption, length, chars};
+ghost use Rattle.std.specs.Char.{IsScalar};
+ghost use Rattle.ostep_lex.specs.Encoding.{BeginsWith, BeginsWithNone};
+ghost use Rattle.ostep_lex.specs.Encoding.{spelling, utf8};
+ghost use Rattle.ostep_lex.specs.Source.{unit_octets, encoding_by, FrontsOf};
+ghost use Rattle.ostep_lex.specs.Source.{characters_in, encoding_in, octets_in, IsWhole, Leads};
+
+/// Which octet of a UTF-16 unit comes first.
+#[derive(Clone, Copy)]
+pub enum ByteOrder {
+    Big,
+    Little,
+}
+
+/// The octets that are still to be read.
+#[derive(Clone, Copy)]
+pub enum Source<'a> {
+    Utf8(&'a str),
+    Utf16(ByteOrder, &'a [u8]),
+}
+
+/// The unit of two octets.
+fn unit(order: ByteOrder, first: u8, second: u8) -> u16
+    ensures { unit_octets order result ≡ first ∷ second ∷ [] }
+{
+    match order {
+        ByteOrder::Big => u16::from(first) * 256 + u16::from(second),
+        ByteOrder::Little => u16::from(second) * 256 + u16::from(first),
+    }
+}
+
+/// The unit at the front of the octets, and the octets behind it.
+fn front_unit(order: ByteOrder, octets: &[u8]) -> Option<(u16, &[u8])>
+    ensures { MatchOption result (length octets.now < 2)
+        (λ found. octets.now ≡ unit_octets order found.0 ++ found.1.now) }
+{
+    match octets {
+        [first, second, behind @ ..] => Some((unit(order, *first, *second), behind)),
+        _ => None,
+    }
+}
+
+/// The character at the front of UTF-16 octets, and the octets behind it.
+fn front_character(order: ByteOrder, octets: &[u8]) -> Option<(char, &[u8])>
+    ensures { MatchOption result (BeginsWithNone (encoding_by order) octets.now)
+        (λ found. BeginsWith (encoding_by order) octets.now found.0 found.1.now) }
+{
+    let (high, behind) = front_unit(order, octets)?;
+    if !(0xd800..0xdc00).contains(&high) {
+        return Some((char::from_u32(u32::from(high))?, behind));
+    }
+    let (low, behind) = front_unit(order, behind)?;
+    if !(0xdc00..0xe000).contains(&low) {
+        return None;
+    }
+    let code = 0x1_0000 + (u32::from(high) - 0xd800) * 0x400 + (u32::from(low) - 0xdc00);
+    Some((char::from_u32(code)?, behind))
+}
+
+/// The octets from the first place on at which no UTF-16 character begins.
+pub fn behind_characters(order: ByteOrder, octets: &[u8]) -> &[u8]
+    ensures fronts { FrontsOf (encoding_by order) octets.now result.now }
+    ensures none { BeginsWithNone (encoding_by order) result.now }
+{
+    let mut rest = octets;
+    while let Some((_, behind)) = front_character(order, rest) {
+        rest = behind;
+    }
+    rest
+}
+
+/// The first character of a text, and the text behind it.
+fn front_of_str(text: &str) -> Option<(char, &str)>
+    ensures { MatchOption result (chars text.now ≡ []) (λ found.
+        (text.now ≡ spelling utf8 found.0 ++ found.1.now) × (chars text.now ≡ found.0 ∷ chars found.1.now)) }
+{
+    let mut characters = text.chars();
+    let first = characters.next()?;
+    Some((first, characters.as_str()))
+}
+
+impl<'a> Source<'a> {
+    /// How many octets are still to be read.
+    pub fn len(self) -> usize
+        ensures { result ≡ length (octets_in self.entry) }
+    {
+        match self {
+            Source::Utf8(text) => text.len(),
+            Source::Utf16(_, octets) => octets.len(),
+        }
+    }
+
+    /// The first character, and what is to be read behind it.
+    pub fn first(self) -> Option<(char, Source<'a>)>
+        requires { IsWhole self }
+        ensures { MatchOption result (characters_in self.entry ≡ [])
+            (λ found. Leads self.entry found.0 found.1) }
+    {
+        match self {
+            Source::Utf8(text) => {
+                let (first, behind) = front_of_str(text)?;
+                Some((first, Source::Utf8(behind)))
+            }
+            Source::Utf16(order, octets) => {
+                let (first, behind) = front_character(order, octets)?;
+                Some((first, Source::Utf16(order, behind)))
+            }
+        }
+    }
+}
