@@ -1,0 +1,12 @@
+pub mod Fault
+pub mod Line
+pub mod ListSource
+pub mod Load
+pub mod Place
+pub mod ReaderSource
+pub mod Source
+pub mod Accepted
+pub mod Laws
+pub mod Refused
+pub mod Refusals
+pub mod Pair

@@ -1,0 +1,146 @@
+//! The program `plistconv`, over any files, input and output.
+ghost use Rattle.std.specs.Prelude.{◌≡◌, ◌≤◌, ◌⊎◌};
+
+use crate::sending::send;
+use crate::words::{Request, read_words};
+use crate::{Fault, ReaderSource, canonicalise, line, load};
+use clap::error::{Error, ErrorKind};
+use std::alloc::Global;
+use std::fmt::Display;
+use std::fs;
+use std::io::{Read, Write};
+use std::rt::Files;
+
+/// The status where all was done.
+const DONE: u8 = 0;
+
+/// The status where the words are not understood.
+const BAD_WORDS: u8 = 3;
+
+/// The status where a line could not be printed.
+const NOT_PRINTED: u8 = 4;
+
+/// The status where no memory was left.
+const NO_MEMORY: u8 = 5;
+
+/// The path that stands for standard input and standard output in a line.
+const STANDARD: &str = "-";
+
+/// A fault and the path at which it was met.
+#[derive(Drop)]
+struct Refusal<'a> {
+    path: &'a str,
+    fault: Fault,
+}
+
+/// The whole program: reads the words, of which the first is the program's name, does what they ask, and
+/// answers the exit status: 0 where it is done, 2 where a file is refused, 3 where the words are not
+/// understood, 4 where a file cannot be read or written or a line cannot be printed, 5 where no memory is
+/// left.
+///
+/// `input` and `output` are standard input and standard output. Refusals and the texts of `clap` are
+/// printed on `output`.
+pub fn run<R: Files, I: Read, O: Write>(
+    rt: &R,
+    alloc: Global,
+    words: &[&str],
+    input: &mut I,
+    output: &mut O,
+) -> u8
+    ensures { result ≤ 5 }
+{
+    let done = match read_words(alloc, words) {
+        Ok(Request::Filter) => filter(alloc, input, output),
+        Ok(Request::ConvertBinary1 { from, to }) => convert_binary1(rt, alloc, from, to),
+        Err(error) => return explain(&error, output),
+    };
+    match done {
+        Ok(()) => DONE,
+        Err(refusal) => report(alloc, &refusal, output),
+    }
+}
+
+/// The canonical file of the input, to the output.
+fn filter<I: Read, O: Write>(
+    alloc: Global,
+    input: &mut I,
+    output: &mut O,
+) -> Result<(), Refusal<'static>> {
+    canonical_of(alloc, input)
+        .and_then(|file| send(output, file.as_slice()))
+        .map_err(|fault| Refusal {
+            path: STANDARD,
+            fault,
+        })
+}
+
+/// The canonical file of what stands at `from`, to `to`, which is not touched before all of it is made.
+fn convert_binary1<'a, R: Files>(
+    rt: &R,
+    alloc: Global,
+    from: &'a str,
+    to: &'a str,
+) -> Result<(), Refusal<'a>> {
+    let file = match canonical_at(rt, alloc, from) {
+        Ok(file) => file,
+        Err(fault) => return Err(Refusal { path: from, fault }),
+    };
+    put(rt, to, file.as_slice()).map_err(|fault| Refusal { path: to, fault })
+}
+
+fn canonical_at<R: Files>(rt: &R, alloc: Global, path: &str) -> Result<Vec<u8>, Fault> {
+    match fs::open(rt, path) {
+        Ok(device) => canonical_of(alloc, device),
+        Err(_) => Err(Fault::ReadFailed),
+    }
+}
+
+fn canonical_of<D: Read + Drop>(alloc: Global, device: D) -> Result<Vec<u8>, Fault> {
+    let octets = load(alloc, &mut ReaderSource::new(device))?;
+    canonicalise(alloc, octets.as_slice())
+}
+
+/// Creates or empties the file at the path and writes the octets to it.
+fn put<R: Files>(rt: &R, path: &str, octets: &[u8]) -> Result<(), Fault> {
+    match fs::create(rt, path) {
+        Ok(mut device) => send(&mut device, octets),
+        Err(_) => Err(Fault::WriteFailed { sent: 0 }),
+    }
+}
+
+/// Prints the line of a refusal, and answers its status.
+fn report<O: Write>(alloc: Global, refusal: &Refusal<'_>, output: &mut O) -> u8
+    ensures { result ≤ 5 }
+{
+    match line(alloc, refusal.path, &refusal.fault) {
+        Ok(text) => print(output, format_args!("{text}\n"), refusal.fault.status()),
+        Err(_) => report_no_memory(output),
+    }
+}
+
+fn report_no_memory<O: Write>(output: &mut O) -> u8
+    ensures { result ≤ 5 }
+{
+    print(output, "refused 60 OutOfMemory\n", NO_MEMORY)
+}
+
+/// Prints what `clap` says of the words, and answers the status.
+fn explain<O: Write>(error: &Error, output: &mut O) -> u8
+    ensures { result ≤ 5 }
+{
+    match error.kind() {
+        ErrorKind::OutOfMemory => report_no_memory(output),
+        ErrorKind::DisplayHelp | ErrorKind::DisplayVersion => print(output, error, DONE),
+        _ => print(output, error, BAD_WORDS),
+    }
+}
+
+/// Prints the text, and answers the status, or that a line could not be printed.
+fn print<O: Write, D: Display + Drop>(output: &mut O, text: D, status: u8) -> u8
+    ensures { (result ≡ status) ⊎ (result ≡ NOT_PRINTED) }
+{
+    match write!(output, "{text}") {
+        Ok(()) => status,
+        Err(_) => NOT_PRINTED,
+    }
+}

@@ -1,0 +1,92 @@
+//! What the words on the command line ask for.
+use clap::error::ErrorKind;
+use clap::{Arg, ArgMatches, Command, Error};
+use std::alloc::{AllocError, Global};
+
+/// One thing that the program can be asked for.
+pub(crate) enum Request<'a> {
+    /// No words: the canonical file of standard input, to standard output.
+    Filter,
+    /// `convert binary1 IN OUT`: the canonical file of one file, to another.
+    ConvertBinary1 { from: &'a str, to: &'a str },
+}
+
+static FORMS: [&str; 1] = ["binary1"];
+
+const ABOUT: &str = "Converts Apple property lists to their canonical form";
+
+const AFTER: &str = "\
+Without words: reads a property list in binary form (bplist00) from standard input and writes the
+canonical binary file of its value to standard output.
+
+Example: plistconv < Info.plist > canonical.plist
+
+Where something is refused, the program prints one line that says why.
+
+Exit status:
+  0  done, or help that was asked for
+  2  the input is refused
+  3  the words are not understood
+  4  a file cannot be read or written, or a line cannot be printed
+  5  no memory is left";
+
+const CONVERT_ABOUT: &str = "Writes the property list of one file to another";
+
+const CONVERT_AFTER: &str = "\
+Reads a property list in binary form (bplist00) from IN and writes the canonical binary file of its
+value to OUT. Prints nothing where that is done, else one line that says what is refused and why. OUT is
+created, or emptied, only after IN was accepted, and may be IN.
+
+Example: plistconv convert binary1 Info.plist canonical.plist";
+
+/// What these words ask for, of which the first is the program's name. Words that ask for nothing, or for
+/// help, are an error with the text to print.
+pub(crate) fn read_words<'a>(alloc: Global, words: &'a [&'a str]) -> Result<Request<'a>, Error> {
+    if words.len() < 2 {
+        return Ok(Request::Filter);
+    }
+    let mut command = command(alloc)?;
+    let matches = command.try_get_matches_from_mut(words)?;
+    match found(&matches) {
+        Some(request) => Ok(request),
+        None => Err(command.error(ErrorKind::MissingSubcommand, "a word is missing")?),
+    }
+}
+
+fn found<'a>(matches: &ArgMatches<'a>) -> Option<Request<'a>> {
+    match matches.subcommand()? {
+        ("convert", given) => Some(Request::ConvertBinary1 {
+            from: given.get_str("IN")?,
+            to: given.get_str("OUT")?,
+        }),
+        _ => None,
+    }
+}
+
+fn command<'a>(alloc: Global) -> Result<Command<'a>, AllocError> {
+    Command::new(alloc, "plistconv")
+        .version("0.1.0")
+        .about(ABOUT)
+        .after_help(AFTER)
+        .subcommand_required(true)
+        .subcommand(convert(alloc)?)
+}
+
+fn convert<'a>(alloc: Global) -> Result<Command<'a>, AllocError> {
+    let form = Arg::new(alloc, "FORM")
+        .required(true)
+        .value_parser(FORMS.as_slice())
+        .help("The form to write");
+    let from = Arg::new(alloc, "IN")
+        .required(true)
+        .help("The file to read");
+    let to = Arg::new(alloc, "OUT")
+        .required(true)
+        .help("The file to write");
+    Command::new(alloc, "convert")
+        .about(CONVERT_ABOUT)
+        .after_help(CONVERT_AFTER)
+        .arg(form)?
+        .arg(from)?
+        .arg(to)
+}

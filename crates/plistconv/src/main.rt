@@ -1,0 +1,51 @@
+//! The program `plistconv`: `plist_convert::run` over the words of the command line, standard input and
+//! standard output.
+#![tactic(auto)]
+
+use plist_convert::run;
+use std::io::ErrorKind;
+use std::process::ExitCode;
+use std::{env, io};
+
+/// The status where the words are not understood: one of them is not UTF-8.
+const BAD_WORDS: u8 = 3;
+
+/// The status where no memory was left.
+const NO_MEMORY: u8 = 5;
+
+/// The status where a line could not be printed.
+const NOT_PRINTED: u8 = 4;
+
+fn main(rt: HostRuntime) -> ExitCode {
+    let status = match answer(&rt) {
+        Ok(status) => status,
+        Err(error) => match error.kind() {
+            ErrorKind::OutOfMemory => refuse(&rt, "refused 60 OutOfMemory", NO_MEMORY),
+            _ => refuse(&rt, "error: a word is not UTF-8", BAD_WORDS),
+        },
+    };
+    ExitCode::from(status)
+}
+
+/// The status of the whole program, or why its words cannot be read.
+fn answer(rt: &HostRuntime) -> io::Result<u8> {
+    let alloc = rt.alloc();
+    let owned: Vec<String> = env::args(rt)?.collect(alloc)?;
+    let words: Vec<&str> = owned.iter().map(|word| word.as_str()).collect(alloc)?;
+    let status = run(
+        rt,
+        alloc,
+        words.as_slice(),
+        &mut rt.stdin(),
+        &mut rt.stdout(),
+    );
+    Ok(status)
+}
+
+/// Prints the line, and answers the status.
+fn refuse(rt: &HostRuntime, line: &str, status: u8) -> u8 {
+    match rt.println(line) {
+        Ok(()) => status,
+        Err(_) => NOT_PRINTED,
+    }
+}
