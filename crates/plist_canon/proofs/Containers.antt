@@ -1,16 +1,15 @@
 -- The walk does a container when it does its children between the making and the filling of its slot.
-use Rattle.std.proofs.Common.{◌≡◌, ℕ, zero, suc, ◌+◌, ◌<◌, ◌≤◌, eqb, cond, true, false, List, [], ◌∷◌, ◌++◌, length, map, refl, sym, ap, subst, ◌∙◌, arith, add-one, set, length-append, append_assoc, length-set}
+use Rattle.std.proofs.Common.{◌≡◌, ℕ, zero, suc, ◌+◌, ◌<◌, ◌≤◌, List, [], ◌∷◌, ◌++◌, length, refl, sym, ap, subst, ◌∙◌, arith, add-one, set, length-append, append_assoc, length-set}
 use Rattle.std.proofs.lemmas.Bool.{eq-eqb}
 use Rattle.std.proofs.lemmas.List.{length-map, map-append}
 use Rattle.plist_value.specs.Plist.{Scalar, Plist, scalar, list, table, Items, Pairs, IsContainer}
-use Rattle.plist_object.specs.Objects.{Held, holds_scalar, holds_list, holds_table}
-use Rattle.plist_canon.specs.Tree.{key_texts, preorder, preorder_items, preorder_values, item_places, key_places, value_places}
-use Rattle.plist_canon.specs.Sharing.{least_place, first_place, kept_from, kept_places, count_below, value_at}
+use Rattle.plist_object.specs.Objects.{Held, holds_list, holds_table}
+use Rattle.plist_canon.specs.Tree.{key_texts, preorder, preorder_items, preorder_values}
+use Rattle.plist_canon.specs.Sharing.{least_place, first_place, kept_places, count_below, value_at}
 use Rattle.plist_canon.specs.Plan.{Stands, held_at, held_in, held_by, number_in, found_in, IsReady, Adds, WalksTree, WalksItems, WalksKeys, WalksValues, Begins, Finishes}
 use Rattle.plist_canon.specs.declared.plan.Slot.{Slot}
-use Rattle.plist_canon.specs.declared.plan.Slot.TheVariants as slot
 use Rattle.plist_canon.specs.declared.plan.Plan.{Plan}
-use Rattle.plist_canon.proofs.Trees.{length-key_places, Stands-front, Stands-rest, Stands-tail, Stands-head}
+use Rattle.plist_canon.proofs.Trees.{Stands-front, Stands-rest, Stands-tail, Stands-head}
 use Rattle.plist_canon.proofs.Counting.{count-kept, least_place-at, known-still}
 use Rattle.plist_canon.proofs.Walking.{Adds-append}
 

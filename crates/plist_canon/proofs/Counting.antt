@@ -1,10 +1,10 @@
 -- How the count of objects and the known scalars grow from one place to the next.
-use Rattle.std.proofs.Common.{◌≡◌, ℕ, zero, suc, ◌+◌, ◌<◌, ◌≤◌, eqb, ltb, cond, true, false, List, [], ◌∷◌, length, Option, Some, None, refl, sym, ap, ◌∙◌, inl, inr, arith, lt-ltb}
+use Rattle.std.proofs.Common.{◌≡◌, ℕ, zero, suc, ◌+◌, ◌<◌, eqb, cond, true, false, List, [], ◌∷◌, length, Some, refl, ◌∙◌, inl, inr, arith, lt-ltb}
 use Rattle.std.proofs.lemmas.Bool.{le-ltb, eq-eqb, ne_eqb, cond_both, cases_order}
 use Rattle.plist_value.specs.Plist.{Scalar, Plist, scalar}
 use Rattle.plist_canon.specs.Sharing.{is_scalar, least_place, first_place, kept_from, kept_places, count_below, value_at}
 use Rattle.plist_canon.specs.Plan.{number_known}
-use Rattle.plist_canon.proofs.Numbering.{is_scalar-true, count_below-none, least_place-le}
+use Rattle.plist_canon.proofs.Numbering.{is_scalar-true, count_below-none}
 
 count-from : (all rest : List Plist) (j i n : ℕ) → i < length rest → j + i ≡ n → count_below (suc n) (kept_from all j rest) ≡ cond (eqb (first_place all n (value_at rest i)) n) (suc (count_below n (kept_from all j rest))) (count_below n (kept_from all j rest))
 count-from all [] j i n h at = absurd (omega arith)

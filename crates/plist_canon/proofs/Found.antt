@@ -1,22 +1,21 @@
 -- The objects that the walk finds are those of the canonical file, and can be spelled.
-use Rattle.std.proofs.Common.{◌≡◌, ℕ, suc, ◌+◌, ◌*◌, ◌^◌, ◌<◌, ◌≤◌, eqb, cond, true, false, List, [], ◌∷◌, ◌++◌, length, map, All, refl, sym, ap, subst, ◌∙◌, arith}
-use Rattle.std.specs.List.{AllByRecursion, concat}
+use Rattle.std.proofs.Common.{◌≡◌, ℕ, suc, ◌+◌, ◌^◌, ◌<◌, ◌≤◌, eqb, cond, true, false, List, [], ◌∷◌, ◌++◌, length, map, refl, sym, ap, ◌∙◌, arith}
+use Rattle.std.specs.List.{AllByRecursion}
 use Rattle.std.proofs.lemmas.List.{length-map}
 use Rattle.std.proofs.lemmas.List.Elements.{All-map}
 use Rattle.plist_value.specs.Plist.{Scalar, text, whole, flag, real4, real8, moment, bytes, Plist, scalar, list, table, Items, no_items, item, Pairs, no_pairs, pair}
 use Rattle.plist_value.specs.Limits.{nodes, nodes_of_items, nodes_of_pairs, payload, payload_of_scalar, payload_of_items, payload_of_pairs, Fits}
-use Rattle.plist_object.specs.Objects.{Held, holds_scalar, holds_list, holds_table}
 use Rattle.plist_object.specs.Shortest.{spelling_of}
 use Rattle.plist_object.specs.Sizes.{IsSmall}
 use Rattle.plist_object.specs.Spelling.{least_width}
 use Rattle.plist_canon.specs.Tree.{key_texts, preorder, preorder_items, preorder_values, item_places, key_places, value_places}
-use Rattle.plist_canon.specs.Sharing.{first_place, kept_from, kept_places, count_below, value_at, number_among}
-use Rattle.plist_canon.specs.Canonical.{object_octets, objects_of, file_of, canon}
+use Rattle.plist_canon.specs.Sharing.{first_place, kept_from, kept_places, value_at}
+use Rattle.plist_canon.specs.Canonical.{object_octets, file_of, canon}
 use Rattle.plist_canon.specs.Plan.{held_at, held_in, held_by, number_in, found_in}
 use Rattle.plist_canon.specs.Pieces.{spelled, AreSpellable, CanSpell, CanSpellAll, weight_of, weights, IsPlan}
 use Rattle.plist_canon.specs.declared.plan.Slot.{Slot}
 use Rattle.plist_canon.proofs.Trees.{length-preorder, length-key_places, length-value_places}
-use Rattle.plist_canon.proofs.Sizes.{item_count, length-item_places, item_count-nodes, key_count-nodes, weight, total, total-tree, length-kept}
+use Rattle.plist_canon.proofs.Sizes.{length-item_places, item_count-nodes, key_count-nodes, weight, total, total-tree, length-kept}
 use Rattle.plist_canon.proofs.Reading.{count_below-le}
 use Rattle.plist_canon.proofs.Widths.{least_width-holds}
 

@@ -1,18 +1,16 @@
 -- The walk does a tree when it does its parts.
-use Rattle.std.proofs.Common.{◌≡◌, ℕ, zero, suc, ◌+◌, ◌<◌, ◌≤◌, eqb, ltb, cond, true, false, List, [], ◌∷◌, ◌++◌, length, map, Option, Some, None, refl, sym, ap, subst, ◌∙◌, inl, inr, arith, add-one, add-zero, set, length-append, append_assoc, lt-ltb}
-use Rattle.std.proofs.lemmas.Bool.{false≢true, true≢false, le-ltb, ltb-true, ltb-false, eq-eqb, ne_eqb, cases_Bool, cases_lt}
+use Rattle.std.proofs.Common.{◌≡◌, ℕ, suc, ◌+◌, ◌<◌, ◌≤◌, eqb, cond, true, false, List, [], ◌∷◌, ◌++◌, length, map, Some, None, refl, sym, ap, subst, ◌∙◌, inl, inr, arith, add-one, add-zero, length-append, append_assoc, lt-ltb}
+use Rattle.std.proofs.lemmas.Bool.{true≢false, le-ltb, eq-eqb, ne_eqb, cases_Bool, cases_lt}
 use Rattle.std.proofs.lemmas.List.{length-map, map-append, append-nil}
-use Rattle.plist_value.specs.Plist.{Scalar, text, Plist, scalar, list, table, Items, no_items, item, Pairs, no_pairs, pair, IsContainer}
-use Rattle.plist_value.specs.Limits.{nodes}
+use Rattle.plist_value.specs.Plist.{Scalar, text, Plist, scalar, Items, item, Pairs, pair}
 use Rattle.plist_value.specs.Equality.{scalar_eq}
 use Rattle.plist_value.specs.EqualityLaws.{scalar_eq-Decides}
 use Rattle.plist_value.specs.Scalars.{content_of}
 use Rattle.plist_value.specs.declared.scalar_ref.ScalarRef.{ScalarRef}
-use Rattle.plist_object.specs.Objects.{Held, holds_scalar, holds_list, holds_table}
+use Rattle.plist_object.specs.Objects.{holds_scalar}
 use Rattle.plist_canon.specs.Tree.{key_texts, preorder, preorder_items, preorder_values, item_places, key_places, value_places}
-use Rattle.plist_canon.specs.Sharing.{least_place, first_place, kept_from, kept_places, count_below, value_at, number_among}
-use Rattle.plist_canon.specs.Plan.{Stands, held_at, held_in, held_by, number_in, found_in, number_known, number_held, IsReady, Adds, Walks, WalksOne, WalksTree, WalksScalar, WalksItems, WalksKeys, WalksValues, IsEmptyPlan}
-use Rattle.plist_canon.specs.declared.plan.Slot.{Slot}
+use Rattle.plist_canon.specs.Sharing.{least_place, first_place, kept_from, kept_places, count_below, value_at}
+use Rattle.plist_canon.specs.Plan.{Stands, held_at, held_in, held_by, number_in, found_in, number_known, number_held, IsReady, Adds, Walks, WalksTree, WalksScalar, WalksItems, WalksKeys, WalksValues, IsEmptyPlan}
 use Rattle.plist_canon.specs.declared.plan.Plan.{Plan}
 use Rattle.plist_canon.proofs.Numbering.{least_place-le, count_below-none}
 use Rattle.plist_canon.proofs.Trees.{length-preorder, Stands-front, Stands-rest, Stands-head, Stands-all}

@@ -1,6 +1,6 @@
 -- The octets of objects, what they need to be spelled, and how long they can be.
-use Rattle.std.specs.Prelude.{◌≡◌, ℕ, ◌+◌, ◌*◌, ◌<◌, ◌≤◌, ◌^◌, List, [], ◌∷◌, ◌++◌, length, map, All}
-use Rattle.std.specs.List.{AllByRecursion, concat}
+use Rattle.std.specs.Prelude.{◌≡◌, ℕ, ◌+◌, ◌*◌, ◌<◌, ◌^◌, List, [], ◌∷◌, length, map, All}
+use Rattle.std.specs.List.{AllByRecursion}
 use Rattle.plist_value.specs.Limits.{payload_of_scalar}
 use Rattle.plist_object.specs.Objects.{Held, holds_scalar, holds_list, holds_table}
 use Rattle.plist_object.specs.Sizes.{IsSmall}

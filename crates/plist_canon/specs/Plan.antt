@@ -1,9 +1,8 @@
 -- The walk that numbers the objects of a tree, place by place.
 use Rattle.std.specs.Prelude.{◌≡◌, ℕ, suc, ◌+◌, ◌≤◌, nat_lt, if◌then◌else◌, List, [], ◌∷◌, ◌++◌, length, map, slice_set, Option, Some, None}
 use Rattle.std.specs.Ordering.{on}
-use Rattle.std.specs.declared.alloc.Global.{Global}
 use Rattle.indexmap.specs.IndexMap.{get}
-use Rattle.plist_value.specs.Plist.{Scalar, text, Plist, scalar, list, table, Items, Pairs}
+use Rattle.plist_value.specs.Plist.{Scalar, Plist, scalar, list, table, Items, Pairs}
 use Rattle.plist_value.specs.Equality.{scalar_eq}
 use Rattle.plist_value.specs.Scalars.{content_of}
 use Rattle.plist_value.specs.declared.scalar_ref.ScalarRef.{ScalarRef}

@@ -13,7 +13,9 @@ ghost use Rattle.plist_canon.specs.Pieces.{CanSpell, CanSpellAll, spelled, weigh
 
 use crate::plan::Slot;
 use byteorder::{BigEndian, ByteOrder};
-use plist_object::{list_length, put_list, put_scalar, put_table, scalar_length, table_length, width_of};
+use plist_object::{
+    list_length, put_list, put_scalar, put_table, scalar_length, table_length, width_of,
+};
 use plist_value::ScalarRef;
 use std::alloc::AllocError;
 

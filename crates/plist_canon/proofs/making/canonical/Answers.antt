@@ -1,7 +1,6 @@
-use Rattle.std.proofs.Common.{◌≡◌, ℕ, List, ap, subst, ◌∙◌, length}
+use Rattle.std.proofs.Common.{◌≡◌, ℕ, List, subst}
 use Rattle.std.specs.Result.{IfOk}
 use Rattle.plist_value.specs.View.{view}
-use Rattle.plist_canon.specs.declared.plan.Slot.{Slot}
 use Rattle.plist_canon.proofs.Found.{is_plan, is_canon}
 use Rattle.plist_canon.proofs.making.canonical.Goals as goal
 

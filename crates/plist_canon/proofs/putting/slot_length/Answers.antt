@@ -1,4 +1,4 @@
-use Rattle.std.proofs.Common.{◌≡◌, length, sym, rules}
+use Rattle.std.proofs.Common.{◌≡◌, length, rules}
 use Rattle.plist_canon.proofs.Sizes.{light-list, light-table}
 use Rattle.plist_canon.proofs.putting.slot_length.Goals as goal
 
