@@ -14,3 +14,5 @@ pub mod Walking
 pub mod Containers
 pub mod Found
 pub mod Parts
+pub mod Sends
+pub mod Chunks

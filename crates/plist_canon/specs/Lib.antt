@@ -6,4 +6,7 @@ pub mod Sharing
 pub mod Canonical
 pub mod Plan
 pub mod Pieces
+pub mod Sink
+pub mod Sending
+pub mod ListSink
 pub mod Laws

@@ -61,7 +61,8 @@ pub(crate) fn table_place(width: u8, slots: &[Slot]) -> u64
     requires narrow { width ≤ 4 }
     requires spellable { CanSpellAll width (held_by slots.now) }
     requires light { 8 + weights (held_by slots.now) < 2 ^ 64 }
-    ensures { result ≡ 8 + length (concat (spelled width slots.now)) }
+    ensures place { result ≡ 8 + length (concat (spelled width slots.now)) }
+    ensures light { result ≤ 8 + weights (held_by slots.now) }
 {
     let mut place = 8;
     for slot in slots {

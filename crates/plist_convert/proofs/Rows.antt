@@ -1,8 +1,8 @@
 -- Worked rows of the definitions, by computing.
 use Rattle.std.proofs.Common.{◌≡◌, refl, codes}
 use Rattle.std.specs.Fmt.{digits}
-use Rattle.plist_convert.specs.declared.binary_faults.BinaryFault.TheVariants.{TooShort, NotAscii}
-use Rattle.plist_convert.specs.declared.binary_faults.BinaryFault.TheVariants as binary
+use Rattle.plist_binary.specs.declared.fault.BinaryFault.TheVariants.{TooShort, NotAscii}
+use Rattle.plist_binary.specs.declared.fault.BinaryFault.TheVariants as binary
 use Rattle.plist_convert.specs.declared.faults.Fault.TheVariants.{Binary, ReadFailed, WriteFailed}
 use Rattle.plist_convert.specs.Fault.{code_of, status_for, fault_for}
 use Rattle.plist_convert.specs.Line.{line_of}

@@ -7,6 +7,5 @@ pub mod ReaderSource
 pub mod Source
 pub mod Accepted
 pub mod Laws
-pub mod Refused
 pub mod Refusals
 pub mod Pair

@@ -1,11 +1,11 @@
 -- The printed line of a refusal.
 use Rattle.std.specs.Prelude.{ℕ, List, [], ◌++◌, codes}
 use Rattle.std.specs.Fmt.{decimal}
-use Rattle.plist_convert.specs.declared.binary_faults.BinaryFault.{BinaryFault}
-use Rattle.plist_convert.specs.declared.binary_faults.BinaryFault.TheVariants.{TooShort, BadHeader, BadTrailer, BadOffset, CutObject, BadMarker, NullObject, UidObject, SetObject, NotAscii, WideInteger, TooMuchPayload}
-use Rattle.plist_convert.specs.declared.binary_faults.BinaryFault.TheVariants as binary
+use Rattle.plist_binary.specs.declared.fault.BinaryFault.{BinaryFault}
+use Rattle.plist_binary.specs.declared.fault.BinaryFault.TheVariants.{TooShort, BadHeader, BadTrailer, BadOffset, BadReference, CutObject, BadMarker, NullObject, UidObject, SetObject, NotAscii, WideInteger, KeyNotText, DuplicateKey, Cycle, TooDeep, TooManyNodes, TooMuchPayload}
+use Rattle.plist_binary.specs.declared.fault.BinaryFault.TheVariants as binary
 use Rattle.plist_convert.specs.declared.faults.Fault.{Fault}
-use Rattle.plist_convert.specs.declared.faults.Fault.TheVariants.{Binary, ReadFailed, WriteFailed, InputTooLarge, OutOfMemory, NotYet}
+use Rattle.plist_convert.specs.declared.faults.Fault.TheVariants.{Binary, ReadFailed, WriteFailed, InputTooLarge, OutOfMemory}
 use Rattle.plist_convert.specs.Fault.{code_of}
 
 -- the name of a refusal of the reader of binary files
@@ -14,6 +14,7 @@ binary_name_of TooShort = codes "TooShort"
 binary_name_of BadHeader = codes "BadHeader"
 binary_name_of BadTrailer = codes "BadTrailer"
 binary_name_of (BadOffset _) = codes "BadOffset"
+binary_name_of (BadReference _) = codes "BadReference"
 binary_name_of (CutObject _) = codes "CutObject"
 binary_name_of (BadMarker _) = codes "BadMarker"
 binary_name_of (NullObject _) = codes "NullObject"
@@ -21,6 +22,11 @@ binary_name_of (UidObject _) = codes "UidObject"
 binary_name_of (SetObject _) = codes "SetObject"
 binary_name_of (NotAscii _) = codes "NotAscii"
 binary_name_of (WideInteger _) = codes "WideInteger"
+binary_name_of (KeyNotText _) = codes "KeyNotText"
+binary_name_of (DuplicateKey _) = codes "DuplicateKey"
+binary_name_of (Cycle _) = codes "Cycle"
+binary_name_of (TooDeep _) = codes "TooDeep"
+binary_name_of (TooManyNodes _) = codes "TooManyNodes"
 binary_name_of (TooMuchPayload _) = codes "TooMuchPayload"
 binary_name_of binary.OutOfMemory = codes "OutOfMemory"
 
@@ -31,7 +37,6 @@ name_of ReadFailed = codes "ReadFailed"
 name_of (WriteFailed _) = codes "WriteFailed"
 name_of InputTooLarge = codes "InputTooLarge"
 name_of (OutOfMemory _) = codes "OutOfMemory"
-name_of NotYet = codes "NotYet"
 
 -- the words for an object
 abbrev pub object_text : ℕ → List ℕ
@@ -44,6 +49,7 @@ sent_text sent = codes " after " ++ (decimal sent ++ codes " octets")
 -- where a refusal of the reader of binary files was met: at an object, or nowhere that can be named
 abbrev pub binary_place_of : BinaryFault → List ℕ
 binary_place_of (BadOffset object) = object_text object
+binary_place_of (BadReference object) = object_text object
 binary_place_of (CutObject object) = object_text object
 binary_place_of (BadMarker object) = object_text object
 binary_place_of (NullObject object) = object_text object
@@ -51,6 +57,11 @@ binary_place_of (UidObject object) = object_text object
 binary_place_of (SetObject object) = object_text object
 binary_place_of (NotAscii object) = object_text object
 binary_place_of (WideInteger object) = object_text object
+binary_place_of (KeyNotText object) = object_text object
+binary_place_of (DuplicateKey object) = object_text object
+binary_place_of (Cycle object) = object_text object
+binary_place_of (TooDeep object) = object_text object
+binary_place_of (TooManyNodes object) = object_text object
 binary_place_of (TooMuchPayload object) = object_text object
 binary_place_of _ = []
 

@@ -1,4 +1,4 @@
-use crate::{Fault, canonicalise, read_any, run, same_files};
+use crate::{canonicalise, read_any, run, same_files};
 use plist_value::Value;
 use std::alloc::{AllocError, Global};
 use std::fs;
@@ -109,11 +109,6 @@ fn tops_are_refused_with_their_fault(rt: HostRuntime) -> Result<(), Fail> {
         let fault = canonicalise(rt.alloc(), file.as_slice()).err();
         assert_eq!(rt; fault.ok_or("a refusal")?.code(), code);
     }
-    let file = one(rt.alloc(), &[0xd0])?;
-    assert_eq!(rt;
-        canonicalise(rt.alloc(), file.as_slice()).err(),
-        Some(Fault::NotYet)
-    );
     Ok(())
 }
 
@@ -128,16 +123,105 @@ fn the_first_of_two_files_is_read_first(rt: HostRuntime) -> Result<(), Fail> {
     Ok(())
 }
 
+// The binary file of these objects, with these entries of the offset table and this width of a reference.
+fn file(alloc: Global, objects: &[u8], entries: &[u8], width: u8) -> Result<Vec<u8>, AllocError> {
+    let mut file = Vec::from_slice(alloc, b"bplist00")?;
+    file.extend_from_slice(objects)?;
+    let table = file.len() as u64;
+    file.extend_from_slice(entries)?;
+    file.extend_from_slice(&[0, 0, 0, 0, 0, 0, 1, width])?;
+    file.extend_from_slice(&(entries.len() as u64).to_be_bytes())?;
+    file.extend_from_slice(&0u64.to_be_bytes())?;
+    file.extend_from_slice(&table.to_be_bytes())?;
+    Ok(file)
+}
+
 #[test]
-fn a_container_is_refused_by_the_program(rt: HostRuntime) -> Result<(), Fail> {
-    fs::write(&rt, "table.bin", one(rt.alloc(), &[0xd0])?)?;
-    let words = ["plistconv", "convert", "binary1", "table.bin", "table.out"];
+fn containers_have_one_file(rt: HostRuntime) -> Result<(), Fail> {
+    // The objects and entries of a source, the width of its references, and the objects and entries of
+    // its canonical file.
+    let rows: [(&[u8], &[u8], u8, &[u8], &[u8]); 6] = [
+        (&[0xd0], &[8], 1, &[0xd0], &[8]),
+        (
+            &[0xd2, 1, 2, 2, 1, 0x51, 0x62, 0x51, 0x61],
+            &[8, 13, 15],
+            1,
+            &[0xd2, 1, 2, 2, 1, 0x51, 0x61, 0x51, 0x62],
+            &[8, 13, 15],
+        ),
+        (
+            &[0xa2, 1, 2, 0x51, 0x61, 0x41, 0x61],
+            &[8, 11, 13],
+            1,
+            &[0xa2, 1, 2, 0x51, 0x61, 0x41, 0x61],
+            &[8, 11, 13],
+        ),
+        (
+            &[0xa2, 1, 1, 0xa0],
+            &[8, 11],
+            1,
+            &[0xa2, 1, 2, 0xa0, 0xa0],
+            &[8, 11, 12],
+        ),
+        (
+            &[0xa1, 0, 0, 1, 0x09],
+            &[8, 12],
+            3,
+            &[0xa1, 1, 0x09],
+            &[8, 10],
+        ),
+        (
+            &[0xa2, 1, 2, 0x52, 0x51, 0x61],
+            &[8, 11, 12],
+            1,
+            &[0xa2, 1, 2, 0x52, 0x51, 0x61, 0x51, 0x61],
+            &[8, 11, 14],
+        ),
+    ];
+    for (objects, entries, width, own_objects, own_entries) in rows {
+        let source = file(rt.alloc(), objects, entries, width)?;
+        let own = file(rt.alloc(), own_objects, own_entries, 1)?;
+        let canonical = canonicalise(rt.alloc(), source.as_slice())?;
+        assert_eq!(rt; canonical.as_slice(), own.as_slice());
+        let again = canonicalise(rt.alloc(), own.as_slice())?;
+        assert_eq!(rt; again.as_slice(), own.as_slice());
+        assert!(rt; same_files(rt.alloc(), source.as_slice(), own.as_slice())?);
+    }
+    Ok(())
+}
+
+#[test]
+fn containers_are_refused_with_their_fault(rt: HostRuntime) -> Result<(), Fail> {
+    let rows: [(&[u8], &[u8], u8); 4] = [
+        (&[0xa1, 0], &[8], 15),
+        (&[0xa1, 1], &[8], 5),
+        (&[0xd1, 1, 1, 0x09], &[8, 11], 13),
+        (
+            &[0xd2, 1, 2, 3, 3, 0x51, 0x61, 0x51, 0x61, 0x09],
+            &[8, 13, 15, 17],
+            14,
+        ),
+    ];
+    for (objects, entries, code) in rows {
+        let source = file(rt.alloc(), objects, entries, 1)?;
+        let fault = canonicalise(rt.alloc(), source.as_slice()).err();
+        assert_eq!(rt; fault.ok_or("a refusal")?.code(), code);
+    }
+    Ok(())
+}
+
+#[test]
+fn the_program_converts_containers(rt: HostRuntime) -> Result<(), Fail> {
+    let objects = [0xa2, 1, 1, 0xa0];
+    fs::write(&rt, "list.bin", file(rt.alloc(), &objects, &[8, 11], 1)?)?;
+    let words = ["plistconv", "convert", "binary1", "list.bin", "list.out"];
     let mut input: &[u8] = b"";
     let mut output = Vec::new(rt.alloc());
     let status = run(&rt, rt.alloc(), &words, &mut input, &mut output);
-    assert_eq!(rt; status, 2);
-    let line = b"table.bin: refused 90 NotYet\n";
-    assert_eq!(rt; output.as_slice(), line.as_slice());
-    assert!(rt; !fs::exists(&rt, "table.out")?);
+    assert_eq!(rt; status, 0);
+    assert!(rt; output.is_empty());
+    let written = fs::read(&rt, "list.out")?;
+    let own = file(rt.alloc(), &[0xa2, 1, 2, 0xa0, 0xa0], &[8, 11, 12], 1)?;
+    assert_eq!(rt; written.as_slice(), own.as_slice());
     Ok(())
 }

@@ -3,7 +3,8 @@ ghost use Rattle.std.specs.Prelude.{◌≡◌};
 ghost use Rattle.plist_convert.specs.Fault.{code_of, fault_for, status_for};
 ghost use Rattle.plist_convert.specs.declared.faults.Fault.TheVariants.{OutOfMemory, ReadFailed};
 
-use crate::{BinaryFault, DeviceFault};
+use crate::DeviceFault;
+use plist_binary::BinaryFault;
 use std::alloc::AllocError;
 use thiserror::Error;
 
@@ -25,9 +26,6 @@ pub enum Fault {
     /// 60: no memory was left, after `sent` octets had gone out.
     #[error("no memory is left after {sent} octets")]
     OutOfMemory { sent: u64 },
-    /// 90: the value is a container, and containers are not read yet.
-    #[error("containers are not read yet")]
-    NotYet,
 }
 
 impl Fault {
@@ -41,7 +39,6 @@ impl Fault {
             Fault::WriteFailed { .. } => 51,
             Fault::InputTooLarge => 52,
             Fault::OutOfMemory { .. } => 60,
-            Fault::NotYet => 90,
         }
     }
 

@@ -3,8 +3,6 @@
 //! output.
 #![tactic(auto)]
 
-mod binary;
-mod binary_faults;
 mod canonicals;
 mod device;
 mod faults;
@@ -19,7 +17,6 @@ mod sending;
 mod sources;
 mod words;
 
-pub use binary_faults::BinaryFault;
 pub use canonicals::{canonicalise, read_any, same_files};
 pub use device::DeviceFault;
 pub use faults::Fault;

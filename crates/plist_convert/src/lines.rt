@@ -3,7 +3,8 @@ ghost use Rattle.std.specs.Prelude.{◌≡◌, IfOk, string_bytes};
 ghost use Rattle.plist_convert.specs.Line.{binary_name_of, binary_place_of, line_of, name_of, place_of};
 ghost use Rattle.plist_convert.specs.Place.{place_text};
 
-use crate::{BinaryFault, Fault};
+use crate::Fault;
+use plist_binary::BinaryFault;
 use std::alloc::{AllocError, Global};
 use std::fmt;
 
@@ -53,7 +54,6 @@ fn fault_name(fault: &Fault) -> &'static str
         Fault::WriteFailed { .. } => "WriteFailed",
         Fault::InputTooLarge => "InputTooLarge",
         Fault::OutOfMemory { .. } => "OutOfMemory",
-        Fault::NotYet => "NotYet",
     }
 }
 
@@ -65,6 +65,7 @@ fn binary_name(fault: &BinaryFault) -> &'static str
         BinaryFault::BadHeader => "BadHeader",
         BinaryFault::BadTrailer => "BadTrailer",
         BinaryFault::BadOffset { .. } => "BadOffset",
+        BinaryFault::BadReference { .. } => "BadReference",
         BinaryFault::CutObject { .. } => "CutObject",
         BinaryFault::BadMarker { .. } => "BadMarker",
         BinaryFault::NullObject { .. } => "NullObject",
@@ -72,6 +73,11 @@ fn binary_name(fault: &BinaryFault) -> &'static str
         BinaryFault::SetObject { .. } => "SetObject",
         BinaryFault::NotAscii { .. } => "NotAscii",
         BinaryFault::WideInteger { .. } => "WideInteger",
+        BinaryFault::KeyNotText { .. } => "KeyNotText",
+        BinaryFault::DuplicateKey { .. } => "DuplicateKey",
+        BinaryFault::Cycle { .. } => "Cycle",
+        BinaryFault::TooDeep { .. } => "TooDeep",
+        BinaryFault::TooManyNodes { .. } => "TooManyNodes",
         BinaryFault::TooMuchPayload { .. } => "TooMuchPayload",
         BinaryFault::OutOfMemory => "OutOfMemory",
     }
@@ -83,7 +89,7 @@ fn fault_place(fault: &Fault) -> Place
     match *fault {
         Fault::Binary(fault) => binary_place(fault),
         Fault::WriteFailed { sent } | Fault::OutOfMemory { sent } => Place::Sent(sent),
-        Fault::ReadFailed | Fault::InputTooLarge | Fault::NotYet => Place::Unnamed,
+        Fault::ReadFailed | Fault::InputTooLarge => Place::Unnamed,
     }
 }
 
@@ -92,6 +98,7 @@ fn binary_place(fault: BinaryFault) -> Place
 {
     match fault {
         BinaryFault::BadOffset { object }
+        | BinaryFault::BadReference { object }
         | BinaryFault::CutObject { object }
         | BinaryFault::BadMarker { object }
         | BinaryFault::NullObject { object }
@@ -99,6 +106,11 @@ fn binary_place(fault: BinaryFault) -> Place
         | BinaryFault::SetObject { object }
         | BinaryFault::NotAscii { object }
         | BinaryFault::WideInteger { object }
+        | BinaryFault::KeyNotText { object }
+        | BinaryFault::DuplicateKey { object }
+        | BinaryFault::Cycle { object }
+        | BinaryFault::TooDeep { object }
+        | BinaryFault::TooManyNodes { object }
         | BinaryFault::TooMuchPayload { object } => Place::Object(object),
         BinaryFault::TooShort
         | BinaryFault::BadHeader

@@ -1,4 +1,5 @@
-use crate::{BinaryFault, DeviceFault, Fault, ListSource, ReaderSource, Source, line, load, run};
+use crate::{DeviceFault, Fault, ListSource, ReaderSource, Source, line, load, run};
+use plist_binary::BinaryFault;
 use std::io::{ErrorKind, Read, Write};
 use std::test::Fail;
 use std::{fs, io};
@@ -89,7 +90,6 @@ fn prints_faults(rt: HostRuntime) -> Result<(), Fail> {
             Fault::from(BinaryFault::OutOfMemory),
             "p: refused 60 OutOfMemory after 0 octets",
         ),
-        (Fault::NotYet, "p: refused 90 NotYet"),
     ];
     for (fault, want) in cases {
         assert_eq!(rt; line(rt.alloc(), "p", &fault)?.as_str(), want);

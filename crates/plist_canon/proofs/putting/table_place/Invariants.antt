@@ -1,4 +1,4 @@
-use Rattle.std.proofs.Common.{◌≡◌, ◌+◌, ◌<◌, ◌^◌, length, drop}
+use Rattle.std.proofs.Common.{◌≡◌, ◌+◌, ◌≤◌, length, drop}
 use Rattle.std.specs.List.{concat}
 use Rattle.plist_canon.specs.Plan.{held_by}
 use Rattle.plist_canon.specs.Pieces.{CanSpellAll, spelled, weights}
@@ -9,6 +9,6 @@ invariant-loop-slot l =
     let rest = drop l.slot-index l.slots in
     record {
       measured : l.place + length (concat (spelled l.width rest)) ≡ 8 + length (concat (spelled l.width l.slots));
-      light : l.place + weights (held_by rest) < 2 ^ 64;
+      light : l.place + weights (held_by rest) ≤ 8 + weights (held_by l.slots);
       spellable : CanSpellAll l.width (held_by rest);
     }

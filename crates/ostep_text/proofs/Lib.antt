@@ -1,0 +1,10 @@
+pub mod Rows
+pub mod StandsRows
+pub mod TextRows
+pub mod SortedLemmas
+pub mod PhraseLemmas
+pub mod WrittenLemmas
+pub mod WrittenUnits
+pub mod WrittenLexing
+pub mod WrittenOctets
+pub mod WrittenProof

@@ -1,0 +1,7 @@
+pub mod Sorting
+pub mod Phrase
+pub mod Text
+pub mod Begun
+pub mod Stands
+pub mod Written
+pub mod Laws

@@ -1,0 +1,87 @@
+-- The text that is written for a value.
+use Rattle.std.specs.Prelude.{ℕ, ◌/◌, ◌%◌, Bool, true, false, not, ◌&&◌, ◌==◌, List, [], ◌∷◌, ◌++◌, Option, Some, None, nat_eq, if◌then◌else◌, codes, flat_map}
+use Rattle.std.specs.Char.{digit_char, is_ascii_alphanumeric}
+use Rattle.std.specs.Int.{is_in_range}
+use Rattle.std.specs.List.{starts_with}
+use Rattle.plist_value.specs.Plist.{Scalar, text, bytes, Plist, scalar, list, table, Items, no_items, item, Pairs, no_pairs, pair}
+
+-- texts and data, and lists and tables of such
+abbrev pub is_writable_scalar : Scalar → Bool
+is_writable_scalar (text units) = true
+is_writable_scalar (bytes xs) = true
+is_writable_scalar _ = false
+
+abbrev mutual
+  pub is_writable : Plist → Bool
+  is_writable (scalar s) = is_writable_scalar s
+  is_writable (list vs) = are_writable_items vs
+  is_writable (table ps) = are_writable_pairs ps
+
+  pub are_writable_items : Items → Bool
+  are_writable_items no_items = true
+  are_writable_items (item v vs) = is_writable v && are_writable_items vs
+
+  pub are_writable_pairs : Pairs → Bool
+  are_writable_pairs no_pairs = true
+  are_writable_pairs (pair key v ps) = is_writable v && are_writable_pairs ps
+
+-- an octet as two lower-case hexadecimal digits
+abbrev pub two_digits : ℕ → List ℕ
+two_digits x = digit_char (x / 16) ∷ digit_char (x % 16) ∷ []
+
+-- `<`, the octets, `>`
+abbrev pub written_data : List ℕ → List ℕ
+written_data xs = codes "<" ++ flat_map two_digits xs ++ codes ">"
+
+abbrev pub are_alphanumeric : List ℕ → Bool
+are_alphanumeric [] = true
+are_alphanumeric (unit ∷ units) = is_ascii_alphanumeric unit && are_alphanumeric units
+
+abbrev pub is_empty : List ℕ → Bool
+is_empty [] = true
+is_empty (unit ∷ units) = false
+
+-- ASCII letters and digits alone, at least one, and not those that a binary file begins with
+abbrev pub is_plain : List ℕ → Bool
+is_plain units = not (is_empty units) && are_alphanumeric units && not (starts_with nat_eq units (codes "bplist"))
+
+-- a unit between quotes: as an escape, as itself where it is a printable ASCII character, or as `\U` and four
+-- lower-case hexadecimal digits
+abbrev pub quoted_unit : ℕ → List ℕ
+quoted_unit unit =
+    if unit == 34 then codes "\\\""
+    else (if unit == 92 then codes "\\\\"
+    else (if unit == 10 then codes "\\n"
+    else (if unit == 9 then codes "\\t"
+    else (if unit == 13 then codes "\\r"
+    else (if is_in_range 0x20 0x7e unit then unit ∷ []
+    else codes "\\U" ++ two_digits (unit / 256) ++ two_digits (unit % 256))))))
+
+-- as it stands where it is plain, else between quotes
+abbrev pub written_text : List ℕ → List ℕ
+written_text units = if is_plain units then units else codes "\"" ++ flat_map quoted_unit units ++ codes "\""
+
+abbrev pub written_scalar : Scalar → List ℕ
+written_scalar (text units) = written_text units
+written_scalar (bytes xs) = written_data xs
+written_scalar _ = []
+
+-- a list is `(`, each item with `,` behind it, `)`; a table `{`, each key, ` = `, its value and `;`, `}`; a
+-- newline stands behind each opening, each `,` and each `;`
+abbrev mutual
+  pub written : Plist → List ℕ
+  written (scalar s) = written_scalar s
+  written (list vs) = codes "(\n" ++ written_items vs ++ codes ")"
+  written (table ps) = codes "{\n" ++ written_pairs ps ++ codes "}"
+
+  pub written_items : Items → List ℕ
+  written_items no_items = []
+  written_items (item v vs) = written v ++ codes ",\n" ++ written_items vs
+
+  pub written_pairs : Pairs → List ℕ
+  written_pairs no_pairs = []
+  written_pairs (pair key v ps) = written_text key ++ codes " = " ++ written v ++ codes ";\n" ++ written_pairs ps
+
+-- the whole text, with a newline at its end: Some exactly where the value is writable
+abbrev pub text_of : Plist → Option (List ℕ)
+text_of v = if is_writable v then Some (written v ++ codes "\n") else None

@@ -1,0 +1,79 @@
+-- Texts that ascend, and texts of which no two are equal.
+use Rattle.std.proofs.Common.{◌≡◌, ℕ, ◌+◌, ◌-◌, ◌<◌, ◌≤◌, List, [], ◌∷◌, length, get_or, map, false, true, refl, sym, ap, ◌∙◌, subst, ⊎_elim, arith}
+use Rattle.std.specs.Prelude.{Bool, IsTrue, ◌↔◌, ◌⊎◌}
+use Rattle.std.specs.declared.cmp.Ordering.{Ordering}
+use Rattle.std.specs.declared.cmp.Ordering.TheVariants.{Less, Equal, Greater}
+use Rattle.std.specs.Ordering.{eq_by_cmp, is_lt, is_eq, nat_cmp, on, ordering_reverse}
+use Rattle.std.specs.Cmp.Lexicographic.{slice_cmp}
+use Rattle.std.specs.List.{IsDistinct}
+use Rattle.std.specs.List.Sorted.{IsPermutation, IsSorted, IsStrictlySortedBy}
+use Rattle.std.proofs.lemmas.Bool.{cases_lt}
+use Rattle.std.proofs.lemmas.Cmp.{nat_list_cmp_total, eq_by_cmp_equiv}
+use Rattle.std.proofs.lemmas.List.{get_or-map, length-map}
+use Rattle.std.proofs.lemmas.List.Sorted.{IsPermutation-map, IsPermutation-sym}
+use Rattle.std.proofs.lemmas.Map.Keys.{Less-from_sorted, sorted_from_all_adjacent, IsDistinct-from_sorted, IsDistinct-IsPermutation, apart_from_distinct}
+use Rattle.plist_binary.proofs.Inserting.{same_key}
+
+-- each of the first n is below the next
+abbrev pub AscendTo : ℕ → List (List ℕ) → Type 0
+AscendTo n keys =
+    (k : ℕ) → k + 1 < n → slice_cmp nat_cmp (get_or keys k []) (get_or keys (k + 1) []) ≡ Less
+
+pub ascend_more : {A : Type 0} (g : A → List ℕ) (xs : List A) (i : ℕ) (d e : A) (answer : Bool) → 1 ≤ i → i < length xs → (IsTrue answer ↔ (slice_cmp nat_cmp (g (get_or xs (i - 1) d)) (g (get_or xs i e)) ≡ Less)) → answer ≡ true → AscendTo i (map g xs) → AscendTo (i + 1) (map g xs)
+ascend_more g xs i d e answer some within says is below k h =
+    let keys = map g xs in
+    let lower : get_or keys (i - 1) [] ≡ g (get_or xs (i - 1) d) = get_or-map g xs (i - 1) d [] (omega arith) in
+    let upper : get_or keys i [] ≡ g (get_or xs i e) = get_or-map g xs i e [] within in
+    let last : slice_cmp nat_cmp (get_or keys (i - 1) []) (get_or keys i []) ≡ Less = ap (λ us. slice_cmp nat_cmp us (get_or keys i [])) lower ∙ ap (λ us. slice_cmp nat_cmp (g (get_or xs (i - 1) d)) us) upper ∙ says.0 is in
+    ⊎_elim
+    (λ (before : k + 1 < i). below k before)
+    (λ (here : i ≤ k + 1).
+    let at : i ≡ k + 1 = omega arith in
+    let under : i - 1 ≡ k = omega arith in
+    subst (λ (n : ℕ). slice_cmp nat_cmp (get_or keys n []) (get_or keys (k + 1) []) ≡ Less) under (subst (λ (n : ℕ). slice_cmp nat_cmp (get_or keys (i - 1) []) (get_or keys n []) ≡ Less) at last))
+    (cases_lt (k + 1) i)
+
+pub not_ascending : {A : Type 0} (g : A → List ℕ) (xs : List A) (i : ℕ) (d e : A) (answer : Bool) → 1 ≤ i → i < length xs → (IsTrue answer ↔ (slice_cmp nat_cmp (g (get_or xs (i - 1) d)) (g (get_or xs i e)) ≡ Less)) → answer ≡ false → IsStrictlySortedBy (slice_cmp nat_cmp) (map g xs) → ⊥
+not_ascending g xs i d e answer some within says is sorted =
+    let less = Less-from_sorted (slice_cmp nat_cmp) (map g xs) (i - 1) i [] sorted (omega arith) (omega (arith, length-map xs g)) in
+    let lower : get_or (map g xs) (i - 1) [] ≡ g (get_or xs (i - 1) d) = get_or-map g xs (i - 1) d [] (omega arith) in
+    let upper : get_or (map g xs) i [] ≡ g (get_or xs i e) = get_or-map g xs i e [] within in
+    let told = says.1 (sym (ap (λ us. slice_cmp nat_cmp us (g (get_or xs i e))) lower) ∙ sym (ap (λ us. slice_cmp nat_cmp (get_or (map g xs) (i - 1) []) us) upper) ∙ less) in
+    cc
+
+pub sorted_from_ascent : (keys : List (List ℕ)) → AscendTo (length keys) keys → IsStrictlySortedBy (slice_cmp nat_cmp) keys
+sorted_from_ascent keys up = sorted_from_all_adjacent nat_list_cmp_total keys [] up
+
+turned : (o p : Ordering) → o ≡ ordering_reverse p → is_lt p ≡ false → is_eq o ≡ false → o ≡ Less
+turned o Less is order apart = absurd (cc)
+turned o Equal is order apart = absurd (cc)
+turned o Greater is order apart = is
+
+less_from : (a b : List ℕ) → is_lt (slice_cmp nat_cmp b a) ≡ false → same_key a b ≡ false → slice_cmp nat_cmp a b ≡ Less
+less_from a b order apart =
+    turned (slice_cmp nat_cmp a b) (slice_cmp nat_cmp b a) (nat_list_cmp_total.antisymm a b) order apart
+
+strict_from : {A : Type 0} (g : A → List ℕ) (xs : List A) (d : A) → IsSorted (on g (slice_cmp nat_cmp)) xs → IsDistinct same_key (map g xs) → IsStrictlySortedBy (slice_cmp nat_cmp) (map g xs)
+strict_from g xs d order distinct =
+    let keys = map g xs in
+    let long = length-map xs g in
+    sorted_from_ascent keys (λ k h.
+    let lower : get_or keys k [] ≡ g (get_or xs k d) = get_or-map g xs k d [] (omega arith) in
+    let upper : get_or keys (k + 1) [] ≡ g (get_or xs (k + 1) d) = get_or-map g xs (k + 1) d [] (omega arith) in
+    less_from (get_or keys k []) (get_or keys (k + 1) [])
+    (ap (λ us. is_lt (slice_cmp nat_cmp us (get_or keys k []))) upper ∙ ap (λ us. is_lt (slice_cmp nat_cmp (g (get_or xs (k + 1) d)) us)) lower ∙ order k d (omega arith) (omega arith))
+    (apart_from_distinct same_key keys k (k + 1) [] distinct (omega arith) h))
+
+-- texts in order, of which no two are equal, ascend
+pub ascent_from_distinct : {A : Type 0} (g : A → List ℕ) (xs : List A) → IsSorted (on g (slice_cmp nat_cmp)) xs → IsDistinct same_key (map g xs) → IsStrictlySortedBy (slice_cmp nat_cmp) (map g xs)
+unfolding IsStrictlySortedBy
+ascent_from_distinct g [] order distinct = tt
+ascent_from_distinct g (x ∷ xs) order distinct = strict_from g (x ∷ xs) x order distinct
+
+pub distinct_from_ascent : (keys : List (List ℕ)) → IsStrictlySortedBy (slice_cmp nat_cmp) keys → IsDistinct same_key keys
+distinct_from_ascent keys sorted = IsDistinct-from_sorted (slice_cmp nat_cmp) keys sorted
+
+-- in another order
+pub distinct_moved : {A : Type 0} (g : A → List ℕ) (xs ys : List A) → IsPermutation xs ys → IsDistinct same_key (map g xs) → IsDistinct same_key (map g ys)
+distinct_moved g xs ys moved distinct =
+    IsDistinct-IsPermutation same_key (eq_by_cmp_equiv nat_list_cmp_total).symm (map g xs) (map g ys) (IsPermutation-map g xs ys moved) distinct

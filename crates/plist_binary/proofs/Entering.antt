@@ -1,0 +1,146 @@
+-- Why a reference to an object is refused before the object is looked at, or for the object's own fault.
+use Rattle.std.proofs.Common.{◌≡◌, ℕ, suc, ◌+◌, ◌-◌, ◌<◌, ◌≤◌, ◌==◌, List, [], ◌∷◌, length, slice_index, Ok, Err, true, false, refl, sym, ap, ◌∙◌, subst, ⊎_elim, inl, inr, arith}
+use Rattle.std.specs.Prelude.{◌⊎◌, ◌≢◌, ⊤, Result}
+use Rattle.std.proofs.Math.Dec.{eqb}
+use Rattle.std.proofs.lemmas.Bool.Decides.{eqb_tells}
+use Rattle.std.specs.List.{Contains, list_any, sum_by}
+use Rattle.plist_value.specs.Plist.{Plist, scalar, list, table, IsPlist}
+use Rattle.plist_value.specs.Limits.{nodes, depth, payload}
+use Rattle.plist_value.specs.declared.TheConstants.{MAX_DEPTH}
+use Rattle.plist_object.specs.declared.object.ObjectFault.{ObjectFault}
+use Rattle.plist_object.specs.declared.object.ObjectFault.TheVariants as object
+use Rattle.plist_object.specs.Layout.{IsLaid, trailer_of}
+use Rattle.plist_object.specs.Objects.{Held}
+use Rattle.plist_object.specs.Places.{Holds, what_holds}
+use Rattle.plist_object.specs.Spelled.{Spells}
+use Rattle.plist_object.specs.Ascending.{Among, Contains-among}
+use Rattle.plist_object.specs.Uniqueness.{same_value}
+use Rattle.plist_binary.specs.declared.budget.Budget.{Budget}
+use Rattle.plist_binary.specs.declared.fault.BinaryFault.{BinaryFault}
+use Rattle.plist_binary.specs.declared.fault.BinaryFault.TheVariants.{Cycle, TooDeep, TooManyNodes}
+use Rattle.plist_binary.specs.Budgets.{Affords}
+use Rattle.plist_binary.specs.Codes.{placed}
+use Rattle.plist_binary.specs.Faults.{StandsWithin, IsFaulty}
+use Rattle.plist_binary.specs.Paths.{Refers, Leads, EndsPath}
+use Rattle.plist_binary.specs.Reach.{reach, nodes_reached, payload_reached, references_read, to_objects}
+use Rattle.plist_binary.specs.Readings.{Refuses}
+use Rattle.plist_binary.proofs.Descents.{descends, SpellsBelow}
+use Rattle.plist_binary.proofs.Held.{Spells-held}
+use Rattle.plist_binary.proofs.Reaching.{reach-next}
+
+pub some_node : (v : Plist) → 1 ≤ nodes v
+some_node (scalar s) = omega arith
+some_node (list vs) = omega arith
+some_node (table ps) = omega arith
+
+pub some_level : (v : Plist) → 1 ≤ depth v
+some_level (scalar s) = omega arith
+some_level (list vs) = omega arith
+some_level (table ps) = omega arith
+
+-- an object on the path to i spells more than i does
+path_descends : (f containers : List ℕ) (i j : ℕ) (v : Plist) → IsPlist v → Spells f j v → Leads f containers i → Among j containers → (most : ℕ) → nodes v ≤ suc most → SpellsBelow f i most
+path_descends f [] i j v valid spells leads among most few = absurd among
+path_descends f (c ∷ containers) i j v valid spells leads among most few =
+    ⊎_elim
+    (λ (same : j ≡ c).
+    descends f c i v valid (subst (λ (k : ℕ). Spells f k v) same spells) leads.0 most few)
+    (λ (later : Among j containers).
+    let above = path_descends f containers c j v valid spells leads.1 later most few in
+    descends f c i above.value above.valid above.spells leads.0 most (omega (arith, above.few)))
+    among
+
+-- an object on a path to itself spells nothing
+cycle_spells_none : (f containers : List ℕ) (i : ℕ) (v : Plist) → Leads f containers i → Among i containers → IsPlist v → Spells f i v → ⊥
+cycle_spells_none f containers i v leads among valid spells =
+    let some = some_node v in
+    let few : nodes v ≤ suc (nodes v - 1) = omega arith in
+    let below = path_descends f containers i i v valid spells leads among (nodes v - 1) few in
+    let same = same_value f i v below.value valid below.valid spells below.spells in
+    let fewer : nodes v ≤ nodes v - 1 = subst (λ (w : Plist). nodes w ≤ nodes v - 1) (sym same) below.few in
+    omega arith
+
+found_among : (xs : List ℕ) (i : ℕ) → list_any (λ x. x == i) xs ≡ true → Among i xs
+found_among [] i found = absurd (cc)
+found_among (x ∷ xs) i found =
+    ⊎_elim
+    (λ (same : (eqb x i ≡ true) × (x ≡ i)). inl (sym same.1))
+    (λ (apart : (eqb x i ≡ false) × (x ≢ i)). inr (found_among xs i (rw apart.0 at found)))
+    (eqb_tells x i)
+
+pub Refuses-cycle : (f before : List ℕ) (container i levels : ℕ) (left : Budget) → IsLaid f → Leads f (container ∷ before) i → list_any (λ x. x == i) (container ∷ before) ≡ true → Refuses f i levels left (Cycle container)
+Refuses-cycle f before container i levels left laid leads found =
+    let among = found_among (container ∷ before) i found in
+    record {
+      stands = record {
+        ends = record {
+          laid = laid;
+          before = before;
+          leads = leads.1;
+        };
+        reference = i;
+        refers = leads.0;
+        on_path = Contains-among i (container ∷ before) among;
+      };
+      none = λ _ v valid spells deep affords. cycle_spells_none f (container ∷ before) i v leads among valid spells;
+    }
+
+pub Refuses-nodes : (f before : List ℕ) (i levels : ℕ) (left : Budget) → IsLaid f → Leads f before i → left.nodes ≡ 0 → Refuses f i levels left (TooManyNodes i)
+Refuses-nodes f before i levels left laid leads none_left =
+    record {
+      stands = record {
+        ends = record {
+          laid = laid;
+          before = before;
+          leads = leads;
+        };
+        above = rw (reach-next (λ _. 1) f levels i) (omega arith);
+      };
+      none = λ _ v valid spells deep affords. omega (arith, some_node v, affords.nodes_there);
+    }
+
+pub Refuses-depth : (f before : List ℕ) (i levels : ℕ) (left : Budget) → IsLaid f → Leads f before i → length before + levels ≡ MAX_DEPTH → levels ≡ 0 → Refuses f i levels left (TooDeep i)
+Refuses-depth f before i levels left laid leads depth_left none_left =
+    record {
+      stands = record {
+        ends = record {
+          laid = laid;
+          before = before;
+          leads = leads;
+        };
+        long = omega arith;
+      };
+      none = λ _ v valid spells deep affords. omega (arith, some_level v);
+    }
+
+-- an object with a fault spells nothing
+faulty_spells_none : (f : List ℕ) (i : ℕ) (e : ObjectFault) (v : Plist) → what_holds f i ≡ Err e → Spells f i v → ⊥
+faulty_spells_none f i e v fails spells =
+    let held = Spells-held f i v spells in
+    let reads = held.1.reads in
+    cc
+
+own_fault : (f : List ℕ) (i nodes payload met_nodes met_payload : ℕ) (e : ObjectFault) → IsFaulty f i e → StandsWithin f nodes payload met_nodes met_payload (placed i e)
+own_fault f i n p m q object.BadOffset faulty = faulty
+own_fault f i n p m q object.CutObject faulty = faulty
+own_fault f i n p m q object.BadMarker faulty = faulty
+own_fault f i n p m q object.NullObject faulty = faulty
+own_fault f i n p m q object.UidObject faulty = faulty
+own_fault f i n p m q object.SetObject faulty = faulty
+own_fault f i n p m q object.NotAscii faulty = faulty
+own_fault f i n p m q object.WideInteger faulty = faulty
+
+pub Refuses-object : (f before : List ℕ) (i levels : ℕ) (left : Budget) (e : ObjectFault) → IsLaid f → i < (trailer_of f).count → Leads f before i → what_holds f i ≡ Err e → Refuses f i levels left (placed i e)
+Refuses-object f before i levels left e laid listed leads fails =
+    record {
+      stands = own_fault f i left.nodes left.payload (nodes_reached f (1 + levels) i) (payload_reached f (1 + levels) i) e record {
+        ends = record {
+          laid = laid;
+          before = before;
+          leads = leads;
+        };
+        listed = listed;
+        fails = fails;
+      };
+      none = λ _ v valid spells deep affords. faulty_spells_none f i e v fails spells;
+    }

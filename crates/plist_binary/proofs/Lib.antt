@@ -1,0 +1,15 @@
+pub mod Ascents
+pub mod Descents
+pub mod Entering
+pub mod Held
+pub mod Inserting
+pub mod ItemSteps
+pub mod KeySteps
+pub mod LoopSteps
+pub mod Making
+pub mod Paired
+pub mod Reaching
+pub mod Rows
+pub mod Sequences
+pub mod Shown
+pub mod TableSteps

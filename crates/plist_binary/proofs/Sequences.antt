@@ -1,0 +1,86 @@
+-- Items that references spell in turn, one more and one after another.
+use Rattle.std.proofs.Common.{◌≡◌, ℕ, ◌+◌, ◌≤◌, max, List, [], ◌∷◌, ◌++◌, refl, sym, ap, ◌∙◌, subst, arith}
+use Rattle.std.proofs.lemmas.List.{map-append}
+use Rattle.std.specs.Prelude.{map}
+use Rattle.plist_value.specs.declared.value.Value.{Value}
+use Rattle.plist_value.specs.Plist.{Plist, Items, no_items, item, IsPlist, AreItems}
+use Rattle.plist_value.specs.Limits.{nodes, depth, payload, nodes_of_items, depth_of_items, payload_of_items}
+use Rattle.plist_value.specs.View.{view, view_items, items_of}
+use Rattle.plist_object.specs.Spelled.{Spells, SpellItems}
+
+-- the items, and one more
+abbrev pub push : Items → Plist → Items
+push no_items v = item v no_items
+push (item w vs) v = item w (push vs v)
+
+items_of-push : (vs : List Plist) (v : Plist) → items_of (vs ++ v ∷ []) ≡ push (items_of vs) v
+items_of-push [] v = refl
+items_of-push (w ∷ vs) v = ap (item w) (items_of-push vs v)
+
+pub view_items-push : (vs : List Value) (v : Value) → view_items (vs ++ v ∷ []) ≡ push (view_items vs) (view v)
+view_items-push vs v =
+    ap items_of (map-append view vs (v ∷ [])) ∙ items_of-push (map view vs) (view v)
+
+pub SpellItems-push : (f xs : List ℕ) (vs : Items) (i : ℕ) (v : Plist) → SpellItems f xs vs → Spells f i v → SpellItems f (xs ++ i ∷ []) (push vs v)
+SpellItems-push f [] no_items i v spell one = (one, refl)
+SpellItems-push f (x ∷ xs) no_items i v spell one = absurd (let none : x ∷ xs ≡ [] = spell in cc)
+SpellItems-push f [] (item w vs) i v spell one = absurd spell
+SpellItems-push f (x ∷ xs) (item w vs) i v spell one =
+    (spell.0, SpellItems-push f xs vs i v spell.1 one)
+
+pub AreItems-push : (vs : Items) (v : Plist) → AreItems vs → IsPlist v → AreItems (push vs v)
+AreItems-push no_items v valid one = (one, tt)
+AreItems-push (item w vs) v valid one = (valid.0, AreItems-push vs v valid.1 one)
+
+pub nodes-push : (vs : Items) (v : Plist) → nodes_of_items (push vs v) ≡ nodes_of_items vs + nodes v
+nodes-push no_items v = omega arith
+nodes-push (item w vs) v = omega (arith, nodes-push vs v)
+
+pub payload-push : (vs : Items) (v : Plist) → payload_of_items (push vs v) ≡ payload_of_items vs + payload v
+payload-push no_items v = omega arith
+payload-push (item w vs) v = omega (arith, payload-push vs v)
+
+pub depth-push : (vs : Items) (v : Plist) (levels : ℕ) → depth_of_items vs ≤ levels → depth v ≤ levels → depth_of_items (push vs v) ≤ levels
+depth-push no_items v levels deep one = omega arith
+depth-push (item w vs) v levels deep one =
+    omega (arith, depth-push vs v levels (omega arith) one)
+
+-- the items that the references of two lists spell, taken apart
+pub record Parts (f xs ys : List ℕ) (ws : Items) : Type 0 where
+  pub front : Items
+  pub back : Items
+  pub spell_front : SpellItems f xs front
+  pub spell_back : SpellItems f ys back
+  pub valid_front : AreItems front
+  pub valid_back : AreItems back
+  pub nodes_sum : nodes_of_items ws ≡ nodes_of_items front + nodes_of_items back
+  pub payload_sum : payload_of_items ws ≡ payload_of_items front + payload_of_items back
+  pub deep_back : depth_of_items back ≤ depth_of_items ws
+
+unfoldable pub take_apart : (f xs ys : List ℕ) (ws : Items) → SpellItems f (xs ++ ys) ws → AreItems ws → Parts f xs ys ws
+take_apart f [] ys ws spell valid = record {
+  front = no_items;
+  back = ws;
+  spell_front = refl;
+  spell_back = spell;
+  valid_front = tt;
+  valid_back = valid;
+  nodes_sum = omega arith;
+  payload_sum = omega arith;
+  deep_back = omega arith;
+}
+take_apart f (x ∷ xs) ys no_items spell valid =
+    absurd (let none : x ∷ (xs ++ ys) ≡ [] = spell in cc)
+take_apart f (x ∷ xs) ys (item w ws) spell valid =
+    let rest = take_apart f xs ys ws spell.1 valid.1 in
+    record {
+      front = item w rest.front;
+      back = rest.back;
+      spell_front = (spell.0, rest.spell_front);
+      spell_back = rest.spell_back;
+      valid_front = (valid.0, rest.valid_front);
+      valid_back = rest.valid_back;
+      nodes_sum = omega (arith, rest.nodes_sum);
+      payload_sum = omega (arith, rest.payload_sum);
+      deep_back = omega (arith, rest.deep_back);
+    }

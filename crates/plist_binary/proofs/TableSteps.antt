@@ -1,0 +1,267 @@
+-- A table, from its keys and its values in turn.
+use Rattle.std.proofs.Common.{◌≡◌, ℕ, zero, suc, ◌+◌, ◌*◌, ◌<◌, ◌≤◌, List, [], ◌∷◌, length, get_or, slice_index, map, true, false, refl, sym, ap, ◌∙◌, subst, ⊎_elim, inl, inr, arith}
+use Rattle.std.specs.Prelude.{◌⊎◌, Bool}
+use Rattle.std.specs.declared.cmp.Ordering.{Ordering}
+use Rattle.std.specs.declared.cmp.Ordering.TheVariants.{Less, Equal, Greater}
+use Rattle.std.specs.Ordering.{is_eq, nat_cmp}
+use Rattle.std.specs.Cmp.Lexicographic.{slice_cmp}
+use Rattle.std.specs.List.{AllByRecursion, IsDistinct, zip, sum_by}
+use Rattle.std.specs.List.Sorted.{IsPermutation, IsStrictlySortedBy}
+use Rattle.std.specs.Map.{keys_of}
+use Rattle.std.proofs.lemmas.List.Sorted.{IsPermutation-sym, IsPermutation-map, sum_by-IsPermutation}
+use Rattle.std.proofs.lemmas.Map.Keys.{IsDistinct-cons}
+use Rattle.std.proofs.lemmas.Map.Lookups.{exact_bytes}
+use Rattle.plist_value.specs.declared.value.Value.{Value}
+use Rattle.plist_value.specs.Plist.{text, Plist, scalar, Items, no_items, item, Pairs, IsPlist, AreItems, ArePairs}
+use Rattle.plist_value.specs.Limits.{nodes, depth, payload, nodes_of_items, depth_of_items, payload_of_items, nodes_of_pairs, depth_of_pairs, payload_of_pairs}
+use Rattle.plist_value.specs.View.{view, items_of, pairs_of, view_items, view_pairs}
+use Rattle.plist_object.specs.Layout.{IsLaid}
+use Rattle.plist_object.specs.Objects.{holds_scalar, holds_table}
+use Rattle.plist_object.specs.Places.{Holds}
+use Rattle.plist_object.specs.Spelled.{Spells, SpellItems, SpellPairs}
+use Rattle.plist_object.specs.Uniqueness.{same_items}
+use Rattle.plist_binary.specs.declared.budget.Budget.{Budget}
+use Rattle.plist_binary.specs.declared.fault.BinaryFault.{BinaryFault}
+use Rattle.plist_binary.specs.declared.fault.BinaryFault.TheVariants.{DuplicateKey, OutOfMemory}
+use Rattle.plist_binary.specs.Budgets.{Affords}
+use Rattle.plist_binary.specs.Faults.{StandsWithin}
+use Rattle.plist_binary.specs.Paths.{Leads}
+use Rattle.plist_binary.specs.Reach.{nodes_from, payload_from}
+use Rattle.plist_binary.specs.Readings.{ReadsItems, RefusesItems, texts, RefusesKeys, ReadsPairs, RefusesPairs}
+use Rattle.plist_binary.proofs.Ascents.{distinct_moved}
+use Rattle.plist_binary.proofs.Inserting.{same_key, zip-firsts, zip-seconds}
+use Rattle.plist_binary.proofs.Reaching.{widen}
+use Rattle.plist_binary.proofs.Rows.{pull, Row, AreRows, AreRows-moved, listed, nodes_of_pair, payload_of_pair, length-listed, AreRows-listed, nodes-listed, payload-listed, keys_distinct, row_keys, row_values, key_refs, value_refs, SpellItems-keys, SpellItems-values, nodes-rows, payload-rows, AreRows-items, SpellPairs-rows, ArePairs-rows, nodes-pairs_of, payload-pairs_of}
+
+-- the keys and the values of pairs, in the order of the file
+record Unsorted (f keys values : List ℕ) (levels : ℕ) (ps : Pairs) : Type 0 where
+  us : List (List ℕ)
+  vs : List Plist
+  spell_keys : SpellItems f keys (texts us)
+  spell_values : SpellItems f values (items_of vs)
+  valid_keys : AreItems (texts us)
+  valid_values : AreItems (items_of vs)
+  deep_keys : depth_of_items (texts us) ≤ levels
+  deep_values : depth_of_items (items_of vs) ≤ levels
+  nodes_sum : nodes_of_pairs ps ≡ nodes_of_items (texts us) + nodes_of_items (items_of vs)
+  payload_sum : payload_of_pairs ps ≡ payload_of_items (texts us) + payload_of_items (items_of vs)
+  distinct : IsDistinct same_key us
+
+unsort : (f keys values : List ℕ) (levels : ℕ) (rows : List (ℕ × ℕ)) (ps : Pairs) → length keys ≡ length values → IsPermutation (zip keys values) rows → SpellPairs f rows ps → ArePairs ps → depth_of_pairs ps ≤ levels → Unsorted f keys values levels ps
+unsort f keys values levels rows ps long moved spell valid deep =
+    let refs : Row → ℕ × ℕ = λ r. r.0 in
+    let shown : Row → List ℕ × Plist = λ r. r.1 in
+    let all = zip rows (listed ps) in
+    let rows_long = length-listed f rows ps spell in
+    let back = subst (λ (l : List (ℕ × ℕ)). IsPermutation l (zip keys values)) (sym (zip-firsts rows (listed ps) rows_long)) (IsPermutation-sym (zip keys values) rows moved) in
+    let pulled = pull refs all (zip keys values) back in
+    let rs = pulled.moved_list in
+    let good = AreRows-moved f levels all rs pulled.moved (AreRows-listed f levels rows ps spell valid deep) in
+    let pairs_moved = subst (λ (l : List (List ℕ × Plist)). IsPermutation l (map shown rs)) (zip-seconds rows (listed ps) rows_long) (IsPermutation-map shown all rs pulled.moved) in
+    let keys_are : key_refs rs ≡ keys = ap (map (λ (p : ℕ × ℕ). p.0)) pulled.maps ∙ zip-firsts keys values long in
+    let values_are : value_refs rs ≡ values = ap (map (λ (p : ℕ × ℕ). p.1)) pulled.maps ∙ zip-seconds keys values long in
+    let from_keys = SpellItems-keys f levels rs good in
+    let from_values = SpellItems-values f levels rs good in
+    record {
+      us = row_keys rs;
+      vs = row_values rs;
+      spell_keys = subst (λ (l : List ℕ). SpellItems f l (texts (row_keys rs))) keys_are from_keys.0;
+      spell_values = subst (λ (l : List ℕ). SpellItems f l (items_of (row_values rs))) values_are from_values.0;
+      valid_keys = from_keys.1;
+      valid_values = from_values.1;
+      deep_keys = from_keys.2;
+      deep_values = from_values.2;
+      nodes_sum = nodes-listed ps ∙ sym (sum_by-IsPermutation nodes_of_pair (listed ps) (map shown rs) pairs_moved) ∙ nodes-rows (map shown rs);
+      payload_sum = payload-listed ps ∙ sym (sum_by-IsPermutation payload_of_pair (listed ps) (map shown rs) pairs_moved) ∙ payload-rows (map shown rs);
+      distinct = distinct_moved (λ (p : List ℕ × Plist). p.0) (listed ps) (map shown rs) pairs_moved (keys_distinct ps valid);
+    }
+
+pub RefusesPairs-memory : (f keys values : List ℕ) (levels : ℕ) (left : Budget) → RefusesPairs f keys values levels left OutOfMemory
+RefusesPairs-memory f keys values levels left = record {
+  stands = tt;
+  none = λ unless. absurd (unless refl);
+}
+
+-- the keys are refused
+pub RefusesPairs-keys : (f keys values : List ℕ) (levels : ℕ) (left : Budget) (fault : BinaryFault) → length keys ≡ length values → RefusesKeys f keys levels left fault → RefusesPairs f keys values levels left fault
+RefusesPairs-keys f keys values levels left fault long refused = record {
+  stands = widen f left.nodes left.payload (nodes_from f (1 + levels) keys) (payload_from f (1 + levels) keys) left.nodes left.payload (nodes_from f (1 + levels) keys + nodes_from f (1 + levels) values) (payload_from f (1 + levels) keys + payload_from f (1 + levels) values) fault (λ h. omega arith) (λ h. omega arith) refused.stands;
+  none = λ unless rows ps moved spell valid deep affords.
+      let apart = unsort f keys values levels rows ps long moved spell valid deep in
+      refused.none unless apart.us apart.valid_keys apart.spell_keys apart.deep_keys record {
+        nodes_there = omega (arith, affords.nodes_there, apart.nodes_sum);
+        payload_there = omega (arith, affords.payload_there, apart.payload_sum);
+      };
+}
+
+-- the values are refused, behind keys that were read
+pub RefusesPairs-values : (f keys values : List ℕ) (levels : ℕ) (before left : Budget) (us : List (List ℕ)) (fault : BinaryFault) → length keys ≡ length values → ReadsItems f keys levels before (texts us) left → RefusesItems f values levels left fault → RefusesPairs f keys values levels before fault
+RefusesPairs-values f keys values levels before left us fault long read refused =
+    let nodes_met = read.met.nodes_met in
+    let payload_met = read.met.payload_met in
+    record {
+      stands = widen f left.nodes left.payload (nodes_from f (1 + levels) values) (payload_from f (1 + levels) values) before.nodes before.payload (nodes_from f (1 + levels) keys + nodes_from f (1 + levels) values) (payload_from f (1 + levels) keys + payload_from f (1 + levels) values) fault (λ h. omega arith) (λ h. omega arith) refused.stands;
+      none = λ unless rows ps moved spell valid deep affords.
+          let apart = unsort f keys values levels rows ps long moved spell valid deep in
+          let same = same_items f keys (texts apart.us) (texts us) apart.valid_keys read.valid apart.spell_keys read.spell in
+          let nodes_same = ap nodes_of_items same in
+          let payload_same = ap payload_of_items same in
+          refused.none unless (items_of apart.vs) apart.valid_values apart.spell_values apart.deep_values record {
+            nodes_there = omega (arith, affords.nodes_there, apart.nodes_sum, nodes_same, read.spent.nodes_left);
+            payload_there = omega (arith, affords.payload_there, apart.payload_sum, payload_same, read.spent.payload_left);
+          };
+    }
+
+-- two of the keys are equal
+record Twice (us : List (List ℕ)) : Type 0 where
+  first : ℕ
+  second : ℕ
+  apart : first < second
+  within : second < length us
+  same : get_or us first [] ≡ get_or us second []
+
+tied : (o : Ordering) → is_eq o ≡ true → o ≡ Equal
+tied Less is = absurd (cc)
+tied Equal is = refl
+tied Greater is = absurd (cc)
+
+occurs : (u : List ℕ) (us : List (List ℕ)) → AllByRecursion (λ w. same_key u w ≡ false) us ⊎ ((k : ℕ) × ((k < length us) × (get_or us k [] ≡ u)))
+occurs u [] = inl tt
+occurs u (w ∷ us) =
+    elim (same_key u w) as (λ b. same_key u w ≡ b → AllByRecursion (λ w. same_key u w ≡ false) (w ∷ us) ⊎ ((k : ℕ) × ((k < length (w ∷ us)) × (get_or (w ∷ us) k [] ≡ u)))) [
+      | true ↦ λ is. inr (zero, (omega arith, sym (exact_bytes u w (tied (slice_cmp nat_cmp u w) is))))
+      | false ↦ λ is.
+          ⊎_elim
+          (λ (none : AllByRecursion (λ w. same_key u w ≡ false) us). inl (is, none))
+          (λ (found : (k : ℕ) × ((k < length us) × (get_or us k [] ≡ u))). inr (suc found.0, (omega (arith, found.1.0), found.1.1)))
+          (occurs u us)
+    ] refl
+
+twice_or_distinct : (us : List (List ℕ)) → IsDistinct same_key us ⊎ Twice us
+unfolding IsDistinct
+twice_or_distinct [] = inl tt
+twice_or_distinct (u ∷ us) =
+    ⊎_elim
+    (λ (none : AllByRecursion (λ w. same_key u w ≡ false) us).
+    ⊎_elim
+    (λ (distinct : IsDistinct same_key us). inl (none, distinct))
+    (λ (found : Twice us). inr record {
+      first = suc found.first;
+      second = suc found.second;
+      apart = omega (arith, found.apart);
+      within = omega (arith, found.within);
+      same = found.same;
+    })
+    (twice_or_distinct us))
+    (λ (found : (k : ℕ) × ((k < length us) × (get_or us k [] ≡ u))). inr record {
+      first = zero;
+      second = suc found.0;
+      apart = omega arith;
+      within = omega (arith, found.1.0);
+      same = sym found.1.1;
+    })
+    (occurs u us)
+
+twice : (us : List (List ℕ)) → (IsDistinct same_key us → ⊥) → Twice us
+twice us not_distinct =
+    ⊎_elim (λ (distinct : IsDistinct same_key us). absurd (not_distinct distinct)) (λ (found : Twice us). found) (twice_or_distinct us)
+
+pub length-texts : (f keys : List ℕ) (us : List (List ℕ)) → SpellItems f keys (texts us) → length keys ≡ length us
+length-texts f [] [] spell = refl
+length-texts f (k ∷ keys) [] spell = absurd (let none : k ∷ keys ≡ [] = spell in cc)
+length-texts f [] (u ∷ us) spell = absurd spell
+length-texts f (k ∷ keys) (u ∷ us) spell = omega (arith, length-texts f keys us spell.1)
+
+pub length-items : (f refs : List ℕ) (vs : List Plist) → SpellItems f refs (items_of vs) → length refs ≡ length vs
+length-items f [] [] spell = refl
+length-items f (k ∷ refs) [] spell = absurd (let none : k ∷ refs ≡ [] = spell in cc)
+length-items f [] (v ∷ vs) spell = absurd spell
+length-items f (k ∷ refs) (v ∷ vs) spell = omega (arith, length-items f refs vs spell.1)
+
+key_held : (f keys : List ℕ) (us : List (List ℕ)) (k : ℕ) → k < length us → SpellItems f keys (texts us) → Holds f (slice_index keys k) (holds_scalar (text (get_or us k [])))
+key_held f keys [] k within spell = absurd (omega arith)
+key_held f [] (u ∷ us) k within spell = absurd spell
+key_held f (i ∷ keys) (u ∷ us) zero within spell = spell.0
+key_held f (i ∷ keys) (u ∷ us) (suc k) within spell = key_held f keys us k (omega arith) spell.1
+
+texts_same : (us ws : List (List ℕ)) → texts us ≡ texts ws → us ≡ ws
+texts_same [] [] same = refl
+texts_same [] (w ∷ ws) same = absurd (cc)
+texts_same (u ∷ us) [] same = absurd (cc)
+texts_same (u ∷ us) (w ∷ ws) same =
+    let rest : texts us ≡ texts ws = cc in
+    let others = texts_same us ws rest in
+    let first : u ≡ w = cc in
+    cc
+
+pub RefusesPairs-twice : (f containers keys values : List ℕ) (table levels : ℕ) (before left : Budget) (us : List (List ℕ)) → IsLaid f → Leads f containers table → Holds f table (holds_table keys values) → length keys ≡ length values → ReadsItems f keys levels before (texts us) left → (IsDistinct same_key us → ⊥) → RefusesPairs f keys values levels before (DuplicateKey table)
+RefusesPairs-twice f containers keys values table levels before left us laid leads holds long read not_distinct =
+    let found = twice us not_distinct in
+    record {
+      stands = record {
+        ends = record { laid = laid; before = containers; leads = leads };
+        keys = keys;
+        values = values;
+        holds = holds;
+        first = found.first;
+        second = found.second;
+        apart = found.apart;
+        within = omega (arith, found.within, length-texts f keys us read.spell);
+        units = get_or us found.second [];
+        first_reads = subst (λ (u : List ℕ). Holds f (slice_index keys found.first) (holds_scalar (text u))) found.same (key_held f keys us found.first (omega (arith, found.apart, found.within)) read.spell);
+        second_reads = key_held f keys us found.second found.within read.spell;
+      };
+      none = λ _ rows ps moved spell valid deep affords.
+          let apart = unsort f keys values levels rows ps long moved spell valid deep in
+          let same = same_items f keys (texts apart.us) (texts us) apart.valid_keys read.valid apart.spell_keys read.spell in
+          not_distinct (subst (λ (l : List (List ℕ)). IsDistinct same_key l) (texts_same apart.us us same) apart.distinct);
+    }
+
+-- keys and values that were read, and the pairs in the order of the keys
+pub ReadsPairs-sorted : (f keys values : List ℕ) (levels : ℕ) (before left after : Budget) (us : List (List ℕ)) (vs : List Plist) (ps : List (List ℕ × Plist)) → length keys ≡ length values → ReadsItems f keys levels before (texts us) left → ReadsItems f values levels left (items_of vs) after → IsPermutation (zip us vs) ps → IsStrictlySortedBy (slice_cmp nat_cmp) (keys_of ps) → ReadsPairs f keys values levels before (pairs_of ps) after
+ReadsPairs-sorted f keys values levels before left after us vs ps long read_keys read_values moved ascend =
+    let refs : Row → ℕ × ℕ = λ r. r.0 in
+    let shown : Row → List ℕ × Plist = λ r. r.1 in
+    let all = zip (zip keys values) (zip us vs) in
+    let both : length us ≡ length vs = omega (arith, length-texts f keys us read_keys.spell, length-items f values vs read_values.spell) in
+    let rows = AreRows-items f levels keys values us vs both read_keys.spell read_values.spell read_keys.valid read_values.valid read_keys.deep read_values.deep in
+    let to_pairs = subst (λ (l : List (List ℕ × Plist)). IsPermutation l ps) (sym (zip-seconds (zip keys values) (zip us vs) rows.1)) moved in
+    let pulled = pull shown all ps to_pairs in
+    let rs = pulled.moved_list in
+    let good = AreRows-moved f levels all rs pulled.moved rows.0 in
+    let rows_moved = subst (λ (l : List (ℕ × ℕ)). IsPermutation l (map refs rs)) (zip-firsts (zip keys values) (zip us vs) rows.1) (IsPermutation-map refs all rs pulled.moved) in
+    let are = ArePairs-rows f levels rs good (subst (λ (l : List (List ℕ × Plist)). IsStrictlySortedBy (slice_cmp nat_cmp) (keys_of l)) (sym pulled.maps) ascend) in
+    let nodes_all : nodes_of_pairs (pairs_of ps) ≡ nodes_of_items (texts us) + nodes_of_items (items_of vs) = nodes-pairs_of ps ∙ sum_by-IsPermutation nodes_of_pair (zip us vs) ps moved ∙ nodes-rows (zip us vs) ∙ ap (λ (l : List (List ℕ)). nodes_of_items (texts l) + nodes_of_items (items_of (map (λ (p : List ℕ × Plist). p.1) (zip us vs)))) (zip-firsts us vs both) ∙ ap (λ (l : List Plist). nodes_of_items (texts us) + nodes_of_items (items_of l)) (zip-seconds us vs both) in
+    let payload_all : payload_of_pairs (pairs_of ps) ≡ payload_of_items (texts us) + payload_of_items (items_of vs) = payload-pairs_of ps ∙ sum_by-IsPermutation payload_of_pair (zip us vs) ps moved ∙ payload-rows (zip us vs) ∙ ap (λ (l : List (List ℕ)). payload_of_items (texts l) + payload_of_items (items_of (map (λ (p : List ℕ × Plist). p.1) (zip us vs)))) (zip-firsts us vs both) ∙ ap (λ (l : List Plist). payload_of_items (texts us) + payload_of_items (items_of l)) (zip-seconds us vs both) in
+    record {
+      rows = map refs rs;
+      moved = rows_moved;
+      spell = subst (λ (l : List (List ℕ × Plist)). SpellPairs f (map refs rs) (pairs_of l)) pulled.maps (SpellPairs-rows f levels rs good);
+      valid = subst (λ (l : List (List ℕ × Plist)). ArePairs (pairs_of l)) pulled.maps are.0;
+      deep = subst (λ (l : List (List ℕ × Plist)). depth_of_pairs (pairs_of l) ≤ levels) pulled.maps are.1;
+      spent = record {
+        nodes_left = omega (arith, nodes_all, read_keys.spent.nodes_left, read_values.spent.nodes_left);
+        payload_left = omega (arith, payload_all, read_keys.spent.payload_left, read_values.spent.payload_left);
+      };
+      met = record {
+        nodes_met = omega (arith, read_keys.met.nodes_met, read_values.met.nodes_met);
+        payload_met = omega (arith, read_keys.met.payload_met, read_values.met.payload_met);
+      };
+    }
+
+zip-view : (us : List (List ℕ)) (vs : List Value) → map (λ (p : List ℕ × Value). (p.0, view p.1)) (zip us vs) ≡ zip us (map view vs)
+zip-view [] vs = refl
+zip-view (u ∷ us) [] = refl
+zip-view (u ∷ us) (v ∷ vs) = ap (λ l. (u, view v) ∷ l) (zip-view us vs)
+
+keys-view : (es : List (List ℕ × Value)) → keys_of (map (λ (p : List ℕ × Value). (p.0, view p.1)) es) ≡ keys_of es
+keys-view [] = refl
+keys-view (e ∷ es) = ap (λ l. e.0 ∷ l) (keys-view es)
+
+-- the same, of the map's entries
+pub ReadsPairs-entries : (f keys values : List ℕ) (levels : ℕ) (before left after : Budget) (us : List (List ℕ)) (vs : List Value) (es : List (List ℕ × Value)) → length keys ≡ length values → ReadsItems f keys levels before (texts us) left → ReadsItems f values levels left (view_items vs) after → IsPermutation (zip us vs) es → IsStrictlySortedBy (slice_cmp nat_cmp) (keys_of es) → ReadsPairs f keys values levels before (view_pairs es) after
+ReadsPairs-entries f keys values levels before left after us vs es long read_keys read_values moved ascend =
+    let seen : List ℕ × Value → List ℕ × Plist = λ p. (p.0, view p.1) in
+    ReadsPairs-sorted f keys values levels before left after us (map view vs) (map seen es) long read_keys read_values
+    (subst (λ (l : List (List ℕ × Plist)). IsPermutation l (map seen es)) (zip-view us vs) (IsPermutation-map seen (zip us vs) es moved))
+    (subst (λ (l : List (List ℕ)). IsStrictlySortedBy (slice_cmp nat_cmp) l) (sym (keys-view es)) ascend)

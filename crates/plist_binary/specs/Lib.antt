@@ -1,0 +1,10 @@
+pub use Rattle.plist_value.specs.Plist
+pub use Rattle.plist_value.specs.View
+pub use Rattle.plist_object.specs.Layout
+pub use Rattle.plist_object.specs.Spelled
+pub mod Codes
+pub mod Paths
+pub mod Reach
+pub mod Faults
+pub mod Budgets
+pub mod Readings

@@ -1,0 +1,50 @@
+-- Paths through a file, from its top.
+use Rattle.std.specs.Prelude.{◌≡◌, ℕ, List, [], ◌∷◌, ◌++◌}
+use Rattle.std.specs.List.{Contains}
+use Rattle.plist_object.specs.Layout.{trailer_of, IsLaid}
+use Rattle.plist_object.specs.Objects.{Held, holds_scalar, holds_list, holds_table}
+use Rattle.plist_object.specs.Places.{Holds}
+use Rattle.plist_binary.specs.declared.path.Path.{Path, Above, In'}
+
+-- the references that an object holds: a list's to its items; a table's to its keys, then to their values
+abbrev pub references_in : Held → List ℕ
+references_in (holds_scalar s) = []
+references_in (holds_list refs) = refs
+references_in (holds_table keys values) = keys ++ values
+
+-- the object j holds a reference to i
+pub record Refers (f : List ℕ) (j i : ℕ) : Type 0 where
+  pub held : Held
+  pub holds : Holds f j held
+  pub among : Contains (references_in held) i
+
+-- the objects, the last first, lead from the top to i: each refers to the next, and the last one to i
+abbrev pub Leads : List ℕ → List ℕ → ℕ → Type 0
+Leads f [] i = i ≡ (trailer_of f).top
+Leads f (j ∷ before) i = Refers f j i × Leads f before j
+
+-- i ends a path from the top, with these objects before it
+pub record EndsPath (f : List ℕ) (i : ℕ) : Type 0 where
+  pub laid : IsLaid f
+  pub before : List ℕ
+  pub leads : Leads f before i
+
+-- the containers that a `Path` shows
+abbrev pub containers_of : Path → List ℕ
+containers_of Above = []
+containers_of (In' container at before) = container ∷ containers_of before
+
+-- the object j holds each of the references
+abbrev pub AllRefer : List ℕ → ℕ → List ℕ → Type 0
+AllRefer f j refs = (i : ℕ) → Contains refs i → Refers f j i
+
+-- the object j holds a table, and these are its references to keys
+pub record HasKeys (f : List ℕ) (j : ℕ) (keys : List ℕ) : Type 0 where
+  pub values : List ℕ
+  pub holds : Holds f j (holds_table keys values)
+
+-- the object j holds a table, and i is one of its references to keys
+pub record IsKeyOf (f : List ℕ) (j i : ℕ) : Type 0 where
+  pub keys : List ℕ
+  pub table : HasKeys f j keys
+  pub among : Contains keys i
