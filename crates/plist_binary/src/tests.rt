@@ -345,7 +345,7 @@ fn heavy_data(rt: HostRuntime) -> Result<(), Fail> {
     Ok(())
 }
 
-// Row by row with memory refused: run each test with `--fail-alloc N`, N from 1 on.
+// To refuse memory run this with `--fail-alloc N`, N from 1 on.
 #[test]
 fn want_of_memory_changes_no_answer(rt: HostRuntime) -> Result<(), Fail> {
     let shared =
@@ -371,6 +371,9 @@ fn tower(rt: HostRuntime) -> Result<(), Fail> {
     draft.put(b"\xa0")?;
     let octets = draft.finish(1, 1)?;
     assert_eq!(rt; octets.len(), 162);
-    assert_eq!(rt; refusal(alloc, octets), Some(BinaryFault::TooManyNodes { object: 29 }));
+    assert_eq!(rt;
+        refusal(alloc, octets),
+        Some(BinaryFault::TooManyNodes { object: 29 })
+    );
     Ok(())
 }
