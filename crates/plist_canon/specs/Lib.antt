@@ -10,3 +10,5 @@ pub mod Sink
 pub mod Sending
 pub mod ListSink
 pub mod Laws
+pub mod Rules
+pub mod Locality

@@ -1,0 +1,125 @@
+-- The eight rules of a canonical file (our profile). Each speaks of a laid file alone.
+use Rattle.std.specs.Prelude.{◌≡◌, ◌≢◌, ◌⊎◌, ℕ, suc, ◌<◌, List, [], ◌∷◌, ◌++◌, replicate, Ok, IsOk}
+use Rattle.std.specs.List.{AllByRecursion}
+use Rattle.std.specs.List.Sorted.{IsStrictlySortedBy}
+use Rattle.std.specs.Ordering.{nat_cmp}
+use Rattle.std.specs.Cmp.Lexicographic.{slice_cmp}
+use Rattle.plist_value.specs.Plist.{Scalar, text, Plist, IsPlist}
+use Rattle.plist_value.specs.Limits.{Fits}
+use Rattle.plist_object.specs.Layout.{trailer_of, slack_of}
+use Rattle.plist_object.specs.Objects.{Held, holds_scalar, holds_list, holds_table}
+use Rattle.plist_object.specs.Places.{Holds, object_at, what_holds, span_of}
+use Rattle.plist_object.specs.Spelled.{Spells}
+use Rattle.plist_object.specs.Spelling.{least_width}
+use Rattle.plist_object.specs.Shortest.{IsShortest}
+
+-- the references of a table to its keys
+abbrev pub keys_of : Held → List ℕ
+keys_of (holds_scalar s) = []
+keys_of (holds_list refs) = []
+keys_of (holds_table keys values) = keys
+
+-- all references that an object holds, in the order of the file
+abbrev pub refs_of : Held → List ℕ
+refs_of (holds_scalar s) = []
+refs_of (holds_list refs) = refs
+refs_of (holds_table keys values) = keys ++ values
+
+abbrev pub HoldsScalar : List ℕ → ℕ → Type 0
+HoldsScalar f i = (s : Scalar) × Holds f i (holds_scalar s)
+
+abbrev pub HoldsText : List ℕ → ℕ → Type 0
+HoldsText f i = (units : List ℕ) × Holds f i (holds_scalar (text units))
+
+-- the references name these texts in turn
+abbrev pub HoldTexts : List ℕ → List ℕ → List (List ℕ) → Type 0
+HoldTexts f refs [] = refs ≡ []
+HoldTexts f [] (units ∷ texts) = ⊥
+HoldTexts f (i ∷ refs) (units ∷ texts) = Holds f i (holds_scalar (text units)) × HoldTexts f refs texts
+
+-- The object i reads, each of its references is the number of an object, and those to keys name texts.
+pub record IsWellRead (f : List ℕ) (i : ℕ) : Type 0 where
+  pub held : Held
+  pub holds : Holds f i held
+  pub numbers : AllByRecursion (λ reference. reference < (trailer_of f).count) (refs_of held)
+  pub texts : AllByRecursion (HoldsText f) (keys_of held)
+
+-- C0: every object is well read, and the value that object 0 spells is within the limits.
+pub record ReadsWithinLimits (f : List ℕ) : Type 0 where
+  pub read : (i : ℕ) → i < (trailer_of f).count → IsWellRead f i
+  pub fits : (v : Plist) → IsPlist v → Spells f 0 v → Fits v
+
+-- C1: the first six octets of the trailer are zero, and the top object is 0.
+pub record HasPlainTrailer (f : List ℕ) : Type 0 where
+  pub slack : slack_of f ≡ replicate 6 0
+  pub top : (trailer_of f).top ≡ 0
+
+-- C2: offsets and references have the least widths.
+pub record HasLeastWidths (f : List ℕ) : Type 0 where
+  pub offset : (trailer_of f).offset_width ≡ least_width (trailer_of f).table
+  pub reference : (trailer_of f).reference_width ≡ least_width (trailer_of f).count
+
+-- C3 at i: the first object begins behind the header, each other one where the one before it ends, and the last one
+-- ends where the offset table begins. The rule holds at i where an object that it speaks of does not read.
+pub record Adjoins (f : List ℕ) (i : ℕ) : Type 0 where
+  pub first : (start end : ℕ) → i ≡ 0 → span_of f i ≡ Ok (start, end) → start ≡ 8
+  pub next : (before start middle begin end : ℕ) → i ≡ suc before → span_of f before ≡ Ok (start, middle) → span_of f i ≡ Ok (begin, end) → begin ≡ middle
+  pub last : (start end : ℕ) → suc i ≡ (trailer_of f).count → span_of f i ≡ Ok (start, end) → end ≡ (trailer_of f).table
+
+-- C4 at i: where the object i reads, its octets are the canonical spelling of what it holds.
+abbrev pub IsSpelledCanonically : List ℕ → ℕ → Type 0
+IsSpelledCanonically f i = IsOk (object_at f i) → IsShortest f i
+
+-- C5 at i: where the object i is a table and its keys are texts, each key is below the next, unit by unit.
+abbrev pub HasAscendingKeys : List ℕ → ℕ → Type 0
+HasAscendingKeys f i =
+    (keys values : List ℕ) (texts : List (List ℕ)) → what_holds f i ≡ Ok (holds_table keys values) → HoldTexts f keys texts → IsStrictlySortedBy (slice_cmp nat_cmp) texts
+
+-- C6 at i: no earlier object holds the scalar that the object i holds.
+abbrev pub IsNoRepeat : List ℕ → ℕ → Type 0
+IsNoRepeat f i =
+    (s : Scalar) → what_holds f i ≡ Ok (holds_scalar s) → (earlier : ℕ) → earlier < i → what_holds f earlier ≢ Ok (holds_scalar s)
+
+-- The walk from the object i in preorder: i itself, and then the walks from its references in turn.
+mutual
+  pub data Walk (f : List ℕ) : ℕ → List ℕ → Type 0 where
+    visit : (i : ℕ) (held : Held) (entries : List ℕ) → Holds f i held → Walks f (refs_of held) entries → Walk f i (i ∷ entries)
+
+  pub data Walks (f : List ℕ) : List ℕ → List ℕ → Type 0 where
+    end : Walks f [] []
+    step : (i : ℕ) (refs entries others : List ℕ) → Walk f i entries → Walks f refs others → Walks f (i ∷ refs) (entries ++ others)
+
+-- Where the objects below `met` were met and no other, each entry is the next number not yet met, or the number of
+-- a scalar already met; then the objects below `after` were met.
+abbrev pub MeetsInOrder : List ℕ → ℕ → List ℕ → ℕ → Type 0
+MeetsInOrder f met [] after = met ≡ after
+MeetsInOrder f met (entry ∷ entries) after =
+    ((entry ≡ met) × MeetsInOrder f (suc met) entries after) ⊎ ((entry < met) × HoldsScalar f entry × MeetsInOrder f met entries after)
+
+-- C7: the walk from object 0 meets all objects in the order of their numbers, and only scalars again.
+pub record IsNumberedInPreorder (f : List ℕ) : Type 0 where
+  pub entries : List ℕ
+  pub walk : Walk f 0 entries
+  pub order : MeetsInOrder f 0 entries (trailer_of f).count
+
+-- all eight
+pub record FollowsRules (f : List ℕ) : Type 0 where
+  pub reads_within_limits : ReadsWithinLimits f
+  pub plain_trailer : HasPlainTrailer f
+  pub least_widths : HasLeastWidths f
+  pub adjoins : (i : ℕ) → i < (trailer_of f).count → Adjoins f i
+  pub spelled_canonically : (i : ℕ) → i < (trailer_of f).count → IsSpelledCanonically f i
+  pub ascending_keys : (i : ℕ) → i < (trailer_of f).count → HasAscendingKeys f i
+  pub no_repeat : (i : ℕ) → i < (trailer_of f).count → IsNoRepeat f i
+  pub numbered_in_preorder : IsNumberedInPreorder f
+
+-- The rule of this number is false of the file: C1 and C2 at object 0, those from C3 to C6 at the object.
+pub data IsBroken (f : List ℕ) : ℕ → ℕ → Type 0 where
+  breaks_c0 : (i : ℕ) → ¬ ReadsWithinLimits f → IsBroken f 0 i
+  breaks_c1 : ¬ HasPlainTrailer f → IsBroken f 1 0
+  breaks_c2 : ¬ HasLeastWidths f → IsBroken f 2 0
+  breaks_c3 : (i : ℕ) → i < (trailer_of f).count → ¬ Adjoins f i → IsBroken f 3 i
+  breaks_c4 : (i : ℕ) → i < (trailer_of f).count → ¬ IsSpelledCanonically f i → IsBroken f 4 i
+  breaks_c5 : (i : ℕ) → i < (trailer_of f).count → ¬ HasAscendingKeys f i → IsBroken f 5 i
+  breaks_c6 : (i : ℕ) → i < (trailer_of f).count → ¬ IsNoRepeat f i → IsBroken f 6 i
+  breaks_c7 : (i : ℕ) → ¬ IsNumberedInPreorder f → IsBroken f 7 i
