@@ -16,3 +16,9 @@ pub mod Found
 pub mod Parts
 pub mod Sends
 pub mod Chunks
+pub mod Pieced
+pub mod Occupied
+pub mod Kept
+pub mod Trailed
+pub mod Filed
+pub mod Formed
