@@ -16,3 +16,7 @@ pub mod Found
 pub mod Parts
 pub mod Sends
 pub mod Chunks
+pub mod HeldRanges
+pub mod Entries
+pub mod KeyPairs
+pub mod WalkTrees
