@@ -20,3 +20,4 @@ pub mod HeldRanges
 pub mod Entries
 pub mod KeyPairs
 pub mod WalkTrees
+pub mod Forced

@@ -9,6 +9,8 @@ use Rattle.plist_object.specs.Objects.{Held, holds_scalar, holds_list, holds_tab
 use Rattle.plist_object.specs.Places.{Holds}
 use Rattle.plist_object.specs.Spelled.{Spells}
 use Rattle.plist_canon.specs.Rules.{keys_of, refs_of, HoldsText, HoldTexts, IsWellRead, HasAscendingKeys, Walk, visit, Walks, end, step}
+use Rattle.plist_canon.specs.Plan.{held_at}
+use Rattle.plist_canon.specs.Sharing.{value_at}
 use Rattle.plist_canon.specs.Tree.{key_texts, preorder, preorder_items, preorder_values, item_places, key_places, value_places}
 use Rattle.plist_canon.proofs.Trees.{length-preorder, length-key_places, Stands-all}
 use Rattle.plist_canon.proofs.Sizes.{item_count}
@@ -186,6 +188,19 @@ module _ (f : List ℕ) (i : ℕ) (keys values entries : List ℕ) (octets : Are
     same_scalar = λ t other. let same = Holds-same f i (holds_table keys values) (holds_scalar t) holds other in cc;
   }
 
+-- with the entries of the walk as numbers, the object of each place holds what stands there
+pub held-walked : (f : List ℕ) (i : ℕ) (entries : List ℕ) (tree : WalkedTree f i entries) (k : ℕ) (v : Plist) → value_at (preorder tree.value) k ≡ v → k < length (preorder tree.value) → Holds f (get_or entries k 0) (held_at (λ j. get_or entries j 0) k v)
+held-walked f i entries tree k v at below =
+    let number : ℕ → ℕ = λ j. get_or entries j 0 in
+    rw at at (PlacesHold-at f number 0 k k (preorder tree.value) (tree.reads number 0 (AreNumbers-own entries)) below (omega arith))
+
+-- so the object spells the value
+pub Spells-walked : (f : List ℕ) (i : ℕ) (entries : List ℕ) (tree : WalkedTree f i entries) → Spells f i tree.value
+Spells-walked f i entries tree =
+    let number : ℕ → ℕ = λ k. get_or entries k 0 in
+    let spells = Spells-tree f (preorder tree.value) number (held-walked f i entries tree) tree.value 0 (Stands-all (preorder tree.value)) in
+    subst (λ n. Spells f n tree.value) (tree.top number 0 (AreNumbers-own entries)) spells
+
 module _ (f : List ℕ) (octets : AreOctets f) (read : (i : ℕ) → i < (trailer_of f).count → IsWellRead f i) (ascending : (i : ℕ) → i < (trailer_of f).count → HasAscendingKeys f i) where
   object-walked : (i : ℕ) (held : Held) (entries : List ℕ) → Holds f i held → WalkedItems f (refs_of held) entries → WalkedTree f i (i ∷ entries)
   object-walked i (holds_scalar s) entries holds xs = scalar-walked f i s entries octets holds xs
@@ -207,9 +222,4 @@ module _ (f : List ℕ) (octets : AreOctets f) (read : (i : ℕ) → i < (traile
   pub value_of_walk : (i : ℕ) (entries : List ℕ) → Walk f i entries → (v : Plist) × IsPlist v × Spells f i v
   value_of_walk i entries walk =
       let tree = tree_of_walk i entries walk in
-      let all = preorder tree.value in
-      let number : ℕ → ℕ = λ k. get_or entries k 0 in
-      let own = AreNumbers-own entries in
-      let reads = tree.reads number 0 own in
-      let spells = Spells-tree f all number (λ k v at below. rw at at (PlacesHold-at f number 0 k k all reads below (omega arith))) tree.value 0 (Stands-all all) in
-      (tree.value, tree.valid, subst (λ n. Spells f n tree.value) (tree.top number 0 own) spells)
+      (tree.value, tree.valid, Spells-walked f i entries tree)
