@@ -22,3 +22,8 @@ pub mod Kept
 pub mod Trailed
 pub mod Filed
 pub mod Formed
+pub mod HeldRanges
+pub mod Entries
+pub mod KeyPairs
+pub mod WalkTrees
+pub mod Forced

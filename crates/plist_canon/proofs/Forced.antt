@@ -1,0 +1,159 @@
+-- The rules force a value, and the numbers of its places.
+use Rattle.std.proofs.Common.{◌≡◌, ℕ, zero, suc, ◌+◌, ◌<◌, ◌≤◌, cond, eqb, ltb, true, false, List, [], ◌∷◌, length, get_or, refl, sym, ap, subst, ◌∙◌, inl, inr, arith, lt-ltb}
+use Rattle.std.proofs.lemmas.Bool.{cond_both, cases_lt, ltb-true}
+use Rattle.plist_value.specs.Plist.{Scalar, Plist, scalar, list, table, AreOctets, IsPlist}
+use Rattle.plist_value.specs.Limits.{Fits}
+use Rattle.plist_object.specs.Layout.{trailer_of}
+use Rattle.plist_object.specs.Objects.{holds_scalar}
+use Rattle.plist_object.specs.Places.{Holds}
+use Rattle.plist_canon.specs.Rules.{HoldsScalar, IsNoRepeat, MeetsInOrder, FollowsRules}
+use Rattle.plist_canon.specs.Tree.{preorder}
+use Rattle.plist_canon.specs.Sharing.{least_place, first_place, kept_from, kept_places, count_below, value_at}
+use Rattle.plist_canon.specs.Plan.{held_at, number_in}
+use Rattle.plist_canon.proofs.Numbering.{least_place-le, least_place-holds, first_place-le, first_place-holds, first_place-first, count_below-none}
+use Rattle.plist_canon.proofs.Counting.{count-kept, count-shared}
+use Rattle.plist_canon.proofs.HeldRanges.{Holds-same}
+use Rattle.plist_canon.proofs.Entries.{AreNumbers, AreNumbers-own, AreNumbers-same, PlacesHold-at}
+use Rattle.plist_canon.proofs.WalkTrees.{tree_of_walk, held-walked, Spells-walked}
+
+count_below-monotone : (kept : List (ℕ × Plist)) (m n : ℕ) → m ≤ n → count_below m kept ≤ count_below n kept
+count_below-monotone [] m n h = omega arith
+count_below-monotone (p ∷ kept) m n h =
+    let others = count_below-monotone kept m n h in
+    cond_both (ltb p.0 m) (suc (count_below m kept)) (count_below m kept) (λ c. c ≤ count_below n (p ∷ kept))
+    (λ e. let below = ltb-true p.0 m e in rw (lt-ltb p.0 n (omega arith)) (omega arith))
+    (λ _. cond_both (ltb p.0 n) (suc (count_below n kept)) (count_below n kept) (λ c. count_below m kept ≤ c) (λ _. omega arith) (λ _. omega arith))
+
+-- all places with an object of their own are below the end
+count_below-end : (all rest : List Plist) (k n : ℕ) → k + length rest ≤ n → count_below n (kept_from all k rest) ≡ length (kept_from all k rest)
+count_below-end all [] k n h = refl
+count_below-end all (v ∷ rest) k n h =
+    let others = count_below-end all rest (suc k) n (omega arith) in
+    elim (eqb (first_place all k v) k) as (λ t. count_below n (cond t ((k, v) ∷ kept_from all (suc k) rest) (kept_from all (suc k) rest)) ≡ length (cond t ((k, v) ∷ kept_from all (suc k) rest) (kept_from all (suc k) rest))) [
+      | true ↦ rw (lt-ltb k n (omega arith)) (ap suc others)
+      | false ↦ others
+    ]
+
+-- each number below those counted is that of a place before with an object of its own
+kept-numbered : (all : List Plist) (k n : ℕ) → k ≤ length all → n < count_below k (kept_places all) → (p : ℕ) × (p < k) × (first_place all p (value_at all p) ≡ p) × (count_below p (kept_places all) ≡ n)
+kept-numbered all zero n h below = absurd (let none = count_below-none all all 0 0 (omega arith) in omega arith)
+kept-numbered all (suc k) n h below =
+    let v = value_at all k in
+    elim (cases_lt (first_place all k v) k) [
+      | inl shared ↦ (let same = count-shared all k v refl (omega arith) shared in
+          let rest = kept-numbered all k n (omega arith) (omega arith) in
+          let before = rest.1 in
+          (rest.0, omega arith, rest.2, rest.3))
+      | inr late ↦ (let most = first_place-le all k v refl in
+          let own : first_place all k v ≡ k = omega arith in
+          let more = count-kept all k v refl (omega arith) own in
+          elim (cases_lt n (count_below k (kept_places all))) [
+            | inl under ↦ (let rest = kept-numbered all k n (omega arith) under in let before = rest.1 in (rest.0, omega arith, rest.2, rest.3))
+            | inr last ↦ (k, omega arith, own, omega arith)
+          ])
+    ]
+
+-- the number of a place before is among those counted
+number-counted : (all : List Plist) (j k : ℕ) → j < k → k ≤ length all → number_in all j < count_below k (kept_places all)
+number-counted all j k before most =
+    let v = value_at all j in
+    let first = first_place all j v in
+    let at = first_place-holds all j v refl in
+    let early = first_place-le all j v refl in
+    let more = count-kept all first v at (omega arith) (first_place-first all j v) in
+    let rest = count_below-monotone (kept_places all) (suc first) k (omega arith) in
+    omega arith
+
+-- what stands at a place whose object holds a scalar
+scalar-stands : (f : List ℕ) (i k : ℕ) (number : ℕ → ℕ) (v : Plist) (s : Scalar) → Holds f i (held_at number k v) → Holds f i (holds_scalar s) → v ≡ scalar s
+scalar-stands f i k number (scalar t) s x y = let same = Holds-same f i (holds_scalar t) (holds_scalar s) x y in cc
+scalar-stands f i k number (list vs) s x y = absurd (let same = Holds-same f i (held_at number k (list vs)) (holds_scalar s) x y in cc)
+scalar-stands f i k number (table ps) s x y = absurd (let same = Holds-same f i (held_at number k (table ps)) (holds_scalar s) x y in cc)
+
+module _ (f : List ℕ) (all : List Plist) (entry : ℕ → ℕ) (holds : (k : ℕ) (v : Plist) → value_at all k ≡ v → k < length all → Holds f (entry k) (held_at entry k v))
+    (no_repeat : (i : ℕ) → i < (trailer_of f).count → IsNoRepeat f i) where
+  -- the entries of the places below k are their numbers
+  abbrev AreForced : ℕ → Type 0
+  AreForced k = (j : ℕ) → j < k → entry j ≡ number_in all j
+
+  one-more : (k : ℕ) → AreForced k → entry k ≡ number_in all k → AreForced (suc k)
+  one-more k forced here j below =
+      elim (cases_lt j k) [
+        | inl before ↦ forced j before
+        | inr late ↦ (let at : k ≡ j = omega arith in subst (λ i. entry i ≡ number_in all i) at here)
+      ]
+
+  -- a place whose entry is the next number has an object of its own
+  own-first : (k : ℕ) (v : Plist) → value_at all k ≡ v → k < length all → AreForced k → entry k ≡ count_below k (kept_places all) → first_place all k v ≡ k
+  own-first k (scalar s) at below forced next =
+      let first = least_place s all in
+      let most = least_place-le s all k at in
+      elim (cases_lt first k) [
+        | inl before ↦ absurd (let earlier = forced first before in
+            let counted = number-counted all first k before (omega arith) in
+            let here = holds k (scalar s) at below in
+            let there = holds first (scalar s) (least_place-holds s all k at) (omega arith) in
+            no_repeat (entry k) here.listed s here.reads (entry first) (omega arith) there.reads)
+        | inr late ↦ omega arith
+      ]
+  own-first k (list vs) at below forced next = refl
+  own-first k (table ps) at below forced next = refl
+
+  -- the entry of a scalar that was met is the number of its first place, which is before
+  met-first : (k : ℕ) → k < length all → AreForced k → entry k < count_below k (kept_places all) → HoldsScalar f (entry k) → (first_place all k (value_at all k) < k) × (entry k ≡ number_in all k)
+  met-first k below forced met held =
+      let s = held.0 in
+      let p = kept-numbered all k (entry k) (omega arith) met in
+      let before = p.1 in
+      let numbered : entry p.0 ≡ entry k = forced p.0 p.1 ∙ ap (λ n. count_below n (kept_places all)) p.2 ∙ p.3 in
+      let here = scalar-stands f (entry k) k entry (value_at all k) s (holds k (value_at all k) refl below) held.1 in
+      let there = scalar-stands f (entry p.0) p.0 entry (value_at all p.0) s (holds p.0 (value_at all p.0) refl (omega arith)) (subst (λ n. Holds f n (holds_scalar s)) (sym numbered) held.1) in
+      let first : first_place all k (value_at all k) ≡ p.0 = ap (first_place all k) here ∙ ap (first_place all p.0) (sym there) ∙ p.2 in
+      (omega arith, sym (ap (λ n. count_below n (kept_places all)) first ∙ p.3))
+
+  -- where the entries meet the objects in order, each is the number of its place, and all objects were met at the end
+  forced-numbers : (entries : List ℕ) (k met after : ℕ) → k + length entries ≡ length all → AreNumbers entry k entries → met ≡ count_below k (kept_places all) → AreForced k → MeetsInOrder f met entries after → AreForced (length all) × (after ≡ length (kept_places all))
+  forced-numbers [] k met after long own counted forced order =
+      let end : k ≡ length all = omega arith in
+      (subst AreForced end forced, sym order ∙ counted ∙ ap (λ n. count_below n (kept_places all)) end ∙ count_below-end all all 0 (length all) (omega arith))
+  forced-numbers (e ∷ entries) k met after long own counted forced order =
+      elim order [
+        | inl new ↦ (let here : entry k ≡ count_below k (kept_places all) = own.0 ∙ new.0 ∙ counted in
+            let first = own-first k (value_at all k) refl (omega arith) forced here in
+            let more = count-kept all k (value_at all k) refl (omega arith) first in
+            let number : entry k ≡ number_in all k = here ∙ ap (λ n. count_below n (kept_places all)) (sym first) in
+            forced-numbers entries (suc k) (suc met) after (omega arith) own.1 (ap suc counted ∙ sym more) (one-more k forced number) new.1)
+        | inr known ↦ (let below : entry k < count_below k (kept_places all) = omega (arith, own.0, known.0) in
+            let first = met-first k (omega arith) forced below (subst (HoldsScalar f) (sym own.0) known.1) in
+            let same = count-shared all k (value_at all k) refl (omega arith) first.0 in
+            forced-numbers entries (suc k) met after (omega arith) own.1 (counted ∙ sym same) (one-more k forced first.1) known.2)
+      ]
+
+-- The file has the objects of this value, under its numbers.
+pub record ForcedTree (f : List ℕ) : Type 0 where
+  pub value : Plist
+  pub valid : IsPlist value
+  pub fits : Fits value
+  pub counted : (trailer_of f).count ≡ length (kept_places (preorder value))
+  pub reads : (k : ℕ) → k < length (preorder value) → Holds f (number_in (preorder value) k) (held_at (number_in (preorder value)) k (value_at (preorder value) k))
+
+-- the rules force a value and its numbering
+pub tree_is_forced : (f : List ℕ) → AreOctets f → FollowsRules f → ForcedTree f
+tree_is_forced f octets rules =
+    let within = rules.reads_within_limits in
+    let numbered = rules.numbered_in_preorder in
+    let entries = numbered.entries in
+    let tree = tree_of_walk f octets within.read rules.ascending_keys 0 entries numbered.walk in
+    let all = preorder tree.value in
+    let entry : ℕ → ℕ = λ k. get_or entries k 0 in
+    let own = AreNumbers-own entries in
+    let none = sym (count_below-none all all 0 0 (omega arith)) in
+    let forced = forced-numbers f all entry (held-walked f 0 entries tree) rules.no_repeat entries 0 0 (trailer_of f).count (omega (arith, tree.long)) own none (λ j below. absurd (omega arith)) numbered.order in
+    let numbers = AreNumbers-same entry (number_in all) 0 entries (λ j from below. forced.0 j (omega (arith, tree.long))) own in
+    record {
+      value = tree.value;
+      valid = tree.valid;
+      fits = within.fits tree.value tree.valid (Spells-walked f 0 entries tree);
+      counted = forced.1;
+      reads = λ k below. PlacesHold-at f (number_in all) 0 k k all (tree.reads (number_in all) 0 numbers) below (omega arith);
+    }
