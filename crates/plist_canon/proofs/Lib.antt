@@ -16,3 +16,5 @@ pub mod Found
 pub mod Parts
 pub mod Sends
 pub mod Chunks
+pub mod Standing
+pub mod KeptPlaces
