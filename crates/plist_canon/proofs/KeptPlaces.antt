@@ -1,5 +1,5 @@
 -- Each number below the count of objects is that of a place with an object of its own.
-use Rattle.std.proofs.Common.{◌≡◌, ℕ, zero, suc, ◌+◌, ◌<◌, ◌≤◌, eqb, true, false, List, [], ◌∷◌, length, ap, ◌∙◌, inl, inr, arith, lt-ltb}
+use Rattle.std.proofs.Common.{◌≡◌, ℕ, zero, suc, ◌+◌, ◌<◌, eqb, true, false, List, [], ◌∷◌, length, ap, ◌∙◌, inl, inr, arith, lt-ltb}
 use Rattle.std.proofs.lemmas.Bool.{le-ltb, eqb-true, cases_Bool}
 use Rattle.plist_value.specs.Plist.{Plist}
 use Rattle.plist_canon.specs.Sharing.{first_place, kept_from, kept_places, count_below, value_at}

@@ -18,3 +18,4 @@ pub mod Sends
 pub mod Chunks
 pub mod Standing
 pub mod KeptPlaces
+pub mod PlaceRules
