@@ -19,3 +19,5 @@ pub mod Chunks
 pub mod Standing
 pub mod KeptPlaces
 pub mod PlaceRules
+pub mod WalkRules
+pub mod FileRules
