@@ -95,7 +95,7 @@ spellable_at number width below k (table ps) h =
       spellable_refs number width below (value_places (suc k + length (key_texts ps)) ps) (omega arith),
     )
 
-octets-held : (number : ℕ → ℕ) (width k : ℕ) (v : Plist) → spelling_of width (held_at number k v) ≡ object_octets number width k v
+pub octets-held : (number : ℕ → ℕ) (width k : ℕ) (v : Plist) → spelling_of width (held_at number k v) ≡ object_octets number width k v
 octets-held number width k (scalar s) = refl
 octets-held number width k (list vs) = refl
 octets-held number width k (table ps) = refl

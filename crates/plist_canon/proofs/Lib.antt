@@ -21,3 +21,4 @@ pub mod KeptPlaces
 pub mod PlaceRules
 pub mod WalkRules
 pub mod FileRules
+pub mod Followed
