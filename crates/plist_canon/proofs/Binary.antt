@@ -29,10 +29,10 @@ unfolding what_holds
 what_holds-at f i held behind h = rw h refl
 
 module _ (all : List Plist) (some : 1 ≤ length all) (few : length all ≤ 16777216) (each : EachSound all) where
-  abbrev count : ℕ
+  abbrev pub count : ℕ
   count = length (kept_places all)
 
-  abbrev number : ℕ → ℕ
+  abbrev pub number : ℕ → ℕ
   number k = number_among all (kept_places all) k
 
   count-most : count ≤ length all
@@ -47,46 +47,46 @@ module _ (all : List Plist) (some : 1 ≤ length all) (few : length all ≤ 1677
   width-small : least_width count ≤ 4
   width-small = let most = count-most in least_width-small count (omega arith)
 
-  number-fits : (k : ℕ) → number k < 256 ^ least_width count
+  pub number-fits : (k : ℕ) → number k < 256 ^ least_width count
   number-fits k =
       let most = count-most in
       let holds = least_width-holds count (omega arith) in
       let below = count_below-le (first_place all k (value_at all k)) (kept_places all) in
       omega arith
 
-  length-objects_of : length (objects_of all) ≡ count
+  pub length-objects_of : length (objects_of all) ≡ count
   length-objects_of = length-map (kept_places all) _
 
   objects-small : length (concat (objects_of all)) ≤ total all
   objects-small = length-objects all number (least_width count) width-small 0 all each
 
-  objects-at : (i : ℕ) → i < count → get_or (objects_of all) i [] ≡ object_octets number (least_width count) (get_or (kept_places all) i (0, list no_items)).0 (get_or (kept_places all) i (0, list no_items)).1
+  pub objects-at : (i : ℕ) → i < count → get_or (objects_of all) i [] ≡ object_octets number (least_width count) (get_or (kept_places all) i (0, list no_items)).0 (get_or (kept_places all) i (0, list no_items)).1
   objects-at i h = get_or-map (λ p. object_octets number (least_width count) p.0 p.1) (kept_places all) i (0, list no_items) [] h
 
-  objects-some : (i : ℕ) → i < length (objects_of all) → 1 ≤ length (get_or (objects_of all) i [])
+  pub objects-some : (i : ℕ) → i < length (objects_of all) → 1 ≤ length (get_or (objects_of all) i [])
   objects-some i h =
       let listed = length-objects_of in
       let p = get_or (kept_places all) i (0, list no_items) in
       rw (objects-at i (omega arith)) (some-object number (least_width count) p.0 p.1)
 
   module _ (light : 8 + total all < 18446744073709551616) where
-    some-objects : 1 ≤ length (objects_of all)
+    pub some-objects : 1 ≤ length (objects_of all)
     some-objects = let listed = length-objects_of in let least = count-least in omega arith
 
-    count-fits : length (objects_of all) < 18446744073709551616
+    pub count-fits : length (objects_of all) < 18446744073709551616
     count-fits = let listed = length-objects_of in let most = count-most in omega arith
 
-    table-fits : 8 + length (concat (objects_of all)) < 18446744073709551616
+    pub table-fits : 8 + length (concat (objects_of all)) < 18446744073709551616
     table-fits = let small = objects-small in omega arith
 
     laid : IsLaid (file_of (objects_of all))
     laid = is_laid (objects_of all) some-objects objects-some count-fits table-fits
 
-    trailer : trailer_of (file_of (objects_of all)) ≡ trailer_for (length (objects_of all)) (8 + length (concat (objects_of all)))
+    pub trailer : trailer_of (file_of (objects_of all)) ≡ trailer_for (length (objects_of all)) (8 + length (concat (objects_of all)))
     trailer = trailer_of-file (objects_of all) some-objects objects-some count-fits table-fits
 
     -- the object of a place holds what stands there
-    place-holds : (k : ℕ) (v : Plist) → value_at all k ≡ v → k < length all → Holds (file_of (objects_of all)) (number k) (held_at number k v)
+    pub place-holds : (k : ℕ) (v : Plist) → value_at all k ≡ v → k < length all → Holds (file_of (objects_of all)) (number k) (held_at number k v)
     place-holds k v at h =
         let first = first_place all k v in
         let listed = length-objects_of in
@@ -107,17 +107,17 @@ module _ (all : List Plist) (some : 1 ≤ length all) (few : length all ≤ 1677
 tree-light : (v : Plist) → IsSound v → 8 + total (preorder v) < 4294967296
 tree-light v h = let n = h.nodes_fit in let p = h.payload_fits in let weigh = total-tree v in omega arith
 
-tree-some : (v : Plist) → 1 ≤ length (preorder v)
+pub tree-some : (v : Plist) → 1 ≤ length (preorder v)
 tree-some v = let head = preorder-head v in rw (head.1) (omega arith)
 
 module _ (v : Plist) (sound : IsSound v) where
-  few : length (preorder v) ≤ 16777216
+  pub few : length (preorder v) ≤ 16777216
   few = let size = length-preorder v in let n = sound.nodes_fit in omega arith
 
-  light : 8 + total (preorder v) < 18446744073709551616
+  pub light : 8 + total (preorder v) < 18446744073709551616
   light = let l = tree-light v sound in omega arith
 
-  canon-spells : Spells (canon v) (trailer_of (canon v)).top v
+  pub canon-spells : Spells (canon v) (trailer_of (canon v)).top v
   unfolding canon
   canon-spells =
       let all = preorder v in
@@ -126,7 +126,7 @@ module _ (v : Plist) (sound : IsSound v) where
       let top = ap (λ (x : Trailer). x.top) (trailer all (tree-some v) few each light) in
       subst (λ (i : ℕ). Spells (canon v) i v) (number-top all ∙ sym top) at_top
 
-  canon-laid : IsLaid (canon v)
+  pub canon-laid : IsLaid (canon v)
   unfolding canon
   canon-laid = laid (preorder v) (tree-some v) few (EachSound-tree v sound) light
 

@@ -53,7 +53,7 @@ references-read w (x ∷ xs) rest (suc i) h fits =
     rw (next, append_assoc, sym (drop-drop (i * w) w (big_bytes w x ++ (references w xs ++ rest))), past) others
 
 -- what stands so many octets before the end
-drop-end : (front tail : List ℕ) (back : ℕ) → length tail ≡ back → drop (length (front ++ tail) - back) (front ++ tail) ≡ tail
+pub drop-end : (front tail : List ℕ) (back : ℕ) → length tail ≡ back → drop (length (front ++ tail) - back) (front ++ tail) ≡ tail
 drop-end front tail back long =
     let at : length front ≡ length (front ++ tail) - back = rw length-append (omega arith) in
     drop_at front tail _ at
@@ -131,10 +131,10 @@ object_at-is f i p t r octets at_table at_width at_place behind before stands =
     rw (at_place, at_table, at_width, le-leb 8 p behind, lt-ltb p t before, stands) refl
 
 -- the parts of a file before its trailer, and before its offset table
-before_trailer : (a b c d : List ℕ) → a ++ (b ++ (c ++ d)) ≡ (a ++ (b ++ c)) ++ d
+pub before_trailer : (a b c d : List ℕ) → a ++ (b ++ (c ++ d)) ≡ (a ++ (b ++ c)) ++ d
 before_trailer a b c d = simp append_assoc
 
-before_table : (a b c d : List ℕ) → a ++ (b ++ (c ++ d)) ≡ (a ++ b) ++ (c ++ d)
+pub before_table : (a b c d : List ℕ) → a ++ (b ++ (c ++ d)) ≡ (a ++ b) ++ (c ++ d)
 before_table a b c d = sym (append_assoc a b (c ++ d))
 
 pub length-file_of : (objects : List (List ℕ)) → length (file_of objects) ≡ 8 + length (concat objects) + least_width (8 + length (concat objects)) * length objects + 32

@@ -27,3 +27,9 @@ pub mod Entries
 pub mod KeyPairs
 pub mod WalkTrees
 pub mod Forced
+pub mod Standing
+pub mod KeptPlaces
+pub mod PlaceRules
+pub mod WalkRules
+pub mod FileRules
+pub mod Followed

@@ -1,0 +1,174 @@
+-- The objects of a tree follow the rules that speak of one object and what it refers to.
+use Rattle.std.proofs.Common.{◌≡◌, ℕ, suc, ◌+◌, ◌<◌, List, [], ◌∷◌, ◌++◌, length, map, Ok, refl, sym, ap, subst, ◌∙◌, arith}
+use Rattle.std.specs.declared.cmp.Ordering.TheVariants.{Less}
+use Rattle.std.specs.Ordering.{nat_cmp}
+use Rattle.std.specs.Cmp.Lexicographic.{slice_cmp}
+use Rattle.std.specs.List.{AllByRecursion}
+use Rattle.std.specs.List.Sorted.{IsStrictlySortedBy}
+use Rattle.std.proofs.lemmas.Cmp.{nat_list_cmp_total}
+use Rattle.plist_value.specs.Plist.{Scalar, text, Plist, scalar, list, table, Items, no_items, item, Pairs, no_pairs, pair, IsPlist, ArePairs, IsKeyBelow}
+use Rattle.plist_object.specs.Layout.{trailer_of}
+use Rattle.plist_object.specs.Objects.{holds_scalar, holds_list, holds_table}
+use Rattle.plist_object.specs.Places.{what_holds, Holds}
+use Rattle.plist_object.specs.Uniqueness.{same_held}
+use Rattle.plist_canon.specs.Tree.{key_texts, preorder, preorder_items, preorder_values, item_places, key_places, value_places}
+use Rattle.plist_canon.specs.Sharing.{first_place, kept_places, value_at}
+use Rattle.plist_canon.specs.Plan.{Stands, held_at, number_in}
+use Rattle.plist_canon.specs.Rules.{HoldsText, HoldTexts, IsWellRead, HasAscendingKeys, IsNoRepeat}
+use Rattle.plist_canon.proofs.Trees.{length-preorder, Stands-front, Stands-rest, Stands-tail, Stands-head, Stands-tree}
+use Rattle.plist_canon.proofs.KeptPlaces.{is_made}
+
+-- The file has the objects of the places of a tree: as many as there are places with an object of their own, and the
+-- object of each place holds what stands there.
+pub record HasObjects (f : List ℕ) (all : List Plist) : Type 0 where
+  pub counted : (trailer_of f).count ≡ length (kept_places all)
+  pub reads : (k : ℕ) (v : Plist) → value_at all k ≡ v → k < length all → Holds f (number_in all k) (held_at (number_in all) k v)
+  pub stands : (k : ℕ) → k < length all → Stands all k (preorder (value_at all k))
+
+AllByRecursion-append : {X : Type 0} (P : X → Type 0) (xs ys : List X) → AllByRecursion P xs → AllByRecursion P ys → AllByRecursion P (xs ++ ys)
+AllByRecursion-append P [] ys each others = others
+AllByRecursion-append P (x ∷ xs) ys each others = (each.0, AllByRecursion-append P xs ys each.1 others)
+
+-- the keys of a table in their order
+abbrev key_units : Pairs → List (List ℕ)
+key_units no_pairs = []
+key_units (pair key v ps) = key ∷ key_units ps
+
+keys_above : (key : List ℕ) (ps : Pairs) → IsKeyBelow key ps → ArePairs ps → AllByRecursion (λ units. slice_cmp nat_cmp key units ≡ Less) (key_units ps)
+keys_above key no_pairs below valid = tt
+keys_above key (pair next v no_pairs) below valid = (below, tt)
+keys_above key (pair next v (pair third w ps)) below valid =
+    (below, keys_above key (pair third w ps) (nat_list_cmp_total.trans key next third below valid.2) valid.3)
+
+keys_ascend : (ps : Pairs) → ArePairs ps → IsStrictlySortedBy (slice_cmp nat_cmp) (key_units ps)
+unfolding IsStrictlySortedBy
+keys_ascend no_pairs valid = tt
+keys_ascend (pair key v ps) valid = (keys_above key ps valid.2 valid.3, keys_ascend ps valid.3)
+
+module _ (f : List ℕ) (all : List Plist) (has : HasObjects f all) where
+  abbrev IsListed : ℕ → Type 0
+  IsListed reference = reference < (trailer_of f).count
+
+  listed_tree : (v : Plist) (k : ℕ) → Stands all k (preorder v) → IsListed (number_in all k)
+  listed_tree v k h = let at = Stands-tree v h in let holds = has.reads k v at.0 at.1 in holds.listed
+
+  listed_items : (vs : Items) (k : ℕ) → Stands all k (preorder_items vs) → AllByRecursion IsListed (map (number_in all) (item_places k vs))
+  listed_items no_items k h = tt
+  listed_items (item v vs) k h = (
+    listed_tree v k (Stands-front (preorder v) (preorder_items vs) h),
+    listed_items vs (k + _) (Stands-rest (preorder v) (preorder_items vs) _ (length-preorder v) h),
+  )
+
+  listed_values : (ps : Pairs) (k : ℕ) → Stands all k (preorder_values ps) → AllByRecursion IsListed (map (number_in all) (value_places k ps))
+  listed_values no_pairs k h = tt
+  listed_values (pair key v ps) k h = (
+    listed_tree v k (Stands-front (preorder v) (preorder_values ps) h),
+    listed_values ps (k + _) (Stands-rest (preorder v) (preorder_values ps) _ (length-preorder v) h),
+  )
+
+  key_holds : (key : List ℕ) (rest : List Plist) (k : ℕ) → Stands all k (scalar (text key) ∷ rest) → Holds f (number_in all k) (holds_scalar (text key))
+  key_holds key rest k h = let at = Stands-head (scalar (text key)) rest h in has.reads k (scalar (text key)) at.0 at.1
+
+  listed_keys : (ps : Pairs) (k : ℕ) → Stands all k (key_texts ps) → AllByRecursion IsListed (map (number_in all) (key_places k ps))
+  listed_keys no_pairs k h = tt
+  listed_keys (pair key v ps) k h =
+      let holds = key_holds key (key_texts ps) k h in
+      (holds.listed, listed_keys ps (suc k) (Stands-tail (scalar (text key)) (key_texts ps) h))
+
+  keys_hold : (ps : Pairs) (k : ℕ) → Stands all k (key_texts ps) → AllByRecursion (HoldsText f) (map (number_in all) (key_places k ps))
+  keys_hold no_pairs k h = tt
+  keys_hold (pair key v ps) k h =
+      ((key, key_holds key (key_texts ps) k h), keys_hold ps (suc k) (Stands-tail (scalar (text key)) (key_texts ps) h))
+
+  well_read_at : (v : Plist) (k : ℕ) → Stands all k (preorder v) → IsWellRead f (number_in all k)
+  well_read_at (scalar s) k h =
+      let at = Stands-tree (scalar s) h in
+      record { held = holds_scalar s; holds = has.reads k (scalar s) at.0 at.1; numbers = tt; texts = tt }
+  well_read_at (list vs) k h =
+      let at = Stands-tree (list vs) h in
+      record {
+        held = held_at (number_in all) k (list vs);
+        holds = has.reads k (list vs) at.0 at.1;
+        numbers = listed_items vs (suc k) (Stands-tail (list vs) (preorder_items vs) h);
+        texts = tt;
+      }
+  well_read_at (table ps) k h =
+      let at = Stands-tree (table ps) h in
+      let below = Stands-tail (table ps) (key_texts ps ++ preorder_values ps) h in
+      let keys = Stands-front (key_texts ps) (preorder_values ps) below in
+      let values = Stands-rest (key_texts ps) (preorder_values ps) (length (key_texts ps)) refl below in
+      record {
+        held = held_at (number_in all) k (table ps);
+        holds = has.reads k (table ps) at.0 at.1;
+        numbers = AllByRecursion-append IsListed (map (number_in all) (key_places (suc k) ps)) (map (number_in all) (value_places (suc k + length (key_texts ps)) ps)) (listed_keys ps (suc k) keys) (listed_values ps (suc k + length (key_texts ps)) values);
+        texts = keys_hold ps (suc k) keys;
+      }
+
+  pub well_read : (i : ℕ) → i < (trailer_of f).count → IsWellRead f i
+  well_read i h =
+      let made = is_made all i (rw has.counted at h) in
+      subst (IsWellRead f) made.number_is (well_read_at (value_at all made.place) made.place (has.stands made.place made.below))
+
+  -- texts that references to keys name are the keys
+  texts_named : (ps : Pairs) (k : ℕ) (texts : List (List ℕ)) → Stands all k (key_texts ps) → HoldTexts f (map (number_in all) (key_places k ps)) texts → texts ≡ key_units ps
+  texts_named no_pairs k [] h named = refl
+  texts_named no_pairs k (units ∷ texts) h named = absurd named
+  texts_named (pair key v ps) k [] h named =
+      absurd (let none : number_in all k ∷ map (number_in all) (key_places (suc k) ps) ≡ [] = named in cc)
+  texts_named (pair key v ps) k (units ∷ texts) h named =
+      let first = same_held f (number_in all k) (holds_scalar (text units)) (holds_scalar (text key)) named.0 (key_holds key (key_texts ps) k h) in
+      let others = texts_named ps (suc k) texts (Stands-tail (scalar (text key)) (key_texts ps) h) named.1 in
+      cc
+
+  ascending_at : (v : Plist) (k : ℕ) → Stands all k (preorder v) → IsPlist v → HasAscendingKeys f (number_in all k)
+  ascending_at (scalar s) k h valid keys values texts reads named =
+      let at = Stands-tree (scalar s) h in
+      let holds = (has.reads k (scalar s) at.0 at.1).reads in
+      absurd (let e : Ok (holds_scalar s) ≡ Ok (holds_table keys values) = sym holds ∙ reads in cc)
+  ascending_at (list vs) k h valid keys values texts reads named =
+      let at = Stands-tree (list vs) h in
+      let holds = (has.reads k (list vs) at.0 at.1).reads in
+      absurd (let e : Ok (holds_list (map (number_in all) (item_places (suc k) vs))) ≡ Ok (holds_table keys values) = sym holds ∙ reads in cc)
+  ascending_at (table ps) k h valid keys values texts reads named =
+      let at = Stands-tree (table ps) h in
+      let holds = (has.reads k (table ps) at.0 at.1).reads in
+      let e : Ok (held_at (number_in all) k (table ps)) ≡ Ok (holds_table keys values) = sym holds ∙ reads in
+      let same : keys ≡ map (number_in all) (key_places (suc k) ps) = cc in
+      let below = Stands-tail (table ps) (key_texts ps ++ preorder_values ps) h in
+      let texts_are = texts_named ps (suc k) texts (Stands-front (key_texts ps) (preorder_values ps) below) (subst (λ (refs : List ℕ). HoldTexts f refs texts) same named) in
+      subst (IsStrictlySortedBy (slice_cmp nat_cmp)) (sym texts_are) (keys_ascend ps valid)
+
+  pub ascending : ((k : ℕ) → k < length all → IsPlist (value_at all k)) → (i : ℕ) → i < (trailer_of f).count → HasAscendingKeys f i
+  ascending valid i h =
+      let made = is_made all i (rw has.counted at h) in
+      subst (HasAscendingKeys f) made.number_is (ascending_at (value_at all made.place) made.place (has.stands made.place made.below) (valid made.place made.below))
+
+  -- a place whose object holds a scalar holds the scalar
+  scalar_from : (v : Plist) (k : ℕ) (s : Scalar) → held_at (number_in all) k v ≡ holds_scalar s → v ≡ scalar s
+  scalar_from (scalar t) k s e = cc
+  scalar_from (list vs) k s e = absurd (cc)
+  scalar_from (table ps) k s e = absurd (cc)
+
+  scalar_at : (k : ℕ) (s : Scalar) → k < length all → what_holds f (number_in all k) ≡ Ok (holds_scalar s) → value_at all k ≡ scalar s
+  scalar_at k s h reads =
+      let holds = (has.reads k (value_at all k) refl h).reads in
+      let e : Ok (held_at (number_in all) k (value_at all k)) ≡ Ok (holds_scalar s) = sym holds ∙ reads in
+      scalar_from (value_at all k) k s (cc)
+
+  -- places that are the first of one scalar are one place
+  same_place : (s : Scalar) (j k : ℕ) → value_at all j ≡ scalar s → value_at all k ≡ scalar s → first_place all j (value_at all j) ≡ j → first_place all k (value_at all k) ≡ k → j ≡ k
+  same_place s j k at_j at_k own_j own_k =
+      let a : first_place all j (scalar s) ≡ j = rw at_j at own_j in
+      let b : first_place all k (scalar s) ≡ k = rw at_k at own_k in
+      sym a ∙ b
+
+  pub no_repeat : (i : ℕ) → i < (trailer_of f).count → IsNoRepeat f i
+  no_repeat i h s reads earlier before other =
+      let made = is_made all i (rw has.counted at h) in
+      let under : earlier < (trailer_of f).count = omega arith in
+      let first = is_made all earlier (rw has.counted at under) in
+      let at = scalar_at made.place s made.below (ap (what_holds f) made.number_is ∙ reads) in
+      let first_at = scalar_at first.place s first.below (ap (what_holds f) first.number_is ∙ other) in
+      let same = same_place s first.place made.place first_at at first.own made.own in
+      let e : earlier ≡ i = sym first.number_is ∙ ap (number_in all) same ∙ made.number_is in
+      omega arith
