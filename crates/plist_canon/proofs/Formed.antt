@@ -1,5 +1,5 @@
 -- A file whose objects read as the places of a tree do, in the canonical spelling, and touch, is the canonical one.
-use Rattle.std.proofs.Common.{◌≡◌, ℕ, ◌<◌, List, [], length, get_or, sym, ap, ◌∙◌, subst, arith}
+use Rattle.std.proofs.Common.{◌≡◌, ℕ, ◌<◌, List, [], length, get_or, refl, sym, ap, ◌∙◌, subst, arith}
 use Rattle.std.proofs.lemmas.List.{length-map, get_or-map}
 use Rattle.plist_value.specs.Plist.{Plist, list, no_items, AreOctets}
 use Rattle.plist_object.specs.Layout.{trailer_of, IsLaid}
@@ -11,8 +11,9 @@ use Rattle.plist_canon.specs.Sharing.{kept_places, value_at}
 use Rattle.plist_canon.specs.Canonical.{object_octets, objects_of, file_of, canon}
 use Rattle.plist_canon.specs.Plan.{held_at, number_in}
 use Rattle.plist_canon.specs.Rules.{HasPlainTrailer, HasLeastWidths, Adjoins, IsSpelledCanonically}
+use Rattle.plist_canon.proofs.Numbering.{number-entry}
 use Rattle.plist_canon.proofs.Found.{octets-held}
-use Rattle.plist_canon.proofs.Kept.{kept-numbered}
+use Rattle.plist_canon.proofs.KeptPlaces.{is_made}
 use Rattle.plist_canon.proofs.Occupied.{Occupies, occupies}
 use Rattle.plist_canon.proofs.Filed.{file_of-is}
 
@@ -21,23 +22,22 @@ module _ (f : List ℕ) (octets : AreOctets f) (laid : IsLaid f) (plain : HasPla
     (canonically : (i : ℕ) → i < (trailer_of f).count → IsSpelledCanonically f i)
     (all : List Plist) (count : (trailer_of f).count ≡ length (kept_places all))
     (holds : (k : ℕ) → k < length all → Holds f (number_in all k) (held_at (number_in all) k (value_at all k))) where
-  -- the object i is that of the place which has the number i
+  -- the object i is made at a place, and holds what stands there
   occupies_kept : (i : ℕ) → i < length (kept_places all) → Occupies f i (get_or (objects_of all) i [])
   occupies_kept i h =
-      let entry = get_or (kept_places all) i (0, list no_items) in
       let width = least_width (length (kept_places all)) in
-      let x = kept-numbered all i (0, list no_items) h in
-      let held = holds entry.0 x.below in
-      let of_value = subst (λ (v : Plist). Holds f (number_in all entry.0) (held_at (number_in all) entry.0 v)) x.value held in
-      let of_number = subst (λ (n : ℕ). Holds f n (held_at (number_in all) entry.0 entry.1)) x.number of_value in
+      let made = is_made all i h in
+      let v = value_at all made.place in
+      let held = held_at (number_in all) made.place v in
+      let numbered : Holds f i held = subst (λ (n : ℕ). Holds f n held) made.number_is (holds made.place made.below) in
       let ends = laid.trailed.ends in
-      let listed : i < (trailer_of f).count = omega arith in
-      let spelled = occupies f i (held_at (number_in all) entry.0 entry.1) (omega arith) of_number (canonically i listed) in
+      let spelled = occupies f i held (omega arith) numbered (canonically i (omega arith)) in
       let widths : (trailer_of f).reference_width ≡ width = least.reference ∙ ap least_width count in
-      let same = octets-held (number_in all) width entry.0 entry.1 in
-      let at : get_or (objects_of all) i [] ≡ object_octets (number_in all) width entry.0 entry.1 = get_or-map (λ p. object_octets (number_in all) width p.0 p.1) (kept_places all) i (0, list no_items) [] h in
-      let by_width = subst (λ (n : ℕ). Occupies f i (spelling_of n (held_at (number_in all) entry.0 entry.1))) widths spelled in
-      subst (Occupies f i) (same ∙ sym at) by_width
+      let same = ap (λ (n : ℕ). spelling_of n held) widths ∙ octets-held (number_in all) width made.place v in
+      let kept = number-entry all made.place v refl made.below in
+      let stands : get_or (kept_places all) i (0, list no_items) ≡ (made.place, v) = ap (λ n. get_or (kept_places all) n (0, list no_items)) (sym made.number_is) ∙ kept.1 (0, list no_items) ∙ ap (λ (n : ℕ). (n, v)) made.own in
+      let entry : get_or (objects_of all) i [] ≡ object_octets (number_in all) width made.place v = get_or-map (λ p. object_octets (number_in all) width p.0 p.1) (kept_places all) i (0, list no_items) [] h ∙ ap (λ (p : ℕ × Plist). object_octets (number_in all) width p.0 p.1) stands in
+      subst (Occupies f i) (same ∙ sym entry) spelled
 
   objects_listed : length (objects_of all) ≡ length (kept_places all)
   objects_listed = length-map (kept_places all) _

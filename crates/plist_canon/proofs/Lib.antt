@@ -18,7 +18,6 @@ pub mod Sends
 pub mod Chunks
 pub mod Pieced
 pub mod Occupied
-pub mod Kept
 pub mod Trailed
 pub mod Filed
 pub mod Formed
@@ -33,3 +32,4 @@ pub mod PlaceRules
 pub mod WalkRules
 pub mod FileRules
 pub mod Followed
+pub mod Local

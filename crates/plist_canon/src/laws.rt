@@ -1,5 +1,6 @@
 //! What holds of all canonical files. Each law is the contract of a function that does nothing.
 ghost use Rattle.plist_canon.specs.Laws.{CanonSpellsItsValue, CanonTellsValuesApart, CanonIsShort};
+ghost use Rattle.plist_canon.specs.Locality.{CanonicityIsLocal};
 
 /// The canonical file of a value within the limits is a binary file of that value.
 pub fn canonical_spells_its_value()
@@ -15,4 +16,9 @@ pub fn canonical_tells_values_apart()
 /// and 25 for each node.
 pub fn canonical_is_short()
     ensures { CanonIsShort }
+{}
+
+/// Octets have the layout and follow the eight rules exactly if they are the canonical file of a value within the limits.
+pub fn canonicity_is_local()
+    ensures { CanonicityIsLocal }
 {}
