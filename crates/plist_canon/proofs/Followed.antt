@@ -1,5 +1,5 @@
 -- A canonical file has the layout and follows the rules.
-use Rattle.std.proofs.Common.{◌≡◌, ℕ, ◌+◌, ◌<◌, ◌≤◌, List, [], ◌++◌, length, get_or, Ok, refl, sym, ap, subst, ◌∙◌, arith}
+use Rattle.std.proofs.Common.{◌≡◌, ℕ, ◌+◌, ◌<◌, ◌≤◌, List, [], ◌++◌, length, get_or, Ok, sym, ap, subst, ◌∙◌, arith}
 use Rattle.plist_value.specs.Plist.{Plist, no_items, list, IsPlist}
 use Rattle.plist_value.specs.Limits.{Fits}
 use Rattle.plist_object.specs.Layout.{Trailer, IsLaid}
@@ -9,11 +9,10 @@ use Rattle.plist_object.specs.Uniqueness.{same_value}
 use Rattle.plist_object.specs.Shortest.{spelling_of}
 use Rattle.plist_object.specs.Spelling.{least_width}
 use Rattle.plist_canon.specs.Tree.{preorder}
-use Rattle.plist_canon.specs.Sharing.{first_place, kept_places, value_at}
+use Rattle.plist_canon.specs.Sharing.{kept_places, value_at}
 use Rattle.plist_canon.specs.Canonical.{objects_of, file_of, canon}
 use Rattle.plist_canon.specs.Plan.{Stands, held_at, number_in}
 use Rattle.plist_canon.specs.Rules.{FollowsRules, IsNumberedInPreorder}
-use Rattle.plist_canon.proofs.Numbering.{number-entry}
 use Rattle.plist_canon.proofs.Trees.{Stands-all}
 use Rattle.plist_canon.proofs.Sound.{IsSound, EachSound, EachSound-tree, EachSound-at, sound_from_Fits}
 use Rattle.plist_canon.proofs.Sizes.{total}
@@ -30,16 +29,8 @@ module _ (all : List Plist) (some : 1 ≤ length all) (small : length all ≤ 16
   abbrev kept_at : ℕ → ℕ × Plist
   kept_at i = get_or (kept_places all) i (0, list no_items)
 
-  -- a kept place holds what stands there
-  kept_is : (i : ℕ) → i < length (kept_places all) → (k : ℕ) × ((k < length all) × (kept_at i ≡ (k, value_at all k)))
-  kept_is i h =
-      let made = is_made all i h in
-      let entry = number-entry all made.place (value_at all made.place) refl made.below in
-      let at : kept_at i ≡ (first_place all made.place (value_at all made.place), value_at all made.place) = ap kept_at (sym made.number_is) ∙ entry.1 (0, list no_items) in
-      (made.place, (made.below, at ∙ ap (λ (n : ℕ). (n, value_at all made.place)) made.own))
-
   kept_sound : (i : ℕ) → i < length (kept_places all) → IsSound (kept_at i).1
-  kept_sound i h = let is = kept_is i h in subst (λ (p : ℕ × Plist). IsSound p.1) (sym is.1.1) (EachSound-at all is.0 is.1.0 each)
+  kept_sound i h = let made = is_made all i h in subst (λ (p : ℕ × Plist). IsSound p.1) (sym made.entry_is) (EachSound-at all made.place made.below each)
 
   abbrev held_of : ℕ → Held
   held_of i = held_at (number_in all) (kept_at i).0 (kept_at i).1

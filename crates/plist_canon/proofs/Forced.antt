@@ -1,5 +1,5 @@
 -- The rules force a value, and the numbers of its places.
-use Rattle.std.proofs.Common.{◌≡◌, ℕ, zero, suc, ◌+◌, ◌<◌, ◌≤◌, cond, eqb, ltb, true, false, List, [], ◌∷◌, length, get_or, refl, sym, ap, subst, ◌∙◌, inl, inr, arith, lt-ltb}
+use Rattle.std.proofs.Common.{◌≡◌, ℕ, suc, ◌+◌, ◌<◌, ◌≤◌, cond, eqb, ltb, true, false, List, [], ◌∷◌, length, get_or, refl, sym, ap, subst, ◌∙◌, inl, inr, arith, lt-ltb}
 use Rattle.std.proofs.lemmas.Bool.{cond_both, cases_lt, ltb-true}
 use Rattle.plist_value.specs.Plist.{Scalar, Plist, scalar, list, table, AreOctets, IsPlist}
 use Rattle.plist_value.specs.Limits.{Fits}
@@ -12,6 +12,8 @@ use Rattle.plist_canon.specs.Sharing.{least_place, first_place, kept_from, kept_
 use Rattle.plist_canon.specs.Plan.{held_at, number_in}
 use Rattle.plist_canon.proofs.Numbering.{least_place-le, least_place-holds, first_place-le, first_place-holds, first_place-first, count_below-none}
 use Rattle.plist_canon.proofs.Counting.{count-kept, count-shared}
+use Rattle.plist_canon.proofs.Reading.{count_below-le}
+use Rattle.plist_canon.proofs.KeptPlaces.{is_made}
 use Rattle.plist_canon.proofs.HeldRanges.{Holds-same}
 use Rattle.plist_canon.proofs.Entries.{AreNumbers, AreNumbers-own, AreNumbers-same, PlacesHold-at}
 use Rattle.plist_canon.proofs.WalkTrees.{tree_of_walk, held-walked, Spells-walked}
@@ -35,22 +37,14 @@ count_below-end all (v ∷ rest) k n h =
     ]
 
 -- each number below those counted is that of a place before with an object of its own
-kept-numbered : (all : List Plist) (k n : ℕ) → k ≤ length all → n < count_below k (kept_places all) → (p : ℕ) × (p < k) × (first_place all p (value_at all p) ≡ p) × (count_below p (kept_places all) ≡ n)
-kept-numbered all zero n h below = absurd (let none = count_below-none all all 0 0 (omega arith) in omega arith)
-kept-numbered all (suc k) n h below =
-    let v = value_at all k in
-    elim (cases_lt (first_place all k v) k) [
-      | inl shared ↦ (let same = count-shared all k v refl (omega arith) shared in
-          let rest = kept-numbered all k n (omega arith) (omega arith) in
-          let before = rest.1 in
-          (rest.0, omega arith, rest.2, rest.3))
-      | inr late ↦ (let most = first_place-le all k v refl in
-          let own : first_place all k v ≡ k = omega arith in
-          let more = count-kept all k v refl (omega arith) own in
-          elim (cases_lt n (count_below k (kept_places all))) [
-            | inl under ↦ (let rest = kept-numbered all k n (omega arith) under in let before = rest.1 in (rest.0, omega arith, rest.2, rest.3))
-            | inr last ↦ (k, omega arith, own, omega arith)
-          ])
+made-before : (all : List Plist) (k n : ℕ) → n < count_below k (kept_places all) → (p : ℕ) × (p < k) × (first_place all p (value_at all p) ≡ p) × (count_below p (kept_places all) ≡ n)
+made-before all k n below =
+    let most = count_below-le k (kept_places all) in
+    let made = is_made all n (omega arith) in
+    let counted : count_below made.place (kept_places all) ≡ n = ap (λ p. count_below p (kept_places all)) (sym made.own) ∙ made.number_is in
+    elim (cases_lt made.place k) [
+      | inl before ↦ (made.place, before, made.own, counted)
+      | inr late ↦ absurd (let more = count_below-monotone (kept_places all) k made.place late in omega arith)
     ]
 
 -- the number of a place before is among those counted
@@ -103,7 +97,7 @@ module _ (f : List ℕ) (all : List Plist) (entry : ℕ → ℕ) (holds : (k : �
   met-first : (k : ℕ) → k < length all → AreForced k → entry k < count_below k (kept_places all) → HoldsScalar f (entry k) → (first_place all k (value_at all k) < k) × (entry k ≡ number_in all k)
   met-first k below forced met held =
       let s = held.0 in
-      let p = kept-numbered all k (entry k) (omega arith) met in
+      let p = made-before all k (entry k) met in
       let before = p.1 in
       let numbered : entry p.0 ≡ entry k = forced p.0 p.1 ∙ ap (λ n. count_below n (kept_places all)) p.2 ∙ p.3 in
       let here = scalar-stands f (entry k) k entry (value_at all k) s (holds k (value_at all k) refl below) held.1 in

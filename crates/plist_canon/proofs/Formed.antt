@@ -1,5 +1,5 @@
 -- A file whose objects read as the places of a tree do, in the canonical spelling, and touch, is the canonical one.
-use Rattle.std.proofs.Common.{◌≡◌, ℕ, ◌<◌, List, [], length, get_or, refl, sym, ap, ◌∙◌, subst, arith}
+use Rattle.std.proofs.Common.{◌≡◌, ℕ, ◌<◌, List, [], length, get_or, sym, ap, ◌∙◌, subst, arith}
 use Rattle.std.proofs.lemmas.List.{length-map, get_or-map}
 use Rattle.plist_value.specs.Plist.{Plist, list, no_items, AreOctets}
 use Rattle.plist_object.specs.Layout.{trailer_of, IsLaid}
@@ -11,7 +11,6 @@ use Rattle.plist_canon.specs.Sharing.{kept_places, value_at}
 use Rattle.plist_canon.specs.Canonical.{object_octets, objects_of, file_of, canon}
 use Rattle.plist_canon.specs.Plan.{held_at, number_in}
 use Rattle.plist_canon.specs.Rules.{HasPlainTrailer, HasLeastWidths, Adjoins, IsSpelledCanonically}
-use Rattle.plist_canon.proofs.Numbering.{number-entry}
 use Rattle.plist_canon.proofs.Found.{octets-held}
 use Rattle.plist_canon.proofs.KeptPlaces.{is_made}
 use Rattle.plist_canon.proofs.Occupied.{Occupies, occupies}
@@ -34,9 +33,7 @@ module _ (f : List ℕ) (octets : AreOctets f) (laid : IsLaid f) (plain : HasPla
       let spelled = occupies f i held (omega arith) numbered (canonically i (omega arith)) in
       let widths : (trailer_of f).reference_width ≡ width = least.reference ∙ ap least_width count in
       let same = ap (λ (n : ℕ). spelling_of n held) widths ∙ octets-held (number_in all) width made.place v in
-      let kept = number-entry all made.place v refl made.below in
-      let stands : get_or (kept_places all) i (0, list no_items) ≡ (made.place, v) = ap (λ n. get_or (kept_places all) n (0, list no_items)) (sym made.number_is) ∙ kept.1 (0, list no_items) ∙ ap (λ (n : ℕ). (n, v)) made.own in
-      let entry : get_or (objects_of all) i [] ≡ object_octets (number_in all) width made.place v = get_or-map (λ p. object_octets (number_in all) width p.0 p.1) (kept_places all) i (0, list no_items) [] h ∙ ap (λ (p : ℕ × Plist). object_octets (number_in all) width p.0 p.1) stands in
+      let entry : get_or (objects_of all) i [] ≡ object_octets (number_in all) width made.place v = get_or-map (λ p. object_octets (number_in all) width p.0 p.1) (kept_places all) i (0, list no_items) [] h ∙ ap (λ (p : ℕ × Plist). object_octets (number_in all) width p.0 p.1) made.entry_is in
       subst (Occupies f i) (same ∙ sym entry) spelled
 
   objects_listed : length (objects_of all) ≡ length (kept_places all)

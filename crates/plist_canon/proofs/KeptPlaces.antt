@@ -1,10 +1,10 @@
 -- Each number below the count of objects is that of a place with an object of its own.
-use Rattle.std.proofs.Common.{◌≡◌, ℕ, zero, suc, ◌+◌, ◌<◌, eqb, true, false, List, [], ◌∷◌, length, ap, ◌∙◌, inl, inr, arith, lt-ltb}
+use Rattle.std.proofs.Common.{◌≡◌, ℕ, zero, suc, ◌+◌, ◌<◌, eqb, true, false, List, [], ◌∷◌, length, get_or, refl, sym, ap, ◌∙◌, inl, inr, arith, lt-ltb}
 use Rattle.std.proofs.lemmas.Bool.{le-ltb, eqb-true, cases_Bool}
-use Rattle.plist_value.specs.Plist.{Plist}
+use Rattle.plist_value.specs.Plist.{Plist, list, no_items}
 use Rattle.plist_canon.specs.Sharing.{first_place, kept_from, kept_places, count_below, value_at}
 use Rattle.plist_canon.specs.Plan.{number_in}
-use Rattle.plist_canon.proofs.Numbering.{count_below-none}
+use Rattle.plist_canon.proofs.Numbering.{count_below-none, number-entry}
 
 -- The object i is made at the place `from + offset`, where `rest` stands from the place `from` on.
 record IsMadeIn (all : List Plist) (from : ℕ) (rest : List Plist) (i : ℕ) : Type 0 where
@@ -62,15 +62,21 @@ pub record IsMade (all : List Plist) (i : ℕ) : Type 0 where
   pub below : place < length all
   pub own : first_place all place (value_at all place) ≡ place
   pub number_is : number_in all place ≡ i
+  pub entry_is : get_or (kept_places all) i (0, list no_items) ≡ (place, value_at all place)
 
 pub is_made : (all : List Plist) (i : ℕ) → i < length (kept_places all) → IsMade all i
 is_made all i h =
     let x = made_in all 0 all i h in
+    let v = value_at all x.place in
     let same : x.offset ≡ x.place = let at = x.place_is in omega arith in
-    let own : first_place all x.place (value_at all x.place) ≡ x.place = rw same at x.own in
+    let own : first_place all x.place v ≡ x.place = rw same at x.own in
+    let below : x.place < length all = let b = x.below in omega arith in
+    let number_is : number_in all x.place ≡ i = ap (λ n. count_below n (kept_places all)) own ∙ x.counted in
+    let entry = number-entry all x.place v refl below in
     record {
       place = x.place;
-      below = let b = x.below in omega arith;
+      below = below;
       own = own;
-      number_is = ap (λ n. count_below n (kept_places all)) own ∙ x.counted;
+      number_is = number_is;
+      entry_is = ap (λ n. get_or (kept_places all) n (0, list no_items)) (sym number_is) ∙ entry.1 (0, list no_items) ∙ ap (λ (n : ℕ). (n, v)) own;
     }
