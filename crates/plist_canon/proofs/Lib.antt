@@ -22,3 +22,4 @@ pub mod PlaceRules
 pub mod WalkRules
 pub mod FileRules
 pub mod Followed
+mod RuleRows
