@@ -33,3 +33,4 @@ pub mod WalkRules
 pub mod FileRules
 pub mod Followed
 pub mod Local
+mod RuleRows

@@ -1,0 +1,176 @@
+-- Small files that follow the rules, or break one of them.
+use Rattle.std.proofs.Common.{◌≡◌, ℕ, zero, suc, ◌<◌, List, [], ◌∷◌, ◌++◌, replicate, Result, Ok, refl, sym, ap, subst, ◌∙◌, inl, inr, arith}
+use Rattle.std.specs.Prelude.{⊤}
+use Rattle.std.specs.declared.cmp.Ordering.TheVariants.{Less, Greater}
+use Rattle.std.specs.List.Sorted.{IsStrictlySortedBy}
+use Rattle.plist_value.specs.Plist.{text, scalar, table, no_pairs, pair, Plist, IsPlist, AreUnits}
+use Rattle.plist_value.specs.Limits.{Fits}
+use Rattle.plist_object.specs.declared.object.ObjectFault.{ObjectFault}
+use Rattle.plist_object.specs.Layout.{header, IsLaid}
+use Rattle.plist_object.specs.Objects.{Held, holds_scalar, holds_list, object_in, count_spelled, count_of_content, content, simple_object, ascii_object, list_object, table_object, marked_object}
+use Rattle.plist_object.specs.Places.{octets_at, object_at, what_holds, span_of, Holds}
+use Rattle.plist_object.specs.Shortest.{spelling_of, IsShortest}
+use Rattle.plist_object.specs.Uniqueness.{same_held}
+use Rattle.plist_canon.specs.Canonical.{canon}
+use Rattle.plist_canon.specs.Rules.{refs_of, FollowsRules, HasPlainTrailer, HasLeastWidths, Adjoins, IsSpelledCanonically, HasAscendingKeys, IsNoRepeat, Walk, visit, Walks, end, step, MeetsInOrder, IsNumberedInPreorder}
+use Rattle.plist_canon.proofs.Followed.{canonical_follows_rules}
+
+-- The end of a file of fewer than 256 octets: the first octet of the slack, the width of a reference, how many objects
+-- there are, and the place of the offset table.
+abbrev end_with : ℕ → ℕ → ℕ → ℕ → List ℕ
+end_with slack width count place =
+    slack ∷ (replicate 5 0 ++ (1 ∷ width ∷ (replicate 7 0 ++ (count ∷ (replicate 15 0 ++ (place ∷ []))))))
+
+abbrev end_of : ℕ → ℕ → List ℕ
+end_of count place = end_with 0 1 count place
+
+-- the table {a = b; b = a}, and its canonical file, which follows the rules
+abbrev two_pairs : Plist
+two_pairs = table (pair (97 ∷ []) (scalar (text (98 ∷ []))) (pair (98 ∷ []) (scalar (text (97 ∷ []))) no_pairs))
+
+abbrev two_pairs_file : List ℕ
+two_pairs_file = header ++ (210 ∷ 1 ∷ 2 ∷ 2 ∷ 1 ∷ 81 ∷ 97 ∷ 81 ∷ 98 ∷ 8 ∷ 13 ∷ 15 ∷ end_of 3 17)
+
+one_unit : (unit : ℕ) → unit < 65536 → AreUnits (unit ∷ [])
+one_unit unit h zero = h
+one_unit unit h (suc i) = omega arith
+
+two_pairs-plist : IsPlist two_pairs
+two_pairs-plist =
+    let a = one_unit 97 (omega arith) in
+    let b = one_unit 98 (omega arith) in
+    (a, b, refl, (b, a, tt, tt))
+
+two_pairs-fits : Fits two_pairs
+two_pairs-fits = record { nodes_fit = omega arith; depth_fits = omega arith; payload_fits = omega arith }
+
+two_pairs-canon : canon two_pairs ≡ two_pairs_file
+unfolding canon
+two_pairs-canon = refl
+
+follows : FollowsRules two_pairs_file
+follows = subst FollowsRules two_pairs-canon (canonical_follows_rules two_pairs two_pairs-plist two_pairs-fits).1
+
+same_head : (m n : ℕ) (ms ns : List ℕ) → m ∷ ms ≡ n ∷ ns → m ≡ n
+same_head m n ms ns e = cc
+
+-- an empty table, and 1 in the first octet of the slack
+abbrev slack_file : List ℕ
+slack_file = header ++ (208 ∷ 8 ∷ end_with 1 1 1 9)
+
+slack-laid : IsLaid slack_file
+slack-laid = record { long = omega arith; headed = refl; trailed = omega arith }
+
+breaks-c1 : HasPlainTrailer slack_file → ⊥
+breaks-c1 h = let first = same_head 1 0 (replicate 5 0) (replicate 5 0) h.slack in omega arith
+
+-- a list of one flag, whose reference has two octets
+abbrev wide_file : List ℕ
+wide_file = header ++ (161 ∷ 0 ∷ 1 ∷ 9 ∷ 8 ∷ 11 ∷ end_with 0 2 2 12)
+
+wide-laid : IsLaid wide_file
+wide-laid = record { long = omega arith; headed = refl; trailed = omega arith }
+
+breaks-c2 : HasLeastWidths wide_file → ⊥
+breaks-c2 h = let reference = h.reference in omega arith
+
+-- a list of one flag, and an octet between the two objects
+abbrev unused_file : List ℕ
+unused_file = header ++ (161 ∷ 1 ∷ 0 ∷ 9 ∷ 8 ∷ 11 ∷ end_of 2 12)
+
+unused-laid : IsLaid unused_file
+unused-laid = record { long = omega arith; headed = refl; trailed = omega arith }
+
+breaks-c3 : Adjoins unused_file 1 → ⊥
+unfolding span_of object_at octets_at marked_object list_object content count_of_content simple_object
+breaks-c3 h = let touches = h.next 0 8 10 11 12 refl refl refl in omega arith
+
+-- a text of one unit, whose head has its count in an octet of its own
+abbrev long_head_file : List ℕ
+long_head_file = header ++ (95 ∷ 16 ∷ 1 ∷ 97 ∷ 8 ∷ end_of 1 12)
+
+long_head-laid : IsLaid long_head_file
+long_head-laid = record { long = omega arith; headed = refl; trailed = omega arith }
+
+same_octets : (xs ys : List ℕ) → ◌≡◌ {A = Result (List ℕ) ObjectFault} (Ok xs) (Ok ys) → xs ≡ ys
+same_octets xs ys e = cc
+
+same_read : (a b : Held) (xs ys : List ℕ) → ◌≡◌ {A = Result (Held × List ℕ) ObjectFault} (Ok (a, xs)) (Ok (b, ys)) → ◌≡◌ {A = Held × List ℕ} (a, xs) (b, ys)
+same_read a b xs ys e = cc
+
+not_shortest : IsShortest long_head_file 0 → ⊥
+unfolding octets_at marked_object ascii_object content count_of_content count_spelled
+not_shortest x =
+    let octets = same_octets (95 ∷ 16 ∷ 1 ∷ 97 ∷ []) x.octets x.stands in
+    let read = ap (object_in 1) octets ∙ x.reads in
+    let both = same_read (holds_scalar (text (97 ∷ []))) x.held [] x.behind read in
+    let spelled = octets ∙ x.spelled ∙ ap (λ (p : Held × List ℕ). spelling_of 1 p.0 ++ p.1) (sym both) in
+    let first = same_head 95 81 (16 ∷ 1 ∷ 97 ∷ []) (97 ∷ []) spelled in
+    omega arith
+
+breaks-c4 : IsSpelledCanonically long_head_file 0 → ⊥
+unfolding object_at octets_at marked_object ascii_object content count_of_content count_spelled
+breaks-c4 h = not_shortest (h refl)
+
+-- a table with the key b before the key a
+abbrev descending_file : List ℕ
+descending_file = header ++ (210 ∷ 1 ∷ 2 ∷ 2 ∷ 1 ∷ 81 ∷ 98 ∷ 81 ∷ 97 ∷ 8 ∷ 13 ∷ 15 ∷ end_of 3 17)
+
+descending-laid : IsLaid descending_file
+descending-laid = record { long = omega arith; headed = refl; trailed = omega arith }
+
+breaks-c5 : HasAscendingKeys descending_file 0 → ⊥
+unfolding what_holds object_at octets_at marked_object table_object ascii_object content count_of_content IsStrictlySortedBy
+breaks-c5 h =
+    let b : Holds descending_file 1 (holds_scalar (text (98 ∷ []))) = record { listed = omega arith; reads = refl } in
+    let a : Holds descending_file 2 (holds_scalar (text (97 ∷ []))) = record { listed = omega arith; reads = refl } in
+    let sorted = h (1 ∷ 2 ∷ []) (2 ∷ 1 ∷ []) ((98 ∷ []) ∷ (97 ∷ []) ∷ []) refl (b, (a, refl)) in
+    let e : Greater ≡ Less = sorted.0.0 in
+    absurd (cc)
+
+-- a list of the text a twice, each in an object of its own
+abbrev repeat_file : List ℕ
+repeat_file = header ++ (162 ∷ 1 ∷ 2 ∷ 81 ∷ 97 ∷ 81 ∷ 97 ∷ 8 ∷ 11 ∷ 13 ∷ end_of 3 15)
+
+repeat-laid : IsLaid repeat_file
+repeat-laid = record { long = omega arith; headed = refl; trailed = omega arith }
+
+breaks-c6 : IsNoRepeat repeat_file 2 → ⊥
+unfolding what_holds object_at octets_at marked_object ascii_object content count_of_content
+breaks-c6 h = h (text (97 ∷ [])) refl 1 (omega arith) refl
+
+-- a list of two texts, of which the first is the object 2
+abbrev unordered_file : List ℕ
+unordered_file = header ++ (162 ∷ 2 ∷ 1 ∷ 81 ∷ 97 ∷ 81 ∷ 98 ∷ 8 ∷ 11 ∷ 13 ∷ end_of 3 15)
+
+unordered-laid : IsLaid unordered_file
+unordered-laid = record { long = omega arith; headed = refl; trailed = omega arith }
+
+-- the walks from references begin with the first of them
+abbrev BeginWith : List ℕ → List ℕ → Type 0
+BeginWith [] entries = ⊤
+BeginWith (i ∷ refs) entries = (rest : List ℕ) × (entries ≡ i ∷ rest)
+
+-- what a walk visits first, and what it walks from there
+walk_parts : (f : List ℕ) (i : ℕ) (entries : List ℕ) → Walk f i entries → (held : Held) × ((rest : List ℕ) × ((entries ≡ i ∷ rest) × Holds f i held × Walks f (refs_of held) rest))
+walk_parts f i entries (visit j held rest holds walks) = (held, (rest, (refl, holds, walks)))
+
+walks_begin : (f refs entries : List ℕ) → Walks f refs entries → BeginWith refs entries
+walks_begin f refs entries end = tt
+walks_begin f refs entries (step i behind first others walk walks) =
+    let x = walk_parts f i first walk in (x.1.0 ++ others, ap (λ es. es ++ others) x.1.1.0)
+
+not_in_order : (rest : List ℕ) → MeetsInOrder unordered_file 0 (0 ∷ 2 ∷ rest) 3 → ⊥
+not_in_order rest (inl (first, inl (second, later))) = omega arith
+not_in_order rest (inl (first, inr (second, again, later))) = omega arith
+not_in_order rest (inr (first, again, later)) = omega arith
+
+breaks-c7 : IsNumberedInPreorder unordered_file → ⊥
+unfolding what_holds object_at octets_at marked_object list_object content count_of_content
+breaks-c7 h =
+    let x = walk_parts unordered_file 0 h.entries h.walk in
+    let top : Holds unordered_file 0 (holds_list (2 ∷ 1 ∷ [])) = record { listed = omega arith; reads = refl } in
+    let held = same_held unordered_file 0 x.0 (holds_list (2 ∷ 1 ∷ [])) x.1.1.1 top in
+    let walks = subst (λ (held : Held). Walks unordered_file (refs_of held) x.1.0) held x.1.1.2 in
+    let begin = walks_begin unordered_file (2 ∷ 1 ∷ []) x.1.0 walks in
+    not_in_order begin.0 (subst (λ (es : List ℕ). MeetsInOrder unordered_file 0 es 3) (x.1.1.0 ∙ ap (λ es. 0 ∷ es) begin.1) h.order)
