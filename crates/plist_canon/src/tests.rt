@@ -269,3 +269,27 @@ fn sends_octet_by_octet(rt: HostRuntime) -> Result<(), Fail> {
     assert_eq!(rt; sink.taken(), made(&rt, &list)?.as_slice());
     Ok(())
 }
+
+// Also where memory is refused from outside, at any of the growths.
+#[test]
+fn what_went_out_is_a_front_of_the_file(rt: HostRuntime) -> Result<(), Fail> {
+    let alloc = rt.alloc();
+    let value = table(alloc, &[0xd800, 0xdc00], &[0xff61])?;
+    let whole = made(&rt, &value)?;
+    let mut sink = ListSink::new(alloc, 100, 7)?;
+    assert_eq!(rt; sink.taken().len(), 0);
+    let sent = match send(&rt, &value, &mut sink)? {
+        Ok(sent) => {
+            assert_eq!(rt; sent, 62);
+            sent
+        }
+        Err(fault) => {
+            assert_eq!(rt; fault.code(), 60);
+            match fault {
+                WriteFault::OutOfMemory { sent } | WriteFault::WriteFailed { sent } => sent,
+            }
+        }
+    };
+    assert_eq!(rt; Some(sink.taken()), whole.as_slice().get(..sent as usize));
+    Ok(())
+}
