@@ -14,7 +14,7 @@ use Rattle.plist_canon.proofs.Numbering.{least_place-le, least_place-holds, firs
 use Rattle.plist_canon.proofs.Counting.{count-kept, count-shared}
 use Rattle.plist_canon.proofs.Reading.{count_below-le}
 use Rattle.plist_canon.proofs.KeptPlaces.{is_made}
-use Rattle.plist_canon.proofs.HeldRanges.{Holds-same}
+use Rattle.plist_object.specs.Uniqueness.{same_held}
 use Rattle.plist_canon.proofs.Entries.{AreNumbers, AreNumbers-own, AreNumbers-same, PlacesHold-at}
 use Rattle.plist_canon.proofs.WalkTrees.{tree_of_walk, held-walked, Spells-walked}
 
@@ -60,9 +60,9 @@ number-counted all j k before most =
 
 -- what stands at a place whose object holds a scalar
 scalar-stands : (f : List ℕ) (i k : ℕ) (number : ℕ → ℕ) (v : Plist) (s : Scalar) → Holds f i (held_at number k v) → Holds f i (holds_scalar s) → v ≡ scalar s
-scalar-stands f i k number (scalar t) s x y = let same = Holds-same f i (holds_scalar t) (holds_scalar s) x y in cc
-scalar-stands f i k number (list vs) s x y = absurd (let same = Holds-same f i (held_at number k (list vs)) (holds_scalar s) x y in cc)
-scalar-stands f i k number (table ps) s x y = absurd (let same = Holds-same f i (held_at number k (table ps)) (holds_scalar s) x y in cc)
+scalar-stands f i k number (scalar t) s x y = let same = same_held f i (holds_scalar t) (holds_scalar s) x y in cc
+scalar-stands f i k number (list vs) s x y = absurd (let same = same_held f i (held_at number k (list vs)) (holds_scalar s) x y in cc)
+scalar-stands f i k number (table ps) s x y = absurd (let same = same_held f i (held_at number k (table ps)) (holds_scalar s) x y in cc)
 
 module _ (f : List ℕ) (all : List Plist) (entry : ℕ → ℕ) (holds : (k : ℕ) (v : Plist) → value_at all k ≡ v → k < length all → Holds f (entry k) (held_at entry k v))
     (no_repeat : (i : ℕ) → i < (trailer_of f).count → IsNoRepeat f i) where

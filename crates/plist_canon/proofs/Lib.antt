@@ -21,7 +21,6 @@ pub mod Occupied
 pub mod Trailed
 pub mod Filed
 pub mod Formed
-pub mod HeldRanges
 pub mod Entries
 pub mod KeyPairs
 pub mod WalkTrees

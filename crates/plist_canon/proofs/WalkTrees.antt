@@ -15,7 +15,8 @@ use Rattle.plist_canon.specs.Tree.{key_texts, preorder, preorder_items, preorder
 use Rattle.plist_canon.proofs.Trees.{length-preorder, length-key_places, Stands-all}
 use Rattle.plist_canon.proofs.Sizes.{item_count}
 use Rattle.plist_canon.proofs.Spelled.{Spells-tree}
-use Rattle.plist_canon.proofs.HeldRanges.{Holds-held, Holds-same}
+use Rattle.plist_object.specs.Uniqueness.{same_held}
+use Rattle.plist_object.proofs.HeldRanges.{Holds-held}
 use Rattle.plist_canon.proofs.Entries.{AreNumbers, PlacesHold, AreNumbers-front, AreNumbers-rest, AreNumbers-own, PlacesHold-append, PlacesHold-at}
 use Rattle.plist_canon.proofs.KeyPairs.{pairs_of, put_texts, key_texts-pairs_of, preorder-pairs_of, places-pairs_of, AreItems-put_texts, ArePairs-pairs_of}
 
@@ -88,7 +89,7 @@ scalar-walked f i s entries octets holds xs = record {
   long = rw (no_entries f entries xs) refl;
   top = λ number k h. h.0;
   reads = λ number k h. (subst (λ n. Holds f n (holds_scalar s)) (sym h.0) holds, tt);
-  same_scalar = λ t other. let same = Holds-same f i (holds_scalar s) (holds_scalar t) holds other in cc;
+  same_scalar = λ t other. let same = same_held f i (holds_scalar s) (holds_scalar t) holds other in cc;
 }
 
 list-walked : (f : List ℕ) (i : ℕ) (refs entries : List ℕ) → Holds f i (holds_list refs) → WalkedItems f refs entries → WalkedTree f i (i ∷ entries)
@@ -98,7 +99,7 @@ list-walked f i refs entries holds xs = record {
   long = ap suc xs.long;
   top = λ number k h. h.0;
   reads = λ number k h. (rw (h.0, xs.named number (suc k) h.1) holds, xs.reads number (suc k) h.1);
-  same_scalar = λ t other. let same = Holds-same f i (holds_list refs) (holds_scalar t) holds other in cc;
+  same_scalar = λ t other. let same = same_held f i (holds_list refs) (holds_scalar t) holds other in cc;
 }
 
 -- references to texts name them in turn
@@ -137,7 +138,7 @@ module _ (f : List ℕ) (i : ℕ) (keys values entries : List ℕ) (octets : Are
     (holds : Holds f i (holds_table keys values)) (xs : WalkedItems f (keys ++ values) entries) where
   named_texts : (texts : List (List ℕ)) × HoldTexts f keys texts
   named_texts =
-      let same = Holds-same f i read.held (holds_table keys values) read.holds holds in
+      let same = same_held f i read.held (holds_table keys values) read.holds holds in
       texts_of f keys (subst (λ h. AllByRecursion (HoldsText f) (keys_of h)) same read.texts)
 
   abbrev texts : List (List ℕ)
@@ -185,7 +186,7 @@ module _ (f : List ℕ) (i : ℕ) (keys values entries : List ℕ) (octets : Are
     reads = λ number k h.
         let named = named_places number (suc k) h.1 in
         (rw (h.0, named.0, named.1) holds, subst (PlacesHold f number (suc k)) below (xs.reads number (suc k) h.1));
-    same_scalar = λ t other. let same = Holds-same f i (holds_table keys values) (holds_scalar t) holds other in cc;
+    same_scalar = λ t other. let same = same_held f i (holds_table keys values) (holds_scalar t) holds other in cc;
   }
 
 -- with the entries of the walk as numbers, the object of each place holds what stands there

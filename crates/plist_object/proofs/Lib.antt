@@ -1,5 +1,6 @@
 pub mod CanonicalHeads
 pub mod Counts
+pub mod HeldRanges
 pub mod Listed
 pub mod Read
 pub mod ReadBack

@@ -188,7 +188,3 @@ what_holds-held f i h = IfOk-then (object_at f i) _ (λ read. IsHeld read.0) _ (
 -- what an object of octets holds is in its ranges
 pub Holds-held : (f : List ℕ) (i : ℕ) (held : Held) → AreOctets f → Holds f i held → IsHeld held
 Holds-held f i held h holds = subst (λ r. IfOk r IsHeld) holds.reads (what_holds-held f i h)
-
--- and no other thing
-pub Holds-same : (f : List ℕ) (i : ℕ) (x y : Held) → Holds f i x → Holds f i y → x ≡ y
-Holds-same f i x y hx hy = let same : Ok x ≡ Ok y = sym hx.reads ∙ hy.reads in cc
