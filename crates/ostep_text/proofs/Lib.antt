@@ -3,6 +3,9 @@ pub mod StandsRows
 pub mod TextRows
 pub mod SortedLemmas
 pub mod PhraseLemmas
+pub mod SizeLemmas
+pub mod WholeLemmas
+pub mod FaultyProof
 pub mod WrittenLemmas
 pub mod WrittenUnits
 pub mod WrittenLexing
