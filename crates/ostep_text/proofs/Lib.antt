@@ -1,5 +1,6 @@
 pub mod Rows
 pub mod StandsRows
+pub mod ExpectedRows
 pub mod TextRows
 pub mod SortedLemmas
 pub mod PhraseLemmas

@@ -65,7 +65,7 @@ pub value-or-row : {tokens rest : List Lexeme} {key : List ℕ} {v w : Plist} �
 value-or-row (with_value p) q = no-value q
 value-or-row key_alone q = no-value q
 
-no-tokens : {v : Plist} {rest : List Lexeme} → Phrase [] v rest → ⊥
+pub no-tokens : {v : Plist} {rest : List Lexeme} → Phrase [] v rest → ⊥
 no-tokens h = elim h [ ]
 
 pub value-or-rows : {tokens : List Lexeme} {v : Plist} {rows : Pairs} → RowsPhrase tokens rows [] → Phrase tokens v [] → ⊥
