@@ -37,6 +37,15 @@ pub white_alone : HasTokens (codes " ") []
 unfolding encode_utf8
 white_alone = record { text = codes " "; spells = record { scalars = refl; spelled = refl }; lexes = none (Gap.piece (Gap.white refl) Gap.none) }
 
+-- `<>`
+pub empty_data : HasTokens (codes "<>") (at (octets []) 0 2 ∷ [])
+unfolding encode_utf8
+empty_data = record {
+  text = codes "<>";
+  spells = record { scalars = refl; spelled = refl };
+  lexes = next Gap.none (Lexeme.data_token Octets.close) (none Gap.none);
+}
+
 -- `"\177\1234\U41"`: an octal escape has at most three digits
 pub escapes : HasTokens (codes "\"\\177\\1234\\U41\"") (at (text (0x7f ∷ 0x53 ∷ 0x34 ∷ 0x41 ∷ [])) 0 15 ∷ [])
 unfolding encode_utf8
@@ -171,4 +180,22 @@ xml_form = record {
   white = Stands.none;
   begins = refl;
   stands = refl;
+}
+
+-- `fe ff fe ff`: a second mark is a character
+pub second_mark : HasFault (0xfe ∷ 0xff ∷ 0xfe ∷ 0xff ∷ []) (UnexpectedCharacter 2)
+second_mark = record {
+  tokens = [];
+  rest = 0xfeff ∷ [];
+  before = record { text = 0xfeff ∷ []; spells = record { scalars = refl; spelled = refl }; lexes = here };
+  stands = Stands.gap Gap.none (Stands.unexpected refl refl);
+}
+
+-- `"\Ug"` in big-endian UTF-16
+pub no_digit_in_utf16 : HasFault (0xfe ∷ 0xff ∷ 0 ∷ 0x22 ∷ 0 ∷ 0x5c ∷ 0 ∷ 0x55 ∷ 0 ∷ 0x67 ∷ 0 ∷ 0x22 ∷ []) (BadEscape 4)
+no_digit_in_utf16 = record {
+  tokens = [];
+  rest = codes "\"\\Ug\"";
+  before = record { text = codes "\"\\Ug\""; spells = record { scalars = refl; spelled = refl }; lexes = here };
+  stands = Stands.gap Gap.none (Stands.quoted refl (Stands.escape (Stands.no_digit refl)));
 }

@@ -94,7 +94,7 @@ fn slashes_in_runs_and_comments_between(rt: HostRuntime) -> Result<(), Fail> {
 #[test]
 fn one_token_alone(rt: HostRuntime) -> Result<(), Fail> {
     let pair = &[0xd83d, 0xde00];
-    let rows: [(&[u8], Shown, usize, usize); 9] = [
+    let rows: [(&[u8], Shown, usize, usize); 10] = [
         (
             b"\"\\177\\1234\\U41\"",
             Shown::Text(&[0x7f, 0x53, 0x34, 0x41]),
@@ -124,6 +124,7 @@ fn one_token_alone(rt: HostRuntime) -> Result<(), Fail> {
         ),
         (b"\"\\U123456\"", Shown::Text(&[0x1234, 0x35, 0x36]), 0, 10),
         (b" < 0f\x0bAb > ", Shown::Octets(&[0x0f, 0xab]), 1, 10),
+        (b"<>", Shown::Octets(&[]), 0, 2),
     ];
     for (octets, shown, start, end) in rows {
         let found = tokens(rt.alloc(), octets)?;
@@ -162,7 +163,7 @@ fn texts_of_no_token(rt: HostRuntime) -> Result<(), Fail> {
 
 #[test]
 fn texts_that_are_refused(rt: HostRuntime) -> Result<(), Fail> {
-    let rows: [(&[u8], LexFault); 27] = [
+    let rows: [(&[u8], LexFault); 28] = [
         (b"\"\\200\"", LexFault::OctalRange { octet: 1 }),
         (b"a/*c*/", LexFault::UnexpectedCharacter { octet: 2 }),
         (b"<0f b>", LexFault::OddData { octet: 4 }),
@@ -208,6 +209,11 @@ fn texts_that_are_refused(rt: HostRuntime) -> Result<(), Fail> {
             LexFault::BadUtf8 { octet: 8 },
         ),
         (b"a\xf0\x9f\x98", LexFault::BadUtf8 { octet: 1 }),
+        // A surrogate pair, each half in three octets.
+        (
+            b"\"\xed\xa0\xbd\xed\xb8\x80\"",
+            LexFault::BadUtf8 { octet: 1 },
+        ),
     ];
     for (octets, fault) in rows {
         assert_eq!(rt; tokens(rt.alloc(), octets).err(), Some(fault), "{octets:?}");

@@ -1,8 +1,12 @@
 pub mod Rows
 pub mod StandsRows
+pub mod ExpectedRows
 pub mod TextRows
 pub mod SortedLemmas
 pub mod PhraseLemmas
+pub mod SizeLemmas
+pub mod WholeLemmas
+pub mod FaultyProof
 pub mod WrittenLemmas
 pub mod WrittenUnits
 pub mod WrittenLexing

@@ -11,11 +11,11 @@ abbrev pub begins_row : List Lexeme → Bool
 begins_row (string units ∷ rest) = true
 begins_row _ = false
 
-row-begins : {tokens rest : List Lexeme} {key : List ℕ} {v : Plist} → RowPhrase tokens key v rest → begins_row tokens ≡ true
+pub row-begins : {tokens rest : List Lexeme} {key : List ℕ} {v : Plist} → RowPhrase tokens key v rest → begins_row tokens ≡ true
 row-begins (with_value p) = refl
 row-begins key_alone = refl
 
-no-phrase : {tokens rest : List Lexeme} {v : Plist} → Phrase (paren_close ∷ tokens) v rest → ⊥
+pub no-phrase : {tokens rest : List Lexeme} {v : Plist} → Phrase (paren_close ∷ tokens) v rest → ⊥
 no-phrase h = elim h [ ]
 
 mutual
@@ -43,7 +43,7 @@ mutual
       let f = Items-same r (subst (λ x. ItemsPhrase x ws (paren_close ∷ behind)) after_is s) in
       (cc (e.0, f.0), f.1)
 
-  Row-same : {tokens rest behind : List Lexeme} {key next : List ℕ} {v w : Plist} → RowPhrase tokens key v rest → RowPhrase tokens next w behind
+  pub Row-same : {tokens rest behind : List Lexeme} {key next : List ℕ} {v w : Plist} → RowPhrase tokens key v rest → RowPhrase tokens next w behind
       → (key ≡ next) × (v ≡ w) × (rest ≡ behind)
   Row-same (with_value p) (with_value q) = let e = Phrase-same p q in (refl, e.0, cc (e.1))
   Row-same key_alone key_alone = (refl, refl, refl)
@@ -61,14 +61,14 @@ mutual
 no-value : {key : List ℕ} {l : Lexeme} {tokens : List Lexeme} {v : Plist} → Phrase (string key ∷ l ∷ tokens) v [] → ⊥
 no-value h = elim h [ ]
 
-value-or-row : {tokens rest : List Lexeme} {key : List ℕ} {v w : Plist} → RowPhrase tokens key w rest → Phrase tokens v [] → ⊥
+pub value-or-row : {tokens rest : List Lexeme} {key : List ℕ} {v w : Plist} → RowPhrase tokens key w rest → Phrase tokens v [] → ⊥
 value-or-row (with_value p) q = no-value q
 value-or-row key_alone q = no-value q
 
-no-tokens : {v : Plist} {rest : List Lexeme} → Phrase [] v rest → ⊥
+pub no-tokens : {v : Plist} {rest : List Lexeme} → Phrase [] v rest → ⊥
 no-tokens h = elim h [ ]
 
-value-or-rows : {tokens : List Lexeme} {v : Plist} {rows : Pairs} → RowsPhrase tokens rows [] → Phrase tokens v [] → ⊥
+pub value-or-rows : {tokens : List Lexeme} {v : Plist} {rows : Pairs} → RowsPhrase tokens rows [] → Phrase tokens v [] → ⊥
 value-or-rows rows_end q = no-tokens q
 value-or-rows (a_row p r d) q = value-or-row p q
 

@@ -44,6 +44,16 @@ key_alone =
     Phrase.a_value (Phrase.a_table (Phrase.a_row Phrase.key_alone Phrase.rows_end refl)
     (record { same = Sorting.row Sorting.none Sorting.first; ascending = (tt, tt) }))
 
+-- `{a=a;}`: the same table
+pub key_with_itself : TopPhrase (brace_open ∷ a ∷ equals ∷ a ∷ semicolon ∷ brace_close ∷ []) (table (pair (codes "a") a_text no_pairs))
+key_with_itself =
+    Phrase.a_value (Phrase.a_table (Phrase.a_row (Phrase.with_value Phrase.a_string) Phrase.rows_end refl)
+    (record { same = Sorting.row Sorting.none Sorting.first; ascending = (tt, tt) }))
+
+-- `<>`: no data
+pub empty_data : TopPhrase (data_token [] ∷ []) (scalar (bytes []))
+empty_data = Phrase.a_value Phrase.some_data
+
 -- `"a" = "b"; "c";`: a table without its braces
 pub bare_table : TopPhrase (a ∷ equals ∷ b ∷ semicolon ∷ string (codes "c") ∷ semicolon ∷ [])
     (table (pair (codes "a") b_text (pair (codes "c") (scalar (text (codes "c"))) no_pairs)))
@@ -100,9 +110,10 @@ twice-rows (Phrase.a_row Phrase.key_alone (Phrase.a_row (Phrase.with_value Phras
 twice-phrase : {rest : List Lexeme} {v : Plist} → Phrase (brace_open ∷ a ∷ semicolon ∷ a ∷ equals ∷ b ∷ semicolon ∷ brace_close ∷ []) v rest → ⊥
 twice-phrase (Phrase.a_table p s) = twice-rows p
 
-twice-bare : {us : List Lexeme} {rows : Pairs} → RowsPhrase (brace_open ∷ us) rows [] → ⊥
-twice-bare (Phrase.a_row p q d) = elim p [ ]
+-- no row begins with a brace
+pub open-rows : {us : List Lexeme} {rows : Pairs} → RowsPhrase (brace_open ∷ us) rows [] → ⊥
+open-rows (Phrase.a_row p q d) = elim p [ ]
 
 pub key_twice-none : {v : Plist} → TopPhrase (brace_open ∷ a ∷ semicolon ∷ a ∷ equals ∷ b ∷ semicolon ∷ brace_close ∷ []) v → ⊥
 key_twice-none (Phrase.a_value p) = twice-phrase p
-key_twice-none (Phrase.bare_table p s) = twice-bare p
+key_twice-none (Phrase.bare_table p s) = open-rows p

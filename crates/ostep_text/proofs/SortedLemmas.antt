@@ -48,7 +48,7 @@ reordered-same (row {key = key} {v = v} {all = ps} r s) (row t u) h k =
 pub AreSorted-same : {rows ps qs : Pairs} → AreSorted rows ps → AreSorted rows qs → ps ≡ qs
 AreSorted-same s t = reordered-same s.same t.same s.ascending t.ascending
 
-not_true : (b : Bool) → (b ≡ true → ⊥) → b ≡ false
+pub not_true : (b : Bool) → (b ≡ true → ⊥) → b ≡ false
 not_true true h = absurd (h refl)
 not_true false h = refl
 

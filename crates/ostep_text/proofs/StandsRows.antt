@@ -15,7 +15,7 @@ use Rattle.ostep_text.specs.Begun.{NodeAt}
 use Rattle.ostep_text.specs.Stands
 use Rattle.ostep_text.specs.Sorting
 use Rattle.ostep_text.specs.Begun.{Before}
-use Rattle.ostep_text.proofs.Rows.{a, b}
+use Rattle.ostep_text.proofs.Rows.{a, b, open-rows}
 use Rattle.ostep_text.specs.Stands.{HasKeyTwice, IsUnfinished, HasJunk, IsPhrase, BeginsPhrase}
 
 abbrev pub at : Lexeme → ℕ → ℕ → Placed
@@ -82,12 +82,6 @@ brace-rows (Phrase.a_row p q d) = brace-row p
 
 brace-phrase : {us rest : List Lexeme} {v : Plist} → Phrase (brace_open ∷ a ∷ equals ∷ b ∷ brace_close ∷ us) v rest → ⊥
 brace-phrase (Phrase.a_table p s) = brace-rows p
-
-open-row : {us rest : List Lexeme} {key : List ℕ} {v : Plist} → RowPhrase (brace_open ∷ us) key v rest → ⊥
-open-row h = elim h [ ]
-
-open-rows : {us : List Lexeme} {rows : Pairs} → RowsPhrase (brace_open ∷ us) rows [] → ⊥
-open-rows (Phrase.a_row p q d) = open-row p
 
 brace-top : {us : List Lexeme} {v : Plist} → TopPhrase (brace_open ∷ a ∷ equals ∷ b ∷ brace_close ∷ us) v → ⊥
 brace-top (Phrase.a_value p) = brace-phrase p
@@ -205,7 +199,7 @@ equals_first =
     (λ h. equals-top h.1.1)
 
 -- `a = b`: the end
-end-value : {us : List Lexeme} {v : Plist} → Phrase (a ∷ equals ∷ us) v [] → ⊥
+pub end-value : {us : List Lexeme} {v : Plist} → Phrase (a ∷ equals ∷ us) v [] → ⊥
 end-value h = elim h [ ]
 
 end-rows : {rows : Pairs} → RowsPhrase (a ∷ equals ∷ b ∷ []) rows [] → ⊥
@@ -249,7 +243,7 @@ close-row h = elim h [ ]
 close-rows : {us : List Lexeme} {rows : Pairs} → RowsPhrase (brace_close ∷ us) rows [] → ⊥
 close-rows (Phrase.a_row p q d) = close-row p
 
-row-behind : {us rest : List Lexeme} {key : List ℕ} {v : Plist} → RowPhrase (a ∷ equals ∷ b ∷ semicolon ∷ us) key v rest → rest ≡ us
+pub row-behind : {us rest : List Lexeme} {key : List ℕ} {v : Plist} → RowPhrase (a ∷ equals ∷ b ∷ semicolon ∷ us) key v rest → rest ≡ us
 row-behind (Phrase.with_value Phrase.a_string) = refl
 
 junk-rows : {us : List Lexeme} {rows : Pairs} → RowsPhrase (a ∷ equals ∷ b ∷ semicolon ∷ brace_close ∷ us) rows [] → ⊥

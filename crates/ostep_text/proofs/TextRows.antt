@@ -49,3 +49,14 @@ empty_text = record {
   is_plist = tt;
   fits = record { nodes_fit = lit≤ tt; depth_fits = lit≤ tt; payload_fits = lit≤ tt };
 }
+
+-- one space
+pub white_text : IsText (codes " ") (table no_pairs)
+unfolding encode_utf8
+white_text = record {
+  tokens = [];
+  has = record { text = codes " "; spells = record { scalars = refl; spelled = refl }; lexes = none (Gap.piece (Gap.white refl) Gap.none) };
+  phrase = empty_table;
+  is_plist = tt;
+  fits = record { nodes_fit = lit≤ tt; depth_fits = lit≤ tt; payload_fits = lit≤ tt };
+}

@@ -3,12 +3,19 @@ use Rattle.std.specs.Prelude.{◌≡◌, ℕ, ◌+◌, ◌*◌, ◌≤◌, false
 use Rattle.std.specs.List.{starts_with}
 use Rattle.plist_value.specs.Plist.{Plist, IsPlist}
 use Rattle.plist_value.specs.Limits.{nodes, payload, Fits}
-use Rattle.ostep_text.specs.Text.{IsText}
+use Rattle.ostep_text.specs.declared.fault.TextFault.{TextFault}
+use Rattle.ostep_text.specs.declared.fault.TextFault.TheVariants.{OutOfMemory}
+use Rattle.ostep_text.specs.Text.{IsText, IsNoText}
+use Rattle.ostep_text.specs.Stands.{Stands}
 use Rattle.ostep_text.specs.Written.{text_of}
 
 -- no octets are a text of two values
 abbrev pub OneValue : Type 0
 OneValue = (octets : List ℕ) (v w : Plist) → IsText octets v → IsText octets w → v ≡ w
+
+-- octets in which a fault stands are a text of no value
+abbrev pub FaultyIsNoText : Type 0
+FaultyIsNoText = (octets : List ℕ) (fault : TextFault) → Stands octets fault → ¬ (fault ≡ OutOfMemory) → IsNoText octets
 
 -- the octets are a text of the value, are not read as a binary file, and are not too many
 pub record IsShortText (octets : List ℕ) (v : Plist) : Type 0 where

@@ -1,9 +1,13 @@
--- Where each fault of a text that has tokens stands.
-use Rattle.std.specs.Prelude.{◌≡◌, ℕ, ◌+◌, ◌*◌, ◌<◌, ◌≤◌, true, List, [], ◌∷◌, ◌++◌, length}
+-- Where each fault of a text stands.
+use Rattle.std.specs.Prelude.{◌≡◌, ℕ, ◌+◌, ◌*◌, ◌<◌, ◌≤◌, true, List, [], ◌∷◌, ◌++◌, length, ⊤}
 use Rattle.plist_value.specs.Plist.{Plist, Pairs}
 use Rattle.plist_value.specs.declared.TheConstants.{MAX_NODES, MAX_DEPTH, MAX_PAYLOAD}
 use Rattle.ostep_lex.specs.Lexeme.{Lexeme, text as string, octets as data_token, Placed}
 use Rattle.ostep_lex.specs.Lexing.{HasTokens}
+use Rattle.ostep_lex.specs.declared.fault.LexFault.TheVariants as tokens
+use Rattle.ostep_lex.specs.Stands.{Stands as StandsInTokens}
+use Rattle.ostep_text.specs.declared.fault.TextFault.{TextFault}
+use Rattle.ostep_text.specs.declared.fault.TextFault.TheVariants.{DuplicateKey, TooDeep, TooManyNodes, TooMuchPayload, BadUtf8, XmlForm, UnexpectedCharacter, UnclosedString, UnclosedComment, BadEscape, OctalRange, OddData, BadData, Expected, Junk, BadUtf16, OutOfMemory}
 use Rattle.ostep_text.specs.Phrase.{RowsPhrase, TopPhrase}
 use Rattle.ostep_text.specs.Sorting.{has_key}
 use Rattle.ostep_text.specs.Begun.{Before, RowsAt, NodeAt}
@@ -91,3 +95,23 @@ pub data IsUnfinished (octets : List ℕ) (at : ℕ) : Type 0 where
 pub data HasJunk (octets : List ℕ) (at : ℕ) : Type 0 where
   behind_phrase : {first token : Lexeme} {more others : List Lexeme} → Splits octets at (first ∷ more) (token ∷ others)
       → IsPhrase (first ∷ more) → ¬ BeginsPhrase (first ∷ (more ++ token ∷ [])) → HasJunk octets at
+
+-- the octets have the fault at its place; of the octets want of memory says nothing
+abbrev pub Stands : List ℕ → TextFault → Type 0
+Stands octets (DuplicateKey at) = HasKeyTwice octets at
+Stands octets (TooDeep at) = IsTooDeep octets at
+Stands octets (TooManyNodes at) = HasTooManyNodes octets at
+Stands octets (TooMuchPayload at) = HasTooMuchPayload octets at
+Stands octets (BadUtf8 at) = StandsInTokens octets (tokens.BadUtf8 at)
+Stands octets (XmlForm at) = StandsInTokens octets (tokens.XmlForm at)
+Stands octets (UnexpectedCharacter at) = StandsInTokens octets (tokens.UnexpectedCharacter at)
+Stands octets (UnclosedString at) = StandsInTokens octets (tokens.UnclosedString at)
+Stands octets (UnclosedComment at) = StandsInTokens octets (tokens.UnclosedComment at)
+Stands octets (BadEscape at) = StandsInTokens octets (tokens.BadEscape at)
+Stands octets (OctalRange at) = StandsInTokens octets (tokens.OctalRange at)
+Stands octets (OddData at) = StandsInTokens octets (tokens.OddData at)
+Stands octets (BadData at) = StandsInTokens octets (tokens.BadData at)
+Stands octets (Expected at) = IsUnfinished octets at
+Stands octets (Junk at) = HasJunk octets at
+Stands octets (BadUtf16 at) = StandsInTokens octets (tokens.BadUtf16 at)
+Stands octets OutOfMemory = ⊤

@@ -5,6 +5,13 @@
 //!
 //! The definitions stand in `specs/`: what is a text of a value, where each refusal stands, and the
 //! text that is written for a value. What holds of them alone is proved in `laws`.
+//! `TextFault` says why octets are a text of no value.
 #![tactic(auto)]
 
+pub mod fault;
 pub mod laws;
+
+pub use fault::TextFault;
+
+#[cfg(test)]
+mod tests;
