@@ -15,3 +15,4 @@ pub mod Shown
 pub mod TableSteps
 pub mod Worked
 pub mod WorkedFaults
+pub mod WorkedShared

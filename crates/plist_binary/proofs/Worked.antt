@@ -12,7 +12,7 @@ use Rattle.plist_object.specs.Objects.{holds_scalar, holds_table, marked_object,
 use Rattle.plist_object.specs.Places.{Holds, what_holds, object_at, octets_at}
 use Rattle.plist_object.specs.Spelled.{Spells, SpellPairs, IsBinary}
 
-all_under : (bound : ℕ) (xs : List ℕ) → 0 < bound → list_all (λ x. nat_lt x bound) xs ≡ true → AllUnder bound xs
+pub all_under : (bound : ℕ) (xs : List ℕ) → 0 < bound → list_all (λ x. nat_lt x bound) xs ≡ true → AllUnder bound xs
 all_under bound [] h e i = h
 all_under bound (x ∷ xs) h e zero = ltb-true x bound (and_parts (nat_lt x bound) (list_all (λ x. nat_lt x bound) xs) e).0
 all_under bound (x ∷ xs) h e (suc i) =
