@@ -188,7 +188,7 @@ fn keys_and_cycles(rt: HostRuntime) -> Result<(), Fail> {
     Ok(())
 }
 
-// To refuse memory run this with `--fail-alloc N`, N from 1 on.
+// To refuse memory: `rt try --test --fail-alloc N -- tests::want_of_memory_changes_no_answer`, N from 1 to 9.
 #[test]
 fn want_of_memory_changes_no_answer(rt: HostRuntime) -> Result<(), Fail> {
     let shared =
