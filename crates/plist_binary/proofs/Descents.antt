@@ -1,16 +1,15 @@
 -- What an object spells is less than what an object spells that leads to it, so that a cycle spells nothing.
-use Rattle.std.proofs.Common.{◌≡◌, ℕ, suc, ◌+◌, ◌<◌, ◌≤◌, List, [], ◌∷◌, ◌++◌, length, refl, sym, ap, ◌∙◌, subst, ⊎_elim, inl, inr, arith}
+use Rattle.std.proofs.Common.{◌≡◌, ℕ, suc, ◌+◌, ◌≤◌, List, [], ◌∷◌, ◌++◌, length, sym, ap, subst, ⊎_elim, inl, inr, arith}
 use Rattle.std.specs.Prelude.{◌⊎◌}
 use Rattle.std.specs.List.{Contains, zip}
-use Rattle.std.specs.List.Sorted.{IsPermutation}
-use Rattle.plist_value.specs.Plist.{Scalar, text, Plist, scalar, list, table, Items, no_items, item, Pairs, no_pairs, pair, IsPlist, AreItems, ArePairs}
+use Rattle.plist_value.specs.Plist.{text, Plist, scalar, list, table, Items, no_items, item, Pairs, no_pairs, pair, IsPlist, AreItems, ArePairs}
 use Rattle.plist_value.specs.Limits.{nodes, nodes_of_items, nodes_of_pairs}
 use Rattle.plist_object.specs.Objects.{Held, holds_scalar, holds_list, holds_table}
 use Rattle.plist_object.specs.Places.{Holds}
 use Rattle.plist_object.specs.Spelled.{Spells, SpellItems, SpellPairs}
 use Rattle.plist_object.specs.Ascending.{Among, Among-contains, Among-permutation}
-use Rattle.plist_object.specs.Uniqueness.{same_held, same_value}
-use Rattle.plist_binary.specs.Paths.{references_in, Refers, Leads}
+use Rattle.plist_object.specs.Uniqueness.{same_held}
+use Rattle.plist_binary.specs.Paths.{references_in, Refers}
 use Rattle.plist_binary.proofs.Paired.{length-values}
 
 -- the object spells a value of at most so many nodes

@@ -1,28 +1,25 @@
 -- Why a reference to an object is refused before the object is looked at, or for the object's own fault.
-use Rattle.std.proofs.Common.{◌≡◌, ℕ, suc, ◌+◌, ◌-◌, ◌<◌, ◌≤◌, ◌==◌, List, [], ◌∷◌, length, slice_index, Ok, Err, true, false, refl, sym, ap, ◌∙◌, subst, ⊎_elim, inl, inr, arith}
-use Rattle.std.specs.Prelude.{◌⊎◌, ◌≢◌, ⊤, Result}
+use Rattle.std.proofs.Common.{◌≡◌, ℕ, suc, ◌+◌, ◌-◌, ◌<◌, ◌≤◌, ◌==◌, List, [], ◌∷◌, length, Err, true, false, sym, subst, ⊎_elim, inl, inr, arith}
+use Rattle.std.specs.Prelude.{◌≢◌}
 use Rattle.std.proofs.Math.Dec.{eqb}
 use Rattle.std.proofs.lemmas.Bool.Decides.{eqb_tells}
-use Rattle.std.specs.List.{Contains, list_any, sum_by}
+use Rattle.std.specs.List.{list_any}
 use Rattle.plist_value.specs.Plist.{Plist, scalar, list, table, IsPlist}
-use Rattle.plist_value.specs.Limits.{nodes, depth, payload}
+use Rattle.plist_value.specs.Limits.{nodes, depth}
 use Rattle.plist_value.specs.declared.TheConstants.{MAX_DEPTH}
 use Rattle.plist_object.specs.declared.object.ObjectFault.{ObjectFault}
 use Rattle.plist_object.specs.declared.object.ObjectFault.TheVariants as object
 use Rattle.plist_object.specs.Layout.{IsLaid, trailer_of}
-use Rattle.plist_object.specs.Objects.{Held}
-use Rattle.plist_object.specs.Places.{Holds, what_holds}
+use Rattle.plist_object.specs.Places.{what_holds}
 use Rattle.plist_object.specs.Spelled.{Spells}
 use Rattle.plist_object.specs.Ascending.{Among, Contains-among}
 use Rattle.plist_object.specs.Uniqueness.{same_value}
 use Rattle.plist_binary.specs.declared.budget.Budget.{Budget}
-use Rattle.plist_binary.specs.declared.fault.BinaryFault.{BinaryFault}
 use Rattle.plist_binary.specs.declared.fault.BinaryFault.TheVariants.{Cycle, TooDeep, TooManyNodes}
-use Rattle.plist_binary.specs.Budgets.{Affords}
 use Rattle.plist_binary.specs.Codes.{placed}
 use Rattle.plist_binary.specs.Faults.{StandsWithin, IsFaulty}
-use Rattle.plist_binary.specs.Paths.{Refers, Leads, EndsPath}
-use Rattle.plist_binary.specs.Reach.{reach, nodes_reached, payload_reached, references_read, to_objects}
+use Rattle.plist_binary.specs.Paths.{Leads}
+use Rattle.plist_binary.specs.Reach.{nodes_reached, payload_reached}
 use Rattle.plist_binary.specs.Readings.{Refuses}
 use Rattle.plist_binary.proofs.Descents.{descends, SpellsBelow}
 use Rattle.plist_binary.proofs.Held.{Spells-held}

@@ -1,16 +1,15 @@
 -- The items of a container, reference after reference.
-use Rattle.std.proofs.Common.{◌≡◌, ℕ, suc, ◌+◌, ◌<◌, ◌≤◌, List, [], ◌∷◌, ◌++◌, length, take, drop, slice_index, refl, sym, ap, ◌∙◌, subst, arith}
+use Rattle.std.proofs.Common.{◌≡◌, ℕ, ◌+◌, ◌<◌, ◌≤◌, List, [], ◌∷◌, ◌++◌, refl, subst, arith}
 use Rattle.plist_value.specs.Plist.{Plist, Items, no_items, item, IsPlist, AreItems}
 use Rattle.plist_value.specs.Limits.{nodes, depth, payload, nodes_of_items, depth_of_items, payload_of_items}
 use Rattle.plist_object.specs.Layout.{IsLaid, trailer_of}
-use Rattle.plist_object.specs.Places.{Holds, what_holds}
+use Rattle.plist_object.specs.Places.{what_holds}
 use Rattle.plist_object.specs.Spelled.{Spells, SpellItems}
 use Rattle.plist_object.specs.Uniqueness.{same_items}
 use Rattle.plist_binary.specs.declared.budget.Budget.{Budget}
 use Rattle.plist_binary.specs.declared.fault.BinaryFault.{BinaryFault}
 use Rattle.plist_binary.specs.declared.fault.BinaryFault.TheVariants.{BadReference, OutOfMemory}
-use Rattle.plist_binary.specs.Budgets.{Affords, UnlessMemory}
-use Rattle.plist_binary.specs.Faults.{StandsWithin}
+use Rattle.plist_binary.specs.Budgets.{Affords}
 use Rattle.plist_binary.specs.Paths.{Refers, Leads}
 use Rattle.plist_binary.specs.Reach.{payload_read, nodes_reached, payload_reached, nodes_from, payload_from}
 use Rattle.plist_binary.specs.Readings.{Reads, Refuses, ReadsItems, RefusesItems}

@@ -1,9 +1,7 @@
 -- The keys of a table, reference after reference.
-use Rattle.std.proofs.Common.{◌≡◌, ℕ, ◌+◌, ◌*◌, ◌<◌, ◌≤◌, List, [], ◌∷◌, ◌++◌, length, Ok, refl, sym, ap, ◌∙◌, subst, ⊎_elim, inl, inr, arith}
-use Rattle.std.specs.Prelude.{◌⊎◌}
-use Rattle.std.specs.List.{Contains}
-use Rattle.plist_value.specs.Plist.{Scalar, text, Plist, scalar, Items, no_items, item, IsPlist, AreItems}
-use Rattle.plist_value.specs.Limits.{nodes, depth, payload, nodes_of_items, depth_of_items, payload_of_items}
+use Rattle.std.proofs.Common.{◌≡◌, ℕ, ◌+◌, ◌*◌, ◌<◌, ◌≤◌, List, [], ◌∷◌, ◌++◌, length, Ok, refl, sym, ap, subst, ⊎_elim, inl, inr, arith}
+use Rattle.plist_value.specs.Plist.{text, scalar, Items, item, IsPlist, AreItems}
+use Rattle.plist_value.specs.Limits.{nodes_of_items, depth_of_items, payload_of_items}
 use Rattle.plist_object.specs.Layout.{IsLaid, trailer_of}
 use Rattle.plist_object.specs.Objects.{Held, holds_scalar, holds_list, holds_table}
 use Rattle.plist_object.specs.Places.{Holds, what_holds}
@@ -12,15 +10,15 @@ use Rattle.plist_object.specs.Ascending.{Among, Among-contains, Contains-among}
 use Rattle.plist_object.specs.Uniqueness.{same_held, same_items}
 use Rattle.plist_binary.specs.declared.budget.Budget.{Budget}
 use Rattle.plist_binary.specs.declared.fault.BinaryFault.{BinaryFault}
-use Rattle.plist_binary.specs.declared.fault.BinaryFault.TheVariants.{BadReference, KeyNotText, OutOfMemory}
-use Rattle.plist_binary.specs.Budgets.{Affords, UnlessMemory}
-use Rattle.plist_binary.specs.Faults.{StandsWithin, IsText}
-use Rattle.plist_binary.specs.Paths.{references_in, Refers, AllRefer, HasKeys, IsKeyOf, Leads}
+use Rattle.plist_binary.specs.declared.fault.BinaryFault.TheVariants.{KeyNotText}
+use Rattle.plist_binary.specs.Budgets.{Affords}
+use Rattle.plist_binary.specs.Faults.{IsText}
+use Rattle.plist_binary.specs.Paths.{Refers, AllRefer, IsKeyOf, Leads}
 use Rattle.plist_binary.specs.Reach.{payload_read, nodes_reached, payload_reached, nodes_from, payload_from}
 use Rattle.plist_binary.specs.Readings.{Reads, Refuses, ReadsItems, RefusesItems, texts, RefusesKey, RefusesKeys}
 use Rattle.plist_binary.proofs.Reaching.{reach_from-middle, widen}
-use Rattle.plist_binary.proofs.Sequences.{push, take_apart, Parts}
-use Rattle.plist_binary.proofs.ItemSteps.{ReadsItems-push, RefusesItems-nowhere}
+use Rattle.plist_binary.proofs.Sequences.{push, take_apart}
+use Rattle.plist_binary.proofs.ItemSteps.{ReadsItems-push}
 
 among_left : (i : ℕ) (xs ys : List ℕ) → Among i xs → Among i (xs ++ ys)
 among_left i [] ys among = absurd among

@@ -13,3 +13,6 @@ pub mod Rows
 pub mod Sequences
 pub mod Shown
 pub mod TableSteps
+pub mod Worked
+pub mod WorkedFaults
+pub mod WorkedShared

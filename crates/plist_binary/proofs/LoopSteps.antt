@@ -1,5 +1,5 @@
 -- One step of a loop over references, by the place of the reference.
-use Rattle.std.proofs.Common.{◌≡◌, ℕ, suc, ◌+◌, ◌<◌, ◌≤◌, List, [], ◌∷◌, ◌++◌, length, take, drop, drop-cons, slice_index, refl, sym, ap, ◌∙◌, subst, arith}
+use Rattle.std.proofs.Common.{◌≡◌, ℕ, suc, ◌+◌, ◌<◌, ◌≤◌, List, [], ◌∷◌, ◌++◌, length, take, drop, drop-cons, slice_index, sym, ap, ◌∙◌, subst}
 use Rattle.std.proofs.lemmas.List.{take_more, take-append-drop, get_or_default}
 use Rattle.std.specs.List.{Contains}
 use Rattle.plist_value.specs.Plist.{text, Plist, scalar, Items}
@@ -7,7 +7,7 @@ use Rattle.plist_object.specs.Layout.{IsLaid, trailer_of}
 use Rattle.plist_binary.specs.declared.budget.Budget.{Budget}
 use Rattle.plist_binary.specs.declared.fault.BinaryFault.{BinaryFault}
 use Rattle.plist_binary.specs.declared.fault.BinaryFault.TheVariants.{BadReference}
-use Rattle.plist_binary.specs.Paths.{Refers, AllRefer, HasKeys, IsKeyOf, Leads}
+use Rattle.plist_binary.specs.Paths.{AllRefer, HasKeys, Leads}
 use Rattle.plist_binary.specs.Readings.{Reads, Refuses, ReadsItems, RefusesItems, texts, RefusesKey, RefusesKeys}
 use Rattle.plist_binary.proofs.Sequences.{push}
 use Rattle.plist_binary.proofs.ItemSteps.{ReadsItems-push, RefusesItems-at, RefusesItems-nowhere}

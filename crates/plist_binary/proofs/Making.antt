@@ -1,22 +1,22 @@
 -- What an object spells, from what its content, its items or its pairs took of the budget.
-use Rattle.std.proofs.Common.{◌≡◌, ℕ, suc, ◌+◌, ◌<◌, ◌≤◌, List, [], ◌∷◌, ◌++◌, length, Ok, refl, sym, ap, ◌∙◌, subst, ⊎_elim, arith}
-use Rattle.std.specs.Prelude.{◌⊎◌, Result}
+use Rattle.std.proofs.Common.{◌≡◌, ℕ, ◌+◌, ◌<◌, ◌≤◌, List, ◌++◌, Ok, refl, sym, ap, ◌∙◌, subst, arith}
+use Rattle.std.specs.Prelude.{Result}
 use Rattle.std.specs.List.{zip}
 use Rattle.std.specs.List.Sorted.{IsPermutation}
 use Rattle.plist_value.specs.Plist.{Scalar, Plist, scalar, list, table, Items, Pairs, IsScalar, IsPlist}
-use Rattle.plist_value.specs.Limits.{nodes, depth, payload, payload_of_scalar, nodes_of_items, depth_of_items, payload_of_items, nodes_of_pairs, depth_of_pairs, payload_of_pairs}
+use Rattle.plist_value.specs.Limits.{nodes, depth, payload, payload_of_scalar}
 use Rattle.plist_object.specs.declared.object.ObjectFault.{ObjectFault}
 use Rattle.plist_object.specs.Layout.{IsLaid, trailer_of}
 use Rattle.plist_object.specs.Objects.{Held, holds_scalar, holds_list, holds_table}
 use Rattle.plist_object.specs.Places.{Holds, what_holds}
-use Rattle.plist_object.specs.Spelled.{Spells, SpellItems, SpellPairs}
+use Rattle.plist_object.specs.Spelled.{Spells, SpellItems}
 use Rattle.plist_object.specs.Uniqueness.{same_held}
 use Rattle.plist_binary.specs.declared.budget.Budget.{Budget}
 use Rattle.plist_binary.specs.declared.fault.BinaryFault.{BinaryFault}
 use Rattle.plist_binary.specs.declared.fault.BinaryFault.TheVariants.{TooMuchPayload, OutOfMemory}
 use Rattle.plist_binary.specs.Budgets.{Spends, Affords}
 use Rattle.plist_binary.specs.Paths.{Leads}
-use Rattle.plist_binary.specs.Reach.{reach_from, payload_read, references_read, nodes_reached, payload_reached, nodes_from, payload_from}
+use Rattle.plist_binary.specs.Reach.{payload_read, references_read, nodes_reached, payload_reached, nodes_from, payload_from}
 use Rattle.plist_binary.specs.Readings.{Reads, Refuses, ReadsItems, RefusesItems, ReadsPairs, RefusesPairs}
 use Rattle.plist_binary.proofs.Reaching.{reach-next, reach_from-append, widen}
 

@@ -1,17 +1,17 @@
 -- The rows of a table in the order of the file, and in the order of the keys.
-use Rattle.std.proofs.Common.{◌≡◌, ℕ, ◌+◌, ◌*◌, ◌<◌, ◌≤◌, max, List, [], ◌∷◌, ◌++◌, length, get_or, set, map, refl, sym, ap, ◌∙◌, subst, arith}
+use Rattle.std.proofs.Common.{◌≡◌, ℕ, ◌+◌, ◌*◌, ◌<◌, ◌≤◌, List, [], ◌∷◌, length, get_or, set, map, refl, sym, ap, ◌∙◌, arith}
 use Rattle.std.specs.declared.cmp.Ordering.TheVariants.{Less}
 use Rattle.std.specs.Ordering.{nat_cmp}
 use Rattle.std.specs.Cmp.Lexicographic.{slice_cmp}
-use Rattle.std.specs.List.{AllByRecursion, All, IsDistinct, swap, zip, sum_by}
+use Rattle.std.specs.List.{AllByRecursion, IsDistinct, swap, zip, sum_by}
 use Rattle.std.specs.List.Sorted.{IsPermutation, IsStrictlySortedBy}
 use Rattle.std.specs.Map.{keys_of}
 use Rattle.std.proofs.lemmas.Cmp.{nat_list_cmp_total}
 use Rattle.std.proofs.lemmas.List.{length-map, map-set, get_or-map}
 use Rattle.std.proofs.lemmas.List.Elements.{All-from_recursion, recursion_from_All}
-use Rattle.std.proofs.lemmas.List.Sorted.{IsPermutation-refl, IsPermutation-sym, IsPermutation-swap, IsPermutation-trans, IsPermutation-map, IsPermutation-keeps, All-permutation, sum_by-IsPermutation}
+use Rattle.std.proofs.lemmas.List.Sorted.{IsPermutation-refl, IsPermutation-swap, IsPermutation-trans, IsPermutation-keeps, All-permutation}
 use Rattle.std.proofs.lemmas.List.Sums.{sum_by-cons}
-use Rattle.plist_value.specs.Plist.{text, Plist, scalar, Items, no_items, item, Pairs, no_pairs, pair, AreUnits, IsPlist, AreItems, ArePairs, IsKeyBelow}
+use Rattle.plist_value.specs.Plist.{text, Plist, Pairs, no_pairs, pair, AreUnits, IsPlist, AreItems, ArePairs, IsKeyBelow}
 use Rattle.plist_value.specs.Limits.{nodes, depth, payload, nodes_of_items, depth_of_items, payload_of_items, nodes_of_pairs, depth_of_pairs, payload_of_pairs}
 use Rattle.plist_value.specs.View.{items_of, pairs_of}
 use Rattle.plist_object.specs.Objects.{holds_scalar}
@@ -19,7 +19,7 @@ use Rattle.plist_object.specs.Places.{Holds}
 use Rattle.plist_object.specs.Spelled.{Spells, SpellItems, SpellPairs}
 use Rattle.plist_binary.specs.Readings.{texts}
 use Rattle.plist_binary.proofs.Ascents.{distinct_from_ascent}
-use Rattle.plist_binary.proofs.Inserting.{same_key, zip-firsts, zip-seconds}
+use Rattle.plist_binary.proofs.Inserting.{same_key}
 
 map-swap : {A B : Type 0} (g : A → B) (xs : List A) (i j : ℕ) → i < length xs → j < length xs → map g (swap xs i j) ≡ swap (map g xs) i j
 map-swap g [] i j h k = refl

@@ -1,5 +1,5 @@
 -- How a list and a table are seen.
-use Rattle.std.proofs.Common.{◌≡◌, ℕ, List, refl, sym, ap, ◌∙◌, rules}
+use Rattle.std.proofs.Common.{◌≡◌, ℕ, List, sym, ap, ◌∙◌}
 use Rattle.plist_value.specs.Plist.{Plist, list, table}
 use Rattle.plist_value.specs.View.{view, view_step, view_items, view_pairs}
 use Rattle.plist_value.specs.declared.value.Value as shown

@@ -1,37 +1,34 @@
 -- A table, from its keys and its values in turn.
-use Rattle.std.proofs.Common.{◌≡◌, ℕ, zero, suc, ◌+◌, ◌*◌, ◌<◌, ◌≤◌, List, [], ◌∷◌, length, get_or, slice_index, map, true, false, refl, sym, ap, ◌∙◌, subst, ⊎_elim, inl, inr, arith}
-use Rattle.std.specs.Prelude.{◌⊎◌, Bool}
+use Rattle.std.proofs.Common.{◌≡◌, ℕ, zero, suc, ◌+◌, ◌<◌, ◌≤◌, List, [], ◌∷◌, length, get_or, slice_index, map, true, false, refl, sym, ap, ◌∙◌, subst, ⊎_elim, inl, inr, arith}
+use Rattle.std.specs.Prelude.{◌⊎◌}
 use Rattle.std.specs.declared.cmp.Ordering.{Ordering}
 use Rattle.std.specs.declared.cmp.Ordering.TheVariants.{Less, Equal, Greater}
 use Rattle.std.specs.Ordering.{is_eq, nat_cmp}
 use Rattle.std.specs.Cmp.Lexicographic.{slice_cmp}
-use Rattle.std.specs.List.{AllByRecursion, IsDistinct, zip, sum_by}
+use Rattle.std.specs.List.{AllByRecursion, IsDistinct, zip}
 use Rattle.std.specs.List.Sorted.{IsPermutation, IsStrictlySortedBy}
 use Rattle.std.specs.Map.{keys_of}
 use Rattle.std.proofs.lemmas.List.Sorted.{IsPermutation-sym, IsPermutation-map, sum_by-IsPermutation}
-use Rattle.std.proofs.lemmas.Map.Keys.{IsDistinct-cons}
 use Rattle.std.proofs.lemmas.Map.Lookups.{exact_bytes}
 use Rattle.plist_value.specs.declared.value.Value.{Value}
-use Rattle.plist_value.specs.Plist.{text, Plist, scalar, Items, no_items, item, Pairs, IsPlist, AreItems, ArePairs}
-use Rattle.plist_value.specs.Limits.{nodes, depth, payload, nodes_of_items, depth_of_items, payload_of_items, nodes_of_pairs, depth_of_pairs, payload_of_pairs}
+use Rattle.plist_value.specs.Plist.{text, Plist, Pairs, AreItems, ArePairs}
+use Rattle.plist_value.specs.Limits.{nodes_of_items, depth_of_items, payload_of_items, nodes_of_pairs, depth_of_pairs, payload_of_pairs}
 use Rattle.plist_value.specs.View.{view, items_of, pairs_of, view_items, view_pairs}
 use Rattle.plist_object.specs.Layout.{IsLaid}
 use Rattle.plist_object.specs.Objects.{holds_scalar, holds_table}
 use Rattle.plist_object.specs.Places.{Holds}
-use Rattle.plist_object.specs.Spelled.{Spells, SpellItems, SpellPairs}
+use Rattle.plist_object.specs.Spelled.{SpellItems, SpellPairs}
 use Rattle.plist_object.specs.Uniqueness.{same_items}
 use Rattle.plist_binary.specs.declared.budget.Budget.{Budget}
 use Rattle.plist_binary.specs.declared.fault.BinaryFault.{BinaryFault}
 use Rattle.plist_binary.specs.declared.fault.BinaryFault.TheVariants.{DuplicateKey, OutOfMemory}
-use Rattle.plist_binary.specs.Budgets.{Affords}
-use Rattle.plist_binary.specs.Faults.{StandsWithin}
 use Rattle.plist_binary.specs.Paths.{Leads}
 use Rattle.plist_binary.specs.Reach.{nodes_from, payload_from}
 use Rattle.plist_binary.specs.Readings.{ReadsItems, RefusesItems, texts, RefusesKeys, ReadsPairs, RefusesPairs}
 use Rattle.plist_binary.proofs.Ascents.{distinct_moved}
 use Rattle.plist_binary.proofs.Inserting.{same_key, zip-firsts, zip-seconds}
 use Rattle.plist_binary.proofs.Reaching.{widen}
-use Rattle.plist_binary.proofs.Rows.{pull, Row, AreRows, AreRows-moved, listed, nodes_of_pair, payload_of_pair, length-listed, AreRows-listed, nodes-listed, payload-listed, keys_distinct, row_keys, row_values, key_refs, value_refs, SpellItems-keys, SpellItems-values, nodes-rows, payload-rows, AreRows-items, SpellPairs-rows, ArePairs-rows, nodes-pairs_of, payload-pairs_of}
+use Rattle.plist_binary.proofs.Rows.{pull, Row, AreRows-moved, listed, nodes_of_pair, payload_of_pair, length-listed, AreRows-listed, nodes-listed, payload-listed, keys_distinct, row_keys, row_values, key_refs, value_refs, SpellItems-keys, SpellItems-values, nodes-rows, payload-rows, AreRows-items, SpellPairs-rows, ArePairs-rows, nodes-pairs_of, payload-pairs_of}
 
 -- the keys and the values of pairs, in the order of the file
 record Unsorted (f keys values : List ℕ) (levels : ℕ) (ps : Pairs) : Type 0 where

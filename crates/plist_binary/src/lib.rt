@@ -12,4 +12,8 @@ pub use fault::BinaryFault;
 pub use reader::read;
 
 #[cfg(test)]
+mod drafts;
+#[cfg(test)]
+mod limit_tests;
+#[cfg(test)]
 mod tests;

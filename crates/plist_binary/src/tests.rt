@@ -1,113 +1,9 @@
-use super::*;
+use crate::drafts::{file, items_of, one, push_trailer, refusal};
+use crate::{BinaryFault, read};
 use plist_value::{Utf16, Value, same};
 use std::alloc::{AllocError, Global};
 use std::collections::BTreeMap;
 use std::test::Fail;
-
-// A binary file that is made object after object.
-#[derive(Drop)]
-struct Draft {
-    octets: Vec<u8>,
-    places: Vec<u64>,
-}
-
-impl Draft {
-    fn new(alloc: Global) -> Result<Draft, AllocError> {
-        Ok(Draft {
-            octets: Vec::from_slice(alloc, b"bplist00")?,
-            places: Vec::new(alloc),
-        })
-    }
-
-    fn put(&mut self, object: &[u8]) -> Result<(), AllocError> {
-        self.places.push(self.octets.len() as u64)?;
-        self.octets.extend_from_slice(object)
-    }
-
-    // The file, its entries and its references of so many octets, its top object 0.
-    fn finish(self, offset_width: u8, reference_width: u8) -> Result<Vec<u8>, AllocError> {
-        let Draft { mut octets, places } = self;
-        let table = octets.len() as u64;
-        for place in places.as_slice() {
-            push_number(&mut octets, *place, offset_width)?;
-        }
-        push_trailer(
-            &mut octets,
-            offset_width,
-            reference_width,
-            places.len() as u64,
-            table,
-        )?;
-        Ok(octets)
-    }
-}
-
-// The number in so many octets, the highest first.
-fn push_number(octets: &mut Vec<u8>, number: u64, width: u8) -> Result<(), AllocError> {
-    let skipped = 8 - usize::from(width.min(8));
-    octets.extend_from_slice(&number.to_be_bytes()[skipped..])
-}
-
-fn push_trailer(
-    octets: &mut Vec<u8>,
-    offset_width: u8,
-    reference_width: u8,
-    count: u64,
-    table: u64,
-) -> Result<(), AllocError> {
-    octets.extend_from_slice(&[0, 0, 0, 0, 0, 0, offset_width, reference_width])?;
-    push_number(octets, count, 8)?;
-    push_number(octets, 0, 8)?;
-    push_number(octets, table, 8)
-}
-
-// The file of these objects, its references of so many octets.
-fn file(alloc: Global, objects: &[&[u8]], reference_width: u8) -> Result<Vec<u8>, AllocError> {
-    let mut draft = Draft::new(alloc)?;
-    for object in objects {
-        draft.put(object)?;
-    }
-    draft.finish(1, reference_width)
-}
-
-fn one(alloc: Global, object: &[u8]) -> Result<Vec<u8>, AllocError> {
-    file(alloc, &[object], 1)
-}
-
-// Lists that each hold the next object, and one last object: so many in all.
-fn chain(alloc: Global, count: u16, last: &[u8]) -> Result<Vec<u8>, AllocError> {
-    let mut draft = Draft::new(alloc)?;
-    for i in 1..count {
-        let [high, low] = i.to_be_bytes();
-        draft.put(&[0xa1, high, low])?;
-    }
-    draft.put(last)?;
-    draft.finish(2, 2)
-}
-
-// A list of so many references to the flag true.
-fn fan(alloc: Global, count: u32) -> Result<Vec<u8>, AllocError> {
-    let mut list = Vec::from_slice(alloc, &[0xaf, 0x12])?;
-    list.extend_from_slice(&count.to_be_bytes())?;
-    list.resize(6 + count as usize, 1)?;
-    let mut draft = Draft::new(alloc)?;
-    draft.put(list.as_slice())?;
-    draft.put(b"\x09")?;
-    draft.finish(4, 1)
-}
-
-// A list of so many references to data of 1,048,576 octets.
-fn heavy(alloc: Global, count: u16) -> Result<Vec<u8>, AllocError> {
-    let [high, low] = count.to_be_bytes();
-    let mut list = Vec::from_slice(alloc, &[0xaf, 0x11, high, low])?;
-    list.resize(4 + usize::from(count), 1)?;
-    let mut data = Vec::from_slice(alloc, &[0x4f, 0x12, 0x00, 0x10, 0x00, 0x00])?;
-    data.resize(6 + 1_048_576, 7)?;
-    let mut draft = Draft::new(alloc)?;
-    draft.put(list.as_slice())?;
-    draft.put(data.as_slice())?;
-    draft.finish(4, 1)
-}
 
 fn text(alloc: Global, ascii: &[u8]) -> Result<Utf16, AllocError> {
     let mut units = Vec::new(alloc);
@@ -125,15 +21,11 @@ fn swapped(alloc: Global) -> Result<Value, AllocError> {
     Ok(Value::Table(pairs))
 }
 
-fn items_of(value: Value) -> Option<Vec<Value>> {
+fn pairs_of(value: Value) -> Option<BTreeMap<Utf16, Value>> {
     match value {
-        Value::List(items) => Some(items),
+        Value::Table(pairs) => Some(pairs),
         _ => None,
     }
-}
-
-fn refusal(alloc: Global, octets: Vec<u8>) -> Option<BinaryFault> {
-    read(alloc, octets.as_slice()).err()
 }
 
 #[test]
@@ -296,56 +188,7 @@ fn keys_and_cycles(rt: HostRuntime) -> Result<(), Fail> {
     Ok(())
 }
 
-#[test]
-fn chains(rt: HostRuntime) -> Result<(), Fail> {
-    let alloc = rt.alloc();
-    let accepted = chain(alloc, 512, b"\x09")?;
-    assert_eq!(rt; accepted.len(), 2598);
-    let mut value = read(alloc, accepted.as_slice())?;
-    for _ in 0..511 {
-        let mut items = items_of(value).ok_or("a list")?;
-        value = items.pop().ok_or("an item")?;
-    }
-    assert!(rt; same(&value, &Value::Flag(true)));
-    let deep = chain(alloc, 513, b"\x09")?;
-    assert_eq!(rt; deep.len(), 2603);
-    assert_eq!(rt;
-        refusal(alloc, deep),
-        Some(BinaryFault::TooDeep { object: 512 })
-    );
-    let deeper = chain(alloc, 20_000, b"\xa0")?;
-    assert_eq!(rt; deeper.len(), 100_038);
-    assert_eq!(rt;
-        refusal(alloc, deeper),
-        Some(BinaryFault::TooDeep { object: 512 })
-    );
-    Ok(())
-}
-
-#[test]
-fn fans(rt: HostRuntime) -> Result<(), Fail> {
-    let alloc = rt.alloc();
-    for count in [4_194_303u32, 4_194_304] {
-        let octets = fan(alloc, count)?;
-        assert_eq!(rt; octets.len(), count as usize + 55);
-        let items = items_of(read(alloc, octets.as_slice())?).ok_or("a list")?;
-        assert_eq!(rt; items.len(), count as usize);
-    }
-    Ok(())
-}
-
-#[test]
-fn heavy_data(rt: HostRuntime) -> Result<(), Fail> {
-    let alloc = rt.alloc();
-    for count in [256u16, 257] {
-        let octets = heavy(alloc, count)?;
-        let items = items_of(read(alloc, octets.as_slice())?).ok_or("a list")?;
-        assert_eq!(rt; items.len(), usize::from(count));
-    }
-    Ok(())
-}
-
-// To refuse memory run this with `--fail-alloc N`, N from 1 on.
+// To refuse memory: `rt try --test --fail-alloc N -- tests::want_of_memory_changes_no_answer`, N from 1 to 9.
 #[test]
 fn want_of_memory_changes_no_answer(rt: HostRuntime) -> Result<(), Fail> {
     let shared =
@@ -354,26 +197,15 @@ fn want_of_memory_changes_no_answer(rt: HostRuntime) -> Result<(), Fail> {
         Ok(value) => assert_eq!(rt; items_of(value).ok_or("a list")?.len(), 2),
         Err(fault) => assert_eq!(rt; fault.code(), 60),
     }
+    let unsorted =
+        b"bplist00\xd2\x01\x02\x02\x01QbQa\x08\x0d\x0f\0\0\0\0\0\0\x01\x01\0\0\0\0\0\0\0\x03\0\0\0\0\0\0\0\0\0\0\0\0\0\0\0\x11";
+    match read(rt.alloc(), unsorted) {
+        Ok(value) => assert_eq!(rt; pairs_of(value).ok_or("a table")?.len(), 2),
+        Err(fault) => assert_eq!(rt; fault.code(), 60),
+    }
     let circular =
         b"bplist00\xa1\x00\x08\0\0\0\0\0\0\x01\x01\0\0\0\0\0\0\0\x01\0\0\0\0\0\0\0\0\0\0\0\0\0\0\0\x0a";
     let code = read(rt.alloc(), circular).err().ok_or("refused")?.code();
     assert!(rt; code == 15 || code == 60);
-    Ok(())
-}
-
-#[test]
-fn tower(rt: HostRuntime) -> Result<(), Fail> {
-    let alloc = rt.alloc();
-    let mut draft = Draft::new(alloc)?;
-    for i in 1..31u8 {
-        draft.put(&[0xa2, i, i])?;
-    }
-    draft.put(b"\xa0")?;
-    let octets = draft.finish(1, 1)?;
-    assert_eq!(rt; octets.len(), 162);
-    assert_eq!(rt;
-        refusal(alloc, octets),
-        Some(BinaryFault::TooManyNodes { object: 29 })
-    );
     Ok(())
 }

@@ -1,29 +1,27 @@
-use Rattle.std.proofs.Common.{◌≡◌, ◌<◌, ◌≤◌, ◌+◌, ◌-◌, ◌∷◌, ◌++◌, [], ℕ, List, Ok, map, take, length, slice_index, rules, subst, sym, ap, ◌∙◌, refl, ⊎_elim, arith}
+use Rattle.std.proofs.Common.{◌≡◌, ◌<◌, ◌≤◌, ◌+◌, ◌-◌, ℕ, List, Ok, map, take, length, rules, subst, sym, ap, ◌∙◌, ⊎_elim, arith}
 use Rattle.std.specs.Prelude.{◌⊎◌, Result, Err}
 use Rattle.std.specs.Result.{IfOk, IfErr, OnOk}
 use Rattle.std.proofs.lemmas.List.{length-map}
 use Rattle.std.specs.List.{IsDistinct, zip}
 use Rattle.std.specs.List.Sorted.{IsPermutation}
 use Rattle.plist_value.specs.declared.text_ref.TextRef.{TextRef}
-use Rattle.plist_value.specs.Plist.{Plist, Scalar, Items, list, table, scalar, IsScalar}
+use Rattle.plist_value.specs.Plist.{Plist, Items, list, table, scalar, IsScalar}
 use Rattle.plist_value.specs.Limits.{payload_of_scalar}
 use Rattle.plist_value.specs.Scalars.{content_of}
 use Rattle.plist_value.specs.Texts.{units_of}
 use Rattle.plist_value.specs.View.{view, view_items, view_pairs}
-use Rattle.plist_object.specs.Layout.{trailer_of}
-use Rattle.plist_object.specs.Objects.{Held, holds_scalar, holds_list, holds_table, IsHeld}
+use Rattle.plist_object.specs.Objects.{holds_scalar, holds_list, holds_table}
 use Rattle.plist_object.specs.Places.{what_holds}
-use Rattle.plist_object.specs.Views.{octets_of, numbers_of, held_of}
+use Rattle.plist_object.specs.Views.{octets_of, numbers_of}
 use Rattle.plist_binary.specs.declared.fault.BinaryFault.{BinaryFault}
 use Rattle.plist_binary.specs.declared.fault.BinaryFault.TheVariants.{BadReference, OutOfMemory, TooMuchPayload}
 use Rattle.plist_binary.specs.Budgets.{Spends}
 use Rattle.plist_binary.specs.Paths.{containers_of}
 use Rattle.plist_binary.specs.Readings.{Reads, Refuses, ReadsItems, RefusesItems, RefusesPairs}
-use Rattle.plist_binary.proofs.ItemSteps.{RefusesItems-memory}
 use Rattle.plist_binary.proofs.KeySteps.{AllRefer-values}
 use Rattle.plist_binary.proofs.LoopSteps.{Contains-at, ReadsItems-next, RefusesItems-next, RefusesItems-none}
 use Rattle.plist_binary.proofs.Making.{Reads-scalar, Refuses-payload, Refuses-memory, Reads-list, Refuses-list, Reads-table, Refuses-table}
-use Rattle.plist_binary.proofs.TableSteps.{RefusesPairs-memory, RefusesPairs-keys, RefusesPairs-values, RefusesPairs-twice, ReadsPairs-entries, length-texts, length-items}
+use Rattle.plist_binary.proofs.TableSteps.{RefusesPairs-keys, RefusesPairs-values, RefusesPairs-twice, ReadsPairs-entries, length-texts, length-items}
 use Rattle.plist_binary.proofs.Inserting.{same_key}
 use Rattle.plist_binary.proofs.Paired.{length-values}
 use Rattle.plist_binary.proofs.Shown.{view-list, view-table}

@@ -1,15 +1,9 @@
-use Rattle.std.proofs.Common.{◌≡◌, ◌==◌, ◌∷◌, ℕ, List, true, rules, subst, ap, sym, ◌∙◌, refl}
+use Rattle.std.proofs.Common.{◌≡◌, ◌==◌, ◌∷◌, ℕ, List, true, rules, subst, ap, sym, ◌∙◌}
 use Rattle.std.specs.List.{list_any}
-use Rattle.std.specs.Prelude.{Err}
-use Rattle.plist_object.specs.declared.object.ObjectFault.{ObjectFault}
-use Rattle.plist_object.specs.Places.{what_holds}
 use Rattle.plist_object.specs.Views.{octets_of}
-use Rattle.plist_binary.specs.Codes.{placed}
-use Rattle.plist_binary.specs.declared.fault.BinaryFault.TheVariants.{Cycle, TooDeep, TooManyNodes}
+use Rattle.plist_binary.specs.declared.fault.BinaryFault.TheVariants.{TooManyNodes}
 use Rattle.plist_binary.specs.Paths.{containers_of, Leads}
 use Rattle.plist_binary.specs.Readings.{Refuses}
-use Rattle.plist_binary.proofs.KeySteps.{RefusesKeys-items}
-use Rattle.plist_binary.proofs.Making.{Refuses-memory}
 use Rattle.plist_binary.proofs.Entering.{Refuses-cycle, Refuses-nodes, Refuses-depth, Refuses-object}
 use Rattle.plist_binary.proofs.reader.Reader.enter.Goals as goal
 

@@ -1,15 +1,13 @@
-use Rattle.std.proofs.Common.{◌≡◌, ◌<◌, ◌∷◌, ◌*◌, ℕ, List, Ok, rules, subst, sym, ap, ◌∙◌, refl, length, arith}
-use Rattle.plist_value.specs.Plist.{text, scalar}
-use Rattle.plist_value.specs.Limits.{payload_of_scalar}
-use Rattle.plist_value.specs.Scalars.{content_of}
+use Rattle.std.proofs.Common.{◌≡◌, ◌<◌, ◌∷◌, ◌*◌, ℕ, Ok, rules, subst, ap, ◌∙◌, length}
+use Rattle.plist_value.specs.Plist.{text}
 use Rattle.plist_value.specs.Texts.{units_of}
 use Rattle.plist_object.specs.Objects.{Held, holds_scalar, IsHeld}
 use Rattle.plist_object.specs.Places.{what_holds}
 use Rattle.plist_object.specs.Views.{octets_of, held_of}
-use Rattle.plist_binary.specs.declared.fault.BinaryFault.TheVariants.{KeyNotText, TooMuchPayload}
+use Rattle.plist_binary.specs.declared.fault.BinaryFault.TheVariants.{TooMuchPayload}
 use Rattle.plist_binary.specs.Budgets.{Spends}
-use Rattle.plist_binary.specs.Paths.{containers_of, Leads}
-use Rattle.plist_binary.specs.Readings.{Reads, Refuses, RefusesKey}
+use Rattle.plist_binary.specs.Paths.{containers_of}
+use Rattle.plist_binary.specs.Readings.{RefusesKey}
 use Rattle.plist_binary.proofs.KeySteps.{RefusesKey-value, RefusesKey-other, Refers-key}
 use Rattle.plist_binary.proofs.Making.{Reads-scalar, Refuses-payload}
 use Rattle.plist_binary.proofs.reader.Reader.key.Goals as goal
