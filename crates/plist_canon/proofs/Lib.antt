@@ -20,3 +20,9 @@ pub mod HeldRanges
 pub mod Entries
 pub mod KeyPairs
 pub mod WalkTrees
+pub mod Visiting
+pub mod Leading
+pub mod Paths
+pub mod Judges
+pub mod TableParts
+pub mod Spending
