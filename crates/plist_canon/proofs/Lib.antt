@@ -33,3 +33,9 @@ pub mod FileRules
 pub mod Followed
 pub mod Local
 mod RuleRows
+pub mod Visiting
+pub mod Leading
+pub mod Paths
+pub mod Judges
+pub mod TableParts
+pub mod Spending
