@@ -17,7 +17,7 @@ fn fill(out: &mut Vec<u8>, objects: &[u8], entries: &[u8], width: u8) -> Result<
     out.extend_from_slice(&table.to_be_bytes())
 }
 
-// The same as a list of its own, of 64 octets at most.
+// The same in a list of its own.
 fn file(alloc: Global, objects: &[u8], entries: &[u8], width: u8) -> Result<Vec<u8>, AllocError> {
     let mut out = Vec::with_capacity(alloc, 64)?;
     fill(&mut out, objects, entries, width)?;
