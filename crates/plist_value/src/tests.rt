@@ -1,5 +1,6 @@
 use super::*;
 use std::alloc::{AllocError, Global};
+use std::cmp::Ordering;
 use std::collections::{BTreeMap, HashMap};
 use std::hash::{DefaultHasher, Hash, Hasher};
 use std::test::Fail;
@@ -34,7 +35,7 @@ fn whole_numbers_in_their_range(rt: HostRuntime) -> Result<(), Fail> {
     let (least, most) = (-(1_i128 << 63), (1_i128 << 64) - 1);
     assert!(rt; Whole::new(least - 1).is_none());
     assert!(rt; Whole::new(most + 1).is_none());
-    for number in [least, -1, 0, 5, most] {
+    for number in [least, -1, 0, 5, 255, 256, 1 << 32, 1 << 63, most] {
         let whole = Whole::new(number).ok_or("in the range")?;
         assert_eq!(rt; whole.get(), number);
         assert!(rt; whole == whole);
@@ -56,9 +57,13 @@ fn texts_by_their_units(rt: HostRuntime) -> Result<(), Fail> {
         assert_eq!(rt; text.unit(1), 0x62);
         for other in [ascii, wide, plain] {
             assert!(rt; text == other);
+            assert_eq!(rt; text.cmp(&other), Ordering::Equal);
             assert_eq!(rt; hash_of(&text), hash_of(&other));
         }
     }
+    // A surrogate may stand alone.
+    let alone = TextRef::of_wide(b"\xd8\x00").ok_or("an even length")?;
+    assert!(rt; alone == TextRef::of_units(&[0xd800]));
     // A surrogate pair stands below U+FF61, and a prefix first.
     let pair = TextRef::of_wide(b"\xd8\x00\xdc\x00").ok_or("an even length")?;
     let high = TextRef::of_units(&[0xff61]);
@@ -79,12 +84,22 @@ fn texts_that_are_owned(rt: HostRuntime) -> Result<(), Fail> {
 }
 
 #[test]
-fn copies_of_values(rt: HostRuntime) -> Result<(), Fail> {
+fn copies_of_tables(rt: HostRuntime) -> Result<(), Fail> {
     let table = swapped(rt.alloc(), false)?;
     let copied = copy(rt.alloc(), &table)?;
     assert!(rt; same(&copied, &table));
     assert!(rt; same(&swapped(rt.alloc(), true)?, &table));
     assert!(rt; fits(&copied));
+    let empty = Value::Table(BTreeMap::new(rt.alloc()));
+    let list = Value::List(Vec::new(rt.alloc()));
+    assert!(rt; same(&copy(rt.alloc(), &empty)?, &empty));
+    assert!(rt; !same(&list, &empty));
+    assert!(rt; !same(&empty, &table));
+    Ok(())
+}
+
+#[test]
+fn copies_of_scalars(rt: HostRuntime) -> Result<(), Fail> {
     let scalars = vec![in rt.alloc();
         Value::Text(letter(rt.alloc(), 0xd800)?),
         Value::Whole(Whole::new(5).ok_or("in the range")?),
@@ -102,7 +117,6 @@ fn copies_of_values(rt: HostRuntime) -> Result<(), Fail> {
     }
     let list = Value::List(scalars);
     assert!(rt; same(&copy(rt.alloc(), &list)?, &list));
-    assert!(rt; !same(&list, &table));
     Ok(())
 }
 
