@@ -30,4 +30,10 @@ pub use sources::Source;
 #[cfg(test)]
 mod canonical_tests;
 #[cfg(test)]
+mod container_tests;
+#[cfg(test)]
+mod size_tests;
+#[cfg(test)]
+mod test_files;
+#[cfg(test)]
 mod tests;

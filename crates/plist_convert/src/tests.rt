@@ -189,6 +189,7 @@ fn converts_files(rt: HostRuntime) -> Result<(), Fail> {
     for path in ["five.out", "five.in"] {
         let written = fs::read(&rt, path)?;
         assert_eq!(rt; written.as_slice(), CANONICAL_FIVE);
+        fs::remove_file(&rt, path)?;
     }
     Ok(())
 }
@@ -206,6 +207,8 @@ fn refuses_without_touching_the_output(rt: HostRuntime) -> Result<(), Fail> {
     );
     let kept = fs::read(&rt, "old.out")?;
     assert_eq!(rt; kept.as_slice(), b"old".as_slice());
+    fs::remove_file(&rt, "short.in")?;
+    fs::remove_file(&rt, "old.out")?;
     Ok(())
 }
 
