@@ -1,4 +1,6 @@
 //! What the words on the command line ask for.
+ghost use Rattle.std.specs.Prelude.{◌≡◌, ◌<◌, length, Ok};
+
 use clap::error::ErrorKind;
 use clap::{Arg, ArgMatches, Command, Error};
 use std::alloc::{AllocError, Global};
@@ -41,7 +43,9 @@ Example: plistconv convert binary1 Info.plist canonical.plist";
 
 /// What these words ask for, of which the first is the program's name. Words that ask for nothing, or for
 /// help, are an error with the text to print.
-pub(crate) fn read_words<'a>(alloc: Global, words: &'a [&'a str]) -> Result<Request<'a>, Error> {
+pub(crate) fn read_words<'a>(alloc: Global, words: &'a [&'a str]) -> Result<Request<'a>, Error>
+    ensures filter { length words.now < 2 → result ≡ Ok Request.Filter }
+{
     if words.len() < 2 {
         return Ok(Request::Filter);
     }
