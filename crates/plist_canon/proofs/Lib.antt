@@ -16,3 +16,13 @@ pub mod Found
 pub mod Parts
 pub mod Sends
 pub mod Chunks
+pub mod HeldRanges
+pub mod Entries
+pub mod KeyPairs
+pub mod WalkTrees
+pub mod Visiting
+pub mod Leading
+pub mod Paths
+pub mod Judges
+pub mod TableParts
+pub mod Spending

@@ -12,3 +12,6 @@ pub mod ListSink
 pub mod Laws
 pub mod Rules
 pub mod Locality
+pub mod Checking
+pub mod Preorders
+pub mod Charges

@@ -1,0 +1,307 @@
+-- What is judged of one object.
+use Rattle.std.proofs.Common.{◌≡◌, ℕ, zero, suc, ◌+◌, ◌-◌, ◌<◌, ◌≤◌, List, [], ◌∷◌, ◌++◌, Bool, true, false, Ok, Err, Result, refl, sym, ap, subst, ◌∙◌, arith, inl, inr, Some, None}
+use Rattle.std.specs.Prelude.{◌↔◌, ◌≢◌, slice_index, EachIndex, IsOk, IsTrue, not, Option, IfSome, IfNone}
+use Rattle.std.specs.declared.cmp.Ordering.TheVariants.{Less}
+use Rattle.std.specs.Ordering.{nat_cmp}
+use Rattle.std.specs.Cmp.Lexicographic.{slice_cmp}
+use Rattle.std.specs.Option.{is_some}
+use Rattle.std.specs.List.{AllByRecursion}
+use Rattle.std.specs.List.Sorted.{IsStrictlySortedBy}
+use Rattle.std.proofs.lemmas.Bool.{true≢false, cases_lt}
+use Rattle.std.proofs.lemmas.Cmp.{nat_list_cmp_total}
+use Rattle.plist_value.specs.Plist.{Scalar, text}
+use Rattle.plist_value.specs.Scalars.{content_of}
+use Rattle.plist_value.specs.declared.scalar_ref.ScalarRef.{ScalarRef}
+use Rattle.plist_value.specs.Texts.{units_of}
+use Rattle.plist_value.specs.declared.text_ref.TextRef.{TextRef}
+use Rattle.plist_object.specs.declared.object.Object.{Object}
+use Rattle.plist_object.specs.declared.object.Object.TheVariants as shown
+use Rattle.plist_object.specs.declared.object.ObjectFault.{ObjectFault}
+use Rattle.plist_object.specs.Views.{held_of}
+use Rattle.plist_object.specs.Layout.{trailer_of}
+use Rattle.plist_object.specs.Objects.{Held, holds_scalar, holds_list, holds_table, ◌>>=◌}
+use Rattle.plist_object.specs.Places.{Holds, object_at, what_holds, span_of}
+use Rattle.plist_object.specs.Uniqueness.{same_held}
+use Rattle.plist_canon.specs.declared.repeats.Repeats.{Repeats}
+use Rattle.plist_canon.specs.Rules.{HoldsText, HoldTexts, IsWellRead, HasAscendingKeys, IsNoRepeat, Adjoins}
+use Rattle.plist_canon.specs.Checking.{RefersWell, AreInOrder, AscendInTurn, IsEndBefore, Follows, was_met, Meets, IsHeldBefore, HasMet}
+
+-- a test that answers false refutes what it tests
+pub refuted : (P : Type 0) (b : Bool) → IsTrue b ↔ P → b ≡ false → ¬ P
+refuted P b test refused holds = true≢false (sym (test.1 holds) ∙ refused)
+
+pub all_from_each : (P : ℕ → Type 0) (xs : List ℕ) → EachIndex xs (λ k. P (slice_index xs k)) → AllByRecursion P xs
+all_from_each P [] each = tt
+all_from_each P (x ∷ xs) each = (each 0 (omega arith), all_from_each P xs (λ k below. each (suc k) (omega arith)))
+
+pub each_from_all : (P : ℕ → Type 0) (xs : List ℕ) → AllByRecursion P xs → EachIndex xs (λ k. P (slice_index xs k))
+each_from_all P [] all k below = absurd (omega arith)
+each_from_all P (x ∷ xs) all zero below = all.0
+each_from_all P (x ∷ xs) all (suc k) below = each_from_all P xs all.1 k (omega arith)
+
+pub all_front : (P : ℕ → Type 0) (xs ys : List ℕ) → AllByRecursion P (xs ++ ys) → AllByRecursion P xs
+all_front P [] ys all = tt
+all_front P (x ∷ xs) ys all = (all.0, all_front P xs ys all.1)
+
+pub all_rest : (P : ℕ → Type 0) (xs ys : List ℕ) → AllByRecursion P (xs ++ ys) → AllByRecursion P ys
+all_rest P [] ys all = all
+all_rest P (x ∷ xs) ys all = all_rest P xs ys all.1
+
+pub all_both : (P : ℕ → Type 0) (xs ys : List ℕ) → AllByRecursion P xs → AllByRecursion P ys → AllByRecursion P (xs ++ ys)
+all_both P [] ys all others = others
+all_both P (x ∷ xs) ys all others = (all.0, all_both P xs ys all.1 others)
+
+-- an object that holds something reads
+object_reads : (m : Result (Held × List ℕ) ObjectFault) (held : Held) → (m >>= λ read. Ok read.0) ≡ Ok held → IsOk m
+object_reads (Ok read) held e = refl
+object_reads (Err fault) held e = absurd (let no : Err fault ≡ Ok held = e in cc)
+
+pub Holds-reads : (f : List ℕ) (i : ℕ) (held : Held) → Holds f i held → IsOk (object_at f i)
+unfolding what_holds
+Holds-reads f i held holds = object_reads (object_at f i) held holds.reads
+
+span_reads : (m : Result (Held × List ℕ) ObjectFault) (g : Held × List ℕ → ℕ × ℕ) → IsOk m → IsOk (m >>= λ read. Ok (g read))
+span_reads (Ok read) g ok = refl
+span_reads (Err fault) g ok = ok
+
+pub Holds-span : (f : List ℕ) (i : ℕ) (held : Held) → Holds f i held → IsOk (span_of f i)
+unfolding span_of
+Holds-span f i held holds = span_reads (object_at f i) _ (Holds-reads f i held holds)
+
+-- texts that the references name
+pub Texts : List ℕ → List ℕ → Type 0
+Texts f keys = (texts : List (List ℕ)) × HoldTexts f keys texts
+
+pub texts_of : (f keys : List ℕ) → AllByRecursion (HoldsText f) keys → (texts : List (List ℕ)) × HoldTexts f keys texts
+texts_of f [] all = ([], refl)
+texts_of f (i ∷ keys) all =
+    let rest = texts_of f keys all.1 in
+    (all.0.0 ∷ rest.0, (all.0.1, rest.1))
+
+-- a text is the one that the object holds
+same_text : (f : List ℕ) (i : ℕ) (units others : List ℕ) → Holds f i (holds_scalar (text units)) → Holds f i (holds_scalar (text others)) → units ≡ others
+same_text f i units others a b =
+    let e = same_held f i (holds_scalar (text units)) (holds_scalar (text others)) a b in cc
+
+-- texts that ascend in turn are below all that follow
+above_all : (units : List ℕ) (next : List ℕ) (texts : List (List ℕ)) → slice_cmp nat_cmp units next ≡ Less → AllByRecursion (λ later. slice_cmp nat_cmp next later ≡ Less) texts → AllByRecursion (λ later. slice_cmp nat_cmp units later ≡ Less) texts
+above_all units next [] below all = tt
+above_all units next (later ∷ texts) below all =
+    (nat_list_cmp_total.trans units next later below all.0, above_all units next texts below all.1)
+
+pub sorted_from_turns : (f keys : List ℕ) (texts : List (List ℕ)) → HoldTexts f keys texts → AscendInTurn f keys → IsStrictlySortedBy (slice_cmp nat_cmp) texts
+unfolding IsStrictlySortedBy
+sorted_from_turns f keys [] hold ascend = tt
+sorted_from_turns f [] (units ∷ texts) hold ascend = absurd hold
+sorted_from_turns f (i ∷ keys) (units ∷ []) hold ascend = (tt, tt)
+sorted_from_turns f (i ∷ []) (units ∷ next ∷ texts) hold ascend = absurd hold.1
+sorted_from_turns f (i ∷ j ∷ keys) (units ∷ next ∷ texts) hold ascend =
+    let rest = sorted_from_turns f (j ∷ keys) (next ∷ texts) hold.1 (λ k below. ascend (suc k) (omega arith)) in
+    let here = ascend 0 (omega arith) in
+    let first : here.first ≡ units = same_text f i here.first units here.holds_first hold.0 in
+    let second : here.second ≡ next = same_text f j here.second next here.holds_second hold.1.0 in
+    let below : slice_cmp nat_cmp units next ≡ Less = rw (← first, ← second) here.below in
+    ((below, above_all units next texts below rest.0), rest)
+
+pub turns_from_sorted : (f keys : List ℕ) (texts : List (List ℕ)) → HoldTexts f keys texts → IsStrictlySortedBy (slice_cmp nat_cmp) texts → AscendInTurn f keys
+unfolding IsStrictlySortedBy
+turns_from_sorted f [] texts hold sorted k below = absurd (omega arith)
+turns_from_sorted f (i ∷ keys) [] hold sorted k below = absurd (let none : i ∷ keys ≡ [] = hold in cc)
+turns_from_sorted f (i ∷ []) (units ∷ texts) hold sorted k below = absurd (omega arith)
+turns_from_sorted f (i ∷ j ∷ keys) (units ∷ []) hold sorted k below = absurd (let none : j ∷ keys ≡ [] = hold.1 in cc)
+turns_from_sorted f (i ∷ j ∷ keys) (units ∷ next ∷ texts) hold sorted zero below = record {
+  first = units;
+  second = next;
+  holds_first = hold.0;
+  holds_second = hold.1.0;
+  below = sorted.0.0;
+}
+turns_from_sorted f (i ∷ j ∷ keys) (units ∷ next ∷ texts) hold sorted (suc k) below =
+    turns_from_sorted f (j ∷ keys) (next ∷ texts) hold.1 sorted.1 k (omega arith)
+
+-- the keys of a table ascend where the texts that its references name do
+pub HasAscendingKeys-turns : (f : List ℕ) (i : ℕ) (keys values : List ℕ) → Holds f i (holds_table keys values) → AscendInTurn f keys → HasAscendingKeys f i
+HasAscendingKeys-turns f i keys values holds ascend others more texts reads hold =
+    let e : holds_table keys values ≡ holds_table others more = (let a = holds.reads in cc) in
+    let same : others ≡ keys = cc in
+    sorted_from_turns f keys texts (subst (λ (refs : List ℕ). HoldTexts f refs texts) same hold) ascend
+
+pub HasAscendingKeys-other : (f : List ℕ) (i : ℕ) (held : Held) → Holds f i held → ((keys values : List ℕ) → held ≢ holds_table keys values) → HasAscendingKeys f i
+HasAscendingKeys-other f i held holds other keys values texts reads hold =
+    absurd (other keys values (let a = holds.reads in cc))
+
+pub not-HasAscendingKeys : (f : List ℕ) (i : ℕ) (keys values : List ℕ) → Holds f i (holds_table keys values) → AllByRecursion (HoldsText f) keys → ¬ AscendInTurn f keys → ¬ HasAscendingKeys f i
+not-HasAscendingKeys f i keys values holds named apart ascending =
+    let texts = texts_of f keys named in
+    apart (turns_from_sorted f keys texts.0 texts.1 (ascending keys values texts.0 holds.reads texts.1))
+
+-- where one object begins
+pub not-Adjoins : (f : List ℕ) (i place start end : ℕ) → IsEndBefore f i place → span_of f i ≡ Ok (start, end) → start ≢ place → ¬ Adjoins f i
+not-Adjoins f zero place start end before span other adjoins =
+    other (adjoins.first start end refl span ∙ sym before)
+not-Adjoins f (suc i) place start end before span other adjoins =
+    other (adjoins.next i before.0 place start end refl before.1 span)
+
+abbrev ok_pair : ℕ × ℕ → Result (ℕ × ℕ) ObjectFault
+ok_pair p = Ok p
+
+same_span : (f : List ℕ) (i a b c d : ℕ) → span_of f i ≡ Ok (a, b) → span_of f i ≡ Ok (c, d) → (a ≡ c) × (b ≡ d)
+same_span f i a b c d first second =
+    let e : (a, b) ≡ (c, d) = (let e2 : ok_pair (a, b) ≡ ok_pair (c, d) = sym first ∙ second in cc) in
+    (ap (λ (p : ℕ × ℕ). p.0) e, ap (λ (p : ℕ × ℕ). p.1) e)
+
+pub Adjoins-follows : (f : List ℕ) (i : ℕ) → Follows f i → ((start end : ℕ) → suc i ≡ (trailer_of f).count → span_of f i ≡ Ok (start, end) → end ≡ (trailer_of f).table) → Adjoins f i
+Adjoins-follows f zero follows last = record {
+  first = λ start end at span. (same_span f zero start end follows.place follows.end span follows.span).0 ∙ follows.before;
+  next = λ before start middle begin end at first span. absurd (omega arith);
+  last = last;
+}
+Adjoins-follows f (suc i) follows last = record {
+  first = λ start end at span. absurd (omega arith);
+  next = λ before start middle begin end at first span.
+      let is : before ≡ i = omega arith in
+      let first_here : span_of f i ≡ Ok (start, middle) = subst (λ (k : ℕ). span_of f k ≡ Ok (start, middle)) is first in
+      let here = (same_span f (suc i) begin end follows.place follows.end span follows.span).0 in
+      let there = (same_span f i start middle follows.before.0 follows.place first_here follows.before.1).1 in
+      here ∙ sym there;
+  last = last;
+}
+
+-- the scalars of the objects before the next
+met_later : (f : List ℕ) (i : ℕ) (s : Scalar) → IsHeldBefore f i s → IsHeldBefore f (suc i) s
+met_later f i s before = (before.0, (omega (arith, before.1.0), before.1.1))
+
+pub HasMet-scalar : (f : List ℕ) (i : ℕ) (s : ScalarRef) (old new : Repeats) (first : Bool) → Holds f i (holds_scalar (content_of s)) → HasMet f i old → Meets s old new first → HasMet f (suc i) new
+HasMet-scalar f i s old new first holds met meets q = (
+  λ now. elim (meets.other q now) [
+    | inl same ↦ (i, (omega arith, subst (λ (t : Scalar). what_holds f i ≡ Ok (holds_scalar t)) same holds.reads))
+    | inr before ↦ met_later f i (content_of q) ((met q).0 before)
+  ],
+  λ before. elim (cases_lt before.0 i) [
+    | inl earlier ↦ meets.kept q ((met q).1 (before.0, (earlier, before.1.1)))
+    | inr late ↦ meets.same q (
+        let below = before.1.0 in
+        let is : before.0 ≡ i = omega arith in
+        let reads : what_holds f i ≡ Ok (holds_scalar (content_of q)) = subst (λ (k : ℕ). what_holds f k ≡ Ok (holds_scalar (content_of q))) is before.1.1 in
+        let here = holds.reads in
+        let e : holds_scalar (content_of s) ≡ holds_scalar (content_of q) = cc in
+        cc)
+  ],
+)
+
+pub HasMet-container : (f : List ℕ) (i : ℕ) (held : Held) (repeats : Repeats) → Holds f i held → ((s : Scalar) → held ≢ holds_scalar s) → HasMet f i repeats → HasMet f (suc i) repeats
+HasMet-container f i held repeats holds other met q = (
+  λ now. met_later f i (content_of q) ((met q).0 now),
+  λ before. elim (cases_lt before.0 i) [
+    | inl earlier ↦ (met q).1 (before.0, (earlier, before.1.1))
+    | inr late ↦ absurd (
+        let below = before.1.0 in
+        let is : before.0 ≡ i = omega arith in
+        let reads : what_holds f i ≡ Ok (holds_scalar (content_of q)) = subst (λ (k : ℕ). what_holds f k ≡ Ok (holds_scalar (content_of q))) is before.1.1 in
+        let here = holds.reads in
+        other (content_of q) cc)
+  ],
+)
+
+pub IsNoRepeat-container : (f : List ℕ) (i : ℕ) (held : Held) → Holds f i held → ((s : Scalar) → held ≢ holds_scalar s) → IsNoRepeat f i
+IsNoRepeat-container f i held holds other s reads earlier below again =
+    other s (let here = holds.reads in cc)
+
+pub IsNoRepeat-new : (f : List ℕ) (i : ℕ) (s : ScalarRef) (repeats : Repeats) → Holds f i (holds_scalar (content_of s)) → HasMet f i repeats → was_met repeats s ≡ false → IsNoRepeat f i
+IsNoRepeat-new f i s repeats holds met unknown t reads earlier below again =
+    let here = holds.reads in
+    let same : holds_scalar (content_of s) ≡ holds_scalar t = cc in
+    let is : t ≡ content_of s = cc in
+    let reads_it : what_holds f earlier ≡ Ok (holds_scalar (content_of s)) = subst (λ (u : Scalar). what_holds f earlier ≡ Ok (holds_scalar u)) is again in
+    true≢false (sym ((met s).1 (earlier, (below, reads_it))) ∙ unknown)
+
+pub not-IsNoRepeat : (f : List ℕ) (i : ℕ) (s : ScalarRef) (repeats : Repeats) → Holds f i (holds_scalar (content_of s)) → HasMet f i repeats → was_met repeats s ≡ true → ¬ IsNoRepeat f i
+not-IsNoRepeat f i s repeats holds met known single =
+    let before = (met s).0 known in
+    single (content_of s) holds.reads before.0 before.1.0 before.1.1
+
+-- what is read refers well
+pub IsWellRead-refers : (f : List ℕ) (i : ℕ) (held : Held) → what_holds f i ≡ Ok held → IsWellRead f i → RefersWell f held
+IsWellRead-refers f i held reads read =
+    let here = read.holds.reads in
+    let same : read.held ≡ held = cc in
+    subst (λ (h : Held). RefersWell f h) same (record { numbers = read.numbers; texts = read.texts })
+
+pub unread : (f : List ℕ) (i : ℕ) (fault : ObjectFault) → what_holds f i ≡ Err fault → ¬ IsWellRead f i
+unread f i fault fails read =
+    let here = read.holds.reads in
+    let e : Err fault ≡ Ok read.held = sym fails ∙ here in
+    absurd cc
+
+-- a fact of each number below the next
+pub below_or_last : (P : ℕ → Type 0) (k : ℕ) → ((j : ℕ) → j < k → P j) → P k → (j : ℕ) → j < k + 1 → P j
+below_or_last P k before last j below =
+    elim (cases_lt j k) [
+      | inl earlier ↦ before j earlier
+      | inr late ↦ (let is : k ≡ j = omega arith in subst P is last)
+    ]
+
+pub RefersWell-list : (f refs : List ℕ) → EachIndex refs (λ k. slice_index refs k < (trailer_of f).count) ↔ RefersWell f (holds_list refs)
+RefersWell-list f refs = (
+  λ each. record { numbers = all_from_each (λ i. i < (trailer_of f).count) refs each; texts = tt },
+  λ refers. each_from_all (λ i. i < (trailer_of f).count) refs refers.numbers,
+)
+
+pub RefersWell-table : (f keys values : List ℕ) → EachIndex keys (λ k. slice_index keys k < (trailer_of f).count) → EachIndex values (λ k. slice_index values k < (trailer_of f).count) → EachIndex keys (λ k. HoldsText f (slice_index keys k)) → RefersWell f (holds_table keys values)
+RefersWell-table f keys values below_keys below_values named = record {
+  numbers = all_both (λ i. i < (trailer_of f).count) keys values (all_from_each (λ i. i < (trailer_of f).count) keys below_keys) (all_from_each (λ i. i < (trailer_of f).count) values below_values);
+  texts = all_from_each (HoldsText f) keys named;
+}
+
+pub keys_below : (f keys values : List ℕ) → RefersWell f (holds_table keys values) → EachIndex keys (λ k. slice_index keys k < (trailer_of f).count)
+keys_below f keys values refers =
+    each_from_all (λ i. i < (trailer_of f).count) keys (all_front (λ i. i < (trailer_of f).count) keys values refers.numbers)
+
+pub values_below : (f keys values : List ℕ) → RefersWell f (holds_table keys values) → EachIndex values (λ k. slice_index values k < (trailer_of f).count)
+values_below f keys values refers =
+    each_from_all (λ i. i < (trailer_of f).count) values (all_rest (λ i. i < (trailer_of f).count) keys values refers.numbers)
+
+pub keys_named : (f keys values : List ℕ) → RefersWell f (holds_table keys values) → EachIndex keys (λ k. HoldsText f (slice_index keys k))
+keys_named f keys values refers = each_from_all (HoldsText f) keys refers.texts
+
+-- a text that was found, or was not
+pub text_found : (f : List ℕ) (n : ℕ) (o : Option TextRef) → is_some o ≡ true → IfSome o (λ t. Holds f n (holds_scalar (text (units_of t)))) → HoldsText f n
+text_found f n (Some t) some found = (units_of t, found)
+text_found f n None some found = absurd (true≢false (sym some))
+
+pub text_missing : (f : List ℕ) (n : ℕ) (o : Option TextRef) → is_some o ≡ false → IfNone o (¬ HoldsText f n) → ¬ HoldsText f n
+text_missing f n (Some t) none missing = absurd (true≢false none)
+text_missing f n None none missing = missing
+
+pub turns_more : (f keys : List ℕ) (k : ℕ) → 1 ≤ k → ((j : ℕ) → suc j < k → AreInOrder f (slice_index keys j) (slice_index keys (suc j))) → AreInOrder f (slice_index keys (k - 1)) (slice_index keys k) → (j : ℕ) → suc j < k + 1 → AreInOrder f (slice_index keys j) (slice_index keys (suc j))
+turns_more f keys k some before last j below =
+    elim (cases_lt (suc j) k) [
+      | inl earlier ↦ before j earlier
+      | inr late ↦ (
+          let is : k ≡ suc j = omega arith in
+          let one_less : k - 1 ≡ j = omega arith in
+          subst (λ (n : ℕ). AreInOrder f (slice_index keys j) (slice_index keys n)) is (subst (λ (n : ℕ). AreInOrder f (slice_index keys n) (slice_index keys k)) one_less last))
+    ]
+
+pub met_before : (first known : Bool) → first ≡ not known → first ≡ false → known ≡ true
+met_before first true answer refused = refl
+met_before first false answer refused = absurd (true≢false (sym answer ∙ refused))
+
+pub no_scalar : (object : Object) → ((x : ScalarRef) → object ≢ shown.Scalar x) → (s : Scalar) → held_of object ≢ holds_scalar s
+no_scalar (shown.Scalar x) other s e = other x refl
+no_scalar (shown.List items) other s e = absurd cc
+no_scalar (shown.Table keys values) other s e = absurd cc
+
+-- where the last object does not end at the offset table
+pub last-apart : (f : List ℕ) (n end : ℕ) → n ≡ (trailer_of f).count → 1 ≤ n → IsEndBefore f n end → end ≢ (trailer_of f).table → (n - 1 < (trailer_of f).count) × (¬ Adjoins f (n - 1))
+last-apart f zero end all some before other = absurd (omega arith)
+last-apart f (suc m) end all some before other =
+    let is : m ≡ suc m - 1 = omega arith in
+    (omega arith, subst (λ (k : ℕ). ¬ Adjoins f k) is (λ adjoins. other (adjoins.last before.0 end all before.1)))
+
+pub all-adjoin : (f : List ℕ) (n end : ℕ) → n ≡ (trailer_of f).count → IsEndBefore f n end → end ≡ (trailer_of f).table → ((i : ℕ) → i < n → Follows f i) → (i : ℕ) → i < (trailer_of f).count → Adjoins f i
+all-adjoin f n end all before is follows i below =
+    Adjoins-follows f i (follows i (omega arith)) (λ start last at span.
+    let here : n ≡ suc i = omega arith in
+    let ends : IsEndBefore f (suc i) end = subst (λ (k : ℕ). IsEndBefore f k end) here before in
+    (same_span f i start last ends.0 end span ends.1).1 ∙ is)

@@ -1,0 +1,48 @@
+-- What is left of a budget of nodes and payload.
+use Rattle.std.specs.Prelude.{◌≡◌, ℕ, ◌+◌, ◌*◌, ◌≤◌, List, [], ◌∷◌, length}
+use Rattle.plist_value.specs.Plist.{Plist, Items, IsPlist, AreItems}
+use Rattle.plist_value.specs.Limits.{nodes, depth, payload, nodes_of_items, depth_of_items, payload_of_items}
+use Rattle.plist_object.specs.Spelled.{Spells, SpellItems}
+use Rattle.plist_canon.specs.Rules.{HoldTexts}
+use Rattle.plist_canon.specs.declared.limits.Budget.{Budget}
+
+-- the second budget is the first less so many nodes and so much payload
+pub record Spends (before : Budget) (nodes payload : ℕ) (after : Budget) : Type 0 where
+  pub nodes_left : after.nodes + nodes ≡ before.nodes
+  pub payload_left : after.payload + payload ≡ before.payload
+
+-- so many nodes or so much payload is more than the budget has
+abbrev pub IsOver : Budget → ℕ → ℕ → Type 0
+IsOver before nodes payload = nodes ≤ before.nodes → payload ≤ before.payload → ⊥
+
+-- the value that the object spells is spent, and not too deep
+pub record Charges (f : List ℕ) (i levels : ℕ) (before after : Budget) : Type 0 where
+  pub spent : (v : Plist) → IsPlist v → Spells f i v → Spends before (nodes v) (payload v) after
+  pub deep : (v : Plist) → IsPlist v → Spells f i v → depth v ≤ levels
+
+-- no value that is not too deep and within the budget is spelled by the object
+abbrev pub Exceeds : List ℕ → ℕ → ℕ → Budget → Type 0
+Exceeds f i levels before = (v : Plist) → IsPlist v → Spells f i v → depth v ≤ levels → IsOver before (nodes v) (payload v)
+
+-- the same of the values that references name
+pub record ChargesItems (f refs : List ℕ) (levels : ℕ) (before after : Budget) : Type 0 where
+  pub spent : (vs : Items) → AreItems vs → SpellItems f refs vs → Spends before (nodes_of_items vs) (payload_of_items vs) after
+  pub deep : (vs : Items) → AreItems vs → SpellItems f refs vs → depth_of_items vs ≤ levels
+
+abbrev pub ExceedsItems : List ℕ → List ℕ → ℕ → Budget → Type 0
+ExceedsItems f refs levels before =
+    (vs : Items) → AreItems vs → SpellItems f refs vs → depth_of_items vs ≤ levels → IsOver before (nodes_of_items vs) (payload_of_items vs)
+
+-- two octets for each unit of the texts
+abbrev pub payload_of_texts : List (List ℕ) → ℕ
+payload_of_texts [] = 0
+payload_of_texts (units ∷ texts) = 2 * length units + payload_of_texts texts
+
+-- the same of the texts that references name
+abbrev pub ChargesKeys : List ℕ → List ℕ → Budget → Budget → Type 0
+ChargesKeys f keys before after =
+    (texts : List (List ℕ)) → HoldTexts f keys texts → Spends before (length texts) (payload_of_texts texts) after
+
+abbrev pub ExceedsKeys : List ℕ → List ℕ → Budget → Type 0
+ExceedsKeys f keys before =
+    (texts : List (List ℕ)) → HoldTexts f keys texts → IsOver before (length texts) (payload_of_texts texts)

@@ -1,0 +1,118 @@
+-- What a check of a file answers, and what its parts say.
+use Rattle.std.specs.Prelude.{◌≡◌, ◌↔◌, ◌⊎◌, ℕ, zero, suc, ◌<◌, length, slice_index, Bool, true, not, List, Ok, ⊤}
+use Rattle.std.specs.List.{AllByRecursion}
+use Rattle.std.specs.declared.cmp.Ordering.TheVariants.{Less}
+use Rattle.std.specs.Ordering.{nat_cmp, on}
+use Rattle.std.specs.Cmp.Lexicographic.{slice_cmp}
+use Rattle.indexmap.specs.IndexSet.{contains}
+use Rattle.plist_value.specs.Plist.{Scalar, text}
+use Rattle.plist_value.specs.Equality.{scalar_eq}
+use Rattle.plist_value.specs.Scalars.{content_of}
+use Rattle.plist_value.specs.declared.scalar_ref.ScalarRef.{ScalarRef}
+use Rattle.plist_object.specs.Layout.{trailer_of, IsLayoutFault}
+use Rattle.plist_object.specs.declared.layout.LayoutFault.{LayoutFault}
+use Rattle.plist_object.specs.declared.layout.LayoutFault.TheVariants as layout
+use Rattle.plist_object.specs.Objects.{Held, holds_scalar}
+use Rattle.plist_object.specs.Places.{Holds, what_holds, span_of}
+use Rattle.plist_canon.specs.Rules.{keys_of, refs_of, HoldsText, IsWellRead, IsSpelledCanonically, HasAscendingKeys, IsNoRepeat, FollowsRules, IsBroken}
+use Rattle.plist_canon.specs.declared.checking.CheckFault.{CheckFault}
+use Rattle.plist_canon.specs.declared.checking.CheckFault.TheVariants as fault
+use Rattle.plist_canon.specs.declared.checking.Verdict.{Verdict}
+use Rattle.plist_canon.specs.declared.checking.Verdict.TheVariants as verdict
+use Rattle.plist_canon.specs.declared.judging.Flaw.{Flaw}
+use Rattle.plist_canon.specs.declared.judging.Flaw.TheVariants as flaw
+use Rattle.plist_canon.specs.declared.repeats.Repeats.{Repeats}
+
+-- the number of the refusal
+abbrev pub check_code : CheckFault → ℕ
+check_code fault.TooShort = 1
+check_code fault.BadHeader = 2
+check_code fault.BadTrailer = 3
+check_code fault.OutOfMemory = 60
+
+-- the fault of a layout
+abbrev pub unlaid : LayoutFault → CheckFault
+unlaid layout.TooShort = fault.TooShort
+unlaid layout.BadHeader = fault.BadHeader
+unlaid layout.BadTrailer = fault.BadTrailer
+
+-- a fault but want of memory is the layout's
+abbrev pub IsCheckFault : List ℕ → CheckFault → Type 0
+IsCheckFault f fault.TooShort = IsLayoutFault layout.TooShort f
+IsCheckFault f fault.BadHeader = IsLayoutFault layout.BadHeader f
+IsCheckFault f fault.BadTrailer = IsLayoutFault layout.BadTrailer f
+IsCheckFault f fault.OutOfMemory = ⊤
+
+-- the rules hold, or the rule that is told is broken at the object
+abbrev pub IsVerdict : List ℕ → Verdict → Type 0
+IsVerdict f verdict.Canonical = FollowsRules f
+IsVerdict f (verdict.Broken rule object) = IsBroken f rule object
+
+-- a rule is broken, or memory is wanted
+abbrev pub IsFlaw : List ℕ → Flaw → Type 0
+IsFlaw f (flaw.Broken rule object) = IsBroken f rule object
+IsFlaw f flaw.NoMemory = ⊤
+
+-- each object is well read
+abbrev pub AllRead : List ℕ → Type 0
+AllRead f = (i : ℕ) → i < (trailer_of f).count → IsWellRead f i
+
+-- the keys of each table ascend
+abbrev pub AllAscend : List ℕ → Type 0
+AllAscend f = (i : ℕ) → i < (trailer_of f).count → HasAscendingKeys f i
+
+-- the references of what is held are numbers of objects, and those to keys name texts
+pub record RefersWell (f : List ℕ) (held : Held) : Type 0 where
+  pub numbers : AllByRecursion (λ reference. reference < (trailer_of f).count) (refs_of held)
+  pub texts : AllByRecursion (HoldsText f) (keys_of held)
+
+-- the objects hold texts, the first below the second
+pub record AreInOrder (f : List ℕ) (i j : ℕ) : Type 0 where
+  pub first : List ℕ
+  pub second : List ℕ
+  pub holds_first : Holds f i (holds_scalar (text first))
+  pub holds_second : Holds f j (holds_scalar (text second))
+  pub below : slice_cmp nat_cmp first second ≡ Less
+
+-- each reference names a text that is below the next
+abbrev pub AscendInTurn : List ℕ → List ℕ → Type 0
+AscendInTurn f keys = (k : ℕ) → suc k < length keys → AreInOrder f (slice_index keys k) (slice_index keys (suc k))
+
+-- where the object before i ends, or the header
+abbrev pub IsEndBefore : List ℕ → ℕ → ℕ → Type 0
+IsEndBefore f zero place = place ≡ 8
+IsEndBefore f (suc before) place = (start : ℕ) × (span_of f before ≡ Ok (start, place))
+
+-- the object i begins where the one before it ends, or the header
+pub record Follows (f : List ℕ) (i : ℕ) : Type 0 where
+  pub place : ℕ
+  pub end : ℕ
+  pub before : IsEndBefore f i place
+  pub span : span_of f i ≡ Ok (place, end)
+
+-- the rules hold that are judged of each object, but for the place of the offset table
+pub record IsJudged (f : List ℕ) (i : ℕ) : Type 0 where
+  pub read : IsWellRead f i
+  pub follows : Follows f i
+  pub spelled : IsSpelledCanonically f i
+  pub ascending : HasAscendingKeys f i
+  pub single : IsNoRepeat f i
+
+-- whether an equal scalar was met
+abbrev pub was_met : Repeats → ScalarRef → Bool
+was_met repeats s = contains (on content_of scalar_eq) repeats.met s
+
+-- one scalar more was met, for the first time or not
+pub record Meets (s : ScalarRef) (old new : Repeats) (first : Bool) : Type 0 where
+  pub answer : first ≡ not (was_met old s)
+  pub same : (q : ScalarRef) → content_of s ≡ content_of q → was_met new q ≡ true
+  pub other : (q : ScalarRef) → was_met new q ≡ true → (content_of s ≡ content_of q) ⊎ (was_met old q ≡ true)
+  pub kept : (q : ScalarRef) → was_met old q ≡ true → was_met new q ≡ true
+
+-- an object before i holds the scalar
+abbrev pub IsHeldBefore : List ℕ → ℕ → Scalar → Type 0
+IsHeldBefore f i s = (earlier : ℕ) × ((earlier < i) × (what_holds f earlier ≡ Ok (holds_scalar s)))
+
+-- the scalars were met that the objects before i hold
+abbrev pub HasMet : List ℕ → ℕ → Repeats → Type 0
+HasMet f i repeats = (q : ScalarRef) → (was_met repeats q ≡ true) ↔ IsHeldBefore f i (content_of q)

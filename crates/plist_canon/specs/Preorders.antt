@@ -1,0 +1,83 @@
+-- What is left to visit in the walk from object 0.
+use Rattle.std.specs.Prelude.{◌≡◌, ◌↔◌, ℕ, suc, ◌<◌, Bool, true, false, if◌then◌else◌, List, [], ◌∷◌, ◌++◌, length, drop, slice_index_or, Result, Ok, Err, Option, Some, None}
+use Rattle.std.specs.List.{AllByRecursion}
+use Rattle.plist_object.specs.declared.object.ObjectFault.{ObjectFault}
+use Rattle.plist_object.specs.Layout.{trailer_of}
+use Rattle.plist_object.specs.Objects.{Held, holds_scalar, holds_list, holds_table}
+use Rattle.plist_object.specs.Places.{what_holds}
+use Rattle.plist_canon.specs.Rules.{HoldsScalar, Walks, MeetsInOrder, IsNumberedInPreorder}
+use Rattle.plist_canon.specs.declared.preorder.Frame.{Frame}
+use Rattle.plist_canon.specs.declared.preorder.Visit.{Visit}
+
+-- the references can be walked so that, where the objects below `met` were met, all are met in order
+pub record CanFinish (f : List ℕ) (refs : List ℕ) (met : ℕ) : Type 0 where
+  pub entries : List ℕ
+  pub walks : Walks f refs entries
+  pub order : MeetsInOrder f met entries (trailer_of f).count
+
+-- a table's references to its values, or those of a list or of a table to its keys
+abbrev pub part_of : Bool → Held → List ℕ
+part_of values (holds_scalar s) = []
+part_of values (holds_list refs) = if values then [] else refs
+part_of values (holds_table keys others) = if values then others else keys
+
+-- those of what was read, none where it does not read
+abbrev pub part_read : Bool → Result Held ObjectFault → List ℕ
+part_read values (Ok held) = part_of values held
+part_read values (Err e) = []
+
+-- the references that are still to be visited
+abbrev pub frame_left : List ℕ → Frame → List ℕ
+frame_left f frame = drop frame.done (part_read frame.values (what_holds f frame.owner))
+
+-- the references of a path that are still to be visited, the last ones first
+abbrev pub path_left : List ℕ → List Frame → List ℕ
+path_left f [] = []
+path_left f (frame ∷ frames) = path_left f frames ++ frame_left f frame
+
+abbrev pub is_scalar_held : Held → Bool
+is_scalar_held (holds_scalar s) = true
+is_scalar_held (holds_list refs) = false
+is_scalar_held (holds_table keys values) = false
+
+-- references none of which was visited
+abbrev pub new_frame : ℕ → Bool → Frame
+new_frame owner values = record { owner = owner; values = values; done = 0 }
+
+-- the containers of the path are objects
+abbrev pub IsPath : List ℕ → List Frame → Type 0
+IsPath f frames = AllByRecursion (λ frame. frame.owner < (trailer_of f).count) frames
+
+-- the number is that of a scalar that was met
+abbrev pub IsKnown : List Bool → ℕ → Type 0
+IsKnown scalars i = (i < length scalars) × (slice_index_or scalars i false ≡ true)
+
+-- of each object below their number it is told whether it holds a scalar
+abbrev pub AreKinds : List ℕ → List Bool → Type 0
+AreKinds f scalars = (i : ℕ) → i < length scalars → (slice_index_or scalars i false ≡ true) ↔ HoldsScalar f i
+
+-- the references lead, past known ones, to those that are left
+pub record LeadsTo (scalars : List Bool) (refs left : List ℕ) : Type 0 where
+  pub passed : List ℕ
+  pub known : AllByRecursion (IsKnown scalars) passed
+  pub split : refs ≡ passed ++ left
+
+-- the references of the path lead to one that is not known, or to the end
+abbrev pub Visits : List ℕ → List Bool → List Frame → List Frame → Option Visit → Type 0
+Visits f scalars old new (Some visit) =
+    LeadsTo scalars (path_left f old) (visit.reference ∷ path_left f new) × (¬ IsKnown scalars visit.reference)
+Visits f scalars old new None = LeadsTo scalars (path_left f old) []
+
+-- The object was met: it is told whether it holds a scalar, and its references are next.
+pub record Enters (f : List ℕ) (number : ℕ) (old new : List Frame) (scalars told : List Bool) : Type 0 where
+  pub kinds : AreKinds f told
+  pub counted : length told ≡ suc number
+  pub path : IsPath f new
+  pub left : path_left f new ≡ part_read false (what_holds f number) ++ (part_read true (what_holds f number) ++ path_left f old)
+
+-- The objects below the number were met in order, and the walk goes on along the path.
+pub record IsWalking (f : List ℕ) (number : ℕ) (path : List Frame) (scalars : List Bool) : Type 0 where
+  pub kinds : AreKinds f scalars
+  pub counted : length scalars ≡ number
+  pub on_path : IsPath f path
+  pub finishes : IsNumberedInPreorder f ↔ CanFinish f (path_left f path) number

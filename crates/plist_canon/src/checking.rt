@@ -1,0 +1,117 @@
+//! Whether a file is canonical, without the value that it spells.
+ghost use Rattle.std.specs.Prelude.{◌≡◌, IfOk, IfErr, OnOk};
+ghost use Rattle.plist_value.specs.Plist.{AreOctets};
+ghost use Rattle.plist_object.specs.Layout.{IsLaid};
+ghost use Rattle.plist_object.specs.Views.{octets_of};
+ghost use Rattle.plist_canon.specs.Rules.{FollowsRules};
+ghost use Rattle.plist_canon.specs.Checking.{check_code, unlaid, IsCheckFault, IsFlaw, IsVerdict};
+
+use crate::judging::{Flaw, judge_objects, judge_trailer};
+use crate::limits::judge_limits;
+use crate::preorder::judge_order;
+use plist_object::{BinFile, LayoutFault};
+use std::alloc::Global;
+use thiserror::Error;
+
+/// Why a file was not checked.
+#[derive(Clone, Copy, Debug, PartialEq, Eq, Error)]
+pub enum CheckFault {
+    /// 1: there are fewer than 42 octets.
+    #[error("fewer than 42 octets")]
+    TooShort,
+    /// 2: the first eight octets are not `bplist00`.
+    #[error("the header is not bplist00")]
+    BadHeader,
+    /// 3: the trailer's numbers do not fit one another, or the file.
+    #[error("the trailer's numbers do not fit the file")]
+    BadTrailer,
+    /// 60: no memory was left.
+    #[error("no memory is left")]
+    OutOfMemory,
+}
+
+impl CheckFault {
+    /// The number of the refusal.
+    pub fn code(&self) -> u8
+        ensures { result ≡ check_code self.now }
+    {
+        match self {
+            CheckFault::TooShort => 1,
+            CheckFault::BadHeader => 2,
+            CheckFault::BadTrailer => 3,
+            CheckFault::OutOfMemory => 60,
+        }
+    }
+}
+
+impl From<LayoutFault> for CheckFault {
+    ghost from_gives = { λ layout fault. fault ≡ unlaid layout };
+
+    fn from(fault: LayoutFault) -> Self {
+        match fault {
+            LayoutFault::TooShort => CheckFault::TooShort,
+            LayoutFault::BadHeader => CheckFault::BadHeader,
+            LayoutFault::BadTrailer => CheckFault::BadTrailer,
+        }
+    }
+}
+
+/// What a check finds of a file that has the layout.
+#[derive(Clone, Copy, Debug, PartialEq, Eq)]
+pub enum Verdict {
+    /// The file is the canonical file of a value within the limits.
+    Canonical,
+    /// It is not: the rule, from 0 to 7, is broken at the object.
+    Broken { rule: u8, object: u64 },
+}
+
+/// Whether the octets are the canonical file of a value within the limits. They are where eight rules hold,
+/// each of which speaks of the file alone (our profile):
+///
+/// - 0: each object reads, its references are numbers of objects, those to keys name texts, and the value is
+///   within the limits;
+/// - 1: the first six octets of the trailer are zero, and the top object is 0;
+/// - 2: offsets and references have the least widths;
+/// - 3: the objects stand one behind the other, from behind the header up to the offset table;
+/// - 4: each object has its canonical spelling;
+/// - 5: the keys of each table ascend, unit by unit;
+/// - 6: no two objects hold one scalar;
+/// - 7: the walk from object 0 in preorder meets the objects in the order of their numbers, and only scalars
+///   again.
+///
+/// The first broken rule is answered in this order: 1, 2, then object by object 0, 3, 4, 5 and 6, then 3 at
+/// the last object for the place of the offset table, then 7, and last 0 at object 0 for the limits. Rule 6
+/// is broken at the later of two equal ones, and rule 7 at the container that holds the first bad reference,
+/// or at 0 where objects are left over.
+///
+/// No value is built. It goes over the file a few times, and takes memory for the scalars that it has met
+/// and for the path of the walk.
+///
+/// # Errors
+///
+/// [`CheckFault::TooShort`] (1), [`CheckFault::BadHeader`] (2) or [`CheckFault::BadTrailer`] (3) where the
+/// octets have not the layout, and [`CheckFault::OutOfMemory`] (60) where there is no memory.
+pub fn check(alloc: Global, octets: &[u8]) -> Result<Verdict, CheckFault>
+    ensures fault { IfErr result (IsCheckFault octets.now) }
+    ensures laid { IfOk result (λ _. IsLaid octets.now) }
+    ensures verdict { IfOk result (IsVerdict octets.now) }
+{
+    let file = BinFile::of(octets)?;
+    match judge(alloc, &file) {
+        Ok(()) => Ok(Verdict::Canonical),
+        Err(Flaw::Broken { rule, object }) => Ok(Verdict::Broken { rule, object }),
+        Err(Flaw::NoMemory) => Err(CheckFault::OutOfMemory),
+    }
+}
+
+// The first broken rule, if there is one.
+fn judge(alloc: Global, file: &BinFile) -> Result<(), Flaw>
+    requires { AreOctets (octets_of file.now) }
+    ensures ok { OnOk result (FollowsRules (octets_of file.now)) }
+    ensures err { IfErr result (IsFlaw (octets_of file.now)) }
+{
+    judge_trailer(file)?;
+    judge_objects(alloc, file)?;
+    judge_order(alloc, file)?;
+    judge_limits(file)
+}

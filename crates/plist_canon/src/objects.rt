@@ -1,0 +1,33 @@
+//! What objects hold.
+ghost use Rattle.std.specs.Prelude.{◌<◌, IfSome, IfNone};
+ghost use Rattle.plist_value.specs.Plist.{text};
+ghost use Rattle.plist_value.specs.Texts.{units_of};
+ghost use Rattle.plist_object.specs.Layout.{trailer_of};
+ghost use Rattle.plist_object.specs.Objects.{IsHeld, holds_scalar};
+ghost use Rattle.plist_object.specs.Places.{Holds};
+ghost use Rattle.plist_object.specs.Views.{held_of, octets_of};
+ghost use Rattle.plist_canon.specs.Rules.{HoldsText, IsWellRead};
+
+use plist_object::{BinFile, Object};
+use plist_value::{ScalarRef, TextRef};
+
+/// What an object that reads holds.
+pub(crate) fn object_of<'a>(file: &BinFile<'a>, n: u64) -> Object<'a>
+    requires { IsWellRead (octets_of file.now) n }
+    ensures holds { Holds (octets_of file.now) n (held_of result) }
+    ensures valid { IsHeld (held_of result) }
+{
+    file.object(n).unwrap()
+}
+
+/// The text that the object holds, if it holds one.
+pub(crate) fn text_of<'a>(file: &BinFile<'a>, n: u64) -> Option<TextRef<'a>>
+    requires { n < (trailer_of (octets_of file.now)).count }
+    ensures some { IfSome result (λ t. Holds (octets_of file.now) n (holds_scalar (text (units_of t)))) }
+    ensures none { IfNone result (¬ HoldsText (octets_of file.now) n) }
+{
+    match file.object(n) {
+        Ok(Object::Scalar(ScalarRef::Text(text))) => Some(text),
+        _ => None,
+    }
+}
