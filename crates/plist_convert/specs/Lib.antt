@@ -6,6 +6,7 @@ pub mod Load
 pub mod Place
 pub mod ReaderSource
 pub mod Source
+pub mod Verdicts
 pub mod Accepted
 pub mod Laws
 pub mod Refusals

@@ -14,6 +14,7 @@ mod program;
 mod reader_source;
 mod sending;
 mod sources;
+mod verdicts;
 mod words;
 
 pub use canonicals::{canonicalise, read_any, same_files};
@@ -29,6 +30,8 @@ pub use sources::Source;
 
 #[cfg(test)]
 mod canonical_tests;
+#[cfg(test)]
+mod check_tests;
 #[cfg(test)]
 mod container_tests;
 #[cfg(test)]

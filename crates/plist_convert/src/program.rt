@@ -4,9 +4,11 @@ ghost use Rattle.plist_convert.specs.Accepted.{IsCanonicalOf};
 ghost use Rattle.plist_convert.specs.Filter.{Filters};
 
 use crate::sending::send;
+use crate::verdicts::{verdict_line, verdict_status};
 use crate::words::{Request, read_words};
 use crate::{Fault, ReaderSource, canonicalise, line, load};
 use clap::error::{Error, ErrorKind};
+use plist_canon::{Verdict, check};
 use std::alloc::Global;
 use std::fmt::Display;
 use std::fs;
@@ -29,12 +31,12 @@ const NO_MEMORY: u8 = 5;
 const STANDARD: &str = "-";
 
 /// The whole program: reads the words, of which the first is the program's name, does what they ask, and
-/// answers the exit status: 0 where it is done, 2 where a file is refused, 3 where the words are not
-/// understood, 4 where a file cannot be read or written or a line cannot be printed, 5 where no memory is
-/// left.
+/// answers the exit status: 0 where it is done, 1 where a file that was checked is not canonical, 2 where a
+/// file is refused, 3 where the words are not understood, 4 where a file cannot be read or written or a line
+/// cannot be printed, 5 where no memory is left.
 ///
-/// `input` and `output` are standard input and standard output. Refusals and the texts of `clap` are
-/// printed on `output`.
+/// `input` and `output` are standard input and standard output. Verdicts, refusals and the texts of `clap`
+/// are printed on `output`.
 pub fn run<R: Files, I: Read, O: Write>(
     rt: &R,
     alloc: Global,
@@ -50,6 +52,7 @@ pub fn run<R: Files, I: Read, O: Write>(
     match read_words(alloc, words) {
         Ok(Request::Filter) => filter(alloc, input, output),
         Ok(Request::ConvertBinary1 { from, to }) => convert_binary1(rt, alloc, from, to, output),
+        Ok(Request::Check { path }) => check_file(rt, alloc, path, output),
         Err(error) => explain(&error, output),
     }
 }
@@ -97,6 +100,24 @@ fn convert_binary1<R: Files, O: Write>(
     }
 }
 
+/// Whether the file at the path is canonical.
+fn check_file<R: Files, O: Write>(rt: &R, alloc: Global, path: &str, output: &mut O) -> u8
+    ensures { result ≤ 5 }
+{
+    match verdict_at(rt, alloc, path) {
+        Ok(verdict) => tell(alloc, verdict, output),
+        Err(fault) => report(alloc, path, &fault, output),
+    }
+}
+
+fn verdict_at<R: Files>(rt: &R, alloc: Global, path: &str) -> Result<Verdict, Fault> {
+    let octets = match fs::open(rt, path) {
+        Ok(device) => load(alloc, &mut ReaderSource::new(device))?,
+        Err(_) => return Err(Fault::ReadFailed),
+    };
+    Ok(check(alloc, octets.as_slice())?)
+}
+
 fn canonical_at<R: Files>(rt: &R, alloc: Global, path: &str) -> Result<Vec<u8>, Fault> {
     match fs::open(rt, path) {
         Ok(device) => canonical_of(alloc, device),
@@ -116,6 +137,16 @@ fn put<R: Files>(rt: &R, path: &str, octets: &[u8]) -> Result<(), Fault> {
     match fs::create(rt, path) {
         Ok(mut device) => send(&mut device, octets),
         Err(_) => Err(Fault::WriteFailed { sent: 0 }),
+    }
+}
+
+/// Prints the line of a verdict, and answers its status.
+fn tell<O: Write>(alloc: Global, verdict: Verdict, output: &mut O) -> u8
+    ensures { result ≤ 5 }
+{
+    match verdict_line(alloc, verdict) {
+        Ok(text) => print(output, format_args!("{text}\n"), verdict_status(verdict)),
+        Err(_) => report_no_memory(output),
     }
 }
 

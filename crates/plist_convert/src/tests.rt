@@ -117,6 +117,8 @@ fn answers_words(rt: HostRuntime) -> Result<(), Fail> {
         ("plistconv -h", 0, "Converts Apple property lists"),
         ("plistconv --help", 0, "Converts Apple property lists"),
         ("plistconv convert --help", 0, "Writes the property list"),
+        ("plistconv check --help", 0, "Says whether a file"),
+        ("plistconv check", 3, "error: "),
         ("plistconv --version", 0, "plistconv 0.1.0\n"),
         ("plistconv turn a", 3, "error: "),
         ("plistconv --", 3, "error: "),
