@@ -3,6 +3,8 @@ use Rattle.std.specs.Prelude.{ℕ, ◌==◌, ◌||◌, if◌then◌else◌}
 use Rattle.plist_binary.specs.Codes.{fault_code}
 use Rattle.plist_binary.specs.declared.fault.BinaryFault.{BinaryFault}
 use Rattle.plist_binary.specs.declared.fault.BinaryFault.TheVariants as binary
+use Rattle.plist_canon.specs.declared.checking.CheckFault.{CheckFault}
+use Rattle.plist_canon.specs.declared.checking.CheckFault.TheVariants as check
 use Rattle.plist_convert.specs.declared.faults.Fault.{Fault}
 use Rattle.plist_convert.specs.declared.faults.Fault.TheVariants.{Binary, ReadFailed, WriteFailed, InputTooLarge, OutOfMemory}
 
@@ -22,3 +24,10 @@ status_for code = if (code == 50) || (code == 51) then 4 else (if code == 60 the
 abbrev pub fault_for : BinaryFault → Fault
 fault_for binary.OutOfMemory = OutOfMemory 0
 fault_for fault = Binary fault
+
+-- the refusal of a check as one of this crate, with the same number
+abbrev pub check_fault_for : CheckFault → Fault
+check_fault_for check.TooShort = Binary binary.TooShort
+check_fault_for check.BadHeader = Binary binary.BadHeader
+check_fault_for check.BadTrailer = Binary binary.BadTrailer
+check_fault_for check.OutOfMemory = OutOfMemory 0

@@ -1,10 +1,12 @@
 pub mod Fault
+pub mod Filter
 pub mod Line
 pub mod ListSource
 pub mod Load
 pub mod Place
 pub mod ReaderSource
 pub mod Source
+pub mod Verdicts
 pub mod Accepted
 pub mod Laws
 pub mod Refusals

@@ -1,7 +1,6 @@
 -- What is refused, and what a refusal says of the octets.
-use Rattle.std.specs.Prelude.{◌≡◌, ◌≢◌, ℕ, List, ⊤}
+use Rattle.std.specs.Prelude.{◌≡◌, ◌≢◌, ℕ, List}
 use Rattle.plist_value.specs.Plist.{Plist}
-use Rattle.plist_binary.specs.declared.fault.BinaryFault.TheVariants as binary
 use Rattle.plist_binary.specs.Faults.{Stands}
 use Rattle.plist_convert.specs.Accepted.{IsAccepted}
 use Rattle.plist_convert.specs.Fault.{code_of}

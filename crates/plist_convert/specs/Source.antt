@@ -1,15 +1,8 @@
 -- What a source does: it has octets still to come, where it tells them, and a count of failures.
-use Rattle.std.specs.Prelude.{◌≡◌, ℕ, ◌+◌, ◌-◌, ◌^◌, ◌<◌, ◌⊎◌, min, List, Option, Result, MatchResult}
+use Rattle.std.specs.Prelude.{◌≡◌, ℕ, ◌<◌, List, Option, Result, MatchResult}
 use Rattle.std.specs.Io.{ReadsAtMost}
 use Rattle.std.specs.Io.KnownBytes.{ReadConsumes}
-
--- the greatest count that is kept
-abbrev pub count_limit : ℕ
-count_limit = 2 ^ 64 - 1
-
--- one more, up to the greatest count
-abbrev pub one_more : ℕ → ℕ
-one_more count = min (count + 1) count_limit
+use Rattle.plist_canon.specs.Sink.{count_limit, one_more}
 
 -- A take that gives octets leaves the count, which stands below the greatest. A take that fails counts one failure more.
 abbrev pub CountsTake : {E : Type 0} → ℕ → ℕ → Result ℕ E → Type 0
@@ -23,7 +16,3 @@ pub record IsTake {E : Type 0} (to_come rest : Option (List ℕ)) (before after 
   -- the front of the buffer is the next octets, none of them into a buffer with room only at the end; a take that fails gives none
   pub octets : ReadConsumes to_come rest result buffer
   pub count : CountsTake before after result
-
--- A device failed in a call: its count rose, or stands at the greatest.
-abbrev pub HasFailed : ℕ → ℕ → Type 0
-HasFailed before after = (before < after) ⊎ (after ≡ count_limit)

@@ -1,10 +1,11 @@
 //! Every refusal of this crate, with its number and the program's status for it.
 ghost use Rattle.std.specs.Prelude.{◌≡◌};
-ghost use Rattle.plist_convert.specs.Fault.{code_of, fault_for, status_for};
+ghost use Rattle.plist_convert.specs.Fault.{check_fault_for, code_of, fault_for, status_for};
 ghost use Rattle.plist_convert.specs.declared.faults.Fault.TheVariants.{OutOfMemory, ReadFailed};
 
 use crate::DeviceFault;
 use plist_binary::BinaryFault;
+use plist_canon::CheckFault;
 use std::alloc::AllocError;
 use thiserror::Error;
 
@@ -62,6 +63,19 @@ impl From<BinaryFault> for Fault {
         match fault {
             BinaryFault::OutOfMemory => Fault::OutOfMemory { sent: 0 },
             _ => Fault::Binary(fault),
+        }
+    }
+}
+
+impl From<CheckFault> for Fault {
+    ghost from_gives = { λ fault refusal. refusal ≡ check_fault_for fault };
+
+    fn from(fault: CheckFault) -> Fault {
+        match fault {
+            CheckFault::TooShort => Fault::Binary(BinaryFault::TooShort),
+            CheckFault::BadHeader => Fault::Binary(BinaryFault::BadHeader),
+            CheckFault::BadTrailer => Fault::Binary(BinaryFault::BadTrailer),
+            CheckFault::OutOfMemory => Fault::OutOfMemory { sent: 0 },
         }
     }
 }

@@ -4,7 +4,6 @@
 #![tactic(auto)]
 
 mod canonicals;
-mod device;
 mod faults;
 pub mod laws;
 mod lines;
@@ -15,20 +14,29 @@ mod program;
 mod reader_source;
 mod sending;
 mod sources;
+mod verdicts;
 mod words;
 
 pub use canonicals::{canonicalise, read_any, same_files};
-pub use device::DeviceFault;
 pub use faults::Fault;
 pub use lines::line;
 pub use list_source::ListSource;
 pub use loading::{MAX_INPUT, load};
 pub use pairs::PairFault;
+pub use plist_canon::DeviceFault;
 pub use program::run;
 pub use reader_source::ReaderSource;
 pub use sources::Source;
 
 #[cfg(test)]
 mod canonical_tests;
+#[cfg(test)]
+mod check_tests;
+#[cfg(test)]
+mod container_tests;
+#[cfg(test)]
+mod size_tests;
+#[cfg(test)]
+mod test_files;
 #[cfg(test)]
 mod tests;

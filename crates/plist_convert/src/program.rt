@@ -1,10 +1,14 @@
 //! The program `plistconv`, over any files, input and output.
-ghost use Rattle.std.specs.Prelude.{◌≡◌, ◌≤◌, ◌⊎◌};
+ghost use Rattle.std.specs.Prelude.{◌≡◌, ◌<◌, ◌≤◌, ◌⊎◌, length, IfOk, IfSome, OnOk};
+ghost use Rattle.plist_convert.specs.Accepted.{IsCanonicalOf};
+ghost use Rattle.plist_convert.specs.Filter.{Filters};
 
 use crate::sending::send;
+use crate::verdicts::{verdict_line, verdict_status};
 use crate::words::{Request, read_words};
 use crate::{Fault, ReaderSource, canonicalise, line, load};
 use clap::error::{Error, ErrorKind};
+use plist_canon::{Verdict, check};
 use std::alloc::Global;
 use std::fmt::Display;
 use std::fs;
@@ -26,20 +30,13 @@ const NO_MEMORY: u8 = 5;
 /// The path that stands for standard input and standard output in a line.
 const STANDARD: &str = "-";
 
-/// A fault and the path at which it was met.
-#[derive(Drop)]
-struct Refusal<'a> {
-    path: &'a str,
-    fault: Fault,
-}
-
 /// The whole program: reads the words, of which the first is the program's name, does what they ask, and
-/// answers the exit status: 0 where it is done, 2 where a file is refused, 3 where the words are not
-/// understood, 4 where a file cannot be read or written or a line cannot be printed, 5 where no memory is
-/// left.
+/// answers the exit status: 0 where it is done, 1 where a file that was checked is not canonical, 2 where a
+/// file is refused, 3 where the words are not understood, 4 where a file cannot be read or written or a line
+/// cannot be printed, 5 where no memory is left.
 ///
-/// `input` and `output` are standard input and standard output. Refusals and the texts of `clap` are
-/// printed on `output`.
+/// `input` and `output` are standard input and standard output. Verdicts, refusals and the texts of `clap`
+/// are printed on `output`.
 pub fn run<R: Files, I: Read, O: Write>(
     rt: &R,
     alloc: Global,
@@ -47,45 +44,78 @@ pub fn run<R: Files, I: Read, O: Write>(
     input: &mut I,
     output: &mut O,
 ) -> u8
-    ensures { result ≤ 5 }
+    ensures status { result ≤ 5 }
+    // Without words the canonical file of the input went out, where the status says so.
+    ensures filtered { length words.now < 2 → result ≡ 0
+        → Filters (I.remaining input.old) (O.contents output.old) (O.contents output.new) }
 {
-    let done = match read_words(alloc, words) {
+    match read_words(alloc, words) {
         Ok(Request::Filter) => filter(alloc, input, output),
-        Ok(Request::ConvertBinary1 { from, to }) => convert_binary1(rt, alloc, from, to),
-        Err(error) => return explain(&error, output),
-    };
-    match done {
-        Ok(()) => DONE,
-        Err(refusal) => report(alloc, &refusal, output),
+        Ok(Request::ConvertBinary1 { from, to }) => convert_binary1(rt, alloc, from, to, output),
+        Ok(Request::Check { path }) => check_file(rt, alloc, path, output),
+        Err(error) => explain(&error, output),
     }
 }
 
 /// The canonical file of the input, to the output.
-fn filter<I: Read, O: Write>(
+fn filter<I: Read, O: Write>(alloc: Global, input: &mut I, output: &mut O) -> u8
+    ensures status { result ≤ 5 }
+    ensures filtered { result ≡ 0
+        → Filters (I.remaining input.old) (O.contents output.old) (O.contents output.new) }
+{
+    match send_canonical(alloc, input, output) {
+        Ok(()) => DONE,
+        Err(fault) => report(alloc, STANDARD, &fault, output),
+    }
+}
+
+fn send_canonical<I: Read, O: Write>(
     alloc: Global,
     input: &mut I,
     output: &mut O,
-) -> Result<(), Refusal<'static>> {
-    canonical_of(alloc, input)
-        .and_then(|file| send(output, file.as_slice()))
-        .map_err(|fault| Refusal {
-            path: STANDARD,
-            fault,
-        })
+) -> Result<(), Fault>
+    ensures { OnOk result (Filters (I.remaining input.old) (O.contents output.old) (O.contents output.new)) }
+{
+    let file = canonical_of(alloc, input)?;
+    send(output, file.as_slice())
 }
 
 /// The canonical file of what stands at `from`, to `to`, which is not touched before all of it is made.
-fn convert_binary1<'a, R: Files>(
+fn convert_binary1<R: Files, O: Write>(
     rt: &R,
     alloc: Global,
-    from: &'a str,
-    to: &'a str,
-) -> Result<(), Refusal<'a>> {
+    from: &str,
+    to: &str,
+    output: &mut O,
+) -> u8
+    ensures { result ≤ 5 }
+{
     let file = match canonical_at(rt, alloc, from) {
         Ok(file) => file,
-        Err(fault) => return Err(Refusal { path: from, fault }),
+        Err(fault) => return report(alloc, from, &fault, output),
     };
-    put(rt, to, file.as_slice()).map_err(|fault| Refusal { path: to, fault })
+    match put(rt, to, file.as_slice()) {
+        Ok(()) => DONE,
+        Err(fault) => report(alloc, to, &fault, output),
+    }
+}
+
+/// Whether the file at the path is canonical.
+fn check_file<R: Files, O: Write>(rt: &R, alloc: Global, path: &str, output: &mut O) -> u8
+    ensures { result ≤ 5 }
+{
+    match verdict_at(rt, alloc, path) {
+        Ok(verdict) => tell(alloc, verdict, output),
+        Err(fault) => report(alloc, path, &fault, output),
+    }
+}
+
+fn verdict_at<R: Files>(rt: &R, alloc: Global, path: &str) -> Result<Verdict, Fault> {
+    let octets = match fs::open(rt, path) {
+        Ok(device) => load(alloc, &mut ReaderSource::new(device))?,
+        Err(_) => return Err(Fault::ReadFailed),
+    };
+    Ok(check(alloc, octets.as_slice())?)
 }
 
 fn canonical_at<R: Files>(rt: &R, alloc: Global, path: &str) -> Result<Vec<u8>, Fault> {
@@ -95,7 +125,9 @@ fn canonical_at<R: Files>(rt: &R, alloc: Global, path: &str) -> Result<Vec<u8>, 
     }
 }
 
-fn canonical_of<D: Read + Drop>(alloc: Global, device: D) -> Result<Vec<u8>, Fault> {
+fn canonical_of<D: Read + Drop>(alloc: Global, device: D) -> Result<Vec<u8>, Fault>
+    ensures { IfOk result (λ file. IfSome (D.remaining device) (λ octets. IsCanonicalOf octets file.items)) }
+{
     let octets = load(alloc, &mut ReaderSource::new(device))?;
     canonicalise(alloc, octets.as_slice())
 }
@@ -108,18 +140,30 @@ fn put<R: Files>(rt: &R, path: &str, octets: &[u8]) -> Result<(), Fault> {
     }
 }
 
-/// Prints the line of a refusal, and answers its status.
-fn report<O: Write>(alloc: Global, refusal: &Refusal<'_>, output: &mut O) -> u8
+/// Prints the line of a verdict, and answers its status.
+fn tell<O: Write>(alloc: Global, verdict: Verdict, output: &mut O) -> u8
     ensures { result ≤ 5 }
 {
-    match line(alloc, refusal.path, &refusal.fault) {
-        Ok(text) => print(output, format_args!("{text}\n"), refusal.fault.status()),
+    match verdict_line(alloc, verdict) {
+        Ok(text) => print(output, format_args!("{text}\n"), verdict_status(verdict)),
+        Err(_) => report_no_memory(output),
+    }
+}
+
+/// Prints the line of a refusal, and answers its status.
+fn report<O: Write>(alloc: Global, path: &str, fault: &Fault, output: &mut O) -> u8
+    ensures not_done { 0 < result }
+    ensures status { result ≤ 5 }
+{
+    match line(alloc, path, fault) {
+        Ok(text) => print(output, format_args!("{text}\n"), fault.status()),
         Err(_) => report_no_memory(output),
     }
 }
 
 fn report_no_memory<O: Write>(output: &mut O) -> u8
-    ensures { result ≤ 5 }
+    ensures not_done { 0 < result }
+    ensures status { result ≤ 5 }
 {
     print(output, "refused 60 OutOfMemory\n", NO_MEMORY)
 }

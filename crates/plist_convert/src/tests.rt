@@ -117,6 +117,8 @@ fn answers_words(rt: HostRuntime) -> Result<(), Fail> {
         ("plistconv -h", 0, "Converts Apple property lists"),
         ("plistconv --help", 0, "Converts Apple property lists"),
         ("plistconv convert --help", 0, "Writes the property list"),
+        ("plistconv check --help", 0, "Says whether a file"),
+        ("plistconv check", 3, "error: "),
         ("plistconv --version", 0, "plistconv 0.1.0\n"),
         ("plistconv turn a", 3, "error: "),
         ("plistconv --", 3, "error: "),
@@ -189,6 +191,7 @@ fn converts_files(rt: HostRuntime) -> Result<(), Fail> {
     for path in ["five.out", "five.in"] {
         let written = fs::read(&rt, path)?;
         assert_eq!(rt; written.as_slice(), CANONICAL_FIVE);
+        fs::remove_file(&rt, path)?;
     }
     Ok(())
 }
@@ -206,6 +209,8 @@ fn refuses_without_touching_the_output(rt: HostRuntime) -> Result<(), Fail> {
     );
     let kept = fs::read(&rt, "old.out")?;
     assert_eq!(rt; kept.as_slice(), b"old".as_slice());
+    fs::remove_file(&rt, "short.in")?;
+    fs::remove_file(&rt, "old.out")?;
     Ok(())
 }
 
