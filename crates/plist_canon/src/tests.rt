@@ -8,27 +8,27 @@ fn text_of(alloc: Global, units: &[u16]) -> Result<Utf16, AllocError> {
     Ok(Utf16::from_units(Vec::from_slice(alloc, units)?))
 }
 
-fn text(alloc: Global, units: &[u16]) -> Result<Value, AllocError> {
+pub(crate) fn text(alloc: Global, units: &[u16]) -> Result<Value, AllocError> {
     Ok(Value::Text(text_of(alloc, units)?))
 }
 
-fn data(alloc: Global, octets: &[u8]) -> Result<Value, AllocError> {
+pub(crate) fn data(alloc: Global, octets: &[u8]) -> Result<Value, AllocError> {
     Ok(Value::Bytes(Vec::from_slice(alloc, octets)?))
 }
 
-fn pair(alloc: Global, first: Value, second: Value) -> Result<Value, AllocError> {
+pub(crate) fn pair(alloc: Global, first: Value, second: Value) -> Result<Value, AllocError> {
     let mut items = Vec::new(alloc);
     items.push(first)?;
     items.push(second)?;
     Ok(Value::List(items))
 }
 
-fn empty_list(alloc: Global) -> Value {
+pub(crate) fn empty_list(alloc: Global) -> Value {
     Value::List(Vec::new(alloc))
 }
 
 // b under the first key, and a under the second.
-fn table(alloc: Global, first: &[u16], second: &[u16]) -> Result<Value, AllocError> {
+pub(crate) fn table(alloc: Global, first: &[u16], second: &[u16]) -> Result<Value, AllocError> {
     let mut pairs = BTreeMap::new(alloc);
     drop(pairs.insert(text_of(alloc, second)?, text(alloc, &[0x61])?)?);
     drop(pairs.insert(text_of(alloc, first)?, text(alloc, &[0x62])?)?);
@@ -36,7 +36,7 @@ fn table(alloc: Global, first: &[u16], second: &[u16]) -> Result<Value, AllocErr
 }
 
 // The texts of the numbers below the count, with a digit for each of these powers of ten.
-fn numbers(alloc: Global, count: u32, powers: &[u32]) -> Result<Value, AllocError> {
+pub(crate) fn numbers(alloc: Global, count: u32, powers: &[u32]) -> Result<Value, AllocError> {
     let mut items = Vec::new(alloc);
     for number in 0..count {
         let mut units = Vec::new(alloc);
@@ -49,12 +49,12 @@ fn numbers(alloc: Global, count: u32, powers: &[u32]) -> Result<Value, AllocErro
     Ok(Value::List(items))
 }
 
-const THREE_DIGITS: [u32; 3] = [100, 10, 1];
+pub(crate) const THREE_DIGITS: [u32; 3] = [100, 10, 1];
 
 const FIVE_DIGITS: [u32; 5] = [10_000, 1000, 100, 10, 1];
 
 // The file of a value within the limits.
-fn made(rt: &HostRuntime, value: &Value) -> Result<Vec<u8>, Fail> {
+pub(crate) fn made(rt: &HostRuntime, value: &Value) -> Result<Vec<u8>, Fail> {
     if !fits(value) {
         return Err(Fail::from("it does not fit"));
     }
@@ -74,7 +74,7 @@ fn send<W: Sink>(
 }
 
 // A file of fewer than 256 octets: the objects, the offset table, and the trailer.
-fn file(alloc: Global, objects: &[u8], entries: &[u8]) -> Result<Vec<u8>, AllocError> {
+pub(crate) fn file(alloc: Global, objects: &[u8], entries: &[u8]) -> Result<Vec<u8>, AllocError> {
     let mut file = Vec::from_slice(alloc, b"bplist00")?;
     file.extend_from_slice(objects)?;
     let table = file.len() as u64;
