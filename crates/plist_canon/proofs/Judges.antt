@@ -25,6 +25,7 @@ use Rattle.plist_object.specs.Uniqueness.{same_held}
 use Rattle.plist_canon.specs.declared.repeats.Repeats.{Repeats}
 use Rattle.plist_canon.specs.Rules.{HoldsText, HoldTexts, IsWellRead, HasAscendingKeys, IsNoRepeat, Adjoins}
 use Rattle.plist_canon.specs.Checking.{RefersWell, AreInOrder, AscendInTurn, IsEndBefore, Follows, was_met, Meets, IsHeldBefore, HasMet}
+use Rattle.plist_canon.proofs.Every.{every_append}
 
 -- a test that answers false refutes what it tests
 pub refuted : (P : Type 0) (b : Bool) → IsTrue b ↔ P → b ≡ false → ¬ P
@@ -46,10 +47,6 @@ all_front P (x ∷ xs) ys all = (all.0, all_front P xs ys all.1)
 pub all_rest : (P : ℕ → Type 0) (xs ys : List ℕ) → AllByRecursion P (xs ++ ys) → AllByRecursion P ys
 all_rest P [] ys all = all
 all_rest P (x ∷ xs) ys all = all_rest P xs ys all.1
-
-pub all_both : (P : ℕ → Type 0) (xs ys : List ℕ) → AllByRecursion P xs → AllByRecursion P ys → AllByRecursion P (xs ++ ys)
-all_both P [] ys all others = others
-all_both P (x ∷ xs) ys all others = (all.0, all_both P xs ys all.1 others)
 
 -- an object that holds something reads
 object_reads : (m : Result (Held × List ℕ) ObjectFault) (held : Held) → (m >>= λ read. Ok read.0) ≡ Ok held → IsOk m
@@ -79,7 +76,7 @@ texts_of f (i ∷ keys) all =
     (all.0.0 ∷ rest.0, (all.0.1, rest.1))
 
 -- a text is the one that the object holds
-same_text : (f : List ℕ) (i : ℕ) (units others : List ℕ) → Holds f i (holds_scalar (text units)) → Holds f i (holds_scalar (text others)) → units ≡ others
+pub same_text : (f : List ℕ) (i : ℕ) (units others : List ℕ) → Holds f i (holds_scalar (text units)) → Holds f i (holds_scalar (text others)) → units ≡ others
 same_text f i units others a b =
     let e = same_held f i (holds_scalar (text units)) (holds_scalar (text others)) a b in cc
 
@@ -249,7 +246,7 @@ RefersWell-list f refs = (
 
 pub RefersWell-table : (f keys values : List ℕ) → EachIndex keys (λ k. slice_index keys k < (trailer_of f).count) → EachIndex values (λ k. slice_index values k < (trailer_of f).count) → EachIndex keys (λ k. HoldsText f (slice_index keys k)) → RefersWell f (holds_table keys values)
 RefersWell-table f keys values below_keys below_values named = record {
-  numbers = all_both (λ i. i < (trailer_of f).count) keys values (all_from_each (λ i. i < (trailer_of f).count) keys below_keys) (all_from_each (λ i. i < (trailer_of f).count) values below_values);
+  numbers = every_append (λ i. i < (trailer_of f).count) keys values (all_from_each (λ i. i < (trailer_of f).count) keys below_keys) (all_from_each (λ i. i < (trailer_of f).count) values below_values);
   texts = all_from_each (HoldsText f) keys named;
 }
 

@@ -4,6 +4,7 @@ use Rattle.std.specs.Prelude.{slice_index}
 use Rattle.std.specs.List.{AllByRecursion}
 use Rattle.std.proofs.lemmas.List.{drop_more, drop_all}
 use Rattle.plist_canon.specs.Preorders.{IsKnown, LeadsTo}
+use Rattle.plist_canon.proofs.Every.{every_append}
 
 pub LeadsTo-start : (scalars : List Bool) (refs : List ℕ) → LeadsTo scalars refs refs
 LeadsTo-start scalars refs = record { passed = []; known = tt; split = refl }
@@ -39,14 +40,10 @@ LeadsTo-append scalars refs left others leads = record {
   split = ap (λ xs. xs ++ others) leads.split ∙ append_assoc leads.passed left others;
 }
 
-all_append : (P : ℕ → Type 0) (xs ys : List ℕ) → AllByRecursion P xs → AllByRecursion P ys → AllByRecursion P (xs ++ ys)
-all_append P [] ys all others = others
-all_append P (x ∷ xs) ys all others = (all.0, all_append P xs ys all.1 others)
-
 pub LeadsTo-trans : (scalars : List Bool) (refs mid left : List ℕ) → LeadsTo scalars refs mid → LeadsTo scalars mid left → LeadsTo scalars refs left
 LeadsTo-trans scalars refs mid left first second = record {
   passed = first.passed ++ second.passed;
-  known = all_append (IsKnown scalars) first.passed second.passed first.known second.known;
+  known = every_append (IsKnown scalars) first.passed second.passed first.known second.known;
   split = first.split ∙ ap (λ xs. first.passed ++ xs) second.split ∙ sym (append_assoc first.passed second.passed left);
 }
 

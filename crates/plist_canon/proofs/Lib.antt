@@ -1,4 +1,5 @@
 mod Rows
+pub mod Every
 pub mod Numbering
 pub mod Trees
 pub mod Spelled

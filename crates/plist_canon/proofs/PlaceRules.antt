@@ -17,6 +17,7 @@ use Rattle.plist_canon.specs.Plan.{Stands, held_at, number_in}
 use Rattle.plist_canon.specs.Rules.{HoldsText, HoldTexts, IsWellRead, HasAscendingKeys, IsNoRepeat}
 use Rattle.plist_canon.proofs.Trees.{length-preorder, Stands-front, Stands-rest, Stands-tail, Stands-head, Stands-tree}
 use Rattle.plist_canon.proofs.KeptPlaces.{is_made}
+use Rattle.plist_canon.proofs.Every.{every_append}
 
 -- The file has the objects of the places of a tree: as many as there are places with an object of their own, and the
 -- object of each place holds what stands there.
@@ -24,10 +25,6 @@ pub record HasObjects (f : List ℕ) (all : List Plist) : Type 0 where
   pub counted : (trailer_of f).count ≡ length (kept_places all)
   pub reads : (k : ℕ) (v : Plist) → value_at all k ≡ v → k < length all → Holds f (number_in all k) (held_at (number_in all) k v)
   pub stands : (k : ℕ) → k < length all → Stands all k (preorder (value_at all k))
-
-AllByRecursion-append : {X : Type 0} (P : X → Type 0) (xs ys : List X) → AllByRecursion P xs → AllByRecursion P ys → AllByRecursion P (xs ++ ys)
-AllByRecursion-append P [] ys each others = others
-AllByRecursion-append P (x ∷ xs) ys each others = (each.0, AllByRecursion-append P xs ys each.1 others)
 
 -- the keys of a table in their order
 abbrev key_units : Pairs → List (List ℕ)
@@ -100,7 +97,7 @@ module _ (f : List ℕ) (all : List Plist) (has : HasObjects f all) where
       record {
         held = held_at (number_in all) k (table ps);
         holds = has.reads k (table ps) at.0 at.1;
-        numbers = AllByRecursion-append IsListed (map (number_in all) (key_places (suc k) ps)) (map (number_in all) (value_places (suc k + length (key_texts ps)) ps)) (listed_keys ps (suc k) keys) (listed_values ps (suc k + length (key_texts ps)) values);
+        numbers = every_append IsListed (map (number_in all) (key_places (suc k) ps)) (map (number_in all) (value_places (suc k + length (key_texts ps)) ps)) (listed_keys ps (suc k) keys) (listed_values ps (suc k + length (key_texts ps)) values);
         texts = keys_hold ps (suc k) keys;
       }
 

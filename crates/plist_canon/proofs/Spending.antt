@@ -11,6 +11,7 @@ use Rattle.plist_object.specs.Uniqueness.{same_held}
 use Rattle.plist_canon.specs.declared.limits.Budget.{Budget}
 use Rattle.plist_canon.specs.Rules.{HoldTexts, HoldsText, HasAscendingKeys}
 use Rattle.plist_canon.specs.Charges.{Spends, IsOver, Charges, Exceeds, ChargesItems, ExceedsItems, payload_of_texts, ChargesKeys, ExceedsKeys}
+use Rattle.plist_canon.proofs.Judges.{same_text}
 use Rattle.plist_canon.proofs.TableParts.{some_depth, some_nodes, table_parts}
 
 pub some_map : {X : Type 0} (r : Option X) (P Q : X → Type 0) → ((x : X) → P x → Q x) → IfSome r P → IfSome r Q
@@ -256,15 +257,11 @@ next_text : (f keys : List ℕ) (k : ℕ) (rest : List (List ℕ)) → k < lengt
 next_text f keys k rest below hold =
     first_text f (slice_index keys k) (drop (k + 1) keys) rest (subst (λ (rs : List ℕ). HoldTexts f rs rest) (drop_more keys k 0 below) hold)
 
-same_units : (f : List ℕ) (i : ℕ) (units others : List ℕ) → Holds f i (holds_scalar (text units)) → Holds f i (holds_scalar (text others)) → units ≡ others
-same_units f i units others a b =
-    let e = same_held f i (holds_scalar (text units)) (holds_scalar (text others)) a b in cc
-
 pub KeysLeft-next : (f keys : List ℕ) (k : ℕ) (units : List ℕ) (before left after : Budget) → k < length keys → Holds f (slice_index keys k) (holds_scalar (text units)) → AllKeysLeft f keys k before left → Spends left 1 (2 * length units) after → AllKeysLeft f keys (k + 1) before after
 KeysLeft-next f keys k units before left after below holds all spends texts hold =
     let l = all texts hold in
     let n = next_text f keys k l.rest below l.hold in
-    let same : length n.units ≡ length units = ap length (same_units f (slice_index keys k) n.units units n.holds holds) in
+    let same : length n.units ≡ length units = ap length (same_text f (slice_index keys k) n.units units n.holds holds) in
     let a = spends.nodes_left in
     let b = spends.payload_left in
     let c = l.nodes_left in
@@ -277,7 +274,7 @@ pub ExceedsKeys-next : (f keys : List ℕ) (k : ℕ) (units : List ℕ) (before 
 ExceedsKeys-next f keys k units before left below holds all over texts hold nodes_fit payload_fit =
     let l = all texts hold in
     let n = next_text f keys k l.rest below l.hold in
-    let same : length n.units ≡ length units = ap length (same_units f (slice_index keys k) n.units units n.holds holds) in
+    let same : length n.units ≡ length units = ap length (same_text f (slice_index keys k) n.units units n.holds holds) in
     let c = l.nodes_left in
     let d = l.payload_left in
     let e : length l.rest ≡ suc (length n.others) = ap length n.is in

@@ -1,9 +1,10 @@
 //! Whether a file is canonical, without the value that it spells.
-ghost use Rattle.std.specs.Prelude.{◌≡◌, IfOk, IfErr, OnOk};
+ghost use Rattle.std.specs.Prelude.{◌≡◌, ◌↔◌, IfOk, IfErr, OnOk};
 ghost use Rattle.plist_value.specs.Plist.{AreOctets};
 ghost use Rattle.plist_object.specs.Layout.{IsLaid};
 ghost use Rattle.plist_object.specs.Views.{octets_of};
 ghost use Rattle.plist_canon.specs.Rules.{FollowsRules};
+ghost use Rattle.plist_canon.specs.Locality.{IsCanonical};
 ghost use Rattle.plist_canon.specs.Checking.{check_code, unlaid, IsCheckFault, IsFlaw, IsVerdict};
 
 use crate::judging::{Flaw, judge_objects, judge_trailer};
@@ -95,6 +96,7 @@ pub fn check(alloc: Global, octets: &[u8]) -> Result<Verdict, CheckFault>
     ensures fault { IfErr result (IsCheckFault octets.now) }
     ensures laid { IfOk result (λ _. IsLaid octets.now) }
     ensures verdict { IfOk result (IsVerdict octets.now) }
+    ensures canonical { IfOk result (λ verdict. (verdict ≡ Verdict.Canonical) ↔ IsCanonical octets.now) }
 {
     let file = BinFile::of(octets)?;
     match judge(alloc, &file) {
