@@ -1,4 +1,4 @@
-use crate::tests::{THREE_DIGITS, data, empty_list, file, made, numbers, pair, table, text};
+use crate::samples::{THREE_DIGITS, data, empty_list, file, made, numbers, pair, table, text};
 use crate::{CheckFault, Verdict, check};
 use plist_value::{Value, Whole};
 use std::alloc::{AllocError, Global};

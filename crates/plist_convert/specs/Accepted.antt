@@ -2,7 +2,7 @@
 use Rattle.std.specs.Prelude.{◌≡◌, List, ℕ}
 use Rattle.plist_value.specs.Plist.{Plist}
 use Rattle.plist_object.specs.Spelled.{IsBinary}
-use Rattle.plist_canon.specs.Canonical.{canon}
+use Rattle.plist_write.specs.Canonical.{canon}
 
 -- the octets are accepted, and spell the value
 abbrev pub IsAccepted : List ℕ → Plist → Type 0

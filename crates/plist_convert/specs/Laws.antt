@@ -1,7 +1,7 @@
 -- What holds of all accepted octets.
 use Rattle.std.specs.Prelude.{◌≡◌, ◌↔◌, List, ℕ}
 use Rattle.plist_value.specs.Plist.{Plist}
-use Rattle.plist_canon.specs.Canonical.{canon}
+use Rattle.plist_write.specs.Canonical.{canon}
 use Rattle.plist_convert.specs.Accepted.{IsAccepted}
 
 -- no octets spell two values

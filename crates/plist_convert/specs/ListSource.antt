@@ -1,6 +1,6 @@
 -- What a contract sees of a `ListSource`.
 use Rattle.std.specs.Prelude.{◌≡◌, ℕ, ◌+◌, ◌≤◌, ◌⊎◌, List, Option, Some}
-use Rattle.plist_canon.specs.Sink.{count_limit}
+use Rattle.plist_write.specs.Sink.{count_limit}
 use Rattle.plist_convert.specs.declared.list_source.ListSource.{ListSource}
 
 -- the octets still to come

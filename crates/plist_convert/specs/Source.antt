@@ -2,7 +2,7 @@
 use Rattle.std.specs.Prelude.{◌≡◌, ℕ, ◌<◌, List, Option, Result, MatchResult}
 use Rattle.std.specs.Io.{ReadsAtMost}
 use Rattle.std.specs.Io.KnownBytes.{ReadConsumes}
-use Rattle.plist_canon.specs.Sink.{count_limit, one_more}
+use Rattle.plist_write.specs.Sink.{count_limit, one_more}
 
 -- A take that gives octets leaves the count, which stands below the greatest. A take that fails counts one failure more.
 abbrev pub CountsTake : {E : Type 0} → ℕ → ℕ → Result ℕ E → Type 0

@@ -31,7 +31,7 @@ pub fn canonicalise(alloc: Global, octets: &[u8]) -> Result<Vec<u8>, Fault>
     ensures refused { IfErr result (IsRefused octets.now) }
 {
     let value = read_any(alloc, octets)?;
-    Ok(plist_canon::canonical(alloc, &value)?)
+    Ok(plist_write::canonical(alloc, &value)?)
 }
 
 /// Whether the two octet lists spell equal values, which is whether their canonical files are equal. The

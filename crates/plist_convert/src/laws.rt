@@ -16,6 +16,6 @@ pub fn headline()
     ensures { Headline }
 {
     one_value();
-    plist_canon::laws::canonical_spells_its_value();
-    plist_canon::laws::canonical_tells_values_apart();
+    plist_write::laws::canonical_spells_its_value();
+    plist_write::laws::canonical_tells_values_apart();
 }

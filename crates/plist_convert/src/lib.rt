@@ -23,7 +23,7 @@ pub use lines::line;
 pub use list_source::ListSource;
 pub use loading::{MAX_INPUT, load};
 pub use pairs::PairFault;
-pub use plist_canon::DeviceFault;
+pub use plist_write::DeviceFault;
 pub use program::run;
 pub use reader_source::ReaderSource;
 pub use sources::Source;

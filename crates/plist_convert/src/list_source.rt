@@ -1,6 +1,6 @@
 //! A list of octets as a source.
 ghost use Rattle.std.specs.Prelude.{◌≡◌, ◌<◌, ◌≤◌, ◌↔◌, ◌++◌, Some, IsErr, IsTrue, IfOk, OnErr, min, length, take, drop};
-ghost use Rattle.plist_canon.specs.Sink.{one_more};
+ghost use Rattle.plist_write.specs.Sink.{one_more};
 ghost use Rattle.plist_convert.specs.Source.{IsTake};
 
 use crate::{DeviceFault, Source};

@@ -1,7 +1,7 @@
 //! All that a source gives, as one list.
 ghost use Rattle.std.specs.Prelude.{◌≡◌, ◌<◌, ◌≤◌, ◌↔◌, length, vec_len, IsErrOf, IfOk, IfErr, IfSome, OnOk};
 ghost use Rattle.std.specs.Io.KnownBytes.{IsAtEnd};
-ghost use Rattle.plist_canon.specs.Sink.{HasFailed, one_more};
+ghost use Rattle.plist_write.specs.Sink.{HasFailed, one_more};
 ghost use Rattle.plist_convert.specs.Load.{IsLoadFault, Takes};
 
 use crate::{Fault, Source};

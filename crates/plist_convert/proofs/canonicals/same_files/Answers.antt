@@ -1,7 +1,7 @@
 use Rattle.std.proofs.Common.{ap}
 use Rattle.plist_value.specs.View.{view}
-use Rattle.plist_canon.specs.Canonical.{canon}
-use Rattle.plist_canon.proofs.Binary.{canon-injective}
+use Rattle.plist_write.specs.Canonical.{canon}
+use Rattle.plist_write.proofs.Binary.{canon-injective}
 use Rattle.plist_convert.proofs.canonicals.same_files.Goals as goal
 
 pub returns-clause-same : goal.returns-clause-same

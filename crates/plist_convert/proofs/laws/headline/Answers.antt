@@ -1,5 +1,5 @@
 use Rattle.std.proofs.Common.{ap}
-use Rattle.plist_canon.specs.Canonical.{canon}
+use Rattle.plist_write.specs.Canonical.{canon}
 use Rattle.plist_convert.proofs.laws.headline.Goals as goal
 
 pub returns : goal.returns

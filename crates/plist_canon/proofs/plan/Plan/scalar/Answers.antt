@@ -1,6 +1,0 @@
-use Rattle.std.proofs.Common.{sym}
-use Rattle.plist_canon.proofs.Walking.{Walks-known}
-use Rattle.plist_canon.proofs.plan.Plan.scalar.Goals as goal
-
-pub returns-in-Some : goal.returns-in-Some
-returns-in-Some c = Walks-known c.args.scalar c.args.self.now _ (sym c.in-Some.ensures.value)

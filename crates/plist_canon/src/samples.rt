@@ -1,0 +1,74 @@
+//! Values and files for tests.
+use plist_value::{Utf16, Value, fits};
+use plist_write::canonical;
+use std::alloc::{AllocError, Global};
+use std::collections::BTreeMap;
+use std::test::Fail;
+
+fn text_of(alloc: Global, units: &[u16]) -> Result<Utf16, AllocError> {
+    Ok(Utf16::from_units(Vec::from_slice(alloc, units)?))
+}
+
+pub(crate) fn text(alloc: Global, units: &[u16]) -> Result<Value, AllocError> {
+    Ok(Value::Text(text_of(alloc, units)?))
+}
+
+pub(crate) fn data(alloc: Global, octets: &[u8]) -> Result<Value, AllocError> {
+    Ok(Value::Bytes(Vec::from_slice(alloc, octets)?))
+}
+
+pub(crate) fn pair(alloc: Global, first: Value, second: Value) -> Result<Value, AllocError> {
+    let mut items = Vec::new(alloc);
+    items.push(first)?;
+    items.push(second)?;
+    Ok(Value::List(items))
+}
+
+pub(crate) fn empty_list(alloc: Global) -> Value {
+    Value::List(Vec::new(alloc))
+}
+
+// b under the first key, and a under the second.
+pub(crate) fn table(alloc: Global, first: &[u16], second: &[u16]) -> Result<Value, AllocError> {
+    let mut pairs = BTreeMap::new(alloc);
+    drop(pairs.insert(text_of(alloc, second)?, text(alloc, &[0x61])?)?);
+    drop(pairs.insert(text_of(alloc, first)?, text(alloc, &[0x62])?)?);
+    Ok(Value::Table(pairs))
+}
+
+// The texts of the numbers below the count, with a digit for each of these powers of ten.
+pub(crate) fn numbers(alloc: Global, count: u32, powers: &[u32]) -> Result<Value, AllocError> {
+    let mut items = Vec::new(alloc);
+    for number in 0..count {
+        let mut units = Vec::new(alloc);
+        for power in powers {
+            let digit = number.checked_div(*power).unwrap_or(0) % 10;
+            units.push(0x30 + digit as u16)?;
+        }
+        items.push(Value::Text(Utf16::from_units(units)))?;
+    }
+    Ok(Value::List(items))
+}
+
+pub(crate) const THREE_DIGITS: [u32; 3] = [100, 10, 1];
+
+// The file of a value within the limits.
+pub(crate) fn made(rt: &HostRuntime, value: &Value) -> Result<Vec<u8>, Fail> {
+    if !fits(value) {
+        return Err(Fail::from("it does not fit"));
+    }
+    Ok(canonical(rt.alloc(), value)?)
+}
+
+// A file of fewer than 256 octets: the objects, the offset table, and the trailer.
+pub(crate) fn file(alloc: Global, objects: &[u8], entries: &[u8]) -> Result<Vec<u8>, AllocError> {
+    let mut file = Vec::from_slice(alloc, b"bplist00")?;
+    file.extend_from_slice(objects)?;
+    let table = file.len() as u64;
+    file.extend_from_slice(entries)?;
+    file.extend_from_slice(&[0, 0, 0, 0, 0, 0, 1, 1])?;
+    file.extend_from_slice(&(entries.len() as u64).to_be_bytes())?;
+    file.extend_from_slice(&0u64.to_be_bytes())?;
+    file.extend_from_slice(&table.to_be_bytes())?;
+    Ok(file)
+}

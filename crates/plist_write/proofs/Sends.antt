@@ -1,0 +1,84 @@
+-- Octets that are sent in parts.
+use Rattle.std.proofs.Common.{◌≡◌, ℕ, suc, ◌+◌, ◌≤◌, List, [], ◌∷◌, ◌++◌, length, take, Option, Result, Ok, Err, refl, ap, subst, ◌∙◌, arith, length-append}
+use Rattle.std.proofs.KnownBytes.{Appends-nil, Appends-trans}
+use Rattle.std.proofs.lemmas.List.{take-append-le}
+use Rattle.plist_write.specs.declared.sending.WriteFault.{WriteFault}
+use Rattle.plist_write.specs.declared.sending.WriteFault.TheVariants.{OutOfMemory}
+use Rattle.plist_write.specs.Sending.{sent_of, IsBlamed, Sends, IsWritten}
+
+take-past : (xs ys : List ℕ) (n : ℕ) → take (length xs + n) (xs ++ ys) ≡ xs ++ take n ys
+take-past [] ys n = ap (λ m. take m ys) (omega arith)
+take-past (x ∷ xs) ys n =
+    let e : length (x ∷ xs) + n ≡ suc (length xs + n) = omega arith in rw e (ap (λ zs. x ∷ zs) (take-past xs ys n))
+
+-- nothing is sent
+pub Sends-none : (sent : ℕ) (known : Option (List ℕ)) (failures : ℕ) → Sends [] sent known known failures failures (Ok sent)
+Sends-none sent known failures = record { all = (omega arith, Appends-nil known, refl); front = tt }
+
+-- no memory is left
+pub Sends-no_memory : (octets : List ℕ) (sent : ℕ) (known : Option (List ℕ)) (failures : ℕ) → Sends octets sent known known failures failures (Err (OutOfMemory sent))
+Sends-no_memory octets sent known failures = record { all = tt; front = (0, omega arith, omega arith, Appends-nil known, refl) }
+
+-- the first part went out, and then what comes behind it
+pub Sends-append : (xs ys : List ℕ) (sent n : ℕ) (a b c : Option (List ℕ)) (f g h : ℕ) (result : Result ℕ WriteFault) → Sends xs sent a b f g (Ok n) → Sends ys n b c g h result → Sends (xs ++ ys) sent a c f h result
+Sends-append xs ys sent n a b c f g h (Ok m) x y =
+    let p = x.all.0 in
+    let q = y.all.0 in
+    record { all = (rw length-append (omega arith), Appends-trans a b c xs ys x.all.1 y.all.1, y.all.2 ∙ x.all.2); front = tt }
+Sends-append xs ys sent n a b c f g h (Err e) x y =
+    let p = x.all.0 in
+    let more = y.front.0 in
+    let q = y.front.1 in
+    let r = y.front.2 in
+    record {
+      all = tt;
+      front = (
+        length xs + more,
+        omega arith,
+        rw length-append (omega arith),
+        rw take-past (Appends-trans a b c xs (take more ys) x.all.1 y.front.3),
+        subst (λ (before : ℕ). IsBlamed e before h) x.all.2 y.front.4,
+      );
+    }
+
+-- the first part did not go out whole
+pub Sends-stop : (xs ys : List ℕ) (sent : ℕ) (a b : Option (List ℕ)) (f g : ℕ) (e : WriteFault) → Sends xs sent a b f g (Err e) → Sends (xs ++ ys) sent a b f g (Err e)
+Sends-stop xs ys sent a b f g e x =
+    let more = x.front.0 in
+    let within : more ≤ length xs = x.front.2 in
+    record {
+      all = tt;
+      front = (more, x.front.1, rw length-append (omega arith), rw take-append-le x.front.3, x.front.4);
+    }
+
+-- a file of four parts
+module _ (file h o e t : List ℕ) (parts : h ++ (o ++ (e ++ t)) ≡ file) where
+  pub Sends-first : (a b : Option (List ℕ)) (i j : ℕ) (fault : WriteFault) → Sends h 0 a b i j (Err fault) → Sends file 0 a b i j (Err fault)
+  Sends-first a b i j fault x = subst (λ (octets : List ℕ). Sends octets 0 a b i j (Err fault)) parts (Sends-stop h (o ++ (e ++ t)) 0 a b i j fault x)
+
+  pub Sends-second : (a b c : Option (List ℕ)) (i j k n : ℕ) (fault : WriteFault) → Sends h 0 a b i j (Ok n) → Sends o n b c j k (Err fault) → Sends file 0 a c i k (Err fault)
+  Sends-second a b c i j k n fault x y =
+      let later = Sends-stop o (e ++ t) n b c j k fault y in
+      subst (λ (octets : List ℕ). Sends octets 0 a c i k (Err fault)) parts (Sends-append h (o ++ (e ++ t)) 0 n a b c i j k (Err fault) x later)
+
+  pub Sends-third : (a b c d : Option (List ℕ)) (i j k l n m : ℕ) (fault : WriteFault) → Sends h 0 a b i j (Ok n) → Sends o n b c j k (Ok m) → Sends e m c d k l (Err fault) → Sends file 0 a d i l (Err fault)
+  Sends-third a b c d i j k l n m fault x y z =
+      let last = Sends-stop e t m c d k l fault z in
+      let later = Sends-append o (e ++ t) n m b c d j k l (Err fault) y last in
+      subst (λ (octets : List ℕ). Sends octets 0 a d i l (Err fault)) parts (Sends-append h (o ++ (e ++ t)) 0 n a b d i j l (Err fault) x later)
+
+  pub Sends-whole : (a b c d f : Option (List ℕ)) (i j k l r n m q : ℕ) (result : Result ℕ WriteFault) → Sends h 0 a b i j (Ok n) → Sends o n b c j k (Ok m) → Sends e m c d k l (Ok q) → Sends t q d f l r result → Sends file 0 a f i r result
+  Sends-whole a b c d f i j k l r n m q result x y z w =
+      let last = Sends-append e t m q c d f k l r result z w in
+      let later = Sends-append o (e ++ t) n m b c f j k r result y last in
+      subst (λ (octets : List ℕ). Sends octets 0 a f i r result) parts (Sends-append h (o ++ (e ++ t)) 0 n a b f i j r result x later)
+
+-- a file that is sent from its first octet on
+pub is_written : (file : List ℕ) (a b : Option (List ℕ)) (f g : ℕ) (result : Result ℕ WriteFault) → Sends file 0 a b f g result → IsWritten file a b f g result
+is_written file a b f g (Ok n) x =
+    let size = x.all.0 in record { count = omega arith; whole = (x.all.1, x.all.2); within = tt; front = tt }
+is_written file a b f g (Err e) x =
+    let more = x.front.0 in
+    let sent : sent_of e ≡ more = (let s = x.front.1 in omega arith) in
+    let within = x.front.2 in
+    record { count = tt; whole = tt; within = omega arith; front = (rw sent x.front.3, x.front.4) }

@@ -1,0 +1,15 @@
+use Rattle.std.proofs.Common.{sym}
+use Rattle.plist_value.specs.View.{view}
+use Rattle.plist_write.proofs.Found.{is_plan, is_canon}
+use Rattle.plist_write.proofs.Sends.{is_written}
+use Rattle.plist_write.proofs.sending.write_canonical.Goals as goal
+
+pub send_file-requires : goal.send_file-requires
+send_file-requires g c =
+    rw c.deref.ensures.value (is_plan (view c.args.value.now) c.requires c.in-Ok.slots.items c.in-Ok.ensures)
+
+pub returns : goal.returns
+returns g c =
+    let e = is_canon (view c.args.value.now) c.requires c.in-Ok.slots.items c.in-Ok.ensures in
+    let sent = rw c.deref.ensures.value at c.send_file.ensures in
+    is_written _ _ _ _ _ c.send_file.result (rw (sym e) sent)

@@ -1,0 +1,12 @@
+pub use Rattle.plist_value.specs.Plist
+pub use Rattle.plist_value.specs.Limits
+pub use Rattle.plist_object.specs.Spelled
+pub mod Tree
+pub mod Sharing
+pub mod Canonical
+pub mod Plan
+pub mod Pieces
+pub mod Sink
+pub mod Sending
+pub mod ListSink
+pub mod Laws

@@ -1,0 +1,79 @@
+//! The objects of a file, in the order of their numbers, as they are found.
+ghost use Rattle.std.specs.Prelude.{◌≡◌, ◌<◌, ℕ, List, length, map, IfOk};
+ghost use Rattle.plist_value.specs.Plist.{Plist};
+ghost use Rattle.plist_value.specs.Scalars.{content_of};
+ghost use Rattle.plist_write.specs.Plan.{number_held, WalksScalar, Begins, Finishes, IsEmptyPlan};
+
+use indexmap::IndexMap;
+use plist_value::ScalarRef;
+use std::alloc::{AllocError, Global};
+
+/// An object: a scalar, the numbers of a list's items, or those of a table's keys and of its values.
+#[derive(Debug, Drop)]
+pub(crate) enum Slot<'a> {
+    Scalar(ScalarRef<'a>),
+    List(Vec<u64>),
+    Table(Vec<u64>, Vec<u64>),
+}
+
+/// The objects so far, and the numbers of the scalars among them.
+#[derive(Drop)]
+pub(crate) struct Plan<'a> {
+    numbers: IndexMap<ScalarRef<'a>, u64>,
+    slots: Vec<Slot<'a>>,
+}
+
+impl<'a> Plan<'a> {
+    pub(crate) fn new(alloc: Global) -> Plan<'a>
+        ensures { IsEmptyPlan result }
+    {
+        Plan {
+            numbers: IndexMap::new(alloc),
+            slots: Vec::new(alloc),
+        }
+    }
+
+    pub(crate) fn into_slots(self) -> Vec<Slot<'a>>
+        ensures { result ≡ self.entry.slots }
+    {
+        self.slots
+    }
+
+    /// The number of a scalar: that of an equal one, or a new one.
+    pub(crate) fn scalar(&mut self, scalar: ScalarRef<'a>) -> Result<u64, AllocError>
+        ensures { IfOk result (WalksScalar (content_of scalar.entry) self.old self.new) }
+    {
+        match self.numbers.get(&scalar) {
+            Some(number) => Ok(*number),
+            None => self.add(scalar),
+        }
+    }
+
+    // The number of a scalar that has none yet.
+    fn add(&mut self, scalar: ScalarRef<'a>) -> Result<u64, AllocError>
+        requires { number_held self.old scalar ≡ None }
+        ensures { IfOk result (WalksScalar (content_of scalar.entry) self.old self.new) }
+    {
+        let number = self.slots.len() as u64;
+        self.slots.push(Slot::Scalar(scalar))?;
+        self.numbers.insert(scalar, number)?;
+        Ok(number)
+    }
+
+    /// The number of a container, whose children are numbered next.
+    pub(crate) fn begin(&mut self, alloc: Global) -> Result<usize, AllocError>
+        ensures { IfOk result (Begins self.old self.new) }
+    {
+        let number = self.slots.len();
+        self.slots.push(Slot::List(Vec::new(alloc)))?;
+        Ok(number)
+    }
+
+    /// What the container of this number holds.
+    pub(crate) fn finish(&mut self, number: usize, slot: Slot<'a>)
+        requires { number < length self.old.slots.items }
+        ensures { Finishes number slot.entry self.old self.new }
+    {
+        self.slots[number] = slot;
+    }
+}
