@@ -1,14 +1,18 @@
 //! The program `plistconv`, over any files, input and output.
 ghost use Rattle.std.specs.Prelude.{◌≡◌, ◌<◌, ◌≤◌, ◌⊎◌, length, IfOk, IfSome, OnOk};
-ghost use Rattle.plist_convert.specs.Accepted.{IsCanonicalOf};
+ghost use Rattle.plist_value.specs.Limits.{Fits};
+ghost use Rattle.plist_value.specs.View.{view};
+ghost use Rattle.plist_convert.specs.Accepted.{IsAccepted, IsCanonicalOf};
 ghost use Rattle.plist_convert.specs.Filter.{Filters};
 
 use crate::sending::send;
 use crate::verdicts::{verdict_line, verdict_status};
 use crate::words::{Request, read_words};
-use crate::{Fault, ReaderSource, canonicalise, line, load};
+use crate::{Fault, ReaderSource, line, load, read_any};
 use clap::error::{Error, ErrorKind};
 use plist_canon::{Verdict, check};
+use plist_value::Value;
+use plist_write::canonical;
 use std::alloc::Global;
 use std::fmt::Display;
 use std::fs;
@@ -125,11 +129,21 @@ fn canonical_at<R: Files>(rt: &R, alloc: Global, path: &str) -> Result<Vec<u8>, 
     }
 }
 
+/// The canonical file of the value that the device's octets spell. They are dropped before it is made.
 fn canonical_of<D: Read + Drop>(alloc: Global, device: D) -> Result<Vec<u8>, Fault>
     ensures { IfOk result (λ file. IfSome (D.remaining device) (λ octets. IsCanonicalOf octets file.items)) }
 {
+    let value = value_of(alloc, device)?;
+    Ok(canonical(alloc, &value)?)
+}
+
+/// The value that the device's octets spell.
+fn value_of<D: Read + Drop>(alloc: Global, device: D) -> Result<Value, Fault>
+    ensures read { IfOk result (λ value. IfSome (D.remaining device) (λ octets. IsAccepted octets (view value))) }
+    ensures fits { IfOk result (λ value. Fits (view value)) }
+{
     let octets = load(alloc, &mut ReaderSource::new(device))?;
-    canonicalise(alloc, octets.as_slice())
+    read_any(alloc, octets.as_slice())
 }
 
 /// Creates or empties the file at the path and writes the octets to it.
