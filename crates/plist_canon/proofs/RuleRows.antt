@@ -2,6 +2,7 @@
 use Rattle.std.proofs.Common.{◌≡◌, ℕ, zero, suc, ◌<◌, List, [], ◌∷◌, ◌++◌, replicate, Result, Ok, refl, sym, ap, subst, ◌∙◌, inl, inr, arith}
 use Rattle.std.specs.Prelude.{⊤}
 use Rattle.std.specs.declared.cmp.Ordering.TheVariants.{Less, Greater}
+use Rattle.std.specs.List.{AllByRecursion}
 use Rattle.std.specs.List.Sorted.{IsStrictlySortedBy}
 use Rattle.plist_value.specs.Plist.{text, scalar, table, no_pairs, pair, Plist, IsPlist, AreUnits}
 use Rattle.plist_value.specs.Limits.{Fits}
@@ -12,7 +13,7 @@ use Rattle.plist_object.specs.Places.{octets_at, object_at, what_holds, span_of,
 use Rattle.plist_object.specs.Shortest.{spelling_of, IsShortest}
 use Rattle.plist_object.specs.Uniqueness.{same_held}
 use Rattle.plist_write.specs.Canonical.{canon}
-use Rattle.plist_canon.specs.Rules.{refs_of, FollowsRules, HasPlainTrailer, HasLeastWidths, Adjoins, IsSpelledCanonically, HasAscendingKeys, IsNoRepeat, Walk, visit, Walks, end, step, MeetsInOrder, IsNumberedInPreorder}
+use Rattle.plist_canon.specs.Rules.{refs_of, ReadsWithinLimits, FollowsRules, HasPlainTrailer, HasLeastWidths, Adjoins, IsSpelledCanonically, HasAscendingKeys, IsNoRepeat, Walk, visit, Walks, end, step, MeetsInOrder, IsNumberedInPreorder}
 use Rattle.plist_canon.proofs.Followed.{canonical_follows_rules}
 
 -- The end of a file of fewer than 256 octets: the first octet of the slack, the width of a reference, how many objects
@@ -53,6 +54,26 @@ follows = subst FollowsRules two_pairs-canon (canonical_follows_rules two_pairs 
 
 same_head : (m n : ℕ) (ms ns : List ℕ) → m ∷ ms ≡ n ∷ ns → m ≡ n
 same_head m n ms ns e = cc
+
+-- a list of a reference to no object
+abbrev stray_file : List ℕ
+stray_file = header ++ (161 ∷ 1 ∷ 8 ∷ end_of 1 10)
+
+stray-laid : IsLaid stray_file
+stray-laid = record { long = omega arith; headed = refl; trailed = omega arith }
+
+numbers_below : (held : Held) → held ≡ holds_list (1 ∷ []) → AllByRecursion (λ reference. reference < 1) (refs_of held) → ⊥
+numbers_below held e numbers =
+    let below = subst (λ (held : Held). AllByRecursion (λ reference. reference < 1) (refs_of held)) e numbers in
+    let first : 1 < 1 = below.0 in
+    omega arith
+
+breaks-c0 : ReadsWithinLimits stray_file → ⊥
+unfolding what_holds object_at octets_at marked_object list_object content count_of_content
+breaks-c0 h =
+    let read = h.read 0 (omega arith) in
+    let top : Holds stray_file 0 (holds_list (1 ∷ [])) = record { listed = omega arith; reads = refl } in
+    numbers_below read.held (same_held stray_file 0 read.held (holds_list (1 ∷ [])) read.holds top) read.numbers
 
 -- an empty table, and 1 in the first octet of the slack
 abbrev slack_file : List ℕ
