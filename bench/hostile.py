@@ -1,0 +1,92 @@
+#!/usr/bin/env python3
+"""Measures `plistconv check` on files made to be slow, at three sizes of which each is twice the one before.
+
+usage: bench/hostile.py [PLISTCONV]   (the program to measure, ./plistconv if not given)
+
+Time is the least of three runs. Where work is linear in the file's size, the last column stays as it is.
+"""
+import os
+import subprocess
+import sys
+import tempfile
+import time
+
+
+def number(value, width):
+    return value.to_bytes(width, "big")
+
+
+def head(kind, count):
+    """A marker and its count."""
+    if count < 15:
+        return bytes([kind | count])
+    size = next(size for size in range(4) if count < 256 ** (1 << size))
+    return bytes([kind | 15, 0x10 | size]) + number(count, 1 << size)
+
+
+def file(objects, places, width):
+    """The file of objects that begin at these places, its references of so many octets."""
+    body = b"bplist00" + objects
+    entries = b"".join(number(place, 4) for place in places)
+    trailer = bytes([0] * 6 + [4, width]) + number(len(places), 8) + number(0, 8) + number(len(body), 8)
+    return body + entries + trailer
+
+
+def joined(objects, width):
+    places, place = [], 8
+    for one in objects:
+        places.append(place)
+        place += len(one)
+    return file(b"".join(objects), places, width)
+
+
+def shared_keys(size):
+    """A list of tables, all with the same two long keys, which differ in their last octet."""
+    tables, length = size // 40, size // 4
+    first = head(0xA0, tables) + b"".join(number(n, 2) for n in [1, *range(5, tables + 4)])
+    table = b"\xd2" + b"".join(number(n, 2) for n in (2, 3, 4, 4))
+    keys = [head(0x50, length) + b"a" * (length - 1) + last for last in (b"x", b"y")]
+    return joined([first, table, *keys, b"\x10\x00", *[table] * (tables - 1)], 2)
+
+
+def overlapping_keys(size):
+    """A table of keys whose texts all reach into one long run of octets."""
+    keys = size // 40
+    length = size // 2
+    table = head(0xD0, keys) + b"".join(number(n, 2) for n in range(1, keys + 1)) + number(keys + 1, 2) * keys
+    heads = b"".join(b"\x5f\x12" + bytes(octet & 0x7F for octet in number(length, 4)) for _ in range(keys))
+    places = [8, *(8 + len(table) + 6 * n for n in range(keys)), 8 + len(table) + len(heads) + length]
+    return file(table + heads + b"a" * length + b"\x10\x00", places, 2)
+
+
+def one_text_often(size):
+    """A list that names one long text again and again."""
+    length = size // 2
+    return joined([head(0xA0, size // 2) + b"\x01" * (size // 2), head(0x50, length) + b"a" * length], 1)
+
+
+def seconds(program, path):
+    begin = time.perf_counter()
+    ran = subprocess.run([program, "check", path], stdout=subprocess.PIPE, check=False)
+    return time.perf_counter() - begin, ran.stdout.decode().strip()
+
+
+def main():
+    program = os.path.abspath(sys.argv[1] if len(sys.argv) > 1 else "./plistconv")
+    print("| file | octets | answer | seconds | seconds for each MB |")
+    print("|---|---|---|---|---|")
+    with tempfile.TemporaryDirectory() as folder:
+        path = os.path.join(folder, "file")
+        for make in (shared_keys, overlapping_keys, one_text_often):
+            for size in (250_000, 500_000, 1_000_000):
+                with open(path, "wb") as target:
+                    target.write(make(size))
+                runs = [seconds(program, path) for _ in range(3)]
+                least = min(run[0] for run in runs)
+                octets = os.path.getsize(path)
+                print(f"| {make.__name__.replace('_', ' ')} | {octets:,} | {runs[0][1]} | {least:.3f} "
+                      f"| {least / octets * 1_000_000:.3f} |", flush=True)
+
+
+if __name__ == "__main__":
+    main()
