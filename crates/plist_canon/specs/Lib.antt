@@ -13,5 +13,6 @@ pub mod Laws
 pub mod Rules
 pub mod Locality
 pub mod Checking
+pub mod Weights
 pub mod Preorders
 pub mod Charges

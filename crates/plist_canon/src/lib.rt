@@ -16,6 +16,7 @@ mod repeats;
 pub mod sending;
 pub mod sink;
 mod walk;
+mod weights;
 
 pub use checking::{CheckFault, Verdict, check};
 pub use list_sink::ListSink;
