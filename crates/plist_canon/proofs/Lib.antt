@@ -16,6 +16,7 @@ pub mod FileRules
 pub mod Followed
 pub mod Local
 mod RuleRows
+pub mod Weighing
 pub mod Visiting
 pub mod Leading
 pub mod Paths

@@ -1,17 +1,20 @@
 -- What values that are spelled spend of a budget.
-use Rattle.std.proofs.Common.{◌≡◌, ℕ, suc, ◌+◌, ◌*◌, ◌<◌, ◌≤◌, max, List, [], ◌∷◌, length, drop, refl, ap, subst, ◌∙◌, arith, Some, None}
+use Rattle.std.proofs.Common.{◌≡◌, ℕ, ◌+◌, ◌<◌, ◌≤◌, max, List, [], ◌∷◌, length, drop, refl, ap, subst, ◌∙◌, arith, Some, None}
 use Rattle.std.specs.Prelude.{slice_index, Option, IfSome, IfNone}
 use Rattle.std.proofs.lemmas.List.{drop_more, drop_all}
-use Rattle.plist_value.specs.Plist.{Scalar, text, Plist, scalar, list, table, Items, no_items, item, Pairs, IsPlist, AreItems, ArePairs}
+use Rattle.plist_value.specs.Plist.{Scalar, Plist, scalar, list, table, Items, no_items, item, Pairs, IsPlist, AreItems, ArePairs}
 use Rattle.plist_value.specs.Limits.{nodes, depth, payload, payload_of_scalar, nodes_of_items, depth_of_items, payload_of_items, nodes_of_pairs, depth_of_pairs, payload_of_pairs}
-use Rattle.plist_object.specs.Objects.{holds_scalar, holds_list, holds_table}
+use Rattle.plist_object.specs.Objects.{Held, holds_scalar, holds_list, holds_table}
 use Rattle.plist_object.specs.Places.{Holds}
 use Rattle.plist_object.specs.Spelled.{Spells, SpellItems}
 use Rattle.plist_object.specs.Uniqueness.{same_held}
 use Rattle.plist_canon.specs.declared.limits.Budget.{Budget}
-use Rattle.plist_canon.specs.Rules.{HoldTexts, HoldsText, HasAscendingKeys}
-use Rattle.plist_canon.specs.Charges.{Spends, IsOver, Charges, Exceeds, ChargesItems, ExceedsItems, payload_of_texts, ChargesKeys, ExceedsKeys}
-use Rattle.plist_canon.proofs.Judges.{same_text}
+use Rattle.plist_canon.specs.Rules.{HasAscendingKeys}
+use Rattle.plist_canon.specs.declared.weights.Weight.{Weight}
+use Rattle.plist_canon.specs.Weights.{weight_of, payload_of_weight, Weighs}
+use Rattle.plist_canon.specs.Charges.{Spends, IsOver, Charges, Exceeds, ChargesItems, ExceedsItems}
+use Rattle.plist_canon.proofs.KeyPairs.{put_texts}
+use Rattle.plist_canon.proofs.Weighing.{scalar-payload, Weighs-held}
 use Rattle.plist_canon.proofs.TableParts.{some_depth, some_nodes, table_parts}
 
 pub some_map : {X : Type 0} (r : Option X) (P Q : X → Type 0) → ((x : X) → P x → Q x) → IfSome r P → IfSome r Q
@@ -70,6 +73,27 @@ pub Exceeds-scalar : (f : List ℕ) (i levels : ℕ) (s : Scalar) (left : Budget
 Exceeds-scalar f i levels s left holds over v valid spells deep =
     by_scalar f i s (λ v. IsOver left (nodes v) (payload v)) holds over v spells
 
+-- an object's own node and payload are too much
+pub Exceeds-weight : (f : List ℕ) (i levels : ℕ) (held : Held) (left : Budget) → Holds f i held → IsOver left 1 (payload_of_weight (weight_of held)) → Exceeds f i levels left
+Exceeds-weight f i levels (holds_scalar s) left holds over =
+    Exceeds-scalar f i levels s left holds (subst (λ (n : ℕ). IsOver left 1 n) (scalar-payload s) over)
+Exceeds-weight f i levels (holds_list refs) left holds over = Exceeds-node f i levels left over
+Exceeds-weight f i levels (holds_table keys values) left holds over = Exceeds-node f i levels left over
+
+pub Exceeds-weighed : (f : List ℕ) (i levels : ℕ) (weight : Weight) (left : Budget) → Weighs f i weight → IsOver left 1 (payload_of_weight weight) → Exceeds f i levels left
+Exceeds-weighed f i levels weight left weighs over =
+    Exceeds-weight f i levels weighs.held left weighs.holds (subst (λ (w : Weight). IsOver left 1 (payload_of_weight w)) weighs.is over)
+
+-- what was spent on an object is its weight, whatever was read of it
+pub spends-held : (f : List ℕ) (i : ℕ) (weight : Weight) (held : Held) (left after : Budget) → Weighs f i weight → Holds f i held → Spends left 1 (payload_of_weight weight) after → Spends left 1 (payload_of_weight (weight_of held)) after
+spends-held f i weight held left after weighs holds spends =
+    subst (λ (w : Weight). Spends left 1 (payload_of_weight w) after) (Weighs-held f i weight held weighs holds) spends
+
+pub Charges-weighed : (f : List ℕ) (i levels : ℕ) (s : Scalar) (weight : Weight) (left after : Budget) → Weighs f i weight → Holds f i (holds_scalar s) → 1 ≤ levels → Spends left 1 (payload_of_weight weight) after → Charges f i levels left after
+Charges-weighed f i levels s weight left after weighs holds some spends =
+    Charges-scalar f i levels s left after holds some
+    (subst (λ (n : ℕ). Spends left 1 n after) (scalar-payload s) (spends-held f i weight (holds_scalar s) left after weighs holds spends))
+
 module _ (f : List ℕ) (i levels below : ℕ) (one : below + 1 ≡ levels) (left mid : Budget) (node : Spends left 1 0 mid) where
   pub Charges-list : (refs : List ℕ) (after : Budget) → Holds f i (holds_list refs) → ChargesItems f refs below mid after → Charges f i levels left after
   Charges-list refs after holds charges = record {
@@ -89,16 +113,16 @@ module _ (f : List ℕ) (i levels below : ℕ) (one : below + 1 ≡ levels) (lef
       exceeds vs valid spells (omega arith) (omega arith) (omega arith))
 
   module _ (keys values : List ℕ) (even : length keys ≡ length values) (holds : Holds f i (holds_table keys values)) (ascending : HasAscendingKeys f i) where
-    pub Charges-table : (keyed after : Budget) → ChargesKeys f keys mid keyed → ChargesItems f values below keyed after → Charges f i levels left after
+    pub Charges-table : (keyed after : Budget) → ChargesItems f keys below mid keyed → ChargesItems f values below keyed after → Charges f i levels left after
     Charges-table keyed after charges_keys charges = record {
       spent = by_table f i keys values (λ v. Spends left (nodes v) (payload v) after) holds (λ ps valid spells.
           let t = table_parts f i keys values ps even holds ascending valid spells in
           let p = t.parts in
           let a = node in
-          let b = charges_keys p.texts p.hold in
+          let b = charges_keys.spent (put_texts p.texts no_items) p.units p.spell_keys in
           let c = charges.spent p.items p.valid p.spell in
-          let n : nodes_of_pairs ps ≡ length p.texts + nodes_of_items p.items = ap nodes_of_pairs t.same ∙ p.nodes_are in
-          let m : payload_of_pairs ps ≡ payload_of_texts p.texts + payload_of_items p.items = ap payload_of_pairs t.same ∙ p.payload_is in
+          let n : nodes_of_pairs ps ≡ nodes_of_items (put_texts p.texts no_items) + nodes_of_items p.items = ap nodes_of_pairs t.same ∙ p.nodes_are in
+          let m : payload_of_pairs ps ≡ payload_of_items (put_texts p.texts no_items) + payload_of_items p.items = ap payload_of_pairs t.same ∙ p.payload_is in
           record { nodes_left = omega arith; payload_left = omega arith });
       deep = by_table f i keys values (λ v. depth v ≤ levels) holds (λ ps valid spells.
           let t = table_parts f i keys values ps even holds ascending valid spells in
@@ -108,25 +132,27 @@ module _ (f : List ℕ) (i levels below : ℕ) (one : below + 1 ≡ levels) (lef
           omega arith);
     }
 
-    pub Exceeds-keys : ExceedsKeys f keys mid → Exceeds f i levels left
+    pub Exceeds-keys : ExceedsItems f keys below mid → Exceeds f i levels left
     Exceeds-keys exceeds =
         by_table f i keys values (λ v. depth v ≤ levels → IsOver left (nodes v) (payload v)) holds (λ ps valid spells deep nodes_fit payload_fit.
         let t = table_parts f i keys values ps even holds ascending valid spells in
         let p = t.parts in
         let a = node in
-        let n : nodes_of_pairs ps ≡ length p.texts + nodes_of_items p.items = ap nodes_of_pairs t.same ∙ p.nodes_are in
-        let m : payload_of_pairs ps ≡ payload_of_texts p.texts + payload_of_items p.items = ap payload_of_pairs t.same ∙ p.payload_is in
-        exceeds p.texts p.hold (omega arith) (omega arith))
+        let n : nodes_of_pairs ps ≡ nodes_of_items (put_texts p.texts no_items) + nodes_of_items p.items = ap nodes_of_pairs t.same ∙ p.nodes_are in
+        let m : payload_of_pairs ps ≡ payload_of_items (put_texts p.texts no_items) + payload_of_items p.items = ap payload_of_pairs t.same ∙ p.payload_is in
+        let d : depth_of_pairs ps ≡ depth_of_items p.items = ap depth_of_pairs t.same ∙ p.depth_is in
+        let k = p.keys_deep in
+        exceeds (put_texts p.texts no_items) p.units p.spell_keys (omega arith) (omega arith) (omega arith))
 
-    pub Exceeds-values : (keyed : Budget) → ChargesKeys f keys mid keyed → ExceedsItems f values below keyed → Exceeds f i levels left
+    pub Exceeds-values : (keyed : Budget) → ChargesItems f keys below mid keyed → ExceedsItems f values below keyed → Exceeds f i levels left
     Exceeds-values keyed charges_keys exceeds =
         by_table f i keys values (λ v. depth v ≤ levels → IsOver left (nodes v) (payload v)) holds (λ ps valid spells deep nodes_fit payload_fit.
         let t = table_parts f i keys values ps even holds ascending valid spells in
         let p = t.parts in
         let a = node in
-        let b = charges_keys p.texts p.hold in
-        let n : nodes_of_pairs ps ≡ length p.texts + nodes_of_items p.items = ap nodes_of_pairs t.same ∙ p.nodes_are in
-        let m : payload_of_pairs ps ≡ payload_of_texts p.texts + payload_of_items p.items = ap payload_of_pairs t.same ∙ p.payload_is in
+        let b = charges_keys.spent (put_texts p.texts no_items) p.units p.spell_keys in
+        let n : nodes_of_pairs ps ≡ nodes_of_items (put_texts p.texts no_items) + nodes_of_items p.items = ap nodes_of_pairs t.same ∙ p.nodes_are in
+        let m : payload_of_pairs ps ≡ payload_of_items (put_texts p.texts no_items) + payload_of_items p.items = ap payload_of_pairs t.same ∙ p.payload_is in
         let d : depth_of_pairs ps ≡ depth_of_items p.items = ap depth_of_pairs t.same ∙ p.depth_is in
         exceeds p.items p.valid p.spell (omega arith) (omega arith) (omega arith))
 
@@ -228,75 +254,3 @@ ChargesItems-end f refs k levels before left past all =
           let h : depth_of_items l.rest ≡ 0 = ap depth_of_items (none vs valid spells) in
           l.deep (omega arith);
     }
-
--- The keys before the place k were spent.
-pub record KeysLeft (f keys : List ℕ) (k : ℕ) (texts : List (List ℕ)) (before left : Budget) : Type 0 where
-  pub rest : List (List ℕ)
-  pub hold : HoldTexts f (drop k keys) rest
-  pub nodes_left : left.nodes + length texts ≡ before.nodes + length rest
-  pub payload_left : left.payload + payload_of_texts texts ≡ before.payload + payload_of_texts rest
-
-abbrev pub AllKeysLeft : List ℕ → List ℕ → ℕ → Budget → Budget → Type 0
-AllKeysLeft f keys k before left = (texts : List (List ℕ)) → HoldTexts f keys texts → KeysLeft f keys k texts before left
-
-pub KeysLeft-start : (f keys : List ℕ) (left : Budget) → AllKeysLeft f keys 0 left left
-KeysLeft-start f keys left texts hold = record { rest = texts; hold = hold; nodes_left = refl; payload_left = refl }
-
-record FirstText (f : List ℕ) (i : ℕ) (keys : List ℕ) (rest : List (List ℕ)) : Type 0 where
-  units : List ℕ
-  others : List (List ℕ)
-  is : rest ≡ units ∷ others
-  holds : Holds f i (holds_scalar (text units))
-  later : HoldTexts f keys others
-
-first_text : (f : List ℕ) (i : ℕ) (keys : List ℕ) (rest : List (List ℕ)) → HoldTexts f (i ∷ keys) rest → FirstText f i keys rest
-first_text f i keys [] hold = absurd (let none : i ∷ keys ≡ [] = hold in cc)
-first_text f i keys (units ∷ others) hold = record { units = units; others = others; is = refl; holds = hold.0; later = hold.1 }
-
-next_text : (f keys : List ℕ) (k : ℕ) (rest : List (List ℕ)) → k < length keys → HoldTexts f (drop k keys) rest → FirstText f (slice_index keys k) (drop (k + 1) keys) rest
-next_text f keys k rest below hold =
-    first_text f (slice_index keys k) (drop (k + 1) keys) rest (subst (λ (rs : List ℕ). HoldTexts f rs rest) (drop_more keys k 0 below) hold)
-
-pub KeysLeft-next : (f keys : List ℕ) (k : ℕ) (units : List ℕ) (before left after : Budget) → k < length keys → Holds f (slice_index keys k) (holds_scalar (text units)) → AllKeysLeft f keys k before left → Spends left 1 (2 * length units) after → AllKeysLeft f keys (k + 1) before after
-KeysLeft-next f keys k units before left after below holds all spends texts hold =
-    let l = all texts hold in
-    let n = next_text f keys k l.rest below l.hold in
-    let same : length n.units ≡ length units = ap length (same_text f (slice_index keys k) n.units units n.holds holds) in
-    let a = spends.nodes_left in
-    let b = spends.payload_left in
-    let c = l.nodes_left in
-    let d = l.payload_left in
-    let e : length l.rest ≡ suc (length n.others) = ap length n.is in
-    let g : payload_of_texts l.rest ≡ 2 * length n.units + payload_of_texts n.others = ap payload_of_texts n.is in
-    record { rest = n.others; hold = n.later; nodes_left = omega arith; payload_left = omega arith }
-
-pub ExceedsKeys-next : (f keys : List ℕ) (k : ℕ) (units : List ℕ) (before left : Budget) → k < length keys → Holds f (slice_index keys k) (holds_scalar (text units)) → AllKeysLeft f keys k before left → IsOver left 1 (2 * length units) → ExceedsKeys f keys before
-ExceedsKeys-next f keys k units before left below holds all over texts hold nodes_fit payload_fit =
-    let l = all texts hold in
-    let n = next_text f keys k l.rest below l.hold in
-    let same : length n.units ≡ length units = ap length (same_text f (slice_index keys k) n.units units n.holds holds) in
-    let c = l.nodes_left in
-    let d = l.payload_left in
-    let e : length l.rest ≡ suc (length n.others) = ap length n.is in
-    let g : payload_of_texts l.rest ≡ 2 * length n.units + payload_of_texts n.others = ap payload_of_texts n.is in
-    over (omega arith) (omega arith)
-
-pub ExceedsKeys-other : (f keys : List ℕ) (k : ℕ) (before left : Budget) → k < length keys → ¬ HoldsText f (slice_index keys k) → AllKeysLeft f keys k before left → ExceedsKeys f keys before
-ExceedsKeys-other f keys k before left below other all texts hold nodes_fit payload_fit =
-    let l = all texts hold in
-    let n = next_text f keys k l.rest below l.hold in
-    other (n.units, n.holds)
-
-no_texts_left : (f : List ℕ) (rest : List (List ℕ)) → HoldTexts f [] rest → rest ≡ []
-no_texts_left f [] hold = refl
-no_texts_left f (units ∷ rest) hold = absurd hold
-
-pub ChargesKeys-end : (f keys : List ℕ) (k : ℕ) (before left : Budget) → length keys ≤ k → AllKeysLeft f keys k before left → ChargesKeys f keys before left
-ChargesKeys-end f keys k before left past all texts hold =
-    let l = all texts hold in
-    let none : l.rest ≡ [] = no_texts_left f l.rest (subst (λ (rs : List ℕ). HoldTexts f rs l.rest) (drop_all k keys past) l.hold) in
-    let c = l.nodes_left in
-    let d = l.payload_left in
-    let e : length l.rest ≡ 0 = ap length none in
-    let g : payload_of_texts l.rest ≡ 0 = ap payload_of_texts none in
-    record { nodes_left = omega arith; payload_left = omega arith }

@@ -13,7 +13,6 @@ use Rattle.plist_object.specs.Places.{Holds}
 use Rattle.plist_object.specs.Spelled.{Spells, SpellItems, SpellPairs}
 use Rattle.plist_object.specs.Uniqueness.{same_held, same_rows, same_pairs}
 use Rattle.plist_canon.specs.Rules.{HoldTexts, HasAscendingKeys}
-use Rattle.plist_canon.specs.Charges.{payload_of_texts}
 use Rattle.plist_canon.proofs.KeyPairs.{pairs_of, put_texts, ArePairs-pairs_of}
 
 pub some_depth : (v : Plist) → 1 ≤ depth v
@@ -51,9 +50,11 @@ pub record Parts (f keys values : List ℕ) : Type 0 where
   pub valid : AreItems items
   pub units : AreItems (put_texts texts no_items)
   pub pairs : SpellPairs f (zip keys values) (pairs_of texts items)
-  pub nodes_are : nodes_of_pairs (pairs_of texts items) ≡ length texts + nodes_of_items items
-  pub payload_is : payload_of_pairs (pairs_of texts items) ≡ payload_of_texts texts + payload_of_items items
+  pub spell_keys : SpellItems f keys (put_texts texts no_items)
+  pub nodes_are : nodes_of_pairs (pairs_of texts items) ≡ nodes_of_items (put_texts texts no_items) + nodes_of_items items
+  pub payload_is : payload_of_pairs (pairs_of texts items) ≡ payload_of_items (put_texts texts no_items) + payload_of_items items
   pub depth_is : depth_of_pairs (pairs_of texts items) ≡ depth_of_items items
+  pub keys_deep : depth_of_items (put_texts texts no_items) ≤ depth_of_items items
 
 parts : (f keys values : List ℕ) → length keys ≡ length values → AllByRecursion (SpellsRow f) (zip keys values) → Parts f keys values
 parts f [] [] even all = record {
@@ -64,9 +65,11 @@ parts f [] [] even all = record {
   valid = tt;
   units = tt;
   pairs = refl;
+  spell_keys = refl;
   nodes_are = refl;
   payload_is = refl;
   depth_is = refl;
+  keys_deep = omega arith;
 }
 parts f [] (v ∷ values) even all = absurd (omega arith)
 parts f (k ∷ keys) [] even all = absurd (omega arith)
@@ -77,6 +80,7 @@ parts f (k ∷ keys) (v ∷ values) even all =
     let n = rest.nodes_are in
     let p = rest.payload_is in
     let d = rest.depth_is in
+    let k = rest.keys_deep in
     record {
       texts = row.key ∷ rest.texts;
       items = item row.value rest.items;
@@ -85,9 +89,11 @@ parts f (k ∷ keys) (v ∷ values) even all =
       valid = (row.valid, rest.valid);
       units = (row.units, rest.units);
       pairs = (row.holds, row.spells, rest.pairs);
+      spell_keys = (row.holds, rest.spell_keys);
       nodes_are = omega arith;
       payload_is = omega arith;
       depth_is = omega arith;
+      keys_deep = omega arith;
     }
 
 pub record TableParts (f keys values : List ℕ) (ps : Pairs) : Type 0 where

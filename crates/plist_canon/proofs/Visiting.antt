@@ -1,5 +1,5 @@
 -- What is left of a walk to finish, as its references are visited.
-use Rattle.std.proofs.Common.{◌≡◌, ℕ, suc, ◌<◌, List, [], ◌∷◌, ◌++◌, length, Bool, refl, sym, ap, subst, ◌∙◌, inl, inr, arith, append_assoc}
+use Rattle.std.proofs.Common.{◌≡◌, ℕ, suc, ◌<◌, List, [], ◌∷◌, ◌++◌, length, refl, sym, ap, subst, ◌∙◌, inl, inr, arith, append_assoc}
 use Rattle.std.specs.Prelude.{◌↔◌, ◌⊎◌, ◌≢◌}
 use Rattle.std.specs.List.{AllByRecursion}
 use Rattle.std.proofs.lemmas.List.{append-nil}
@@ -8,7 +8,10 @@ use Rattle.plist_object.specs.Objects.{Held, holds_scalar}
 use Rattle.plist_object.specs.Places.{Holds}
 use Rattle.plist_object.specs.Uniqueness.{same_held}
 use Rattle.plist_canon.specs.Rules.{refs_of, HoldsScalar, Walk, Walks, visit, end, step, MeetsInOrder, IsNumberedInPreorder}
-use Rattle.plist_canon.specs.Preorders.{CanFinish, IsKnown, AreKinds, LeadsTo}
+use Rattle.plist_canon.specs.declared.weights.Weight.{Weight}
+use Rattle.plist_canon.specs.Weights.{AreWeights}
+use Rattle.plist_canon.proofs.Weighing.{Weighs-scalar}
+use Rattle.plist_canon.specs.Preorders.{CanFinish, IsKnown, LeadsTo}
 
 -- a walk from an object, taken apart
 record Entered (f : List ℕ) (i : ℕ) (entries : List ℕ) : Type 0 where
@@ -181,16 +184,16 @@ CanFinish-over f i refs known can =
     ]
 
 -- past known references
-pub CanFinish-passed : (f passed left : List ℕ) (scalars : List Bool) → AreKinds f scalars → AllByRecursion (IsKnown scalars) passed → CanFinish f (passed ++ left) (length scalars) ↔ CanFinish f left (length scalars)
-CanFinish-passed f [] left scalars kinds known = (λ can. can, λ can. can)
-CanFinish-passed f (i ∷ passed) left scalars kinds known =
-    let first = CanFinish-known f i (passed ++ left) (length scalars) known.0.0 ((kinds i known.0.0).0 known.0.1) in
-    let rest = CanFinish-passed f passed left scalars kinds known.1 in
+pub CanFinish-passed : (f passed left : List ℕ) (weights : List Weight) → AreWeights f weights → AllByRecursion (IsKnown weights) passed → CanFinish f (passed ++ left) (length weights) ↔ CanFinish f left (length weights)
+CanFinish-passed f [] left weights weighed known = (λ can. can, λ can. can)
+CanFinish-passed f (i ∷ passed) left weights weighed known =
+    let first = CanFinish-known f i (passed ++ left) (length weights) known.0.0 (Weighs-scalar f i _ (weighed i known.0.0) known.0.1) in
+    let rest = CanFinish-passed f passed left weights weighed known.1 in
     (λ can. rest.0 (first.0 can), λ can. first.1 (rest.1 can))
 
-pub CanFinish-leads : (f refs left : List ℕ) (scalars : List Bool) → AreKinds f scalars → LeadsTo scalars refs left → CanFinish f refs (length scalars) ↔ CanFinish f left (length scalars)
-CanFinish-leads f refs left scalars kinds leads =
-    subst (λ (rs : List ℕ). CanFinish f rs (length scalars) ↔ CanFinish f left (length scalars)) (sym leads.split) (CanFinish-passed f leads.passed left scalars kinds leads.known)
+pub CanFinish-leads : (f refs left : List ℕ) (weights : List Weight) → AreWeights f weights → LeadsTo weights refs left → CanFinish f refs (length weights) ↔ CanFinish f left (length weights)
+CanFinish-leads f refs left weights weighed leads =
+    subst (λ (rs : List ℕ). CanFinish f rs (length weights) ↔ CanFinish f left (length weights)) (sym leads.split) (CanFinish-passed f leads.passed left weights weighed leads.known)
 
 -- at the start object 0 is to be visited
 pub CanFinish-all : (f : List ℕ) → IsNumberedInPreorder f ↔ CanFinish f (0 ∷ []) 0

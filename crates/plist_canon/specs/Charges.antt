@@ -1,9 +1,8 @@
 -- What is left of a budget of nodes and payload.
-use Rattle.std.specs.Prelude.{◌≡◌, ℕ, ◌+◌, ◌*◌, ◌≤◌, List, [], ◌∷◌, length}
+use Rattle.std.specs.Prelude.{◌≡◌, ℕ, ◌+◌, ◌≤◌, List}
 use Rattle.plist_value.specs.Plist.{Plist, Items, IsPlist, AreItems}
 use Rattle.plist_value.specs.Limits.{nodes, depth, payload, nodes_of_items, depth_of_items, payload_of_items}
 use Rattle.plist_object.specs.Spelled.{Spells, SpellItems}
-use Rattle.plist_canon.specs.Rules.{HoldTexts}
 use Rattle.plist_canon.specs.declared.limits.Budget.{Budget}
 
 -- the second budget is the first less so many nodes and so much payload
@@ -32,17 +31,3 @@ pub record ChargesItems (f refs : List ℕ) (levels : ℕ) (before after : Budge
 abbrev pub ExceedsItems : List ℕ → List ℕ → ℕ → Budget → Type 0
 ExceedsItems f refs levels before =
     (vs : Items) → AreItems vs → SpellItems f refs vs → depth_of_items vs ≤ levels → IsOver before (nodes_of_items vs) (payload_of_items vs)
-
--- two octets for each unit of the texts
-abbrev pub payload_of_texts : List (List ℕ) → ℕ
-payload_of_texts [] = 0
-payload_of_texts (units ∷ texts) = 2 * length units + payload_of_texts texts
-
--- the same of the texts that references name
-abbrev pub ChargesKeys : List ℕ → List ℕ → Budget → Budget → Type 0
-ChargesKeys f keys before after =
-    (texts : List (List ℕ)) → HoldTexts f keys texts → Spends before (length texts) (payload_of_texts texts) after
-
-abbrev pub ExceedsKeys : List ℕ → List ℕ → Budget → Type 0
-ExceedsKeys f keys before =
-    (texts : List (List ℕ)) → HoldTexts f keys texts → IsOver before (length texts) (payload_of_texts texts)

@@ -9,5 +9,6 @@ pub use Rattle.plist_write.specs.Laws
 pub mod Rules
 pub mod Locality
 pub mod Checking
+pub mod Weights
 pub mod Preorders
 pub mod Charges

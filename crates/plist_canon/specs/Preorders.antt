@@ -5,7 +5,10 @@ use Rattle.plist_object.specs.declared.object.ObjectFault.{ObjectFault}
 use Rattle.plist_object.specs.Layout.{trailer_of}
 use Rattle.plist_object.specs.Objects.{Held, holds_scalar, holds_list, holds_table}
 use Rattle.plist_object.specs.Places.{what_holds}
-use Rattle.plist_canon.specs.Rules.{HoldsScalar, Walks, MeetsInOrder, IsNumberedInPreorder}
+use Rattle.plist_canon.specs.Rules.{Walks, MeetsInOrder, IsNumberedInPreorder}
+use Rattle.plist_canon.specs.Weights.{is_scalar_weight, AreWeights}
+use Rattle.plist_canon.specs.declared.weights.Weight.{Weight}
+use Rattle.plist_canon.specs.declared.weights.Weight.TheVariants.{Container}
 use Rattle.plist_canon.specs.declared.preorder.Frame.{Frame}
 use Rattle.plist_canon.specs.declared.preorder.Visit.{Visit}
 
@@ -35,11 +38,6 @@ abbrev pub path_left : List ℕ → List Frame → List ℕ
 path_left f [] = []
 path_left f (frame ∷ frames) = path_left f frames ++ frame_left f frame
 
-abbrev pub is_scalar_held : Held → Bool
-is_scalar_held (holds_scalar s) = true
-is_scalar_held (holds_list refs) = false
-is_scalar_held (holds_table keys values) = false
-
 -- references none of which was visited
 abbrev pub new_frame : ℕ → Bool → Frame
 new_frame owner values = record { owner = owner; values = values; done = 0 }
@@ -49,35 +47,31 @@ abbrev pub IsPath : List ℕ → List Frame → Type 0
 IsPath f frames = AllByRecursion (λ frame. frame.owner < (trailer_of f).count) frames
 
 -- the number is that of a scalar that was met
-abbrev pub IsKnown : List Bool → ℕ → Type 0
-IsKnown scalars i = (i < length scalars) × (slice_index_or scalars i false ≡ true)
-
--- of each object below their number it is told whether it holds a scalar
-abbrev pub AreKinds : List ℕ → List Bool → Type 0
-AreKinds f scalars = (i : ℕ) → i < length scalars → (slice_index_or scalars i false ≡ true) ↔ HoldsScalar f i
+abbrev pub IsKnown : List Weight → ℕ → Type 0
+IsKnown weights i = (i < length weights) × (is_scalar_weight (slice_index_or weights i Container) ≡ true)
 
 -- the references lead, past known ones, to those that are left
-pub record LeadsTo (scalars : List Bool) (refs left : List ℕ) : Type 0 where
+pub record LeadsTo (weights : List Weight) (refs left : List ℕ) : Type 0 where
   pub passed : List ℕ
-  pub known : AllByRecursion (IsKnown scalars) passed
+  pub known : AllByRecursion (IsKnown weights) passed
   pub split : refs ≡ passed ++ left
 
 -- the references of the path lead to one that is not known, or to the end
-abbrev pub Visits : List ℕ → List Bool → List Frame → List Frame → Option Visit → Type 0
-Visits f scalars old new (Some visit) =
-    LeadsTo scalars (path_left f old) (visit.reference ∷ path_left f new) × (¬ IsKnown scalars visit.reference)
-Visits f scalars old new None = LeadsTo scalars (path_left f old) []
+abbrev pub Visits : List ℕ → List Weight → List Frame → List Frame → Option Visit → Type 0
+Visits f weights old new (Some visit) =
+    LeadsTo weights (path_left f old) (visit.reference ∷ path_left f new) × (¬ IsKnown weights visit.reference)
+Visits f weights old new None = LeadsTo weights (path_left f old) []
 
--- The object was met: it is told whether it holds a scalar, and its references are next.
-pub record Enters (f : List ℕ) (number : ℕ) (old new : List Frame) (scalars told : List Bool) : Type 0 where
-  pub kinds : AreKinds f told
+-- The object was met: its weight is told, and its references are next.
+pub record Enters (f : List ℕ) (number : ℕ) (old new : List Frame) (weights told : List Weight) : Type 0 where
+  pub weighed : AreWeights f told
   pub counted : length told ≡ suc number
   pub path : IsPath f new
   pub left : path_left f new ≡ part_read false (what_holds f number) ++ (part_read true (what_holds f number) ++ path_left f old)
 
 -- The objects below the number were met in order, and the walk goes on along the path.
-pub record IsWalking (f : List ℕ) (number : ℕ) (path : List Frame) (scalars : List Bool) : Type 0 where
-  pub kinds : AreKinds f scalars
-  pub counted : length scalars ≡ number
+pub record IsWalking (f : List ℕ) (number : ℕ) (path : List Frame) (weights : List Weight) : Type 0 where
+  pub weighed : AreWeights f weights
+  pub counted : length weights ≡ number
   pub on_path : IsPath f path
   pub finishes : IsNumberedInPreorder f ↔ CanFinish f (path_left f path) number

@@ -253,3 +253,16 @@ fn payloads(rt: HostRuntime) -> Result<(), Fail> {
     assert_eq!(rt; check(alloc, &over), broken(0, 0));
     Ok(())
 }
+
+#[test]
+fn payloads_of_texts(rt: HostRuntime) -> Result<(), Fail> {
+    let alloc = rt.alloc();
+    let mut object = Vec::from_slice(alloc, &[0x5f, 0x12, 0, 8, 0, 0])?;
+    object.resize(524_294, 0x61)?;
+    let most = fan(alloc, 1024, &[0x11, 4, 0], 4, &object)?;
+    assert_eq!(rt; most.len(), 525_370);
+    assert_eq!(rt; check(alloc, &most), CANONICAL);
+    let over = fan(alloc, 1025, &[0x11, 4, 1], 4, &object)?;
+    assert_eq!(rt; check(alloc, &over), broken(0, 0));
+    Ok(())
+}

@@ -114,6 +114,6 @@ fn judge(alloc: Global, file: &BinFile) -> Result<(), Flaw>
 {
     judge_trailer(file)?;
     judge_objects(alloc, file)?;
-    judge_order(alloc, file)?;
-    judge_limits(file)
+    let weights = judge_order(alloc, file)?;
+    judge_limits(file, &weights)
 }

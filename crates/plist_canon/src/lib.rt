@@ -9,6 +9,7 @@ mod objects;
 mod preorder;
 mod references;
 mod repeats;
+mod weights;
 
 pub use checking::{CheckFault, Verdict, check};
 pub use plist_write::{DeviceFault, ListSink, Sink, WriteFault, canonical, write_canonical};

@@ -1,18 +1,19 @@
 //! Whether the value that a file spells is within the limits.
 ghost use Rattle.std.specs.Prelude.{◌<◌, ◌*◌, EachIndex, IfSome, IfNone, IfErr, OnOk, slice_index, ℕ};
 ghost use Rattle.plist_value.specs.Plist.{Plist, IsPlist};
-ghost use Rattle.plist_value.specs.Limits.{Fits, payload_of_scalar};
-ghost use Rattle.plist_value.specs.Scalars.{content_of};
+ghost use Rattle.plist_value.specs.Limits.{Fits};
 ghost use Rattle.plist_object.specs.Layout.{trailer_of};
 ghost use Rattle.plist_object.specs.Spelled.{Spells};
 ghost use Rattle.plist_object.specs.Views.{numbers_of, octets_of};
 ghost use Rattle.plist_canon.specs.Checking.{IsFlaw, AllRead, AllAscend};
-ghost use Rattle.plist_canon.specs.Charges.{Spends, IsOver, Charges, Exceeds, ChargesItems, ExceedsItems, ChargesKeys, ExceedsKeys};
+ghost use Rattle.plist_canon.specs.Weights.{payload_of_weight, AreAllWeights};
+ghost use Rattle.plist_canon.specs.Charges.{Spends, IsOver, Charges, Exceeds, ChargesItems, ExceedsItems};
 
 use crate::judging::Flaw;
-use crate::objects::{object_of, text_of};
+use crate::objects::object_of;
+use crate::weights::Weight;
 use plist_object::{BinFile, Object, Refs};
-use plist_value::{MAX_DEPTH, MAX_NODES, MAX_PAYLOAD, ScalarRef};
+use plist_value::{MAX_DEPTH, MAX_NODES, MAX_PAYLOAD};
 
 /// What is left of the limits.
 #[derive(Clone, Copy)]
@@ -34,11 +35,10 @@ impl Budget {
     }
 
     // One node, and two octets for each of so many units.
-    fn spend_units(self, units: usize) -> Option<Budget>
+    fn spend_units(self, units: u64) -> Option<Budget>
         ensures left { IfSome result (Spends self 1 (2 * units)) }
         ensures over { IfNone result (IsOver self 1 (2 * units)) }
     {
-        let units = units as u64;
         let half_spent = self.spend(units)?;
         Some(Budget {
             nodes: half_spent.nodes,
@@ -46,22 +46,23 @@ impl Budget {
         })
     }
 
-    // One node, and the scalar's payload.
-    fn spend_scalar(self, scalar: ScalarRef) -> Option<Budget>
-        ensures left { IfSome result (Spends self 1 (payload_of_scalar (content_of scalar.entry))) }
-        ensures over { IfNone result (IsOver self 1 (payload_of_scalar (content_of scalar.entry))) }
+    // One node, and the payload of the weight.
+    fn spend_weight(self, weight: Weight) -> Option<Budget>
+        ensures left { IfSome result (Spends self 1 (payload_of_weight weight)) }
+        ensures over { IfNone result (IsOver self 1 (payload_of_weight weight)) }
     {
-        match scalar {
-            ScalarRef::Text(text) => self.spend_units(text.len()),
-            ScalarRef::Bytes(octets) => self.spend(octets.len() as u64),
-            _ => self.spend(0),
+        match weight {
+            Weight::Units(units) => self.spend_units(units),
+            Weight::Octets(octets) => self.spend(octets),
+            Weight::Container => self.spend(0),
         }
     }
 }
 
 /// Rule 0 of the limits: the value that object 0 spells is within them.
-pub(crate) fn judge_limits(file: &BinFile) -> Result<(), Flaw>
+pub(crate) fn judge_limits(file: &BinFile, weights: &[Weight]) -> Result<(), Flaw>
     requires read { AllRead (octets_of file.now) }
+    requires weights { AreAllWeights (octets_of file.now) weights.now }
     requires ascending { AllAscend (octets_of file.now) }
     requires spells { (v : Plist) × (IsPlist v × Spells (octets_of file.now) 0 v) }
     ensures ok { OnOk result ((v : Plist) → IsPlist v → Spells (octets_of file.now) 0 v → Fits v) }
@@ -71,7 +72,7 @@ pub(crate) fn judge_limits(file: &BinFile) -> Result<(), Flaw>
         nodes: MAX_NODES,
         payload: MAX_PAYLOAD,
     };
-    match charge(file, 0, MAX_DEPTH, all) {
+    match charge(file, weights, 0, MAX_DEPTH, all) {
         Some(_) => Ok(()),
         None => Err(Flaw::at(0, 0)),
     }
@@ -79,28 +80,47 @@ pub(crate) fn judge_limits(file: &BinFile) -> Result<(), Flaw>
 
 // What is left of the budget after the value that the object spells, which may be so many levels deep.
 #[cycle(limits)]
-fn charge(file: &BinFile, object: u64, levels: u64, left: Budget) -> Option<Budget>
+fn charge(
+    file: &BinFile,
+    weights: &[Weight],
+    object: u64,
+    levels: u64,
+    left: Budget,
+) -> Option<Budget>
     requires read { AllRead (octets_of file.now) }
+    requires weights { AreAllWeights (octets_of file.now) weights.now }
     requires ascending { AllAscend (octets_of file.now) }
     requires listed { object < (trailer_of (octets_of file.now)).count }
     ensures left { IfSome result (Charges (octets_of file.now) object levels left) }
     ensures over { IfNone result (Exceeds (octets_of file.now) object levels left) }
 {
     let below = levels.checked_sub(1)?;
+    let weight = weights[object as usize];
+    let left = left.spend_weight(weight)?;
+    if weight.is_scalar() {
+        return Some(left);
+    }
     match object_of(file, object) {
-        Object::Scalar(scalar) => left.spend_scalar(scalar),
-        Object::List(items) => charge_items(file, &items, below, left.spend(0)?),
+        Object::Scalar(_) => Some(left),
+        Object::List(items) => charge_items(file, weights, &items, below, left),
         Object::Table(keys, values) => {
-            let left = charge_keys(file, &keys, left.spend(0)?)?;
-            charge_items(file, &values, below, left)
+            let left = charge_items(file, weights, &keys, below, left)?;
+            charge_items(file, weights, &values, below, left)
         }
     }
 }
 
 // What is left after the values that the references name.
 #[cycle(limits)]
-fn charge_items(file: &BinFile, items: &Refs, levels: u64, left: Budget) -> Option<Budget>
+fn charge_items(
+    file: &BinFile,
+    weights: &[Weight],
+    items: &Refs,
+    levels: u64,
+    left: Budget,
+) -> Option<Budget>
     requires read { AllRead (octets_of file.now) }
+    requires weights { AreAllWeights (octets_of file.now) weights.now }
     requires ascending { AllAscend (octets_of file.now) }
     requires listed { EachIndex (numbers_of items.now) (λ k. slice_index (numbers_of items.now) k < (trailer_of (octets_of file.now)).count) }
     ensures left { IfSome result (ChargesItems (octets_of file.now) (numbers_of items.now) levels left) }
@@ -108,21 +128,7 @@ fn charge_items(file: &BinFile, items: &Refs, levels: u64, left: Budget) -> Opti
 {
     let mut left = left;
     for k in 0..items.len() {
-        left = charge(file, items.get(k), levels, left)?;
-    }
-    Some(left)
-}
-
-// What is left after the texts that the references name.
-fn charge_keys(file: &BinFile, keys: &Refs, left: Budget) -> Option<Budget>
-    requires listed { EachIndex (numbers_of keys.now) (λ k. slice_index (numbers_of keys.now) k < (trailer_of (octets_of file.now)).count) }
-    ensures left { IfSome result (ChargesKeys (octets_of file.now) (numbers_of keys.now) left) }
-    ensures over { IfNone result (ExceedsKeys (octets_of file.now) (numbers_of keys.now) left) }
-{
-    let mut left = left;
-    for k in 0..keys.len() {
-        let text = text_of(file, keys.get(k))?;
-        left = left.spend_units(text.len())?;
+        left = charge(file, weights, items.get(k), levels, left)?;
     }
     Some(left)
 }

@@ -2,13 +2,15 @@
 ghost use Rattle.std.specs.Prelude.{◌≡◌, ◌↔◌, ◌<◌, ◌∷◌, ◌++◌, [], length, drop, IfOk, IfErr, IfSome, IfNone, OnOk, IsTrue, vec_len};
 ghost use Rattle.plist_object.specs.Places.{what_holds};
 ghost use Rattle.plist_object.specs.Layout.{trailer_of};
-ghost use Rattle.plist_object.specs.Views.{held_of, numbers_of, octets_of};
+ghost use Rattle.plist_object.specs.Views.{numbers_of, octets_of};
 ghost use Rattle.plist_canon.specs.Rules.{IsNumberedInPreorder, IsWellRead};
 ghost use Rattle.plist_canon.specs.Checking.{IsFlaw, AllRead};
-ghost use Rattle.plist_canon.specs.Preorders.{IsPath, AreKinds, IsKnown, LeadsTo, Visits, Enters, part_read, is_scalar_held, new_frame};
+ghost use Rattle.plist_canon.specs.Preorders.{IsPath, IsKnown, LeadsTo, Visits, Enters, part_read, new_frame};
+ghost use Rattle.plist_canon.specs.Weights.{AreWeights, AreAllWeights};
 
 use crate::judging::Flaw;
 use crate::objects::object_of;
+use crate::weights::Weight;
 use plist_object::{BinFile, Object, Refs};
 use std::alloc::{AllocError, Global};
 
@@ -28,45 +30,47 @@ struct Visit {
     reference: u64,
 }
 
-/// Rule 7: the walk meets the objects in the order of their numbers, and only scalars again.
-pub(crate) fn judge_order(alloc: Global, file: &BinFile) -> Result<(), Flaw>
+/// Rule 7: the walk meets the objects in the order of their numbers, and only scalars again. Then these are
+/// the weights of all objects.
+pub(crate) fn judge_order(alloc: Global, file: &BinFile) -> Result<Vec<Weight>, Flaw>
     requires { AllRead (octets_of file.now) }
-    ensures ok { OnOk result (IsNumberedInPreorder (octets_of file.now)) }
+    ensures ok { IfOk result (λ _. IsNumberedInPreorder (octets_of file.now)) }
+    ensures weights { IfOk result (λ weights. AreAllWeights (octets_of file.now) weights.items) }
     ensures err { IfErr result (IsFlaw (octets_of file.now)) }
 {
     let mut path = Vec::new(alloc);
-    let mut scalars = Vec::new(alloc);
-    enter(file, 0, &mut path, &mut scalars)?;
+    let mut weights = Vec::new(alloc);
+    enter(file, 0, &mut path, &mut weights)?;
     for number in 1..file.count() {
-        match next_visit(file, &mut path, &scalars)? {
+        match next_visit(file, &mut path, &weights)? {
             Some(visit) if visit.reference == number => {
-                enter(file, number, &mut path, &mut scalars)?;
+                enter(file, number, &mut path, &mut weights)?;
             }
             Some(visit) => return Err(Flaw::at(7, visit.owner)),
             None => return Err(Flaw::at(7, 0)),
         }
     }
-    match next_visit(file, &mut path, &scalars)? {
+    match next_visit(file, &mut path, &weights)? {
         Some(visit) => Err(Flaw::at(7, visit.owner)),
-        None => Ok(()),
+        None => Ok(weights),
     }
 }
 
-// The object is met for the first time. Its references are next, where it has some.
+// The object is met for the first time, and weighed. Its references are next, where it has some.
 fn enter(
     file: &BinFile,
     number: u64,
     path: &mut Vec<Frame>,
-    scalars: &mut Vec<bool>,
+    weights: &mut Vec<Weight>,
 ) -> Result<(), AllocError>
     requires read { IsWellRead (octets_of file.now) number }
     requires path { IsPath (octets_of file.now) path.old.items }
-    requires kinds { AreKinds (octets_of file.now) scalars.old.items }
-    requires counted { length scalars.old.items ≡ number }
-    ensures { OnOk result (Enters (octets_of file.now) number path.old.items path.new.items scalars.old.items scalars.new.items) }
+    requires weighed { AreWeights (octets_of file.now) weights.old.items }
+    requires counted { length weights.old.items ≡ number }
+    ensures { OnOk result (Enters (octets_of file.now) number path.old.items path.new.items weights.old.items weights.new.items) }
 {
     let object = object_of(file, number);
-    scalars.push(is_scalar(&object))?;
+    weights.push(Weight::of(&object))?;
     match object {
         Object::Scalar(_) => Ok(()),
         Object::List(_) => push_part(path, number, false),
@@ -74,15 +78,6 @@ fn enter(
             push_part(path, number, true)?;
             push_part(path, number, false)
         }
-    }
-}
-
-fn is_scalar(object: &Object) -> bool
-    ensures { result ≡ is_scalar_held (held_of object.now) }
-{
-    match object {
-        Object::Scalar(_) => true,
-        Object::List(_) | Object::Table(_, _) => false,
     }
 }
 
@@ -102,15 +97,15 @@ fn push_part(path: &mut Vec<Frame>, owner: u64, values: bool) -> Result<(), Allo
 fn next_visit(
     file: &BinFile,
     path: &mut Vec<Frame>,
-    scalars: &[bool],
+    weights: &[Weight],
 ) -> Result<Option<Visit>, AllocError>
     requires read { AllRead (octets_of file.now) }
     requires path { IsPath (octets_of file.now) path.old.items }
     ensures path { IfOk result (λ _. IsPath (octets_of file.now) path.new.items) }
-    ensures visits { IfOk result (Visits (octets_of file.now) scalars.now path.old.items path.new.items) }
+    ensures visits { IfOk result (Visits (octets_of file.now) weights.now path.old.items path.new.items) }
 {
     while let Some(frame) = path.pop() {
-        if let Some((done, reference)) = frame_visit(file, &frame, scalars) {
+        if let Some((done, reference)) = frame_visit(file, &frame, weights) {
             let owner = frame.owner;
             path.push(Frame { done, ..frame })?;
             return Ok(Some(Visit { owner, reference }));
@@ -120,11 +115,11 @@ fn next_visit(
 }
 
 // The next reference of the frame that is not to a scalar that was met, and how many were visited with it.
-fn frame_visit(file: &BinFile, frame: &Frame, scalars: &[bool]) -> Option<(u64, u64)>
+fn frame_visit(file: &BinFile, frame: &Frame, weights: &[Weight]) -> Option<(u64, u64)>
     requires { IsWellRead (octets_of file.now) frame.now.owner }
-    ensures known { IfSome result (λ p. ¬ IsKnown scalars.now p.1) }
-    ensures some { IfSome result (λ p. LeadsTo scalars.now (drop frame.now.done (part_read frame.now.values (what_holds (octets_of file.now) frame.now.owner))) (p.1 ∷ drop p.0 (part_read frame.now.values (what_holds (octets_of file.now) frame.now.owner)))) }
-    ensures none { IfNone result (LeadsTo scalars.now (drop frame.now.done (part_read frame.now.values (what_holds (octets_of file.now) frame.now.owner))) []) }
+    ensures known { IfSome result (λ p. ¬ IsKnown weights.now p.1) }
+    ensures some { IfSome result (λ p. LeadsTo weights.now (drop frame.now.done (part_read frame.now.values (what_holds (octets_of file.now) frame.now.owner))) (p.1 ∷ drop p.0 (part_read frame.now.values (what_holds (octets_of file.now) frame.now.owner)))) }
+    ensures none { IfNone result (LeadsTo weights.now (drop frame.now.done (part_read frame.now.values (what_holds (octets_of file.now) frame.now.owner))) []) }
 {
     match object_of(file, frame.owner) {
         Object::Scalar(_) => None,
@@ -132,34 +127,34 @@ fn frame_visit(file: &BinFile, frame: &Frame, scalars: &[bool]) -> Option<(u64, 
             if frame.values {
                 return None;
             }
-            first_other(&items, frame.done, scalars)
+            first_other(&items, frame.done, weights)
         }
         Object::Table(keys, values) => {
             if frame.values {
-                return first_other(&values, frame.done, scalars);
+                return first_other(&values, frame.done, weights);
             }
-            first_other(&keys, frame.done, scalars)
+            first_other(&keys, frame.done, weights)
         }
     }
 }
 
 // The first reference from the place on that is not to a scalar that was met, and the place behind it.
-fn first_other(refs: &Refs, from: u64, scalars: &[bool]) -> Option<(u64, u64)>
-    ensures known { IfSome result (λ p. ¬ IsKnown scalars.now p.1) }
-    ensures some { IfSome result (λ p. LeadsTo scalars.now (drop from (numbers_of refs.now)) (p.1 ∷ drop p.0 (numbers_of refs.now))) }
-    ensures none { IfNone result (LeadsTo scalars.now (drop from (numbers_of refs.now)) []) }
+fn first_other(refs: &Refs, from: u64, weights: &[Weight]) -> Option<(u64, u64)>
+    ensures known { IfSome result (λ p. ¬ IsKnown weights.now p.1) }
+    ensures some { IfSome result (λ p. LeadsTo weights.now (drop from (numbers_of refs.now)) (p.1 ∷ drop p.0 (numbers_of refs.now))) }
+    ensures none { IfNone result (LeadsTo weights.now (drop from (numbers_of refs.now)) []) }
 {
     for place in from..refs.len() {
         let reference = refs.get(place);
-        if !is_known(scalars, reference) {
+        if !is_known(weights, reference) {
             return Some((place + 1, reference));
         }
     }
     None
 }
 
-fn is_known(scalars: &[bool], reference: u64) -> bool
-    ensures { IsTrue result ↔ IsKnown scalars.now reference }
+fn is_known(weights: &[Weight], reference: u64) -> bool
+    ensures { IsTrue result ↔ IsKnown weights.now reference }
 {
-    reference < scalars.len() as u64 && scalars[reference as usize]
+    reference < weights.len() as u64 && weights[reference as usize].is_scalar()
 }

@@ -15,9 +15,9 @@ judge_limits-requires c =
     let judged = c.in_ok-judge_objects.ensures.judged in
     let read : (i : ℕ) → i < (trailer_of f).count → IsWellRead f i = λ i below. (judged i below).read in
     let ascending : (i : ℕ) → i < (trailer_of f).count → HasAscendingKeys f i = λ i below. (judged i below).ascending in
-    let numbered = c.in_ok-judge_order.ensures.ok in
+    let numbered = c.in_ok-weights.ensures.ok in
     let v = value_of_walk f c.requires read ascending 0 numbered.entries numbered.walk in
-    record { read = read; ascending = ascending; spells = (v.0, (v.1, v.2)) }
+    record { read = read; weights = rw c.deref.ensures.value c.in_ok-weights.ensures.weights; ascending = ascending; spells = (v.0, (v.1, v.2)) }
 
 pub returns-clause-ok : goal.returns-clause-ok
 returns-clause-ok c =
@@ -31,6 +31,6 @@ returns-clause-ok c =
       spelled_canonically = λ i below. (judged i below).spelled;
       ascending_keys = λ i below. (judged i below).ascending;
       no_repeat = λ i below. (judged i below).single;
-      numbered_in_preorder = c.in_ok-judge_order.ensures.ok;
+      numbered_in_preorder = c.in_ok-weights.ensures.ok;
     })
     c.judge_limits.ensures.ok

@@ -8,7 +8,7 @@ pub returns-then-not-is_known-clause-some : goal.returns-then-not-is_known-claus
 returns-then-not-is_known-clause-some c =
     let refs = numbers_of c.args.refs.now in
     let below : c.loop-place.place < length refs = omega (arith, c.len-place-end.ensures) in
-    rw c.get-reference.ensures (LeadsTo-here c.args.scalars.now (drop c.args.from refs) refs c.loop-place.place below c.loop-place.invariant)
+    rw c.get-reference.ensures (LeadsTo-here c.args.weights.now (drop c.args.from refs) refs c.loop-place.place below c.loop-place.invariant)
 
 pub loop-place-init : goal.loop-place-init
 loop-place-init c = LeadsTo-start _ _
@@ -17,8 +17,8 @@ pub loop-place-preserved : goal.loop-place-preserved
 loop-place-preserved c =
     let refs = numbers_of c.args.refs.now in
     let below : c.loop-place.place < length refs = omega (arith, c.len-place-end.ensures) in
-    let known : IsKnown c.args.scalars.now c.get-reference.result = search rules in
-    LeadsTo-more c.args.scalars.now (drop c.args.from refs) refs c.loop-place.place below c.loop-place.invariant (rw c.get-reference.ensures at known)
+    let known : IsKnown c.args.weights.now c.get-reference.result = search rules in
+    LeadsTo-more c.args.weights.now (drop c.args.from refs) refs c.loop-place.place below c.loop-place.invariant (rw c.get-reference.ensures at known)
 
 pub returns : goal.returns
 returns c =
@@ -27,5 +27,5 @@ returns c =
     record {
       known = tt;
       some = tt;
-      none = LeadsTo-end c.args.scalars.now (drop c.args.from refs) refs c.loop-place.place past c.loop-place.invariant;
+      none = LeadsTo-end c.args.weights.now (drop c.args.from refs) refs c.loop-place.place past c.loop-place.invariant;
     }

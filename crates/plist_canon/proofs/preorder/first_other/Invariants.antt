@@ -6,4 +6,4 @@ use Rattle.plist_canon.proofs.preorder.first_other.Given as goal
 -- the references before the place are known
 abbrev pub invariant-loop-place : goal.invariant-loop-place
 invariant-loop-place l =
-    LeadsTo l.scalars (drop l.from (numbers_of l.refs)) (drop l.place (numbers_of l.refs))
+    LeadsTo l.weights (drop l.from (numbers_of l.refs)) (drop l.place (numbers_of l.refs))

@@ -10,4 +10,4 @@ returns-in-Scalar-clause-none c =
     let frame = c.args.frame.now in
     let holds = rw c.in-Scalar.is at c.object_of.ensures.holds in
     let none : part_read frame.values (what_holds (octets_of c.args.file.now) frame.owner) ≡ [] = rw holds.reads refl in
-    LeadsTo-none c.args.scalars.now (part_read frame.values (what_holds (octets_of c.args.file.now) frame.owner)) frame.done none
+    LeadsTo-none c.args.weights.now (part_read frame.values (what_holds (octets_of c.args.file.now) frame.owner)) frame.done none

@@ -3,57 +3,65 @@ use Rattle.plist_object.specs.Views.{octets_of}
 use Rattle.plist_object.specs.Layout.{trailer_of}
 use Rattle.plist_canon.specs.Rules.{breaks_c7}
 use Rattle.plist_canon.specs.Preorders.{Visits, Enters}
-use Rattle.plist_canon.proofs.Paths.{IsWalking-start, IsWalking-step, IsWalking-other, IsWalking-none, IsWalking-over, IsWalking-done}
+use Rattle.plist_canon.proofs.Paths.{IsWalking-start, IsWalking-step, IsWalking-other, IsWalking-none, IsWalking-over, IsWalking-done, IsWalking-weights}
 use Rattle.plist_canon.proofs.preorder.judge_order.Goals as goal
 
 pub loop-number-init : goal.loop-number-init
 loop-number-init c =
     let f = octets_of c.args.file.now in
     let some = c.args.file.now.laid.trailed.some_object in
-    let enters : Enters f 0 [] c.enter.new.path.items [] c.enter.new.scalars.items = rw (c.new-path.ensures.items, c.new-scalars.ensures.items) at c.in_ok-enter.ensures in
-    IsWalking-start f c.enter.new.path.items c.enter.new.scalars.items (c.requires 0 (omega arith)) enters
+    let enters : Enters f 0 [] c.enter.new.path.items [] c.enter.new.weights.items = rw (c.new-path.ensures.items, c.new-weights.ensures.items) at c.in_ok-enter.ensures in
+    IsWalking-start f c.enter.new.path.items c.enter.new.weights.items (c.requires 0 (omega arith)) enters
 
 pub returns-in-Some-2-clause-err : goal.returns-in-Some-2-clause-err
 returns-in-Some-2-clause-err c =
     let f = octets_of c.args.file.now in
     let l = c.loop-number in
-    let visits : Visits f l.scalars.items l.path.items c.next_visit.new.path.items (Some c.in-Some.visit) = rw (c.deref.ensures.value, c.in-Some.is) at c.in_ok-visit.ensures.visits in
+    let visits : Visits f l.weights.items l.path.items c.next_visit.new.path.items (Some c.in-Some.visit) = rw (c.deref.ensures.value, c.in-Some.is) at c.in_ok-visit.ensures.visits in
     rw c.at.ensures
-    (breaks_c7 c.in-Some.visit.owner (IsWalking-other f l.number l.path.items c.next_visit.new.path.items l.scalars.items l.invariant c.in-Some.visit visits c.if-visit-number.false))
+    (breaks_c7 c.in-Some.visit.owner (IsWalking-other f l.number l.path.items c.next_visit.new.path.items l.weights.items l.invariant c.in-Some.visit visits c.if-visit-number.false))
 
 pub returns-in-None-clause-err : goal.returns-in-None-clause-err
 returns-in-None-clause-err c =
     let f = octets_of c.args.file.now in
     let l = c.loop-number in
-    let visits : Visits f l.scalars.items l.path.items c.next_visit.new.path.items None = rw (c.deref.ensures.value, c.in-None.is) at c.in_ok-visit.ensures.visits in
+    let visits : Visits f l.weights.items l.path.items c.next_visit.new.path.items None = rw (c.deref.ensures.value, c.in-None.is) at c.in_ok-visit.ensures.visits in
     let below : l.number < (trailer_of f).count = omega (arith, c.loop-number-test.true, c.count-number-end.ensures) in
     rw c.at-in-None.ensures
-    (breaks_c7 0 (IsWalking-none f l.number l.path.items c.next_visit.new.path.items l.scalars.items l.invariant visits below))
+    (breaks_c7 0 (IsWalking-none f l.number l.path.items c.next_visit.new.path.items l.weights.items l.invariant visits below))
 
 pub loop-number-preserved : goal.loop-number-preserved
 loop-number-preserved c =
     let f = octets_of c.args.file.now in
     let l = c.loop-number in
-    let visits : Visits f l.scalars.items l.path.items c.next_visit.new.path.items (Some c.in-Some.visit) = rw (c.deref.ensures.value, c.in-Some.is) at c.in_ok-visit.ensures.visits in
+    let visits : Visits f l.weights.items l.path.items c.next_visit.new.path.items (Some c.in-Some.visit) = rw (c.deref.ensures.value, c.in-Some.is) at c.in_ok-visit.ensures.visits in
     let below : l.number < (trailer_of f).count = omega (arith, c.loop-number-test.true, c.count-number-end.ensures) in
     rw add-one
-    (IsWalking-step f l.number l.path.items c.next_visit.new.path.items l.scalars.items l.invariant c.in-Some.visit c.enter-in-Some.new.path.items c.enter-in-Some.new.scalars.items visits c.if-visit-number.true (c.requires l.number below) c.in_ok-enter-in-Some.ensures)
+    (IsWalking-step f l.number l.path.items c.next_visit.new.path.items l.weights.items l.invariant c.in-Some.visit c.enter-in-Some.new.path.items c.enter-in-Some.new.weights.items visits c.if-visit-number.true (c.requires l.number below) c.in_ok-enter-in-Some.ensures)
 
 pub returns-in-Some-3-clause-err : goal.returns-in-Some-3-clause-err
 returns-in-Some-3-clause-err c =
     let f = octets_of c.args.file.now in
     let l = c.loop-number in
     let some = c.args.file.now.laid.trailed.some_object in
-    let visits : Visits f l.scalars.items l.path.items c.next_visit-2.new.path.items (Some c.in-Some-3.visit) = rw (c.deref-2.ensures.value, c.in-Some-3.is) at c.in_ok-visit-2.ensures.visits in
+    let visits : Visits f l.weights.items l.path.items c.next_visit-2.new.path.items (Some c.in-Some-3.visit) = rw (c.deref-2.ensures.value, c.in-Some-3.is) at c.in_ok-visit-2.ensures.visits in
     let all : l.number ≡ (trailer_of f).count = omega (arith, c.loop-number-test.false, c.count-number-end.ensures, l.auto.number-end) in
     rw c.at-in-Some-3.ensures
-    (breaks_c7 c.in-Some-3.visit.owner (IsWalking-over f l.number l.path.items c.next_visit-2.new.path.items l.scalars.items l.invariant c.in-Some-3.visit visits all))
+    (breaks_c7 c.in-Some-3.visit.owner (IsWalking-over f l.number l.path.items c.next_visit-2.new.path.items l.weights.items l.invariant c.in-Some-3.visit visits all))
 
 pub returns-clause-ok : goal.returns-clause-ok
 returns-clause-ok c =
     let f = octets_of c.args.file.now in
     let l = c.loop-number in
     let some = c.args.file.now.laid.trailed.some_object in
-    let visits : Visits f l.scalars.items l.path.items c.next_visit-2.new.path.items None = rw (c.deref-2.ensures.value, c.in-None-2.is) at c.in_ok-visit-2.ensures.visits in
+    let visits : Visits f l.weights.items l.path.items c.next_visit-2.new.path.items None = rw (c.deref-2.ensures.value, c.in-None-2.is) at c.in_ok-visit-2.ensures.visits in
     let all : l.number ≡ (trailer_of f).count = omega (arith, c.loop-number-test.false, c.count-number-end.ensures, l.auto.number-end) in
-    IsWalking-done f l.number l.path.items c.next_visit-2.new.path.items l.scalars.items l.invariant visits all
+    IsWalking-done f l.number l.path.items c.next_visit-2.new.path.items l.weights.items l.invariant visits all
+
+pub returns-clause-weights : goal.returns-clause-weights
+returns-clause-weights c =
+    let f = octets_of c.args.file.now in
+    let l = c.loop-number in
+    let some = c.args.file.now.laid.trailed.some_object in
+    let all : l.number ≡ (trailer_of f).count = omega (arith, c.loop-number-test.false, c.count-number-end.ensures, l.auto.number-end) in
+    IsWalking-weights f l.number l.path.items c.next_visit-2.new.path.items l.weights.items l.invariant all

@@ -27,7 +27,7 @@ returns-in-Some-frame_visit-clause-visits c =
     let frame = c.in-Some.frame in
     let after : Frame = record { owner = frame.owner; values = frame.values; done = c.in-Some-frame_visit.done } in
     let refs = path_left f c.args.path.now.items in (
-      LeadsTo-visited f c.args.scalars.now refs c.loop-frame.path.items c.pop.new.self.items c.push.new.self.items frame after c.in-Some-frame_visit.reference c.in-Some.ensures.items c.in_ok-push.ensures.items c.loop-frame.invariant.leads c.in-Some-frame_visit.ensures.some,
+      LeadsTo-visited f c.args.weights.now refs c.loop-frame.path.items c.pop.new.self.items c.push.new.self.items frame after c.in-Some-frame_visit.reference c.in-Some.ensures.items c.in_ok-push.ensures.items c.loop-frame.invariant.leads c.in-Some-frame_visit.ensures.some,
       c.in-Some-frame_visit.ensures.known,
     )
 
@@ -39,5 +39,5 @@ loop-frame-preserved c =
     let path : IsPath f (left ++ (frame ∷ [])) = rw c.in-Some.ensures.items at c.loop-frame.invariant.on_path in
     record {
       on_path = IsPath-front f left frame path;
-      leads = LeadsTo-popped f c.args.scalars.now (path_left f c.args.path.now.items) c.loop-frame.path.items left frame c.in-Some.ensures.items c.loop-frame.invariant.leads c.in_default-frame_visit.ensures.none;
+      leads = LeadsTo-popped f c.args.weights.now (path_left f c.args.path.now.items) c.loop-frame.path.items left frame c.in-Some.ensures.items c.loop-frame.invariant.leads c.in_default-frame_visit.ensures.none;
     }

@@ -9,7 +9,7 @@ invariant-loop-frame l =
     let f = octets_of l.file in
     record {
       on_path : IsPath f l.path.items;
-      leads : LeadsTo l.scalars (path_left f l.initial.path.items) (path_left f l.path.items);
+      leads : LeadsTo l.weights (path_left f l.initial.path.items) (path_left f l.path.items);
     }
 
 abbrev pub decreases-loop-frame : goal.decreases-loop-frame

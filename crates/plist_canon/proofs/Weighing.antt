@@ -1,0 +1,65 @@
+-- The weights of objects.
+use Rattle.std.proofs.Common.{◌≡◌, ℕ, ◌<◌, List, [], ◌∷◌, ◌++◌, length, true, refl, sym, ap, subst, ◌∙◌, arith, length-append, inl, inr}
+use Rattle.std.specs.Prelude.{slice_index_or}
+use Rattle.std.proofs.lemmas.Bool.{cases_lt, true≢false}
+use Rattle.std.proofs.lemmas.List.{get_or_append_left, get_or_push}
+use Rattle.plist_value.specs.Plist.{Scalar, text, whole, flag, real4, real8, moment, bytes}
+use Rattle.plist_value.specs.Limits.{payload_of_scalar}
+use Rattle.plist_object.specs.Layout.{trailer_of}
+use Rattle.plist_object.specs.Objects.{Held, holds_scalar, holds_list, holds_table}
+use Rattle.plist_object.specs.Places.{Holds}
+use Rattle.plist_object.specs.Uniqueness.{same_held}
+use Rattle.plist_canon.specs.declared.weights.Weight.{Weight}
+use Rattle.plist_canon.specs.declared.weights.Weight.TheVariants.{Container}
+use Rattle.plist_canon.specs.Rules.{HoldsScalar}
+use Rattle.plist_canon.specs.Weights.{weight_of_scalar, weight_of, is_scalar_weight, payload_of_weight, Weighs, AreWeights, AreAllWeights}
+
+pub scalar-payload : (s : Scalar) → payload_of_weight (weight_of_scalar s) ≡ payload_of_scalar s
+scalar-payload (text units) = refl
+scalar-payload (whole z) = refl
+scalar-payload (flag b) = refl
+scalar-payload (real4 xs) = refl
+scalar-payload (real8 xs) = refl
+scalar-payload (moment xs) = refl
+scalar-payload (bytes xs) = refl
+
+pub scalar-weight : (s : Scalar) → is_scalar_weight (weight_of_scalar s) ≡ true
+scalar-weight (text units) = refl
+scalar-weight (whole z) = refl
+scalar-weight (flag b) = refl
+scalar-weight (real4 xs) = refl
+scalar-weight (real8 xs) = refl
+scalar-weight (moment xs) = refl
+scalar-weight (bytes xs) = refl
+
+-- what an object holds is what was weighed
+pub Weighs-held : (f : List ℕ) (i : ℕ) (weight : Weight) (held : Held) → Weighs f i weight → Holds f i held → weight ≡ weight_of held
+Weighs-held f i weight held weighs holds = weighs.is ∙ ap weight_of (same_held f i weighs.held held weighs.holds holds)
+
+scalar-holds : (f : List ℕ) (i : ℕ) (held : Held) → Holds f i held → is_scalar_weight (weight_of held) ≡ true → HoldsScalar f i
+scalar-holds f i (holds_scalar s) holds is = (s, holds)
+scalar-holds f i (holds_list refs) holds is = absurd (true≢false (sym is))
+scalar-holds f i (holds_table keys values) holds is = absurd (true≢false (sym is))
+
+pub Weighs-scalar : (f : List ℕ) (i : ℕ) (weight : Weight) → Weighs f i weight → is_scalar_weight weight ≡ true → HoldsScalar f i
+Weighs-scalar f i weight weighs is = scalar-holds f i weighs.held weighs.holds (ap is_scalar_weight (sym weighs.is) ∙ is)
+
+pub scalar-Weighs : (f : List ℕ) (i : ℕ) (weight : Weight) → Weighs f i weight → HoldsScalar f i → is_scalar_weight weight ≡ true
+scalar-Weighs f i weight weighs scalar =
+    ap is_scalar_weight (Weighs-held f i weight (holds_scalar scalar.0) weighs scalar.1) ∙ scalar-weight scalar.0
+
+pub AreWeights-push : (f : List ℕ) (weights : List Weight) (held : Held) → AreWeights f weights → Holds f (length weights) held → AreWeights f (weights ++ (weight_of held ∷ []))
+AreWeights-push f weights held weighed holds i below =
+    elim (cases_lt i (length weights)) [
+      | inl before ↦ rw (get_or_append_left weights (weight_of held ∷ []) Container i before) (weighed i before)
+      | inr past ↦ (
+          let long = length-append weights (weight_of held ∷ []) in
+          let is : length weights ≡ i = omega arith in
+          rw (get_or_push weights (weight_of held) Container i is)
+          (record { held = held; holds = subst (λ (k : ℕ). Holds f k held) is holds; is = refl }))
+    ]
+
+pub AreAllWeights-at : (f : List ℕ) (weights : List Weight) → AreAllWeights f weights → (i : ℕ) → i < (trailer_of f).count → Weighs f i (slice_index_or weights i Container)
+AreAllWeights-at f weights all i below =
+    let counted = all.all in
+    all.each i (omega arith)
