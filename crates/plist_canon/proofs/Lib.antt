@@ -40,3 +40,4 @@ pub mod Paths
 pub mod Judges
 pub mod TableParts
 pub mod Spending
+pub mod Ranked

@@ -15,3 +15,4 @@ pub mod Locality
 pub mod Checking
 pub mod Preorders
 pub mod Charges
+pub mod Ranks

@@ -11,6 +11,7 @@ mod objects;
 mod plan;
 mod preorder;
 mod putting;
+mod ranks;
 mod references;
 mod repeats;
 pub mod sending;
