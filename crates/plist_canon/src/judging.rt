@@ -98,8 +98,8 @@ pub(crate) fn judge_objects(alloc: Global, file: &BinFile) -> Result<(), Flaw>
     Ok(())
 }
 
-// The ranks of the texts that tables name as keys. Where such texts overlap, so that together they are longer
-// than the file, the first object that does not stand where the one before it ends is answered.
+// The ranks of the texts that tables name as keys. Where so many of these texts overlap that they cannot be
+// sorted in time, the first object that does not stand where the one before it ends is answered.
 fn rank_keys(alloc: Global, file: &BinFile) -> Result<Ranks, Flaw>
     ensures ok { IfOk result (λ ranks. AreRanks (octets_of file.now) ranks) }
     ensures err { IfErr result (IsFlaw (octets_of file.now)) }
@@ -116,7 +116,7 @@ fn rank_keys(alloc: Global, file: &BinFile) -> Result<Ranks, Flaw>
     Ok(keys.ranks(alloc, file)?)
 }
 
-// Whether each object reads and stands where the one before it ends.
+// Whether each object reads, and begins where the one before it ends.
 fn judge_places(file: &BinFile) -> Result<(), Flaw>
     ensures { IfErr result (IsFlaw (octets_of file.now)) }
 {

@@ -45,8 +45,8 @@ pub(crate) struct Keys<'a> {
 }
 
 impl<'a> Keys<'a> {
-    /// The keys of the tables up to the last object, as far as objects read and their keys are texts that do
-    /// not overlap.
+    /// The keys of the tables up to the last object. It ends before at the first object that does not read, at
+    /// the first key that is no text, and where the texts overlap.
     pub(crate) fn of_tables(
         alloc: Global,
         file: &BinFile<'a>,
@@ -69,7 +69,7 @@ impl<'a> Keys<'a> {
         Ok(keys)
     }
 
-    // Whether the object reads and its keys, if it is a table, were added.
+    // Whether the object reads, and its keys, if it is a table, were added.
     fn add_table(&mut self, file: &BinFile<'a>, i: u64) -> Result<bool, AllocError>
         requires listed { i < (trailer_of (octets_of file.now)).count }
         requires keys { AreKeys (octets_of file.now) self.old }
@@ -94,7 +94,7 @@ impl<'a> Keys<'a> {
         Ok(true)
     }
 
-    // Whether the object holds a text, and no texts overlap as far as their lengths tell.
+    // Whether the object holds a text, which is then among the keys, and the texts do not overlap.
     fn add(&mut self, file: &BinFile<'a>, object: u64) -> Result<bool, AllocError>
         requires { AreKeys (octets_of file.now) self.old }
         ensures { OnOk result (AreKeys (octets_of file.now) self.new) }
@@ -114,7 +114,8 @@ impl<'a> Keys<'a> {
         Ok(!self.overlap(file))
     }
 
-    /// Whether the texts are together longer than all objects, so that some overlap.
+    /// Whether the texts are together longer than the part of the file before the offset table, which only texts
+    /// that overlap can be.
     pub(crate) fn overlap(&self, file: &BinFile) -> bool {
         self.length > file.table()
     }
