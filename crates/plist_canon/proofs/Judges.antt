@@ -1,10 +1,9 @@
 -- What is judged of one object.
-use Rattle.std.proofs.Common.{◌≡◌, ℕ, zero, suc, ◌+◌, ◌-◌, ◌<◌, ◌≤◌, List, [], ◌∷◌, ◌++◌, Bool, true, false, Ok, Err, Result, refl, sym, ap, subst, ◌∙◌, arith, inl, inr, Some, None}
-use Rattle.std.specs.Prelude.{◌↔◌, ◌≢◌, slice_index, EachIndex, IsOk, IsTrue, not, Option, IfSome, IfNone}
+use Rattle.std.proofs.Common.{◌≡◌, ℕ, zero, suc, ◌+◌, ◌-◌, ◌<◌, ◌≤◌, List, [], ◌∷◌, ◌++◌, Bool, true, false, Ok, Err, Result, refl, sym, ap, subst, ◌∙◌, arith, inl, inr}
+use Rattle.std.specs.Prelude.{◌↔◌, ◌≢◌, slice_index, EachIndex, IsOk, IsTrue, not}
 use Rattle.std.specs.declared.cmp.Ordering.TheVariants.{Less}
 use Rattle.std.specs.Ordering.{nat_cmp}
 use Rattle.std.specs.Cmp.Lexicographic.{slice_cmp}
-use Rattle.std.specs.Option.{is_some}
 use Rattle.std.specs.List.{AllByRecursion}
 use Rattle.std.specs.List.Sorted.{IsStrictlySortedBy}
 use Rattle.std.proofs.lemmas.Bool.{true≢false, cases_lt}
@@ -12,8 +11,6 @@ use Rattle.std.proofs.lemmas.Cmp.{nat_list_cmp_total}
 use Rattle.plist_value.specs.Plist.{Scalar, text}
 use Rattle.plist_value.specs.Scalars.{content_of}
 use Rattle.plist_value.specs.declared.scalar_ref.ScalarRef.{ScalarRef}
-use Rattle.plist_value.specs.Texts.{units_of}
-use Rattle.plist_value.specs.declared.text_ref.TextRef.{TextRef}
 use Rattle.plist_object.specs.declared.object.Object.{Object}
 use Rattle.plist_object.specs.declared.object.Object.TheVariants as shown
 use Rattle.plist_object.specs.declared.object.ObjectFault.{ObjectFault}
@@ -230,6 +227,10 @@ unread f i fault fails read =
     let e : Err fault ≡ Ok read.held = sym fails ∙ here in
     absurd cc
 
+pub unspanned : (f : List ℕ) (i : ℕ) (fault : ObjectFault) → span_of f i ≡ Err fault → ¬ IsWellRead f i
+unspanned f i fault fails read =
+    true≢false (sym (subst (λ (span : Result (ℕ × ℕ) ObjectFault). IsOk span) fails (Holds-span f i read.held read.holds)))
+
 -- a fact of each number below the next
 pub below_or_last : (P : ℕ → Type 0) (k : ℕ) → ((j : ℕ) → j < k → P j) → P k → (j : ℕ) → j < k + 1 → P j
 below_or_last P k before last j below =
@@ -260,15 +261,6 @@ values_below f keys values refers =
 
 pub keys_named : (f keys values : List ℕ) → RefersWell f (holds_table keys values) → EachIndex keys (λ k. HoldsText f (slice_index keys k))
 keys_named f keys values refers = each_from_all (HoldsText f) keys refers.texts
-
--- a text that was found, or was not
-pub text_found : (f : List ℕ) (n : ℕ) (o : Option TextRef) → is_some o ≡ true → IfSome o (λ t. Holds f n (holds_scalar (text (units_of t)))) → HoldsText f n
-text_found f n (Some t) some found = (units_of t, found)
-text_found f n None some found = absurd (true≢false (sym some))
-
-pub text_missing : (f : List ℕ) (n : ℕ) (o : Option TextRef) → is_some o ≡ false → IfNone o (¬ HoldsText f n) → ¬ HoldsText f n
-text_missing f n (Some t) none missing = absurd (true≢false none)
-text_missing f n None none missing = missing
 
 pub turns_more : (f keys : List ℕ) (k : ℕ) → 1 ≤ k → ((j : ℕ) → suc j < k → AreInOrder f (slice_index keys j) (slice_index keys (suc j))) → AreInOrder f (slice_index keys (k - 1)) (slice_index keys k) → (j : ℕ) → suc j < k + 1 → AreInOrder f (slice_index keys j) (slice_index keys (suc j))
 turns_more f keys k some before last j below =

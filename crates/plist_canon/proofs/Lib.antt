@@ -23,3 +23,4 @@ pub mod Paths
 pub mod Judges
 pub mod TableParts
 pub mod Spending
+pub mod Ranked

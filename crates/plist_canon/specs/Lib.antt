@@ -12,3 +12,4 @@ pub mod Checking
 pub mod Weights
 pub mod Preorders
 pub mod Charges
+pub mod Ranks

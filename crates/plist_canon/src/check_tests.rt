@@ -142,6 +142,47 @@ fn keys_and_repeats(rt: HostRuntime) -> Result<(), Fail> {
 }
 
 #[test]
+fn keys_of_many_tables(rt: HostRuntime) -> Result<(), Fail> {
+    let alloc = rt.alloc();
+    let entries = [8, 12, 17, 19, 21, 22, 27];
+    let head = [0xa3, 1, 5, 6, 0xd2, 2, 3, 4, 4, 0x51, 0x61, 0x51, 0x62, 9];
+    let mut shared = Vec::from_slice(alloc, &head)?;
+    shared.extend_from_slice(&[0xd2, 2, 3, 4, 4, 0xd2, 2, 3, 4, 4])?;
+    assert_eq!(rt; check_of(alloc, &shared, &entries)?, CANONICAL);
+    let mut swapped = Vec::from_slice(alloc, &head)?;
+    swapped.extend_from_slice(&[0xd2, 2, 3, 4, 4, 0xd2, 3, 2, 4, 4])?;
+    assert_eq!(rt; check_of(alloc, &swapped, &entries)?, broken(5, 6));
+    let equal = [0xd2, 1, 2, 3, 3, 0x51, 0x61, 0x51, 0x61, 9];
+    assert_eq!(rt; check_of(alloc, &equal, &[8, 13, 15, 17])?, broken(5, 0));
+    let wide = [0xd2, 1, 2, 3, 3, 0x51, 0x61, 0x61, 0, 0x61, 9];
+    assert_eq!(rt; check_of(alloc, &wide, &[8, 13, 15, 18])?, broken(5, 0));
+    Ok(())
+}
+
+#[test]
+fn keys_before_an_object_out_of_place(rt: HostRuntime) -> Result<(), Fail> {
+    let alloc = rt.alloc();
+    let no_text = [0xa1, 1, 0xd1, 2, 2, 9];
+    assert_eq!(rt; check_of(alloc, &no_text, &[8, 10, 13, 8])?, broken(0, 1));
+    let no_object = [0xa1, 1, 0xd1, 9, 2, 9];
+    assert_eq!(rt; check_of(alloc, &no_object, &[8, 10, 13, 8])?, broken(0, 1));
+    let mut overlap = Vec::from_slice(alloc, &[0xd2, 1, 2, 1, 1])?;
+    overlap.resize(21, 0x5e)?;
+    assert_eq!(rt; check_of(alloc, &overlap, &[8, 13, 14])?, broken(5, 0));
+    Ok(())
+}
+
+#[test]
+fn keys_longer_than_the_file(rt: HostRuntime) -> Result<(), Fail> {
+    let alloc = rt.alloc();
+    let mut objects = Vec::from_slice(alloc, &[0xd4, 1, 2, 3, 4, 1, 1, 1, 1])?;
+    objects.resize(27, 0x5e)?;
+    let texts = [8, 17, 18, 19, 20];
+    assert_eq!(rt; check_of(alloc, &objects, &texts)?, broken(3, 2));
+    Ok(())
+}
+
+#[test]
 fn walks(rt: HostRuntime) -> Result<(), Fail> {
     let alloc = rt.alloc();
     let swapped = [0xd2, 2, 1, 1, 2, 0x51, 0x62, 0x51, 0x61];

@@ -85,8 +85,11 @@ pub enum Verdict {
 /// is broken at the later of two equal ones, and rule 7 at the container that holds the first bad reference,
 /// or at 0 where objects are left over.
 ///
-/// No value is built. It goes over the file a few times, and takes memory for the scalars that it has met
-/// and for the path of the walk.
+/// No value is built. It is linear in the file's size, but for sorting the texts of the keys once, and takes
+/// memory for the scalars that it has met, for the keys and for the path of the walk. So where the texts that
+/// tables name as keys overlap, and are together longer than the part of the file before the offset table,
+/// the first object that does not read, or does not stand where the one before it ends, is answered even if
+/// another rule is broken at an object before it.
 ///
 /// # Errors
 ///
