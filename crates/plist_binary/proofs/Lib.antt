@@ -8,6 +8,7 @@ pub mod KeySteps
 pub mod LoopSteps
 pub mod Making
 pub mod Paired
+pub mod Placed
 pub mod Reaching
 pub mod Rows
 pub mod Sequences

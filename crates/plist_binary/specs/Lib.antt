@@ -7,4 +7,5 @@ pub mod Paths
 pub mod Reach
 pub mod Faults
 pub mod Budgets
+pub mod Keys
 pub mod Readings

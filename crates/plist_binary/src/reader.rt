@@ -11,11 +11,13 @@ ghost use Rattle.plist_object.specs.Spelled.{IsBinary};
 ghost use Rattle.plist_object.specs.Views.{held_of, numbers_of, octets_of};
 ghost use Rattle.plist_binary.specs.Budgets.{Spends};
 ghost use Rattle.plist_binary.specs.Faults.{IsText, Stands};
+ghost use Rattle.plist_binary.specs.Keys.{units_at, AreInPlace};
 ghost use Rattle.plist_binary.specs.Paths.{AllRefer, HasKeys, IsKeyOf, Leads, containers_of};
 ghost use Rattle.plist_binary.specs.Readings.{Reads, Refuses, ReadsItems, RefusesItems, texts, RefusesKey, RefusesKeys, ReadsPairs, RefusesPairs};
 
 use crate::budget::Budget;
 use crate::path::Path;
+use crate::tables::Key;
 use crate::{BinaryFault, scalars, tables};
 use plist_object::{BinFile, Object, ObjectFault, Refs};
 use plist_value::{MAX_DEPTH, MAX_NODES, MAX_PAYLOAD, ScalarRef, TextRef, Utf16, Value};
@@ -122,15 +124,15 @@ impl<'a> Reader<'a> {
         ensures read { IfOk result (λ pairs. ReadsPairs (octets_of self.now.file) (numbers_of keys.entry) (numbers_of values.entry) levels left.old (view_pairs pairs.entries) left.new) }
         ensures refused { IfErr result (RefusesPairs (octets_of self.now.file) (numbers_of keys.entry) (numbers_of values.entry) levels left.old) }
     {
-        let keys = self.keys(table, before, keys, levels, left)?;
-        if !tables::are_distinct(self.alloc, keys.as_slice())? {
+        let mut keys = self.keys(table, before, keys, levels, left)?;
+        if !tables::sort(keys.as_mut_slice()) {
             return Err(BinaryFault::DuplicateKey { object: table });
         }
         let values = self.items(table, before, values, levels, left)?;
         Ok(tables::table(self.alloc, keys.as_slice(), values)?)
     }
 
-    // The texts that the references of the table spell, in turn.
+    // The texts that the references of the table spell, each at its place.
     fn keys(
         &self,
         table: u64,
@@ -138,17 +140,20 @@ impl<'a> Reader<'a> {
         refs: Refs,
         levels: u64,
         left: &mut Budget,
-    ) -> Result<Vec<TextRef<'a>>, BinaryFault>
+    ) -> Result<Vec<Key<'a>>, BinaryFault>
         requires leads { Leads (octets_of self.now.file) (containers_of before.now) table }
         requires keys { HasKeys (octets_of self.now.file) table (numbers_of refs) }
         requires depth { length (containers_of before.now) + 1 + levels ≡ MAX_DEPTH }
-        ensures read { IfOk result (λ keys. ReadsItems (octets_of self.now.file) (numbers_of refs.entry) levels left.old (texts (map units_of keys.items)) left.new) }
+        ensures read { IfOk result (λ keys. ReadsItems (octets_of self.now.file) (numbers_of refs.entry) levels left.old (texts (map units_at keys.items)) left.new) }
+        ensures placed { IfOk result (λ keys. AreInPlace keys.items) }
         ensures refused { IfErr result (RefusesKeys (octets_of self.now.file) (numbers_of refs.entry) levels left.old) }
     {
         let mut keys = Vec::new(self.alloc);
         for i in 0..refs.len() {
             let object = self.referred(table, refs.get(i))?;
-            keys.push(self.key(table, before, object, levels, left)?)?;
+            let text = self.key(table, before, object, levels, left)?;
+            let place = keys.len();
+            keys.push(Key { text, place })?;
         }
         Ok(keys)
     }

@@ -1,35 +1,45 @@
-ghost use Rattle.std.specs.Prelude.{◌≡◌, ◌↔◌, IsTrue, IfOk, length, map};
+ghost use Rattle.std.specs.Prelude.{◌≡◌, ◌<◌, ◌==◌, ◌↔◌, All, IsTrue, IfOk, length, map};
 ghost use Rattle.std.specs.Ordering.{eq_by_cmp, nat_cmp};
 ghost use Rattle.std.specs.Cmp.Lexicographic.{slice_cmp};
-ghost use Rattle.std.specs.List.{IsDistinct, zip};
+ghost use Rattle.std.specs.List.{IsDistinct};
 ghost use Rattle.std.specs.List.Sorted.{IsPermutation, IsStrictlySortedBy};
 ghost use Rattle.std.specs.Map.{keys_of};
 ghost use Rattle.plist_value.specs.Texts.{units_of};
+ghost use Rattle.plist_binary.specs.Keys.{units_at, place_of, pair_at};
 
 use crate::scalars;
 use plist_value::{TextRef, Utf16, Value};
 use std::alloc::{AllocError, Global};
 use std::cmp::Ordering;
 use std::collections::BTreeMap;
+use std::mem;
 
-// Whether no two of the texts are equal. Those that ascend are compared in place.
-pub(crate) fn are_distinct(alloc: Global, texts: &[TextRef]) -> Result<bool, AllocError>
-    ensures { IfOk result (λ yes. IsTrue yes ↔ IsDistinct (eq_by_cmp (slice_cmp nat_cmp)) (map units_of texts.now)) }
-{
-    if ascend(texts) {
-        return Ok(true);
-    }
-    let mut sorted = Vec::from_slice(alloc, texts)?;
-    sorted.sort_unstable();
-    Ok(ascend(sorted.as_slice()))
+// A key of a table, and its place among the keys of the file.
+#[derive(Clone, Copy)]
+pub(crate) struct Key<'a> {
+    pub(crate) text: TextRef<'a>,
+    pub(crate) place: usize,
 }
 
-// Whether each text is below the next.
-fn ascend(texts: &[TextRef]) -> bool
-    ensures { IsTrue result ↔ IsStrictlySortedBy (slice_cmp nat_cmp) (map units_of texts.now) }
+// Whether no two of the keys are equal, which then ascend.
+pub(crate) fn sort(keys: &mut [Key]) -> bool
+    ensures moved { IsPermutation keys.old keys.new }
+    ensures distinct { IsTrue result ↔ IsDistinct (eq_by_cmp (slice_cmp nat_cmp)) (map units_at keys.old) }
+    ensures ascend { IsTrue result ↔ IsStrictlySortedBy (slice_cmp nat_cmp) (map units_at keys.new) }
 {
-    for i in 1..texts.len() {
-        if !is_below(&texts[i - 1], &texts[i]) {
+    if ascend(keys) {
+        return true;
+    }
+    keys.sort_unstable_by_key(|key| key.text);
+    ascend(keys)
+}
+
+// Whether each key is below the next.
+fn ascend(keys: &[Key]) -> bool
+    ensures { IsTrue result ↔ IsStrictlySortedBy (slice_cmp nat_cmp) (map units_at keys.now) }
+{
+    for i in 1..keys.len() {
+        if !is_below(&keys[i - 1].text, &keys[i].text) {
             return false;
         }
     }
@@ -42,22 +52,23 @@ fn is_below(text: &TextRef, next: &TextRef) -> bool
     text < next
 }
 
-// The table of the keys, of which no two are equal, each with the value at its place.
+// The table of the keys, which ascend, each with the value at its place.
 pub(crate) fn table(
     alloc: Global,
-    keys: &[TextRef],
+    keys: &[Key],
     values: Vec<Value>,
 ) -> Result<BTreeMap<Utf16, Value>, AllocError>
-    requires long { length keys.now ≡ length values.items }
-    requires distinct { IsDistinct (eq_by_cmp (slice_cmp nat_cmp)) (map units_of keys.now) }
-    ensures pairs { IfOk result (λ pairs. IsPermutation (zip (map units_of keys.now) values.items) pairs.entries) }
+    requires within { All (λ key. place_of key < length values.items) keys.now }
+    requires apart { IsDistinct (λ x y. x == y) (map place_of keys.now) }
+    requires ascend { IsStrictlySortedBy (slice_cmp nat_cmp) (map units_at keys.now) }
+    ensures pairs { IfOk result (λ pairs. pairs.entries ≡ map (pair_at values.items) keys.now) }
     ensures ordered { IfOk result (λ pairs. IsStrictlySortedBy (slice_cmp nat_cmp) (keys_of pairs.entries)) }
 {
     let mut values = values;
     let mut pairs = BTreeMap::new(alloc);
-    while let Some(value) = values.pop() {
-        let key = scalars::utf16(alloc, keys[values.len()])?;
-        drop(pairs.insert(key, value)?);
+    for key in keys {
+        let value = mem::replace(&mut values[key.place], Value::Flag(false));
+        drop(pairs.insert(scalars::utf16(alloc, key.text)?, value)?);
     }
     Ok(pairs)
 }

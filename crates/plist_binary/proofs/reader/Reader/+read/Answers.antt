@@ -1,29 +1,36 @@
-use Rattle.std.proofs.Common.{◌≡◌, ◌<◌, ◌≤◌, ◌+◌, ◌-◌, ℕ, List, Ok, map, take, length, rules, subst, sym, ap, ◌∙◌, ⊎_elim, arith}
+use Rattle.std.proofs.Common.{◌≡◌, ◌<◌, ◌≤◌, ◌+◌, ◌-◌, ◌++◌, ℕ, List, Ok, map, take, drop, length, rules, subst, sym, ap, ◌∙◌, ⊎_elim, arith}
 use Rattle.std.specs.Prelude.{◌⊎◌, Result, Err}
 use Rattle.std.specs.Result.{IfOk, IfErr, OnOk}
-use Rattle.std.proofs.lemmas.List.{length-map}
+use Rattle.std.proofs.lemmas.List.{length-map, take_at}
+use Rattle.std.proofs.lemmas.List.Sorted.{length_permutation}
 use Rattle.std.specs.List.{IsDistinct, zip}
-use Rattle.std.specs.List.Sorted.{IsPermutation}
-use Rattle.plist_value.specs.declared.text_ref.TextRef.{TextRef}
+use Rattle.std.specs.Ordering.{nat_cmp}
+use Rattle.std.specs.Cmp.Lexicographic.{slice_cmp}
+use Rattle.std.specs.List.Sorted.{IsPermutation, IsStrictlySortedBy}
+use Rattle.plist_value.specs.declared.value.Value.{Value}
 use Rattle.plist_value.specs.Plist.{Plist, Items, list, table, scalar, IsScalar}
 use Rattle.plist_value.specs.Limits.{payload_of_scalar}
 use Rattle.plist_value.specs.Scalars.{content_of}
 use Rattle.plist_value.specs.Texts.{units_of}
 use Rattle.plist_value.specs.View.{view, view_items, view_pairs}
 use Rattle.plist_object.specs.Objects.{holds_scalar, holds_list, holds_table}
+use Rattle.plist_object.specs.Spelled.{SpellItems}
 use Rattle.plist_object.specs.Places.{what_holds}
 use Rattle.plist_object.specs.Views.{octets_of, numbers_of}
 use Rattle.plist_binary.specs.declared.fault.BinaryFault.{BinaryFault}
 use Rattle.plist_binary.specs.declared.fault.BinaryFault.TheVariants.{BadReference, OutOfMemory, TooMuchPayload}
 use Rattle.plist_binary.specs.Budgets.{Spends}
+use Rattle.plist_binary.specs.declared.tables.Key.{Key}
+use Rattle.plist_binary.specs.Keys.{units_at}
 use Rattle.plist_binary.specs.Paths.{containers_of}
-use Rattle.plist_binary.specs.Readings.{Reads, Refuses, ReadsItems, RefusesItems, RefusesPairs}
+use Rattle.plist_binary.specs.Readings.{Reads, Refuses, ReadsItems, RefusesItems, texts, RefusesPairs}
 use Rattle.plist_binary.proofs.KeySteps.{AllRefer-values}
 use Rattle.plist_binary.proofs.LoopSteps.{Contains-at, ReadsItems-next, RefusesItems-next, RefusesItems-none}
 use Rattle.plist_binary.proofs.Making.{Reads-scalar, Refuses-payload, Refuses-memory, Reads-list, Refuses-list, Reads-table, Refuses-table}
 use Rattle.plist_binary.proofs.TableSteps.{RefusesPairs-keys, RefusesPairs-values, RefusesPairs-twice, ReadsPairs-entries, length-texts, length-items}
 use Rattle.plist_binary.proofs.Inserting.{same_key}
 use Rattle.plist_binary.proofs.Paired.{length-values}
+use Rattle.plist_binary.proofs.Placed.{distinct_places_moved, places_within_moved, pairs_moved}
 use Rattle.plist_binary.proofs.Shown.{view-list, view-table}
 use Rattle.plist_binary.proofs.Sequences.{push, view_items-push}
 use Rattle.plist_binary.proofs.reader.Reader.+read.Goals as goal
@@ -38,6 +45,20 @@ OnOk_then (Err e) P Q R then p q = tt
 IfErr_then : {T E : Type 0} (r : Result T E) (P R : E → Type 0) → ((e : E) → P e → R e) → IfErr r P → IfErr r R
 IfErr_then (Ok x) P R then p = tt
 IfErr_then (Err e) P R then p = then e p
+
+-- the slice of a list that was sorted in place
+seen_sorted : (n : ℕ) (keys written sorted seen : List Key) → n ≡ length keys → written ≡ keys → IsPermutation written sorted → seen ≡ take n (sorted ++ drop (length sorted) keys) → seen ≡ sorted
+seen_sorted n keys written sorted seen all first moved last =
+    let long : length sorted ≡ length keys = length_permutation written sorted moved ∙ ap length first in
+    last ∙ take_at sorted (drop (length sorted) keys) n (omega arith)
+
+moved_between : (keys written sorted seen : List Key) → written ≡ keys → IsPermutation written sorted → seen ≡ sorted → IsPermutation keys seen
+moved_between keys written sorted seen first moved last =
+    subst (λ (xs : List Key). IsPermutation xs seen) first (subst (λ (xs : List Key). IsPermutation written xs) (sym last) moved)
+
+as_many : (f refs others : List ℕ) (keys : List Key) (values : List Value) → length refs ≡ length others → SpellItems f refs (texts (map units_at keys)) → SpellItems f others (view_items values) → length keys ≡ length values
+as_many f refs others keys values long spell_keys spell_values =
+    omega (arith, length-texts f refs (map units_at keys) spell_keys, length-items f others (map view values) spell_values, length-map keys units_at, length-map values view)
 
 pub items-returns-in_err-object-clause-refused : goal.items-returns-in_err-object-clause-refused
 items-returns-in_err-object-clause-refused t c =
@@ -138,16 +159,16 @@ pairs-returns-in_err-keys-clause-refused t c =
     let refused : RefusesPairs f keys values c.args.levels c.args.left.now c.in_err-keys.field-0.0 = RefusesPairs-keys f keys values c.args.levels c.args.left.now c.in_err-keys.field-0.0 long c.in_err-keys.ensures.refused in
     search rules
 
-pub pairs-returns-then-not-branch-clause-refused : goal.pairs-returns-then-not-branch-clause-refused
-pairs-returns-then-not-branch-clause-refused t c =
+pub pairs-returns-then-not-sort-clause-refused : goal.pairs-returns-then-not-sort-clause-refused
+pairs-returns-then-not-sort-clause-refused t c =
     let f = octets_of c.args.self.now.file in
     let keys = numbers_of c.args.keys in
     let values = numbers_of c.args.values in
     let long = length-values f c.args.table keys values c.requires.holds in
-    let us = map units_of c.in_ok-keys.keys.items in
+    let us = map units_at c.in_ok-keys.keys.items in
     let not_distinct : IsDistinct same_key us → ⊥ = λ distinct.
-    let told = c.in_ok-are_distinct.ensures.1 (subst (λ (xs : List TextRef). IsDistinct same_key (map units_of xs)) (sym c.as_slice.ensures.value) distinct) in
-    let said = c.if-not-branch.true in
+    let told = c.sort.ensures.distinct.1 (subst (λ (xs : List Key). IsDistinct same_key (map units_at xs)) (sym c.as_mut_slice.ensures.value) distinct) in
+    let said = c.if-not-sort.true in
     cc in
     RefusesPairs-twice f (containers_of c.args.before.now) keys values c.args.table c.args.levels c.args.left.now c.keys.new.left us c.args.self.now.laid c.requires.leads c.requires.holds long c.in_ok-keys.ensures.read not_distinct
 
@@ -157,7 +178,7 @@ pairs-returns-in_err-values-clause-refused t c =
     let keys = numbers_of c.args.keys in
     let values = numbers_of c.args.values in
     let long = length-values f c.args.table keys values c.requires.holds in
-    let us = map units_of c.in_ok-keys.keys.items in
+    let us = map units_at c.in_ok-keys.keys.items in
     let refused : RefusesPairs f keys values c.args.levels c.args.left.now c.in_err-values.field-0.0 = RefusesPairs-values f keys values c.args.levels c.args.left.now c.keys.new.left us c.in_err-values.field-0.0 long c.in_ok-keys.ensures.read c.in_err-values.ensures.refused in
     search rules
 
@@ -167,17 +188,26 @@ pairs-returns-clause-read t c =
     let keys = numbers_of c.args.keys in
     let values = numbers_of c.args.values in
     let long = length-values f c.args.table keys values c.requires.holds in
-    let us = map units_of c.in_ok-keys.keys.items in
-    let moved = subst (λ (xs : List TextRef). IsPermutation (zip (map units_of xs) c.in_ok-values.values.items) c.in_ok-table.field-0.entries) c.as_slice-2.ensures.value c.in_ok-table.ensures.pairs in
-    ReadsPairs-entries f keys values c.args.levels c.args.left.now c.keys.new.left c.items.new.left us c.in_ok-values.values.items c.in_ok-table.field-0.entries long c.in_ok-keys.ensures.read c.in_ok-values.ensures.read moved c.in_ok-table.ensures.ordered
+    let us = map units_at c.in_ok-keys.keys.items in
+    let sorted = c.as_slice.result.now in
+    let seen = seen_sorted c.in_ok-keys.keys.len c.in_ok-keys.keys.items c.as_mut_slice.result.now c.sort.new.keys sorted (omega (arith, c.in_ok-keys.keys.ok.0)) c.as_mut_slice.ensures.value c.sort.ensures.moved c.as_slice.ensures.value in
+    let moved = moved_between c.in_ok-keys.keys.items c.as_mut_slice.result.now c.sort.new.keys sorted c.as_mut_slice.ensures.value c.sort.ensures.moved seen in
+    let both = as_many f keys values c.in_ok-keys.keys.items c.in_ok-values.values.items long c.in_ok-keys.ensures.read.spell c.in_ok-values.ensures.read.spell in
+    let all = pairs_moved c.in_ok-keys.keys.items sorted c.in_ok-values.values.items c.in_ok-table.field-0.entries both c.in_ok-keys.ensures.placed moved c.in_ok-table.ensures.pairs in
+    ReadsPairs-entries f keys values c.args.levels c.args.left.now c.keys.new.left c.items.new.left us c.in_ok-values.values.items c.in_ok-table.field-0.entries long c.in_ok-keys.ensures.read c.in_ok-values.ensures.read all c.in_ok-table.ensures.ordered
 
-pub pairs-table-requires-clause-long : goal.pairs-table-requires-clause-long
-pairs-table-requires-clause-long t c =
+pub pairs-table-requires : goal.pairs-table-requires
+pairs-table-requires t c =
     let f = octets_of c.args.self.now.file in
     let keys = numbers_of c.args.keys in
     let values = numbers_of c.args.values in
     let long = length-values f c.args.table keys values c.requires.holds in
-    let keys_long = length-texts f keys (map units_of c.in_ok-keys.keys.items) c.in_ok-keys.ensures.read.spell in
-    let values_long = length-items f values (map view c.in_ok-values.values.items) c.in_ok-values.ensures.read.spell in
-    let seen : length c.as_slice-2.result.now ≡ length c.in_ok-keys.keys.items = ap length c.as_slice-2.ensures.value in
-    omega (arith, keys_long, values_long, length-map c.in_ok-keys.keys.items units_of, length-map c.in_ok-values.values.items view)
+    let sorted = c.as_slice.result.now in
+    let seen = seen_sorted c.in_ok-keys.keys.len c.in_ok-keys.keys.items c.as_mut_slice.result.now c.sort.new.keys sorted (omega (arith, c.in_ok-keys.keys.ok.0)) c.as_mut_slice.ensures.value c.sort.ensures.moved c.as_slice.ensures.value in
+    let moved = moved_between c.in_ok-keys.keys.items c.as_mut_slice.result.now c.sort.new.keys sorted c.as_mut_slice.ensures.value c.sort.ensures.moved seen in
+    let both = as_many f keys values c.in_ok-keys.keys.items c.in_ok-values.values.items long c.in_ok-keys.ensures.read.spell c.in_ok-values.ensures.read.spell in
+    record {
+      within = places_within_moved c.in_ok-keys.keys.items sorted (length c.in_ok-values.values.items) both c.in_ok-keys.ensures.placed moved;
+      apart = distinct_places_moved c.in_ok-keys.keys.items sorted c.in_ok-keys.ensures.placed moved;
+      ascend = subst (λ (xs : List Key). IsStrictlySortedBy (slice_cmp nat_cmp) (map units_at xs)) (sym seen) (c.sort.ensures.ascend.0 c.if-not-sort.false);
+    }
