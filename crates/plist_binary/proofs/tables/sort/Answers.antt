@@ -1,4 +1,4 @@
-use Rattle.std.proofs.Common.{List, map, refl, rules}
+use Rattle.std.proofs.Common.{map, refl, rules}
 use Rattle.std.proofs.lemmas.List.Sorted.{IsPermutation-refl, IsPermutation-sym, answers_always}
 use Rattle.plist_binary.specs.Keys.{units_at}
 use Rattle.plist_binary.proofs.Ascents.{ascent_from_distinct, distinct_from_ascent, distinct_moved}

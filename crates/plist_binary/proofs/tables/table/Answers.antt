@@ -1,11 +1,10 @@
-use Rattle.std.proofs.Common.{◌≡◌, ◌+◌, ◌==◌, ◌∷◌, ◌++◌, [], List, ℕ, length, map, drop, get_or, refl, sym, ap, ◌∙◌, subst, length-set, arith}
+use Rattle.std.proofs.Common.{◌≡◌, List, ℕ, map, sym, ap, ◌∙◌, subst, length-set, arith}
 use Rattle.std.specs.Ordering.{nat_cmp}
 use Rattle.std.specs.Cmp.Lexicographic.{slice_cmp}
-use Rattle.std.specs.List.{IsDistinct}
 use Rattle.std.specs.List.Sorted.{IsStrictlySortedBy}
 use Rattle.std.proofs.lemmas.Grind.{common_steps}
 use Rattle.std.specs.Map.{keys_of}
-use Rattle.plist_binary.specs.Keys.{units_at, place_of, pair_at}
+use Rattle.plist_binary.specs.Keys.{pair_at}
 use Rattle.plist_binary.proofs.Inserting.{keys-pairs, moved_next, apart_next}
 use Rattle.plist_binary.proofs.tables.table.Goals as goal
 

@@ -3,7 +3,7 @@ use Rattle.std.specs.Prelude.{◌⊎◌, Result, Err}
 use Rattle.std.specs.Result.{IfOk, IfErr, OnOk}
 use Rattle.std.proofs.lemmas.List.{length-map, take_at}
 use Rattle.std.proofs.lemmas.List.Sorted.{length_permutation}
-use Rattle.std.specs.List.{IsDistinct, zip}
+use Rattle.std.specs.List.{IsDistinct}
 use Rattle.std.specs.Ordering.{nat_cmp}
 use Rattle.std.specs.Cmp.Lexicographic.{slice_cmp}
 use Rattle.std.specs.List.Sorted.{IsPermutation, IsStrictlySortedBy}
@@ -11,7 +11,6 @@ use Rattle.plist_value.specs.declared.value.Value.{Value}
 use Rattle.plist_value.specs.Plist.{Plist, Items, list, table, scalar, IsScalar}
 use Rattle.plist_value.specs.Limits.{payload_of_scalar}
 use Rattle.plist_value.specs.Scalars.{content_of}
-use Rattle.plist_value.specs.Texts.{units_of}
 use Rattle.plist_value.specs.View.{view, view_items, view_pairs}
 use Rattle.plist_object.specs.Objects.{holds_scalar, holds_list, holds_table}
 use Rattle.plist_object.specs.Spelled.{SpellItems}
