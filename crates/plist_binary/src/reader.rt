@@ -129,7 +129,7 @@ impl<'a> Reader<'a> {
             return Err(BinaryFault::DuplicateKey { object: table });
         }
         let values = self.items(table, before, values, levels, left)?;
-        Ok(tables::table(self.alloc, keys.as_slice(), values)?)
+        Ok(tables::table(self.alloc, keys, values)?)
     }
 
     // The texts that the references of the table spell, each at its place.

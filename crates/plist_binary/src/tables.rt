@@ -52,21 +52,23 @@ fn is_below(text: &TextRef, next: &TextRef) -> bool
     text < next
 }
 
-// The table of the keys, which ascend, each with the value at its place.
+// The table of the keys, which ascend, each with the value at its place. The last key comes first: a key below
+// all others is found by one comparison in each node.
 pub(crate) fn table(
     alloc: Global,
-    keys: &[Key],
+    keys: Vec<Key>,
     values: Vec<Value>,
 ) -> Result<BTreeMap<Utf16, Value>, AllocError>
-    requires within { All (λ key. place_of key < length values.items) keys.now }
-    requires apart { IsDistinct (λ x y. x == y) (map place_of keys.now) }
-    requires ascend { IsStrictlySortedBy (slice_cmp nat_cmp) (map units_at keys.now) }
-    ensures pairs { IfOk result (λ pairs. pairs.entries ≡ map (pair_at values.items) keys.now) }
+    requires within { All (λ key. place_of key < length values.items) keys.items }
+    requires apart { IsDistinct (λ x y. x == y) (map place_of keys.items) }
+    requires ascend { IsStrictlySortedBy (slice_cmp nat_cmp) (map units_at keys.items) }
+    ensures pairs { IfOk result (λ pairs. pairs.entries ≡ map (pair_at values.items) keys.entry.items) }
     ensures ordered { IfOk result (λ pairs. IsStrictlySortedBy (slice_cmp nat_cmp) (keys_of pairs.entries)) }
 {
+    let mut keys = keys;
     let mut values = values;
     let mut pairs = BTreeMap::new(alloc);
-    for key in keys {
+    while let Some(key) = keys.pop() {
         let value = mem::replace(&mut values[key.place], Value::Flag(false));
         drop(pairs.insert(scalars::utf16(alloc, key.text)?, value)?);
     }

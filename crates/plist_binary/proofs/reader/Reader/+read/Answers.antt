@@ -1,4 +1,4 @@
-use Rattle.std.proofs.Common.{◌≡◌, ◌<◌, ◌≤◌, ◌+◌, ◌-◌, ◌++◌, ℕ, List, Ok, map, take, drop, length, rules, subst, sym, ap, ◌∙◌, ⊎_elim, arith}
+use Rattle.std.proofs.Common.{◌≡◌, ◌<◌, ◌≤◌, ◌+◌, ◌-◌, ◌++◌, ℕ, List, Ok, map, take, drop, length, rules, refl, subst, sym, ap, ◌∙◌, ⊎_elim, arith}
 use Rattle.std.specs.Prelude.{◌⊎◌, Result, Err}
 use Rattle.std.specs.Result.{IfOk, IfErr, OnOk}
 use Rattle.std.proofs.lemmas.List.{length-map, take_at}
@@ -45,7 +45,7 @@ IfErr_then : {T E : Type 0} (r : Result T E) (P R : E → Type 0) → ((e : E) �
 IfErr_then (Ok x) P R then p = tt
 IfErr_then (Err e) P R then p = then e p
 
--- the slice of a list that was sorted in place
+-- a list that was sorted in place
 seen_sorted : (n : ℕ) (keys written sorted seen : List Key) → n ≡ length keys → written ≡ keys → IsPermutation written sorted → seen ≡ take n (sorted ++ drop (length sorted) keys) → seen ≡ sorted
 seen_sorted n keys written sorted seen all first moved last =
     let long : length sorted ≡ length keys = length_permutation written sorted moved ∙ ap length first in
@@ -188,8 +188,8 @@ pairs-returns-clause-read t c =
     let values = numbers_of c.args.values in
     let long = length-values f c.args.table keys values c.requires.holds in
     let us = map units_at c.in_ok-keys.keys.items in
-    let sorted = c.as_slice.result.now in
-    let seen = seen_sorted c.in_ok-keys.keys.len c.in_ok-keys.keys.items c.as_mut_slice.result.now c.sort.new.keys sorted (omega (arith, c.in_ok-keys.keys.ok.0)) c.as_mut_slice.ensures.value c.sort.ensures.moved c.as_slice.ensures.value in
+    let sorted = take c.in_ok-keys.keys.len (c.sort.new.keys ++ drop (length c.sort.new.keys) c.in_ok-keys.keys.items) in
+    let seen = seen_sorted c.in_ok-keys.keys.len c.in_ok-keys.keys.items c.as_mut_slice.result.now c.sort.new.keys sorted (omega (arith, c.in_ok-keys.keys.ok.0)) c.as_mut_slice.ensures.value c.sort.ensures.moved refl in
     let moved = moved_between c.in_ok-keys.keys.items c.as_mut_slice.result.now c.sort.new.keys sorted c.as_mut_slice.ensures.value c.sort.ensures.moved seen in
     let both = as_many f keys values c.in_ok-keys.keys.items c.in_ok-values.values.items long c.in_ok-keys.ensures.read.spell c.in_ok-values.ensures.read.spell in
     let all = pairs_moved c.in_ok-keys.keys.items sorted c.in_ok-values.values.items c.in_ok-table.field-0.entries both c.in_ok-keys.ensures.placed moved c.in_ok-table.ensures.pairs in
@@ -201,8 +201,8 @@ pairs-table-requires t c =
     let keys = numbers_of c.args.keys in
     let values = numbers_of c.args.values in
     let long = length-values f c.args.table keys values c.requires.holds in
-    let sorted = c.as_slice.result.now in
-    let seen = seen_sorted c.in_ok-keys.keys.len c.in_ok-keys.keys.items c.as_mut_slice.result.now c.sort.new.keys sorted (omega (arith, c.in_ok-keys.keys.ok.0)) c.as_mut_slice.ensures.value c.sort.ensures.moved c.as_slice.ensures.value in
+    let sorted = take c.in_ok-keys.keys.len (c.sort.new.keys ++ drop (length c.sort.new.keys) c.in_ok-keys.keys.items) in
+    let seen = seen_sorted c.in_ok-keys.keys.len c.in_ok-keys.keys.items c.as_mut_slice.result.now c.sort.new.keys sorted (omega (arith, c.in_ok-keys.keys.ok.0)) c.as_mut_slice.ensures.value c.sort.ensures.moved refl in
     let moved = moved_between c.in_ok-keys.keys.items c.as_mut_slice.result.now c.sort.new.keys sorted c.as_mut_slice.ensures.value c.sort.ensures.moved seen in
     let both = as_many f keys values c.in_ok-keys.keys.items c.in_ok-values.values.items long c.in_ok-keys.ensures.read.spell c.in_ok-values.ensures.read.spell in
     record {
