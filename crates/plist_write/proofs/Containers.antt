@@ -47,7 +47,8 @@ module _ (v : Plist) (container : IsContainer v) (part : List Plist) (tree : pre
 
   below_ready : (old mid : Plan) (number : ℕ) → Begins old mid number → IsReady all k old → IsReady all (suc k) mid
   below_ready old mid number begins ready = record {
-    known = λ q. rw begins.numbers_kept (ready.known q ∙ sym (known-still all k _ (no_scalar _)));
+    numbered = rw (begins.scalars_kept, begins.numbers_kept) ready.numbered;
+    known = λ q. rw (begins.scalars_kept, begins.numbers_kept) (ready.known q ∙ sym (known-still all k _ (no_scalar _)));
     counted = ap length begins.slot_added.1 ∙ length-append old.slots.items _ ∙ add-one _ ∙ ap suc ready.counted ∙ sym (count-kept all k v here.0 here.1 own);
   }
 
@@ -66,7 +67,8 @@ module _ (v : Plist) (container : IsContainer v) (part : List Plist) (tree : pre
       adds.found ∙ ap (λ slots. held_by slots ++ found_in all (suc k) part) begins.slot_added.1 ∙ ap (λ hs. hs ++ found_in all (suc k) part) (map-append held_in old.slots.items (filler ∷ [])) ∙ append_assoc (held_by old.slots.items) (held_in filler ∷ []) (found_in all (suc k) part) in
       rw tree (record {
         ready = subst (λ (n : ℕ). IsReady all n new) moved (record {
-          known = λ q. rw finishes.numbers_kept (adds.ready.known q);
+          numbered = rw (finishes.scalars_kept, finishes.numbers_kept) adds.ready.numbered;
+          known = λ q. rw (finishes.scalars_kept, finishes.numbers_kept) (adds.ready.known q);
           counted = ap length finishes.slot_set ∙ length-set done.slots.items number filled_by ∙ adds.ready.counted;
         });
         found = ap held_by finishes.slot_set ∙ map-set done.slots.items number filled_by ∙ ap (λ hs. set hs number (held_in filled_by)) split ∙ set-behind (held_by old.slots.items) (found_in all (suc k) part) (held_in filler) (held_in filled_by) number before ∙ ap (λ h. held_by old.slots.items ++ (h ∷ found_in all (suc k) part)) holds ∙ ap (λ hs. held_by old.slots.items ++ hs) (sym found_is);

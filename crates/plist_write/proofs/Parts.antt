@@ -1,5 +1,5 @@
 -- A file is its parts, put one behind the other.
-use Rattle.std.proofs.Common.{◌≡◌, ℕ, ◌+◌, ◌<◌, ◌≤◌, get_or, List, [], ◌++◌, length, drop, refl, sym, ap, subst, ◌∙◌, append_assoc}
+use Rattle.std.proofs.Common.{◌≡◌, ℕ, ◌+◌, ◌<◌, ◌≤◌, get_or, List, [], ◌++◌, length, drop, refl, sym, ap, subst, ◌∙◌, append_assoc, length-append}
 use Rattle.std.specs.List.{concat}
 use Rattle.std.proofs.lemmas.List.{length-map, drop_all, drop_more, append-nil}
 use Rattle.plist_object.specs.Layout.{header}
@@ -7,7 +7,7 @@ use Rattle.plist_object.specs.Shortest.{spelling_of}
 use Rattle.plist_object.specs.Spelling.{least_width, references}
 use Rattle.plist_write.specs.Canonical.{starts, trailer_octets, file_of}
 use Rattle.plist_write.specs.Plan.{held_in, held_by}
-use Rattle.plist_write.specs.Pieces.{CanSpellAll, spelled}
+use Rattle.plist_write.specs.Pieces.{CanSpellAll, spelled, weight_of, weights}
 use Rattle.plist_write.specs.declared.plan.Slot.{Slot}
 
 -- nothing is left behind the end
@@ -36,10 +36,19 @@ file_of-parts slots width count place begun objects offsets whole is_width is_co
     let last = subst (λ (n : ℕ). whole ≡ offsets ++ trailer_octets n (8 + length (concat (spelled width slots)))) listed third in
     subst (λ (w : ℕ). whole ≡ file_of (spelled w slots)) is_width (joined (spelled width slots) begun objects offsets whole e0 e1 second last)
 
+-- the offset table stands behind the header and the objects
+pub place-parts : (slots : List Slot) (width : ℕ) (begun objects : List ℕ) (place : ℕ) → begun ≡ header → objects ≡ begun ++ concat (spelled width slots) → place ≡ length objects → place ≡ 8 + length (concat (spelled width slots))
+place-parts slots width begun objects place e0 e1 e2 =
+    e2 ∙ ap length (e1 ∙ ap (λ x. x ++ concat (spelled width slots)) e0) ∙ length-append header (concat (spelled width slots))
+
 -- one object more
 pub objects-more : (width : ℕ) (slots : List Slot) (i : ℕ) (slot : Slot) → slot ≡ get_or slots i slot → i < length slots → concat (spelled width (drop i slots)) ≡ spelling_of width (held_in slot) ++ concat (spelled width (drop (i + 1) slots))
 objects-more width slots i slot is h =
     ap (λ left. concat (spelled width left)) (drop_more slots i slot h) ∙ ap (λ s. spelling_of width (held_in s) ++ concat (spelled width (drop (i + 1) slots))) (sym is)
+
+pub weights-more : (slots : List Slot) (i : ℕ) (slot : Slot) → slot ≡ get_or slots i slot → i < length slots → weights (held_by (drop i slots)) ≡ weight_of (held_in slot) + weights (held_by (drop (i + 1) slots))
+weights-more slots i slot is h =
+    ap (λ left. weights (held_by left)) (drop_more slots i slot h) ∙ ap (λ s. weight_of (held_in s) + weights (held_by (drop (i + 1) slots))) (sym is)
 
 pub can_spell-more : (width : ℕ) (slots : List Slot) (i : ℕ) (slot : Slot) → i < length slots → CanSpellAll width (held_by (drop i slots)) → CanSpellAll width (held_by (drop (i + 1) slots))
 can_spell-more width slots i slot h all =

@@ -2,6 +2,8 @@
 use Rattle.std.proofs.Common.{◌≡◌, ℕ, suc, ◌+◌, ◌<◌, ◌≤◌, eqb, cond, true, false, List, [], ◌∷◌, ◌++◌, length, map, Some, None, refl, sym, ap, subst, ◌∙◌, inl, inr, arith, add-one, add-zero, length-append, append_assoc, lt-ltb}
 use Rattle.std.proofs.lemmas.Bool.{true≢false, le-ltb, eq-eqb, ne_eqb, cases_Bool, cases_lt}
 use Rattle.std.proofs.lemmas.List.{length-map, map-append, append-nil}
+use Rattle.std.specs.Ordering.{on}
+use Rattle.indexmap.specs.IndexSet.{insert_key}
 use Rattle.plist_value.specs.Plist.{Scalar, text, Plist, scalar, Items, item, Pairs, pair}
 use Rattle.plist_value.specs.Equality.{scalar_eq}
 use Rattle.plist_value.specs.EqualityLaws.{scalar_eq-Decides}
@@ -13,6 +15,7 @@ use Rattle.plist_write.specs.Sharing.{least_place, first_place, kept_from, kept_
 use Rattle.plist_write.specs.Plan.{Stands, held_at, held_in, held_by, number_in, found_in, number_known, number_held, IsReady, Adds, Walks, WalksTree, WalksScalar, WalksItems, WalksKeys, WalksValues, IsEmptyPlan}
 use Rattle.plist_write.specs.declared.plan.Plan.{Plan}
 use Rattle.plist_write.proofs.Numbering.{least_place-le, count_below-none}
+use Rattle.plist_write.proofs.Held.{insert_key-known, length-pushed, number-pushed}
 use Rattle.plist_write.proofs.Trees.{length-preorder, Stands-front, Stands-rest, Stands-head, Stands-all}
 use Rattle.plist_write.proofs.Counting.{count-kept, count-shared, least_place-at, known-still, known-now}
 
@@ -92,8 +95,8 @@ module _ (s : Scalar) (all : List Plist) (k : ℕ) (stands : Stands all k (scala
       ]
 
 -- a scalar that is known
-pub Walks-known : (r : ScalarRef) (plan : Plan) (n : ℕ) → number_held plan r ≡ Some n → WalksScalar (content_of r) plan plan n
-Walks-known r plan n held = record {
+pub Walks-known : (r : ScalarRef) (old new : Plan) (n : ℕ) → number_held old r ≡ Some n → new.scalars.keys ≡ insert_key (on content_of scalar_eq) old.scalars.keys r → new.numbers ≡ old.numbers → new.slots ≡ old.slots → WalksScalar (content_of r) old new n
+Walks-known r old new n held inserted same_numbers same_slots = record {
   numbered = λ all k stands ready.
       let known = known-before (content_of r) all k stands n (sym (ready.known r) ∙ held) in
       let is = number_is (content_of r) all k stands in
@@ -104,22 +107,24 @@ Walks-known r plan n held = record {
       let known = known-before s all k stands n (sym (ready.known r) ∙ held) in
       let at = here s all k stands in
       let below = known.0 in
+      let same_keys : new.scalars.keys ≡ old.scalars.keys = inserted ∙ insert_key-known old.scalars.keys old.numbers.items r n ready.numbered held in
       let apart : (q : ScalarRef) → least_place (content_of q) all ≡ k → ⊥ =
       λ q e. let same = same_scalar s all k stands (content_of q) e in let e2 : least_place s all ≡ k = rw same at e in omega arith in
       let later : least_place s all ≡ k → ⊥ = λ (e : least_place s all ≡ k). omega arith in
       record {
         ready = rw add-one (record {
-          known = λ q. ready.known q ∙ sym (known-still all k (content_of q) (apart q));
-          counted = ready.counted ∙ sym (count-shared all k (scalar s) at.0 at.1 below);
+          numbered = rw (same_numbers, same_keys) ready.numbered;
+          known = λ q. rw (same_numbers, same_keys) (ready.known q ∙ sym (known-still all k (content_of q) (apart q)));
+          counted = rw same_slots (ready.counted ∙ sym (count-shared all k (scalar s) at.0 at.1 below));
         });
-        found = rw (ne_eqb (least_place s all) k later) (sym (append-nil _));
+        found = rw (same_slots, ne_eqb (least_place s all) k later) (sym (append-nil _));
       };
-  longer = omega arith;
+  longer = rw same_slots (omega arith);
 }
 
 -- one that is new, which is put last
-pub Walks-new : (r : ScalarRef) (old new : Plan) (n : ℕ) → number_held old r ≡ None → n ≡ length old.slots.items → held_by new.slots.items ≡ held_by old.slots.items ++ (holds_scalar (content_of r) ∷ []) → ((q : ScalarRef) → number_held new q ≡ cond (scalar_eq (content_of r) (content_of q)) (Some n) (number_held old q)) → WalksScalar (content_of r) old new n
-Walks-new r old new n unknown last added knows =
+pub Walks-new : (r : ScalarRef) (old new : Plan) (n : ℕ) → number_held old r ≡ None → n ≡ length old.slots.items → held_by new.slots.items ≡ held_by old.slots.items ++ (holds_scalar (content_of r) ∷ []) → new.scalars.keys ≡ insert_key (on content_of scalar_eq) old.scalars.keys r → new.numbers.items ≡ old.numbers.items ++ (n ∷ []) → WalksScalar (content_of r) old new n
+Walks-new r old new n unknown last added inserted pushed =
     let s = content_of r in
     let long : length new.slots.items ≡ suc (length old.slots.items) =
     sym (length-map new.slots.items held_in) ∙ ap length added ∙ length-append (held_by old.slots.items) (holds_scalar s ∷ []) ∙ add-one _ ∙ ap suc (length-map old.slots.items held_in) in
@@ -133,6 +138,8 @@ Walks-new r old new n unknown last added knows =
           let first = unknown-first s all k stands (sym (ready.known r) ∙ unknown) in
           let at = here s all k stands in
           let number : n ≡ count_below k (kept_places all) = last ∙ ready.counted in
+          let knows : (q : ScalarRef) → number_held new q ≡ cond (scalar_eq s (content_of q)) (Some n) (number_held old q) =
+          λ q. rw (inserted, pushed) (number-pushed old.scalars.keys old.numbers.items r n q ready.numbered unknown) in
           let now : (q : ScalarRef) → number_held new q ≡ number_known all (suc k) (content_of q) =
           λ q. elim (cases_Bool (scalar_eq s (content_of q))) [
             | inl same ↦ (let e : s ≡ content_of q = (scalar_eq-Decides s (content_of q)).0 same in let firstq : least_place (content_of q) all ≡ k = ap (λ x. least_place x all) (sym e) ∙ first in knows q ∙ rw same (ap Some number) ∙ sym (known-now all k (content_of q) firstq))
@@ -140,6 +147,7 @@ Walks-new r old new n unknown last added knows =
           ] in
           record {
             ready = rw add-one (record {
+              numbered = rw (inserted, pushed) (length-pushed old.scalars.keys old.numbers.items r n ready.numbered unknown);
               known = now;
               counted = long ∙ ap suc ready.counted ∙ sym (count-kept all k (scalar s) at.0 at.1 first);
             });
@@ -173,6 +181,7 @@ pub Walks-whole : (v : Plist) (empty done : Plan) (n : ℕ) → IsEmptyPlan empt
 Walks-whole v empty done n nothing walks =
     let all = preorder v in
     let start : IsReady all 0 empty = record {
+      numbered = nothing.numbered;
       known = λ q. nothing.unknown q ∙ rw (le-ltb (least_place (content_of q) all) 0 (omega arith)) refl;
       counted = ap length nothing.none ∙ sym (count_below-none all all 0 0 (omega arith));
     } in

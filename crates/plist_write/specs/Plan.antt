@@ -1,7 +1,7 @@
 -- The walk that numbers the objects of a tree, place by place.
-use Rattle.std.specs.Prelude.{◌≡◌, ℕ, suc, ◌+◌, ◌≤◌, nat_lt, if◌then◌else◌, List, [], ◌∷◌, ◌++◌, length, map, slice_set, Option, Some, None}
+use Rattle.std.specs.Prelude.{◌≡◌, ℕ, suc, ◌+◌, ◌≤◌, nat_lt, if◌then◌else◌, List, [], ◌∷◌, ◌++◌, length, map, slice_get, slice_set, Option, Some, None}
 use Rattle.std.specs.Ordering.{on}
-use Rattle.indexmap.specs.IndexMap.{get}
+use Rattle.indexmap.specs.IndexSet.{insert_index}
 use Rattle.plist_value.specs.Plist.{Scalar, Plist, scalar, list, table, Items, Pairs}
 use Rattle.plist_value.specs.Equality.{scalar_eq}
 use Rattle.plist_value.specs.Scalars.{content_of}
@@ -49,17 +49,23 @@ abbrev pub number_known : List Plist → ℕ → Scalar → Option ℕ
 number_known all k s =
     let first = least_place s all in if nat_lt first k then Some (count_below first (kept_places all)) else None
 
--- the number under which a scalar is found, if it is
+-- the number under which a scalar is found, if it is: the one at its index in the set
 abbrev pub number_held : Plan → ScalarRef → Option ℕ
-number_held plan s = get (on content_of scalar_eq) plan.numbers s
+number_held plan s = slice_get plan.numbers.items (insert_index (on content_of scalar_eq) plan.scalars s)
+
+-- there is a number for each scalar of the set
+abbrev pub IsNumbered : Plan → Type 0
+IsNumbered plan = length plan.numbers.items ≡ length plan.scalars.keys
 
 -- nothing was found
 pub record IsEmptyPlan (plan : Plan) : Type 0 where
+  pub numbered : IsNumbered plan
   pub unknown : (s : ScalarRef) → number_held plan s ≡ None
   pub none : plan.slots.items ≡ []
 
 -- the places below k are done: each scalar there is known by its number, and so many objects were found
 pub record IsReady (all : List Plist) (k : ℕ) (plan : Plan) : Type 0 where
+  pub numbered : IsNumbered plan
   pub known : (s : ScalarRef) → number_held plan s ≡ number_known all k (content_of s)
   pub counted : length plan.slots.items ≡ count_below k (kept_places all)
 
@@ -95,9 +101,11 @@ WalksValues ps = Walks (preorder_values ps) (λ k. value_places k ps)
 -- One more slot, of the number; what it holds comes later.
 pub record Begins (old new : Plan) (number : ℕ) : Type 0 where
   pub number_is : number ≡ length old.slots.items
+  pub scalars_kept : new.scalars ≡ old.scalars
   pub numbers_kept : new.numbers ≡ old.numbers
   pub slot_added : (filler : Slot) × (new.slots.items ≡ old.slots.items ++ (filler ∷ []))
 
 pub record Finishes (number : ℕ) (filled : Slot) (old new : Plan) : Type 0 where
+  pub scalars_kept : new.scalars ≡ old.scalars
   pub numbers_kept : new.numbers ≡ old.numbers
   pub slot_set : new.slots.items ≡ slice_set old.slots.items number filled

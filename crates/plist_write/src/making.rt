@@ -7,7 +7,7 @@ ghost use Rattle.plist_object.specs.Spelling.{least_width};
 ghost use Rattle.plist_write.specs.Pieces.{IsPlan, spelled};
 
 use crate::plan::Slot;
-use crate::putting::{put_offsets, put_slot, put_trailer, table_place};
+use crate::putting::{put_offsets, put_slot, put_trailer};
 use crate::walk::slots_of;
 use plist_object::width_of;
 use plist_value::Value;
@@ -35,11 +35,11 @@ fn file_of_slots(alloc: Global, slots: &[Slot]) -> Result<Vec<u8>, AllocError>
 {
     let count = slots.len() as u64;
     let width = width_of(count);
-    let place = table_place(width, slots);
     let mut out = Vec::from_slice(alloc, b"bplist00")?;
     for slot in slots {
         put_slot(&mut out, width, slot)?;
     }
+    let place = out.len() as u64;
     put_offsets(&mut out, width_of(place), width, slots, 8)?;
     put_trailer(&mut out, count, place)?;
     Ok(out)

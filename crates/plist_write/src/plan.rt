@@ -2,9 +2,9 @@
 ghost use Rattle.std.specs.Prelude.{◌≡◌, ◌<◌, ℕ, List, length, map, IfOk};
 ghost use Rattle.plist_value.specs.Plist.{Plist};
 ghost use Rattle.plist_value.specs.Scalars.{content_of};
-ghost use Rattle.plist_write.specs.Plan.{number_held, WalksScalar, Begins, Finishes, IsEmptyPlan};
+ghost use Rattle.plist_write.specs.Plan.{WalksScalar, Begins, Finishes, IsEmptyPlan};
 
-use indexmap::IndexMap;
+use indexmap::IndexSet;
 use plist_value::ScalarRef;
 use std::alloc::{AllocError, Global};
 
@@ -16,10 +16,11 @@ pub(crate) enum Slot<'a> {
     Table(Vec<u64>, Vec<u64>),
 }
 
-/// The objects so far, and the numbers of the scalars among them.
+/// The objects so far, the scalars among them, and their numbers.
 #[derive(Drop)]
 pub(crate) struct Plan<'a> {
-    numbers: IndexMap<ScalarRef<'a>, u64>,
+    scalars: IndexSet<ScalarRef<'a>>,
+    numbers: Vec<u64>,
     slots: Vec<Slot<'a>>,
 }
 
@@ -28,7 +29,8 @@ impl<'a> Plan<'a> {
         ensures { IsEmptyPlan result }
     {
         Plan {
-            numbers: IndexMap::new(alloc),
+            scalars: IndexSet::new(alloc),
+            numbers: Vec::new(alloc),
             slots: Vec::new(alloc),
         }
     }
@@ -39,24 +41,17 @@ impl<'a> Plan<'a> {
         self.slots
     }
 
-    /// The number of a scalar: that of an equal one, or a new one.
+    /// The number of a scalar: that of an equal one, or a new one where the set did not have it.
     pub(crate) fn scalar(&mut self, scalar: ScalarRef<'a>) -> Result<u64, AllocError>
         ensures { IfOk result (WalksScalar (content_of scalar.entry) self.old self.new) }
     {
-        match self.numbers.get(&scalar) {
-            Some(number) => Ok(*number),
-            None => self.add(scalar),
+        let (index, _) = self.scalars.insert_full(scalar)?;
+        if let Some(number) = self.numbers.get(index) {
+            return Ok(*number);
         }
-    }
-
-    // The number of a scalar that has none yet.
-    fn add(&mut self, scalar: ScalarRef<'a>) -> Result<u64, AllocError>
-        requires { number_held self.old scalar ≡ None }
-        ensures { IfOk result (WalksScalar (content_of scalar.entry) self.old self.new) }
-    {
         let number = self.slots.len() as u64;
+        self.numbers.push(number)?;
         self.slots.push(Slot::Scalar(scalar))?;
-        self.numbers.insert(scalar, number)?;
         Ok(number)
     }
 

@@ -19,69 +19,55 @@ use plist_object::{
 use plist_value::ScalarRef;
 use std::alloc::AllocError;
 
-/// How many octets the object has.
-pub(crate) fn slot_length(width: u8, slot: &Slot) -> u64
+// How many octets the object has.
+fn slot_length(width: u8, slot: &Slot) -> u64
     requires width { IsWidth width }
-    requires narrow { width ≤ 4 }
     requires spellable { CanSpell width (held_in slot.now) }
-    ensures length { result ≡ length (spelling_of width (held_in slot.now)) }
-    ensures light { result ≤ weight_of (held_in slot.now) }
+    ensures { result ≡ length (spelling_of width (held_in slot.now)) }
 {
     match slot {
-        Slot::Scalar(scalar) => light_length(scalar),
+        Slot::Scalar(scalar) => scalar_length(scalar),
         Slot::List(refs) => list_length(refs.len() as u64, width),
         Slot::Table(keys, _) => table_length(keys.len() as u64, width),
     }
 }
 
-fn light_length(scalar: &ScalarRef) -> u64
-    requires { IsSmall (content_of scalar.now) }
-    ensures length { result ≡ length (scalar_spelling (content_of scalar.now)) }
-    ensures light { result ≤ 17 + payload_of_scalar (content_of scalar.now) }
-{
-    match scalar {
-        ScalarRef::Real4(octets) => fixed_length(octets),
-        ScalarRef::Real8(octets) | ScalarRef::Moment(octets) => fixed_length(octets),
-        ScalarRef::Text(_) => scalar_length(scalar),
-        ScalarRef::Bytes(_) | ScalarRef::Whole(_) | ScalarRef::Flag(_) => scalar_length(scalar),
-    }
-}
-
-// A marker, and so many octets behind it.
-fn fixed_length(octets: &[u8]) -> u64
-    requires { length octets.now ≤ 8 }
-    ensures { result ≡ 1 + length octets.now }
-{
-    1 + octets.len() as u64
-}
-
-/// The place of the offset table, which stands behind the objects.
-pub(crate) fn table_place(width: u8, slots: &[Slot]) -> u64
-    requires width { IsWidth width }
-    requires narrow { width ≤ 4 }
-    requires spellable { CanSpellAll width (held_by slots.now) }
-    requires light { 8 + weights (held_by slots.now) < 2 ^ 64 }
-    ensures place { result ≡ 8 + length (concat (spelled width slots.now)) }
-    ensures light { result ≤ 8 + weights (held_by slots.now) }
-{
-    let mut place = 8;
-    for slot in slots {
-        place += slot_length(width, slot);
-    }
-    place
-}
-
 /// The object, behind the octets of `out`.
 pub(crate) fn put_slot(out: &mut Vec<u8>, width: u8, slot: &Slot) -> Result<(), AllocError>
     requires width { IsWidth width }
+    requires narrow { width ≤ 4 }
     requires spellable { CanSpell width (held_in slot.now) }
-    ensures { OnOk result (out.new.items ≡ out.old.items ++ spelling_of width (held_in slot.now)) }
+    ensures octets { OnOk result (out.new.items ≡ out.old.items ++ spelling_of width (held_in slot.now)) }
+    ensures light { length (spelling_of width (held_in slot.now)) ≤ weight_of (held_in slot.now) }
 {
     match slot {
-        Slot::Scalar(scalar) => put_scalar(out, scalar),
+        Slot::Scalar(scalar) => {
+            weigh(scalar);
+            put_scalar(out, scalar)
+        }
         Slot::List(refs) => put_list(out, width, refs),
         Slot::Table(keys, values) => put_table(out, width, keys, values),
     }
+}
+
+// Shows, and does nothing else, that a scalar has at most 17 octets beside its payload.
+fn weigh(scalar: &ScalarRef)
+    requires { IsSmall (content_of scalar.now) }
+    ensures { length (scalar_spelling (content_of scalar.now)) ≤ 17 + payload_of_scalar (content_of scalar.now) }
+{
+    match scalar {
+        ScalarRef::Real4(octets) => at_most_8(octets),
+        ScalarRef::Real8(octets) | ScalarRef::Moment(octets) => at_most_8(octets),
+        ScalarRef::Text(_) => (),
+        ScalarRef::Bytes(_) | ScalarRef::Whole(_) | ScalarRef::Flag(_) => (),
+    }
+}
+
+// Shows that a real or a moment has at most 8 octets.
+fn at_most_8(octets: &[u8])
+    requires { length octets.now ≤ 8 }
+    ensures { length octets.now ≤ 8 }
+{
 }
 
 /// The offsets of these objects, of which the first begins at the place, behind the octets of `out`. It
@@ -94,7 +80,6 @@ pub(crate) fn put_offsets(
     place: u64,
 ) -> Result<u64, AllocError>
     requires width { IsWidth width }
-    requires narrow { width ≤ 4 }
     requires offset_width { IsWidth offset_width }
     requires spellable { CanSpellAll width (held_by slots.now) }
     requires fits { place + length (concat (spelled width slots.now)) < 256 ^ offset_width }

@@ -1,5 +1,5 @@
 //! The canonical file of a value, sent object after object.
-ghost use Rattle.std.specs.Prelude.{◌≡◌, ◌+◌, ◌*◌, ◌<◌, ◌≤◌, ◌^◌, ◌++◌, length};
+ghost use Rattle.std.specs.Prelude.{◌≡◌, ◌+◌, ◌*◌, ◌<◌, ◌≤◌, ◌^◌, ◌++◌, length, IfOk};
 ghost use Rattle.std.specs.List.{concat};
 ghost use Rattle.plist_value.specs.Limits.{Fits};
 ghost use Rattle.plist_value.specs.View.{view};
@@ -7,12 +7,12 @@ ghost use Rattle.plist_object.specs.Sizes.{IsWidth};
 ghost use Rattle.plist_object.specs.Spelling.{least_width, references};
 ghost use Rattle.plist_write.specs.Canonical.{canon, file_of, starts, trailer_octets};
 ghost use Rattle.plist_write.specs.Plan.{held_by};
-ghost use Rattle.plist_write.specs.Pieces.{CanSpellAll, IsPlan, spelled};
+ghost use Rattle.plist_write.specs.Pieces.{CanSpellAll, IsPlan, spelled, weights};
 ghost use Rattle.plist_write.specs.Sending.{IsWritten, Sends, write_code};
 
 use crate::Sink;
 use crate::plan::Slot;
-use crate::putting::{put_offsets, put_slot, put_trailer, table_place};
+use crate::putting::{put_offsets, put_slot, put_trailer};
 use crate::walk::slots_of;
 use plist_object::width_of;
 use plist_value::Value;
@@ -73,10 +73,9 @@ fn send_file<W: Sink>(alloc: Global, slots: &[Slot], out: &mut W) -> Result<u64,
         (W.failures out.old) (W.failures out.new) result }
 {
     let width = width_of(slots.len() as u64);
-    let place = table_place(width, slots);
     let sent = send(b"bplist00", 0, out)?;
-    let sent = send_objects(alloc, width, slots, sent, out)?;
-    let sent = send_offsets(alloc, width_of(place), width, slots, sent, out)?;
+    let place = send_objects(alloc, width, slots, sent, out)?;
+    let sent = send_offsets(alloc, width_of(place), width, slots, place, out)?;
     send_trailer(alloc, slots.len() as u64, place, sent, out)
 }
 
@@ -89,10 +88,12 @@ fn send_objects<W: Sink>(
     out: &mut W,
 ) -> Result<u64, WriteFault>
     requires width { IsWidth width }
+    requires narrow { width ≤ 4 }
     requires spellable { CanSpellAll width (held_by slots.now) }
-    requires room { sent + length (concat (spelled width slots.now)) < 2 ^ 64 }
-    ensures { Sends (concat (spelled width slots.now)) sent (W.taken out.old) (W.taken out.new)
+    requires room { sent + weights (held_by slots.now) < 2 ^ 64 }
+    ensures sends { Sends (concat (spelled width slots.now)) sent (W.taken out.old) (W.taken out.new)
         (W.failures out.old) (W.failures out.new) result }
+    ensures light { IfOk result (λ after. after ≤ sent + weights (held_by slots.now)) }
 {
     let mut sent = sent;
     let mut object = Vec::new(alloc);
@@ -116,7 +117,6 @@ fn send_offsets<W: Sink>(
     out: &mut W,
 ) -> Result<u64, WriteFault>
     requires width { IsWidth width }
-    requires narrow { width ≤ 4 }
     requires offset_width { IsWidth offset_width }
     requires spellable { CanSpellAll width (held_by slots.now) }
     requires fits { 8 + length (concat (spelled width slots.now)) < 256 ^ offset_width }
