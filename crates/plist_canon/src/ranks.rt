@@ -1,8 +1,8 @@
 //! The order of the texts that tables name as keys, told by numbers.
-ghost use Rattle.std.specs.Prelude.{◌≡◌, ◌<◌, ◌≤◌, All, IfOk, IfSome, OnOk};
+ghost use Rattle.std.specs.Prelude.{◌≡◌, ◌<◌, All, IfOk, OnOk};
 ghost use Rattle.std.specs.List.Sorted.{IsSorted};
 ghost use Rattle.plist_object.specs.Layout.{trailer_of};
-ghost use Rattle.plist_object.specs.Views.{numbers_of, octets_of};
+ghost use Rattle.plist_object.specs.Views.{octets_of};
 ghost use Rattle.plist_canon.specs.Ranks.{HoldsKey, AreKeys, AreRanks, in_order, rank_of};
 
 use crate::objects::text_of;
