@@ -1,2 +1,4 @@
+pub mod CommandLine
+pub mod CommandRows
 pub mod Rows
 pub mod Taken

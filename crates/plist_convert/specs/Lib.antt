@@ -7,6 +7,7 @@ pub mod Place
 pub mod ReaderSource
 pub mod Source
 pub mod Verdicts
+pub mod CommandLine
 pub mod Accepted
 pub mod Laws
 pub mod Refusals

@@ -1,6 +1,8 @@
 //! The program `plistconv`, over any files, input and output.
-ghost use Rattle.std.specs.Prelude.{◌≡◌, ◌<◌, ◌≤◌, ◌⊎◌, length, IfOk, IfSome, OnOk};
+ghost use Rattle.std.specs.Prelude.{◌≡◌, ◌<◌, ◌≤◌, ◌⊎◌, length, map, IfOk, IfSome, OnOk};
+ghost use Rattle.clap.specs.Words.{kind_of};
 ghost use Rattle.plist_convert.specs.Accepted.{IsCanonicalOf};
+ghost use Rattle.plist_convert.specs.CommandLine.{EndsAsRead, status_of_kind};
 ghost use Rattle.plist_convert.specs.Filter.{Filters};
 
 use crate::sending::send;
@@ -48,6 +50,8 @@ pub fn run<R: Files, I: Read, O: Write>(
     // Without words the canonical file of the input went out, where the status says so.
     ensures filtered { length words.now < 2 → result ≡ 0
         → Filters (I.remaining input.old) (O.contents output.old) (O.contents output.new) }
+    // Words that are refused, or ask for help, decide the status.
+    ensures words { 2 ≤ length words.now → EndsAsRead (map (λ word. word.now) words.now) result }
 {
     match read_words(alloc, words) {
         Ok(Request::Filter) => filter(alloc, input, output),
@@ -162,15 +166,14 @@ fn report<O: Write>(alloc: Global, path: &str, fault: &Fault, output: &mut O) ->
 }
 
 fn report_no_memory<O: Write>(output: &mut O) -> u8
-    ensures not_done { 0 < result }
-    ensures status { result ≤ 5 }
+    ensures { (result ≡ NO_MEMORY) ⊎ (result ≡ NOT_PRINTED) }
 {
     print(output, "refused 60 OutOfMemory\n", NO_MEMORY)
 }
 
 /// Prints what `clap` says of the words, and answers the status.
 fn explain<O: Write>(error: &Error, output: &mut O) -> u8
-    ensures { result ≤ 5 }
+    ensures { (result ≡ status_of_kind (kind_of error.now)) ⊎ (result ≡ NOT_PRINTED) }
 {
     match error.kind() {
         ErrorKind::OutOfMemory => report_no_memory(output),
