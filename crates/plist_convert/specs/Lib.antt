@@ -4,6 +4,7 @@ pub mod Line
 pub mod ListSource
 pub mod Load
 pub mod Place
+pub mod Printed
 pub mod ReaderSource
 pub mod Source
 pub mod Verdicts
