@@ -1,5 +1,5 @@
 //! The program `plistconv`, over any files, input and output.
-ghost use Rattle.std.specs.Prelude.{◌≡◌, ◌<◌, ◌≤◌, ◌⊎◌, length, map, IfErr, IfOk, IfSome, OnOk};
+ghost use Rattle.std.specs.Prelude.{◌≡◌, ◌≢◌, ◌<◌, ◌≤◌, ◌⊎◌, length, map, IfErr, IfOk, IfSome, OnOk};
 ghost use Rattle.std.specs.Io.KnownBytes.{Appends};
 ghost use Rattle.clap.specs.Words.{kind_of};
 ghost use Rattle.plist_convert.specs.Accepted.{IsCanonicalOf};
@@ -57,6 +57,7 @@ pub fn run<R: Files, I: Read, O: Write>(
         → Filters (I.remaining input.old) (O.contents output.old) (O.contents output.new) }
     // Words that are refused, or ask for help, decide the status.
     ensures words { 2 ≤ length words.now → EndsAsRead (map (λ word. word.now) words.now) result }
+    ensures bad_words { result ≡ BAD_WORDS → 2 ≤ length words.now }
     // A file that is not canonical, and an input that is refused, are told by one line.
     ensures broken { result ≡ 1 → PrintsBroken (O.contents output.old) (O.contents output.new) }
     ensures refused { result ≡ 2 → PrintsRefusal (O.contents output.old) (O.contents output.new) }
@@ -74,6 +75,7 @@ fn filter<I: Read, O: Write>(alloc: Global, input: &mut I, output: &mut O) -> u8
     ensures status { result ≤ 5 }
     ensures filtered { result ≡ 0
         → Filters (I.remaining input.old) (O.contents output.old) (O.contents output.new) }
+    ensures understood { result ≢ BAD_WORDS }
     ensures broken { result ≡ 1 → PrintsBroken (O.contents output.old) (O.contents output.new) }
     ensures refused { result ≡ 2 → PrintsRefusal (O.contents output.old) (O.contents output.new) }
 {
