@@ -4,9 +4,11 @@ pub mod Line
 pub mod ListSource
 pub mod Load
 pub mod Place
+pub mod Printed
 pub mod ReaderSource
 pub mod Source
 pub mod Verdicts
+pub mod CommandLine
 pub mod Accepted
 pub mod Laws
 pub mod Refusals

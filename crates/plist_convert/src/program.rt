@@ -1,9 +1,16 @@
 //! The program `plistconv`, over any files, input and output.
-ghost use Rattle.std.specs.Prelude.{◌≡◌, ◌<◌, ◌≤◌, ◌⊎◌, length, IfOk, IfSome, OnOk};
+ghost use Rattle.std.specs.Prelude.{◌≡◌, ◌≢◌, ◌<◌, ◌≤◌, ◌⊎◌, length, map, IfErr, IfOk, IfSome, OnOk};
+ghost use Rattle.std.specs.Io.KnownBytes.{Appends};
+ghost use Rattle.clap.specs.Words.{kind_of};
 ghost use Rattle.plist_value.specs.Limits.{Fits};
 ghost use Rattle.plist_value.specs.View.{view};
 ghost use Rattle.plist_convert.specs.Accepted.{IsAccepted, IsCanonicalOf};
+ghost use Rattle.plist_convert.specs.CommandLine.{EndsAsRead, status_of_kind};
+ghost use Rattle.plist_convert.specs.Fault.{code_of, status_for};
 ghost use Rattle.plist_convert.specs.Filter.{Filters};
+ghost use Rattle.plist_convert.specs.Line.{line_of};
+ghost use Rattle.plist_convert.specs.Printed.{PrintsBroken, PrintsRefusal, Says};
+ghost use Rattle.plist_convert.specs.Verdicts.{verdict_status_for, verdict_text};
 
 use crate::sending::send;
 use crate::verdicts::{verdict_line, verdict_status};
@@ -52,6 +59,12 @@ pub fn run<R: Files, I: Read, O: Write>(
     // Without words the canonical file of the input went out, where the status says so.
     ensures filtered { length words.now < 2 → result ≡ 0
         → Filters (I.remaining input.old) (O.contents output.old) (O.contents output.new) }
+    // Words that are refused, or ask for help, decide the status.
+    ensures words { 2 ≤ length words.now → EndsAsRead (map (λ word. word.now) words.now) result }
+    ensures bad_words { result ≡ BAD_WORDS → 2 ≤ length words.now }
+    // A file that is not canonical, and an input that is refused, are told by one line.
+    ensures broken { result ≡ 1 → PrintsBroken (O.contents output.old) (O.contents output.new) }
+    ensures refused { result ≡ 2 → PrintsRefusal (O.contents output.old) (O.contents output.new) }
 {
     match read_words(alloc, words) {
         Ok(Request::Filter) => filter(alloc, input, output),
@@ -66,6 +79,9 @@ fn filter<I: Read, O: Write>(alloc: Global, input: &mut I, output: &mut O) -> u8
     ensures status { result ≤ 5 }
     ensures filtered { result ≡ 0
         → Filters (I.remaining input.old) (O.contents output.old) (O.contents output.new) }
+    ensures understood { result ≢ BAD_WORDS }
+    ensures broken { result ≡ 1 → PrintsBroken (O.contents output.old) (O.contents output.new) }
+    ensures refused { result ≡ 2 → PrintsRefusal (O.contents output.old) (O.contents output.new) }
 {
     match send_canonical(alloc, input, output) {
         Ok(()) => DONE,
@@ -78,7 +94,9 @@ fn send_canonical<I: Read, O: Write>(
     input: &mut I,
     output: &mut O,
 ) -> Result<(), Fault>
-    ensures { OnOk result (Filters (I.remaining input.old) (O.contents output.old) (O.contents output.new)) }
+    ensures sent { OnOk result (Filters (I.remaining input.old) (O.contents output.old) (O.contents output.new)) }
+    ensures kept { IfErr result (λ fault. status_for (code_of fault) ≡ 2
+        → O.contents output.new ≡ O.contents output.old) }
 {
     let file = canonical_of(alloc, input)?;
     send(output, file.as_slice())
@@ -92,7 +110,9 @@ fn convert_binary1<R: Files, O: Write>(
     to: &str,
     output: &mut O,
 ) -> u8
-    ensures { result ≤ 5 }
+    ensures status { result ≤ 5 }
+    ensures broken { result ≡ 1 → PrintsBroken (O.contents output.old) (O.contents output.new) }
+    ensures refused { result ≡ 2 → PrintsRefusal (O.contents output.old) (O.contents output.new) }
 {
     let file = match canonical_at(rt, alloc, from) {
         Ok(file) => file,
@@ -106,7 +126,9 @@ fn convert_binary1<R: Files, O: Write>(
 
 /// Whether the file at the path is canonical.
 fn check_file<R: Files, O: Write>(rt: &R, alloc: Global, path: &str, output: &mut O) -> u8
-    ensures { result ≤ 5 }
+    ensures status { result ≤ 5 }
+    ensures broken { result ≡ 1 → PrintsBroken (O.contents output.old) (O.contents output.new) }
+    ensures refused { result ≡ 2 → PrintsRefusal (O.contents output.old) (O.contents output.new) }
 {
     match verdict_at(rt, alloc, path) {
         Ok(verdict) => tell(alloc, verdict, output),
@@ -156,7 +178,9 @@ fn put<R: Files>(rt: &R, path: &str, octets: &[u8]) -> Result<(), Fault> {
 
 /// Prints the line of a verdict, and answers its status.
 fn tell<O: Write>(alloc: Global, verdict: Verdict, output: &mut O) -> u8
-    ensures { result ≤ 5 }
+    ensures status { result ≤ 5 }
+    ensures says { Says (O.contents output.old) (O.contents output.new) (verdict_text verdict)
+        (verdict_status_for verdict) result }
 {
     match verdict_line(alloc, verdict) {
         Ok(text) => print(output, format_args!("{text}\n"), verdict_status(verdict)),
@@ -168,6 +192,8 @@ fn tell<O: Write>(alloc: Global, verdict: Verdict, output: &mut O) -> u8
 fn report<O: Write>(alloc: Global, path: &str, fault: &Fault, output: &mut O) -> u8
     ensures not_done { 0 < result }
     ensures status { result ≤ 5 }
+    ensures says { Says (O.contents output.old) (O.contents output.new) (line_of path.now fault.now)
+        (status_for (code_of fault.now)) result }
 {
     match line(alloc, path, fault) {
         Ok(text) => print(output, format_args!("{text}\n"), fault.status()),
@@ -176,15 +202,14 @@ fn report<O: Write>(alloc: Global, path: &str, fault: &Fault, output: &mut O) ->
 }
 
 fn report_no_memory<O: Write>(output: &mut O) -> u8
-    ensures not_done { 0 < result }
-    ensures status { result ≤ 5 }
+    ensures { (result ≡ NO_MEMORY) ⊎ (result ≡ NOT_PRINTED) }
 {
     print(output, "refused 60 OutOfMemory\n", NO_MEMORY)
 }
 
 /// Prints what `clap` says of the words, and answers the status.
 fn explain<O: Write>(error: &Error, output: &mut O) -> u8
-    ensures { result ≤ 5 }
+    ensures { (result ≡ status_of_kind (kind_of error.now)) ⊎ (result ≡ NOT_PRINTED) }
 {
     match error.kind() {
         ErrorKind::OutOfMemory => report_no_memory(output),
@@ -195,7 +220,8 @@ fn explain<O: Write>(error: &Error, output: &mut O) -> u8
 
 /// Prints the text, and answers the status, or that a line could not be printed.
 fn print<O: Write, D: Display + Drop>(output: &mut O, text: D, status: u8) -> u8
-    ensures { (result ≡ status) ⊎ (result ≡ NOT_PRINTED) }
+    ensures { ((result ≡ status) × IfSome (D.output text) (Appends (O.contents output.old) (O.contents output.new)))
+        ⊎ (result ≡ NOT_PRINTED) }
 {
     match write!(output, "{text}") {
         Ok(()) => status,

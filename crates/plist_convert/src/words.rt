@@ -1,5 +1,7 @@
 //! What the words on the command line ask for.
-ghost use Rattle.std.specs.Prelude.{◌≡◌, ◌<◌, length, Ok};
+ghost use Rattle.std.specs.Prelude.{◌≡◌, ◌<◌, ◌≤◌, length, map, IfOk, Ok};
+ghost use Rattle.clap.specs.Words.{app_of};
+ghost use Rattle.plist_convert.specs.CommandLine.{IsConvert, IsProgram, IsReading, check as check_line};
 
 use clap::error::ErrorKind;
 use clap::{Arg, ArgMatches, Command, Error};
@@ -68,6 +70,7 @@ Example: plistconv check Info.plist";
 /// help, are an error with the text to print.
 pub(crate) fn read_words<'a>(alloc: Global, words: &'a [&'a str]) -> Result<Request<'a>, Error>
     ensures filter { length words.now < 2 → result ≡ Ok Request.Filter }
+    ensures reading { 2 ≤ length words.now → IsReading (map (λ word. word.now) words.now) result }
 {
     if words.len() < 2 {
         return Ok(Request::Filter);
@@ -93,7 +96,9 @@ fn found<'a>(matches: &ArgMatches<'a>) -> Option<Request<'a>> {
     }
 }
 
-fn command<'a>(alloc: Global) -> Result<Command<'a>, AllocError> {
+fn command<'a>(alloc: Global) -> Result<Command<'a>, AllocError>
+    ensures { IfOk result (λ command. IsProgram (app_of command)) }
+{
     Command::new(alloc, "plistconv")
         .version("0.1.0")
         .about(ABOUT)
@@ -103,7 +108,9 @@ fn command<'a>(alloc: Global) -> Result<Command<'a>, AllocError> {
         .subcommand(check(alloc)?)
 }
 
-fn convert<'a>(alloc: Global) -> Result<Command<'a>, AllocError> {
+fn convert<'a>(alloc: Global) -> Result<Command<'a>, AllocError>
+    ensures { IfOk result (λ command. IsConvert (app_of command)) }
+{
     let form = Arg::new(alloc, "FORM")
         .required(true)
         .value_parser(FORMS.as_slice())
@@ -122,7 +129,9 @@ fn convert<'a>(alloc: Global) -> Result<Command<'a>, AllocError> {
         .arg(to)
 }
 
-fn check<'a>(alloc: Global) -> Result<Command<'a>, AllocError> {
+fn check<'a>(alloc: Global) -> Result<Command<'a>, AllocError>
+    ensures { IfOk result (λ command. app_of command ≡ check_line) }
+{
     let path = Arg::new(alloc, "IN")
         .required(true)
         .help("The file to read");

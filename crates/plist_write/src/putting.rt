@@ -67,8 +67,7 @@ fn weigh(scalar: &ScalarRef)
 fn at_most_8(octets: &[u8])
     requires { length octets.now ≤ 8 }
     ensures { length octets.now ≤ 8 }
-{
-}
+{}
 
 /// The offsets of these objects, of which the first begins at the place, behind the octets of `out`. It
 /// answers the place behind the last of them.
