@@ -1,6 +1,6 @@
 -- What is left of a budget of nodes and payload.
 use Rattle.std.specs.Prelude.{◌≡◌, ℕ, ◌+◌, ◌≤◌}
-use Rattle.plist_value.specs.declared.limits.Budget.{Budget}
+use Rattle.plist_value.specs.declared.budget.Budget.{Budget}
 
 -- the second budget is the first less so many nodes and so much payload
 pub record Spends (before : Budget) (nodes payload : ℕ) (after : Budget) : Type 0 where
@@ -10,3 +10,8 @@ pub record Spends (before : Budget) (nodes payload : ℕ) (after : Budget) : Typ
 -- so many nodes or so much payload is more than the budget has
 abbrev pub IsOver : Budget → ℕ → ℕ → Type 0
 IsOver before nodes payload = nodes ≤ before.nodes → payload ≤ before.payload → ⊥
+
+-- so many nodes and so much payload are within the budget
+pub record Affords (left : Budget) (nodes payload : ℕ) : Type 0 where
+  pub nodes_there : nodes ≤ left.nodes
+  pub payload_there : payload ≤ left.payload

@@ -1,6 +1,7 @@
 //! The values that property lists spell, and how large they may be.
 #![tactic(auto)]
 
+pub mod budget;
 pub mod copies;
 pub mod equal;
 pub mod laws;
@@ -11,6 +12,7 @@ pub mod utf16;
 pub mod value;
 pub mod whole;
 
+pub use budget::Budget;
 pub use copies::copy;
 pub use equal::same;
 pub use limits::fits;

@@ -1,3 +1,4 @@
+//! Scalars that are borrowed.
 ghost use Rattle.std.specs.Prelude.{◌≡◌, ◌↔◌, IsSome, IsNone, IfSome, fold, ◌++◌, ◌∷◌, []};
 ghost use Rattle.std.specs.Hash as fed;
 ghost use Rattle.std.specs.Ordering.{on};
@@ -31,6 +32,7 @@ pub enum ScalarRef<'a> {
 }
 
 impl<'a> ScalarRef<'a> {
+    ghost use Rattle.plist_value.specs.Limits.{payload_of_scalar};
     ghost use Rattle.plist_value.specs.Plist.{IsContainer, IsScalar, scalar, real4, real8, moment, bytes};
     ghost use Rattle.plist_value.specs.View.{view};
 
@@ -49,6 +51,18 @@ impl<'a> ScalarRef<'a> {
             Value::Moment(octets) => Some(ScalarRef::moment(*octets)),
             Value::Bytes(octets) => Some(ScalarRef::data(octets.as_slice())),
             Value::List(_) | Value::Table(_) => None,
+        }
+    }
+
+    /// The payload in octets: two for each UTF-16 unit of a text, one for each octet of data, and none of any
+    /// other scalar. No text and no data is read.
+    pub fn payload(&self) -> u128
+        ensures { result ≡ payload_of_scalar (content_of self.now) }
+    {
+        match self {
+            ScalarRef::Text(text) => 2 * text.len() as u128,
+            ScalarRef::Bytes(octets) => octets.len() as u128,
+            _ => 0,
         }
     }
 
