@@ -7,26 +7,24 @@ use crate::reading;
 use crate::refs::number_at;
 use crate::shortest::begins_canonically;
 use byteorder::{BigEndian, ByteOrder};
-use thiserror::Error;
+use std::error::Error;
+use std::fmt;
 
 /// Why octets do not have the layout of a binary property list (CFBinaryPList.c; the bounds and the order
 /// of the tests are our profile).
-#[derive(Clone, Copy, Debug, PartialEq, Eq, Error)]
+#[derive(Clone, Copy, Debug, PartialEq, Eq)]
 pub enum LayoutFault {
     /// 1: there are fewer than 42 octets.
-    #[error("fewer than 42 octets")]
     TooShort,
     /// 2: the first eight octets are not `bplist00`.
-    #[error("the header is not bplist00")]
     BadHeader,
     /// 3: a width is not 1 to 8, or there is no object, or the top object is none of them, or the offset
     /// table does not lie between the objects and the trailer, as long as it has to be.
-    #[error("the trailer's numbers do not fit the file")]
     BadTrailer,
 }
 
 impl LayoutFault {
-    ghost use Rattle.plist_object.specs.Codes.{layout_code};
+    ghost use Rattle.plist_object.specs.Codes.{layout_code, layout_name};
 
     /// The number of the refusal.
     pub fn code(&self) -> u8
@@ -37,6 +35,32 @@ impl LayoutFault {
             LayoutFault::BadHeader => 2,
             LayoutFault::BadTrailer => 3,
         }
+    }
+
+    // The name of the refusal.
+    fn name(&self) -> &'static str
+        ensures { result.now ≡ layout_name self.now }
+    {
+        match self {
+            LayoutFault::TooShort => "TooShort",
+            LayoutFault::BadHeader => "BadHeader",
+            LayoutFault::BadTrailer => "BadTrailer",
+        }
+    }
+}
+
+impl Error for LayoutFault {}
+
+impl fmt::Display for LayoutFault {
+    ghost use Rattle.std.specs.Prelude.{Some};
+    ghost use Rattle.plist_object.specs.Codes.{layout_text};
+
+    ghost output = { λ fault. Some (layout_text fault) };
+
+    fn fmt<W: fmt::Write>(&self, f: &mut fmt::Formatter<W>) -> fmt::Result {
+        let code = self.code();
+        let name = self.name();
+        write!(f, "{code} {name}")
     }
 }
 
