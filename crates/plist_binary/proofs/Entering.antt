@@ -8,18 +8,14 @@ use Rattle.plist_value.specs.Plist.{Plist, scalar, list, table, IsPlist}
 use Rattle.plist_value.specs.Limits.{nodes, depth}
 use Rattle.plist_value.specs.declared.TheConstants.{MAX_DEPTH}
 use Rattle.plist_object.specs.declared.object.ObjectFault.{ObjectFault}
-use Rattle.plist_object.specs.declared.object.ObjectFault.TheVariants as object
 use Rattle.plist_object.specs.Layout.{IsLaid, trailer_of}
 use Rattle.plist_object.specs.Places.{what_holds}
 use Rattle.plist_object.specs.Spelled.{Spells}
 use Rattle.plist_object.specs.Ascending.{Among, Contains-among}
 use Rattle.plist_object.specs.Uniqueness.{same_value}
 use Rattle.plist_binary.specs.declared.budget.Budget.{Budget}
-use Rattle.plist_binary.specs.declared.fault.BinaryFault.TheVariants.{Cycle, TooDeep, TooManyNodes}
-use Rattle.plist_binary.specs.Codes.{placed}
-use Rattle.plist_binary.specs.Faults.{StandsWithin, IsFaulty}
+use Rattle.plist_binary.specs.declared.fault.BinaryFault.TheVariants.{Object, Cycle, TooDeep, TooManyNodes}
 use Rattle.plist_binary.specs.Paths.{Leads}
-use Rattle.plist_binary.specs.Reach.{nodes_reached, payload_reached}
 use Rattle.plist_binary.specs.Readings.{Refuses}
 use Rattle.plist_binary.proofs.Descents.{descends, SpellsBelow}
 use Rattle.plist_binary.proofs.Held.{Spells-held}
@@ -117,20 +113,10 @@ faulty_spells_none f i e v fails spells =
     let reads = held.1.reads in
     cc
 
-own_fault : (f : List ℕ) (i nodes payload met_nodes met_payload : ℕ) (e : ObjectFault) → IsFaulty f i e → StandsWithin f nodes payload met_nodes met_payload (placed i e)
-own_fault f i n p m q object.BadOffset faulty = faulty
-own_fault f i n p m q object.CutObject faulty = faulty
-own_fault f i n p m q object.BadMarker faulty = faulty
-own_fault f i n p m q object.NullObject faulty = faulty
-own_fault f i n p m q object.UidObject faulty = faulty
-own_fault f i n p m q object.SetObject faulty = faulty
-own_fault f i n p m q object.NotAscii faulty = faulty
-own_fault f i n p m q object.WideInteger faulty = faulty
-
-pub Refuses-object : (f before : List ℕ) (i levels : ℕ) (left : Budget) (e : ObjectFault) → IsLaid f → i < (trailer_of f).count → Leads f before i → what_holds f i ≡ Err e → Refuses f i levels left (placed i e)
+pub Refuses-object : (f before : List ℕ) (i levels : ℕ) (left : Budget) (e : ObjectFault) → IsLaid f → i < (trailer_of f).count → Leads f before i → what_holds f i ≡ Err e → Refuses f i levels left (Object i e)
 Refuses-object f before i levels left e laid listed leads fails =
     record {
-      stands = own_fault f i left.nodes left.payload (nodes_reached f (1 + levels) i) (payload_reached f (1 + levels) i) e record {
+      stands = record {
         ends = record {
           laid = laid;
           before = before;

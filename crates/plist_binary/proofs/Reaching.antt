@@ -7,7 +7,7 @@ use Rattle.plist_object.specs.Layout.{trailer_of}
 use Rattle.plist_object.specs.Places.{what_holds}
 use Rattle.plist_binary.specs.Reach.{reach, reach_from, references_read, to_objects}
 use Rattle.plist_binary.specs.declared.fault.BinaryFault.{BinaryFault}
-use Rattle.plist_binary.specs.declared.fault.BinaryFault.TheVariants.{TooShort, BadHeader, BadTrailer, BadOffset, BadReference, CutObject, BadMarker, NullObject, UidObject, SetObject, NotAscii, WideInteger, KeyNotText, DuplicateKey, Cycle, TooDeep, TooManyNodes, TooMuchPayload, OutOfMemory}
+use Rattle.plist_binary.specs.declared.fault.BinaryFault.TheVariants.{TooManyNodes, TooMuchPayload}
 use Rattle.plist_binary.specs.Faults.{StandsWithin}
 
 -- one level more: the object, and what its references reach
@@ -41,22 +41,6 @@ reach_from-middle weight f levels i xs ys listed =
 
 -- a fault stands where more is reached beyond as much
 pub widen : (f : List ℕ) (nodes payload met_nodes met_payload nodes' payload' met_nodes' met_payload' : ℕ) (fault : BinaryFault) → (nodes < met_nodes → nodes' < met_nodes') → (payload < met_payload → payload' < met_payload') → StandsWithin f nodes payload met_nodes met_payload fault → StandsWithin f nodes' payload' met_nodes' met_payload' fault
-widen f n p m q n' p' m' q' TooShort by_nodes by_payload stands = stands
-widen f n p m q n' p' m' q' BadHeader by_nodes by_payload stands = stands
-widen f n p m q n' p' m' q' BadTrailer by_nodes by_payload stands = stands
-widen f n p m q n' p' m' q' (BadOffset i) by_nodes by_payload stands = stands
-widen f n p m q n' p' m' q' (BadReference i) by_nodes by_payload stands = stands
-widen f n p m q n' p' m' q' (CutObject i) by_nodes by_payload stands = stands
-widen f n p m q n' p' m' q' (BadMarker i) by_nodes by_payload stands = stands
-widen f n p m q n' p' m' q' (NullObject i) by_nodes by_payload stands = stands
-widen f n p m q n' p' m' q' (UidObject i) by_nodes by_payload stands = stands
-widen f n p m q n' p' m' q' (SetObject i) by_nodes by_payload stands = stands
-widen f n p m q n' p' m' q' (NotAscii i) by_nodes by_payload stands = stands
-widen f n p m q n' p' m' q' (WideInteger i) by_nodes by_payload stands = stands
-widen f n p m q n' p' m' q' (KeyNotText i) by_nodes by_payload stands = stands
-widen f n p m q n' p' m' q' (DuplicateKey i) by_nodes by_payload stands = stands
-widen f n p m q n' p' m' q' (Cycle i) by_nodes by_payload stands = stands
-widen f n p m q n' p' m' q' (TooDeep i) by_nodes by_payload stands = stands
 widen f n p m q n' p' m' q' (TooManyNodes i) by_nodes by_payload stands = record {
   ends = stands.ends;
   above = by_nodes stands.above;
@@ -65,4 +49,4 @@ widen f n p m q n' p' m' q' (TooMuchPayload i) by_nodes by_payload stands = reco
   ends = stands.ends;
   above = by_payload stands.above;
 }
-widen f n p m q n' p' m' q' OutOfMemory by_nodes by_payload stands = tt
+widen f n p m q n' p' m' q' fault by_nodes by_payload stands = stands

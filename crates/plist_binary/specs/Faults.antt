@@ -4,13 +4,11 @@ use Rattle.std.specs.List.{Contains}
 use Rattle.plist_value.specs.Plist.{text, whole, flag, real4, real8, moment, bytes}
 use Rattle.plist_value.specs.declared.TheConstants.{MAX_NODES, MAX_DEPTH, MAX_PAYLOAD}
 use Rattle.plist_object.specs.declared.object.ObjectFault.{ObjectFault}
-use Rattle.plist_object.specs.declared.object.ObjectFault.TheVariants as object
-use Rattle.plist_object.specs.declared.layout.LayoutFault.TheVariants as layout
 use Rattle.plist_object.specs.Layout.{trailer_of, IsLayoutFault}
 use Rattle.plist_object.specs.Objects.{Held, holds_scalar, holds_list, holds_table}
 use Rattle.plist_object.specs.Places.{Holds, what_holds}
 use Rattle.plist_binary.specs.declared.fault.BinaryFault.{BinaryFault}
-use Rattle.plist_binary.specs.declared.fault.BinaryFault.TheVariants.{TooShort, BadHeader, BadTrailer, BadOffset, BadReference, CutObject, BadMarker, NullObject, UidObject, SetObject, NotAscii, WideInteger, KeyNotText, DuplicateKey, Cycle, TooDeep, TooManyNodes, TooMuchPayload, OutOfMemory}
+use Rattle.plist_binary.specs.declared.fault.BinaryFault.TheVariants.{Layout, Object, BadReference, KeyNotText, DuplicateKey, Cycle, TooDeep, TooManyNodes, TooMuchPayload, OutOfMemory}
 use Rattle.plist_binary.specs.Paths.{Refers, EndsPath}
 use Rattle.plist_binary.specs.Reach.{nodes_reached, payload_reached}
 
@@ -84,18 +82,9 @@ pub record IsBeyond (f : List ℕ) (i limit reached : ℕ) : Type 0 where
 
 -- the fault stands at its place, where so many nodes and so much payload may be, and are reached
 abbrev pub StandsWithin : List ℕ → ℕ → ℕ → ℕ → ℕ → BinaryFault → Type 0
-StandsWithin f nodes payload met_nodes met_payload TooShort = IsLayoutFault layout.TooShort f
-StandsWithin f nodes payload met_nodes met_payload BadHeader = IsLayoutFault layout.BadHeader f
-StandsWithin f nodes payload met_nodes met_payload BadTrailer = IsLayoutFault layout.BadTrailer f
-StandsWithin f nodes payload met_nodes met_payload (BadOffset i) = IsFaulty f i object.BadOffset
+StandsWithin f nodes payload met_nodes met_payload (Layout fault) = IsLayoutFault fault f
+StandsWithin f nodes payload met_nodes met_payload (Object i fault) = IsFaulty f i fault
 StandsWithin f nodes payload met_nodes met_payload (BadReference i) = RefersNowhere f i
-StandsWithin f nodes payload met_nodes met_payload (CutObject i) = IsFaulty f i object.CutObject
-StandsWithin f nodes payload met_nodes met_payload (BadMarker i) = IsFaulty f i object.BadMarker
-StandsWithin f nodes payload met_nodes met_payload (NullObject i) = IsFaulty f i object.NullObject
-StandsWithin f nodes payload met_nodes met_payload (UidObject i) = IsFaulty f i object.UidObject
-StandsWithin f nodes payload met_nodes met_payload (SetObject i) = IsFaulty f i object.SetObject
-StandsWithin f nodes payload met_nodes met_payload (NotAscii i) = IsFaulty f i object.NotAscii
-StandsWithin f nodes payload met_nodes met_payload (WideInteger i) = IsFaulty f i object.WideInteger
 StandsWithin f nodes payload met_nodes met_payload (KeyNotText i) = HasOtherKey f i
 StandsWithin f nodes payload met_nodes met_payload (DuplicateKey i) = HasKeyTwice f i
 StandsWithin f nodes payload met_nodes met_payload (Cycle i) = ClosesCycle f i

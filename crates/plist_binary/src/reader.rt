@@ -225,7 +225,7 @@ impl<'a> Reader<'a> {
         }
         match held {
             Ok(held) => Ok(held),
-            Err(fault) => Err(BinaryFault::at(object, fault)),
+            Err(fault) => Err(BinaryFault::Object { object, fault }),
         }
     }
 

@@ -29,4 +29,4 @@ returns-then-levels-eq0-clause-refused c =
 pub returns-in-Err-clause-refused : goal.returns-in-Err-clause-refused
 returns-in-Err-clause-refused c =
     let f = octets_of c.args.self.now.file in
-    rw c.at.ensures (Refuses-object f (containers_of c.args.path.now) c.args.object c.args.levels c.args.left.now c.in-Err.fault c.args.self.now.laid c.requires.listed c.requires.leads c.in-Err.ensures.read)
+    Refuses-object f (containers_of c.args.path.now) c.args.object c.args.levels c.args.left.now c.in-Err.fault c.args.self.now.laid c.requires.listed c.requires.leads c.in-Err.ensures.read
