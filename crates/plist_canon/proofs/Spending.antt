@@ -8,11 +8,12 @@ use Rattle.plist_object.specs.Objects.{Held, holds_scalar, holds_list, holds_tab
 use Rattle.plist_object.specs.Places.{Holds}
 use Rattle.plist_object.specs.Spelled.{Spells, SpellItems}
 use Rattle.plist_object.specs.Uniqueness.{same_held}
-use Rattle.plist_canon.specs.declared.limits.Budget.{Budget}
+use Rattle.plist_value.specs.declared.budget.Budget.{Budget}
+use Rattle.plist_value.specs.Budget.{Spends, IsOver}
 use Rattle.plist_canon.specs.Rules.{HasAscendingKeys}
 use Rattle.plist_canon.specs.declared.weights.Weight.{Weight}
 use Rattle.plist_canon.specs.Weights.{weight_of, payload_of_weight, Weighs}
-use Rattle.plist_canon.specs.Charges.{Spends, IsOver, Charges, Exceeds, ChargesItems, ExceedsItems}
+use Rattle.plist_canon.specs.Charges.{Charges, Exceeds, ChargesItems, ExceedsItems}
 use Rattle.plist_canon.proofs.KeyPairs.{put_texts}
 use Rattle.plist_canon.proofs.Weighing.{scalar-payload, Weighs-held}
 use Rattle.plist_canon.proofs.TableParts.{some_depth, some_nodes, table_parts}

@@ -1,18 +1,10 @@
--- What is left of a budget of nodes and payload.
-use Rattle.std.specs.Prelude.{◌≡◌, ℕ, ◌+◌, ◌≤◌, List}
+-- What values that are spelled take from a budget of nodes and payload.
+use Rattle.std.specs.Prelude.{ℕ, ◌≤◌, List}
 use Rattle.plist_value.specs.Plist.{Plist, Items, IsPlist, AreItems}
 use Rattle.plist_value.specs.Limits.{nodes, depth, payload, nodes_of_items, depth_of_items, payload_of_items}
 use Rattle.plist_object.specs.Spelled.{Spells, SpellItems}
-use Rattle.plist_canon.specs.declared.limits.Budget.{Budget}
-
--- the second budget is the first less so many nodes and so much payload
-pub record Spends (before : Budget) (nodes payload : ℕ) (after : Budget) : Type 0 where
-  pub nodes_left : after.nodes + nodes ≡ before.nodes
-  pub payload_left : after.payload + payload ≡ before.payload
-
--- so many nodes or so much payload is more than the budget has
-abbrev pub IsOver : Budget → ℕ → ℕ → Type 0
-IsOver before nodes payload = nodes ≤ before.nodes → payload ≤ before.payload → ⊥
+use Rattle.plist_value.specs.Budget.{Spends, IsOver}
+use Rattle.plist_value.specs.declared.budget.Budget.{Budget}
 
 -- the value that the object spells is spent, and not too deep
 pub record Charges (f : List ℕ) (i levels : ℕ) (before after : Budget) : Type 0 where

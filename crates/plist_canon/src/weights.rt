@@ -1,7 +1,7 @@
 //! What the limits ask of an object.
 ghost use Rattle.std.specs.Prelude.{◌≡◌};
 ghost use Rattle.plist_object.specs.Views.{held_of};
-ghost use Rattle.plist_canon.specs.Weights.{weight_of, is_scalar_weight};
+ghost use Rattle.plist_canon.specs.Weights.{weight_of, is_scalar_weight, payload_of_weight};
 
 use plist_object::Object;
 use plist_value::ScalarRef;
@@ -27,6 +27,17 @@ impl Weight {
             Object::Scalar(ScalarRef::Bytes(octets)) => Weight::Octets(octets.len() as u64),
             Object::Scalar(_) => Weight::Octets(0),
             Object::List(_) | Object::Table(_, _) => Weight::Container,
+        }
+    }
+
+    /// The payload in octets: two for each unit. A container has none of its own.
+    pub(crate) fn payload(self) -> u128
+        ensures { result ≡ payload_of_weight self }
+    {
+        match self {
+            Weight::Units(units) => 2 * u128::from(units),
+            Weight::Octets(octets) => u128::from(octets),
+            Weight::Container => 0,
         }
     }
 

@@ -3,7 +3,8 @@ use Rattle.plist_object.specs.Views.{numbers_of, octets_of}
 use Rattle.std.specs.Prelude.{slice_index}
 use Rattle.plist_value.specs.Scalars.{content_of}
 use Rattle.plist_object.specs.Objects.{holds_list, holds_table}
-use Rattle.plist_canon.specs.Charges.{Spends, Charges, Exceeds, ChargesItems, ExceedsItems}
+use Rattle.plist_value.specs.Budget.{Spends}
+use Rattle.plist_canon.specs.Charges.{Charges, Exceeds, ChargesItems, ExceedsItems}
 use Rattle.plist_canon.proofs.Judges.{IsWellRead-refers, RefersWell-list, keys_below, values_below}
 use Rattle.plist_canon.proofs.Weighing.{AreAllWeights-at, Weighs-scalar}
 use Rattle.plist_canon.proofs.Spending.{some_map, none_map, Exceeds-deep, Exceeds-weighed, Charges-weighed, spends-held, Charges-list, Exceeds-list, Charges-table, Exceeds-keys, Exceeds-values, ItemsLeft-start, ItemsLeft-next, ExceedsItems-next, ChargesItems-end}
