@@ -1,3 +1,4 @@
+//! The classes of characters.
 ghost use Rattle.std.specs.Prelude.{◌≡◌};
 ghost use Rattle.ostep_lex.specs.Character.{is_white, is_line_end, is_run, is_quote};
 

@@ -1,3 +1,4 @@
+//! A place in an input, passed by value.
 ghost use Rattle.std.specs.Prelude.{◌≡◌, false, [], ◌∷◌, ◌≤◌, MatchOption, IfOk, IfErr, length};
 ghost use Rattle.ostep_lex.specs.Source.{IsWhole, octets_in};
 

@@ -1,3 +1,4 @@
+//! Numbers of octal or hexadecimal digits.
 ghost use Rattle.std.specs.Prelude.{◌≡◌, ◌<◌, ◌≤◌, ◌^◌};
 ghost use Rattle.ostep_lex.specs.Digits.{number_from, Number, begins_digit};
 ghost use Rattle.ostep_lex.specs.Cursor.{ahead, SameInput};

@@ -1,3 +1,4 @@
+//! What stands between tokens: white and comments.
 ghost use Rattle.std.specs.Prelude.{◌≡◌, false, ◌∷◌, MatchOption, IfOk, IfErr};
 ghost use Rattle.ostep_lex.specs.Character.{slash as slash_code, star};
 ghost use Rattle.ostep_lex.specs.Gap.{LineComment, BlockComment, NeverCloses, closes_comment, begins_gap};

@@ -1,3 +1,4 @@
+//! The tokens, one at a time or all of a text.
 ghost use Rattle.std.specs.Prelude.{◌≡◌, ℕ, ◌<◌, List, [], ◌∷◌, ◌++◌, false, length, option_map, map};
 ghost use Rattle.std.specs.Prelude.{MatchOption, IfSome, IfOk, IfErr};
 ghost use Rattle.ostep_lex.specs.Gap.{begins_gap};

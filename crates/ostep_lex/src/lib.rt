@@ -22,6 +22,3 @@ pub use fault::LexFault;
 pub use lexer::{next_token, tokens};
 pub use opening::open;
 pub use token::{Token, TokenKind};
-
-#[cfg(test)]
-mod tests;

@@ -1,3 +1,4 @@
+//! Data tokens.
 ghost use Rattle.std.specs.Prelude.{◌≡◌, ◌≢◌, ◌∷◌, false, MatchOption, IfOk, IfErr};
 ghost use Rattle.ostep_lex.specs.Character.{greater_than};
 ghost use Rattle.ostep_lex.specs.Digits.{begins_digit};

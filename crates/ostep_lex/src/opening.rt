@@ -1,3 +1,4 @@
+//! The text of an input: its encoding, and whether it is an XML property list.
 ghost use Rattle.std.specs.Prelude.{◌≡◌, [], nat_eq, IfOk, IfErr};
 ghost use Rattle.std.specs.List.{starts_with};
 ghost use Rattle.ostep_lex.specs.Lexing.{HasNoTokens};

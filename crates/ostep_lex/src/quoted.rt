@@ -1,3 +1,4 @@
+//! Strings, unquoted and quoted, and their escapes.
 ghost use Rattle.std.specs.Prelude.{◌≡◌, ◌==◌, ◌++◌, ◌∷◌, true, false, List, ℕ, OnOk, IfOk, IfErr};
 ghost use Rattle.std.specs.Char.Escape.{encode_utf16};
 ghost use Rattle.ostep_lex.specs.Digits.{begins_digit};

@@ -1,3 +1,4 @@
+//! The octets that are still to be read, and the characters at their front.
 ghost use Rattle.std.specs.Prelude.{◌≡◌, ◌+◌, ◌++◌, [], ◌∷◌, ◌<◌, MatchOption, length, chars};
 ghost use Rattle.std.specs.Char.{IsScalar};
 ghost use Rattle.ostep_lex.specs.Encoding.{BeginsWith, BeginsWithNone};

@@ -1,3 +1,4 @@
+//! Tokens and where they stand.
 use plist_value::Utf16;
 
 /// A token and where it stands: from octet `start` up to octet `end` of the input, its mark

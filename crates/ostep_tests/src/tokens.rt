@@ -1,4 +1,5 @@
-use super::*;
+//! Texts and their tokens, their faults, and what these print.
+use ostep_lex::{LexFault, Token, TokenKind, next_token, open, tokens};
 use std::alloc::Global;
 use std::test::Fail;
 
@@ -50,113 +51,82 @@ fn are_shown(tokens: &[Token], rows: &[(Shown, usize, usize)]) -> bool {
 
 const TABLE: &[u8] = b"{a = <0F>;}";
 
-fn is_table(tokens: &[Token]) -> bool {
-    are_shown(
-        tokens,
-        &[
-            (Shown::Mark('{'), 0, 1),
-            (Shown::Text(&[0x61]), 1, 2),
-            (Shown::Mark('='), 3, 4),
-            (Shown::Octets(&[0x0f]), 5, 9),
-            (Shown::Mark(';'), 9, 10),
-            (Shown::Mark('}'), 10, 11),
-        ],
-    )
-}
+const TABLE_TOKENS: [(Shown, usize, usize); 6] = [
+    (Shown::Mark('{'), 0, 1),
+    (Shown::Text(&[0x61]), 1, 2),
+    (Shown::Mark('='), 3, 4),
+    (Shown::Octets(&[0x0f]), 5, 9),
+    (Shown::Mark(';'), 9, 10),
+    (Shown::Mark('}'), 10, 11),
+];
+
+const PATHS: &[u8] = b"(/usr/bin, a//b, /* c */ d)";
+
+const PATHS_TOKENS: [(Shown, usize, usize); 7] = [
+    (Shown::Mark('('), 0, 1),
+    (
+        Shown::Text(&[0x2f, 0x75, 0x73, 0x72, 0x2f, 0x62, 0x69, 0x6e]),
+        1,
+        9,
+    ),
+    (Shown::Mark(','), 9, 10),
+    (Shown::Text(&[0x61, 0x2f, 0x2f, 0x62]), 11, 15),
+    (Shown::Mark(','), 15, 16),
+    (Shown::Text(&[0x64]), 25, 26),
+    (Shown::Mark(')'), 26, 27),
+];
+
+// One character past the plane of one unit.
+const PAIR: &[u16] = &[0xd83d, 0xde00];
 
 #[test]
-fn a_table_of_data(rt: HostRuntime) -> Result<(), Fail> {
-    let found = tokens(rt.alloc(), TABLE)?;
-    assert!(rt; is_table(found.as_slice()), "{found:?}");
-    Ok(())
-}
-
-#[test]
-fn slashes_in_runs_and_comments_between(rt: HostRuntime) -> Result<(), Fail> {
-    let found = tokens(rt.alloc(), b"(/usr/bin, a//b, /* c */ d)")?;
-    let rows = [
-        (Shown::Mark('('), 0, 1),
+fn texts_and_their_tokens(rt: HostRuntime) -> Result<(), Fail> {
+    let rows: [(&[u8], &[(Shown, usize, usize)]); 20] = [
+        (TABLE, &TABLE_TOKENS),
+        (PATHS, &PATHS_TOKENS),
+        // Big-endian: the places count the mark.
         (
-            Shown::Text(&[0x2f, 0x75, 0x73, 0x72, 0x2f, 0x62, 0x69, 0x6e]),
-            1,
-            9,
+            b"\xfe\xff\x00\x61\x00\x3b",
+            &[(Shown::Text(&[0x61]), 2, 4), (Shown::Mark(';'), 4, 6)],
         ),
-        (Shown::Mark(','), 9, 10),
-        (Shown::Text(&[0x61, 0x2f, 0x2f, 0x62]), 11, 15),
-        (Shown::Mark(','), 15, 16),
-        (Shown::Text(&[0x64]), 25, 26),
-        (Shown::Mark(')'), 26, 27),
-    ];
-    assert!(rt; are_shown(found.as_slice(), &rows), "{found:?}");
-    Ok(())
-}
-
-#[test]
-fn one_token_alone(rt: HostRuntime) -> Result<(), Fail> {
-    let pair = &[0xd83d, 0xde00];
-    let rows: [(&[u8], Shown, usize, usize); 10] = [
+        // One token alone.
         (
             b"\"\\177\\1234\\U41\"",
-            Shown::Text(&[0x7f, 0x53, 0x34, 0x41]),
-            0,
-            15,
+            &[(Shown::Text(&[0x7f, 0x53, 0x34, 0x41]), 0, 15)],
         ),
-        (b"\"\xf0\x9f\x98\x80\"", Shown::Text(pair), 0, 6),
+        (b"\"\xf0\x9f\x98\x80\"", &[(Shown::Text(PAIR), 0, 6)]),
         (
             b"\xef\xbb\xbf'\xf0\x9f\x98\x80' // c",
-            Shown::Text(pair),
-            3,
-            9,
+            &[(Shown::Text(PAIR), 3, 9)],
         ),
-        (b"\"\\Ud83d\\Ude00\"", Shown::Text(pair), 0, 14),
+        (b"\"\\Ud83d\\Ude00\"", &[(Shown::Text(PAIR), 0, 14)]),
         (
             b"\xff\xfe\x22\x00\x3d\xd8\x00\xde\x22\x00",
-            Shown::Text(pair),
-            2,
-            10,
+            &[(Shown::Text(PAIR), 2, 10)],
         ),
-        (b"\xff\xfe\x61\x00", Shown::Text(&[0x61]), 2, 4),
+        (b"\xff\xfe\x61\x00", &[(Shown::Text(&[0x61]), 2, 4)]),
         (
             b"\"\\a\\b\\f\\n\\r\\t\\v\\\"\\'\\\n\"",
-            Shown::Text(&[7, 8, 12, 10, 13, 9, 11, 34, 39, 10]),
-            0,
-            22,
+            &[(Shown::Text(&[7, 8, 12, 10, 13, 9, 11, 34, 39, 10]), 0, 22)],
         ),
-        (b"\"\\U123456\"", Shown::Text(&[0x1234, 0x35, 0x36]), 0, 10),
-        (b" < 0f\x0bAb > ", Shown::Octets(&[0x0f, 0xab]), 1, 10),
-        (b"<>", Shown::Octets(&[]), 0, 2),
+        (
+            b"\"\\U123456\"",
+            &[(Shown::Text(&[0x1234, 0x35, 0x36]), 0, 10)],
+        ),
+        (b" < 0f\x0bAb > ", &[(Shown::Octets(&[0x0f, 0xab]), 1, 10)]),
+        (b"<>", &[(Shown::Octets(&[]), 0, 2)]),
+        // No token.
+        (b"", &[]),
+        (b" ", &[]),
+        (b"/* c */", &[]),
+        (b"// c", &[]),
+        (b"\xef\xbb\xbf", &[]),
+        (b"\xfe\xff", &[]),
+        (b"\xff\xfe", &[]),
     ];
-    for (octets, shown, start, end) in rows {
+    for (octets, shown) in rows {
         let found = tokens(rt.alloc(), octets)?;
-        assert!(rt;
-            are_shown(found.as_slice(), &[(shown, start, end)]),
-            "{octets:?} {found:?}"
-        );
-    }
-    Ok(())
-}
-
-#[test]
-fn big_endian_places_count_the_mark(rt: HostRuntime) -> Result<(), Fail> {
-    let found = tokens(rt.alloc(), b"\xfe\xff\x00\x61\x00\x3b")?;
-    let rows = [(Shown::Text(&[0x61]), 2, 4), (Shown::Mark(';'), 4, 6)];
-    assert!(rt; are_shown(found.as_slice(), &rows), "{found:?}");
-    Ok(())
-}
-
-#[test]
-fn texts_of_no_token(rt: HostRuntime) -> Result<(), Fail> {
-    let rows: [&[u8]; 7] = [
-        b"",
-        b" ",
-        b"/* c */",
-        b"// c",
-        b"\xef\xbb\xbf",
-        b"\xfe\xff",
-        b"\xff\xfe",
-    ];
-    for octets in rows {
-        assert_eq!(rt; tokens(rt.alloc(), octets)?.len(), 0, "{octets:?}");
+        assert!(rt; are_shown(found.as_slice(), shown), "{octets:?} {found:?}");
     }
     Ok(())
 }
@@ -291,7 +261,7 @@ fn a_step_at_a_time(rt: HostRuntime) -> Result<(), Fail> {
 #[test]
 fn a_refused_growth_changes_no_answer(rt: HostRuntime) {
     match tokens(rt.alloc(), TABLE) {
-        Ok(found) => assert!(rt; is_table(found.as_slice())),
+        Ok(found) => assert!(rt; are_shown(found.as_slice(), &TABLE_TOKENS)),
         Err(fault) => assert_eq!(rt; fault, LexFault::OutOfMemory),
     }
     match tokens(rt.alloc(), b"@") {
