@@ -10,8 +10,6 @@ use Rattle.plist_value.specs.Equality.{scalar_eq}
 use Rattle.plist_value.specs.Scalars.{content_of}
 use Rattle.plist_value.specs.declared.scalar_ref.ScalarRef.{ScalarRef}
 use Rattle.plist_object.specs.Layout.{trailer_of, IsLayoutFault}
-use Rattle.plist_object.specs.declared.layout.LayoutFault.{LayoutFault}
-use Rattle.plist_object.specs.declared.layout.LayoutFault.TheVariants as layout
 use Rattle.plist_object.specs.Objects.{Held, holds_scalar}
 use Rattle.plist_object.specs.Places.{Holds, what_holds, span_of}
 use Rattle.plist_canon.specs.Rules.{keys_of, refs_of, HoldsText, IsWellRead, IsSpelledCanonically, HasAscendingKeys, IsNoRepeat, FollowsRules, IsBroken}
@@ -23,24 +21,9 @@ use Rattle.plist_canon.specs.declared.judging.Flaw.{Flaw}
 use Rattle.plist_canon.specs.declared.judging.Flaw.TheVariants as flaw
 use Rattle.plist_canon.specs.declared.repeats.Repeats.{Repeats}
 
--- the number of the refusal
-abbrev pub check_code : CheckFault → ℕ
-check_code fault.TooShort = 1
-check_code fault.BadHeader = 2
-check_code fault.BadTrailer = 3
-check_code fault.OutOfMemory = 60
-
--- the fault of a layout
-abbrev pub unlaid : LayoutFault → CheckFault
-unlaid layout.TooShort = fault.TooShort
-unlaid layout.BadHeader = fault.BadHeader
-unlaid layout.BadTrailer = fault.BadTrailer
-
 -- a fault but want of memory is the layout's
 abbrev pub IsCheckFault : List ℕ → CheckFault → Type 0
-IsCheckFault f fault.TooShort = IsLayoutFault layout.TooShort f
-IsCheckFault f fault.BadHeader = IsLayoutFault layout.BadHeader f
-IsCheckFault f fault.BadTrailer = IsLayoutFault layout.BadTrailer f
+IsCheckFault f (fault.Layout layout) = IsLayoutFault layout f
 IsCheckFault f fault.OutOfMemory = ⊤
 
 -- the rules hold, or the rule that is told is broken at the object

@@ -5,29 +5,23 @@ ghost use Rattle.plist_object.specs.Layout.{IsLaid};
 ghost use Rattle.plist_object.specs.Views.{octets_of};
 ghost use Rattle.plist_canon.specs.Rules.{FollowsRules};
 ghost use Rattle.plist_canon.specs.Locality.{IsCanonical};
-ghost use Rattle.plist_canon.specs.Checking.{check_code, unlaid, IsCheckFault, IsFlaw, IsVerdict};
+ghost use Rattle.plist_canon.specs.Checking.{IsCheckFault, IsFlaw, IsVerdict};
+ghost use Rattle.plist_canon.specs.Codes.{check_code, check_text};
 
 use crate::judging::{Flaw, judge_objects, judge_trailer};
 use crate::limits::judge_limits;
 use crate::preorder::judge_order;
 use plist_object::{BinFile, LayoutFault};
 use std::alloc::Global;
-use thiserror::Error;
+use std::error::Error;
+use std::fmt;
 
 /// Why a file was not checked.
-#[derive(Clone, Copy, Debug, PartialEq, Eq, Error)]
+#[derive(Clone, Copy, Debug, PartialEq, Eq)]
 pub enum CheckFault {
-    /// 1: there are fewer than 42 octets.
-    #[error("fewer than 42 octets")]
-    TooShort,
-    /// 2: the first eight octets are not `bplist00`.
-    #[error("the header is not bplist00")]
-    BadHeader,
-    /// 3: the trailer's numbers do not fit one another, or the file.
-    #[error("the trailer's numbers do not fit the file")]
-    BadTrailer,
+    /// 1 to 3: the octets do not have the layout.
+    Layout(LayoutFault),
     /// 60: no memory was left.
-    #[error("no memory is left")]
     OutOfMemory,
 }
 
@@ -37,23 +31,35 @@ impl CheckFault {
         ensures { result ≡ check_code self.now }
     {
         match self {
-            CheckFault::TooShort => 1,
-            CheckFault::BadHeader => 2,
-            CheckFault::BadTrailer => 3,
+            CheckFault::Layout(fault) => fault.code(),
             CheckFault::OutOfMemory => 60,
         }
     }
 }
 
+impl Error for CheckFault {}
+
+/// The number and the name of the refusal, as `1 TooShort`.
+impl fmt::Display for CheckFault {
+    ghost use Rattle.std.specs.Prelude.{Some};
+
+    ghost output = { λ fault. Some (check_text fault) };
+
+    fn fmt<W: fmt::Write>(&self, f: &mut fmt::Formatter<W>) -> fmt::Result {
+        match self {
+            CheckFault::Layout(fault) => write!(f, "{fault}"),
+            CheckFault::OutOfMemory => write!(f, "60 OutOfMemory"),
+        }
+    }
+}
+
 impl From<LayoutFault> for CheckFault {
-    ghost from_gives = { λ layout fault. fault ≡ unlaid layout };
+    ghost use Rattle.plist_canon.specs.declared.checking.CheckFault.TheVariants.{Layout};
+
+    ghost from_gives = { λ layout fault. fault ≡ Layout layout };
 
     fn from(fault: LayoutFault) -> Self {
-        match fault {
-            LayoutFault::TooShort => CheckFault::TooShort,
-            LayoutFault::BadHeader => CheckFault::BadHeader,
-            LayoutFault::BadTrailer => CheckFault::BadTrailer,
-        }
+        CheckFault::Layout(fault)
     }
 }
 
@@ -93,8 +99,8 @@ pub enum Verdict {
 ///
 /// # Errors
 ///
-/// [`CheckFault::TooShort`] (1), [`CheckFault::BadHeader`] (2) or [`CheckFault::BadTrailer`] (3) where the
-/// octets have not the layout, and [`CheckFault::OutOfMemory`] (60) where there is no memory.
+/// [`CheckFault::Layout`] where the octets do not have the layout: 1 for fewer than 42 octets, 2 for another
+/// header, 3 for a trailer that does not fit; and [`CheckFault::OutOfMemory`] (60) where there is no memory.
 pub fn check(alloc: Global, octets: &[u8]) -> Result<Verdict, CheckFault>
     ensures fault { IfErr result (IsCheckFault octets.now) }
     ensures laid { IfOk result (λ _. IsLaid octets.now) }
