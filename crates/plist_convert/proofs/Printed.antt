@@ -2,9 +2,9 @@
 use Rattle.std.proofs.Common.{ℕ, arith, inl, inr, subst, sym, List, Option, ◌∙◌, ◌≡◌}
 use Rattle.plist_canon.specs.declared.checking.Verdict.{Verdict}
 use Rattle.plist_canon.specs.declared.checking.Verdict.TheVariants.{Canonical, Broken}
-use Rattle.plist_convert.specs.declared.faults.Fault.{Fault}
-use Rattle.plist_convert.specs.Fault.{code_of, status_for}
-use Rattle.plist_convert.specs.Line.{line_of}
+use Rattle.plist_files.specs.declared.faults.Fault.{Fault}
+use Rattle.plist_files.specs.Fault.{code_of, status_for}
+use Rattle.plist_files.specs.Line.{line_of}
 use Rattle.plist_convert.specs.Printed.{Prints, PrintsBroken, PrintsRefusal, Says}
 use Rattle.plist_convert.specs.Verdicts.{verdict_status_for, verdict_text}
 

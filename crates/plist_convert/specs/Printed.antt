@@ -2,9 +2,9 @@
 use Rattle.std.specs.Prelude.{◌≡◌, ◌⊎◌, ◌++◌, ℕ, List, Option, codes}
 use Rattle.std.specs.Io.KnownBytes.{Appends}
 use Rattle.plist_canon.specs.declared.checking.Verdict.TheVariants.{Broken}
-use Rattle.plist_convert.specs.declared.faults.Fault.{Fault}
-use Rattle.plist_convert.specs.Fault.{code_of, status_for}
-use Rattle.plist_convert.specs.Line.{line_of}
+use Rattle.plist_files.specs.declared.faults.Fault.{Fault}
+use Rattle.plist_files.specs.Fault.{code_of, status_for}
+use Rattle.plist_files.specs.Line.{line_of}
 use Rattle.plist_convert.specs.Verdicts.{verdict_text}
 
 -- the line went out, with a line end, and nothing else

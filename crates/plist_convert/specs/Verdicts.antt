@@ -3,7 +3,7 @@ use Rattle.std.specs.Prelude.{ℕ, List, ◌++◌, codes}
 use Rattle.std.specs.Fmt.{decimal}
 use Rattle.plist_canon.specs.declared.checking.Verdict.{Verdict}
 use Rattle.plist_canon.specs.declared.checking.Verdict.TheVariants.{Canonical, Broken}
-use Rattle.plist_convert.specs.Line.{object_text}
+use Rattle.plist_files.specs.Line.{object_text}
 
 abbrev pub verdict_text : Verdict → List ℕ
 verdict_text Canonical = codes "canonical"

@@ -2,7 +2,7 @@
 ghost use Rattle.std.specs.Prelude.{◌≡◌, ◌<◌, ℕ, length, take, OnOk, IfErr};
 ghost use Rattle.std.specs.Io.KnownBytes.{Appends};
 
-use crate::Fault;
+use plist_files::Fault;
 use std::io::Write;
 
 /// Writes all octets, and counts what went out: a write that fails, or takes none, is

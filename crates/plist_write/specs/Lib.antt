@@ -1,12 +1,12 @@
 pub use Rattle.plist_value.specs.Plist
 pub use Rattle.plist_value.specs.Limits
 pub use Rattle.plist_object.specs.Spelled
+pub use Rattle.plist_devices.specs.Sink
+pub use Rattle.plist_devices.specs.ListSink
 pub mod Tree
 pub mod Sharing
 pub mod Canonical
 pub mod Plan
 pub mod Pieces
-pub mod Sink
 pub mod Sending
-pub mod ListSink
 pub mod Laws

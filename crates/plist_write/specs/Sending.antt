@@ -3,7 +3,7 @@ use Rattle.std.specs.Prelude.{◌≡◌, ℕ, ◌+◌, ◌≤◌, List, length, 
 use Rattle.std.specs.Io.KnownBytes.{Appends}
 use Rattle.plist_write.specs.declared.sending.WriteFault.{WriteFault}
 use Rattle.plist_write.specs.declared.sending.WriteFault.TheVariants.{WriteFailed, OutOfMemory}
-use Rattle.plist_write.specs.Sink.{HasFailed}
+use Rattle.plist_devices.specs.Count.{HasFailed}
 
 -- the number of the refusal
 abbrev pub write_code : WriteFault → ℕ

@@ -2,18 +2,15 @@
 #![tactic(auto)]
 
 pub mod laws;
-pub mod list_sink;
 mod making;
 mod plan;
 mod putting;
 pub mod sending;
-pub mod sink;
 mod walk;
 
-pub use list_sink::ListSink;
 pub use making::canonical;
+pub use plist_devices::{DeviceFault, ListSink, Sink};
 pub use sending::{WriteFault, write_canonical};
-pub use sink::{DeviceFault, Sink};
 
 #[cfg(test)]
 mod map_tests;

@@ -1,0 +1,15 @@
+//! Tests of `plist_convert`, by its public calls.
+#![tactic(auto)]
+
+#[cfg(test)]
+mod canonical_tests;
+#[cfg(test)]
+mod check_tests;
+#[cfg(test)]
+mod container_tests;
+#[cfg(test)]
+mod size_tests;
+#[cfg(test)]
+mod test_files;
+#[cfg(test)]
+mod tests;

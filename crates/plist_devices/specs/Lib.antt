@@ -1,0 +1,6 @@
+pub mod Count
+pub mod ListSink
+pub mod ListSource
+pub mod ReaderSource
+pub mod Sink
+pub mod Source

@@ -1,0 +1,11 @@
+-- What a contract sees of a `ReaderSource`.
+use Rattle.std.specs.Prelude.{ℕ, List, Option}
+use Rattle.plist_devices.specs.declared.reader_source.ReaderSource.{ReaderSource}
+
+-- the octets that the reader tells
+abbrev pub octets_to_come : {R : Type 0} → (R → Option (List ℕ)) → ReaderSource R → Option (List ℕ)
+octets_to_come remaining source = remaining source.device
+
+-- how many takes failed, up to the greatest count
+abbrev pub failures_of : {R : Type 0} → ReaderSource R → ℕ
+failures_of source = source.failures

@@ -1,0 +1,33 @@
+-- The numbers of the refusals, and the program's status for each.
+use Rattle.std.specs.Prelude.{ℕ, ◌==◌, ◌||◌, if◌then◌else◌}
+use Rattle.plist_binary.specs.Codes.{fault_code}
+use Rattle.plist_binary.specs.declared.fault.BinaryFault.{BinaryFault}
+use Rattle.plist_binary.specs.declared.fault.BinaryFault.TheVariants as binary
+use Rattle.plist_canon.specs.declared.checking.CheckFault.{CheckFault}
+use Rattle.plist_canon.specs.declared.checking.CheckFault.TheVariants as check
+use Rattle.plist_files.specs.declared.faults.Fault.{Fault}
+use Rattle.plist_files.specs.declared.faults.Fault.TheVariants.{Binary, ReadFailed, WriteFailed, InputTooLarge, OutOfMemory}
+
+-- the number of a refusal
+abbrev pub code_of : Fault → ℕ
+code_of (Binary fault) = fault_code fault
+code_of ReadFailed = 50
+code_of (WriteFailed _) = 51
+code_of InputTooLarge = 52
+code_of (OutOfMemory _) = 60
+
+-- the status with which the program ends for a number: 4 where a device failed, 5 where no memory was left, else 2
+abbrev pub status_for : ℕ → ℕ
+status_for code = if (code == 50) || (code == 51) then 4 else (if code == 60 then 5 else 2)
+
+-- the reader's refusal as one of this crate: its want of memory came before anything went out
+abbrev pub fault_for : BinaryFault → Fault
+fault_for binary.OutOfMemory = OutOfMemory 0
+fault_for fault = Binary fault
+
+-- the refusal of a check as one of this crate, with the same number
+abbrev pub check_fault_for : CheckFault → Fault
+check_fault_for check.TooShort = Binary binary.TooShort
+check_fault_for check.BadHeader = Binary binary.BadHeader
+check_fault_for check.BadTrailer = Binary binary.BadTrailer
+check_fault_for check.OutOfMemory = OutOfMemory 0

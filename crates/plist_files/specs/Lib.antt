@@ -1,0 +1,8 @@
+pub mod Accepted
+pub mod Fault
+pub mod Laws
+pub mod Line
+pub mod Load
+pub mod Pair
+pub mod Place
+pub mod Refusals

@@ -1,0 +1,22 @@
+-- What is refused, and what a refusal says of the octets.
+use Rattle.std.specs.Prelude.{◌≡◌, ◌≢◌, ℕ, List}
+use Rattle.plist_value.specs.Plist.{Plist}
+use Rattle.plist_binary.specs.Faults.{Stands}
+use Rattle.plist_files.specs.Accepted.{IsAccepted}
+use Rattle.plist_files.specs.Fault.{code_of}
+use Rattle.plist_files.specs.declared.faults.Fault.{Fault}
+use Rattle.plist_files.specs.declared.faults.Fault.TheVariants.{Binary, ReadFailed, WriteFailed, InputTooLarge, OutOfMemory}
+
+-- the fault stands in the octets, at its place; a want of memory says nothing of them
+abbrev pub FaultStands : List ℕ → Fault → Type 0
+FaultStands octets (Binary fault) = Stands octets fault
+FaultStands octets (OutOfMemory sent) = sent ≡ 0
+FaultStands octets ReadFailed = ⊥
+FaultStands octets (WriteFailed sent) = ⊥
+FaultStands octets InputTooLarge = ⊥
+
+-- The octets are refused so: the fault stands, and with another number than that of a want of memory no value is
+-- spelled.
+pub record IsRefused (octets : List ℕ) (fault : Fault) : Type 0 where
+  pub stands : FaultStands octets fault
+  pub none : code_of fault ≢ 60 → (v : Plist) → IsAccepted octets v → ⊥

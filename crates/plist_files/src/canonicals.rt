@@ -1,0 +1,56 @@
+//! From octets to values and to canonical files.
+ghost use Rattle.std.specs.Prelude.{IfOk, IfErr};
+ghost use Rattle.plist_value.specs.View.{view};
+ghost use Rattle.plist_files.specs.Accepted.{IsAccepted, IsCanonicalOf};
+ghost use Rattle.plist_files.specs.Pair.{IsPair, IsRefusedPair};
+ghost use Rattle.plist_files.specs.Refusals.{IsRefused};
+
+use crate::{Fault, PairFault};
+use plist_value::{Value, same};
+use std::alloc::Global;
+
+/// The value that the octets spell.
+///
+/// # Errors
+///
+/// Those of [`plist_binary::read`]; its want of memory is `OutOfMemory { sent: 0 }`.
+pub fn read_any(alloc: Global, octets: &[u8]) -> Result<Value, Fault>
+    ensures read { IfOk result (λ value. IsAccepted octets.now (view value)) }
+    ensures refused { IfErr result (IsRefused octets.now) }
+{
+    Ok(plist_binary::read(alloc, octets)?)
+}
+
+/// The canonical file of the value that the octets spell.
+///
+/// # Errors
+///
+/// Those of [`read_any`].
+pub fn canonicalise(alloc: Global, octets: &[u8]) -> Result<Vec<u8>, Fault>
+    ensures canonical { IfOk result (λ file. IsCanonicalOf octets.now file.items) }
+    ensures refused { IfErr result (IsRefused octets.now) }
+{
+    let value = read_any(alloc, octets)?;
+    Ok(plist_write::canonical(alloc, &value)?)
+}
+
+/// Whether the two octet lists spell equal values, which is whether their canonical files are equal. The
+/// first is read before the second.
+///
+/// # Errors
+///
+/// `First` with the first list's own refusal, `Second` with the second's where the first is accepted.
+pub fn same_files(alloc: Global, a: &[u8], b: &[u8]) -> Result<bool, PairFault>
+    ensures same { IfOk result (λ equal. IsPair a.now b.now equal) }
+    ensures refused { IfErr result (IsRefusedPair a.now b.now) }
+{
+    let first = match read_any(alloc, a) {
+        Ok(value) => value,
+        Err(fault) => return Err(PairFault::First(fault)),
+    };
+    let second = match read_any(alloc, b) {
+        Ok(value) => value,
+        Err(fault) => return Err(PairFault::Second(fault)),
+    };
+    Ok(same(&first, &second))
+}

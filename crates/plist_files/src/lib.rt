@@ -1,0 +1,16 @@
+//! Property lists as octets: what is loaded from a source, the value that it spells, its canonical file, and
+//! every refusal with its number and its printed line.
+#![tactic(auto)]
+
+pub mod canonicals;
+pub mod faults;
+pub mod laws;
+pub mod lines;
+pub mod loading;
+pub mod pairs;
+
+pub use canonicals::{canonicalise, read_any, same_files};
+pub use faults::Fault;
+pub use lines::line;
+pub use loading::{MAX_INPUT, load};
+pub use pairs::PairFault;
