@@ -7,7 +7,7 @@ use Rattle.ostep_lex.specs.Laws.{OneLexing, FaultyHasNone}
 use Rattle.ostep_lex.specs.declared.fault.LexFault.{LexFault}
 use Rattle.ostep_lex.specs.declared.fault.LexFault.TheVariants as tokens
 use Rattle.ostep_lex.specs.Stands.{Stands as StandsInTokens}
-use Rattle.ostep_form.specs.declared.fault.TextFault.TheVariants.{DuplicateKey, TooDeep, TooManyNodes, TooMuchPayload, BadUtf8, XmlForm, UnexpectedCharacter, UnclosedString, UnclosedComment, BadEscape, OctalRange, OddData, BadData, Expected, Junk, BadUtf16, OutOfMemory}
+use Rattle.ostep_form.specs.declared.fault.TextFault.TheVariants.{Tokens, DuplicateKey, TooDeep, TooManyNodes, TooMuchPayload, Expected, Junk, OutOfMemory}
 use Rattle.ostep_form.specs.Phrase.{TopPhrase}
 use Rattle.ostep_form.specs.Begun.{Before}
 use Rattle.ostep_form.specs.Text.{IsText, IsNoText, lexemes}
@@ -53,20 +53,11 @@ tokens-none : {octets : List ℕ} → FaultyHasNone → (fault : LexFault) → S
 tokens-none {octets} none fault s n v t = none octets fault s n t.tokens t.has
 
 pub faulty_is_no_text : OneLexing → FaultyHasNone → FaultyIsNoText
+faulty_is_no_text one none octets (Tokens fault) s n = tokens-none none fault s.1 s.0
 faulty_is_no_text one none octets (DuplicateKey at) s n = twice-none one s
 faulty_is_no_text one none octets (TooDeep at) s n = deep-none one s
 faulty_is_no_text one none octets (TooManyNodes at) s n = many-none one s
 faulty_is_no_text one none octets (TooMuchPayload at) s n = much-none one s
-faulty_is_no_text one none octets (BadUtf8 at) s n = tokens-none none (tokens.BadUtf8 at) s (λ e. cc e)
-faulty_is_no_text one none octets (XmlForm at) s n = tokens-none none (tokens.XmlForm at) s (λ e. cc e)
-faulty_is_no_text one none octets (UnexpectedCharacter at) s n = tokens-none none (tokens.UnexpectedCharacter at) s (λ e. cc e)
-faulty_is_no_text one none octets (UnclosedString at) s n = tokens-none none (tokens.UnclosedString at) s (λ e. cc e)
-faulty_is_no_text one none octets (UnclosedComment at) s n = tokens-none none (tokens.UnclosedComment at) s (λ e. cc e)
-faulty_is_no_text one none octets (BadEscape at) s n = tokens-none none (tokens.BadEscape at) s (λ e. cc e)
-faulty_is_no_text one none octets (OctalRange at) s n = tokens-none none (tokens.OctalRange at) s (λ e. cc e)
-faulty_is_no_text one none octets (OddData at) s n = tokens-none none (tokens.OddData at) s (λ e. cc e)
-faulty_is_no_text one none octets (BadData at) s n = tokens-none none (tokens.BadData at) s (λ e. cc e)
 faulty_is_no_text one none octets (Expected at) s n = unfinished-none one s
 faulty_is_no_text one none octets (Junk at) s n = junk-none one s
-faulty_is_no_text one none octets (BadUtf16 at) s n = tokens-none none (tokens.BadUtf16 at) s (λ e. cc e)
 faulty_is_no_text one none octets OutOfMemory s n = absurd (n refl)

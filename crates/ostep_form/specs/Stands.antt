@@ -7,7 +7,7 @@ use Rattle.ostep_lex.specs.Lexing.{HasTokens}
 use Rattle.ostep_lex.specs.declared.fault.LexFault.TheVariants as tokens
 use Rattle.ostep_lex.specs.Stands.{Stands as StandsInTokens}
 use Rattle.ostep_form.specs.declared.fault.TextFault.{TextFault}
-use Rattle.ostep_form.specs.declared.fault.TextFault.TheVariants.{DuplicateKey, TooDeep, TooManyNodes, TooMuchPayload, BadUtf8, XmlForm, UnexpectedCharacter, UnclosedString, UnclosedComment, BadEscape, OctalRange, OddData, BadData, Expected, Junk, BadUtf16, OutOfMemory}
+use Rattle.ostep_form.specs.declared.fault.TextFault.TheVariants.{Tokens, DuplicateKey, TooDeep, TooManyNodes, TooMuchPayload, Expected, Junk, OutOfMemory}
 use Rattle.ostep_form.specs.Phrase.{RowsPhrase, TopPhrase}
 use Rattle.ostep_form.specs.Sorting.{has_key}
 use Rattle.ostep_form.specs.Begun.{Before, RowsAt, NodeAt}
@@ -96,22 +96,14 @@ pub data HasJunk (octets : List ℕ) (at : ℕ) : Type 0 where
   behind_phrase : {first token : Lexeme} {more others : List Lexeme} → Splits octets at (first ∷ more) (token ∷ others)
       → IsPhrase (first ∷ more) → ¬ BeginsPhrase (first ∷ (more ++ token ∷ [])) → HasJunk octets at
 
--- the octets have the fault at its place; of the octets want of memory says nothing
+-- the octets have the fault at its place; of the octets want of memory says nothing, and no fault of their
+-- tokens is want of memory
 abbrev pub Stands : List ℕ → TextFault → Type 0
+Stands octets (Tokens fault) = ¬ (fault ≡ tokens.OutOfMemory) × StandsInTokens octets fault
 Stands octets (DuplicateKey at) = HasKeyTwice octets at
 Stands octets (TooDeep at) = IsTooDeep octets at
 Stands octets (TooManyNodes at) = HasTooManyNodes octets at
 Stands octets (TooMuchPayload at) = HasTooMuchPayload octets at
-Stands octets (BadUtf8 at) = StandsInTokens octets (tokens.BadUtf8 at)
-Stands octets (XmlForm at) = StandsInTokens octets (tokens.XmlForm at)
-Stands octets (UnexpectedCharacter at) = StandsInTokens octets (tokens.UnexpectedCharacter at)
-Stands octets (UnclosedString at) = StandsInTokens octets (tokens.UnclosedString at)
-Stands octets (UnclosedComment at) = StandsInTokens octets (tokens.UnclosedComment at)
-Stands octets (BadEscape at) = StandsInTokens octets (tokens.BadEscape at)
-Stands octets (OctalRange at) = StandsInTokens octets (tokens.OctalRange at)
-Stands octets (OddData at) = StandsInTokens octets (tokens.OddData at)
-Stands octets (BadData at) = StandsInTokens octets (tokens.BadData at)
 Stands octets (Expected at) = IsUnfinished octets at
 Stands octets (Junk at) = HasJunk octets at
-Stands octets (BadUtf16 at) = StandsInTokens octets (tokens.BadUtf16 at)
 Stands octets OutOfMemory = ⊤

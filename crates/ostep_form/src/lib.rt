@@ -12,6 +12,3 @@ pub mod fault;
 pub mod laws;
 
 pub use fault::TextFault;
-
-#[cfg(test)]
-mod tests;
