@@ -1,0 +1,6 @@
+-- Units that an octet holds as they are.
+use Rattle.std.specs.Prelude.{ℕ, Bool, true, List, [], ◌∷◌, ◌&&◌, nat_lt}
+
+abbrev pub are_ascii : List ℕ → Bool
+are_ascii [] = true
+are_ascii (unit ∷ units) = nat_lt unit 128 && are_ascii units
