@@ -3,3 +3,5 @@
 
 #[cfg(test)]
 mod tokens;
+#[cfg(test)]
+mod writing;
