@@ -10,10 +10,3 @@ mod tables;
 
 pub use fault::BinaryFault;
 pub use reader::read;
-
-#[cfg(test)]
-mod drafts;
-#[cfg(test)]
-mod limit_tests;
-#[cfg(test)]
-mod tests;

@@ -14,8 +14,3 @@ mod weights;
 
 pub use checking::{CheckFault, Verdict, check};
 pub use plist_write::{DeviceFault, ListSink, Sink, WriteFault, canonical, write_canonical};
-
-#[cfg(test)]
-mod check_tests;
-#[cfg(test)]
-mod samples;

@@ -16,6 +16,3 @@ pub use lengths::{list_length, scalar_length, table_length, width_of};
 pub use object::{Object, ObjectFault};
 pub use puts::{put_list, put_scalar, put_table};
 pub use refs::Refs;
-
-#[cfg(test)]
-mod tests;

@@ -33,6 +33,3 @@ pub const MAX_DEPTH: u64 = 512;
 /// The greatest payload, in octets: two for each UTF-16 unit of a text, one for each octet of data, over
 /// the whole tree, keys included.
 pub const MAX_PAYLOAD: u64 = 1_073_741_824;
-
-#[cfg(test)]
-mod tests;

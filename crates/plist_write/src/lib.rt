@@ -11,8 +11,3 @@ mod walk;
 pub use making::canonical;
 pub use plist_devices::{DeviceFault, ListSink, Sink};
 pub use sending::{WriteFault, write_canonical};
-
-#[cfg(test)]
-mod map_tests;
-#[cfg(test)]
-mod tests;

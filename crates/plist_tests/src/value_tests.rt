@@ -1,4 +1,7 @@
-use super::*;
+//! Texts, numbers, copies and equality of values, and scalars as keys of maps.
+use crate::values::{data, empty_list, empty_table, table, text, units};
+use indexmap::IndexMap;
+use plist_value::{ScalarRef, TextRef, Utf16, Value, Whole, copy, fits, same};
 use std::alloc::{AllocError, Global};
 use std::cmp::Ordering;
 use std::collections::{BTreeMap, HashMap};
@@ -11,22 +14,11 @@ fn hash_of<T: Hash>(value: &T) -> u64 {
     state.finish()
 }
 
-fn letter(alloc: Global, unit: u16) -> Result<Utf16, AllocError> {
-    Ok(Utf16::from_units(vec![in alloc; unit]?))
-}
-
-// The table of b under a, and of a under b, the later key first if so asked.
-fn swapped(alloc: Global, later_first: bool) -> Result<Value, Fail> {
-    let keys = if later_first {
-        [0x62, 0x61]
-    } else {
-        [0x61, 0x62]
-    };
+// The table of b under a, and of a under b, the earlier key first.
+fn swapped(alloc: Global) -> Result<Value, AllocError> {
     let mut pairs = BTreeMap::new(alloc);
-    for key in keys {
-        let text = letter(alloc, if key == 0x61 { 0x62 } else { 0x61 })?;
-        drop(pairs.insert(letter(alloc, key)?, Value::Text(text))?);
-    }
+    drop(pairs.insert(units(alloc, &[0x61])?, text(alloc, &[0x62])?)?);
+    drop(pairs.insert(units(alloc, &[0x62])?, text(alloc, &[0x61])?)?);
     Ok(Value::Table(pairs))
 }
 
@@ -74,67 +66,82 @@ fn texts_by_their_units(rt: HostRuntime) -> Result<(), Fail> {
 
 #[test]
 fn texts_that_are_owned(rt: HostRuntime) -> Result<(), Fail> {
-    let text = Utf16::from_units(vec![in rt.alloc(); 0x61, 0x62]?);
+    let text = units(rt.alloc(), &[0x61, 0x62])?;
     let copy = text.copy(rt.alloc())?;
     assert_eq!(rt; copy.units(), [0x61, 0x62].as_slice());
     assert!(rt; copy == text);
-    assert!(rt; letter(rt.alloc(), 0x61)? < text);
+    assert!(rt; units(rt.alloc(), &[0x61])? < text);
     assert_eq!(rt; hash_of(&text), hash_of(&TextRef::of_units(text.units())));
     Ok(())
 }
 
 #[test]
 fn copies_of_tables(rt: HostRuntime) -> Result<(), Fail> {
-    let table = swapped(rt.alloc(), false)?;
-    let copied = copy(rt.alloc(), &table)?;
-    assert!(rt; same(&copied, &table));
-    assert!(rt; same(&swapped(rt.alloc(), true)?, &table));
+    let alloc = rt.alloc();
+    let pairs = swapped(alloc)?;
+    let copied = copy(alloc, &pairs)?;
+    assert!(rt; same(&copied, &pairs));
+    assert!(rt; same(&table(alloc, &[0x61], &[0x62])?, &pairs));
     assert!(rt; fits(&copied));
-    let empty = Value::Table(BTreeMap::new(rt.alloc()));
-    let list = Value::List(Vec::new(rt.alloc()));
-    assert!(rt; same(&copy(rt.alloc(), &empty)?, &empty));
-    assert!(rt; !same(&list, &empty));
-    assert!(rt; !same(&empty, &table));
+    let empty = empty_table(alloc);
+    assert!(rt; same(&copy(alloc, &empty)?, &empty));
+    assert!(rt; !same(&empty_list(alloc), &empty));
+    assert!(rt; !same(&empty, &pairs));
     Ok(())
 }
 
 #[test]
 fn copies_of_scalars(rt: HostRuntime) -> Result<(), Fail> {
-    let scalars = vec![in rt.alloc();
-        Value::Text(letter(rt.alloc(), 0xd800)?),
+    let alloc = rt.alloc();
+    let scalars = vec![in alloc;
+        text(alloc, &[0xd800])?,
         Value::Whole(Whole::new(5).ok_or("in the range")?),
         Value::Flag(true),
         Value::Real4([0; 4]),
         Value::Real8([0; 8]),
         Value::Moment([0; 8]),
-        Value::Bytes(vec![in rt.alloc(); 0x61]?),
+        data(alloc, b"a")?,
     ]?;
     for (i, scalar) in scalars.iter().enumerate() {
-        let again = copy(rt.alloc(), scalar)?;
+        let again = copy(alloc, scalar)?;
         for (k, other) in scalars.iter().enumerate() {
             assert_eq!(rt; same(&again, other), i == k, "{i} and {k}");
         }
     }
     let list = Value::List(scalars);
-    assert!(rt; same(&copy(rt.alloc(), &list)?, &list));
+    assert!(rt; same(&copy(alloc, &list)?, &list));
     Ok(())
 }
 
-// Whether a map that holds the one scalar finds the other.
-fn finds<'a>(alloc: Global, held: ScalarRef<'a>, wanted: ScalarRef<'a>) -> Result<bool, Fail> {
+// Whether a map that holds the one scalar finds the other: the map of std, and the one in insertion order.
+fn finds<'a>(
+    alloc: Global,
+    held: ScalarRef<'a>,
+    wanted: ScalarRef<'a>,
+) -> Result<(bool, bool), AllocError> {
     let mut numbers = HashMap::new(alloc);
-    drop(numbers.insert(held, 1)?);
-    Ok(numbers.contains_key(&wanted))
+    drop(numbers.insert(held, 1_u32)?);
+    let mut ordered = IndexMap::new(alloc);
+    drop(ordered.insert(held, 1_u32)?);
+    Ok((
+        numbers.contains_key(&wanted),
+        ordered.get(&wanted).is_some(),
+    ))
 }
 
 #[test]
 fn scalars_as_keys(rt: HostRuntime) -> Result<(), Fail> {
-    let text = Value::Text(letter(rt.alloc(), 0x61)?);
-    let scalar = ScalarRef::of(&text).ok_or("a scalar")?;
-    assert!(rt; ScalarRef::of(&swapped(rt.alloc(), false)?).is_none());
-    let wide = TextRef::of_wide(b"\x00a").ok_or("an even length")?;
-    assert!(rt; TextRef::of_ascii(b"a") == Some(wide));
-    assert!(rt; finds(rt.alloc(), scalar, ScalarRef::Text(wide))?);
-    assert!(rt; !finds(rt.alloc(), scalar, ScalarRef::Bytes(b"a"))?);
+    let alloc = rt.alloc();
+    let letter = text(alloc, &[0x61])?;
+    let owned = ScalarRef::of(&letter).ok_or("a scalar")?;
+    assert!(rt; ScalarRef::of(&swapped(alloc)?).is_none());
+    let ascii = ScalarRef::Text(TextRef::of_ascii(b"a").ok_or("all below 80")?);
+    let wide = ScalarRef::Text(TextRef::of_wide(b"\x00a").ok_or("an even length")?);
+    let bytes = ScalarRef::Bytes(b"a");
+    assert!(rt; ascii == wide);
+    assert_eq!(rt; finds(alloc, owned, wide)?, (true, true));
+    assert_eq!(rt; finds(alloc, owned, bytes)?, (false, false));
+    assert_eq!(rt; finds(alloc, ascii, wide)?, (true, true));
+    assert_eq!(rt; finds(alloc, ascii, bytes)?, (false, false));
     Ok(())
 }

@@ -1,16 +1,16 @@
-//! Values and files for tests.
+//! Small values, and their canonical files.
+use plist_canon::canonical;
 use plist_value::{Utf16, Value, fits};
-use plist_write::canonical;
 use std::alloc::{AllocError, Global};
 use std::collections::BTreeMap;
 use std::test::Fail;
 
-fn text_of(alloc: Global, units: &[u16]) -> Result<Utf16, AllocError> {
+pub(crate) fn units(alloc: Global, units: &[u16]) -> Result<Utf16, AllocError> {
     Ok(Utf16::from_units(Vec::from_slice(alloc, units)?))
 }
 
-pub(crate) fn text(alloc: Global, units: &[u16]) -> Result<Value, AllocError> {
-    Ok(Value::Text(text_of(alloc, units)?))
+pub(crate) fn text(alloc: Global, octets: &[u16]) -> Result<Value, AllocError> {
+    Ok(Value::Text(units(alloc, octets)?))
 }
 
 pub(crate) fn data(alloc: Global, octets: &[u8]) -> Result<Value, AllocError> {
@@ -28,11 +28,15 @@ pub(crate) fn empty_list(alloc: Global) -> Value {
     Value::List(Vec::new(alloc))
 }
 
-// b under the first key, and a under the second.
+pub(crate) fn empty_table(alloc: Global) -> Value {
+    Value::Table(BTreeMap::new(alloc))
+}
+
+// b under the first key, and a under the second, which is put first.
 pub(crate) fn table(alloc: Global, first: &[u16], second: &[u16]) -> Result<Value, AllocError> {
     let mut pairs = BTreeMap::new(alloc);
-    drop(pairs.insert(text_of(alloc, second)?, text(alloc, &[0x61])?)?);
-    drop(pairs.insert(text_of(alloc, first)?, text(alloc, &[0x62])?)?);
+    drop(pairs.insert(units(alloc, second)?, text(alloc, &[0x61])?)?);
+    drop(pairs.insert(units(alloc, first)?, text(alloc, &[0x62])?)?);
     Ok(Value::Table(pairs))
 }
 
@@ -52,23 +56,19 @@ pub(crate) fn numbers(alloc: Global, count: u32, powers: &[u32]) -> Result<Value
 
 pub(crate) const THREE_DIGITS: [u32; 3] = [100, 10, 1];
 
+pub(crate) const FIVE_DIGITS: [u32; 5] = [10_000, 1000, 100, 10, 1];
+
 // The file of a value within the limits.
-pub(crate) fn made(rt: &HostRuntime, value: &Value) -> Result<Vec<u8>, Fail> {
+pub(crate) fn made(alloc: Global, value: &Value) -> Result<Vec<u8>, Fail> {
     if !fits(value) {
         return Err(Fail::from("it does not fit"));
     }
-    Ok(canonical(rt.alloc(), value)?)
+    Ok(canonical(alloc, value)?)
 }
 
-// A file of fewer than 256 octets: the objects, the offset table, and the trailer.
-pub(crate) fn file(alloc: Global, objects: &[u8], entries: &[u8]) -> Result<Vec<u8>, AllocError> {
-    let mut file = Vec::from_slice(alloc, b"bplist00")?;
-    file.extend_from_slice(objects)?;
-    let table = file.len() as u64;
-    file.extend_from_slice(entries)?;
-    file.extend_from_slice(&[0, 0, 0, 0, 0, 0, 1, 1])?;
-    file.extend_from_slice(&(entries.len() as u64).to_be_bytes())?;
-    file.extend_from_slice(&0u64.to_be_bytes())?;
-    file.extend_from_slice(&table.to_be_bytes())?;
-    Ok(file)
+pub(crate) fn items_of(value: Value) -> Option<Vec<Value>> {
+    match value {
+        Value::List(items) => Some(items),
+        _ => None,
+    }
 }
