@@ -1,0 +1,44 @@
+#!/usr/bin/env bash
+# scripts/edits.sh [NAME..]: tries the edits crates/NAME/edits/*.edit, which the gate leaves out, on a copy of the
+# tree: the prover must refuse each. With no NAME, those of every crate that has some. As many crates run side by
+# side as there are processors (or JOBS). It prints one line a crate, and fails where one edit is not refused.
+set -u
+cd "$(dirname "$0")/.." || exit 2
+
+names=("$@")
+if [ ${#names[@]} -eq 0 ]; then
+    for folder in crates/*/edits; do
+        [ -d "$folder" ] && names+=("$(basename "$(dirname "$folder")")")
+    done
+fi
+for name in "${names[@]}"; do
+    if ! compgen -G "crates/$name/edits/*.edit" > /dev/null; then
+        echo "edits: $name has none in crates/$name/edits" >&2
+        exit 2
+    fi
+done
+
+copy=$(mktemp -d -t plistconv-edits-XXXXXX)
+trap 'rm -rf "$copy"' EXIT
+cp -r crates.txt crates "$copy/"
+[ -f HANDLES ] && cp HANDLES "$copy/"
+for name in "${names[@]}"; do
+    rm -rf "$copy/crates/$name/must-fail"
+    mv "$copy/crates/$name/edits" "$copy/crates/$name/must-fail"
+done
+
+# Tries the edits of one crate, and prints how many were refused, with what was said of the others.
+try() {
+    local wanted refused
+    wanted=$(find "$copy/crates/$1/must-fail" -name '*.edit' | wc -l)
+    (cd "$copy" && rt must-fail "$1") > "$copy/$1.log" 2>&1
+    refused=$(grep -c ': refused, as it must be' "$copy/$1.log")
+    echo "$1: $refused of $wanted edits refused"
+    [ "$refused" -eq "$wanted" ] && return 0
+    grep -v ': refused, as it must be' "$copy/$1.log" | sed 's/^/    /'
+    return 1
+}
+export -f try
+export copy
+
+printf '%s\n' "${names[@]}" | xargs -P "${JOBS:-$(nproc)}" -I NAME bash -c 'try NAME'
