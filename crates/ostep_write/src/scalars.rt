@@ -96,7 +96,8 @@ fn put_units(out: &mut Vec<u8>, units: &[u16]) -> Result<(), AllocError>
 
 // The units between quotes.
 fn put_quoted(out: &mut Vec<u8>, units: &[u16]) -> Result<(), AllocError>
-    ensures { OnOk result (out.new.items ≡ out.old.items ++ codes "\"" ++ flat_map quoted_unit units.now ++ codes "\"") }
+    ensures { OnOk result (out.new.items
+        ≡ out.old.items ++ codes "\"" ++ flat_map quoted_unit units.now ++ codes "\"") }
 {
     out.push(b'"')?;
     let mut left = put_stretch(out, units)?;
@@ -110,7 +111,8 @@ fn put_quoted(out: &mut Vec<u8>, units: &[u16]) -> Result<(), AllocError>
 
 // The units at the front that stand between quotes as they are. It answers those behind them.
 fn put_stretch<'a>(out: &mut Vec<u8>, units: &'a [u16]) -> Result<&'a [u16], AllocError>
-    ensures octets { IfOk result (λ left. out.new.items ++ flat_map quoted_unit left.now ≡ out.old.items ++ flat_map quoted_unit units.entry.now) }
+    ensures octets { IfOk result (λ left. out.new.items ++ flat_map quoted_unit left.now
+        ≡ out.old.items ++ flat_map quoted_unit units.entry.now) }
     ensures shorter { IfOk result (λ left. length left.now ≤ length units.entry.now) }
 {
     let (stretch, left) = units.split_at(stretch_length(units));
@@ -122,7 +124,8 @@ fn put_stretch<'a>(out: &mut Vec<u8>, units: &'a [u16]) -> Result<&'a [u16], All
 fn stretch_length(units: &[u16]) -> usize
     ensures within { result ≤ length units.now }
     ensures ascii { are_ascii (take result units.now) ≡ true }
-    ensures quoted { flat_map quoted_unit units.now ≡ take result units.now ++ flat_map quoted_unit (drop result units.now) }
+    ensures quoted { flat_map quoted_unit units.now
+        ≡ take result units.now ++ flat_map quoted_unit (drop result units.now) }
 {
     for (i, unit) in units.iter().enumerate() {
         if !stands_itself(*unit) {

@@ -3,7 +3,7 @@ ghost use Rattle.std.specs.Prelude.{◌≡◌, ◌++◌, true, false, Some, None
 ghost use Rattle.plist_value.specs.Plist.{list, table};
 ghost use Rattle.plist_value.specs.Limits.{Fits};
 ghost use Rattle.plist_value.specs.View.{view, view_items, view_pairs};
-ghost use Rattle.ostep_form.specs.Written.{is_writable, are_writable_items, are_writable_pairs, written, text_of};
+ghost use Rattle.ostep_form.specs.Written.{is_writable, written, text_of};
 ghost use Rattle.ostep_write.specs.declared.fault.TextWriteFault.TheVariants.{NotInOpenStep};
 
 use crate::TextWriteFault;
@@ -49,9 +49,11 @@ fn put_value(out: &mut Vec<u8>, value: &Value) -> Result<(), TextWriteFault>
 
 #[cycle(put)]
 fn put_list(out: &mut Vec<u8>, items: &Vec<Value>) -> Result<(), TextWriteFault>
-    ensures octets { OnOk result (out.new.items ≡ out.old.items ++ written (list (view_items items.now.items))) }
-    ensures writable { OnOk result (are_writable_items (view_items items.now.items) ≡ true) }
-    ensures refused { IsErrOf result NotInOpenStep → are_writable_items (view_items items.now.items) ≡ false }
+    ensures octets { OnOk result (out.new.items
+        ≡ out.old.items ++ written (list (view_items items.now.items))) }
+    ensures writable { OnOk result (is_writable (list (view_items items.now.items)) ≡ true) }
+    ensures refused { IsErrOf result NotInOpenStep
+        → is_writable (list (view_items items.now.items)) ≡ false }
 {
     out.extend_from_slice(b"(\n")?;
     for item in items {
@@ -64,9 +66,11 @@ fn put_list(out: &mut Vec<u8>, items: &Vec<Value>) -> Result<(), TextWriteFault>
 
 #[cycle(put)]
 fn put_table(out: &mut Vec<u8>, pairs: &BTreeMap<Utf16, Value>) -> Result<(), TextWriteFault>
-    ensures octets { OnOk result (out.new.items ≡ out.old.items ++ written (table (view_pairs pairs.now.entries))) }
-    ensures writable { OnOk result (are_writable_pairs (view_pairs pairs.now.entries) ≡ true) }
-    ensures refused { IsErrOf result NotInOpenStep → are_writable_pairs (view_pairs pairs.now.entries) ≡ false }
+    ensures octets { OnOk result (out.new.items
+        ≡ out.old.items ++ written (table (view_pairs pairs.now.entries))) }
+    ensures writable { OnOk result (is_writable (table (view_pairs pairs.now.entries)) ≡ true) }
+    ensures refused { IsErrOf result NotInOpenStep
+        → is_writable (table (view_pairs pairs.now.entries)) ≡ false }
 {
     out.extend_from_slice(b"{\n")?;
     for (key, value) in pairs {
