@@ -1,4 +1,5 @@
 pub mod Count
+pub mod Device
 pub mod ListSink
 pub mod ListSource
 pub mod ReaderSource

@@ -6,6 +6,7 @@ mod faults;
 pub mod list_sink;
 pub mod list_source;
 pub mod reader_source;
+pub mod readers;
 pub mod sinks;
 pub mod sources;
 
@@ -13,5 +14,6 @@ pub use faults::DeviceFault;
 pub use list_sink::ListSink;
 pub use list_source::ListSource;
 pub use reader_source::ReaderSource;
+pub use readers::Device;
 pub use sinks::Sink;
 pub use sources::Source;

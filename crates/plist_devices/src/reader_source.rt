@@ -1,7 +1,9 @@
 //! A reader of the library as a source.
-ghost use Rattle.std.specs.Prelude.{◌≡◌};
+ghost use Rattle.std.specs.Prelude.{◌≡◌, ◌<◌};
+ghost use Rattle.plist_devices.specs.Count.{count_limit};
+ghost use Rattle.plist_devices.specs.Source.{IsTake};
 
-use crate::{DeviceFault, Source};
+use crate::{Device, DeviceFault, Source};
 use std::io::Read;
 
 /// A reader of the library as a source. Each failing read is a failing take.
@@ -28,24 +30,30 @@ impl<R: Read> ReaderSource<R> {
     }
 }
 
-impl<R: Read> Source for ReaderSource<R> {
-    ghost use Rattle.plist_devices.specs.ReaderSource.{octets_to_come, failures_of};
+impl<D: Device> Source for ReaderSource<D> {
+    ghost use Rattle.plist_devices.specs.ReaderSource.{device_of, octets_to_come, failures_of};
 
-    ghost remaining = { octets_to_come R.remaining };
+    ghost remaining = { octets_to_come D.remaining };
 
     ghost failures = { failures_of };
 
-    fn take(&mut self, into: &mut [u8]) -> Result<usize, DeviceFault> {
+    fn take(&mut self, into: &mut [u8]) -> Result<usize, DeviceFault>
+        ensures take { IsTake (octets_to_come D.remaining self.old)
+            (octets_to_come D.remaining self.new)
+            (failures_of self.old) (failures_of self.new) result into.new }
+        // It is one read of the device, and fails where that read does, or where the count stands at the
+        // greatest.
+        ensures read { failures_of self.old < count_limit
+            → D.read_gives (device_of self.old) (device_of self.new) into.new result }
+    {
         if self.failures == u64::MAX {
             return Err(DeviceFault);
         }
-        match self.device.read(into) {
-            Ok(given) => Ok(given),
-            Err(_) => {
-                self.failures += 1;
-                Err(DeviceFault)
-            }
+        let result = self.device.read_once(into);
+        if result.is_err() {
+            self.failures += 1;
         }
+        result
     }
 
     fn failures(&self) -> u64 {
