@@ -3,11 +3,11 @@ use Rattle.std.specs.Prelude.{ℕ, List, ◌++◌, codes}
 use Rattle.std.specs.Fmt.{decimal}
 use Rattle.plist_canon.specs.declared.checking.Verdict.{Verdict}
 use Rattle.plist_canon.specs.declared.checking.Verdict.TheVariants.{Canonical, Broken}
-use Rattle.plist_files.specs.Line.{object_text}
+use Rattle.plist_binary.specs.Codes.{at_object}
 
 abbrev pub verdict_text : Verdict → List ℕ
 verdict_text Canonical = codes "canonical"
-verdict_text (Broken rule object) = codes "broken C" ++ (decimal rule ++ object_text object)
+verdict_text (Broken rule object) = codes "broken C" ++ (decimal rule ++ at_object object)
 
 -- 0 where the file is canonical, else 1
 abbrev pub verdict_status_for : Verdict → ℕ

@@ -9,6 +9,6 @@ mod words;
 
 pub use plist_devices::{DeviceFault, ListSource, ReaderSource, Source};
 pub use plist_files::{
-    Fault, MAX_INPUT, PairFault, canonicalise, laws, line, load, read_any, same_files,
+    Fault, MAX_INPUT, PairFault, Status, canonicalise, laws, line, load, read_any, same_files,
 };
 pub use program::run;

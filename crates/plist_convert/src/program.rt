@@ -9,6 +9,7 @@ ghost use Rattle.plist_convert.specs.CommandLine.{EndsAsRead, status_of_kind};
 ghost use Rattle.plist_files.specs.Fault.{code_of, status_for};
 ghost use Rattle.plist_convert.specs.Filter.{Filters};
 ghost use Rattle.plist_files.specs.Line.{line_of};
+ghost use Rattle.plist_files.specs.Status.{status_code};
 ghost use Rattle.plist_convert.specs.Printed.{PrintsBroken, PrintsRefusal, Says};
 ghost use Rattle.plist_convert.specs.Verdicts.{verdict_status_for, verdict_text};
 
@@ -18,7 +19,7 @@ use crate::words::{Request, read_words};
 use clap::error::{Error, ErrorKind};
 use plist_canon::{Verdict, check};
 use plist_devices::ReaderSource;
-use plist_files::{Fault, line, load, read_any};
+use plist_files::{Fault, Status, line, load, read_any};
 use plist_value::Value;
 use plist_write::canonical;
 use std::alloc::Global;
@@ -26,18 +27,6 @@ use std::fmt::Display;
 use std::fs;
 use std::io::{Read, Write};
 use std::rt::Files;
-
-/// The status where all was done.
-const DONE: u8 = 0;
-
-/// The status where the words are not understood.
-const BAD_WORDS: u8 = 3;
-
-/// The status where a line could not be printed.
-const NOT_PRINTED: u8 = 4;
-
-/// The status where no memory was left.
-const NO_MEMORY: u8 = 5;
 
 /// The path that stands for standard input and standard output in a line.
 const STANDARD: &str = "-";
@@ -62,10 +51,31 @@ pub fn run<R: Files, I: Read, O: Write>(
         → Filters (I.remaining input.old) (O.contents output.old) (O.contents output.new) }
     // Words that are refused, or ask for help, decide the status.
     ensures words { 2 ≤ length words.now → EndsAsRead (map (λ word. word.now) words.now) result }
-    ensures bad_words { result ≡ BAD_WORDS → 2 ≤ length words.now }
+    ensures bad_words { result ≡ 3 → 2 ≤ length words.now }
     // A file that is not canonical, and an input that is refused, are told by one line.
     ensures broken { result ≡ 1 → PrintsBroken (O.contents output.old) (O.contents output.new) }
     ensures refused { result ≡ 2 → PrintsRefusal (O.contents output.old) (O.contents output.new) }
+{
+    answer(rt, alloc, words, input, output).code()
+}
+
+/// What `run` does, with its status by name.
+fn answer<R: Files, I: Read, O: Write>(
+    rt: &R,
+    alloc: Global,
+    words: &[&str],
+    input: &mut I,
+    output: &mut O,
+) -> Status
+    ensures filtered { length words.now < 2 → status_code result ≡ 0
+        → Filters (I.remaining input.old) (O.contents output.old) (O.contents output.new) }
+    ensures words { 2 ≤ length words.now
+        → EndsAsRead (map (λ word. word.now) words.now) (status_code result) }
+    ensures bad_words { status_code result ≡ 3 → 2 ≤ length words.now }
+    ensures broken { status_code result ≡ 1
+        → PrintsBroken (O.contents output.old) (O.contents output.new) }
+    ensures refused { status_code result ≡ 2
+        → PrintsRefusal (O.contents output.old) (O.contents output.new) }
 {
     match read_words(alloc, words) {
         Ok(Request::Filter) => filter(alloc, input, output),
@@ -76,16 +86,17 @@ pub fn run<R: Files, I: Read, O: Write>(
 }
 
 /// The canonical file of the input, to the output.
-fn filter<I: Read, O: Write>(alloc: Global, input: &mut I, output: &mut O) -> u8
-    ensures status { result ≤ 5 }
-    ensures filtered { result ≡ 0
+fn filter<I: Read, O: Write>(alloc: Global, input: &mut I, output: &mut O) -> Status
+    ensures filtered { status_code result ≡ 0
         → Filters (I.remaining input.old) (O.contents output.old) (O.contents output.new) }
-    ensures understood { result ≢ BAD_WORDS }
-    ensures broken { result ≡ 1 → PrintsBroken (O.contents output.old) (O.contents output.new) }
-    ensures refused { result ≡ 2 → PrintsRefusal (O.contents output.old) (O.contents output.new) }
+    ensures understood { status_code result ≢ 3 }
+    ensures broken { status_code result ≡ 1
+        → PrintsBroken (O.contents output.old) (O.contents output.new) }
+    ensures refused { status_code result ≡ 2
+        → PrintsRefusal (O.contents output.old) (O.contents output.new) }
 {
     match send_canonical(alloc, input, output) {
-        Ok(()) => DONE,
+        Ok(()) => Status::Done,
         Err(fault) => report(alloc, STANDARD, &fault, output),
     }
 }
@@ -110,26 +121,28 @@ fn convert_binary1<R: Files, O: Write>(
     from: &str,
     to: &str,
     output: &mut O,
-) -> u8
-    ensures status { result ≤ 5 }
-    ensures broken { result ≡ 1 → PrintsBroken (O.contents output.old) (O.contents output.new) }
-    ensures refused { result ≡ 2 → PrintsRefusal (O.contents output.old) (O.contents output.new) }
+) -> Status
+    ensures broken { status_code result ≡ 1
+        → PrintsBroken (O.contents output.old) (O.contents output.new) }
+    ensures refused { status_code result ≡ 2
+        → PrintsRefusal (O.contents output.old) (O.contents output.new) }
 {
     let file = match canonical_at(rt, alloc, from) {
         Ok(file) => file,
         Err(fault) => return report(alloc, from, &fault, output),
     };
     match put(rt, to, file.as_slice()) {
-        Ok(()) => DONE,
+        Ok(()) => Status::Done,
         Err(fault) => report(alloc, to, &fault, output),
     }
 }
 
 /// Whether the file at the path is canonical.
-fn check_file<R: Files, O: Write>(rt: &R, alloc: Global, path: &str, output: &mut O) -> u8
-    ensures status { result ≤ 5 }
-    ensures broken { result ≡ 1 → PrintsBroken (O.contents output.old) (O.contents output.new) }
-    ensures refused { result ≡ 2 → PrintsRefusal (O.contents output.old) (O.contents output.new) }
+fn check_file<R: Files, O: Write>(rt: &R, alloc: Global, path: &str, output: &mut O) -> Status
+    ensures broken { status_code result ≡ 1
+        → PrintsBroken (O.contents output.old) (O.contents output.new) }
+    ensures refused { status_code result ≡ 2
+        → PrintsRefusal (O.contents output.old) (O.contents output.new) }
 {
     match verdict_at(rt, alloc, path) {
         Ok(verdict) => tell(alloc, verdict, output),
@@ -178,10 +191,9 @@ fn put<R: Files>(rt: &R, path: &str, octets: &[u8]) -> Result<(), Fault> {
 }
 
 /// Prints the line of a verdict, and answers its status.
-fn tell<O: Write>(alloc: Global, verdict: Verdict, output: &mut O) -> u8
-    ensures status { result ≤ 5 }
+fn tell<O: Write>(alloc: Global, verdict: Verdict, output: &mut O) -> Status
     ensures says { Says (O.contents output.old) (O.contents output.new) (verdict_text verdict)
-        (verdict_status_for verdict) result }
+        (verdict_status_for verdict) (status_code result) }
 {
     match verdict_line(alloc, verdict) {
         Ok(text) => print(output, format_args!("{text}\n"), verdict_status(verdict)),
@@ -190,42 +202,42 @@ fn tell<O: Write>(alloc: Global, verdict: Verdict, output: &mut O) -> u8
 }
 
 /// Prints the line of a refusal, and answers its status.
-fn report<O: Write>(alloc: Global, path: &str, fault: &Fault, output: &mut O) -> u8
-    ensures not_done { 0 < result }
-    ensures status { result ≤ 5 }
+fn report<O: Write>(alloc: Global, path: &str, fault: &Fault, output: &mut O) -> Status
+    ensures not_done { 0 < status_code result }
     ensures says { Says (O.contents output.old) (O.contents output.new) (line_of path.now fault.now)
-        (status_for (code_of fault.now)) result }
+        (status_for (code_of fault.now)) (status_code result) }
 {
     match line(alloc, path, fault) {
-        Ok(text) => print(output, format_args!("{text}\n"), fault.status()),
+        Ok(text) => print(output, format_args!("{text}\n"), fault.end_status()),
         Err(_) => report_no_memory(output),
     }
 }
 
-fn report_no_memory<O: Write>(output: &mut O) -> u8
-    ensures { (result ≡ NO_MEMORY) ⊎ (result ≡ NOT_PRINTED) }
+fn report_no_memory<O: Write>(output: &mut O) -> Status
+    ensures { (result ≡ Status.NoMemory) ⊎ (result ≡ Status.DeviceFailed) }
 {
-    print(output, "refused 60 OutOfMemory\n", NO_MEMORY)
+    print(output, "refused 60 OutOfMemory\n", Status::NoMemory)
 }
 
 /// Prints what `clap` says of the words, and answers the status.
-fn explain<O: Write>(error: &Error, output: &mut O) -> u8
-    ensures { (result ≡ status_of_kind (kind_of error.now)) ⊎ (result ≡ NOT_PRINTED) }
+fn explain<O: Write>(error: &Error, output: &mut O) -> Status
+    ensures { (status_code result ≡ status_of_kind (kind_of error.now))
+        ⊎ (status_code result ≡ 4) }
 {
     match error.kind() {
         ErrorKind::OutOfMemory => report_no_memory(output),
-        ErrorKind::DisplayHelp | ErrorKind::DisplayVersion => print(output, error, DONE),
-        _ => print(output, error, BAD_WORDS),
+        ErrorKind::DisplayHelp | ErrorKind::DisplayVersion => print(output, error, Status::Done),
+        _ => print(output, error, Status::BadWords),
     }
 }
 
 /// Prints the text, and answers the status, or that a line could not be printed.
-fn print<O: Write, D: Display + Drop>(output: &mut O, text: D, status: u8) -> u8
+fn print<O: Write, D: Display + Drop>(output: &mut O, text: D, status: Status) -> Status
     ensures { ((result ≡ status) × IfSome (D.output text) (Appends (O.contents output.old) (O.contents output.new)))
-        ⊎ (result ≡ NOT_PRINTED) }
+        ⊎ (result ≡ Status.DeviceFailed) }
 {
     match write!(output, "{text}") {
         Ok(()) => status,
-        Err(_) => NOT_PRINTED,
+        Err(_) => Status::DeviceFailed,
     }
 }

@@ -1,6 +1,7 @@
--- The numbers of the refusals, and the program's status for each.
-use Rattle.std.specs.Prelude.{ℕ, ◌==◌, ◌||◌, if◌then◌else◌}
-use Rattle.plist_binary.specs.Codes.{fault_code}
+-- The numbers of the refusals, how they are printed, and the program's status for each.
+use Rattle.std.specs.Prelude.{ℕ, List, ◌==◌, ◌||◌, ◌++◌, codes, if◌then◌else◌}
+use Rattle.std.specs.Fmt.{decimal}
+use Rattle.plist_binary.specs.Codes as binary_codes
 use Rattle.plist_binary.specs.declared.fault.BinaryFault.{BinaryFault}
 use Rattle.plist_binary.specs.declared.fault.BinaryFault.TheVariants as binary
 use Rattle.plist_canon.specs.declared.checking.CheckFault.{CheckFault}
@@ -10,11 +11,23 @@ use Rattle.plist_files.specs.declared.faults.Fault.TheVariants.{Binary, ReadFail
 
 -- the number of a refusal
 abbrev pub code_of : Fault → ℕ
-code_of (Binary fault) = fault_code fault
+code_of (Binary fault) = binary_codes.fault_code fault
 code_of ReadFailed = 50
 code_of (WriteFailed _) = 51
 code_of InputTooLarge = 52
 code_of (OutOfMemory _) = 60
+
+-- the words for the octets that had gone out
+abbrev pub after_octets : ℕ → List ℕ
+after_octets sent = codes " after " ++ (decimal sent ++ codes " octets")
+
+-- what is printed: the number, the name and the place
+abbrev pub fault_text : Fault → List ℕ
+fault_text (Binary fault) = binary_codes.fault_text fault
+fault_text ReadFailed = codes "50 ReadFailed"
+fault_text (WriteFailed sent) = codes "51 WriteFailed" ++ after_octets sent
+fault_text InputTooLarge = codes "52 InputTooLarge"
+fault_text (OutOfMemory sent) = codes "60 OutOfMemory" ++ after_octets sent
 
 -- the status with which the program ends for a number: 4 where a device failed, 5 where no memory was left, else 2
 abbrev pub status_for : ℕ → ℕ
@@ -27,7 +40,5 @@ fault_for fault = Binary fault
 
 -- the refusal of a check as one of this crate, with the same number
 abbrev pub check_fault_for : CheckFault → Fault
-check_fault_for check.TooShort = Binary binary.TooShort
-check_fault_for check.BadHeader = Binary binary.BadHeader
-check_fault_for check.BadTrailer = Binary binary.BadTrailer
+check_fault_for (check.Layout fault) = Binary (binary.Layout fault)
 check_fault_for check.OutOfMemory = OutOfMemory 0

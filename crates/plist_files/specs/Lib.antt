@@ -4,5 +4,5 @@ pub mod Laws
 pub mod Line
 pub mod Load
 pub mod Pair
-pub mod Place
 pub mod Refusals
+pub mod Status

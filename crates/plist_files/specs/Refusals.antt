@@ -2,13 +2,16 @@
 use Rattle.std.specs.Prelude.{◌≡◌, ◌≢◌, ℕ, List}
 use Rattle.plist_value.specs.Plist.{Plist}
 use Rattle.plist_binary.specs.Faults.{Stands}
+use Rattle.plist_binary.specs.declared.fault.BinaryFault.TheVariants as binary
 use Rattle.plist_files.specs.Accepted.{IsAccepted}
 use Rattle.plist_files.specs.Fault.{code_of}
 use Rattle.plist_files.specs.declared.faults.Fault.{Fault}
 use Rattle.plist_files.specs.declared.faults.Fault.TheVariants.{Binary, ReadFailed, WriteFailed, InputTooLarge, OutOfMemory}
 
--- the fault stands in the octets, at its place; a want of memory says nothing of them
+-- The fault stands in the octets, at its place. A want of memory says nothing of them: it came before anything went
+-- out, and is told by its own name, not as the reader's.
 abbrev pub FaultStands : List ℕ → Fault → Type 0
+FaultStands octets (Binary binary.OutOfMemory) = ⊥
 FaultStands octets (Binary fault) = Stands octets fault
 FaultStands octets (OutOfMemory sent) = sent ≡ 0
 FaultStands octets ReadFailed = ⊥

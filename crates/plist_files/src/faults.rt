@@ -1,31 +1,29 @@
-//! Every refusal of this crate, with its number and the program's status for it.
+//! Every refusal of this crate, with its number, its printed form, and the program's status for it.
 ghost use Rattle.std.specs.Prelude.{◌≡◌};
-ghost use Rattle.plist_files.specs.Fault.{check_fault_for, code_of, fault_for, status_for};
+ghost use Rattle.plist_files.specs.Fault.{check_fault_for, code_of, fault_for, fault_text, status_for};
+ghost use Rattle.plist_files.specs.Status.{status_code};
 ghost use Rattle.plist_files.specs.declared.faults.Fault.TheVariants.{OutOfMemory, ReadFailed};
 
+use crate::Status;
 use plist_binary::BinaryFault;
 use plist_canon::CheckFault;
 use plist_devices::DeviceFault;
 use std::alloc::AllocError;
-use thiserror::Error;
+use std::error::Error;
+use std::fmt;
 
 /// Why a call was refused.
-#[derive(Clone, Copy, Debug, PartialEq, Eq, Error)]
+#[derive(Clone, Copy, Debug, PartialEq, Eq)]
 pub enum Fault {
     /// 1 to 18: the octets are no binary file of a value.
-    #[error(transparent)]
     Binary(BinaryFault),
     /// 50: the source failed.
-    #[error("the source failed")]
     ReadFailed,
     /// 51: the sink failed after it had taken `sent` octets.
-    #[error("the sink failed after {sent} octets")]
     WriteFailed { sent: u64 },
     /// 52: the source gave more than [`MAX_INPUT`](crate::MAX_INPUT) octets.
-    #[error("there are more than 4294967295 octets")]
     InputTooLarge,
     /// 60: no memory was left, after `sent` octets had gone out.
-    #[error("no memory is left after {sent} octets")]
     OutOfMemory { sent: u64 },
 }
 
@@ -48,10 +46,36 @@ impl Fault {
     pub fn status(&self) -> u8
         ensures { result ≡ status_for (code_of self.now) }
     {
+        self.end_status().code()
+    }
+
+    /// The status with which the program ends, by its name.
+    pub fn end_status(&self) -> Status
+        ensures { status_code result ≡ status_for (code_of self.now) }
+    {
         match self.code() {
-            50 | 51 => 4,
-            60 => 5,
-            _ => 2,
+            50 | 51 => Status::DeviceFailed,
+            60 => Status::NoMemory,
+            _ => Status::Refused,
+        }
+    }
+}
+
+impl Error for Fault {}
+
+/// The number, the name and the place of the refusal: `14 DuplicateKey at object 0`.
+impl fmt::Display for Fault {
+    ghost use Rattle.std.specs.Prelude.{Some};
+
+    ghost output = { λ fault. Some (fault_text fault) };
+
+    fn fmt<W: fmt::Write>(&self, f: &mut fmt::Formatter<W>) -> fmt::Result {
+        match self {
+            Fault::Binary(fault) => write!(f, "{fault}"),
+            Fault::ReadFailed => write!(f, "50 ReadFailed"),
+            Fault::WriteFailed { sent } => write!(f, "51 WriteFailed after {sent} octets"),
+            Fault::InputTooLarge => write!(f, "52 InputTooLarge"),
+            Fault::OutOfMemory { sent } => write!(f, "60 OutOfMemory after {sent} octets"),
         }
     }
 }
@@ -72,9 +96,7 @@ impl From<CheckFault> for Fault {
 
     fn from(fault: CheckFault) -> Fault {
         match fault {
-            CheckFault::TooShort => Fault::Binary(BinaryFault::TooShort),
-            CheckFault::BadHeader => Fault::Binary(BinaryFault::BadHeader),
-            CheckFault::BadTrailer => Fault::Binary(BinaryFault::BadTrailer),
+            CheckFault::Layout(fault) => Fault::Binary(BinaryFault::Layout(fault)),
             CheckFault::OutOfMemory => Fault::OutOfMemory { sent: 0 },
         }
     }

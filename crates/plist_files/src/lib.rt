@@ -8,9 +8,11 @@ pub mod laws;
 pub mod lines;
 pub mod loading;
 pub mod pairs;
+pub mod statuses;
 
 pub use canonicals::{canonicalise, read_any, same_files};
 pub use faults::Fault;
 pub use lines::line;
 pub use loading::{MAX_INPUT, load};
 pub use pairs::PairFault;
+pub use statuses::Status;

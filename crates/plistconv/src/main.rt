@@ -2,26 +2,17 @@
 //! standard output.
 #![tactic(auto)]
 
-use plist_convert::run;
+use plist_convert::{Status, run};
 use std::io::ErrorKind;
 use std::process::ExitCode;
 use std::{env, io};
-
-/// The status where the words are not understood: one of them is not UTF-8.
-const BAD_WORDS: u8 = 3;
-
-/// The status where no memory was left.
-const NO_MEMORY: u8 = 5;
-
-/// The status where a line could not be printed.
-const NOT_PRINTED: u8 = 4;
 
 fn main(rt: HostRuntime) -> ExitCode {
     let status = match answer(&rt) {
         Ok(status) => status,
         Err(error) => match error.kind() {
-            ErrorKind::OutOfMemory => refuse(&rt, "refused 60 OutOfMemory", NO_MEMORY),
-            _ => refuse(&rt, "error: a word is not UTF-8", BAD_WORDS),
+            ErrorKind::OutOfMemory => refuse(&rt, "refused 60 OutOfMemory", Status::NoMemory),
+            _ => refuse(&rt, "error: a word is not UTF-8", Status::BadWords),
         },
     };
     ExitCode::from(status)
@@ -43,9 +34,10 @@ fn answer(rt: &HostRuntime) -> io::Result<u8> {
 }
 
 /// Prints the line, and answers the status.
-fn refuse(rt: &HostRuntime, line: &str, status: u8) -> u8 {
-    match rt.println(line) {
+fn refuse(rt: &HostRuntime, line: &str, status: Status) -> u8 {
+    let printed = match rt.println(line) {
         Ok(()) => status,
-        Err(_) => NOT_PRINTED,
-    }
+        Err(_) => Status::DeviceFailed,
+    };
+    printed.code()
 }

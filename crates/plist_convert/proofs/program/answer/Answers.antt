@@ -1,5 +1,5 @@
 use Rattle.plist_convert.proofs.CommandLine.{refused_ends, taken_ends}
-use Rattle.plist_convert.proofs.program.run.Goals as goal
+use Rattle.plist_convert.proofs.program.answer.Goals as goal
 
 pub returns-in-Ok-Filter-clause-words : goal.returns-in-Ok-Filter-clause-words
 returns-in-Ok-Filter-clause-words g c = λ some. taken_ends _ _ _ (c.in-Ok-Filter.ensures.reading some)
