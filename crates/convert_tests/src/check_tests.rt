@@ -1,5 +1,5 @@
-use plist_convert::run;
 use crate::test_files::file;
+use plist_convert::run;
 use std::fs;
 use std::test::Fail;
 

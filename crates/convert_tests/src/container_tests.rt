@@ -119,26 +119,6 @@ fn containers_have_one_file(rt: HostRuntime) -> Result<(), Fail> {
     Ok(())
 }
 
-#[test]
-fn containers_are_refused_with_their_fault(rt: HostRuntime) -> Result<(), Fail> {
-    let rows: [(&[u8], &[u8], u8); 4] = [
-        (&[0xa1, 0], &[8], 15),
-        (&[0xa1, 1], &[8], 5),
-        (&[0xd1, 1, 1, 0x09], &[8, 11], 13),
-        (
-            &[0xd2, 1, 2, 3, 3, 0x51, 0x61, 0x51, 0x61, 0x09],
-            &[8, 13, 15, 17],
-            14,
-        ),
-    ];
-    for (objects, entries, code) in rows {
-        let source = file(rt.alloc(), objects, entries, 1)?;
-        let fault = canonicalise(rt.alloc(), source.as_slice()).err();
-        assert_eq!(rt; fault.ok_or("a refusal")?.code(), code);
-    }
-    Ok(())
-}
-
 const CONVERT: [&str; 5] = ["plistconv", "convert", "binary1", "tree.in", "tree.out"];
 
 #[test]

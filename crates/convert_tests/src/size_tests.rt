@@ -1,5 +1,5 @@
-use plist_convert::canonicalise;
 use crate::test_files::{end, one};
+use plist_convert::canonicalise;
 use std::alloc::{AllocError, Global};
 use std::test::Fail;
 

@@ -1,5 +1,6 @@
-use plist_convert::{DeviceFault, Fault, ListSource, ReaderSource, Source, line, load, run};
 use plist_binary::BinaryFault;
+use plist_convert::{DeviceFault, Fault, ListSource, ReaderSource, Source, line, load, run};
+use plist_object::{LayoutFault, ObjectFault};
 use std::io::{ErrorKind, Read, Write};
 use std::test::Fail;
 use std::{fs, io};
@@ -76,14 +77,21 @@ fn loads_from_readers(rt: HostRuntime) -> Result<(), Fail> {
 
 #[test]
 fn prints_faults(rt: HostRuntime) -> Result<(), Fail> {
-    let not_ascii = BinaryFault::NotAscii { object: 7 };
+    let not_ascii = BinaryFault::Object {
+        object: 7,
+        fault: ObjectFault::NotAscii,
+    };
     let written = Fault::WriteFailed { sent: 10 };
     let cases = [
         (
             Fault::Binary(not_ascii),
             "p: refused 11 NotAscii at object 7",
         ),
-        (Fault::from(BinaryFault::TooShort), "p: refused 1 TooShort"),
+        (
+            Fault::from(BinaryFault::Layout(LayoutFault::TooShort)),
+            "p: refused 1 TooShort",
+        ),
+        (Fault::InputTooLarge, "p: refused 52 InputTooLarge"),
         (written, "p: refused 51 WriteFailed after 10 octets"),
         (Fault::from(DeviceFault), "p: refused 50 ReadFailed"),
         (
@@ -95,12 +103,9 @@ fn prints_faults(rt: HostRuntime) -> Result<(), Fail> {
         assert_eq!(rt; line(rt.alloc(), "p", &fault)?.as_str(), want);
     }
     let text = Fault::Binary(not_ascii).to_string(rt.alloc())?;
-    assert_eq!(rt;
-        text.as_str(),
-        "object 7 is an ASCII text with an octet above 7f"
-    );
+    assert_eq!(rt; text.as_str(), "11 NotAscii at object 7");
     let text = written.to_string(rt.alloc())?;
-    assert_eq!(rt; text.as_str(), "the sink failed after 10 octets");
+    assert_eq!(rt; text.as_str(), "51 WriteFailed after 10 octets");
     let text = DeviceFault.to_string(rt.alloc())?;
     assert_eq!(rt; text.as_str(), "the device failed");
     Ok(())
