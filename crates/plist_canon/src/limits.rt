@@ -48,7 +48,7 @@ fn charge(
 {
     let below = levels.checked_sub(1)?;
     let weight = weights[object as usize];
-    let left = left.spend(weight.payload())?;
+    let left = weight.spend(left)?;
     // A scalar has no references, and is not read again.
     if weight.is_scalar() {
         return Some(left);

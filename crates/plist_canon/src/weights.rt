@@ -1,10 +1,11 @@
 //! What the limits ask of an object.
-ghost use Rattle.std.specs.Prelude.{◌≡◌};
+ghost use Rattle.std.specs.Prelude.{◌≡◌, IfSome, IfNone};
+ghost use Rattle.plist_value.specs.Budget.{Spends, IsOver};
 ghost use Rattle.plist_object.specs.Views.{held_of};
 ghost use Rattle.plist_canon.specs.Weights.{weight_of, is_scalar_weight, payload_of_weight};
 
 use plist_object::Object;
-use plist_value::ScalarRef;
+use plist_value::{Budget, ScalarRef};
 
 /// What the limits ask of an object besides its references.
 #[derive(Clone, Copy)]
@@ -30,14 +31,16 @@ impl Weight {
         }
     }
 
-    /// The payload in octets: two for each unit. A container has none of its own.
-    pub(crate) fn payload(self) -> u128
-        ensures { result ≡ payload_of_weight self }
+    /// What is left of the budget after one node and its payload: two octets for each unit. A container has
+    /// no payload of its own.
+    pub(crate) fn spend(self, left: Budget) -> Option<Budget>
+        ensures left { IfSome result (Spends left 1 (payload_of_weight self)) }
+        ensures over { IfNone result (IsOver left 1 (payload_of_weight self)) }
     {
         match self {
-            Weight::Units(units) => 2 * u128::from(units),
-            Weight::Octets(octets) => u128::from(octets),
-            Weight::Container => 0,
+            Weight::Units(units) => left.spend(2 * u128::from(units)),
+            Weight::Octets(octets) => left.spend(u128::from(octets)),
+            Weight::Container => left.spend(0),
         }
     }
 

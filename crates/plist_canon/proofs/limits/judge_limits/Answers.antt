@@ -8,7 +8,7 @@ returns-in-None-clause-err c =
     rw c.at.ensures
     (breaks_c0 0 (λ within.
     let fits = within.fits s.0 s.1.0 s.1.1 in
-    c.in-None.ensures.over s.0 s.1.0 s.1.1 fits.depth_fits fits.nodes_fit fits.payload_fits))
+    c.in-None.ensures.over s.0 s.1.0 s.1.1 fits.depth_fits (rw c.whole.ensures.nodes fits.nodes_fit) (rw c.whole.ensures.payload fits.payload_fits)))
 
 pub returns-in-Some-clause-ok : goal.returns-in-Some-clause-ok
 returns-in-Some-clause-ok c = λ v valid spells.
@@ -16,4 +16,6 @@ returns-in-Some-clause-ok c = λ v valid spells.
     let spent = charges.spent v valid spells in
     let a = spent.nodes_left in
     let b = spent.payload_left in
+    let n = c.whole.ensures.nodes in
+    let p = c.whole.ensures.payload in
     record { nodes_fit = omega arith; depth_fits = charges.deep v valid spells; payload_fits = omega arith }
