@@ -7,6 +7,8 @@ pub mod GapSteps
 pub mod Exits
 pub mod NumberLemmas
 pub mod StringSteps
+pub mod StretchLemmas
+pub mod StretchSteps
 pub mod OctetsSteps
 pub mod TokenSteps
 pub mod OpenLemmas

@@ -13,6 +13,9 @@ use Rattle.ostep_lex.specs.Quoted.{Escape, Piece, Quoted, Run}
 use Rattle.ostep_lex.specs.Octets.{OctetsPiece, Octets}
 use Rattle.ostep_lex.specs.Gap.{GapPiece, Gap, begins_gap}
 use Rattle.ostep_lex.specs.Source.{characters_in, encoding_in}
+use Rattle.ostep_lex.specs.declared.stretch.Class.{Class}
+use Rattle.ostep_lex.specs.declared.stretch.Class.TheVariants.{Raw}
+use Rattle.ostep_lex.specs.Stretch.{is_stretch}
 
 -- the characters from the cursor on
 unfoldable pub ahead : Cursor → List ℕ
@@ -50,6 +53,18 @@ pub record StandsBehind (octets : List ℕ) (tokens : List Placed) (cursor : Cur
 abbrev pub begins_with : ℕ → List ℕ → Bool
 begins_with c [] = false
 begins_with c (d ∷ rest) = d == c
+
+-- from the old place to the new, these characters stand, a stretch of the class
+pub record PassesStretch (kind : Class) (old : Cursor) (front : List ℕ) (new : Cursor) : Type 0 where
+  pub stretch : is_stretch kind front ≡ true
+  pub text : ahead old ≡ front ++ ahead new
+  pub input : SameInput old new
+
+-- from the old place to the new, a stretch of raw characters stands, and these are appended
+pub record RawAppends (mark : ℕ) (units more : List ℕ) (old new : Cursor) : Type 0 where
+  pub front : List ℕ
+  pub passes : PassesStretch (Raw mark) old front new
+  pub appended : more ≡ units ++ front
 
 -- from the old place to the new, a piece of a gap stands, or a whole gap
 pub record PassesPiece (old new : Cursor) : Type 0 where

@@ -10,5 +10,6 @@ pub mod Lexeme
 pub mod Lexing
 pub mod Stands
 pub mod Cursor
+pub mod Stretch
 pub mod Spans
 pub mod Laws

@@ -4,6 +4,7 @@ ghost use Rattle.ostep_lex.specs.Source.{IsWhole, octets_in};
 
 use crate::fault::LexFault;
 use crate::source::{ByteOrder, Source, behind_characters};
+use crate::stretch::Class;
 use std::str;
 
 /// A place in an input, and the characters from there on. It is passed by value.
@@ -16,7 +17,7 @@ pub struct Cursor<'a> {
 }
 
 impl<'a> Cursor<'a> {
-    ghost use Rattle.ostep_lex.specs.Cursor.{ahead, place_at, SameInput, begins_with};
+    ghost use Rattle.ostep_lex.specs.Cursor.{ahead, place_at, SameInput, begins_with, PassesStretch};
     ghost use Rattle.ostep_lex.specs.Cursor.{Holds, IsBadUtf8, IsBadUtf16};
     ghost use Rattle.ostep_lex.specs.Encoding.{utf8, StopsBehind};
     ghost use Rattle.ostep_lex.specs.Source.{encoding_by};
@@ -43,6 +44,23 @@ impl<'a> Cursor<'a> {
                 end: self.end,
             },
         ))
+    }
+
+    /// A stretch of the class at the cursor, and the cursor behind it. It is the longest of UTF-8,
+    /// and empty of UTF-16.
+    #[inline(always)]
+    #[tactic(auto, unfolding(crate::specs::Cursor::ahead, crate::specs::Cursor::places_in))]
+    pub(crate) fn stretch(self, class: Class) -> (&'a [u8], Cursor<'a>)
+        ensures { PassesStretch class self.entry result.0.now result.1 }
+    {
+        let (front, source) = self.source.stretch(class);
+        (
+            front,
+            Cursor {
+                source,
+                end: self.end,
+            },
+        )
     }
 
     /// The cursor behind the character, if it stands first.

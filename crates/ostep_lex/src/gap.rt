@@ -8,18 +8,19 @@ ghost use Rattle.ostep_lex.specs.Cursor.{ahead, places_in, SameInput, PassesPiec
 use crate::character::{is_line_end, is_white};
 use crate::cursor::Cursor;
 use crate::fault::LexFault;
+use crate::stretch::Class;
 
 /// Behind `//`: up to a line end, or the end.
 fn line_comment(cursor: Cursor<'_>) -> Cursor<'_>
     ensures comment { LineComment (ahead cursor.entry) (ahead result) }
     ensures input { SameInput cursor.entry result }
 {
-    let mut rest = cursor;
+    let (_, mut rest) = cursor.stretch(Class::Line);
     while let Some((c, behind)) = rest.first() {
         if is_line_end(c) {
             break;
         }
-        rest = behind;
+        rest = behind.stretch(Class::Line).1;
     }
     rest
 }
@@ -37,12 +38,12 @@ fn block_comment(cursor: Cursor<'_>) -> Option<Cursor<'_>>
     ensures { MatchOption result (NeverCloses (ahead cursor.entry)) (λ end.
         BlockComment (ahead cursor.entry) (ahead end) × SameInput cursor.entry end) }
 {
-    let mut rest = cursor;
+    let (_, mut rest) = cursor.stretch(Class::Starless);
     while let Some((_, behind)) = rest.first() {
         if let Some(end) = comment_end(rest) {
             return Some(end);
         }
-        rest = behind;
+        rest = behind.stretch(Class::Starless).1;
     }
     None
 }
@@ -93,9 +94,9 @@ pub fn gap(cursor: Cursor<'_>) -> Result<Cursor<'_>, LexFault>
     ensures ok { IfOk result (PassesGap cursor.entry) }
     ensures err { IfErr result (FaultBehind (places_in cursor.entry) (ahead cursor.entry)) }
 {
-    let mut rest = cursor;
+    let (_, mut rest) = cursor.stretch(Class::White);
     while let Some(behind) = gap_piece(rest)? {
-        rest = behind;
+        rest = behind.stretch(Class::White).1;
     }
     Ok(rest)
 }

@@ -15,6 +15,7 @@ mod octets;
 mod opening;
 mod quoted;
 mod source;
+mod stretch;
 pub mod token;
 
 pub use cursor::Cursor;

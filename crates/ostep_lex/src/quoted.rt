@@ -6,12 +6,13 @@ ghost use Rattle.ostep_lex.specs.Quoted.{escaped, unit_letter};
 ghost use Rattle.ostep_lex.specs.Character.{backslash as backslash_code, is_quote};
 ghost use Rattle.ostep_lex.specs.Stands.{EscapeFault, QuotedFault};
 ghost use Rattle.ostep_lex.specs.Cursor.{ahead, places_in, SameInput, UnlessMemory};
-ghost use Rattle.ostep_lex.specs.Cursor.{EscapeAppends, PieceAppends, PassesQuoted, PassesRun};
+ghost use Rattle.ostep_lex.specs.Cursor.{EscapeAppends, PieceAppends, RawAppends, PassesQuoted, PassesRun};
 
 use crate::character::is_run;
 use crate::cursor::Cursor;
 use crate::digits::{begins_digit, number};
 use crate::fault::LexFault;
+use crate::stretch::{Class, push_octets};
 use std::alloc::{AllocError, Global};
 
 /// The units of the run at the cursor, as many run characters as stand there, and the cursor behind
@@ -19,8 +20,10 @@ use std::alloc::{AllocError, Global};
 pub fn run(alloc: Global, cursor: Cursor<'_>) -> Result<(Vec<u16>, Cursor<'_>), AllocError>
     ensures { IfOk result (λ found. PassesRun cursor.entry found.1 found.0.items) }
 {
+    let (front, behind) = cursor.stretch(Class::Run);
     let mut units = Vec::new(alloc);
-    let mut rest = cursor;
+    push_octets(&mut units, front)?;
+    let mut rest = behind;
     while let Some((c, behind)) = rest.first() {
         if !is_run(c) {
             break;
@@ -161,6 +164,19 @@ fn push_piece<'a>(
     Ok(behind)
 }
 
+/// Appends a stretch of characters that stand for themselves in a string with this quote.
+fn push_raw<'a>(
+    units: &mut Vec<u16>,
+    mark: char,
+    cursor: Cursor<'a>,
+) -> Result<Cursor<'a>, AllocError>
+    ensures { IfOk result (RawAppends mark units.old.items units.new.items cursor.entry) }
+{
+    let (front, behind) = cursor.stretch(Class::Raw(mark));
+    push_octets(units, front)?;
+    Ok(behind)
+}
+
 /// The units of the string behind its quote, which stands at the place `start`, and the cursor
 /// behind the quote that closes it.
 pub fn quoted(
@@ -174,12 +190,13 @@ pub fn quoted(
         (QuotedFault (places_in cursor.entry) start mark (ahead cursor.entry))) }
 {
     let mut units = Vec::new(alloc);
-    let mut rest = cursor;
+    let mut rest = push_raw(&mut units, mark, cursor)?;
     while let Some((c, behind)) = rest.first() {
         if c == mark {
             return Ok((units, behind));
         }
-        rest = push_piece(&mut units, start, rest, c, behind)?;
+        let end = push_piece(&mut units, start, rest, c, behind)?;
+        rest = push_raw(&mut units, mark, end)?;
     }
     Err(LexFault::UnclosedString { octet: start })
 }

@@ -5,6 +5,9 @@ ghost use Rattle.ostep_lex.specs.Encoding.{BeginsWith, BeginsWithNone};
 ghost use Rattle.ostep_lex.specs.Encoding.{spelling, utf8};
 ghost use Rattle.ostep_lex.specs.Source.{unit_octets, encoding_by, FrontsOf};
 ghost use Rattle.ostep_lex.specs.Source.{characters_in, encoding_in, octets_in, IsWhole, Leads};
+ghost use Rattle.ostep_lex.specs.Stretch.{LeadsStretch};
+
+use crate::stretch::{Class, stretch};
 
 /// Which octet of a UTF-16 unit comes first.
 #[derive(Clone, Copy)]
@@ -106,6 +109,22 @@ impl<'a> Source<'a> {
                 let (first, behind) = front_character(order, octets)?;
                 Some((first, Source::Utf16(order, behind)))
             }
+        }
+    }
+
+    /// A stretch of the class at the front, and what is to be read behind it. It is the longest of
+    /// UTF-8, and empty of UTF-16.
+    #[inline(always)]
+    pub fn stretch(self, class: Class) -> (&'a [u8], Source<'a>)
+        requires { IsWhole self }
+        ensures { LeadsStretch class self.entry result.0.now result.1 }
+    {
+        match self {
+            Source::Utf8(text) => {
+                let (front, behind) = stretch(text, class);
+                (front, Source::Utf8(behind))
+            }
+            Source::Utf16(..) => (&[], self),
         }
     }
 }

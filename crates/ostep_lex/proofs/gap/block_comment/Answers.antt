@@ -1,16 +1,20 @@
 use Rattle.std.proofs.Common.{◌∙◌}
 use Rattle.ostep_lex.proofs.GapSteps.{block_more, never_more, block_close, never_none}
+use Rattle.ostep_lex.proofs.StretchSteps.{block_stretch, never_stretch}
 use Rattle.ostep_lex.proofs.gap.block_comment.Goals as goal
 
 pub returns-in-Some-comment_end : goal.returns-in-Some-comment_end
 returns-in-Some-comment_end c =
     (c.loop-behind.invariant.0 _ (block_close c.in-Some-comment_end.ensures.0), c.in-Some-comment_end.ensures.1 ∙ c.loop-behind.invariant.2)
 
+pub loop-behind-init : goal.loop-behind-init
+loop-behind-init c = (λ end r. block_stretch c.stretch.ensures r, λ n. never_stretch c.stretch.ensures n, c.stretch.ensures.input)
+
 pub loop-behind-preserved : goal.loop-behind-preserved
 loop-behind-preserved c = (
-  λ end r. c.loop-behind.invariant.0 end (block_more c.in-Some.ensures.0 c.in_default-comment_end.ensures r),
-  λ n. c.loop-behind.invariant.1 (never_more c.in-Some.ensures.0 c.in_default-comment_end.ensures n),
-  c.in-Some.ensures.1 ∙ c.loop-behind.invariant.2,
+  λ end r. c.loop-behind.invariant.0 end (block_more c.in-Some.ensures.0 c.in_default-comment_end.ensures (block_stretch c.stretch-in-Some.ensures r)),
+  λ n. c.loop-behind.invariant.1 (never_more c.in-Some.ensures.0 c.in_default-comment_end.ensures (never_stretch c.stretch-in-Some.ensures n)),
+  c.stretch-in-Some.ensures.input ∙ c.in-Some.ensures.1 ∙ c.loop-behind.invariant.2,
 )
 
 pub returns : goal.returns

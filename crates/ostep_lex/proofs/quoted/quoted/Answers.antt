@@ -1,4 +1,4 @@
-use Rattle.std.proofs.Common.{◌≡◌, ◌==◌, ◌++◌, [], true, false, subst, arith, append-nil, ◌∙◌}
+use Rattle.std.proofs.Common.{◌≡◌, ◌<◌, ◌≤◌, ◌==◌, ◌++◌, [], true, false, length, sym, ap, subst, arith, append-nil, ◌∙◌}
 use Rattle.std.proofs.lemmas.Bool.Decides.{nat_tests}
 use Rattle.ostep_lex.specs.Quoted.{Quoted, piece}
 use Rattle.ostep_lex.specs.Stands
@@ -6,6 +6,7 @@ use Rattle.ostep_lex.specs.Stands.{EscapeFault, QuotedFault}
 use Rattle.ostep_lex.specs.Cursor.{ahead, places_in, UnlessMemory}
 use Rattle.ostep_lex.proofs.Exits.{passed_on}
 use Rattle.ostep_lex.proofs.StringSteps.{appended, quoted_close, piece_shorter, cut_string_fault}
+use Rattle.ostep_lex.proofs.StretchSteps.{quoted_stretch, fault_stretch, stretch_shorter}
 use Rattle.ostep_lex.proofs.quoted.quoted.Goals as goal
 
 pub returns-then-c-mark-clause-ok : goal.returns-then-c-mark-clause-ok
@@ -17,24 +18,38 @@ returns-then-c-mark-clause-ok c =
       input = c.in-Some.ensures.1 ∙ c.loop-c.invariant.2;
     }
 
-pub returns-in_err-rest-clause-err : goal.returns-in_err-rest-clause-err
-returns-in_err-rest-clause-err c =
+pub returns-in_err-end-clause-err : goal.returns-in_err-end-clause-err
+returns-in_err-end-clause-err c =
     let text = ahead c.loop-c.rest in
-    passed_on (UnlessMemory (QuotedFault (places_in c.args.cursor) c.args.start c.args.mark (ahead c.args.cursor))) _ c.from_residual.result c.from_residual.ensures.1
-    (λ n. c.loop-c.invariant.1 _ (Stands.escape (subst (λ p. EscapeFault p c.args.start text c.in_err-rest.field-0.0) c.loop-c.invariant.2 (c.in_err-rest.ensures.err n))))
+    passed_on (UnlessMemory (QuotedFault (places_in c.args.cursor) c.args.start c.args.mark (ahead c.args.cursor))) _ c.from_residual-in_err-end.result c.from_residual-in_err-end.ensures.1
+    (λ n. c.loop-c.invariant.1 _ (Stands.escape (subst (λ p. EscapeFault p c.args.start text c.in_err-end.field-0.0) c.loop-c.invariant.2 (c.in_err-end.ensures.err n))))
 
 pub loop-c-smaller : goal.loop-c-smaller
 loop-c-smaller c =
     let other : (c.in-Some.c == c.args.mark) ≡ false = grind (arith, nat_tests) in
-    piece_shorter (c.in_ok-rest.ensures.ok c.args.mark other).piece
+    let piece : length (ahead c.in_ok-end.end) < length (ahead c.loop-c.rest) = piece_shorter (c.in_ok-end.ensures.ok c.args.mark other).piece in
+    let raw : length (ahead c.in_ok-rest-2.rest) ≤ length (ahead c.in_ok-end.end) = stretch_shorter c.in_ok-rest-2.ensures.passes in
+    omega arith
+
+pub loop-c-init : goal.loop-c-init
+loop-c-init c =
+    let q = c.in_ok-rest.ensures in
+    let all : c.push_raw.new.units.items ≡ q.front = q.appended ∙ ap (λ us. us ++ q.front) c.new-units.ensures.items in (
+      λ more end r. subst (λ us. Quoted c.args.mark (ahead c.args.cursor) (us ++ more) end) (sym all) (quoted_stretch q.passes r),
+      λ fault f. fault_stretch q.passes f,
+      q.passes.input,
+    )
 
 pub loop-c-preserved : goal.loop-c-preserved
 loop-c-preserved c =
     let other : (c.in-Some.c == c.args.mark) ≡ false = grind (arith, nat_tests) in
-    let p = c.in_ok-rest.ensures.ok c.args.mark other in (
-      λ more end r. subst (λ us. Quoted c.args.mark (ahead c.args.cursor) us end) (appended _ _ _ more p.appended) (c.loop-c.invariant.0 (p.units_of ++ more) end (piece p.piece r)),
-      λ fault f. c.loop-c.invariant.1 fault (Stands.piece p.piece f),
-      p.input ∙ c.loop-c.invariant.2,
+    let p = c.in_ok-end.ensures.ok c.args.mark other in
+    let q = c.in_ok-rest-2.ensures in (
+      λ more end r. subst (λ us. Quoted c.args.mark (ahead c.args.cursor) us end)
+          (appended _ _ _ (q.front ++ more) p.appended ∙ appended _ _ _ more q.appended)
+          (c.loop-c.invariant.0 (p.units_of ++ (q.front ++ more)) end (piece p.piece (quoted_stretch q.passes r))),
+      λ fault f. c.loop-c.invariant.1 fault (Stands.piece p.piece (fault_stretch q.passes f)),
+      q.passes.input ∙ p.input ∙ c.loop-c.invariant.2,
     )
 
 pub returns-clause-err : goal.returns-clause-err

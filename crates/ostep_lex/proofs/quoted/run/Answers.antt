@@ -1,10 +1,18 @@
-use Rattle.std.proofs.Common.{◌≡◌, true, false, [], ◌∷◌, subst, ◌∙◌, append-nil}
+use Rattle.std.proofs.Common.{◌≡◌, true, false, [], ◌∷◌, ◌++◌, sym, ap, subst, ◌∙◌, append-nil}
 use Rattle.ostep_lex.specs.Character.{is_run}
 use Rattle.ostep_lex.specs.Quoted.{Run}
 use Rattle.ostep_lex.specs.Cursor.{ahead}
 use Rattle.ostep_lex.proofs.StringSteps.{appended, run_more, run_stop, run_none}
+use Rattle.ostep_lex.proofs.StretchSteps.{run_stretch}
 use Rattle.ostep_lex.proofs.quoted.run.Goals as goal
 use Rattle.ostep_lex.proofs.quoted.run.Goals.{in-Some+then-not-is_run, in_default}
+
+pub loop-c-init : goal.loop-c-init
+loop-c-init c =
+    let all : c.push_octets.new.units.items ≡ c.stretch.result.0.now = c.in_ok-push_octets.ensures ∙ ap (λ us. us ++ c.stretch.result.0.now) c.new-units.ensures.items in (
+      λ more end r. subst (λ us. Run (ahead c.args.cursor) (us ++ more) end) (sym all) (run_stretch c.stretch.ensures r),
+      c.stretch.ensures.input,
+    )
 
 pub loop-c-preserved : goal.loop-c-preserved
 loop-c-preserved c =

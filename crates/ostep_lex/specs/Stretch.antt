@@ -1,0 +1,35 @@
+-- Stretches: ASCII characters of one class.
+use Rattle.std.specs.Prelude.{◌≡◌, ℕ, ◌≤◌, length, Bool, true, not, ◌&&◌, ◌==◌, nat_lt, List, [], ◌∷◌, ◌++◌}
+use Rattle.ostep_lex.specs.declared.stretch.Class.{Class}
+use Rattle.ostep_lex.specs.declared.stretch.Class.TheVariants.{Run, White, Raw, Line, Starless}
+use Rattle.ostep_lex.specs.Character.{is_run, is_white, is_line_end, star}
+use Rattle.ostep_lex.specs.Quoted.{is_raw}
+use Rattle.ostep_lex.specs.declared.source.Source.{Source}
+use Rattle.ostep_lex.specs.Source.{characters_in, encoding_in, octets_in, IsWhole}
+
+-- whether a character is of the class
+abbrev pub belongs : Class → ℕ → Bool
+belongs Run c = is_run c
+belongs White c = is_white c
+belongs (Raw mark) c = is_raw mark c
+belongs Line c = not (is_line_end c)
+belongs Starless c = not (c == star)
+
+-- whether all are ASCII characters of the class
+abbrev pub is_stretch : Class → List ℕ → Bool
+is_stretch kind [] = true
+is_stretch kind (c ∷ cs) = (nat_lt c 128 && belongs kind c) && is_stretch kind cs
+
+-- a stretch stands before the rest
+pub record BeginsWithStretch (kind : Class) (octets rest : List ℕ) : Type 0 where
+  pub front : List ℕ
+  pub stretch : is_stretch kind front ≡ true
+  pub split : octets ≡ front ++ rest
+
+-- a stretch stands first, and behind it whole characters of the same encoding
+pub record LeadsStretch (kind : Class) (source : Source) (front : List ℕ) (behind : Source) : Type 0 where
+  pub stretch : is_stretch kind front ≡ true
+  pub text : characters_in source ≡ front ++ characters_in behind
+  pub whole : IsWhole behind
+  pub encoding : encoding_in behind ≡ encoding_in source
+  pub shorter : length (octets_in behind) ≤ length (octets_in source)

@@ -1,0 +1,78 @@
+//! Stretches: ASCII characters of one class at the front of a text, found in its octets.
+ghost use Rattle.std.specs.Prelude.{◌≡◌, ◌++◌, ◌&&◌, nat_lt, true, chars, OnOk, IsUtf8};
+ghost use Rattle.ostep_lex.specs.Stretch.{belongs, is_stretch, BeginsWithStretch};
+
+use crate::character::{is_line_end, is_run, is_white};
+use std::alloc::AllocError;
+
+/// A class of characters.
+#[derive(Clone, Copy)]
+pub enum Class {
+    /// The characters of an unquoted string.
+    Run,
+    /// White characters.
+    White,
+    /// The characters that stand for themselves in a string with this quote.
+    Raw(char),
+    /// The characters that end no line.
+    Line,
+    /// All characters but the star.
+    Starless,
+}
+
+/// Whether the octet is an ASCII character of the class.
+#[inline(always)]
+fn is_in(class: Class, octet: u8) -> bool
+    ensures { result ≡ (nat_lt octet 128 && belongs class octet) }
+{
+    let c = char::from(octet);
+    octet < 0x80
+        && match class {
+            Class::Run => is_run(c),
+            Class::White => is_white(c),
+            Class::Raw(mark) => c != '\\' && c != mark,
+            Class::Line => !is_line_end(c),
+            Class::Starless => c != '*',
+        }
+}
+
+/// Behind the longest stretch at the front of the octets.
+#[inline(always)]
+fn behind_stretch(octets: &[u8], class: Class) -> &[u8]
+    ensures { BeginsWithStretch class octets.now result.now }
+{
+    let mut rest = octets;
+    while let Some((octet, behind)) = rest.split_first() {
+        if !is_in(class, *octet) {
+            break;
+        }
+        rest = behind;
+    }
+    rest
+}
+
+/// The longest stretch at the front of the text, and the text behind it.
+#[inline(always)]
+pub fn stretch(text: &str, class: Class) -> (&[u8], &str)
+    ensures stretch { is_stretch class result.0.now ≡ true }
+    ensures chars { chars text.now ≡ result.0.now ++ chars result.1.now }
+    ensures split { text.now ≡ result.0.now ++ result.1.now }
+    ensures utf8 { IsUtf8 result.1.now }
+{
+    let behind = behind_stretch(text.as_bytes(), class);
+    let (front, rest) = text.split_at(text.len() - behind.len());
+    (front.as_bytes(), rest)
+}
+
+/// Appends the octets as units.
+pub fn push_octets(units: &mut Vec<u16>, octets: &[u8]) -> Result<(), AllocError>
+    ensures { OnOk result (units.new.items ≡ units.old.items ++ octets.now) }
+{
+    units.reserve(octets.len())?;
+    let mut rest = octets;
+    while let [octet, behind @ ..] = rest {
+        units.push(u16::from(*octet))?;
+        rest = behind;
+    }
+    Ok(())
+}
