@@ -1,0 +1,51 @@
+-- The command line of the program.
+use Rattle.std.specs.Prelude.{◌≡◌, List, [], ◌∷◌, Some, true, codes, map}
+use Rattle.std.specs.Borrow.{Bor}
+use Rattle.clap.specs.Words.{App, Rule, Text, new_app, new_rule, with_rule, with_subcommand}
+use Rattle.clap.specs.declared.builder.ValueParser.TheVariants.{Names}
+
+-- a word that has to stand in its place
+abbrev pub file_word : Text → Rule
+file_word id = record (new_rule id) { required = true }
+
+-- a word with one file, `lint IN` or `check IN`
+abbrev pub one_file : Text → App
+one_file name = with_rule (new_app name) (file_word (codes "IN"))
+
+-- `same A B`
+abbrev pub same : App
+same = with_rule (with_rule (new_app (codes "same")) (file_word (codes "A"))) (file_word (codes "B"))
+
+-- `convert FORM IN OUT`, where FORM is one of these
+abbrev pub convert : Bor (List (Bor Text)) → App
+convert forms =
+    with_rule (with_rule (with_rule (new_app (codes "convert"))
+    (record (file_word (codes "FORM")) { parser = Some (Names forms) })) (file_word (codes "IN")))
+    (file_word (codes "OUT"))
+
+-- one of the four has to be given
+abbrev pub program_top : App
+program_top =
+    let a = new_app (codes "plistconv") in
+    record a { top = record a.top { has_version = true; subcommand_required = true } }
+
+abbrev pub program : Bor (List (Bor Text)) → App
+program forms =
+    with_subcommand (with_subcommand (with_subcommand (with_subcommand program_top
+    (convert forms).top) same.top) (one_file (codes "lint")).top) (one_file (codes "check")).top
+
+-- the names of the forms, in memory somewhere
+abbrev pub NamesForms : Bor (List (Bor Text)) → Type 0
+NamesForms forms = map (λ name. name.now) forms.now ≡ codes "binary1" ∷ (codes "openstep" ∷ [])
+
+-- the command `convert`
+pub record IsConvert (a : App) : Type 0 where
+  pub forms : Bor (List (Bor Text))
+  pub named : NamesForms forms
+  pub is : a ≡ convert forms
+
+-- the program's command line
+pub record IsProgram (a : App) : Type 0 where
+  pub forms : Bor (List (Bor Text))
+  pub named : NamesForms forms
+  pub is : a ≡ program forms

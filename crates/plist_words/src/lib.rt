@@ -1,0 +1,10 @@
+//! The command line of `plistconv`: which words it takes, what they ask for, and its help texts.
+#![tactic(auto)]
+
+mod commands;
+mod help;
+mod reading;
+mod request;
+
+pub use reading::read_words;
+pub use request::{Form, Request};
