@@ -1,0 +1,7 @@
+-- What a contract sees of a `HostDisk`.
+use Rattle.std.specs.Prelude.{ℕ}
+use Rattle.plist_disk.specs.declared.host_disk.HostDisk.{HostDisk}
+
+-- how many devices failed, up to the greatest count
+abbrev pub failures_of : HostDisk → ℕ
+failures_of disk = disk.failures

@@ -1,0 +1,5 @@
+pub mod CanonicalFile
+pub mod Files
+pub mod HostDisk
+pub mod MemoryDisk
+pub mod FileSink

@@ -1,0 +1,73 @@
+//! The files of the host.
+ghost use Rattle.std.specs.Prelude.{◌≡◌, IfErr};
+ghost use Rattle.plist_files.specs.Load.{IsLoadFault};
+
+use crate::file_sink::FileSink;
+use crate::{Content, Disk};
+use plist_devices::ReaderSource;
+use plist_files::{Fault, load};
+use plist_write::WriteFault;
+use std::alloc::Global;
+use std::fs;
+use std::rt::Files;
+
+/// The files of the host, by their paths. It tells nothing of what they hold.
+#[derive(Drop)]
+pub struct HostDisk<'a, R> {
+    rt: &'a R,
+    failures: u64,
+}
+
+impl<'a, R: Files> HostDisk<'a, R> {
+    ghost use Rattle.plist_disk.specs.HostDisk.{failures_of};
+
+    /// The files that this runtime reaches.
+    pub fn new(rt: &'a R) -> HostDisk<'a, R>
+        ensures { failures_of result ≡ 0 }
+    {
+        HostDisk { rt, failures: 0 }
+    }
+
+    fn octets_at(&self, alloc: Global, path: &str) -> Result<Vec<u8>, Fault>
+        ensures { IfErr result IsLoadFault }
+    {
+        match fs::open(self.rt, path) {
+            Ok(device) => load(alloc, &mut ReaderSource::new(device)),
+            Err(_) => Err(Fault::ReadFailed),
+        }
+    }
+}
+
+impl<R: Files> Disk for HostDisk<'_, R> {
+    ghost use Rattle.std.specs.Prelude.{None};
+    ghost use Rattle.plist_disk.specs.HostDisk.{failures_of};
+
+    ghost files = { λ _. None };
+
+    ghost failures = { failures_of };
+
+    fn load(&mut self, alloc: Global, path: &str) -> Result<Vec<u8>, Fault> {
+        let octets = self.octets_at(alloc, path);
+        if let Err(Fault::ReadFailed) = octets {
+            self.failures = self.failures.saturating_add(1);
+        }
+        octets
+    }
+
+    fn store<C: Content>(
+        &mut self,
+        alloc: Global,
+        path: &str,
+        content: &C,
+    ) -> Result<u64, WriteFault> {
+        let sent = content.send(alloc, &mut FileSink::new(self.rt, path));
+        if let Err(WriteFault::WriteFailed { .. }) = sent {
+            self.failures = self.failures.saturating_add(1);
+        }
+        sent
+    }
+
+    fn failures(&self) -> u64 {
+        self.failures
+    }
+}

@@ -1,0 +1,105 @@
+//! A disk in memory.
+ghost use Rattle.std.specs.Prelude.{◌≡◌, ◌≤◌, ◌<◌, IfErr, IfOk, IfSome, None, Some, length, string_bytes};
+ghost use Rattle.plist_disk.specs.Files.{SameBeside};
+
+use crate::{Content, Disk};
+use plist_devices::ListSink;
+use plist_files::{Fault, MAX_INPUT};
+use plist_write::WriteFault;
+use std::alloc::{AllocError, Global};
+use std::collections::BTreeMap;
+
+/// A disk in memory, for tests and for whoever builds on it: it tells what stands at each path. Each file
+/// has room for so many octets, and takes at most `step` of them per put.
+#[derive(Drop)]
+pub struct MemoryDisk {
+    files: BTreeMap<String, Vec<u8>>,
+    room: usize,
+    step: usize,
+    failures: u64,
+    ghost forward: { 0 < step },
+}
+
+impl MemoryDisk {
+    ghost use Rattle.plist_disk.specs.MemoryDisk.{failures_of, files_of, room_of};
+
+    /// A disk with no files. The step is above 0.
+    pub fn new(alloc: Global, room: usize, step: usize) -> MemoryDisk
+        requires { 0 < step }
+        ensures empty { (path : Path) → files_of result path ≡ None }
+        ensures room { room_of result ≡ room }
+        ensures failures { failures_of result ≡ 0 }
+    {
+        MemoryDisk {
+            files: BTreeMap::new(alloc),
+            room,
+            step,
+            failures: 0,
+        }
+    }
+
+    /// Puts a file with these octets at the path.
+    pub fn put(&mut self, alloc: Global, path: &str, octets: Vec<u8>) -> Result<(), AllocError>
+        ensures put { IfOk result (λ _. files_of self.new path.now ≡ Some octets.items) }
+        ensures others { SameBeside path.now (Some (files_of self.old)) (Some (files_of self.new)) }
+        ensures unchanged { OnErr result ((other : Path) → files_of self.new other ≡ files_of self.old other) }
+        ensures failures { failures_of self.new ≡ failures_of self.old }
+        ensures room { room_of self.new ≡ room_of self.old }
+    {
+        let key = String::from_str(alloc, path)?;
+        self.files.insert(key, octets)?;
+        Ok(())
+    }
+
+    /// The octets that stand at the path.
+    pub fn at(&self, path: &str) -> Option<&[u8]>
+        ensures { option_map (λ octets. octets.now) result ≡ files_of self.now path.now }
+    {
+        self.files.get(path).map(|octets| octets.as_slice())
+    }
+}
+
+impl Disk for MemoryDisk {
+    ghost use Rattle.plist_disk.specs.MemoryDisk.{failures_of, files_of, room_of};
+
+    ghost files = { λ disk. Some (files_of disk) };
+
+    ghost failures = { failures_of };
+
+    fn load(&mut self, alloc: Global, path: &str) -> Result<Vec<u8>, Fault> {
+        let Some(octets) = self.at(path) else {
+            self.failures = self.failures.saturating_add(1);
+            return Err(Fault::ReadFailed);
+        };
+        if octets.len() as u64 > MAX_INPUT {
+            return Err(Fault::InputTooLarge);
+        }
+        Ok(Vec::from_slice(alloc, octets)?)
+    }
+
+    fn store<C: Content>(
+        &mut self,
+        alloc: Global,
+        path: &str,
+        content: &C,
+    ) -> Result<u64, WriteFault> {
+        let Ok(mut sink) = ListSink::new(alloc, self.room, self.step) else {
+            return Err(WriteFault::OutOfMemory { sent: 0 });
+        };
+        let sent = content.send(alloc, &mut sink);
+        if let Err(WriteFault::WriteFailed { .. }) = sent {
+            self.failures = self.failures.saturating_add(1);
+        }
+        let Ok(octets) = Vec::from_slice(alloc, sink.taken()) else {
+            return Err(WriteFault::OutOfMemory { sent: 0 });
+        };
+        match self.put(alloc, path, octets) {
+            Ok(()) => sent,
+            Err(_) => Err(WriteFault::OutOfMemory { sent: 0 }),
+        }
+    }
+
+    fn failures(&self) -> u64 {
+        self.failures
+    }
+}
