@@ -1,19 +1,38 @@
 # plistconv: `make` builds ./plistconv, `make test` is the gate, `make install PREFIX=..` installs.
+# Besides the gate: `make edits [CRATE=NAME]`, `make fuzz [SECONDS=60] [SEED=1]`, `make recipes`.
 PREFIX ?= /usr/local
+SECONDS ?= 60
+SEED ?= 1
 SOURCES := crates.txt $(shell find crates -path '*/out' -prune -o -type f \( -name '*.rt' -o -name '*.antt' \) -print)
 
 plistconv: $(SOURCES)
+	@[ -d crates/plistconv/out ] || echo "The toolchain builds only what it has proved: the first build proves all crates below the program."
 	cd crates/plistconv && rt run -- --version
 	cp crates/plistconv/out/plistconv $@
 
-.PHONY: test install clean
+.PHONY: test edits fuzz recipes install clean
 
 test:
 	rt ci
 
+edits:
+	scripts/edits.sh $(CRATE)
+
+fuzz: plistconv
+	python3 fuzz/fuzz.py ./plistconv --seconds $(SECONDS) --seed $(SEED)
+
+recipes: plistconv
+	PLISTCONV=./plistconv recipes/test
+
 install: plistconv
-	install -d $(DESTDIR)$(PREFIX)/bin
+	install -d $(DESTDIR)$(PREFIX)/bin $(DESTDIR)$(PREFIX)/share/man/man1
 	install -m 755 plistconv $(DESTDIR)$(PREFIX)/bin/plistconv
+	install -m 644 man/plistconv.1 $(DESTDIR)$(PREFIX)/share/man/man1/plistconv.1
+	install -d $(DESTDIR)$(PREFIX)/share/bash-completion/completions $(DESTDIR)$(PREFIX)/share/zsh/site-functions
+	install -d $(DESTDIR)$(PREFIX)/share/fish/vendor_completions.d
+	install -m 644 completions/plistconv.bash $(DESTDIR)$(PREFIX)/share/bash-completion/completions/plistconv
+	install -m 644 completions/_plistconv $(DESTDIR)$(PREFIX)/share/zsh/site-functions/_plistconv
+	install -m 644 completions/plistconv.fish $(DESTDIR)$(PREFIX)/share/fish/vendor_completions.d/plistconv.fish
 
 clean:
 	rm -f plistconv

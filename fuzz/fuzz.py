@@ -1,0 +1,391 @@
+#!/usr/bin/env python3
+"""Compares the program with a second reading of the formats (oracle.py) on random inputs.
+
+    fuzz.py PROGRAM [--seconds N] [--seed N]
+
+Each case is a random value, spelled as a binary file (any order, sharing and widths) or as an OpenStep
+text (any white, comments and quotes), and often damaged. The program's answers to `lint`, `check`,
+`same`, `convert binary1`, `convert openstep` and to no words must be those of the second reading. What a
+word writes must be read again as the same value, a canonical file must be its own canonical file, and
+Python's plistlib must read it as the same value. The first differences are printed and their inputs
+kept; the status is 1 where there is one."""
+import argparse
+import os
+import plistlib
+import random
+import struct
+import subprocess
+import sys
+import tempfile
+import time
+
+import oracle
+from oracle import Refused
+
+WORDS = ['a', 'b', 'key', 'k-1', 'a.b', 'bplist', 'bplist00', '', '0', 'x' * 14, 'y' * 15, 'z' * 300]
+
+
+# Random values
+
+
+def random_text(rng):
+    choice = rng.random()
+    if choice < 0.6:
+        return tuple(map(ord, rng.choice(WORDS)))
+    pool = [0, 9, 10, 34, 39, 92, 0x7e, 0x7f, 0x80, 0xff, 0x2028, 0xd83d, 0xde00, 0xd800, 0xfeff, 0xffff, 65]
+    return tuple(rng.choice(pool) for _ in range(rng.choice([0, 1, 2, 3, 15, 40])))
+
+
+def random_whole(rng):
+    edge = 1 << rng.choice([0, 7, 8, 15, 16, 31, 32, 62, 63, 64])
+    number = rng.choice([1, 1, -1]) * edge + rng.randint(-2, 2)
+    return max(-2 ** 63, min(2 ** 64 - 1, number))
+
+
+def random_scalar(rng, writable):
+    kind = rng.choice(['text', 'text', 'bytes'] if writable else [
+        'text', 'text', 'bytes', 'whole', 'flag', 'real4', 'real8', 'moment'])
+    some = lambda size: bytes(rng.randrange(256) for _ in range(size))
+    return {
+        'text': lambda: ('text', random_text(rng)),
+        'bytes': lambda: ('bytes', some(rng.choice([0, 1, 2, 14, 15, 16, 300]))),
+        'whole': lambda: ('whole', random_whole(rng)),
+        'flag': lambda: ('flag', rng.random() < 0.5),
+        'real4': lambda: ('real4', some(4)),
+        'real8': lambda: ('real8', some(8)),
+        'moment': lambda: ('moment', struct.pack('>d', rng.randrange(10 ** 8))),
+    }[kind]()
+
+
+def random_value(rng, depth, writable):
+    if depth == 0 or rng.random() < 0.3:
+        return random_scalar(rng, writable)
+    size = rng.choice([0, 1, 2, 3, 5, 16]) if rng.random() < 0.97 else 260
+    child = lambda: random_value(rng, depth - 1 if size < 100 else 0, writable)
+    if rng.random() < 0.5:
+        return ('list', [child() for _ in range(size)])
+    return ('table', {random_text(rng): child() for _ in range(size)})
+
+
+# Random spellings in the binary form
+
+
+def random_file(rng, value):
+    """A file of the value: objects in any order, shared or not, with any widths that are wide enough."""
+    objects, known = [], {}
+    share = rng.random()
+
+    def add(value):
+        key = repr(value)
+        if key in known and rng.random() < share:
+            return known[key]
+        kind, content = value
+        at = len(objects)
+        objects.append(None)
+        if kind == 'list':
+            objects[at] = (10, [[add(item) for item in content]])
+        elif kind == 'table':
+            pairs = list(content.items())
+            rng.shuffle(pairs)
+            keys = [add(('text', key)) for key, _ in pairs]
+            objects[at] = (13, [keys, [add(item) for _, item in pairs]])
+        else:
+            objects[at] = random_scalar_octets(rng, value)
+        known[key] = at
+        return at
+
+    top = add(value)
+    order = list(range(len(objects)))
+    if rng.random() < 0.7:
+        rng.shuffle(order)
+    number = {old: new for new, old in enumerate(order)}
+    width = rng.choice([w for w in range(1, 9) if len(objects) <= 256 ** w][:rng.choice([1, 8])])
+    body, places = b'', []
+    for old in order:
+        places.append(8 + len(body))
+        item = objects[old]
+        if isinstance(item, tuple):
+            refs = b''.join(number[ref].to_bytes(width, 'big') for part in item[1] for ref in part)
+            item = random_head(rng, item[0], len(item[1][0])) + refs
+        body += item
+        if rng.random() < 0.02:
+            body += bytes([rng.randrange(256)])
+    table = 8 + len(body)
+    offset = rng.choice([w for w in range(1, 9) if table < 256 ** w][:rng.choice([1, 8])])
+    slack = bytes(6) if rng.random() < 0.9 else bytes(rng.randrange(256) for _ in range(6))
+    numbers = [len(order), number[top], table]
+    return (b'bplist00' + body + b''.join(place.to_bytes(offset, 'big') for place in places) + slack
+            + bytes([offset, width]) + b''.join(n.to_bytes(8, 'big') for n in numbers))
+
+
+def random_head(rng, high, count):
+    if count < 15 and rng.random() < 0.95:
+        return bytes([high << 4 | count])
+    sizes = [s for s in (0, 1, 2, 3, 4) if count < 256 ** (1 << s)]
+    size = sizes[0] if rng.random() < 0.9 else rng.choice(sizes)
+    return bytes([high << 4 | 15, 0x10 | size]) + count.to_bytes(1 << size, 'big')
+
+
+def random_scalar_octets(rng, value):
+    kind, content = value
+    if kind == 'text':
+        wide = any(unit > 127 for unit in content) or rng.random() < 0.1
+        octets = b''.join(u.to_bytes(2, 'big') for u in content) if wide else bytes(content)
+        return random_head(rng, 6 if wide else 5, len(content)) + octets
+    if kind == 'bytes':
+        return random_head(rng, 4, len(content)) + content
+    if kind == 'whole' and rng.random() < 0.1:
+        if -2 ** 63 <= content < 2 ** 63:
+            return b'\x13' + content.to_bytes(8, 'big', signed=True)
+        return b'\x14' + content.to_bytes(16, 'big')
+    return oracle.spelled(value)
+
+
+# Random spellings in the text form
+
+
+def random_gap(rng):
+    pieces = ['', '', '', ' ', '\n', '\t', '\x0b', '\x0c', '\u2028', '/* c */', '//x\n', '// \u2029', '/**/']
+    return ''.join(rng.choice(pieces) for _ in range(rng.choice([0, 0, 1, 2])))
+
+
+def random_string(rng, units, unquoted=True):
+    text = ''.join(map(chr, units))
+    plain = text and all(unit in oracle.RUN for unit in units) and not text.startswith(('//', '/*'))
+    if plain and unquoted and rng.random() < 0.8:
+        return text
+    quote = rng.choice('"\'')
+    out = quote
+    for unit, behind in zip(units, list(units[1:]) + [0]):
+        if chr(unit) in quote + '\\':
+            out += '\\' + chr(unit)
+        elif 0xd800 <= unit < 0xe000 or rng.random() < 0.2:
+            out += '\\U%04x' % unit if rng.random() < 0.7 or behind in oracle.HEX else '\\U%x' % unit
+        elif unit < 0x80 and rng.random() < 0.1 and not 48 <= behind < 56:
+            out += '\\%o' % unit
+        else:
+            out += chr(unit)
+    return out + quote
+
+
+def random_text_of(rng, value, top=False):
+    gap = lambda: random_gap(rng)
+    kind, content = value
+    if kind == 'text':
+        return random_string(rng, content)
+    if kind == 'bytes':
+        white = lambda: rng.choice(['', '', '', ' ', '\n'])
+        digits = [white() + (d if rng.random() < 0.5 else d.upper()) for d in map('%02x'.__mod__, content)]
+        return '<' + ''.join(digits) + white() + '>'
+    if kind == 'list':
+        items = [gap() + random_text_of(rng, item) + gap() for item in content]
+        last = ',' + gap() if items and rng.random() < 0.3 else gap() if not items else ''
+        return '(' + ','.join(items) + last + ')'
+    rows = []
+    pairs = list(content.items())
+    rng.shuffle(pairs)
+    for key, item in pairs:
+        alone = item == ('text', key) and rng.random() < 0.7
+        rest = '' if alone else '=' + gap() + random_text_of(rng, item) + gap()
+        rows.append(gap() + random_string(rng, key) + gap() + rest + ';')
+    if rows and rng.random() < 0.02:
+        rows.append(rng.choice(rows))
+    inside = ''.join(rows) + gap()
+    return inside if top and rng.random() < 0.4 else '{' + inside + '}'
+
+
+def random_text_octets(rng, value):
+    text = random_gap(rng) + random_text_of(rng, value, top=True) + random_gap(rng)
+    choice = rng.random()
+    if choice < 0.7:
+        return text.encode('utf-8', 'surrogatepass')
+    if choice < 0.8:
+        return b'\xef\xbb\xbf' + text.encode('utf-8', 'surrogatepass')
+    mark, name = rng.choice([(b'\xfe\xff', 'utf-16-be'), (b'\xff\xfe', 'utf-16-le')])
+    return mark + text.encode(name, 'surrogatepass')
+
+
+# Damage
+
+
+def damaged(rng, octets):
+    octets = bytearray(octets)
+    for _ in range(rng.choice([1, 1, 1, 2, 4])):
+        at = rng.randrange(len(octets) + 1)
+        kind = rng.random()
+        if kind < 0.25 and at < len(octets):
+            octets[at] = rng.randrange(256)
+        elif kind < 0.4 and at < len(octets):
+            octets[at] = rng.randrange(6)
+        elif kind < 0.5 and at < len(octets):
+            octets[at] ^= 1 << rng.randrange(8)
+        elif kind < 0.65:
+            octets[at:at] = bytes([rng.choice(b'{}(),;="\'<>\\/*a0 U\xe2\xd8\x00')])
+        elif kind < 0.8:
+            del octets[at:at + rng.choice([1, 1, 2, 5])]
+        elif kind < 0.9:
+            del octets[at:]
+        else:
+            other = rng.randrange(len(octets) + 1)
+            octets[at:at] = octets[other:other + rng.randrange(12)]
+    return bytes(octets)
+
+
+def random_input(rng):
+    choice = rng.random()
+    if choice < 0.03:
+        pool = [b'{', b'}', b'(', b')', b',', b';', b'=', b'a', b'"b"', b'<0f>', b'c', b' ', b'//', b'/*', b'*/']
+        return b''.join(rng.choice(pool) for _ in range(rng.randrange(12)))
+    depth = rng.choice([0, 1, 2, 3])
+    if choice < 0.55:
+        octets = random_file(rng, random_value(rng, depth, writable=rng.random() < 0.4))
+    else:
+        octets = random_text_octets(rng, random_value(rng, depth, writable=True))
+    return damaged(rng, octets) if rng.random() < 0.4 else octets
+
+
+# The program, and what it has to answer
+
+
+class Program:
+    def __init__(self, path, folder):
+        self.path, self.folder = os.path.abspath(path), folder
+
+    def run(self, *words, input=b''):
+        done = subprocess.run([self.path, *words], input=input, capture_output=True, cwd=self.folder, timeout=60)
+        return done.returncode, done.stdout
+
+    def file(self, name, octets=None):
+        path = os.path.join(self.folder, name)
+        if octets is not None:
+            with open(path, 'wb') as out:
+                out.write(octets)
+            return octets
+        with open(path, 'rb') as file:
+            return file.read()
+
+
+def answer(call, path):
+    """The value of the call, or the status and the line of its refusal."""
+    try:
+        return call(), None
+    except Refused as fault:
+        return None, (2, ('%s: refused %s\n' % (path, fault.text())).encode())
+
+
+def differences(program, octets, other):
+    """What the program answers otherwise than the second reading, as pairs (word, what was answered)."""
+    program.file('in', octets)
+    program.file('other', other)
+    found = []
+
+    def expect(word, got, want):
+        if got != want:
+            found.append('%s: answered %r, and not %r' % (word, got, want))
+
+    value, refusal = answer(lambda: oracle.read_any(octets), 'in')
+    expect('lint', program.run('lint', 'in'), refusal or (0, b'in: OK\n'))
+    verdict, fault = answer(lambda: oracle.check(octets), 'in')
+    told = fault or (0 if verdict == 'canonical' else 1, verdict.encode() + b'\n')
+    expect('check', program.run('check', 'in'), told)
+    expect_written(program, expect, 'binary1', value, refusal, oracle.canonical)
+    written = expect_written(program, expect, 'openstep', value, refusal, oracle.openstep)
+    second, second_refusal = answer(lambda: oracle.read_any(other), 'other')
+    same = refusal or second_refusal or ((0, b'equal\n') if value == second else (1, b'different\n'))
+    expect('same', program.run('same', 'in', 'other'), same)
+    if refusal:
+        expect('no words', program.run(input=octets), (2, refusal[1].replace(b'in:', b'-:', 1)))
+        return found
+    file = oracle.canonical(value)
+    expect('no words', program.run(input=octets), (0, file))
+    expect('no words, again', program.run(input=file), (0, file))
+    program.file('canonical', file)
+    expect('check of the canonical file', program.run('check', 'canonical'), (0, b'canonical\n'))
+    if written is not None:
+        expect('no words, of the text', program.run(input=written), (0, file))
+    expect('plistlib', from_plistlib(file), plain(value))
+    return found
+
+
+def expect_written(program, expect, form, value, refusal, write):
+    program.file('out', b'as it was')
+    octets, fault = (None, refusal) if refusal else answer(lambda: write(value), 'in')
+    expect('convert ' + form, program.run('convert', form, 'in', 'out'), fault or (0, b''))
+    expect('the file of convert ' + form, program.file('out'), b'as it was' if fault else octets)
+    return octets
+
+
+def plain(value):
+    """The value as plistlib would give it, with dates and reals by their octets."""
+    kind, content = value
+    if kind == 'list':
+        return [plain(item) for item in content]
+    if kind == 'table':
+        return {plain(('text', key)): plain(item) for key, item in content.items()}
+    if kind == 'text':
+        return b''.join(u.to_bytes(2, 'big') for u in content).decode('utf-16-be', 'replace')
+    return content if kind in ('whole', 'flag', 'bytes') else kind
+
+
+def from_plistlib(file):
+    """What plistlib reads; its refusal of lone surrogates and of far dates is no difference."""
+    try:
+        read = plistlib.loads(file)
+    except (plistlib.InvalidFileException, OverflowError, UnicodeDecodeError, ValueError):
+        return Any()
+    return Any(read)
+
+
+class Any:
+    """Equal to a value that plistlib read, as far as plistlib can tell; or to all, where it read none."""
+
+    def __init__(self, read=None):
+        self.read = read
+
+    def __eq__(self, value):
+        return self.read is None or alike(self.read, value)
+
+    def __repr__(self):
+        return repr(self.read)
+
+
+def alike(read, value):
+    if value in ('real4', 'real8', 'moment') and not isinstance(read, str):
+        return True
+    if isinstance(value, list):
+        return isinstance(read, list) and len(read) == len(value) and all(map(alike, read, value))
+    if isinstance(value, dict):
+        return isinstance(read, dict) and read.keys() == value.keys() and all(
+            alike(read[key], value[key]) for key in value)
+    return type(read) is type(value) and read == value
+
+
+def main():
+    parser = argparse.ArgumentParser()
+    parser.add_argument('program')
+    parser.add_argument('--seconds', type=float, default=60)
+    parser.add_argument('--seed', type=int, default=1)
+    parser.add_argument('--keep', default='fuzz-differences', help='a folder for inputs that differ')
+    arguments = parser.parse_args()
+    rng, cases, bad = random.Random(arguments.seed), 0, 0
+    end = time.monotonic() + arguments.seconds
+    with tempfile.TemporaryDirectory() as folder:
+        program, other = Program(arguments.program, folder), b'{}'
+        while time.monotonic() < end and bad < 5:
+            octets = random_input(rng)
+            found = differences(program, octets, other)
+            cases += 1
+            if found:
+                bad += 1
+                os.makedirs(arguments.keep, exist_ok=True)
+                path = os.path.join(arguments.keep, '%d-%d' % (arguments.seed, cases))
+                with open(path, 'wb') as out:
+                    out.write(octets)
+                print(path, *found, sep='\n  ')
+            other = octets if rng.random() < 0.5 else random_input(rng)
+    print('%d cases, %d differ' % (cases, bad))
+    return 1 if bad else 0
+
+
+if __name__ == '__main__':
+    sys.exit(main())
