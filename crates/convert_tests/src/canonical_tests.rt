@@ -1,4 +1,4 @@
-use crate::test_files::{file, one};
+use plist_tests::files::{file, one};
 use plist_convert::{canonicalise, read_any, same_files};
 use plist_value::Value;
 use std::test::Fail;

@@ -1,4 +1,4 @@
-use crate::test_files::file;
+use plist_tests::files::file;
 use plist_convert::run;
 use std::fs;
 use std::test::Fail;

@@ -1,4 +1,4 @@
-use crate::test_files::file;
+use plist_tests::files::file;
 use plist_convert::{canonicalise, run, same_files};
 use std::alloc::{AllocError, Global};
 use std::fs;

@@ -10,6 +10,4 @@ mod container_tests;
 #[cfg(test)]
 mod size_tests;
 #[cfg(test)]
-mod test_files;
-#[cfg(test)]
 mod tests;

@@ -1,4 +1,4 @@
-use crate::test_files::{end, one};
+use plist_tests::files::{end, one};
 use plist_convert::canonicalise;
 use std::alloc::{AllocError, Global};
 use std::test::Fail;
