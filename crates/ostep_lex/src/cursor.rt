@@ -31,6 +31,7 @@ impl<'a> Cursor<'a> {
     }
 
     /// The first character from the cursor on, and the cursor behind it.
+    #[inline(always)]
     #[tactic(auto, unfolding(crate::specs::Cursor::ahead, crate::specs::Cursor::places_in))]
     pub(crate) fn first(self) -> Option<(char, Cursor<'a>)>
         ensures { MatchOption result (ahead self.entry ≡ []) (λ found.
