@@ -87,11 +87,21 @@ fn put_units(out: &mut Vec<u8>, units: &[u16]) -> Result<(), AllocError>
     requires { are_ascii units.now ≡ true }
     ensures { OnOk result (out.new.items ≡ out.old.items ++ units.now) }
 {
-    out.reserve(units.len())?;
-    for unit in units {
-        out.push(*unit as u8)?;
-    }
+    let start = out.len();
+    out.resize(start + units.len(), 0)?;
+    narrow(&mut out[start..], units);
     Ok(())
+}
+
+// Each unit into its octet.
+fn narrow(octets: &mut [u8], units: &[u16])
+    requires long { length octets.old ≡ length units.now }
+    requires ascii { are_ascii units.now ≡ true }
+    ensures { octets.new ≡ units.now }
+{
+    for i in 0..units.len() {
+        octets[i] = units[i] as u8;
+    }
 }
 
 // The units between quotes.
