@@ -9,6 +9,8 @@ pub mod NumberLemmas
 pub mod StringSteps
 pub mod StretchLemmas
 pub mod StretchSteps
+pub mod PairsLemmas
+pub mod PairsSteps
 pub mod OctetsSteps
 pub mod TokenSteps
 pub mod OpenLemmas

@@ -16,6 +16,7 @@ use Rattle.ostep_lex.specs.Source.{characters_in, encoding_in}
 use Rattle.ostep_lex.specs.declared.stretch.Class.{Class}
 use Rattle.ostep_lex.specs.declared.stretch.Class.TheVariants.{Raw}
 use Rattle.ostep_lex.specs.Stretch.{is_stretch}
+use Rattle.ostep_lex.specs.Pairs.{AppendsPairs}
 
 -- the characters from the cursor on
 unfoldable pub ahead : Cursor → List ℕ
@@ -106,6 +107,11 @@ pub record OctetsAppends (octets more : List ℕ) (old new : Cursor) : Type 0 wh
 
 pub record PassesOctets (old new : Cursor) (octets : List ℕ) : Type 0 where
   pub bytes : Octets (ahead old) octets (ahead new)
+  pub input : SameInput old new
+
+-- from the old place to the new, pairs of digits stand, and their octets are appended
+pub record PassesPairs (octets more : List ℕ) (old new : Cursor) : Type 0 where
+  pub passes : AppendsPairs octets more (ahead old) (ahead new)
   pub input : SameInput old new
 
 -- a hexadecimal digit of this value

@@ -11,5 +11,6 @@ pub mod Lexing
 pub mod Stands
 pub mod Cursor
 pub mod Stretch
+pub mod Pairs
 pub mod Spans
 pub mod Laws

@@ -5,6 +5,7 @@ ghost use Rattle.ostep_lex.specs.Source.{IsWhole, octets_in};
 use crate::fault::LexFault;
 use crate::source::{ByteOrder, Source, behind_characters};
 use crate::stretch::Class;
+use std::alloc::AllocError;
 use std::str;
 
 /// A place in an input, and the characters from there on. It is passed by value.
@@ -17,7 +18,8 @@ pub struct Cursor<'a> {
 }
 
 impl<'a> Cursor<'a> {
-    ghost use Rattle.ostep_lex.specs.Cursor.{ahead, place_at, SameInput, begins_with, PassesStretch};
+    ghost use Rattle.ostep_lex.specs.Cursor.{ahead, place_at, SameInput, begins_with};
+    ghost use Rattle.ostep_lex.specs.Cursor.{PassesStretch, PassesPairs};
     ghost use Rattle.ostep_lex.specs.Cursor.{Holds, IsBadUtf8, IsBadUtf16};
     ghost use Rattle.ostep_lex.specs.Encoding.{utf8, StopsBehind};
     ghost use Rattle.ostep_lex.specs.Source.{encoding_by};
@@ -62,6 +64,19 @@ impl<'a> Cursor<'a> {
                 end: self.end,
             },
         )
+    }
+
+    /// Appends the octets of the pairs of hexadecimal digits at the cursor, as many as stand there of
+    /// UTF-8 and none of UTF-16, and answers the cursor behind these.
+    #[tactic(auto, unfolding(crate::specs::Cursor::ahead, crate::specs::Cursor::places_in))]
+    pub(crate) fn push_pairs(self, found: &mut Vec<u8>) -> Result<Cursor<'a>, AllocError>
+        ensures { IfOk result (PassesPairs found.old.items found.new.items self.entry) }
+    {
+        let source = self.source.push_pairs(found)?;
+        Ok(Cursor {
+            source,
+            end: self.end,
+        })
     }
 
     /// The cursor behind the character, if it stands first.

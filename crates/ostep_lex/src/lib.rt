@@ -13,6 +13,7 @@ pub mod laws;
 pub mod lexer;
 mod octets;
 mod opening;
+mod pairs;
 mod quoted;
 mod source;
 mod stretch;

@@ -59,12 +59,13 @@ pub fn octets(alloc: Global, cursor: Cursor<'_>) -> Result<(Vec<u8>, Cursor<'_>)
         (OctetsFault (places_in cursor.entry) (ahead cursor.entry))) }
 {
     let mut octets = Vec::new(alloc);
-    let mut rest = cursor;
+    let mut rest = cursor.push_pairs(&mut octets)?;
     while let Some((c, behind)) = rest.first() {
         if c == '>' {
             return Ok((octets, behind));
         }
-        rest = push_octet(&mut octets, rest, c, behind)?;
+        let end = push_octet(&mut octets, rest, c, behind)?;
+        rest = end.push_pairs(&mut octets)?;
     }
     Err(LexFault::BadData {
         octet: rest.place(),

@@ -1,13 +1,16 @@
 //! The octets that are still to be read, and the characters at their front.
-ghost use Rattle.std.specs.Prelude.{◌≡◌, ◌+◌, ◌++◌, [], ◌∷◌, ◌<◌, MatchOption, length, chars};
+ghost use Rattle.std.specs.Prelude.{◌≡◌, ◌+◌, ◌++◌, [], ◌∷◌, ◌<◌, MatchOption, IfOk, length, chars};
 ghost use Rattle.std.specs.Char.{IsScalar};
 ghost use Rattle.ostep_lex.specs.Encoding.{BeginsWith, BeginsWithNone};
 ghost use Rattle.ostep_lex.specs.Encoding.{spelling, utf8};
 ghost use Rattle.ostep_lex.specs.Source.{unit_octets, encoding_by, FrontsOf};
 ghost use Rattle.ostep_lex.specs.Source.{characters_in, encoding_in, octets_in, IsWhole, Leads};
 ghost use Rattle.ostep_lex.specs.Stretch.{LeadsStretch};
+ghost use Rattle.ostep_lex.specs.Pairs.{AppendsLead};
 
+use crate::pairs::push_front;
 use crate::stretch::{Class, stretch};
+use std::alloc::AllocError;
 
 /// Which octet of a UTF-16 unit comes first.
 #[derive(Clone, Copy)]
@@ -125,6 +128,21 @@ impl<'a> Source<'a> {
                 (front, Source::Utf8(behind))
             }
             Source::Utf16(..) => (&[], self),
+        }
+    }
+
+    /// Appends the octets of the pairs of hexadecimal digits at the front, as many as stand there of
+    /// UTF-8 and none of UTF-16, and answers what is to be read behind these.
+    pub fn push_pairs(self, found: &mut Vec<u8>) -> Result<Source<'a>, AllocError>
+        requires { IsWhole self }
+        ensures { IfOk result (AppendsLead found.old.items found.new.items self.entry) }
+    {
+        match self {
+            Source::Utf8(text) => {
+                let behind = push_front(found, text)?;
+                Ok(Source::Utf8(behind))
+            }
+            Source::Utf16(..) => Ok(self),
         }
     }
 }

@@ -1,0 +1,45 @@
+-- Pairs of hexadecimal digits, and the octets that they give.
+use Rattle.std.specs.Prelude.{◌≡◌, ℕ, ◌≤◌, ◌+◌, ◌*◌, true, List, [], ◌∷◌, ◌++◌, length, chars, IsUtf8}
+use Rattle.std.specs.Char.{digit_value}
+use Rattle.ostep_lex.specs.Character.{is_hexadecimal}
+use Rattle.ostep_lex.specs.declared.source.Source.{Source}
+use Rattle.ostep_lex.specs.Source.{characters_in, encoding_in, octets_in, IsWhole}
+
+-- a digit with this value
+pub record IsDigitOf (c value : ℕ) : Type 0 where
+  pub hexadecimal : is_hexadecimal c ≡ true
+  pub valued : value ≡ digit_value c
+
+-- pairs of digits, and their octets
+pub data Pairs : List ℕ → List ℕ → Type 0 where
+  none : Pairs [] []
+  more : {c d : ℕ} {digits octets : List ℕ} → is_hexadecimal c ≡ true → is_hexadecimal d ≡ true → Pairs digits octets
+      → Pairs (c ∷ d ∷ digits) ((digit_value c * 16 + digit_value d) ∷ octets)
+
+-- at the front stands a pair of this octet
+pub record IsPair (text : List ℕ) (octet : ℕ) (behind : List ℕ) : Type 0 where
+  pub high : ℕ
+  pub low : ℕ
+  pub first : text ≡ high ∷ low ∷ behind
+  pub pair : Pairs (high ∷ low ∷ []) (octet ∷ [])
+
+-- pairs stand before what is behind, and their octets are appended
+pub record AppendsPairs (octets more text behind : List ℕ) : Type 0 where
+  pub digits : List ℕ
+  pub values : List ℕ
+  pub pairs : Pairs digits values
+  pub split : text ≡ digits ++ behind
+  pub appended : more ≡ octets ++ values
+
+-- the same of a text
+pub record AppendsFront (octets more text behind : List ℕ) : Type 0 where
+  pub passes : AppendsPairs octets more text behind
+  pub characters : chars text ≡ passes.digits ++ chars behind
+  pub utf8 : IsUtf8 behind
+
+-- the same of what is still to be read
+pub record AppendsLead (octets more : List ℕ) (source behind : Source) : Type 0 where
+  pub passes : AppendsPairs octets more (characters_in source) (characters_in behind)
+  pub whole : IsWhole behind
+  pub encoding : encoding_in behind ≡ encoding_in source
+  pub shorter : length (octets_in behind) ≤ length (octets_in source)

@@ -1,0 +1,50 @@
+//! Pairs of hexadecimal digits at the front of a text, found in its octets.
+ghost use Rattle.std.specs.Prelude.{◌≡◌, false, MatchOption, IfSome, IfOk};
+ghost use Rattle.ostep_lex.specs.Pairs.{IsDigitOf, IsPair, AppendsPairs, AppendsFront};
+ghost use Rattle.ostep_lex.specs.Character.{is_hexadecimal};
+
+use std::alloc::AllocError;
+
+/// The value of the octet, if it is a hexadecimal digit.
+#[inline(always)]
+fn digit_of(octet: u8) -> Option<u8>
+    ensures { MatchOption result (is_hexadecimal octet ≡ false) (IsDigitOf octet) }
+{
+    match octet {
+        b'0'..=b'9' => Some(octet - b'0'),
+        b'A'..=b'F' => Some(octet - b'A' + 10),
+        b'a'..=b'f' => Some(octet - b'a' + 10),
+        _ => None,
+    }
+}
+
+/// The octet of the pair of digits at the front, and the octets behind the pair.
+#[inline(always)]
+fn front_pair(octets: &[u8]) -> Option<(u8, &[u8])>
+    ensures { IfSome result (λ found. IsPair octets.now found.0 found.1.now) }
+{
+    let (high, second) = octets.split_first()?;
+    let (low, behind) = second.split_first()?;
+    Some((digit_of(*high)? * 16 + digit_of(*low)?, behind))
+}
+
+/// Appends the octets of the pairs of digits at the front, and answers what stands behind these.
+fn push_pairs<'a>(found: &mut Vec<u8>, octets: &'a [u8]) -> Result<&'a [u8], AllocError>
+    ensures { IfOk result (λ behind. AppendsPairs found.old.items found.new.items octets.now behind.now) }
+{
+    let mut rest = octets;
+    while let Some((octet, behind)) = front_pair(rest) {
+        found.push(octet)?;
+        rest = behind;
+    }
+    Ok(rest)
+}
+
+/// Appends the octets of the pairs of digits at the front of the text, and answers the text behind
+/// these.
+pub fn push_front<'a>(found: &mut Vec<u8>, text: &'a str) -> Result<&'a str, AllocError>
+    ensures { IfOk result (λ behind. AppendsFront found.old.items found.new.items text.now behind.now) }
+{
+    let behind = push_pairs(found, text.as_bytes())?;
+    Ok(text.split_at(text.len() - behind.len()).1)
+}
