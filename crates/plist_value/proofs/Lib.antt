@@ -2,3 +2,4 @@ pub mod Keys
 pub mod WideUnits
 pub mod Pairs
 pub mod Hashes
+pub mod Rows

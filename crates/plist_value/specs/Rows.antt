@@ -1,16 +1,6 @@
--- Small values, and what the definitions say of them.
-use Rattle.std.specs.Prelude.{◌≡◌, ℕ, zero, suc, ◌<◌, pos, negsuc, true, false, List, [], ◌∷◌, refl}
-use Rattle.std.specs.declared.cmp.Ordering.TheVariants.{Less, Greater}
-use Rattle.std.specs.Ordering.{nat_cmp}
-use Rattle.std.specs.Cmp.Lexicographic.{slice_cmp}
-use Rattle.std.specs.Hash as fed
-use Rattle.std.specs.Int.Signed.{le_z_yes}
-use Rattle.std.proofs.Common.{lit<}
-use Rattle.plist_value.specs.Plist.{text, flag, real8, moment, bytes, Plist, scalar, list, table, no_items, item, no_pairs, pair, AreUnits, IsPlist, IsWhole}
-use Rattle.plist_value.specs.Limits.{nodes, depth, payload}
-use Rattle.plist_value.specs.Texts.{wide_units}
-use Rattle.plist_value.specs.Equality.{scalar_eq}
-use Rattle.plist_value.specs.Hashes.{fed_text}
+-- Small values, of which worked rows speak.
+use Rattle.std.specs.Prelude.{ℕ, List, [], ◌∷◌}
+use Rattle.plist_value.specs.Plist.{text, bytes, Plist, scalar, list, table, no_items, item, no_pairs, pair}
 
 abbrev pub a : List ℕ
 a = 97 ∷ []
@@ -22,78 +12,10 @@ b = 98 ∷ []
 abbrev pub swapped : Plist
 swapped = table (pair a (scalar (text b)) (pair b (scalar (text a)) no_pairs))
 
-swapped-nodes : nodes swapped ≡ 5
-swapped-nodes = refl
-
-swapped-depth : depth swapped ≡ 2
-swapped-depth = refl
-
-swapped-payload : payload swapped ≡ 8
-swapped-payload = refl
-
-one_unit : (unit : ℕ) → unit < 65536 → AreUnits (unit ∷ [])
-one_unit unit h zero = h
-one_unit unit h (suc i) = lit< tt
-
-swapped-is : IsPlist swapped
-swapped-is = (one_unit 97 (lit< tt), one_unit 98 (lit< tt), refl, (one_unit 98 (lit< tt), one_unit 97 (lit< tt), tt, tt))
-
 -- the same pairs, the later key first
 abbrev pub unsorted : Plist
 unsorted = table (pair b (scalar (text a)) (pair a (scalar (text b)) no_pairs))
 
-unsorted-not : IsPlist unsorted → ⊥
-unsorted-not h = let below : Greater ≡ Less = h.2 in cc
-
--- one key twice
-twice-not : IsPlist (table (pair a (scalar (flag true)) (pair a (scalar (flag true)) no_pairs))) → ⊥
-twice-not h = cc (h.2)
-
 -- a list of the octets 61, and of an empty list
 abbrev pub mixed : Plist
 mixed = list (item (scalar (bytes a)) (item (list no_items) no_items))
-
-mixed-nodes : nodes mixed ≡ 3
-mixed-nodes = refl
-
-mixed-depth : depth mixed ≡ 2
-mixed-depth = refl
-
-mixed-payload : payload mixed ≡ 1
-mixed-payload = refl
-
-empty-depth : depth (table no_pairs) ≡ 1
-empty-depth = refl
-
--- a pair of surrogates, d800 dc00, stands below the unit ff61
-surrogates-first : slice_cmp nat_cmp (55296 ∷ 56320 ∷ []) (65377 ∷ []) ≡ Less
-surrogates-first = refl
-
-prefix-first : slice_cmp nat_cmp a (97 ∷ 98 ∷ []) ≡ Less
-prefix-first = refl
-
--- 00 61 d8 00
-wide : wide_units (0 ∷ 97 ∷ 216 ∷ 0 ∷ []) ≡ 97 ∷ 55296 ∷ []
-wide = refl
-
-text-not-bytes : scalar_eq (text a) (bytes a) ≡ false
-text-not-bytes = refl
-
-real-not-moment : (xs : List ℕ) → scalar_eq (real8 xs) (moment xs) ≡ false
-real-not-moment xs = refl
-
-whole-most : IsWhole (pos 18446744073709551615)
-whole-most = record { least = le_z_yes tt; most = le_z_yes tt }
-
-whole-past : IsWhole (pos 18446744073709551616) → ⊥
-whole-past h = absurd h.most.le
-
-whole-least : IsWhole (negsuc 9223372036854775807)
-whole-least = record { least = le_z_yes tt; most = le_z_yes tt }
-
-whole-before : IsWhole (negsuc 9223372036854775808) → ⊥
-whole-before h = absurd h.least.le
-
-five-units : fed_text (1 ∷ 2 ∷ 3 ∷ 4 ∷ 5 ∷ []) ≡ (5 ∷ 0 ∷ 0 ∷ 0 ∷ 0 ∷ 0 ∷ 0 ∷ 0 ∷ []) ∷ (1 ∷ 0 ∷ 2 ∷ 0 ∷ 3 ∷ 0 ∷ 4 ∷ 0 ∷ []) ∷ (5 ∷ 0 ∷ []) ∷ []
-unfolding fed.le_bytes
-five-units = refl

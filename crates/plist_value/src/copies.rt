@@ -1,3 +1,4 @@
+//! Copies of values.
 ghost use Rattle.std.specs.Prelude.{◌≡◌, IfOk};
 ghost use Rattle.plist_value.specs.View.{view, view_items, view_pairs};
 

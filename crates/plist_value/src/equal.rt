@@ -1,3 +1,4 @@
+//! Equality of values.
 ghost use Rattle.std.specs.Prelude.{◌≡◌, ◌↔◌, IsTrue};
 ghost use Rattle.std.specs.Bool.{OnTrue, OnFalse};
 ghost use Rattle.plist_value.specs.Plist.{IsContainer};
@@ -23,7 +24,8 @@ pub fn same(value: &Value, other: &Value) -> bool
 // Whether both are scalars, and equal.
 fn same_scalars(value: &Value, other: &Value) -> bool
     ensures equal { OnTrue result (view value.now ≡ view other.now) }
-    ensures different { OnFalse result (view value.now ≡ view other.now → IsContainer (view value.now)) }
+    ensures different { OnFalse result
+        (view value.now ≡ view other.now → IsContainer (view value.now)) }
 {
     match (ScalarRef::of(value), ScalarRef::of(other)) {
         (Some(scalar), Some(other)) => scalar == other,

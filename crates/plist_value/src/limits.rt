@@ -26,7 +26,8 @@ fn charge(value: &Value, levels: u64, left: Budget) -> Option<Budget>
     ensures left { IfSome result (Spends left (nodes (view value.now)) (payload (view value.now))) }
     ensures deep { IfSome result (λ _. depth (view value.now) ≤ levels) }
     ensures valid { IfSome result (λ _. IsPlist (view value.now)) }
-    ensures over { IfNone result (depth (view value.now) ≤ levels → IsOver left (nodes (view value.now)) (payload (view value.now))) }
+    ensures over { let v = view value.now in
+        IfNone result (depth v ≤ levels → IsOver left (nodes v) (payload v)) }
 {
     let below = levels.checked_sub(1)?;
     match value {
@@ -38,10 +39,13 @@ fn charge(value: &Value, levels: u64, left: Budget) -> Option<Budget>
 
 #[cycle(fits)]
 fn charge_items(items: &Vec<Value>, levels: u64, left: Budget) -> Option<Budget>
-    ensures left { IfSome result (Spends left (nodes_of_items (view_items items.now.items)) (payload_of_items (view_items items.now.items))) }
+    ensures left { let vs = view_items items.now.items in
+        IfSome result (Spends left (nodes_of_items vs) (payload_of_items vs)) }
     ensures deep { IfSome result (λ _. depth_of_items (view_items items.now.items) ≤ levels) }
     ensures valid { IfSome result (λ _. AreItems (view_items items.now.items)) }
-    ensures over { IfNone result (depth_of_items (view_items items.now.items) ≤ levels → IsOver left (nodes_of_items (view_items items.now.items)) (payload_of_items (view_items items.now.items))) }
+    ensures over { let vs = view_items items.now.items in
+        IfNone result
+        (depth_of_items vs ≤ levels → IsOver left (nodes_of_items vs) (payload_of_items vs)) }
 {
     let mut left = left;
     for item in items {
@@ -52,10 +56,13 @@ fn charge_items(items: &Vec<Value>, levels: u64, left: Budget) -> Option<Budget>
 
 #[cycle(fits)]
 fn charge_pairs(pairs: &BTreeMap<Utf16, Value>, levels: u64, left: Budget) -> Option<Budget>
-    ensures left { IfSome result (Spends left (nodes_of_pairs (view_pairs pairs.now.entries)) (payload_of_pairs (view_pairs pairs.now.entries))) }
+    ensures left { let ps = view_pairs pairs.now.entries in
+        IfSome result (Spends left (nodes_of_pairs ps) (payload_of_pairs ps)) }
     ensures deep { IfSome result (λ _. depth_of_pairs (view_pairs pairs.now.entries) ≤ levels) }
     ensures valid { IfSome result (λ _. ArePairs (view_pairs pairs.now.entries)) }
-    ensures over { IfNone result (depth_of_pairs (view_pairs pairs.now.entries) ≤ levels → IsOver left (nodes_of_pairs (view_pairs pairs.now.entries)) (payload_of_pairs (view_pairs pairs.now.entries))) }
+    ensures over { let ps = view_pairs pairs.now.entries in
+        IfNone result
+        (depth_of_pairs ps ≤ levels → IsOver left (nodes_of_pairs ps) (payload_of_pairs ps)) }
 {
     let mut left = left;
     for (key, value) in pairs {

@@ -1,3 +1,4 @@
+//! Whole numbers.
 ghost use Rattle.std.specs.Prelude.{◌≡◌, ◌↔◌, ℤ, IsSome, IfSome};
 ghost use Rattle.std.specs.Ordering.{int_eq, on};
 ghost use Rattle.std.specs.Cmp.Rules.{comparing, hashing};

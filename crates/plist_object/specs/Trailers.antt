@@ -1,0 +1,12 @@
+-- The numbers in the trailer, as they were read.
+use Rattle.plist_object.specs.Layout.{Trailer}
+use Rattle.plist_object.specs.declared.layout.Trailer as read
+
+abbrev pub trailer_in : read.Trailer → Trailer
+trailer_in x = record {
+  offset_width = x.offset_width;
+  reference_width = x.reference_width;
+  count = x.count;
+  top = x.top;
+  table = x.table;
+}
