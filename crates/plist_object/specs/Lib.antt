@@ -4,7 +4,7 @@ pub use Rattle.plist_value.specs.Texts
 pub use Rattle.plist_value.specs.Scalars
 pub use Rattle.byteorder.specs.Endian
 pub mod Layout
-pub mod Fields
+pub mod Trailers
 pub mod Objects
 pub mod Places
 pub mod Views

@@ -1,3 +1,4 @@
+//! The layout of a binary file: header, objects, offset table and trailer.
 ghost use Rattle.std.specs.Prelude.{◌≡◌, ◌+◌, ◌*◌, ◌<◌, ◌≤◌, ◌^◌, ◌↔◌, IsTrue, IsOk, IfOk, MatchResult, length};
 ghost use Rattle.std.specs.Option.{SomeIff};
 ghost use Rattle.plist_object.specs.Layout.{IsLaid, IsLayoutFault, slack_of, trailer_of};
@@ -68,18 +69,18 @@ impl fmt::Display for LayoutFault {
 #[derive(Clone, Copy, Debug)]
 pub struct BinFile<'a> {
     octets: &'a [u8],
-    fields: Fields,
+    trailer: Trailer,
     ghost laid: { IsLaid octets.now },
-    ghost offset_width_read: { fields.offset_width ≡ (trailer_of octets.now).offset_width },
-    ghost reference_width_read: { fields.reference_width ≡ (trailer_of octets.now).reference_width },
-    ghost count_read: { fields.count ≡ (trailer_of octets.now).count },
-    ghost top_read: { fields.top ≡ (trailer_of octets.now).top },
-    ghost table_read: { fields.table ≡ (trailer_of octets.now).table },
+    ghost offset_width_read: { trailer.offset_width ≡ (trailer_of octets.now).offset_width },
+    ghost reference_width_read: { trailer.reference_width ≡ (trailer_of octets.now).reference_width },
+    ghost count_read: { trailer.count ≡ (trailer_of octets.now).count },
+    ghost top_read: { trailer.top ≡ (trailer_of octets.now).top },
+    ghost table_read: { trailer.table ≡ (trailer_of octets.now).table },
 }
 
 // The numbers in the trailer.
 #[derive(Clone, Copy, Debug)]
-struct Fields {
+struct Trailer {
     offset_width: u8,
     reference_width: u8,
     count: u64,
@@ -87,15 +88,15 @@ struct Fields {
     table: u64,
 }
 
-impl Fields {
-    ghost use Rattle.plist_object.specs.Fields.{trailer_in};
+impl Trailer {
+    ghost use Rattle.plist_object.specs.Trailers.{trailer_in};
 
-    fn read(octets: &[u8]) -> Fields
+    fn read(octets: &[u8]) -> Trailer
         requires { 42 ≤ length octets.now }
         ensures { trailer_in result ≡ trailer_of octets.now }
     {
         let size = octets.len();
-        Fields {
+        Trailer {
             offset_width: octets[size - 26],
             reference_width: octets[size - 25],
             count: BigEndian::read_u64(&octets[size - 24..]),
@@ -106,7 +107,9 @@ impl Fields {
 
     // The length of a file with this trailer, where it is a number of 64 bits.
     fn size(&self) -> Option<u64>
-        ensures { SomeIff result (self.now.table + self.now.count * self.now.offset_width + 32 < 2 ^ 64) (self.now.table + self.now.count * self.now.offset_width + 32) }
+        ensures { SomeIff result
+            (self.now.table + self.now.count * self.now.offset_width + 32 < 2 ^ 64)
+            (self.now.table + self.now.count * self.now.offset_width + 32) }
     {
         let entries = self.count.checked_mul(u64::from(self.offset_width))?;
         self.table.checked_add(entries)?.checked_add(32)
@@ -121,8 +124,10 @@ impl<'a> BinFile<'a> {
 
     /// The file in these octets.
     pub fn of(octets: &'a [u8]) -> Result<BinFile<'a>, LayoutFault>
-        ensures laid { MatchResult result (λ file. octets_of file ≡ octets.entry.now) (λ fault. IsLayoutFault fault octets.entry.now) }
-        ensures ok { MatchResult result (λ _. IsLaid octets.entry.now) (λ _. ¬ IsLaid octets.entry.now) }
+        ensures laid { MatchResult result (λ file. octets_of file ≡ octets.entry.now)
+            (λ fault. IsLayoutFault fault octets.entry.now) }
+        ensures ok { MatchResult result (λ _. IsLaid octets.entry.now)
+            (λ _. ¬ IsLaid octets.entry.now) }
     {
         if octets.len() < 42 {
             return Err(LayoutFault::TooShort);
@@ -130,18 +135,18 @@ impl<'a> BinFile<'a> {
         if !octets.starts_with(b"bplist00") {
             return Err(LayoutFault::BadHeader);
         }
-        let fields = Fields::read(octets);
-        if !fits(&fields, octets.len()) {
+        let trailer = Trailer::read(octets);
+        if !fits(&trailer, octets.len()) {
             return Err(LayoutFault::BadTrailer);
         }
-        Ok(BinFile { octets, fields })
+        Ok(BinFile { octets, trailer })
     }
 
     /// The number of objects, at least 1.
     pub fn count(&self) -> u64
         ensures { result ≡ (trailer_of (octets_of self.now)).count }
     {
-        self.fields.count
+        self.trailer.count
     }
 
     /// The number of the top object, below `count`.
@@ -149,7 +154,7 @@ impl<'a> BinFile<'a> {
         ensures value { result ≡ (trailer_of (octets_of self.now)).top }
         ensures below { result < (trailer_of (octets_of self.now)).count }
     {
-        self.fields.top
+        self.trailer.top
     }
 
     /// How many octets an entry of the offset table has, from 1 to 8.
@@ -158,7 +163,7 @@ impl<'a> BinFile<'a> {
         ensures least { 1 ≤ result }
         ensures most { result ≤ 8 }
     {
-        self.fields.offset_width
+        self.trailer.offset_width
     }
 
     /// How many octets a reference has, from 1 to 8.
@@ -167,7 +172,7 @@ impl<'a> BinFile<'a> {
         ensures least { 1 ≤ result }
         ensures most { result ≤ 8 }
     {
-        self.fields.reference_width
+        self.trailer.reference_width
     }
 
     /// The place of the offset table, in octets from the file's first.
@@ -175,7 +180,7 @@ impl<'a> BinFile<'a> {
         ensures value { result ≡ (trailer_of (octets_of self.now)).table }
         ensures within { result ≤ length (octets_of self.now) }
     {
-        self.fields.table
+        self.trailer.table
     }
 
     /// The first six octets of the trailer, which say nothing.
@@ -194,8 +199,8 @@ impl<'a> BinFile<'a> {
         requires { n < (trailer_of (octets_of self.now)).count }
         ensures { result ≡ place_of (octets_of self.now) n }
     {
-        let table = &self.octets[self.fields.table as usize..];
-        number_at(table, usize::from(self.fields.offset_width), n as usize)
+        let table = &self.octets[self.trailer.table as usize..];
+        number_at(table, usize::from(self.trailer.offset_width), n as usize)
     }
 
     /// What the object `n`, which is below `count`, holds, or its first fault.
@@ -219,7 +224,7 @@ impl<'a> BinFile<'a> {
         let (_, behind) = self.read(n)?;
         Ok((
             self.place(n),
-            self.fields.table.saturating_sub(behind.len() as u64),
+            self.trailer.table.saturating_sub(behind.len() as u64),
         ))
     }
 
@@ -228,11 +233,13 @@ impl<'a> BinFile<'a> {
     #[tactic(auto, unfolding(crate::specs::Places::object_at))]
     pub fn is_shortest(&self, n: u64) -> Result<bool, ObjectFault>
         requires { n < (trailer_of (octets_of self.now)).count }
-        ensures shortest { IfOk result (λ shortest. IsTrue shortest ↔ IsShortest (octets_of self.now) n) }
-        ensures reads { MatchResult result (λ _. IsOk (object_at (octets_of self.now) n)) (λ fault. object_at (octets_of self.now) n ≡ Err fault) }
+        ensures shortest { IfOk result
+            (λ shortest. IsTrue shortest ↔ IsShortest (octets_of self.now) n) }
+        ensures reads { MatchResult result (λ _. IsOk (object_at (octets_of self.now) n))
+            (λ fault. object_at (octets_of self.now) n ≡ Err fault) }
     {
         let octets = self.octets_at(n)?;
-        let (object, _) = reading::object(octets, self.fields.reference_width)?;
+        let (object, _) = reading::object(octets, self.trailer.reference_width)?;
         Ok(begins_canonically(octets, &object))
     }
 
@@ -240,11 +247,12 @@ impl<'a> BinFile<'a> {
     #[tactic(auto, unfolding(crate::specs::Places::object_at))]
     fn read(&self, n: u64) -> Result<(Object<'a>, &'a [u8]), ObjectFault>
         requires { n < (trailer_of (octets_of self.now)).count }
-        ensures read { Gives (λ p. (held_of p.0, p.1.now)) result (object_at (octets_of self.now) n) }
+        ensures read { Gives (λ p. (held_of p.0, p.1.now)) result
+            (object_at (octets_of self.now) n) }
         ensures valid { IfOk result (λ p. IsHeld (held_of p.0)) }
     {
         let octets = self.octets_at(n)?;
-        reading::object(octets, self.fields.reference_width)
+        reading::object(octets, self.trailer.reference_width)
     }
 
     #[tactic(auto, unfolding(crate::specs::Places::octets_at))]
@@ -253,7 +261,7 @@ impl<'a> BinFile<'a> {
         ensures { Gives (λ octets. octets.now) result (octets_at (octets_of self.now) n) }
     {
         let place = self.place(n);
-        let table = self.fields.table;
+        let table = self.trailer.table;
         if place < 8 || table <= place {
             return Err(ObjectFault::BadOffset);
         }
@@ -263,17 +271,17 @@ impl<'a> BinFile<'a> {
 }
 
 ghost use Rattle.plist_object.specs.Layout.{IsTrailer};
-ghost use Rattle.plist_object.specs.Fields.{trailer_in};
+ghost use Rattle.plist_object.specs.Trailers.{trailer_in};
 
 // Whether the numbers fit one another, and a file of so many octets.
-fn fits(fields: &Fields, size: usize) -> bool
-    ensures { IsTrue result ↔ IsTrailer size (trailer_in fields.now) }
+fn fits(trailer: &Trailer, size: usize) -> bool
+    ensures { IsTrue result ↔ IsTrailer size (trailer_in trailer.now) }
 {
     let is_width = |width: u8| 1 <= width && width <= 8;
-    is_width(fields.offset_width)
-        && is_width(fields.reference_width)
-        && 1 <= fields.count
-        && fields.top < fields.count
-        && 9 <= fields.table
-        && fields.size() == Some(size as u64)
+    is_width(trailer.offset_width)
+        && is_width(trailer.reference_width)
+        && 1 <= trailer.count
+        && trailer.top < trailer.count
+        && 9 <= trailer.table
+        && trailer.size() == Some(size as u64)
 }

@@ -1,3 +1,4 @@
+//! How many octets an object has in its canonical spelling.
 ghost use Rattle.std.specs.Prelude.{◌≡◌, ◌+◌, ◌*◌, ◌<◌, ◌^◌, length, List, ℕ};
 ghost use Rattle.std.specs.List.{list_all};
 ghost use Rattle.std.specs.Prelude.{nat_lt};
@@ -62,7 +63,8 @@ pub fn list_length(count: u64, width: u8) -> u64
 pub fn table_length(count: u64, width: u8) -> u64
     requires width { IsWidth width }
     requires count { count < 2 ^ 32 }
-    ensures { (keys values : List ℕ) → length keys ≡ count → length values ≡ count → result ≡ length (table_spelling width keys values) }
+    ensures { (keys values : List ℕ) → length keys ≡ count → length values ≡ count → result ≡ length
+        (table_spelling width keys values) }
 {
     head_length(count) + 2 * count * u64::from(width)
 }

@@ -5,6 +5,7 @@
 pub mod laws;
 pub mod layout;
 pub mod lengths;
+mod markers;
 pub mod object;
 pub mod puts;
 mod reading;

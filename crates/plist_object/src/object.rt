@@ -1,3 +1,4 @@
+//! What an object holds, and why one does not read.
 ghost use Rattle.std.specs.Prelude.{◌≡◌};
 
 use crate::Refs;

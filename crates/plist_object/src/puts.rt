@@ -1,3 +1,4 @@
+//! Objects in their canonical spelling.
 ghost use Rattle.std.specs.Prelude.{◌≡◌, ◌+◌, ◌*◌, ◌<◌, ◌≤◌, ◌^◌, [], ◌∷◌, ◌++◌, length, All, OnOk, OnErr, nat_lt, replicate, true};
 ghost use Rattle.std.specs.List.{list_all};
 ghost use Rattle.byteorder.specs.Endian.{big_bytes};
@@ -9,6 +10,10 @@ ghost use Rattle.plist_object.specs.Sizes.{IsSmall, IsWidth};
 ghost use Rattle.plist_object.specs.Spelling.{head, least_integer, list_spelling, references, table_spelling, scalar_spelling, text_spelling, whole_spelling};
 
 use crate::lengths::{is_ascii, list_length, scalar_length, table_length, width_of};
+use crate::markers::{
+    ASCII, DATA, FALSE, LIST, MOMENT_8, REAL_4, REAL_8, TABLE, TRUE, WHOLE_1, WHOLE_2, WHOLE_4,
+    WHOLE_8, WHOLE_16, WIDE,
+};
 use byteorder::{BigEndian, ByteOrder};
 use plist_value::{ScalarRef, TextRef};
 use std::alloc::AllocError;
@@ -17,17 +22,18 @@ use std::alloc::AllocError;
 /// is no memory. A text or data has below 2^32 units or octets.
 pub fn put_scalar(out: &mut Vec<u8>, scalar: &ScalarRef) -> Result<(), AllocError>
     requires { IsSmall (content_of scalar.now) }
-    ensures ok { OnOk result (out.new.items ≡ out.old.items ++ scalar_spelling (content_of scalar.now)) }
+    ensures ok { OnOk result
+        (out.new.items ≡ out.old.items ++ scalar_spelling (content_of scalar.now)) }
     ensures err { OnErr result (out.new.items ≡ out.old.items) }
 {
     out.reserve(scalar_length(scalar) as usize)?;
     match scalar {
         ScalarRef::Text(text) => push_text(out, text),
         ScalarRef::Whole(whole) => push_whole(out, whole.get()),
-        ScalarRef::Flag(flag) => push_octet(out, if *flag { 0x09 } else { 0x08 }),
-        ScalarRef::Real4(octets) => push_marked(out, 0x22, octets),
-        ScalarRef::Real8(octets) => push_marked(out, 0x23, octets),
-        ScalarRef::Moment(octets) => push_marked(out, 0x33, octets),
+        ScalarRef::Flag(flag) => push_octet(out, if *flag { TRUE } else { FALSE }),
+        ScalarRef::Real4(octets) => push_marked(out, REAL_4, octets),
+        ScalarRef::Real8(octets) => push_marked(out, REAL_8, octets),
+        ScalarRef::Moment(octets) => push_marked(out, MOMENT_8, octets),
         ScalarRef::Bytes(octets) => push_data(out, octets),
     }
     Ok(())
@@ -45,7 +51,7 @@ pub fn put_list(out: &mut Vec<u8>, width: u8, refs: &[u64]) -> Result<(), AllocE
 {
     let count = refs.len() as u64;
     out.reserve(list_length(count, width) as usize)?;
-    push_head(out, 0xa, count);
+    push_head(out, LIST, count);
     push_references(out, width, refs);
     Ok(())
 }
@@ -64,12 +70,13 @@ pub fn put_table(
     requires pairs { length keys.now ≡ length values.now }
     requires keys_fit { All (λ reference. reference < 256 ^ width) keys.now }
     requires values_fit { All (λ reference. reference < 256 ^ width) values.now }
-    ensures ok { OnOk result (out.new.items ≡ out.old.items ++ table_spelling width keys.now values.now) }
+    ensures ok { OnOk result
+        (out.new.items ≡ out.old.items ++ table_spelling width keys.now values.now) }
     ensures err { OnErr result (out.new.items ≡ out.old.items) }
 {
     let count = keys.len() as u64;
     out.reserve(table_length(count, width) as usize)?;
-    push_head(out, 0xd, count);
+    push_head(out, TABLE, count);
     push_references(out, width, keys);
     push_references(out, width, values);
     Ok(())
@@ -129,10 +136,10 @@ fn push_integer(out: &mut Vec<u8>, n: u64)
 {
     let width = width_of(n);
     let marker = match width {
-        1 => 0x10,
-        2 => 0x11,
-        4 => 0x12,
-        _ => 0x13,
+        1 => WHOLE_1,
+        2 => WHOLE_2,
+        4 => WHOLE_4,
+        _ => WHOLE_8,
     };
     push_octet(out, marker);
     push_number(out, n, width);
@@ -156,7 +163,7 @@ fn push_data(out: &mut Vec<u8>, octets: &[u8])
     requires { HasRoom out.old (length (head 4 (length octets.now)) + length octets.now) }
     ensures { Appends out.old out.new (head 4 (length octets.now) ++ octets.now) }
 {
-    push_head(out, 0x4, octets.len() as u64);
+    push_head(out, DATA, octets.len() as u64);
     push_octets(out, octets);
 }
 
@@ -166,7 +173,7 @@ fn push_whole(out: &mut Vec<u8>, number: i128)
     ensures { Appends out.old out.new (whole_spelling number) }
 {
     if number < 0 {
-        push_octet(out, 0x13);
+        push_octet(out, WHOLE_8);
         push_number(out, (number as i64).cast_unsigned(), 8);
     } else if number < 1 << 63 {
         push_integer(out, number as u64);
@@ -180,7 +187,7 @@ fn push_long_whole(out: &mut Vec<u8>, n: u64)
     requires { HasRoom out.old 17 }
     ensures { Appends out.old out.new (20 ∷ (replicate 8 0 ++ big_bytes 8 n)) }
 {
-    push_marked(out, 0x14, &[0; 8]);
+    push_marked(out, WHOLE_16, &[0; 8]);
     push_number(out, n, 8);
 }
 
@@ -190,10 +197,10 @@ fn push_text(out: &mut Vec<u8>, text: &TextRef)
 {
     let count = text.len() as u64;
     if is_ascii(text) {
-        push_head(out, 0x5, count);
+        push_head(out, ASCII, count);
         push_ascii(out, text);
     } else {
-        push_head(out, 0x6, count);
+        push_head(out, WIDE, count);
         push_wide(out, text);
     }
 }

@@ -1,5 +1,5 @@
-// What an object that begins with some octets holds, and the octets behind it. The octets reach up to the
-// offset table.
+//! What an object that begins with some octets holds, and the octets behind it. The octets reach up to the
+//! offset table.
 ghost use Rattle.std.specs.Prelude.{◌≡◌, ◌≢◌, ◌+◌, ◌*◌, ◌<◌, ◌≤◌, ◌/◌, ◌%◌, length, IfOk};
 ghost use Rattle.byteorder.specs.Endian.{big_number};
 ghost use Rattle.plist_object.specs.Objects.{IsHeld, holds_scalar, cut, integer_length, count_spelled, count_of_content, content, whole_in, simple_object, whole_object, real_object, moment_object, data_object, ascii_object, wide_object, list_object, table_object, marked_object, object_in};
@@ -8,6 +8,10 @@ ghost use Rattle.plist_value.specs.Plist.{AreOctets};
 ghost use Rattle.plist_value.specs.Plist as kind;
 ghost use Rattle.plist_value.specs.Wholes.{number_of};
 
+use crate::markers::{
+    ASCII, DATA, LIST, MOMENT, REAL, SET, SIMPLE, TABLE, UID, WHOLE, WHOLE_1, WHOLE_2, WHOLE_4,
+    WHOLE_8, WHOLE_16, WIDE,
+};
 use crate::{Object, ObjectFault, Refs};
 use byteorder::{BigEndian, ByteOrder};
 use plist_value::{ScalarRef, TextRef, Whole};
@@ -29,11 +33,11 @@ fn integer_length(marker: u8) -> Result<usize, ObjectFault>
     ensures small { IfOk result (λ n. (1 ≤ n) × (n ≢ 16 → n ≤ 8)) }
 {
     match marker {
-        0x10 => Ok(1),
-        0x11 => Ok(2),
-        0x12 => Ok(4),
-        0x13 => Ok(8),
-        0x14 => Ok(16),
+        WHOLE_1 => Ok(1),
+        WHOLE_2 => Ok(2),
+        WHOLE_4 => Ok(4),
+        WHOLE_8 => Ok(8),
+        WHOLE_16 => Ok(16),
         _ => Err(ObjectFault::BadMarker),
     }
 }
@@ -73,7 +77,8 @@ struct Counted<'a> {
 #[tactic(auto, unfolding(crate::specs::Objects::content))]
 fn content(octets: &[u8], low: u8, unit: usize) -> Read<'_, Counted<'_>>
     requires { 0 < unit }
-    ensures read { Gives (λ p. (p.0.count, p.0.octets.now, p.1.now)) result (content unit low octets.entry.now) }
+    ensures read { Gives (λ p. (p.0.count, p.0.octets.now, p.1.now)) result
+        (content unit low octets.entry.now) }
     ensures whole { IfOk result (λ p. length p.0.octets.now ≡ p.0.count * unit) }
     ensures octets { IfOk result (λ p. AreOctets p.0.octets.now) }
 {
@@ -127,7 +132,7 @@ fn whole(octets: &[u8], low: u8) -> Read<'_, Object<'_>>
     ensures read { Gives (λ p. (held_of p.0, p.1.now)) result (whole_object low octets.entry.now) }
     ensures valid { IfOk result (λ p. IsHeld (held_of p.0)) }
 {
-    let n = integer_length(0x10 + low)?;
+    let n = integer_length(WHOLE_1 + low)?;
     let (digits, rest) = cut(octets, n)?;
     let number = whole_in(digits, n)?;
     Ok((Object::Scalar(ScalarRef::Whole(number)), rest))
@@ -207,7 +212,8 @@ fn ascii(octets: &[u8], low: u8) -> Read<'_, Object<'_>>
 fn list(octets: &[u8], low: u8, width: u8) -> Read<'_, Object<'_>>
     requires width_least { 1 ≤ width }
     requires width_most { width ≤ 8 }
-    ensures read { Gives (λ p. (held_of p.0, p.1.now)) result (list_object width low octets.entry.now) }
+    ensures read { Gives (λ p. (held_of p.0, p.1.now)) result
+        (list_object width low octets.entry.now) }
     ensures valid { IfOk result (λ p. IsHeld (held_of p.0)) }
 {
     let (items, rest) = content(octets, low, usize::from(width))?;
@@ -219,7 +225,8 @@ fn list(octets: &[u8], low: u8, width: u8) -> Read<'_, Object<'_>>
 fn table(octets: &[u8], low: u8, width: u8) -> Read<'_, Object<'_>>
     requires width_least { 1 ≤ width }
     requires width_most { width ≤ 8 }
-    ensures read { Gives (λ p. (held_of p.0, p.1.now)) result (table_object width low octets.entry.now) }
+    ensures read { Gives (λ p. (held_of p.0, p.1.now)) result
+        (table_object width low octets.entry.now) }
     ensures valid { IfOk result (λ p. IsHeld (held_of p.0)) }
 {
     let (pairs, rest) = content(octets, low, 2 * usize::from(width))?;
@@ -253,17 +260,17 @@ pub(crate) fn object(octets: &[u8], width: u8) -> Read<'_, Object<'_>>
     };
     let low = marker % 16;
     match marker / 16 {
-        0x0 => simple(octets, low),
-        0x1 => whole(octets, low),
-        0x2 => real(octets, low),
-        0x3 => moment(octets, low),
-        0x4 => data(octets, low),
-        0x5 => ascii(octets, low),
-        0x6 => wide(octets, low),
-        0x8 => Err(ObjectFault::UidObject),
-        0xa => list(octets, low, width),
-        0xc => Err(ObjectFault::SetObject),
-        0xd => table(octets, low, width),
+        SIMPLE => simple(octets, low),
+        WHOLE => whole(octets, low),
+        REAL => real(octets, low),
+        MOMENT => moment(octets, low),
+        DATA => data(octets, low),
+        ASCII => ascii(octets, low),
+        WIDE => wide(octets, low),
+        UID => Err(ObjectFault::UidObject),
+        LIST => list(octets, low, width),
+        SET => Err(ObjectFault::SetObject),
+        TABLE => table(octets, low, width),
         _ => Err(ObjectFault::BadMarker),
     }
 }

@@ -1,3 +1,4 @@
+//! The references of a container.
 ghost use Rattle.std.specs.Prelude.{◌≡◌, ◌+◌, ◌*◌, ◌<◌, ◌≤◌, ◌==◌, length, slice_index, drop};
 ghost use Rattle.byteorder.specs.Endian.{big_number};
 

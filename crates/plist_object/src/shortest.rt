@@ -1,5 +1,5 @@
-// Whether an object begins as the canonical spelling of what it holds: with the marker, and the count or
-// the whole number, in the least width.
+//! Whether an object begins as the canonical spelling of what it holds: with the marker, and the count or
+//! the whole number, in the least width.
 ghost use Rattle.std.specs.Prelude.{◌≡◌, ◌<◌, ◌≤◌, ◌^◌, ◌↔◌, ◌+◌, ◌++◌, IsTrue, length, replicate, take};
 ghost use Rattle.byteorder.specs.Endian.{big_bytes};
 ghost use Rattle.plist_value.specs.Plist.{AreOctets, IsWhole};
@@ -12,6 +12,10 @@ ghost use Rattle.plist_object.specs.Views.{held_of};
 
 use crate::Object;
 use crate::lengths::{is_ascii, width_of};
+use crate::markers::{
+    ASCII, DATA, FALSE, LIST, MOMENT_8, REAL_4, REAL_8, TABLE, TRUE, WHOLE_1, WHOLE_2, WHOLE_4,
+    WHOLE_8, WHOLE_16, WIDE,
+};
 use byteorder::{BigEndian, ByteOrder};
 use plist_value::{ScalarRef, TextRef};
 
@@ -23,8 +27,8 @@ pub(crate) fn begins_canonically(octets: &[u8], object: &Object) -> bool
 {
     match object {
         Object::Scalar(scalar) => begins_scalar(octets, scalar),
-        Object::List(items) => begins_with_head(octets, 0xa, items.len()),
-        Object::Table(keys, _) => begins_with_head(octets, 0xd, keys.len()),
+        Object::List(items) => begins_with_head(octets, LIST, items.len()),
+        Object::Table(keys, _) => begins_with_head(octets, TABLE, keys.len()),
     }
 }
 
@@ -35,12 +39,12 @@ fn begins_scalar(octets: &[u8], scalar: &ScalarRef) -> bool
     match scalar {
         ScalarRef::Text(text) => begins_text(octets, text),
         ScalarRef::Whole(whole) => begins_whole(octets, whole.get()),
-        ScalarRef::Flag(true) => begins(octets, &[0x09]),
-        ScalarRef::Flag(false) => begins(octets, &[0x08]),
-        ScalarRef::Real4(_) => begins(octets, &[0x22]),
-        ScalarRef::Real8(_) => begins(octets, &[0x23]),
-        ScalarRef::Moment(_) => begins(octets, &[0x33]),
-        ScalarRef::Bytes(data) => begins_with_head(octets, 0x4, data.len() as u64),
+        ScalarRef::Flag(true) => begins(octets, &[TRUE]),
+        ScalarRef::Flag(false) => begins(octets, &[FALSE]),
+        ScalarRef::Real4(_) => begins(octets, &[REAL_4]),
+        ScalarRef::Real8(_) => begins(octets, &[REAL_8]),
+        ScalarRef::Moment(_) => begins(octets, &[MOMENT_8]),
+        ScalarRef::Bytes(data) => begins_with_head(octets, DATA, data.len() as u64),
     }
 }
 
@@ -48,7 +52,7 @@ fn begins_text(octets: &[u8], text: &TextRef) -> bool
     ensures begins { IsTrue result ↔ Begins (text_head (units_of text.now)) octets.now }
     ensures counted { length (units_of text.now) < 2 ^ 64 }
 {
-    let kind = if is_ascii(text) { 0x5 } else { 0x6 };
+    let kind = if is_ascii(text) { ASCII } else { WIDE };
     begins_with_head(octets, kind, text.len() as u64)
 }
 
@@ -60,11 +64,11 @@ fn begins_whole(octets: &[u8], number: i128) -> bool
         return false;
     };
     if number < 0 {
-        *marker == 0x13 && begins_with_number(digits, (number as i64).cast_unsigned(), 8)
+        *marker == WHOLE_8 && begins_with_number(digits, (number as i64).cast_unsigned(), 8)
     } else if number < 1 << 63 {
         begins_with_integer(octets, number as u64)
     } else {
-        *marker == 0x14 && begins_with_long(digits, number as u64)
+        *marker == WHOLE_16 && begins_with_long(digits, number as u64)
     }
 }
 
@@ -90,10 +94,10 @@ fn begins_with_integer(octets: &[u8], n: u64) -> bool
     };
     let width = width_of(n);
     let expected = match width {
-        1 => 0x10,
-        2 => 0x11,
-        4 => 0x12,
-        _ => 0x13,
+        1 => WHOLE_1,
+        2 => WHOLE_2,
+        4 => WHOLE_4,
+        _ => WHOLE_8,
     };
     *marker == expected && begins_with_number(digits, n, width)
 }

@@ -1,0 +1,46 @@
+//! The markers that objects begin with (CFBinaryPList.c).
+
+// The kind of an object, in the high four bits of its marker.
+pub(crate) const SIMPLE: u8 = 0x0;
+
+pub(crate) const WHOLE: u8 = 0x1;
+
+pub(crate) const REAL: u8 = 0x2;
+
+pub(crate) const MOMENT: u8 = 0x3;
+
+pub(crate) const DATA: u8 = 0x4;
+
+pub(crate) const ASCII: u8 = 0x5;
+
+pub(crate) const WIDE: u8 = 0x6;
+
+pub(crate) const UID: u8 = 0x8;
+
+pub(crate) const LIST: u8 = 0xa;
+
+pub(crate) const SET: u8 = 0xc;
+
+pub(crate) const TABLE: u8 = 0xd;
+
+// Markers that say all but the content: false and true, whole numbers of so many octets, reals of four and
+// of eight octets, and dates.
+pub(crate) const FALSE: u8 = 0x08;
+
+pub(crate) const TRUE: u8 = 0x09;
+
+pub(crate) const WHOLE_1: u8 = 0x10;
+
+pub(crate) const WHOLE_2: u8 = 0x11;
+
+pub(crate) const WHOLE_4: u8 = 0x12;
+
+pub(crate) const WHOLE_8: u8 = 0x13;
+
+pub(crate) const WHOLE_16: u8 = 0x14;
+
+pub(crate) const REAL_4: u8 = 0x22;
+
+pub(crate) const REAL_8: u8 = 0x23;
+
+pub(crate) const MOMENT_8: u8 = 0x33;
