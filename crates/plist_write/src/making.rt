@@ -31,7 +31,8 @@ pub fn canonical(alloc: Global, value: &Value) -> Result<Vec<u8>, AllocError>
 // The file of the objects.
 fn file_of_slots(alloc: Global, slots: &[Slot]) -> Result<Vec<u8>, AllocError>
     requires { IsPlan slots.now }
-    ensures { IfOk result (λ octets. octets.items ≡ file_of (spelled (least_width (length slots.now)) slots.now)) }
+    ensures { IfOk result
+        (λ octets. octets.items ≡ file_of (spelled (least_width (length slots.now)) slots.now)) }
 {
     let count = slots.len() as u64;
     let width = width_of(count);

@@ -37,7 +37,8 @@ pub(crate) fn put_slot(out: &mut Vec<u8>, width: u8, slot: &Slot) -> Result<(), 
     requires width { IsWidth width }
     requires narrow { width ≤ 4 }
     requires spellable { CanSpell width (held_in slot.now) }
-    ensures octets { OnOk result (out.new.items ≡ out.old.items ++ spelling_of width (held_in slot.now)) }
+    ensures octets { OnOk result
+        (out.new.items ≡ out.old.items ++ spelling_of width (held_in slot.now)) }
     ensures light { length (spelling_of width (held_in slot.now)) ≤ weight_of (held_in slot.now) }
 {
     match slot {
@@ -49,25 +50,6 @@ pub(crate) fn put_slot(out: &mut Vec<u8>, width: u8, slot: &Slot) -> Result<(), 
         Slot::Table(keys, values) => put_table(out, width, keys, values),
     }
 }
-
-// Shows, and does nothing else, that a scalar has at most 17 octets beside its payload.
-fn weigh(scalar: &ScalarRef)
-    requires { IsSmall (content_of scalar.now) }
-    ensures { length (scalar_spelling (content_of scalar.now)) ≤ 17 + payload_of_scalar (content_of scalar.now) }
-{
-    match scalar {
-        ScalarRef::Real4(octets) => at_most_8(octets),
-        ScalarRef::Real8(octets) | ScalarRef::Moment(octets) => at_most_8(octets),
-        ScalarRef::Text(_) => (),
-        ScalarRef::Bytes(_) | ScalarRef::Whole(_) | ScalarRef::Flag(_) => (),
-    }
-}
-
-// Shows that a real or a moment has at most 8 octets.
-fn at_most_8(octets: &[u8])
-    requires { length octets.now ≤ 8 }
-    ensures { length octets.now ≤ 8 }
-{}
 
 /// The offsets of these objects, of which the first begins at the place, behind the octets of `out`. It
 /// answers the place behind the last of them.
@@ -83,7 +65,9 @@ pub(crate) fn put_offsets(
     requires spellable { CanSpellAll width (held_by slots.now) }
     requires fits { place + length (concat (spelled width slots.now)) < 256 ^ offset_width }
     ensures next { IfOk result (λ next. next ≡ place + length (concat (spelled width slots.now))) }
-    ensures offsets { OnOk result (out.new.items ≡ out.old.items ++ references offset_width (starts place (spelled width slots.now))) }
+    ensures offsets { OnOk result
+        (out.new.items ≡ out.old.items ++ references offset_width
+        (starts place (spelled width slots.now))) }
 {
     let mut place = place;
     for slot in slots {
@@ -115,3 +99,26 @@ pub(crate) fn put_trailer(out: &mut Vec<u8>, count: u64, place: u64) -> Result<(
     put_number(out, 8, place)?;
     Ok(())
 }
+
+// What follows does nothing when it runs: it carries facts that types keep, as the lengths of arrays, to the
+// proofs.
+
+// A scalar has at most 17 octets beside its payload.
+fn weigh(scalar: &ScalarRef)
+    requires { IsSmall (content_of scalar.now) }
+    ensures { length (scalar_spelling (content_of scalar.now)) ≤ 17 + payload_of_scalar
+        (content_of scalar.now) }
+{
+    match scalar {
+        ScalarRef::Real4(octets) => at_most_8(octets),
+        ScalarRef::Real8(octets) | ScalarRef::Moment(octets) => at_most_8(octets),
+        ScalarRef::Text(_) => (),
+        ScalarRef::Bytes(_) | ScalarRef::Whole(_) | ScalarRef::Flag(_) => (),
+    }
+}
+
+// A real or a moment has at most 8 octets.
+fn at_most_8(octets: &[u8])
+    requires { length octets.now ≤ 8 }
+    ensures { length octets.now ≤ 8 }
+{}

@@ -69,7 +69,8 @@ pub fn write_canonical<W: Sink>(
 // The file of the objects.
 fn send_file<W: Sink>(alloc: Global, slots: &[Slot], out: &mut W) -> Result<u64, WriteFault>
     requires { IsPlan slots.now }
-    ensures { Sends (file_of (spelled (least_width (length slots.now)) slots.now)) 0 (W.taken out.old) (W.taken out.new)
+    ensures { Sends (file_of (spelled (least_width (length slots.now)) slots.now)) 0
+        (W.taken out.old) (W.taken out.new)
         (W.failures out.old) (W.failures out.new) result }
 {
     let width = width_of(slots.len() as u64);
@@ -91,7 +92,8 @@ fn send_objects<W: Sink>(
     requires narrow { width ≤ 4 }
     requires spellable { CanSpellAll width (held_by slots.now) }
     requires room { sent + weights (held_by slots.now) < 2 ^ 64 }
-    ensures sends { Sends (concat (spelled width slots.now)) sent (W.taken out.old) (W.taken out.new)
+    ensures sends { Sends (concat (spelled width slots.now)) sent (W.taken out.old)
+        (W.taken out.new)
         (W.failures out.old) (W.failures out.new) result }
     ensures light { IfOk result (λ after. after ≤ sent + weights (held_by slots.now)) }
 {
@@ -120,8 +122,10 @@ fn send_offsets<W: Sink>(
     requires offset_width { IsWidth offset_width }
     requires spellable { CanSpellAll width (held_by slots.now) }
     requires fits { 8 + length (concat (spelled width slots.now)) < 256 ^ offset_width }
-    requires room { sent + length (references offset_width (starts 8 (spelled width slots.now))) < 2 ^ 64 }
-    ensures { Sends (references offset_width (starts 8 (spelled width slots.now))) sent (W.taken out.old) (W.taken out.new)
+    requires room { sent + length
+        (references offset_width (starts 8 (spelled width slots.now))) < 2 ^ 64 }
+    ensures { Sends (references offset_width (starts 8 (spelled width slots.now))) sent
+        (W.taken out.old) (W.taken out.new)
         (W.failures out.old) (W.failures out.new) result }
 {
     let mut sent = sent;

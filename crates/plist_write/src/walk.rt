@@ -12,7 +12,8 @@ use std::collections::BTreeMap;
 
 /// The objects of the value's canonical file, in the order of their numbers.
 pub(crate) fn slots_of<'a>(alloc: Global, value: &'a Value) -> Result<Vec<Slot<'a>>, AllocError>
-    ensures { IfOk result (λ slots. let all = preorder (view value.now) in held_by slots.items ≡ found_in all 0 all) }
+    ensures { IfOk result
+        (λ slots. let all = preorder (view value.now) in held_by slots.items ≡ found_in all 0 all) }
 {
     let mut plan = Plan::new(alloc);
     walk(alloc, &mut plan, value)?;
@@ -67,7 +68,8 @@ fn walk_items<'a>(
     plan: &mut Plan<'a>,
     items: &'a Vec<Value>,
 ) -> Result<Vec<u64>, AllocError>
-    ensures { IfOk result (λ refs. WalksItems (view_items items.now.items) plan.old plan.new refs.items) }
+    ensures { IfOk result
+        (λ refs. WalksItems (view_items items.now.items) plan.old plan.new refs.items) }
 {
     let mut refs = Vec::with_capacity(alloc, items.len())?;
     for item in items {
@@ -83,7 +85,8 @@ fn walk_values<'a>(
     plan: &mut Plan<'a>,
     pairs: &'a BTreeMap<Utf16, Value>,
 ) -> Result<Vec<u64>, AllocError>
-    ensures { IfOk result (λ refs. WalksValues (view_pairs pairs.now.entries) plan.old plan.new refs.items) }
+    ensures { IfOk result
+        (λ refs. WalksValues (view_pairs pairs.now.entries) plan.old plan.new refs.items) }
 {
     let mut refs = Vec::with_capacity(alloc, pairs.len())?;
     for (_, value) in pairs {
@@ -98,7 +101,8 @@ fn number_keys<'a>(
     plan: &mut Plan<'a>,
     pairs: &'a BTreeMap<Utf16, Value>,
 ) -> Result<Vec<u64>, AllocError>
-    ensures { IfOk result (λ refs. WalksKeys (view_pairs pairs.now.entries) plan.old plan.new refs.items) }
+    ensures { IfOk result
+        (λ refs. WalksKeys (view_pairs pairs.now.entries) plan.old plan.new refs.items) }
 {
     let mut refs = Vec::with_capacity(alloc, pairs.len())?;
     for (key, _) in pairs {
