@@ -105,7 +105,8 @@ pub fn check(alloc: Global, octets: &[u8]) -> Result<Verdict, CheckFault>
     ensures fault { IfErr result (IsCheckFault octets.now) }
     ensures laid { IfOk result (λ _. IsLaid octets.now) }
     ensures verdict { IfOk result (IsVerdict octets.now) }
-    ensures canonical { IfOk result (λ verdict. (verdict ≡ Verdict.Canonical) ↔ IsCanonical octets.now) }
+    ensures canonical { IfOk result
+        (λ verdict. (verdict ≡ Verdict.Canonical) ↔ IsCanonical octets.now) }
 {
     let file = BinFile::of(octets)?;
     match judge(alloc, &file) {

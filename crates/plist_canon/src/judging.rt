@@ -81,8 +81,10 @@ fn has_least_widths(file: &BinFile) -> bool
 
 /// Rules 0, 3, 4, 5 and 6 of each object in turn, but for the limits; then the place of the offset table.
 pub(crate) fn judge_objects(alloc: Global, file: &BinFile) -> Result<(), Flaw>
-    ensures judged { OnOk result ((i : ℕ) → i < (trailer_of (octets_of file.now)).count → IsJudged (octets_of file.now) i) }
-    ensures adjoin { OnOk result ((i : ℕ) → i < (trailer_of (octets_of file.now)).count → Adjoins (octets_of file.now) i) }
+    ensures judged { OnOk result
+        ((i : ℕ) → i < (trailer_of (octets_of file.now)).count → IsJudged (octets_of file.now) i) }
+    ensures adjoin { OnOk result
+        ((i : ℕ) → i < (trailer_of (octets_of file.now)).count → Adjoins (octets_of file.now) i) }
     ensures err { IfErr result (IsFlaw (octets_of file.now)) }
 {
     let count = file.count();

@@ -75,9 +75,12 @@ fn charge_items(
     requires read { AllRead (octets_of file.now) }
     requires weights { AreAllWeights (octets_of file.now) weights.now }
     requires ascending { AllAscend (octets_of file.now) }
-    requires listed { EachIndex (numbers_of items.now) (λ k. slice_index (numbers_of items.now) k < (trailer_of (octets_of file.now)).count) }
-    ensures left { IfSome result (ChargesItems (octets_of file.now) (numbers_of items.now) levels left) }
-    ensures over { IfNone result (ExceedsItems (octets_of file.now) (numbers_of items.now) levels left) }
+    requires listed { EachIndex (numbers_of items.now)
+        (λ k. slice_index (numbers_of items.now) k < (trailer_of (octets_of file.now)).count) }
+    ensures left { IfSome result
+        (ChargesItems (octets_of file.now) (numbers_of items.now) levels left) }
+    ensures over { IfNone result
+        (ExceedsItems (octets_of file.now) (numbers_of items.now) levels left) }
 {
     let mut left = left;
     for k in 0..items.len() {

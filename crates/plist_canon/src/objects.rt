@@ -23,7 +23,8 @@ pub(crate) fn object_of<'a>(file: &BinFile<'a>, n: u64) -> Object<'a>
 /// The text that the object holds, if it holds one.
 pub(crate) fn text_of<'a>(file: &BinFile<'a>, n: u64) -> Option<TextRef<'a>>
     requires { n < (trailer_of (octets_of file.now)).count }
-    ensures some { IfSome result (λ t. Holds (octets_of file.now) n (holds_scalar (text (units_of t)))) }
+    ensures some { IfSome result
+        (λ t. Holds (octets_of file.now) n (holds_scalar (text (units_of t)))) }
     ensures none { IfNone result (¬ HoldsText (octets_of file.now) n) }
 {
     match file.object(n) {

@@ -67,7 +67,9 @@ fn enter(
     requires path { IsPath (octets_of file.now) path.old.items }
     requires weighed { AreWeights (octets_of file.now) weights.old.items }
     requires counted { length weights.old.items ≡ number }
-    ensures { OnOk result (Enters (octets_of file.now) number path.old.items path.new.items weights.old.items weights.new.items) }
+    ensures { OnOk result
+        (Enters
+        (octets_of file.now) number path.old.items path.new.items weights.old.items weights.new.items) }
 {
     let object = object_of(file, number);
     weights.push(Weight::of(&object))?;
@@ -102,7 +104,8 @@ fn next_visit(
     requires read { AllRead (octets_of file.now) }
     requires path { IsPath (octets_of file.now) path.old.items }
     ensures path { IfOk result (λ _. IsPath (octets_of file.now) path.new.items) }
-    ensures visits { IfOk result (Visits (octets_of file.now) weights.now path.old.items path.new.items) }
+    ensures visits { IfOk result
+        (Visits (octets_of file.now) weights.now path.old.items path.new.items) }
 {
     while let Some(frame) = path.pop() {
         if let Some((done, reference)) = frame_visit(file, &frame, weights) {
@@ -118,8 +121,16 @@ fn next_visit(
 fn frame_visit(file: &BinFile, frame: &Frame, weights: &[Weight]) -> Option<(u64, u64)>
     requires { IsWellRead (octets_of file.now) frame.now.owner }
     ensures known { IfSome result (λ p. ¬ IsKnown weights.now p.1) }
-    ensures some { IfSome result (λ p. LeadsTo weights.now (drop frame.now.done (part_read frame.now.values (what_holds (octets_of file.now) frame.now.owner))) (p.1 ∷ drop p.0 (part_read frame.now.values (what_holds (octets_of file.now) frame.now.owner)))) }
-    ensures none { IfNone result (LeadsTo weights.now (drop frame.now.done (part_read frame.now.values (what_holds (octets_of file.now) frame.now.owner))) []) }
+    ensures some { IfSome result
+        (λ p. LeadsTo weights.now
+        (drop frame.now.done
+        (part_read frame.now.values (what_holds (octets_of file.now) frame.now.owner)))
+        (p.1 ∷ drop p.0
+        (part_read frame.now.values (what_holds (octets_of file.now) frame.now.owner)))) }
+    ensures none { IfNone result
+        (LeadsTo weights.now
+        (drop frame.now.done
+        (part_read frame.now.values (what_holds (octets_of file.now) frame.now.owner))) []) }
 {
     match object_of(file, frame.owner) {
         Object::Scalar(_) => None,
@@ -141,7 +152,9 @@ fn frame_visit(file: &BinFile, frame: &Frame, weights: &[Weight]) -> Option<(u64
 // The first reference from the place on that is not to a scalar that was met, and the place behind it.
 fn first_other(refs: &Refs, from: u64, weights: &[Weight]) -> Option<(u64, u64)>
     ensures known { IfSome result (λ p. ¬ IsKnown weights.now p.1) }
-    ensures some { IfSome result (λ p. LeadsTo weights.now (drop from (numbers_of refs.now)) (p.1 ∷ drop p.0 (numbers_of refs.now))) }
+    ensures some { IfSome result
+        (λ p. LeadsTo weights.now (drop from (numbers_of refs.now))
+        (p.1 ∷ drop p.0 (numbers_of refs.now))) }
     ensures none { IfNone result (LeadsTo weights.now (drop from (numbers_of refs.now)) []) }
 {
     for place in from..refs.len() {

@@ -25,7 +25,8 @@ pub(crate) fn refers_well(file: &BinFile, ranks: &Ranks, object: &Object) -> boo
 
 fn table_refers_well(file: &BinFile, ranks: &Ranks, keys: &Refs, values: &Refs) -> bool
     requires { AreRanks (octets_of file.now) ranks.now }
-    ensures { IsTrue result ↔ RefersWell (octets_of file.now) (holds_table (numbers_of keys.now) (numbers_of values.now)) }
+    ensures { IsTrue result ↔ RefersWell (octets_of file.now)
+        (holds_table (numbers_of keys.now) (numbers_of values.now)) }
 {
     if !are_below(keys, file.count()) {
         return false;
@@ -37,7 +38,8 @@ fn table_refers_well(file: &BinFile, ranks: &Ranks, keys: &Refs, values: &Refs) 
 }
 
 fn are_below(refs: &Refs, count: u64) -> bool
-    ensures { IsTrue result ↔ EachIndex (numbers_of refs.now) (λ k. slice_index (numbers_of refs.now) k < count) }
+    ensures { IsTrue result ↔ EachIndex (numbers_of refs.now)
+        (λ k. slice_index (numbers_of refs.now) k < count) }
 {
     for k in 0..refs.len() {
         if refs.get(k) >= count {
@@ -49,8 +51,10 @@ fn are_below(refs: &Refs, count: u64) -> bool
 
 fn name_texts(file: &BinFile, ranks: &Ranks, keys: &Refs) -> bool
     requires ranks { AreRanks (octets_of file.now) ranks.now }
-    requires below { EachIndex (numbers_of keys.now) (λ k. slice_index (numbers_of keys.now) k < (trailer_of (octets_of file.now)).count) }
-    ensures { IsTrue result ↔ EachIndex (numbers_of keys.now) (λ k. HoldsText (octets_of file.now) (slice_index (numbers_of keys.now) k)) }
+    requires below { EachIndex (numbers_of keys.now)
+        (λ k. slice_index (numbers_of keys.now) k < (trailer_of (octets_of file.now)).count) }
+    ensures { IsTrue result ↔ EachIndex (numbers_of keys.now)
+        (λ k. HoldsText (octets_of file.now) (slice_index (numbers_of keys.now) k)) }
 {
     for k in 0..keys.len() {
         if !names_text(file, ranks, keys.get(k)) {
@@ -71,7 +75,8 @@ fn names_text(file: &BinFile, ranks: &Ranks, key: u64) -> bool
 /// Whether the texts that the references name ascend, unit by unit.
 pub(crate) fn keys_ascend(file: &BinFile, ranks: &Ranks, keys: &Refs) -> bool
     requires ranks { AreRanks (octets_of file.now) ranks.now }
-    requires below { EachIndex (numbers_of keys.now) (λ k. slice_index (numbers_of keys.now) k < (trailer_of (octets_of file.now)).count) }
+    requires below { EachIndex (numbers_of keys.now)
+        (λ k. slice_index (numbers_of keys.now) k < (trailer_of (octets_of file.now)).count) }
     ensures { IsTrue result ↔ AscendInTurn (octets_of file.now) (numbers_of keys.now) }
 {
     for k in 1..keys.len() {
