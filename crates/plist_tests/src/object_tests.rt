@@ -16,10 +16,6 @@ fn is_at_top(octets: &[u8], scalar: ScalarRef) -> bool {
     matches!(file.object(file.top()), Ok(Object::Scalar(other)) if other == scalar)
 }
 
-fn whole(number: i128) -> Result<ScalarRef<'static>, Fail> {
-    Ok(ScalarRef::Whole(Whole::new(number).ok_or("in range")?))
-}
-
 #[test]
 fn wholes_in_their_canonical_spelling(rt: HostRuntime) -> Result<(), Fail> {
     let rows: [(&[u8], i128); 8] = [
@@ -40,7 +36,7 @@ fn wholes_in_their_canonical_spelling(rt: HostRuntime) -> Result<(), Fail> {
     ];
     let mut spelled = Vec::with_capacity(rt.alloc(), 17)?;
     for (object, number) in rows {
-        let scalar = whole(number)?;
+        let scalar = ScalarRef::Whole(Whole::new(number).ok_or("in range")?);
         let octets = one(rt.alloc(), object)?;
         assert!(rt; is_at_top(octets.as_slice(), scalar), "{number}");
         assert_eq!(rt; scalar_length(&scalar), object.len() as u64);
@@ -56,6 +52,7 @@ fn scalars_are_read(rt: HostRuntime) -> Result<(), Fail> {
     let letter = ScalarRef::Text(TextRef::of_ascii(b"a").ok_or("ascii")?);
     let lone = ScalarRef::Text(TextRef::of_units(&[0xd800]));
     let real = [0x3f, 0xf0, 0, 0, 0, 0, 0, 0];
+    let five = ScalarRef::Whole(Whole::new(5).ok_or("in range")?);
     let rows: [(&[u8], ScalarRef); 10] = [
         (&[0x51, 0x61], letter),
         (&[0x61, 0, 0x61], letter),
@@ -66,7 +63,7 @@ fn scalars_are_read(rt: HostRuntime) -> Result<(), Fail> {
         (b"\x22\x3f\x80\0\0", ScalarRef::Real4([0x3f, 0x80, 0, 0])),
         (b"\x23\x3f\xf0\0\0\0\0\0\0", ScalarRef::Real8(real)),
         (b"\x33\x3f\xf0\0\0\0\0\0\0", ScalarRef::Moment(real)),
-        (&[0x13, 0, 0, 0, 0, 0, 0, 0, 5], whole(5)?),
+        (&[0x13, 0, 0, 0, 0, 0, 0, 0, 5], five),
     ];
     for (i, (object, scalar)) in rows.iter().enumerate() {
         let octets = one(rt.alloc(), object)?;
