@@ -8,19 +8,19 @@ use Rattle.plist_write.specs.declared.sending.WriteFault.{WriteFault}
 use Rattle.plist_write.specs.Sending.{IsBlamed, sent_of}
 
 -- a path, as its octets
-abbrev pub Path : Type 0
-Path = List ℕ
+abbrev pub FileName : Type 0
+FileName = List ℕ
 
 -- what stands at each path: octets, or nothing
 abbrev pub Files : Type 0
-Files = Path → Option (List ℕ)
+Files = FileName → Option (List ℕ)
 
 -- the octets stand at the path, where the disk tells
-abbrev pub Holds : Option Files → Path → List ℕ → Type 0
+abbrev pub Holds : Option Files → FileName → List ℕ → Type 0
 Holds files path octets = IfSome files (λ at. at path ≡ Some octets)
 
 -- nothing stands at the path, where the disk tells
-abbrev pub Lacks : Option Files → Path → Type 0
+abbrev pub Lacks : Option Files → FileName → Type 0
 Lacks files path = IfSome files (λ at. at path ≡ None)
 
 -- a disk that tells goes on to tell, and P holds of what it told and what it tells
@@ -31,15 +31,15 @@ Turns (Some old) (Some new) P = P old new
 
 -- every path holds what it held
 abbrev pub SameFiles : Option Files → Option Files → Type 0
-SameFiles before after = Turns before after (λ old new. (path : Path) → new path ≡ old path)
+SameFiles before after = Turns before after (λ old new. (path : FileName) → new path ≡ old path)
 
 -- every path but one holds what it held
-abbrev pub SameBeside : Path → Option Files → Option Files → Type 0
-SameBeside path before after = Turns before after (λ old new. (other : Path) → other ≢ path → new other ≡ old other)
+abbrev pub SameBeside : FileName → Option Files → Option Files → Type 0
+SameBeside path before after = Turns before after (λ old new. (other : FileName) → other ≢ path → new other ≡ old other)
 
 -- Why a file was not loaded: a device failed, and there is none where the disk tells; or it is too large; or there was
 -- no memory.
-abbrev pub IsUnloaded : Option Files → Path → ℕ → ℕ → Fault → Type 0
+abbrev pub IsUnloaded : Option Files → FileName → ℕ → ℕ → Fault → Type 0
 IsUnloaded files path before after ReadFailed = Lacks files path × HasFailed before after
 IsUnloaded files path before after InputTooLarge =
     IfSome files (λ at. (octets : List ℕ) × ((at path ≡ Some octets) × (MAX_INPUT < length octets))) × (after ≡ before)
@@ -47,13 +47,13 @@ IsUnloaded files path before after (OutOfMemory sent) = (sent ≡ 0) × (after �
 IsUnloaded files path before after _ = ⊥
 
 -- so many of the octets stand at the path, or it is as it was where none do
-abbrev pub HoldsFront : Option Files → Option Files → Path → List ℕ → ℕ → Type 0
+abbrev pub HoldsFront : Option Files → Option Files → FileName → List ℕ → ℕ → Type 0
 HoldsFront before after path octets sent =
     Turns before after (λ old new. ((sent ≡ 0) × (new path ≡ old path)) ⊎ (new path ≡ Some (take sent octets)))
 
 -- Storing: the files and the count of failures before it, the same after it, the path, the octets, and how many of
 -- them were sent or the refusal. It is all of them that then stand at the path, or as many as the refusal tells.
-pub record IsStored (files rest : Option Files) (before after : ℕ) (path : Path) (octets : List ℕ) (result : Result ℕ WriteFault) : Type 0 where
+pub record IsStored (files rest : Option Files) (before after : ℕ) (path : FileName) (octets : List ℕ) (result : Result ℕ WriteFault) : Type 0 where
   pub others : SameBeside path files rest
   pub count : IfOk result (λ sent. (sent ≡ length octets) × (after ≡ before))
   pub whole : IfOk result (λ _. Turns files rest (λ old new. new path ≡ Some octets))

@@ -1,6 +1,7 @@
 //! What holds files.
-ghost use Rattle.std.specs.Prelude.{◌≡◌, ℕ, IfErr, IfOk, OnOk, Option};
+ghost use Rattle.std.specs.Prelude.{◌≡◌, ℕ, IfErr, IfOk, MatchResult, OnOk, Option};
 ghost use Rattle.plist_disk.specs.Files.{Files, Holds, IsStored, IsUnloaded, SameFiles};
+ghost use Rattle.plist_write.specs.Sending.{IsBlamed};
 
 use crate::Content;
 use plist_files::Fault;
@@ -52,4 +53,14 @@ pub trait Disk {
     /// How many devices failed so far. The count stays at `u64::MAX`.
     fn failures(&self) -> u64
         ensures { result ≡ failures self.now };
+}
+
+/// The count of failures after a file was sent so.
+pub(crate) fn failures_after(failures: u64, sent: &Result<u64, WriteFault>) -> u64
+    ensures { MatchResult sent.now (λ _. result ≡ failures) (λ fault. IsBlamed fault failures result) }
+{
+    match sent {
+        Err(WriteFault::WriteFailed { .. }) => failures.saturating_add(1),
+        _ => failures,
+    }
 }

@@ -1,5 +1,5 @@
 //! A file of the host as a sink, which is not touched before its first octet.
-ghost use Rattle.std.specs.Prelude.{◌≡◌};
+ghost use Rattle.std.specs.Prelude.{◌≡◌, ◌<◌, ◌≤◌, IfOk, length};
 
 use plist_devices::{DeviceFault, Sink};
 use std::fs;
@@ -32,7 +32,11 @@ impl<'a, R: Files> FileSink<'a, R> {
     }
 
     /// Some of the piece, to the file, which is created or emptied where this is its first.
-    fn write(&mut self, piece: &[u8]) -> Result<usize, DeviceFault> {
+    fn write(&mut self, piece: &[u8]) -> Result<usize, DeviceFault>
+        ensures within { IfOk result (λ taken. taken ≤ length piece.now) }
+        ensures some { IfOk result (λ taken. 0 < length piece.now → 0 < taken) }
+        ensures failures { failures_of self.new ≡ failures_of self.old }
+    {
         if self.device.is_none() {
             self.device = fs::create(self.rt, self.path).ok();
         }

@@ -2,6 +2,7 @@
 ghost use Rattle.std.specs.Prelude.{◌≡◌, IfErr};
 ghost use Rattle.plist_files.specs.Load.{IsLoadFault};
 
+use crate::disks::failures_after;
 use crate::file_sink::FileSink;
 use crate::{Content, Disk};
 use plist_devices::ReaderSource;
@@ -61,9 +62,7 @@ impl<R: Files> Disk for HostDisk<'_, R> {
         content: &C,
     ) -> Result<u64, WriteFault> {
         let sent = content.send(alloc, &mut FileSink::new(self.rt, path));
-        if let Err(WriteFault::WriteFailed { .. }) = sent {
-            self.failures = self.failures.saturating_add(1);
-        }
+        self.failures = failures_after(self.failures, &sent);
         sent
     }
 

@@ -1,7 +1,8 @@
 //! A disk in memory.
-ghost use Rattle.std.specs.Prelude.{◌≡◌, ◌≤◌, ◌<◌, IfErr, IfOk, IfSome, None, Some, length, string_bytes};
-ghost use Rattle.plist_disk.specs.Files.{SameBeside};
+ghost use Rattle.std.specs.Prelude.{◌≡◌, ◌≤◌, ◌<◌, IfOk, OnErr, None, Some, option_map};
+ghost use Rattle.plist_disk.specs.Files.{FileName, SameBeside};
 
+use crate::disks::failures_after;
 use crate::{Content, Disk};
 use plist_devices::ListSink;
 use plist_files::{Fault, MAX_INPUT};
@@ -26,7 +27,7 @@ impl MemoryDisk {
     /// A disk with no files. The step is above 0.
     pub fn new(alloc: Global, room: usize, step: usize) -> MemoryDisk
         requires { 0 < step }
-        ensures empty { (path : Path) → files_of result path ≡ None }
+        ensures empty { (path : FileName) → files_of result path ≡ None }
         ensures room { room_of result ≡ room }
         ensures failures { failures_of result ≡ 0 }
     {
@@ -42,7 +43,7 @@ impl MemoryDisk {
     pub fn put(&mut self, alloc: Global, path: &str, octets: Vec<u8>) -> Result<(), AllocError>
         ensures put { IfOk result (λ _. files_of self.new path.now ≡ Some octets.items) }
         ensures others { SameBeside path.now (Some (files_of self.old)) (Some (files_of self.new)) }
-        ensures unchanged { OnErr result ((other : Path) → files_of self.new other ≡ files_of self.old other) }
+        ensures unchanged { OnErr result ((other : FileName) → files_of self.new other ≡ files_of self.old other) }
         ensures failures { failures_of self.new ≡ failures_of self.old }
         ensures room { room_of self.new ≡ room_of self.old }
     {
@@ -87,16 +88,14 @@ impl Disk for MemoryDisk {
             return Err(WriteFault::OutOfMemory { sent: 0 });
         };
         let sent = content.send(alloc, &mut sink);
-        if let Err(WriteFault::WriteFailed { .. }) = sent {
-            self.failures = self.failures.saturating_add(1);
-        }
         let Ok(octets) = Vec::from_slice(alloc, sink.taken()) else {
             return Err(WriteFault::OutOfMemory { sent: 0 });
         };
-        match self.put(alloc, path, octets) {
-            Ok(()) => sent,
-            Err(_) => Err(WriteFault::OutOfMemory { sent: 0 }),
+        if self.put(alloc, path, octets).is_err() {
+            return Err(WriteFault::OutOfMemory { sent: 0 });
         }
+        self.failures = failures_after(self.failures, &sent);
+        sent
     }
 
     fn failures(&self) -> u64 {
