@@ -1,9 +1,5 @@
 -- Why a reference to an object is refused before the object is looked at, or for the object's own fault.
-use Rattle.std.proofs.Common.{◌≡◌, ℕ, suc, ◌+◌, ◌-◌, ◌<◌, ◌≤◌, ◌==◌, List, [], ◌∷◌, length, Err, true, false, sym, subst, ⊎_elim, inl, inr, arith}
-use Rattle.std.specs.Prelude.{◌≢◌}
-use Rattle.std.proofs.Math.Dec.{eqb}
-use Rattle.std.proofs.lemmas.Bool.Decides.{eqb_tells}
-use Rattle.std.specs.List.{list_any}
+use Rattle.std.proofs.Common.{◌≡◌, ℕ, suc, ◌+◌, ◌-◌, ◌<◌, ◌≤◌, List, [], ◌∷◌, length, Err, sym, subst, ⊎_elim, arith}
 use Rattle.plist_value.specs.Plist.{Plist, scalar, list, table, IsPlist}
 use Rattle.plist_value.specs.Limits.{nodes, depth}
 use Rattle.plist_value.specs.declared.TheConstants.{MAX_DEPTH}
@@ -13,7 +9,7 @@ use Rattle.plist_object.specs.Places.{what_holds}
 use Rattle.plist_object.specs.Spelled.{Spells}
 use Rattle.plist_object.specs.Ascending.{Among, Contains-among}
 use Rattle.plist_object.specs.Uniqueness.{same_value}
-use Rattle.plist_binary.specs.declared.budget.Budget.{Budget}
+use Rattle.plist_value.specs.declared.budget.Budget.{Budget}
 use Rattle.plist_binary.specs.declared.fault.BinaryFault.TheVariants.{Object, Cycle, TooDeep, TooManyNodes}
 use Rattle.plist_binary.specs.Paths.{Leads}
 use Rattle.plist_binary.specs.Readings.{Refuses}
@@ -53,17 +49,8 @@ cycle_spells_none f containers i v leads among valid spells =
     let fewer : nodes v ≤ nodes v - 1 = subst (λ (w : Plist). nodes w ≤ nodes v - 1) (sym same) below.few in
     omega arith
 
-found_among : (xs : List ℕ) (i : ℕ) → list_any (λ x. x == i) xs ≡ true → Among i xs
-found_among [] i found = absurd (cc)
-found_among (x ∷ xs) i found =
-    ⊎_elim
-    (λ (same : (eqb x i ≡ true) × (x ≡ i)). inl (sym same.1))
-    (λ (apart : (eqb x i ≡ false) × (x ≢ i)). inr (found_among xs i (rw apart.0 at found)))
-    (eqb_tells x i)
-
-pub Refuses-cycle : (f before : List ℕ) (container i levels : ℕ) (left : Budget) → IsLaid f → Leads f (container ∷ before) i → list_any (λ x. x == i) (container ∷ before) ≡ true → Refuses f i levels left (Cycle container)
-Refuses-cycle f before container i levels left laid leads found =
-    let among = found_among (container ∷ before) i found in
+pub Refuses-cycle : (f before : List ℕ) (container i levels : ℕ) (left : Budget) → IsLaid f → Leads f (container ∷ before) i → Among i (container ∷ before) → Refuses f i levels left (Cycle container)
+Refuses-cycle f before container i levels left laid leads among =
     record {
       stands = record {
         ends = record {

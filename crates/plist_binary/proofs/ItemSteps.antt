@@ -6,10 +6,10 @@ use Rattle.plist_object.specs.Layout.{IsLaid, trailer_of}
 use Rattle.plist_object.specs.Places.{what_holds}
 use Rattle.plist_object.specs.Spelled.{Spells, SpellItems}
 use Rattle.plist_object.specs.Uniqueness.{same_items}
-use Rattle.plist_binary.specs.declared.budget.Budget.{Budget}
+use Rattle.plist_value.specs.declared.budget.Budget.{Budget}
 use Rattle.plist_binary.specs.declared.fault.BinaryFault.{BinaryFault}
 use Rattle.plist_binary.specs.declared.fault.BinaryFault.TheVariants.{BadReference, OutOfMemory}
-use Rattle.plist_binary.specs.Budgets.{Affords}
+use Rattle.plist_value.specs.Budget.{Affords}
 use Rattle.plist_binary.specs.Paths.{Refers, Leads}
 use Rattle.plist_binary.specs.Reach.{payload_read, nodes_reached, payload_reached, nodes_from, payload_from}
 use Rattle.plist_binary.specs.Readings.{Reads, Refuses, ReadsItems, RefusesItems}

@@ -8,10 +8,10 @@ use Rattle.plist_object.specs.Places.{Holds, what_holds}
 use Rattle.plist_object.specs.Spelled.{Spells, SpellItems}
 use Rattle.plist_object.specs.Ascending.{Among, Among-contains, Contains-among}
 use Rattle.plist_object.specs.Uniqueness.{same_held, same_items}
-use Rattle.plist_binary.specs.declared.budget.Budget.{Budget}
+use Rattle.plist_value.specs.declared.budget.Budget.{Budget}
 use Rattle.plist_binary.specs.declared.fault.BinaryFault.{BinaryFault}
 use Rattle.plist_binary.specs.declared.fault.BinaryFault.TheVariants.{KeyNotText}
-use Rattle.plist_binary.specs.Budgets.{Affords}
+use Rattle.plist_value.specs.Budget.{Affords}
 use Rattle.plist_binary.specs.Faults.{IsText}
 use Rattle.plist_binary.specs.Paths.{Refers, AllRefer, IsKeyOf, Leads}
 use Rattle.plist_binary.specs.Reach.{payload_read, nodes_reached, payload_reached, nodes_from, payload_from}
@@ -73,7 +73,7 @@ RefusesKey-other f before table i levels left held laid leads key listed reads n
   none = λ _ units valid spells deep affords. no_text (subst IsText (same_held f i (holds_scalar (text units)) held spells record { listed = listed; reads = reads }) tt);
 }
 
-texts-push : (keys : List (List ℕ)) (units : List ℕ) → texts (keys ++ units ∷ []) ≡ push (texts keys) (scalar (text units))
+pub texts-push : (keys : List (List ℕ)) (units : List ℕ) → texts (keys ++ units ∷ []) ≡ push (texts keys) (scalar (text units))
 texts-push [] units = refl
 texts-push (key ∷ keys) units = ap (item (scalar (text key))) (texts-push keys units)
 

@@ -17,3 +17,7 @@ pub mod TableSteps
 pub mod Worked
 pub mod WorkedFaults
 pub mod WorkedShared
+pub mod Marking
+pub mod Covering
+pub mod PassSteps
+pub mod BuildSteps

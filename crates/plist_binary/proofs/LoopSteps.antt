@@ -4,7 +4,7 @@ use Rattle.std.proofs.lemmas.List.{take_more, take-append-drop, get_or_default}
 use Rattle.std.specs.List.{Contains}
 use Rattle.plist_value.specs.Plist.{text, Plist, scalar, Items}
 use Rattle.plist_object.specs.Layout.{IsLaid, trailer_of}
-use Rattle.plist_binary.specs.declared.budget.Budget.{Budget}
+use Rattle.plist_value.specs.declared.budget.Budget.{Budget}
 use Rattle.plist_binary.specs.declared.fault.BinaryFault.{BinaryFault}
 use Rattle.plist_binary.specs.declared.fault.BinaryFault.TheVariants.{BadReference}
 use Rattle.plist_binary.specs.Paths.{AllRefer, HasKeys, Leads}
@@ -19,7 +19,7 @@ around refs k i within is =
     ∙ ap (λ (xs : List ℕ). take k refs ++ xs) (sym (drop-cons refs k 0 within))
     ∙ take-append-drop k refs
 
-next : (refs : List ℕ) (k i : ℕ) → k < length refs → i ≡ slice_index refs k → take k refs ++ (i ∷ []) ≡ take (k + 1) refs
+pub next : (refs : List ℕ) (k i : ℕ) → k < length refs → i ≡ slice_index refs k → take k refs ++ (i ∷ []) ≡ take (k + 1) refs
 next refs k i within is =
     ap (λ (n : ℕ). take k refs ++ (n ∷ [])) is ∙ sym (take_more refs k 0 within)
 

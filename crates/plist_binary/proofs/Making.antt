@@ -11,21 +11,21 @@ use Rattle.plist_object.specs.Objects.{Held, holds_scalar, holds_list, holds_tab
 use Rattle.plist_object.specs.Places.{Holds, what_holds}
 use Rattle.plist_object.specs.Spelled.{Spells, SpellItems}
 use Rattle.plist_object.specs.Uniqueness.{same_held}
-use Rattle.plist_binary.specs.declared.budget.Budget.{Budget}
+use Rattle.plist_value.specs.declared.budget.Budget.{Budget}
 use Rattle.plist_binary.specs.declared.fault.BinaryFault.{BinaryFault}
 use Rattle.plist_binary.specs.declared.fault.BinaryFault.TheVariants.{TooMuchPayload, OutOfMemory}
-use Rattle.plist_binary.specs.Budgets.{Spends, Affords}
+use Rattle.plist_value.specs.Budget.{Spends, Affords}
 use Rattle.plist_binary.specs.Paths.{Leads}
 use Rattle.plist_binary.specs.Reach.{payload_read, references_read, nodes_reached, payload_reached, nodes_from, payload_from}
 use Rattle.plist_binary.specs.Readings.{Reads, Refuses, ReadsItems, RefusesItems, ReadsPairs, RefusesPairs}
 use Rattle.plist_binary.proofs.Reaching.{reach-next, reach_from-append, widen}
 
 -- what is reached from an object that reads so
-nodes_next : (f : List ℕ) (i levels : ℕ) (held : Held) → what_holds f i ≡ Ok held → nodes_reached f (1 + levels) i ≡ 1 + nodes_from f levels (references_read (Ok held))
+pub nodes_next : (f : List ℕ) (i levels : ℕ) (held : Held) → what_holds f i ≡ Ok held → nodes_reached f (1 + levels) i ≡ 1 + nodes_from f levels (references_read (Ok held))
 nodes_next f i levels held reads =
     reach-next (λ _. 1) f levels i ∙ ap (λ (r : Result Held ObjectFault). 1 + nodes_from f levels (references_read r)) reads
 
-payload_next : (f : List ℕ) (i levels : ℕ) (held : Held) → what_holds f i ≡ Ok held → payload_reached f (1 + levels) i ≡ payload_read (Ok held) + payload_from f levels (references_read (Ok held))
+pub payload_next : (f : List ℕ) (i levels : ℕ) (held : Held) → what_holds f i ≡ Ok held → payload_reached f (1 + levels) i ≡ payload_read (Ok held) + payload_from f levels (references_read (Ok held))
 payload_next f i levels held reads =
     reach-next (λ i. payload_read (what_holds f i)) f levels i
     ∙ ap (λ (r : Result Held ObjectFault). payload_read r + payload_from f levels (references_read r)) reads

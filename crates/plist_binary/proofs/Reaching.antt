@@ -22,7 +22,7 @@ reach_from-append weight f levels xs ys =
     ap (sum_by (reach weight f levels)) (filter-append (λ i. ltb i (trailer_of f).count) xs ys)
     ∙ sum_by-append (reach weight f levels) (to_objects f xs) (to_objects f ys)
 
-reach_from-one : (weight : ℕ → ℕ) (f : List ℕ) (levels i : ℕ) → i < (trailer_of f).count → reach_from weight f levels (i ∷ []) ≡ reach weight f levels i
+pub reach_from-one : (weight : ℕ → ℕ) (f : List ℕ) (levels i : ℕ) → i < (trailer_of f).count → reach_from weight f levels (i ∷ []) ≡ reach weight f levels i
 reach_from-one weight f levels i listed =
     ap (λ b. sum_by (reach weight f levels) (cond b (i ∷ []) [])) (lt-ltb i (trailer_of f).count listed) ∙ omega arith
 

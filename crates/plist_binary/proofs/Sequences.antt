@@ -13,7 +13,7 @@ abbrev pub push : Items → Plist → Items
 push no_items v = item v no_items
 push (item w vs) v = item w (push vs v)
 
-items_of-push : (vs : List Plist) (v : Plist) → items_of (vs ++ v ∷ []) ≡ push (items_of vs) v
+pub items_of-push : (vs : List Plist) (v : Plist) → items_of (vs ++ v ∷ []) ≡ push (items_of vs) v
 items_of-push [] v = refl
 items_of-push (w ∷ vs) v = ap (item w) (items_of-push vs v)
 

@@ -1,5 +1,5 @@
 -- A table, from its keys and its values in turn.
-use Rattle.std.proofs.Common.{◌≡◌, ℕ, zero, suc, ◌+◌, ◌<◌, ◌≤◌, List, [], ◌∷◌, length, get_or, slice_index, map, true, false, refl, sym, ap, ◌∙◌, subst, ⊎_elim, inl, inr, arith}
+use Rattle.std.proofs.Common.{◌≡◌, ℕ, zero, suc, ◌+◌, ◌<◌, ◌≤◌, max, List, [], ◌∷◌, length, get_or, slice_index, map, true, false, refl, sym, ap, ◌∙◌, subst, ⊎_elim, inl, inr, arith}
 use Rattle.std.specs.Prelude.{◌⊎◌}
 use Rattle.std.specs.declared.cmp.Ordering.{Ordering}
 use Rattle.std.specs.declared.cmp.Ordering.TheVariants.{Less, Equal, Greater}
@@ -19,32 +19,34 @@ use Rattle.plist_object.specs.Objects.{holds_scalar, holds_table}
 use Rattle.plist_object.specs.Places.{Holds}
 use Rattle.plist_object.specs.Spelled.{SpellItems, SpellPairs}
 use Rattle.plist_object.specs.Uniqueness.{same_items}
-use Rattle.plist_binary.specs.declared.budget.Budget.{Budget}
+use Rattle.plist_value.specs.declared.budget.Budget.{Budget}
 use Rattle.plist_binary.specs.declared.fault.BinaryFault.{BinaryFault}
 use Rattle.plist_binary.specs.declared.fault.BinaryFault.TheVariants.{DuplicateKey, OutOfMemory}
 use Rattle.plist_binary.specs.Paths.{Leads}
 use Rattle.plist_binary.specs.Reach.{nodes_from, payload_from}
 use Rattle.plist_binary.specs.Readings.{ReadsItems, RefusesItems, texts, RefusesKeys, ReadsPairs, RefusesPairs}
+use Rattle.plist_binary.specs.Building.{PairsSpelled}
 use Rattle.plist_binary.proofs.Ascents.{distinct_moved}
+use Rattle.plist_binary.proofs.Entering.{some_level}
 use Rattle.plist_binary.proofs.Inserting.{same_key, zip-firsts, zip-seconds}
 use Rattle.plist_binary.proofs.Reaching.{widen}
 use Rattle.plist_binary.proofs.Rows.{pull, Row, AreRows-moved, listed, nodes_of_pair, payload_of_pair, length-listed, AreRows-listed, nodes-listed, payload-listed, keys_distinct, row_keys, row_values, key_refs, value_refs, SpellItems-keys, SpellItems-values, nodes-rows, payload-rows, AreRows-items, SpellPairs-rows, ArePairs-rows, nodes-pairs_of, payload-pairs_of}
 
 -- the keys and the values of pairs, in the order of the file
-record Unsorted (f keys values : List ℕ) (levels : ℕ) (ps : Pairs) : Type 0 where
-  us : List (List ℕ)
-  vs : List Plist
-  spell_keys : SpellItems f keys (texts us)
-  spell_values : SpellItems f values (items_of vs)
-  valid_keys : AreItems (texts us)
-  valid_values : AreItems (items_of vs)
-  deep_keys : depth_of_items (texts us) ≤ levels
-  deep_values : depth_of_items (items_of vs) ≤ levels
-  nodes_sum : nodes_of_pairs ps ≡ nodes_of_items (texts us) + nodes_of_items (items_of vs)
-  payload_sum : payload_of_pairs ps ≡ payload_of_items (texts us) + payload_of_items (items_of vs)
-  distinct : IsDistinct same_key us
+pub record Unsorted (f keys values : List ℕ) (levels : ℕ) (ps : Pairs) : Type 0 where
+  pub us : List (List ℕ)
+  pub vs : List Plist
+  pub spell_keys : SpellItems f keys (texts us)
+  pub spell_values : SpellItems f values (items_of vs)
+  pub valid_keys : AreItems (texts us)
+  pub valid_values : AreItems (items_of vs)
+  pub deep_keys : depth_of_items (texts us) ≤ levels
+  pub deep_values : depth_of_items (items_of vs) ≤ levels
+  pub nodes_sum : nodes_of_pairs ps ≡ nodes_of_items (texts us) + nodes_of_items (items_of vs)
+  pub payload_sum : payload_of_pairs ps ≡ payload_of_items (texts us) + payload_of_items (items_of vs)
+  pub distinct : IsDistinct same_key us
 
-unsort : (f keys values : List ℕ) (levels : ℕ) (rows : List (ℕ × ℕ)) (ps : Pairs) → length keys ≡ length values → IsPermutation (zip keys values) rows → SpellPairs f rows ps → ArePairs ps → depth_of_pairs ps ≤ levels → Unsorted f keys values levels ps
+pub unsort : (f keys values : List ℕ) (levels : ℕ) (rows : List (ℕ × ℕ)) (ps : Pairs) → length keys ≡ length values → IsPermutation (zip keys values) rows → SpellPairs f rows ps → ArePairs ps → depth_of_pairs ps ≤ levels → Unsorted f keys values levels ps
 unsort f keys values levels rows ps long moved spell valid deep =
     let refs : Row → ℕ × ℕ = λ r. r.0 in
     let shown : Row → List ℕ × Plist = λ r. r.1 in
@@ -214,28 +216,53 @@ RefusesPairs-twice f containers keys values table levels before left us laid lea
           not_distinct (subst (λ (l : List (List ℕ)). IsDistinct same_key l) (texts_same apart.us us same) apart.distinct);
     }
 
--- keys and values that were read, and the pairs in the order of the keys
-pub ReadsPairs-sorted : (f keys values : List ℕ) (levels : ℕ) (before left after : Budget) (us : List (List ℕ)) (vs : List Plist) (ps : List (List ℕ × Plist)) → length keys ≡ length values → ReadsItems f keys levels before (texts us) left → ReadsItems f values levels left (items_of vs) after → IsPermutation (zip us vs) ps → IsStrictlySortedBy (slice_cmp nat_cmp) (keys_of ps) → ReadsPairs f keys values levels before (pairs_of ps) after
-ReadsPairs-sorted f keys values levels before left after us vs ps long read_keys read_values moved ascend =
+-- the pairs that keys and values spell, in the order of the keys
+pub record SortedPairs (f keys values : List ℕ) (levels : ℕ) (ps : Pairs) : Type 0 where
+  pub rows : List (ℕ × ℕ)
+  pub moved : IsPermutation (zip keys values) rows
+  pub spell : SpellPairs f rows ps
+  pub valid : ArePairs ps
+  pub deep : depth_of_pairs ps ≤ levels
+
+pub pairs_sorted : (f keys values : List ℕ) (levels : ℕ) (us : List (List ℕ)) (vs : List Plist) (ps : List (List ℕ × Plist)) → SpellItems f keys (texts us) → SpellItems f values (items_of vs) → AreItems (texts us) → AreItems (items_of vs) → depth_of_items (texts us) ≤ levels → depth_of_items (items_of vs) ≤ levels → length us ≡ length vs → IsPermutation (zip us vs) ps → IsStrictlySortedBy (slice_cmp nat_cmp) (keys_of ps) → SortedPairs f keys values levels (pairs_of ps)
+pairs_sorted f keys values levels us vs ps spell_keys spell_values valid_keys valid_values deep_keys deep_values both moved ascend =
     let refs : Row → ℕ × ℕ = λ r. r.0 in
     let shown : Row → List ℕ × Plist = λ r. r.1 in
     let all = zip (zip keys values) (zip us vs) in
-    let both : length us ≡ length vs = omega (arith, length-texts f keys us read_keys.spell, length-items f values vs read_values.spell) in
-    let rows = AreRows-items f levels keys values us vs both read_keys.spell read_values.spell read_keys.valid read_values.valid read_keys.deep read_values.deep in
+    let rows = AreRows-items f levels keys values us vs both spell_keys spell_values valid_keys valid_values deep_keys deep_values in
     let to_pairs = subst (λ (l : List (List ℕ × Plist)). IsPermutation l ps) (sym (zip-seconds (zip keys values) (zip us vs) rows.1)) moved in
     let pulled = pull shown all ps to_pairs in
     let rs = pulled.moved_list in
     let good = AreRows-moved f levels all rs pulled.moved rows.0 in
     let rows_moved = subst (λ (l : List (ℕ × ℕ)). IsPermutation l (map refs rs)) (zip-firsts (zip keys values) (zip us vs) rows.1) (IsPermutation-map refs all rs pulled.moved) in
     let are = ArePairs-rows f levels rs good (subst (λ (l : List (List ℕ × Plist)). IsStrictlySortedBy (slice_cmp nat_cmp) (keys_of l)) (sym pulled.maps) ascend) in
-    let nodes_all : nodes_of_pairs (pairs_of ps) ≡ nodes_of_items (texts us) + nodes_of_items (items_of vs) = nodes-pairs_of ps ∙ sum_by-IsPermutation nodes_of_pair (zip us vs) ps moved ∙ nodes-rows (zip us vs) ∙ ap (λ (l : List (List ℕ)). nodes_of_items (texts l) + nodes_of_items (items_of (map (λ (p : List ℕ × Plist). p.1) (zip us vs)))) (zip-firsts us vs both) ∙ ap (λ (l : List Plist). nodes_of_items (texts us) + nodes_of_items (items_of l)) (zip-seconds us vs both) in
-    let payload_all : payload_of_pairs (pairs_of ps) ≡ payload_of_items (texts us) + payload_of_items (items_of vs) = payload-pairs_of ps ∙ sum_by-IsPermutation payload_of_pair (zip us vs) ps moved ∙ payload-rows (zip us vs) ∙ ap (λ (l : List (List ℕ)). payload_of_items (texts l) + payload_of_items (items_of (map (λ (p : List ℕ × Plist). p.1) (zip us vs)))) (zip-firsts us vs both) ∙ ap (λ (l : List Plist). payload_of_items (texts us) + payload_of_items (items_of l)) (zip-seconds us vs both) in
     record {
       rows = map refs rs;
       moved = rows_moved;
       spell = subst (λ (l : List (List ℕ × Plist)). SpellPairs f (map refs rs) (pairs_of l)) pulled.maps (SpellPairs-rows f levels rs good);
       valid = subst (λ (l : List (List ℕ × Plist)). ArePairs (pairs_of l)) pulled.maps are.0;
       deep = subst (λ (l : List (List ℕ × Plist)). depth_of_pairs (pairs_of l) ≤ levels) pulled.maps are.1;
+    }
+
+-- keys are no deeper than as many values
+pub depth-texts : (us : List (List ℕ)) (vs : List Plist) → length us ≡ length vs → depth_of_items (texts us) ≤ depth_of_items (items_of vs)
+depth-texts [] vs long = omega arith
+depth-texts (u ∷ us) [] long = absurd (omega arith)
+depth-texts (u ∷ us) (v ∷ vs) long = omega (arith, some_level v, depth-texts us vs (omega arith))
+
+-- keys and values that were read, and the pairs in the order of the keys
+pub ReadsPairs-sorted : (f keys values : List ℕ) (levels : ℕ) (before left after : Budget) (us : List (List ℕ)) (vs : List Plist) (ps : List (List ℕ × Plist)) → length keys ≡ length values → ReadsItems f keys levels before (texts us) left → ReadsItems f values levels left (items_of vs) after → IsPermutation (zip us vs) ps → IsStrictlySortedBy (slice_cmp nat_cmp) (keys_of ps) → ReadsPairs f keys values levels before (pairs_of ps) after
+ReadsPairs-sorted f keys values levels before left after us vs ps long read_keys read_values moved ascend =
+    let both : length us ≡ length vs = omega (arith, length-texts f keys us read_keys.spell, length-items f values vs read_values.spell) in
+    let pairs = pairs_sorted f keys values levels us vs ps read_keys.spell read_values.spell read_keys.valid read_values.valid read_keys.deep read_values.deep both moved ascend in
+    let nodes_all : nodes_of_pairs (pairs_of ps) ≡ nodes_of_items (texts us) + nodes_of_items (items_of vs) = nodes-pairs_of ps ∙ sum_by-IsPermutation nodes_of_pair (zip us vs) ps moved ∙ nodes-rows (zip us vs) ∙ ap (λ (l : List (List ℕ)). nodes_of_items (texts l) + nodes_of_items (items_of (map (λ (p : List ℕ × Plist). p.1) (zip us vs)))) (zip-firsts us vs both) ∙ ap (λ (l : List Plist). nodes_of_items (texts us) + nodes_of_items (items_of l)) (zip-seconds us vs both) in
+    let payload_all : payload_of_pairs (pairs_of ps) ≡ payload_of_items (texts us) + payload_of_items (items_of vs) = payload-pairs_of ps ∙ sum_by-IsPermutation payload_of_pair (zip us vs) ps moved ∙ payload-rows (zip us vs) ∙ ap (λ (l : List (List ℕ)). payload_of_items (texts l) + payload_of_items (items_of (map (λ (p : List ℕ × Plist). p.1) (zip us vs)))) (zip-firsts us vs both) ∙ ap (λ (l : List Plist). payload_of_items (texts us) + payload_of_items (items_of l)) (zip-seconds us vs both) in
+    record {
+      rows = pairs.rows;
+      moved = pairs.moved;
+      spell = pairs.spell;
+      valid = pairs.valid;
+      deep = pairs.deep;
       spent = record {
         nodes_left = omega (arith, nodes_all, read_keys.spent.nodes_left, read_values.spent.nodes_left);
         payload_left = omega (arith, payload_all, read_keys.spent.payload_left, read_values.spent.payload_left);
@@ -255,10 +282,12 @@ keys-view : (es : List (List ℕ × Value)) → keys_of (map (λ (p : List ℕ �
 keys-view [] = refl
 keys-view (e ∷ es) = ap (λ l. e.0 ∷ l) (keys-view es)
 
--- the same, of the map's entries
-pub ReadsPairs-entries : (f keys values : List ℕ) (levels : ℕ) (before left after : Budget) (us : List (List ℕ)) (vs : List Value) (es : List (List ℕ × Value)) → length keys ≡ length values → ReadsItems f keys levels before (texts us) left → ReadsItems f values levels left (view_items vs) after → IsPermutation (zip us vs) es → IsStrictlySortedBy (slice_cmp nat_cmp) (keys_of es) → ReadsPairs f keys values levels before (view_pairs es) after
-ReadsPairs-entries f keys values levels before left after us vs es long read_keys read_values moved ascend =
+-- the entries of a map, from its keys and its values
+pub PairsSpelled-entries : (f keys values : List ℕ) (us : List (List ℕ)) (vs : List Value) (es : List (List ℕ × Value)) → SpellItems f keys (texts us) → SpellItems f values (view_items vs) → AreItems (texts us) → AreItems (view_items vs) → length us ≡ length (map view vs) → IsPermutation (zip us vs) es → IsStrictlySortedBy (slice_cmp nat_cmp) (keys_of es) → PairsSpelled f keys values (view_pairs es)
+PairsSpelled-entries f keys values us vs es spell_keys spell_values valid_keys valid_values both moved ascend =
     let seen : List ℕ × Value → List ℕ × Plist = λ p. (p.0, view p.1) in
-    ReadsPairs-sorted f keys values levels before left after us (map view vs) (map seen es) long read_keys read_values
+    let most = max (depth_of_items (texts us)) (depth_of_items (view_items vs)) in
+    let pairs = pairs_sorted f keys values most us (map view vs) (map seen es) spell_keys spell_values valid_keys valid_values (omega arith) (omega arith) both
     (subst (λ (l : List (List ℕ × Plist)). IsPermutation l (map seen es)) (zip-view us vs) (IsPermutation-map seen (zip us vs) es moved))
-    (subst (λ (l : List (List ℕ)). IsStrictlySortedBy (slice_cmp nat_cmp) l) (sym (keys-view es)) ascend)
+    (subst (λ (l : List (List ℕ)). IsStrictlySortedBy (slice_cmp nat_cmp) l) (sym (keys-view es)) ascend) in
+    record { rows = pairs.rows; moved = pairs.moved; spell = pairs.spell; valid = pairs.valid }

@@ -9,3 +9,6 @@ pub mod Faults
 pub mod Budgets
 pub mod Keys
 pub mod Readings
+pub mod Memos
+pub mod Passing
+pub mod Building

@@ -5,9 +5,10 @@ use Rattle.std.specs.List.Sorted.{IsPermutation}
 use Rattle.plist_value.specs.Plist.{text, Plist, scalar, Items, no_items, item, Pairs, IsPlist, AreItems, ArePairs}
 use Rattle.plist_value.specs.Limits.{nodes, depth, payload, nodes_of_items, depth_of_items, payload_of_items, nodes_of_pairs, depth_of_pairs, payload_of_pairs}
 use Rattle.plist_object.specs.Spelled.{Spells, SpellItems, SpellPairs}
-use Rattle.plist_binary.specs.declared.budget.Budget.{Budget}
+use Rattle.plist_value.specs.declared.budget.Budget.{Budget}
 use Rattle.plist_binary.specs.declared.fault.BinaryFault.{BinaryFault}
-use Rattle.plist_binary.specs.Budgets.{Spends, WithinReach, Affords, UnlessMemory}
+use Rattle.plist_value.specs.Budget.{Spends, Affords}
+use Rattle.plist_binary.specs.Budgets.{WithinReach, UnlessMemory}
 use Rattle.plist_binary.specs.Faults.{StandsWithin}
 use Rattle.plist_binary.specs.Reach.{nodes_reached, payload_reached, nodes_from, payload_from}
 

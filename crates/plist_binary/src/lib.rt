@@ -1,12 +1,15 @@
-//! The reader of binary property lists.
+//! The judge and the reader of binary property lists.
 #![tactic(auto)]
 
-mod budget;
+mod building;
 pub mod fault;
+mod judging;
+mod memos;
 mod path;
 mod reader;
 mod scalars;
 mod tables;
 
 pub use fault::BinaryFault;
+pub use judging::judge;
 pub use reader::read;

@@ -1,6 +1,5 @@
 ghost use Rattle.std.specs.Prelude.{◌≡◌, IfOk};
 ghost use Rattle.plist_value.specs.Plist.{scalar as scalar_value};
-ghost use Rattle.plist_value.specs.Limits.{payload_of_scalar};
 ghost use Rattle.plist_value.specs.Scalars.{content_of};
 ghost use Rattle.plist_value.specs.Texts.{units_of};
 ghost use Rattle.plist_value.specs.View.{view};
@@ -32,15 +31,4 @@ pub(crate) fn utf16(alloc: Global, text: TextRef) -> Result<Utf16, AllocError>
         units.push(text.unit(i))?;
     }
     Ok(Utf16::from_units(units))
-}
-
-// The payload of the scalar, in octets.
-pub(crate) fn payload(scalar: ScalarRef) -> u128
-    ensures { result ≡ payload_of_scalar (content_of scalar.entry) }
-{
-    match scalar {
-        ScalarRef::Text(text) => 2 * text.len() as u128,
-        ScalarRef::Bytes(octets) => octets.len() as u128,
-        _ => 0,
-    }
 }

@@ -1,0 +1,207 @@
+use Rattle.std.proofs.Common.{◌≡◌, ◌≤◌, ◌+◌, ◌-◌, ℕ, List, Ok, map, take, rules, subst, sym, ◌∙◌, arith}
+use Rattle.std.specs.Prelude.{Result, Err}
+use Rattle.std.specs.Result.{IfOk, IfErr}
+use Rattle.std.specs.List.{IsDistinct}
+use Rattle.std.specs.List.Sorted.{IsPermutation}
+use Rattle.std.proofs.lemmas.List.Sorted.{IsPermutation-map}
+use Rattle.plist_value.specs.declared.budget.Budget.{Budget}
+use Rattle.plist_value.specs.Budget.{Spends}
+use Rattle.plist_value.specs.Plist.{IsScalar}
+use Rattle.plist_value.specs.View.{items_of}
+use Rattle.plist_value.specs.Scalars.{content_of}
+use Rattle.plist_object.specs.Objects.{holds_scalar, holds_list, holds_table}
+use Rattle.plist_object.specs.Places.{what_holds}
+use Rattle.plist_object.specs.Views.{octets_of, numbers_of}
+use Rattle.plist_binary.specs.declared.fault.BinaryFault.TheVariants.{BadReference, TooMuchPayload}
+use Rattle.plist_binary.specs.declared.tables.Key.{Key}
+use Rattle.plist_binary.specs.Keys.{units_at}
+use Rattle.plist_binary.specs.Passing.{PassesItems, PassesPairs, IsWithinLimits}
+use Rattle.plist_binary.specs.Paths.{containers_of}
+use Rattle.plist_binary.specs.Readings.{Refuses, RefusesItems, RefusesPairs}
+use Rattle.plist_binary.proofs.Inserting.{same_key}
+use Rattle.plist_binary.proofs.KeySteps.{AllRefer-values, AllRefer-items}
+use Rattle.plist_binary.proofs.LoopSteps.{Contains-at, RefusesItems-next, RefusesItems-none}
+use Rattle.plist_binary.proofs.Making.{Refuses-payload, Refuses-list, Refuses-table}
+use Rattle.plist_binary.proofs.Marking.{AreStates-open, AreStates-passed, AreStates-wider}
+use Rattle.plist_binary.proofs.Paired.{length-values}
+use Rattle.plist_binary.proofs.PassSteps.{IsMemo-passed, Passes-scalar, Passes-list, Passes-table, PassesItems-next, PassesPairs-sorted}
+use Rattle.plist_binary.proofs.TableSteps.{RefusesPairs-keys, RefusesPairs-values, RefusesPairs-twice}
+use Rattle.plist_binary.proofs.judging.Walker.+walk.Goals as goal
+
+one_less : (levels : ℕ) → 1 ≤ levels → 1 + (levels - 1) ≡ levels
+one_less levels some = omega arith
+
+IfOk_then : {T E : Type 0} (r : Result T E) (P R : T → Type 0) → ((x : T) → P x → R x) → IfOk r P → IfOk r R
+IfOk_then (Ok x) P R then p = then x p
+IfOk_then (Err e) P R then p = tt
+
+IfErr_then : {T E : Type 0} (r : Result T E) (P R : E → Type 0) → ((e : E) → P e → R e) → IfErr r P → IfErr r R
+IfErr_then (Ok x) P R then p = tt
+IfErr_then (Err e) P R then p = then e p
+
+-- what is left of a budget within the limits is within them
+within_after : (before after : Budget) (nodes payload : ℕ) → IsWithinLimits before → Spends before nodes payload after → IsWithinLimits after
+within_after before after nodes payload within spent = record {
+  nodes_most = omega (arith, within.nodes_most, spent.nodes_left);
+  payload_most = omega (arith, within.payload_most, spent.payload_left);
+}
+
+-- the keys as they were sorted in place
+sorted_keys : (keys written sorted : List Key) → written ≡ keys → IsPermutation written sorted → IsPermutation (map units_at keys) (map units_at sorted)
+sorted_keys keys written sorted same moved =
+    IsPermutation-map units_at keys sorted (subst (λ (xs : List Key). IsPermutation xs sorted) same moved)
+
+pub content-returns-in_err-take_payload-in-Scalar-clause-refused : goal.content-returns-in_err-take_payload-in-Scalar-clause-refused
+content-returns-in_err-take_payload-in-Scalar-clause-refused t c =
+    let f = octets_of c.args.self.now.file in
+    let s = content_of c.in-Scalar.scalar in
+    let reads : what_holds f c.args.object ≡ Ok (holds_scalar s) = rw c.in-Scalar.is at c.in_ok-scalar.ensures.held in
+    let refused : Refuses f c.args.object c.args.levels c.args.left.now (TooMuchPayload c.args.object) = Refuses-payload f (containers_of c.args.path.now) c.args.object c.args.levels c.args.left.now c.enter.new.left s c.args.self.now.laid c.requires.leads c.requires.listed reads c.in_ok-scalar.ensures.spent c.in_err-take_payload-in-Scalar.ensures.over.1 in
+    search rules
+
+pub content-returns-in_ok-take_payload-in-Scalar-clause-passed : goal.content-returns-in_ok-take_payload-in-Scalar-clause-passed
+content-returns-in_ok-take_payload-in-Scalar-clause-passed t c =
+    let f = octets_of c.args.self.now.file in
+    let s = content_of c.in-Scalar.scalar in
+    let reads : what_holds f c.args.object ≡ Ok (holds_scalar s) = rw c.in-Scalar.is at c.in_ok-scalar.ensures.held in
+    let valid : IsScalar s = rw c.in-Scalar.is at c.in_ok-scalar.ensures.valid in
+    Passes-scalar f c.args.object c.args.levels c.args.left.now c.enter.new.left c.take_payload.new.left s c.requires.listed reads valid c.in_ok-scalar.ensures.deep c.in_ok-scalar.ensures.spent c.in_ok-take_payload-in-Scalar.ensures.ok
+
+pub content-returns-in_ok-take_payload-in-Scalar-clause-kept : goal.content-returns-in_ok-take_payload-in-Scalar-clause-kept
+content-returns-in_ok-take_payload-in-Scalar-clause-kept t c =
+    AreStates-wider (octets_of c.args.self.now.file) (containers_of c.args.path.now) c.args.states.now c.args.object c.requires.states
+
+pub content-items-requires : goal.content-items-requires
+content-items-requires t c =
+    let f = octets_of c.args.self.now.file in
+    let refs = numbers_of c.in-List.items in
+    let reads : what_holds f c.args.object ≡ Ok (holds_list refs) = rw c.in-List.is at c.in_ok-scalar.ensures.held in
+    let some = c.in_ok-scalar.ensures.deep in
+    (search rules, (c.requires.leads, (AllRefer-items f c.args.object refs record { listed = c.requires.listed; reads = reads }, (omega arith, (AreStates-open f (containers_of c.args.path.now) c.args.states.now c.args.object c.requires.listed c.requires.states, within_after c.args.left.now c.enter.new.left 1 0 c.requires.limits c.in_ok-scalar.ensures.spent)))))
+
+pub content-returns-in_err-deep-in-List-clause-refused : goal.content-returns-in_err-deep-in-List-clause-refused
+content-returns-in_err-deep-in-List-clause-refused t c =
+    let f = octets_of c.args.self.now.file in
+    let refs = numbers_of c.in-List.items in
+    let reads : what_holds f c.args.object ≡ Ok (holds_list refs) = rw c.in-List.is at c.in_ok-scalar.ensures.held in
+    let refused : Refuses f c.args.object c.args.levels c.args.left.now c.in_err-deep-in-List.field-0.0 = Refuses-list f refs c.args.object c.args.levels (c.args.levels - 1) c.args.left.now c.enter.new.left c.in_err-deep-in-List.field-0.0 (one_less c.args.levels c.in_ok-scalar.ensures.deep) c.requires.listed reads c.in_ok-scalar.ensures.spent c.in_err-deep-in-List.ensures.refused in
+    search rules
+
+pub content-returns-in_ok-deep-in-List-clause-passed : goal.content-returns-in_ok-deep-in-List-clause-passed
+content-returns-in_ok-deep-in-List-clause-passed t c =
+    let f = octets_of c.args.self.now.file in
+    let refs = numbers_of c.in-List.items in
+    let reads : what_holds f c.args.object ≡ Ok (holds_list refs) = rw c.in-List.is at c.in_ok-scalar.ensures.held in
+    Passes-list f refs c.args.object c.args.levels (c.args.levels - 1) c.args.left.now c.enter.new.left c.items.new.left c.in_ok-deep-in-List.deep (one_less c.args.levels c.in_ok-scalar.ensures.deep) c.requires.listed reads c.in_ok-scalar.ensures.spent c.in_ok-deep-in-List.ensures.passed
+
+pub content-pairs-requires : goal.content-pairs-requires
+content-pairs-requires t c =
+    let f = octets_of c.args.self.now.file in
+    let keys = numbers_of c.in-Table.keys in
+    let values = numbers_of c.in-Table.values in
+    let reads : what_holds f c.args.object ≡ Ok (holds_table keys values) = rw c.in-Table.is at c.in_ok-scalar.ensures.held in
+    let some = c.in_ok-scalar.ensures.deep in
+    (search rules, (c.requires.leads, (record { listed = c.requires.listed; reads = reads }, (omega arith, (AreStates-open f (containers_of c.args.path.now) c.args.states.now c.args.object c.requires.listed c.requires.states, within_after c.args.left.now c.enter.new.left 1 0 c.requires.limits c.in_ok-scalar.ensures.spent)))))
+
+pub content-returns-in_err-deep-in-Table-clause-refused : goal.content-returns-in_err-deep-in-Table-clause-refused
+content-returns-in_err-deep-in-Table-clause-refused t c =
+    let f = octets_of c.args.self.now.file in
+    let keys = numbers_of c.in-Table.keys in
+    let values = numbers_of c.in-Table.values in
+    let reads : what_holds f c.args.object ≡ Ok (holds_table keys values) = rw c.in-Table.is at c.in_ok-scalar.ensures.held in
+    let refused : Refuses f c.args.object c.args.levels c.args.left.now c.in_err-deep-in-Table.field-0.0 = Refuses-table f keys values c.args.object c.args.levels (c.args.levels - 1) c.args.left.now c.enter.new.left c.in_err-deep-in-Table.field-0.0 (one_less c.args.levels c.in_ok-scalar.ensures.deep) c.requires.listed reads c.in_ok-scalar.ensures.spent c.in_err-deep-in-Table.ensures.refused in
+    search rules
+
+pub content-returns-in_ok-deep-in-Table-clause-passed : goal.content-returns-in_ok-deep-in-Table-clause-passed
+content-returns-in_ok-deep-in-Table-clause-passed t c =
+    let f = octets_of c.args.self.now.file in
+    let keys = numbers_of c.in-Table.keys in
+    let values = numbers_of c.in-Table.values in
+    let reads : what_holds f c.args.object ≡ Ok (holds_table keys values) = rw c.in-Table.is at c.in_ok-scalar.ensures.held in
+    Passes-table f keys values c.args.object c.args.levels (c.args.levels - 1) c.args.left.now c.enter.new.left c.pairs.new.left c.in_ok-deep-in-Table.deep (one_less c.args.levels c.in_ok-scalar.ensures.deep) c.requires.listed reads c.in_ok-scalar.ensures.spent c.in_ok-deep-in-Table.ensures.passed
+
+pub items-returns-in_err-object-clause-refused : goal.items-returns-in_err-object-clause-refused
+items-returns-in_err-object-clause-refused t c =
+    let f = octets_of c.args.self.now.file in
+    let refs = numbers_of c.args.refs in
+    let refused : RefusesItems f refs c.args.levels c.args.left.now (BadReference c.args.container) = RefusesItems-none f (containers_of c.args.before.now) refs c.args.container c.loop-i.i c.get.result c.args.levels c.args.left.now c.args.self.now.laid c.requires.leads c.requires.refer (omega arith) c.get.ensures c.in_err-object.ensures.above.1 in
+    search rules
+
+pub items-pass-requires : goal.items-pass-requires
+items-pass-requires t c =
+    let refs = numbers_of c.args.refs in
+    let refers = c.requires.refer c.in_ok-object.object (Contains-at refs c.loop-i.i c.in_ok-object.object (omega arith) (c.in_ok-object.ensures.same ∙ c.get.ensures)) in
+    (search rules, (c.in_ok-object.ensures.below, ((refers, c.requires.leads), (omega arith, (c.loop-i.invariant.states, c.loop-i.invariant.within)))))
+
+pub items-returns-in_err-deep-clause-refused : goal.items-returns-in_err-deep-clause-refused
+items-returns-in_err-deep-clause-refused t c =
+    let f = octets_of c.args.self.now.file in
+    let refs = numbers_of c.args.refs in
+    let refused : RefusesItems f refs c.args.levels c.args.left.now c.in_err-deep.field-0.0 = RefusesItems-next f refs c.loop-i.i c.in_ok-object.object c.args.levels c.args.left.now c.loop-i.left (items_of c.loop-i.invariant.passed.values) c.in_err-deep.field-0.0 (omega arith) (c.in_ok-object.ensures.same ∙ c.get.ensures) c.in_ok-object.ensures.below c.loop-i.invariant.passed.reads c.in_err-deep.ensures.refused in
+    search rules
+
+pub items-loop-i-preserved : goal.items-loop-i-preserved
+items-loop-i-preserved t c =
+    let f = octets_of c.args.self.now.file in
+    let refs = numbers_of c.args.refs in
+    let passed = PassesItems-next f refs c.loop-i.i c.in_ok-object.object c.args.levels c.args.left.now c.loop-i.left c.pass.new.left c.loop-i.deepest c.in_ok-deep.deep (omega arith) (c.in_ok-object.ensures.same ∙ c.get.ensures) c.in_ok-object.ensures.below c.loop-i.invariant.passed c.in_ok-deep.ensures.passed in
+    record {
+      passed = subst (λ (deepest : ℕ). PassesItems f (take (c.loop-i.i + 1) refs) c.args.levels c.args.left.now deepest c.pass.new.left) (sym c.deeper-deepest.ensures) passed;
+      states = c.in_ok-deep.ensures.kept;
+      within = within_after c.loop-i.left c.pass.new.left _ _ c.loop-i.invariant.within c.in_ok-deep.ensures.passed.reads.spent;
+    }
+
+pub pairs-items-requires : goal.pairs-items-requires
+pairs-items-requires t c =
+    let f = octets_of c.args.self.now.file in
+    (search rules, (c.requires.leads, (AllRefer-values f c.args.table (numbers_of c.args.keys) (numbers_of c.args.values) c.requires.holds, (c.requires.depth, (c.requires.states, within_after c.args.left.now c.keys.new.left _ _ c.requires.limits c.in_ok-keys.ensures.read.spent)))))
+
+pub pairs-returns-in_err-keys-clause-refused : goal.pairs-returns-in_err-keys-clause-refused
+pairs-returns-in_err-keys-clause-refused t c =
+    let f = octets_of c.args.self.now.file in
+    let keys = numbers_of c.args.keys in
+    let values = numbers_of c.args.values in
+    let long = length-values f c.args.table keys values c.requires.holds in
+    let refused : RefusesPairs f keys values c.args.levels c.args.left.now c.in_err-keys.field-0.0 = RefusesPairs-keys f keys values c.args.levels c.args.left.now c.in_err-keys.field-0.0 long c.in_err-keys.ensures.refused in
+    search rules
+
+pub pairs-returns-then-not-sort-clause-refused : goal.pairs-returns-then-not-sort-clause-refused
+pairs-returns-then-not-sort-clause-refused t c =
+    let f = octets_of c.args.self.now.file in
+    let keys = numbers_of c.args.keys in
+    let values = numbers_of c.args.values in
+    let long = length-values f c.args.table keys values c.requires.holds in
+    let us = map units_at c.in_ok-keys.keys.items in
+    let not_distinct : IsDistinct same_key us → ⊥ = λ distinct.
+    let told = c.sort.ensures.distinct.1 (subst (λ (xs : List Key). IsDistinct same_key (map units_at xs)) (sym c.as_mut_slice.ensures.value) distinct) in
+    let said = c.if-not-sort.true in
+    cc in
+    RefusesPairs-twice f (containers_of c.args.before.now) keys values c.args.table c.args.levels c.args.left.now c.keys.new.left us c.args.self.now.laid c.requires.leads c.requires.holds long c.in_ok-keys.ensures.read not_distinct
+
+pub pairs-returns-clause-refused : goal.pairs-returns-clause-refused
+pairs-returns-clause-refused t c =
+    let f = octets_of c.args.self.now.file in
+    let keys = numbers_of c.args.keys in
+    let values = numbers_of c.args.values in
+    let long = length-values f c.args.table keys values c.requires.holds in
+    let us = map units_at c.in_ok-keys.keys.items in
+    IfErr_then c.items.result (RefusesItems f values c.args.levels c.keys.new.left) (RefusesPairs f keys values c.args.levels c.args.left.now)
+    (λ fault refused. RefusesPairs-values f keys values c.args.levels c.args.left.now c.keys.new.left us fault long c.in_ok-keys.ensures.read refused)
+    c.items.ensures.refused
+
+pub pairs-returns-clause-passed : goal.pairs-returns-clause-passed
+pairs-returns-clause-passed t c =
+    let f = octets_of c.args.self.now.file in
+    let keys = numbers_of c.args.keys in
+    let values = numbers_of c.args.values in
+    let long = length-values f c.args.table keys values c.requires.holds in
+    let us = map units_at c.in_ok-keys.keys.items in
+    IfOk_then c.items.result (λ deep. PassesItems f values c.args.levels c.keys.new.left deep c.items.new.left) (λ deep. PassesPairs f keys values c.args.levels c.args.left.now deep c.items.new.left)
+    (λ deep passed. PassesPairs-sorted f keys values c.args.levels c.args.left.now c.keys.new.left c.items.new.left us (map units_at c.sort.new.keys) deep long c.in_ok-keys.ensures.read passed (sorted_keys c.in_ok-keys.keys.items c.as_mut_slice.result.now c.sort.new.keys c.as_mut_slice.ensures.value c.sort.ensures.moved) (c.sort.ensures.ascend.0 c.if-not-sort.false))
+    c.items.ensures.passed
+
+pub walk-returns-clause-kept : goal.walk-returns-clause-kept
+walk-returns-clause-kept t c =
+    let f = octets_of c.args.self.now.file in
+    let known = IsMemo-passed f c.args.object c.args.levels c.args.left.now c.content.new.left c.in_ok-deep.deep c.of.result c.in_ok-deep.ensures.passed c.of.ensures.nodes c.of.ensures.payload c.of.ensures.depth in
+    AreStates-passed f (containers_of c.args.path.now) c.content.new.states c.args.object c.of.result c.requires.listed known c.in_ok-deep.ensures.kept

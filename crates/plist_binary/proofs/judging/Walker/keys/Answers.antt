@@ -1,0 +1,36 @@
+use Rattle.std.proofs.Common.{◌≡◌, ◌∷◌, ◌++◌, ◌+◌, [], ℕ, List, map, take, rules, subst, sym, ap, ◌∙◌, arith}
+use Rattle.std.proofs.lemmas.List.{map-append}
+use Rattle.plist_value.specs.Texts.{units_of}
+use Rattle.plist_object.specs.Views.{octets_of, numbers_of}
+use Rattle.plist_binary.specs.declared.fault.BinaryFault.TheVariants.{BadReference}
+use Rattle.plist_binary.specs.Paths.{containers_of}
+use Rattle.plist_binary.specs.Keys.{units_at, AreInPlace}
+use Rattle.plist_binary.specs.Readings.{ReadsItems, texts, RefusesKeys}
+use Rattle.plist_binary.proofs.LoopSteps.{ReadsKeys-next, RefusesKeys-next, RefusesKeys-none}
+use Rattle.plist_binary.proofs.Placed.{AreInPlace-push}
+use Rattle.plist_binary.proofs.judging.Walker.keys.Goals as goal
+
+pub returns-in_err-object-clause-refused : goal.returns-in_err-object-clause-refused
+returns-in_err-object-clause-refused c =
+    let f = octets_of c.args.self.now.file in
+    let refs = numbers_of c.args.refs in
+    let refused : RefusesKeys f refs c.args.levels c.args.left.now (BadReference c.args.table) = RefusesKeys-none f (containers_of c.args.before.now) refs c.args.table c.loop-i.i c.get.result c.args.levels c.args.left.now c.args.self.now.laid c.requires.leads c.requires.keys (omega arith) c.get.ensures c.in_err-object.ensures.above.1 in
+    search rules
+
+pub returns-in_err-text-clause-refused : goal.returns-in_err-text-clause-refused
+returns-in_err-text-clause-refused c =
+    let f = octets_of c.args.self.now.file in
+    let refs = numbers_of c.args.refs in
+    let refused : RefusesKeys f refs c.args.levels c.args.left.now c.in_err-text.field-0.0 = RefusesKeys-next f refs c.loop-i.i c.in_ok-object.object c.args.levels c.args.left.now c.loop-i.left (texts (map units_at c.loop-i.keys.items)) c.in_err-text.field-0.0 (omega arith) (c.in_ok-object.ensures.same ∙ c.get.ensures) c.in_ok-object.ensures.below c.loop-i.invariant.read c.in_err-text.ensures.refused in
+    search rules
+
+pub loop-i-preserved : goal.loop-i-preserved
+loop-i-preserved c =
+    let f = octets_of c.args.self.now.file in
+    let refs = numbers_of c.args.refs in
+    let read = ReadsKeys-next f refs c.loop-i.i c.in_ok-object.object c.args.levels c.args.left.now c.loop-i.left c.key.new.left (map units_at c.loop-i.keys.items) (units_of c.in_ok-text.text) (omega arith) (c.in_ok-object.ensures.same ∙ c.get.ensures) c.in_ok-object.ensures.below c.loop-i.invariant.read c.in_ok-text.ensures.read in
+    let pushed : map units_at c.push.new.self.items ≡ map units_at c.loop-i.keys.items ++ units_of c.in_ok-text.text ∷ [] = ap (map units_at) c.in_ok-push.ensures.items ∙ map-append units_at c.loop-i.keys.items _ in
+    record {
+      read = subst (λ (keys : List (List ℕ)). ReadsItems f (take (c.loop-i.i + 1) refs) c.args.levels c.args.left.now (texts keys) c.key.new.left) (sym pushed) read;
+      placed = subst AreInPlace (sym c.in_ok-push.ensures.items) (AreInPlace-push c.loop-i.keys.items _ (omega (arith, c.len-place.ensures, c.loop-i.keys.ok.0)) c.loop-i.invariant.placed);
+    }

@@ -1,0 +1,33 @@
+-- What is known of the objects of a file while it is judged.
+use Rattle.std.specs.Prelude.{◌≡◌, ℕ, ◌≤◌, List, length, slice_index_or, ⊤}
+use Rattle.std.specs.List.{Contains}
+use Rattle.plist_value.specs.Plist.{Plist, IsPlist}
+use Rattle.plist_value.specs.Limits.{nodes, depth, payload}
+use Rattle.plist_object.specs.Layout.{trailer_of}
+use Rattle.plist_object.specs.Spelled.{Spells}
+use Rattle.plist_binary.specs.declared.memos.Memo.{Memo}
+use Rattle.plist_binary.specs.declared.memos.State.{State}
+use Rattle.plist_binary.specs.declared.memos.State.TheVariants.{Unseen, Open, Passed}
+
+-- the object spells a value of just so many nodes and so much payload, and at most so deep
+pub record IsMemo (f : List ℕ) (i : ℕ) (memo : Memo) : Type 0 where
+  pub value : Plist
+  pub spells : Spells f i value
+  pub valid : IsPlist value
+  pub nodes_are : nodes value ≡ memo.nodes
+  pub payload_is : payload value ≡ memo.payload
+  pub deep : depth value ≤ memo.depth
+
+-- what is known of the object is so, where these containers lead to what is judged now
+abbrev pub IsState : List ℕ → List ℕ → ℕ → State → Type 0
+IsState f path i Unseen = ⊤
+IsState f path i Open = Contains path i
+IsState f path i (Passed memo) = IsMemo f i memo
+
+abbrev pub state_of : List State → ℕ → State
+state_of states i = slice_index_or states i Unseen
+
+-- what is known of each object is so
+pub record AreStates (f path : List ℕ) (states : List State) : Type 0 where
+  pub long : length states ≡ (trailer_of f).count
+  pub each : (i : ℕ) → IsState f path i (state_of states i)

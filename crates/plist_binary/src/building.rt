@@ -1,0 +1,103 @@
+//! The value of a binary property list that was judged: nothing but memory can keep it from being made.
+ghost use Rattle.std.specs.Prelude.{◌≡◌, ◌<◌, ◌≤◌, length, map, IfOk};
+ghost use Rattle.plist_value.specs.View.{view, view_items, view_pairs};
+ghost use Rattle.plist_value.specs.Texts.{units_of};
+ghost use Rattle.plist_object.specs.Objects.{IsHeld};
+ghost use Rattle.plist_object.specs.Places.{Holds};
+ghost use Rattle.plist_object.specs.Views.{held_of, numbers_of, octets_of};
+ghost use Rattle.plist_binary.specs.Keys.{units_at, AreInPlace};
+ghost use Rattle.plist_binary.specs.Building.{SpellsWithin, SpellsText, AllSpellWithin, AllSpellTexts, SpellsPairsWithin, HoldsSome, IsSpelled, AreSpelled, AreTexts, PairsSpelled, SpellsUnits};
+
+use crate::judging::text_of;
+use crate::tables::Key;
+use crate::{scalars, tables};
+use plist_object::{BinFile, Object, Refs};
+use plist_value::{TextRef, Utf16, Value};
+use std::alloc::{AllocError, Global};
+use std::collections::BTreeMap;
+
+#[derive(Clone, Copy)]
+pub(crate) struct Builder<'a> {
+    pub(crate) alloc: Global,
+    pub(crate) file: BinFile<'a>,
+}
+
+impl<'a> Builder<'a> {
+    // The value that the object spells, of at most so many levels.
+    #[cycle(build)]
+    pub(crate) fn value(&self, object: u64, levels: u64) -> Result<Value, AllocError>
+        requires { SpellsWithin (octets_of self.now.file) object levels }
+        ensures { IfOk result (λ value. IsSpelled (octets_of self.now.file) object (view value)) }
+    {
+        match self.held(object) {
+            Object::Scalar(scalar) => scalars::value(self.alloc, scalar),
+            Object::List(items) => Ok(Value::List(self.items(items, levels - 1)?)),
+            Object::Table(keys, values) => {
+                Ok(Value::Table(self.pairs(keys, values, levels - 1)?))
+            }
+        }
+    }
+
+    // The values that the references spell, in turn.
+    #[cycle(build)]
+    fn items(&self, refs: Refs, levels: u64) -> Result<Vec<Value>, AllocError>
+        requires { AllSpellWithin (octets_of self.now.file) (numbers_of refs) levels }
+        ensures { IfOk result (λ items. AreSpelled (octets_of self.now.file) (numbers_of refs.entry) (view_items items.items)) }
+    {
+        let mut items = Vec::with_capacity(self.alloc, refs.len() as usize)?;
+        for i in 0..refs.len() {
+            items.push(self.value(refs.get(i), levels)?)?;
+        }
+        Ok(items)
+    }
+
+    // The pairs that the references to keys and to values spell.
+    #[cycle(build)]
+    fn pairs(
+        &self,
+        keys: Refs,
+        values: Refs,
+        levels: u64,
+    ) -> Result<BTreeMap<Utf16, Value>, AllocError>
+        requires { SpellsPairsWithin (octets_of self.now.file) (numbers_of keys) (numbers_of values) levels }
+        ensures { IfOk result (λ pairs. PairsSpelled (octets_of self.now.file) (numbers_of keys.entry) (numbers_of values.entry) (view_pairs pairs.entries)) }
+    {
+        let mut keys = self.keys(keys)?;
+        let distinct = tables::sort(keys.as_mut_slice());
+        prove!(distinct);
+        let values = self.items(values, levels)?;
+        tables::table(self.alloc, keys, values)
+    }
+
+    // The texts that the references spell, each at its place.
+    fn keys(&self, refs: Refs) -> Result<Vec<Key<'a>>, AllocError>
+        requires { AllSpellTexts (octets_of self.now.file) (numbers_of refs) }
+        ensures texts { IfOk result (λ keys. AreTexts (octets_of self.now.file) (numbers_of refs.entry) (map units_at keys.items)) }
+        ensures placed { IfOk result (λ keys. AreInPlace keys.items) }
+    {
+        let mut keys = Vec::with_capacity(self.alloc, refs.len() as usize)?;
+        for i in 0..refs.len() {
+            let text = self.text(refs.get(i));
+            let place = keys.len();
+            keys.push(Key { text, place })?;
+        }
+        Ok(keys)
+    }
+
+    // The text that the object spells.
+    fn text(&self, object: u64) -> TextRef<'a>
+        requires { SpellsText (octets_of self.now.file) object }
+        ensures { SpellsUnits (octets_of self.now.file) object (units_of result) }
+    {
+        text_of(self.held(object)).unwrap()
+    }
+
+    // What the object holds.
+    fn held(&self, object: u64) -> Object<'a>
+        requires { HoldsSome (octets_of self.now.file) object }
+        ensures held { Holds (octets_of self.now.file) object (held_of result) }
+        ensures valid { IsHeld (held_of result) }
+    {
+        self.file.object(object).unwrap()
+    }
+}

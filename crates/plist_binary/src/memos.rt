@@ -1,0 +1,55 @@
+//! What is known of the objects of a file while it is judged.
+ghost use Rattle.std.specs.Prelude.{◌≡◌, ◌+◌, ◌≤◌, IfSome};
+ghost use Rattle.plist_value.specs.declared.TheConstants.{MAX_NODES, MAX_DEPTH, MAX_PAYLOAD};
+ghost use Rattle.plist_value.specs.Budget.{Spends};
+
+use plist_value::Budget;
+
+// What the value takes of the limits that an object spells.
+#[derive(Clone, Copy)]
+pub(crate) struct Memo {
+    pub(crate) nodes: u32,
+    pub(crate) payload: u32,
+    pub(crate) depth: u16,
+}
+
+// What is known of an object.
+#[derive(Clone, Copy)]
+pub(crate) enum State {
+    // Nothing yet.
+    Unseen,
+    // It is a container on the path to what is judged now.
+    Open,
+    // It was judged, and spells a value of this size.
+    Passed(Memo),
+}
+
+impl Memo {
+    // What went from a budget within the limits, and the depth.
+    pub(crate) fn of(before: Budget, left: Budget, depth: u64) -> Memo
+        requires nodes_left { left.nodes ≤ before.nodes }
+        requires payload_left { left.payload ≤ before.payload }
+        requires nodes_most { before.nodes ≤ MAX_NODES }
+        requires payload_most { before.payload ≤ MAX_PAYLOAD }
+        requires depth_most { depth ≤ MAX_DEPTH }
+        ensures nodes { left.nodes + result.nodes ≡ before.nodes }
+        ensures payload { left.payload + result.payload ≡ before.payload }
+        ensures depth { result.depth ≡ depth }
+    {
+        Memo {
+            nodes: (before.nodes - left.nodes) as u32,
+            payload: (before.payload - left.payload) as u32,
+            depth: depth as u16,
+        }
+    }
+
+    // What is left of the budget after the value, where it is within it.
+    pub(crate) fn take(&self, left: Budget) -> Option<Budget>
+        ensures { IfSome result (Spends left self.now.nodes self.now.payload) }
+    {
+        Some(Budget {
+            nodes: left.nodes.checked_sub(u64::from(self.nodes))?,
+            payload: left.payload.checked_sub(u64::from(self.payload))?,
+        })
+    }
+}
