@@ -7,6 +7,8 @@ mod canonical_tests;
 mod check_tests;
 pub mod files;
 #[cfg(test)]
+mod judge_tests;
+#[cfg(test)]
 mod layout_tests;
 #[cfg(test)]
 mod limit_tests;
