@@ -66,8 +66,8 @@ impl<'a> Cursor<'a> {
         )
     }
 
-    /// Appends the octets of the pairs of hexadecimal digits at the cursor, as many as stand there of
-    /// UTF-8 and none of UTF-16, and answers the cursor behind these.
+    /// Appends the octets of the pairs of hexadecimal digits at the cursor, as many as stand there
+    /// of UTF-8 and none of UTF-16, and answers the cursor behind these.
     #[tactic(auto, unfolding(crate::specs::Cursor::ahead, crate::specs::Cursor::places_in))]
     pub(crate) fn push_pairs(self, found: &mut Vec<u8>) -> Result<Cursor<'a>, AllocError>
         ensures { IfOk result (PassesPairs found.old.items found.new.items self.entry) }

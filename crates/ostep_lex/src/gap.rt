@@ -1,7 +1,8 @@
 //! What stands between tokens: white and comments.
 ghost use Rattle.std.specs.Prelude.{◌≡◌, false, ◌∷◌, MatchOption, IfOk, IfErr};
 ghost use Rattle.ostep_lex.specs.Character.{slash as slash_code, star};
-ghost use Rattle.ostep_lex.specs.Gap.{LineComment, BlockComment, NeverCloses, closes_comment, begins_gap};
+ghost use Rattle.ostep_lex.specs.Gap.{LineComment, BlockComment, NeverCloses};
+ghost use Rattle.ostep_lex.specs.Gap.{closes_comment, begins_gap};
 ghost use Rattle.ostep_lex.specs.Stands.{FaultAt, FaultBehind};
 ghost use Rattle.ostep_lex.specs.Cursor.{ahead, places_in, SameInput, PassesPiece, PassesGap};
 

@@ -1,6 +1,6 @@
 //! The tokens, one at a time or all of a text.
-ghost use Rattle.std.specs.Prelude.{◌≡◌, ℕ, ◌<◌, List, [], ◌∷◌, ◌++◌, false, length, option_map, map};
-ghost use Rattle.std.specs.Prelude.{MatchOption, IfSome, IfOk, IfErr};
+ghost use Rattle.std.specs.Prelude.{◌≡◌, ℕ, ◌<◌, List, [], ◌∷◌, ◌++◌, false, length};
+ghost use Rattle.std.specs.Prelude.{option_map, map, MatchOption, IfSome, IfOk, IfErr};
 ghost use Rattle.ostep_lex.specs.Gap.{begins_gap};
 ghost use Rattle.ostep_lex.specs.Lexeme.{lexeme_of, mark_token, Placed, placed};
 ghost use Rattle.ostep_lex.specs.Lexing.{HasTokens, HasNoTokens};

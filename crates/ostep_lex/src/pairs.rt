@@ -30,7 +30,8 @@ fn front_pair(octets: &[u8]) -> Option<(u8, &[u8])>
 
 /// Appends the octets of the pairs of digits at the front, and answers what stands behind these.
 fn push_pairs<'a>(found: &mut Vec<u8>, octets: &'a [u8]) -> Result<&'a [u8], AllocError>
-    ensures { IfOk result (λ behind. AppendsPairs found.old.items found.new.items octets.now behind.now) }
+    ensures { IfOk result
+        (λ behind. AppendsPairs found.old.items found.new.items octets.now behind.now) }
 {
     let mut rest = octets;
     while let Some((octet, behind)) = front_pair(rest) {
@@ -43,7 +44,8 @@ fn push_pairs<'a>(found: &mut Vec<u8>, octets: &'a [u8]) -> Result<&'a [u8], All
 /// Appends the octets of the pairs of digits at the front of the text, and answers the text behind
 /// these.
 pub fn push_front<'a>(found: &mut Vec<u8>, text: &'a str) -> Result<&'a str, AllocError>
-    ensures { IfOk result (λ behind. AppendsFront found.old.items found.new.items text.now behind.now) }
+    ensures { IfOk result
+        (λ behind. AppendsFront found.old.items found.new.items text.now behind.now) }
 {
     let behind = push_pairs(found, text.as_bytes())?;
     Ok(text.split_at(text.len() - behind.len()).1)

@@ -6,7 +6,8 @@ ghost use Rattle.ostep_lex.specs.Quoted.{escaped, unit_letter};
 ghost use Rattle.ostep_lex.specs.Character.{backslash as backslash_code, is_quote};
 ghost use Rattle.ostep_lex.specs.Stands.{EscapeFault, QuotedFault};
 ghost use Rattle.ostep_lex.specs.Cursor.{ahead, places_in, SameInput, UnlessMemory};
-ghost use Rattle.ostep_lex.specs.Cursor.{EscapeAppends, PieceAppends, RawAppends, PassesQuoted, PassesRun};
+ghost use Rattle.ostep_lex.specs.Cursor.{EscapeAppends, PieceAppends, RawAppends};
+ghost use Rattle.ostep_lex.specs.Cursor.{PassesQuoted, PassesRun};
 
 use crate::character::is_run;
 use crate::cursor::Cursor;

@@ -48,6 +48,7 @@ fn front_unit(order: ByteOrder, octets: &[u8]) -> Option<(u16, &[u8])>
 }
 
 /// The character at the front of UTF-16 octets, and the octets behind it.
+#[inline(never)]
 fn front_character(order: ByteOrder, octets: &[u8]) -> Option<(char, &[u8])>
     ensures { MatchOption result (BeginsWithNone (encoding_by order) octets.now)
         (λ found. BeginsWith (encoding_by order) octets.now found.0 found.1.now) }
@@ -79,7 +80,8 @@ pub fn behind_characters(order: ByteOrder, octets: &[u8]) -> &[u8]
 /// The first character of a text, and the text behind it.
 fn front_of_str(text: &str) -> Option<(char, &str)>
     ensures { MatchOption result (chars text.now ≡ []) (λ found.
-        (text.now ≡ spelling utf8 found.0 ++ found.1.now) × (chars text.now ≡ found.0 ∷ chars found.1.now)) }
+        (text.now ≡ spelling utf8 found.0 ++ found.1.now)
+        × (chars text.now ≡ found.0 ∷ chars found.1.now)) }
 {
     let mut characters = text.chars();
     let first = characters.next()?;
@@ -98,6 +100,7 @@ impl<'a> Source<'a> {
     }
 
     /// The first character, and what is to be read behind it.
+    #[inline(always)]
     pub fn first(self) -> Option<(char, Source<'a>)>
         requires { IsWhole self }
         ensures { MatchOption result (characters_in self.entry ≡ [])
@@ -131,8 +134,8 @@ impl<'a> Source<'a> {
         }
     }
 
-    /// Appends the octets of the pairs of hexadecimal digits at the front, as many as stand there of
-    /// UTF-8 and none of UTF-16, and answers what is to be read behind these.
+    /// Appends the octets of the pairs of hexadecimal digits at the front, as many as stand there
+    /// of UTF-8 and none of UTF-16, and answers what is to be read behind these.
     pub fn push_pairs(self, found: &mut Vec<u8>) -> Result<Source<'a>, AllocError>
         requires { IsWhole self }
         ensures { IfOk result (AppendsLead found.old.items found.new.items self.entry) }
