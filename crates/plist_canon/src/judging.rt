@@ -1,11 +1,11 @@
 //! The rules of the trailer and of each object.
-ghost use Rattle.std.specs.Prelude.{◌≡◌, ◌↔◌, ◌<◌, ℕ, suc, IsTrue, Ok, IsOk, IfOk, IfErr, OnOk, ⊤};
+ghost use Rattle.std.specs.Prelude.{◌≡◌, ◌↔◌, ◌<◌, ℕ, suc, IsTrue, Ok, IsOk, IfOk, IfErr, IfSome, IfNone, OnOk, ⊤};
 ghost use Rattle.plist_object.specs.Layout.{trailer_of};
 ghost use Rattle.plist_object.specs.Places.{Holds, object_at, span_of};
 ghost use Rattle.plist_object.specs.Views.{held_of, octets_of};
 ghost use Rattle.plist_canon.specs.Ranks.{AreRanks};
 ghost use Rattle.plist_canon.specs.Rules.{IsBroken, HasPlainTrailer, HasLeastWidths, Adjoins, IsSpelledCanonically, HasAscendingKeys, IsNoRepeat};
-ghost use Rattle.plist_canon.specs.Checking.{IsFlaw, AllRead, RefersWell, IsEndBefore, IsJudged, HasMet};
+ghost use Rattle.plist_canon.specs.Checking.{IsFlaw, AllRead, RefersWell, IsEndBefore, Follows, IsJudged, HasMet};
 
 use crate::ranks::{Keys, Ranks};
 use crate::references::{keys_ascend, refers_well};
@@ -87,71 +87,114 @@ pub(crate) fn judge_objects(alloc: Global, file: &BinFile) -> Result<(), Flaw>
         ((i : ℕ) → i < (trailer_of (octets_of file.now)).count → Adjoins (octets_of file.now) i) }
     ensures err { IfErr result (IsFlaw (octets_of file.now)) }
 {
-    let count = file.count();
-    let ranks = rank_keys(alloc, file)?;
+    let placed = judge_places(file);
+    let ranks = rank_keys(alloc, file, placed)?;
     let mut repeats = Repeats::new(alloc);
-    let mut end = 8;
-    for i in 0..count {
-        end = judge_object(file, i, end, &ranks, &mut repeats)?;
+    for i in 0..placed.objects {
+        judge_object(file, i, &ranks, &mut repeats)?;
     }
-    if end != file.table() {
-        return Err(Flaw::at(3, count - 1));
+    match placed.flaw {
+        // The references of that object are judged before its place.
+        Some(flaw) => {
+            judge_reading(file, &ranks, placed.objects)?;
+            Err(flaw)
+        }
+        None => judge_table(file, placed),
+    }
+}
+
+// Rule 3 at the last object: the offset table stands where all objects end.
+fn judge_table(file: &BinFile, placed: Placed) -> Result<(), Flaw>
+    requires all { placed.objects ≡ (trailer_of (octets_of file.now)).count }
+    requires follows { (i : ℕ) → i < placed.objects → Follows (octets_of file.now) i }
+    requires ends { IsEndBefore (octets_of file.now) placed.objects placed.end }
+    ensures adjoin { OnOk result
+        ((i : ℕ) → i < (trailer_of (octets_of file.now)).count → Adjoins (octets_of file.now) i) }
+    ensures err { IfErr result (IsFlaw (octets_of file.now)) }
+{
+    if placed.end != file.table() {
+        return Err(Flaw::at(3, file.count() - 1));
     }
     Ok(())
+}
+
+// How far the objects stand one behind the other, from the header on.
+#[derive(Clone, Copy)]
+struct Placed {
+    // How many objects do.
+    objects: u64,
+    // Where the last of them ends.
+    end: u64,
+    // Why the next one does not, if there is one.
+    flaw: Option<Flaw>,
 }
 
 // The ranks of the texts that tables name as keys. Where so many of these texts overlap that they cannot be
 // sorted in time, the first object that does not stand where the one before it ends is answered.
-fn rank_keys(alloc: Global, file: &BinFile) -> Result<Ranks, Flaw>
+fn rank_keys(alloc: Global, file: &BinFile, placed: Placed) -> Result<Ranks, Flaw>
+    requires { IfSome placed.flaw (IsFlaw (octets_of file.now)) }
     ensures ok { IfOk result (λ ranks. AreRanks (octets_of file.now) ranks) }
     ensures err { IfErr result (IsFlaw (octets_of file.now)) }
 {
-    let places = judge_places(file);
-    let last = match places {
-        Err(Flaw::Broken { object, .. }) => object,
-        _ => file.count(),
-    };
-    let mut keys = Keys::of_tables(alloc, file, last)?;
-    if keys.overlap(file) {
-        places?;
+    let mut keys = Keys::of_tables(alloc, file, placed.objects)?;
+    if let Some(flaw) = placed.flaw {
+        if keys.overlap(file) {
+            return Err(flaw);
+        }
     }
     Ok(keys.ranks(alloc, file)?)
 }
 
-// Whether each object reads, and begins where the one before it ends.
-fn judge_places(file: &BinFile) -> Result<(), Flaw>
-    ensures { IfErr result (IsFlaw (octets_of file.now)) }
+// How far the objects read, and begin where the one before them ends.
+fn judge_places(file: &BinFile) -> Placed
+    ensures follows { (i : ℕ) → i < result.objects → Follows (octets_of file.now) i }
+    ensures ends { IsEndBefore (octets_of file.now) result.objects result.end }
+    ensures flaw { IfSome result.flaw (IsFlaw (octets_of file.now)) }
+    ensures below { IfSome result.flaw
+        (λ _. result.objects < (trailer_of (octets_of file.now)).count) }
+    ensures all { IfNone result.flaw
+        (result.objects ≡ (trailer_of (octets_of file.now)).count) }
 {
+    let count = file.count();
     let mut end = 8;
-    for i in 0..file.count() {
-        end = judge_place(file, i, end)?;
+    for i in 0..count {
+        match judge_place(file, i, end) {
+            Ok(next) => end = next,
+            Err(flaw) => {
+                return Placed {
+                    objects: i,
+                    end,
+                    flaw: Some(flaw),
+                };
+            }
+        }
     }
-    Ok(())
+    Placed {
+        objects: count,
+        end,
+        flaw: None,
+    }
 }
 
-// Where the object ends, which follows the one that ends at the place.
+// The rules of the object, which begins where the one before it ends.
 fn judge_object<'a>(
     file: &BinFile<'a>,
     i: u64,
-    place: u64,
     ranks: &Ranks,
     repeats: &mut Repeats<'a>,
-) -> Result<u64, Flaw>
+) -> Result<(), Flaw>
     requires listed { i < (trailer_of (octets_of file.now)).count }
-    requires place { IsEndBefore (octets_of file.now) i place }
+    requires follows { Follows (octets_of file.now) i }
     requires ranks { AreRanks (octets_of file.now) ranks.now }
     requires met { HasMet (octets_of file.now) i repeats.old }
-    ensures judged { IfOk result (λ _. IsJudged (octets_of file.now) i) }
-    ensures end { IfOk result (λ end. IsEndBefore (octets_of file.now) (suc i) end) }
-    ensures met { IfOk result (λ _. HasMet (octets_of file.now) (suc i) repeats.new) }
+    ensures judged { OnOk result (IsJudged (octets_of file.now) i) }
+    ensures met { OnOk result (HasMet (octets_of file.now) (suc i) repeats.new) }
     ensures err { IfErr result (IsFlaw (octets_of file.now)) }
 {
     let object = judge_reading(file, ranks, i)?;
-    let end = judge_place(file, i, place)?;
     judge_spelling(file, i)?;
     judge_keys(file, ranks, i, &object)?;
-    judge_repeat(file, i, &object, repeats)?;
-    Ok(end)
+    judge_repeat(file, i, &object, repeats)
 }
 
 // Rule 0 of the object: what it holds.

@@ -1,6 +1,6 @@
 use Rattle.std.proofs.Common.{ℕ, ◌<◌}
 use Rattle.plist_object.specs.Views.{octets_of}
-use Rattle.plist_canon.specs.Checking.{IsJudged, IsEndBefore, HasMet}
+use Rattle.plist_canon.specs.Checking.{IsJudged, HasMet}
 use Rattle.plist_canon.proofs.judging.judge_objects.Given as goal
 
 abbrev pub invariant-loop-i : goal.invariant-loop-i
@@ -8,6 +8,5 @@ invariant-loop-i l =
     let f = octets_of l.file in
     record {
       judged : (j : ℕ) → j < l.i → IsJudged f j;
-      ends : IsEndBefore f l.i l.end;
       met : HasMet f l.i l.repeats;
     }
