@@ -1,5 +1,5 @@
 -- Past known references, one after another.
-use Rattle.std.proofs.Common.{◌≡◌, ℕ, ◌+◌, ◌<◌, ◌≤◌, List, [], ◌∷◌, ◌++◌, length, drop, refl, sym, ap, subst, ◌∙◌, append_assoc, arith}
+use Rattle.std.proofs.Common.{◌≡◌, ℕ, ◌+◌, ◌<◌, ◌≤◌, List, [], ◌∷◌, ◌++◌, length, drop, refl, sym, ap, subst, ◌∙◌, append_assoc}
 use Rattle.std.specs.Prelude.{slice_index}
 use Rattle.std.specs.List.{AllByRecursion}
 use Rattle.std.proofs.lemmas.List.{drop_more, drop_all}
@@ -47,9 +47,3 @@ LeadsTo-trans weights refs mid left first second = record {
   known = every_append (IsKnown weights) first.passed second.passed first.known second.known;
   split = first.split ∙ ap (λ xs. first.passed ++ xs) second.split ∙ sym (append_assoc first.passed second.passed left);
 }
-
--- none are left of none
-pub LeadsTo-none : (weights : List Weight) (refs : List ℕ) (k : ℕ) → refs ≡ [] → LeadsTo weights (drop k refs) []
-LeadsTo-none weights refs k none =
-    let empty : length refs ≤ k = rw none (omega arith) in
-    subst (λ (ys : List ℕ). LeadsTo weights ys []) (sym (drop_all k refs empty)) (LeadsTo-start weights [])

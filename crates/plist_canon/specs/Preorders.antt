@@ -5,6 +5,8 @@ use Rattle.plist_object.specs.declared.object.ObjectFault.{ObjectFault}
 use Rattle.plist_object.specs.Layout.{trailer_of}
 use Rattle.plist_object.specs.Objects.{Held, holds_scalar, holds_list, holds_table}
 use Rattle.plist_object.specs.Places.{what_holds}
+use Rattle.plist_object.specs.Views.{numbers_of}
+use Rattle.plist_object.specs.declared.refs.Refs.{Refs}
 use Rattle.plist_canon.specs.Rules.{Walks, MeetsInOrder, IsNumberedInPreorder}
 use Rattle.plist_canon.specs.Weights.{is_scalar_weight, AreWeights}
 use Rattle.plist_canon.specs.declared.weights.Weight.{Weight}
@@ -30,21 +32,17 @@ part_read values (Ok held) = part_of values held
 part_read values (Err e) = []
 
 -- the references that are still to be visited
-abbrev pub frame_left : List ℕ → Frame → List ℕ
-frame_left f frame = drop frame.done (part_read frame.values (what_holds f frame.owner))
+abbrev pub frame_left : Frame → List ℕ
+frame_left frame = drop frame.done (numbers_of frame.refs)
 
 -- the references of a path that are still to be visited, the last ones first
-abbrev pub path_left : List ℕ → List Frame → List ℕ
-path_left f [] = []
-path_left f (frame ∷ frames) = path_left f frames ++ frame_left f frame
+abbrev pub path_left : List Frame → List ℕ
+path_left [] = []
+path_left (frame ∷ frames) = path_left frames ++ frame_left frame
 
 -- references none of which was visited
-abbrev pub new_frame : ℕ → Bool → Frame
-new_frame owner values = record { owner = owner; values = values; done = 0 }
-
--- the containers of the path are objects
-abbrev pub IsPath : List ℕ → List Frame → Type 0
-IsPath f frames = AllByRecursion (λ frame. frame.owner < (trailer_of f).count) frames
+abbrev pub new_frame : ℕ → Refs → Frame
+new_frame owner refs = record { owner = owner; refs = refs; done = 0 }
 
 -- the number is that of a scalar that was met
 abbrev pub IsKnown : List Weight → ℕ → Type 0
@@ -57,21 +55,19 @@ pub record LeadsTo (weights : List Weight) (refs left : List ℕ) : Type 0 where
   pub split : refs ≡ passed ++ left
 
 -- the references of the path lead to one that is not known, or to the end
-abbrev pub Visits : List ℕ → List Weight → List Frame → List Frame → Option Visit → Type 0
-Visits f weights old new (Some visit) =
-    LeadsTo weights (path_left f old) (visit.reference ∷ path_left f new) × (¬ IsKnown weights visit.reference)
-Visits f weights old new None = LeadsTo weights (path_left f old) []
+abbrev pub Visits : List Weight → List Frame → List Frame → Option Visit → Type 0
+Visits weights old new (Some visit) =
+    LeadsTo weights (path_left old) (visit.reference ∷ path_left new) × (¬ IsKnown weights visit.reference)
+Visits weights old new None = LeadsTo weights (path_left old) []
 
 -- The object was met: its weight is told, and its references are next.
 pub record Enters (f : List ℕ) (number : ℕ) (old new : List Frame) (weights told : List Weight) : Type 0 where
   pub weighed : AreWeights f told
   pub counted : length told ≡ suc number
-  pub path : IsPath f new
-  pub left : path_left f new ≡ part_read false (what_holds f number) ++ (part_read true (what_holds f number) ++ path_left f old)
+  pub left : path_left new ≡ part_read false (what_holds f number) ++ (part_read true (what_holds f number) ++ path_left old)
 
 -- The objects below the number were met in order, and the walk goes on along the path.
 pub record IsWalking (f : List ℕ) (number : ℕ) (path : List Frame) (weights : List Weight) : Type 0 where
   pub weighed : AreWeights f weights
   pub counted : length weights ≡ number
-  pub on_path : IsPath f path
-  pub finishes : IsNumberedInPreorder f ↔ CanFinish f (path_left f path) number
+  pub finishes : IsNumberedInPreorder f ↔ CanFinish f (path_left path) number

@@ -1,11 +1,11 @@
 //! The rules of the trailer and of each object.
-ghost use Rattle.std.specs.Prelude.{◌≡◌, ◌↔◌, ◌<◌, ℕ, suc, IsTrue, Ok, IsOk, IfOk, IfErr, IfSome, IfNone, OnOk, ⊤};
+ghost use Rattle.std.specs.Prelude.{◌≡◌, ◌↔◌, ◌<◌, ℕ, suc, IsTrue, Ok, IsOk, IfOk, IfErr, IfSome, IfNone, OnOk};
 ghost use Rattle.plist_object.specs.Layout.{trailer_of};
 ghost use Rattle.plist_object.specs.Places.{Holds, object_at, span_of};
 ghost use Rattle.plist_object.specs.Views.{held_of, octets_of};
 ghost use Rattle.plist_canon.specs.Ranks.{AreRanks};
-ghost use Rattle.plist_canon.specs.Rules.{IsBroken, HasPlainTrailer, HasLeastWidths, Adjoins, IsSpelledCanonically, HasAscendingKeys, IsNoRepeat};
-ghost use Rattle.plist_canon.specs.Checking.{IsFlaw, AllRead, RefersWell, IsEndBefore, Follows, IsJudged, HasMet};
+ghost use Rattle.plist_canon.specs.Rules.{HasPlainTrailer, HasLeastWidths, Adjoins, IsSpelledCanonically, HasAscendingKeys, IsNoRepeat};
+ghost use Rattle.plist_canon.specs.Checking.{IsFlaw, RefersWell, IsEndBefore, Follows, IsJudged, HasMet};
 
 use crate::ranks::{Keys, Ranks};
 use crate::references::{keys_ascend, refers_well};

@@ -1,11 +1,9 @@
 //! The walk in preorder from object 0.
-ghost use Rattle.std.specs.Prelude.{◌≡◌, ◌↔◌, ◌<◌, ◌∷◌, ◌++◌, [], length, drop, IfOk, IfErr, IfSome, IfNone, OnOk, IsTrue, vec_len};
-ghost use Rattle.plist_object.specs.Places.{what_holds};
-ghost use Rattle.plist_object.specs.Layout.{trailer_of};
+ghost use Rattle.std.specs.Prelude.{◌≡◌, ◌↔◌, ◌<◌, ◌∷◌, ◌++◌, [], length, drop, IfOk, IfErr, IfSome, IfNone, OnOk, IsTrue};
 ghost use Rattle.plist_object.specs.Views.{numbers_of, octets_of};
 ghost use Rattle.plist_canon.specs.Rules.{IsNumberedInPreorder, IsWellRead};
 ghost use Rattle.plist_canon.specs.Checking.{IsFlaw, AllRead};
-ghost use Rattle.plist_canon.specs.Preorders.{IsPath, IsKnown, LeadsTo, Visits, Enters, part_read, new_frame};
+ghost use Rattle.plist_canon.specs.Preorders.{IsKnown, LeadsTo, Visits, Enters, new_frame};
 ghost use Rattle.plist_canon.specs.Weights.{AreWeights, AreAllWeights};
 
 use crate::judging::Flaw;
@@ -17,9 +15,9 @@ use std::alloc::{AllocError, Global};
 // References on the path of the walk, and how many of them were visited: those of a list, or those of a
 // table to its keys or to its values.
 #[derive(Clone, Copy)]
-struct Frame {
+struct Frame<'a> {
     owner: u64,
-    values: bool,
+    refs: Refs<'a>,
     done: u64,
 }
 
@@ -42,7 +40,7 @@ pub(crate) fn judge_order(alloc: Global, file: &BinFile) -> Result<Vec<Weight>, 
     let mut weights = Vec::new(alloc);
     enter(file, 0, &mut path, &mut weights)?;
     for number in 1..file.count() {
-        match next_visit(file, &mut path, &weights)? {
+        match next_visit(&mut path, &weights)? {
             Some(visit) if visit.reference == number => {
                 enter(file, number, &mut path, &mut weights)?;
             }
@@ -50,103 +48,61 @@ pub(crate) fn judge_order(alloc: Global, file: &BinFile) -> Result<Vec<Weight>, 
             None => return Err(Flaw::at(7, 0)),
         }
     }
-    match next_visit(file, &mut path, &weights)? {
+    match next_visit(&mut path, &weights)? {
         Some(visit) => Err(Flaw::at(7, visit.owner)),
         None => Ok(weights),
     }
 }
 
 // The object is met for the first time, and weighed. Its references are next, where it has some.
-fn enter(
-    file: &BinFile,
+fn enter<'a>(
+    file: &BinFile<'a>,
     number: u64,
-    path: &mut Vec<Frame>,
+    path: &mut Vec<Frame<'a>>,
     weights: &mut Vec<Weight>,
 ) -> Result<(), AllocError>
     requires read { IsWellRead (octets_of file.now) number }
-    requires path { IsPath (octets_of file.now) path.old.items }
     requires weighed { AreWeights (octets_of file.now) weights.old.items }
     requires counted { length weights.old.items ≡ number }
-    ensures { OnOk result
-        (Enters
-        (octets_of file.now) number path.old.items path.new.items weights.old.items weights.new.items) }
+    ensures { OnOk result (Enters (octets_of file.now) number
+        path.old.items path.new.items weights.old.items weights.new.items) }
 {
     let object = object_of(file, number);
     weights.push(Weight::of(&object))?;
     match object {
         Object::Scalar(_) => Ok(()),
-        Object::List(_) => push_part(path, number, false),
-        Object::Table(_, _) => {
-            push_part(path, number, true)?;
-            push_part(path, number, false)
+        Object::List(items) => push_part(path, number, items),
+        Object::Table(keys, values) => {
+            push_part(path, number, values)?;
+            push_part(path, number, keys)
         }
     }
 }
 
 // References none of which was visited.
-fn push_part(path: &mut Vec<Frame>, owner: u64, values: bool) -> Result<(), AllocError>
-    ensures { OnOk result (path.new.items ≡ path.old.items ++ new_frame owner values ∷ []) }
+fn push_part<'a>(path: &mut Vec<Frame<'a>>, owner: u64, refs: Refs<'a>) -> Result<(), AllocError>
+    ensures { OnOk result (path.new.items ≡ path.old.items ++ new_frame owner refs.entry ∷ []) }
 {
     path.push(Frame {
         owner,
-        values,
+        refs,
         done: 0,
     })?;
     Ok(())
 }
 
 // The next reference but those to scalars that were met.
-fn next_visit(
-    file: &BinFile,
-    path: &mut Vec<Frame>,
-    weights: &[Weight],
-) -> Result<Option<Visit>, AllocError>
-    requires read { AllRead (octets_of file.now) }
-    requires path { IsPath (octets_of file.now) path.old.items }
-    ensures path { IfOk result (λ _. IsPath (octets_of file.now) path.new.items) }
-    ensures visits { IfOk result
-        (Visits (octets_of file.now) weights.now path.old.items path.new.items) }
+fn next_visit(path: &mut Vec<Frame>, weights: &[Weight]) -> Result<Option<Visit>, AllocError>
+    ensures visits { IfOk result (Visits weights.now path.old.items path.new.items) }
 {
     while let Some(frame) = path.pop() {
-        if let Some((done, reference)) = frame_visit(file, &frame, weights) {
+        if let Some((done, reference)) = first_other(&frame.refs, frame.done, weights) {
             let owner = frame.owner;
             path.push(Frame { done, ..frame })?;
             return Ok(Some(Visit { owner, reference }));
         }
     }
     Ok(None)
-}
-
-// The next reference of the frame that is not to a scalar that was met, and how many were visited with it.
-fn frame_visit(file: &BinFile, frame: &Frame, weights: &[Weight]) -> Option<(u64, u64)>
-    requires { IsWellRead (octets_of file.now) frame.now.owner }
-    ensures known { IfSome result (λ p. ¬ IsKnown weights.now p.1) }
-    ensures some { IfSome result
-        (λ p. LeadsTo weights.now
-        (drop frame.now.done
-        (part_read frame.now.values (what_holds (octets_of file.now) frame.now.owner)))
-        (p.1 ∷ drop p.0
-        (part_read frame.now.values (what_holds (octets_of file.now) frame.now.owner)))) }
-    ensures none { IfNone result
-        (LeadsTo weights.now
-        (drop frame.now.done
-        (part_read frame.now.values (what_holds (octets_of file.now) frame.now.owner))) []) }
-{
-    match object_of(file, frame.owner) {
-        Object::Scalar(_) => None,
-        Object::List(items) => {
-            if frame.values {
-                return None;
-            }
-            first_other(&items, frame.done, weights)
-        }
-        Object::Table(keys, values) => {
-            if frame.values {
-                return first_other(&values, frame.done, weights);
-            }
-            first_other(&keys, frame.done, weights)
-        }
-    }
 }
 
 // The first reference from the place on that is not to a scalar that was met, and the place behind it.

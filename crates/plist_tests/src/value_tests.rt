@@ -1,7 +1,7 @@
 //! Texts, numbers, copies and equality of values, and scalars as keys of maps.
 use crate::values::{data, empty_list, empty_table, table, text, units};
 use indexmap::IndexMap;
-use plist_value::{ScalarRef, TextRef, Utf16, Value, Whole, copy, fits, same};
+use plist_value::{ScalarRef, TextRef, Value, Whole, copy, fits, same};
 use std::alloc::{AllocError, Global};
 use std::cmp::Ordering;
 use std::collections::{BTreeMap, HashMap};

@@ -6,12 +6,12 @@ use Rattle.std.specs.Cmp.Lexicographic.{slice_cmp}
 use Rattle.std.specs.Hash as fed
 use Rattle.std.specs.Int.Signed.{le_z_yes}
 use Rattle.std.proofs.Common.{lit<}
-use Rattle.plist_value.specs.Plist.{text, flag, real8, moment, bytes, Plist, scalar, list, table, no_items, item, no_pairs, pair, AreUnits, IsPlist, IsWhole}
+use Rattle.plist_value.specs.Plist.{text, flag, real8, moment, bytes, scalar, table, no_pairs, pair, AreUnits, IsPlist, IsWhole}
 use Rattle.plist_value.specs.Limits.{nodes, depth, payload}
 use Rattle.plist_value.specs.Texts.{wide_units}
 use Rattle.plist_value.specs.Equality.{scalar_eq}
 use Rattle.plist_value.specs.Hashes.{fed_text}
-use Rattle.plist_value.specs.Rows.{a, b, swapped, unsorted, mixed}
+use Rattle.plist_value.specs.Rows.{a, swapped, unsorted, mixed}
 
 swapped-nodes : nodes swapped ≡ 5
 swapped-nodes = refl

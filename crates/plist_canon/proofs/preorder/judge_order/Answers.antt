@@ -17,7 +17,7 @@ pub returns-in-Some-2-clause-err : goal.returns-in-Some-2-clause-err
 returns-in-Some-2-clause-err c =
     let f = octets_of c.args.file.now in
     let l = c.loop-number in
-    let visits : Visits f l.weights.items l.path.items c.next_visit.new.path.items (Some c.in-Some.visit) = rw (c.deref.ensures.value, c.in-Some.is) at c.in_ok-visit.ensures.visits in
+    let visits : Visits l.weights.items l.path.items c.next_visit.new.path.items (Some c.in-Some.visit) = rw (c.deref.ensures.value, c.in-Some.is) at c.in_ok-visit.ensures.visits in
     rw c.at.ensures
     (breaks_c7 c.in-Some.visit.owner (IsWalking-other f l.number l.path.items c.next_visit.new.path.items l.weights.items l.invariant c.in-Some.visit visits c.if-visit-number.false))
 
@@ -25,7 +25,7 @@ pub returns-in-None-clause-err : goal.returns-in-None-clause-err
 returns-in-None-clause-err c =
     let f = octets_of c.args.file.now in
     let l = c.loop-number in
-    let visits : Visits f l.weights.items l.path.items c.next_visit.new.path.items None = rw (c.deref.ensures.value, c.in-None.is) at c.in_ok-visit.ensures.visits in
+    let visits : Visits l.weights.items l.path.items c.next_visit.new.path.items None = rw (c.deref.ensures.value, c.in-None.is) at c.in_ok-visit.ensures.visits in
     let below : l.number < (trailer_of f).count = omega (arith, c.loop-number-test.true, c.count-number-end.ensures) in
     rw c.at-in-None.ensures
     (breaks_c7 0 (IsWalking-none f l.number l.path.items c.next_visit.new.path.items l.weights.items l.invariant visits below))
@@ -34,7 +34,7 @@ pub loop-number-preserved : goal.loop-number-preserved
 loop-number-preserved c =
     let f = octets_of c.args.file.now in
     let l = c.loop-number in
-    let visits : Visits f l.weights.items l.path.items c.next_visit.new.path.items (Some c.in-Some.visit) = rw (c.deref.ensures.value, c.in-Some.is) at c.in_ok-visit.ensures.visits in
+    let visits : Visits l.weights.items l.path.items c.next_visit.new.path.items (Some c.in-Some.visit) = rw (c.deref.ensures.value, c.in-Some.is) at c.in_ok-visit.ensures.visits in
     let below : l.number < (trailer_of f).count = omega (arith, c.loop-number-test.true, c.count-number-end.ensures) in
     rw add-one
     (IsWalking-step f l.number l.path.items c.next_visit.new.path.items l.weights.items l.invariant c.in-Some.visit c.enter-in-Some.new.path.items c.enter-in-Some.new.weights.items visits c.if-visit-number.true (c.requires l.number below) c.in_ok-enter-in-Some.ensures)
@@ -44,7 +44,7 @@ returns-in-Some-3-clause-err c =
     let f = octets_of c.args.file.now in
     let l = c.loop-number in
     let some = c.args.file.now.laid.trailed.some_object in
-    let visits : Visits f l.weights.items l.path.items c.next_visit-2.new.path.items (Some c.in-Some-3.visit) = rw (c.deref-2.ensures.value, c.in-Some-3.is) at c.in_ok-visit-2.ensures.visits in
+    let visits : Visits l.weights.items l.path.items c.next_visit-2.new.path.items (Some c.in-Some-3.visit) = rw (c.deref-2.ensures.value, c.in-Some-3.is) at c.in_ok-visit-2.ensures.visits in
     let all : l.number ≡ (trailer_of f).count = omega (arith, c.loop-number-test.false, c.count-number-end.ensures, l.auto.number-end) in
     rw c.at-in-Some-3.ensures
     (breaks_c7 c.in-Some-3.visit.owner (IsWalking-over f l.number l.path.items c.next_visit-2.new.path.items l.weights.items l.invariant c.in-Some-3.visit visits all))
@@ -54,7 +54,7 @@ returns-clause-ok c =
     let f = octets_of c.args.file.now in
     let l = c.loop-number in
     let some = c.args.file.now.laid.trailed.some_object in
-    let visits : Visits f l.weights.items l.path.items c.next_visit-2.new.path.items None = rw (c.deref-2.ensures.value, c.in-None-2.is) at c.in_ok-visit-2.ensures.visits in
+    let visits : Visits l.weights.items l.path.items c.next_visit-2.new.path.items None = rw (c.deref-2.ensures.value, c.in-None-2.is) at c.in_ok-visit-2.ensures.visits in
     let all : l.number ≡ (trailer_of f).count = omega (arith, c.loop-number-test.false, c.count-number-end.ensures, l.auto.number-end) in
     IsWalking-done f l.number l.path.items c.next_visit-2.new.path.items l.weights.items l.invariant visits all
 
