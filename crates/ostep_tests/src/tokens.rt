@@ -81,7 +81,7 @@ const PAIR: &[u16] = &[0xd83d, 0xde00];
 
 #[test]
 fn texts_and_their_tokens(rt: HostRuntime) -> Result<(), Fail> {
-    let rows: [(&[u8], &[(Shown, usize, usize)]); 20] = [
+    let rows: [(&[u8], &[(Shown, usize, usize)]); 27] = [
         (TABLE, &TABLE_TOKENS),
         (PATHS, &PATHS_TOKENS),
         // Big-endian: the places count the mark.
@@ -115,6 +115,29 @@ fn texts_and_their_tokens(rt: HostRuntime) -> Result<(), Fail> {
         ),
         (b" < 0f\x0bAb > ", &[(Shown::Octets(&[0x0f, 0xab]), 1, 10)]),
         (b"<>", &[(Shown::Octets(&[]), 0, 2)]),
+        // ASCII beside other characters, in strings and in gaps.
+        (
+            b"\"a\xc3\xa9b\"",
+            &[(Shown::Text(&[0x61, 0xe9, 0x62]), 0, 6)],
+        ),
+        (
+            b"'a\"b\\'c'",
+            &[(Shown::Text(&[0x61, 0x22, 0x62, 0x27, 0x63]), 0, 8)],
+        ),
+        (b" \xe2\x80\xa8a", &[(Shown::Text(&[0x61]), 4, 5)]),
+        (
+            b"// \xc3\xa9 x\xe2\x80\xa8a",
+            &[(Shown::Text(&[0x61]), 10, 11)],
+        ),
+        (b"/* ** \xc3\xa9 **/a", &[(Shown::Text(&[0x61]), 12, 13)]),
+        (
+            b"\xfe\xff\x00/\x00*\x00*\x00/\x00a",
+            &[(Shown::Text(&[0x61]), 10, 12)],
+        ),
+        (
+            b"<0fAb\xe2\x80\xa9 90>",
+            &[(Shown::Octets(&[0x0f, 0xab, 0x90]), 0, 12)],
+        ),
         // No token.
         (b"", &[]),
         (b" ", &[]),
@@ -133,7 +156,7 @@ fn texts_and_their_tokens(rt: HostRuntime) -> Result<(), Fail> {
 
 #[test]
 fn texts_that_are_refused(rt: HostRuntime) -> Result<(), Fail> {
-    let rows: [(&[u8], LexFault); 28] = [
+    let rows: [(&[u8], LexFault); 33] = [
         (b"\"\\200\"", LexFault::OctalRange { octet: 1 }),
         (b"a/*c*/", LexFault::UnexpectedCharacter { octet: 2 }),
         (b"<0f b>", LexFault::OddData { octet: 4 }),
@@ -153,6 +176,11 @@ fn texts_that_are_refused(rt: HostRuntime) -> Result<(), Fail> {
         (b"<0f,>", LexFault::BadData { octet: 3 }),
         (b"<0f", LexFault::BadData { octet: 3 }),
         (b"<0", LexFault::OddData { octet: 1 }),
+        (b"<0fAb 1>", LexFault::OddData { octet: 6 }),
+        (b"<0fA>", LexFault::OddData { octet: 3 }),
+        (b"<0f\xc3\xa9>", LexFault::BadData { octet: 3 }),
+        (b"ab\xc3\xa9", LexFault::UnexpectedCharacter { octet: 2 }),
+        (b"\xc2\xa0", LexFault::UnexpectedCharacter { octet: 0 }),
         (b"@", LexFault::UnexpectedCharacter { octet: 0 }),
         (b"\xff\xfe\x61", LexFault::BadUtf16 { octet: 2 }),
         (b"\xfe\xff\xd8\x00", LexFault::BadUtf16 { octet: 2 }),
