@@ -6,10 +6,13 @@ ghost use Rattle.plist_object.specs.Objects.{IsHeld};
 ghost use Rattle.plist_object.specs.Places.{Holds};
 ghost use Rattle.plist_object.specs.Views.{held_of, numbers_of, octets_of};
 ghost use Rattle.plist_binary.specs.Keys.{units_at, AreInPlace};
-ghost use Rattle.plist_binary.specs.Building.{SpellsWithin, SpellsText, AllSpellWithin, AllSpellTexts, SpellsPairsWithin, HoldsSome, IsSpelled, AreSpelled, AreTexts, PairsSpelled, SpellsUnits};
+ghost use Rattle.plist_binary.specs.Building.{SpellsWithin, SpellsText, AllSpellWithin};
+ghost use Rattle.plist_binary.specs.Building.{AllSpellTexts, SpellsPairsWithin, HoldsSome};
+ghost use Rattle.plist_binary.specs.Building.{IsSpelled, AreSpelled, AreTexts, PairsSpelled};
+ghost use Rattle.plist_binary.specs.Building.{SpellsUnits};
 
-use crate::judging::text_of;
 use crate::tables::Key;
+use crate::visiting::text_of;
 use crate::{scalars, tables};
 use plist_object::{BinFile, Object, Refs};
 use plist_value::{TextRef, Utf16, Value};
@@ -42,7 +45,8 @@ impl<'a> Builder<'a> {
     #[cycle(build)]
     fn items(&self, refs: Refs, levels: u64) -> Result<Vec<Value>, AllocError>
         requires { AllSpellWithin (octets_of self.now.file) (numbers_of refs) levels }
-        ensures { IfOk result (λ items. AreSpelled (octets_of self.now.file) (numbers_of refs.entry) (view_items items.items)) }
+        ensures { IfOk result (λ items. AreSpelled (octets_of self.now.file) (numbers_of refs.entry)
+            (view_items items.items)) }
     {
         let mut items = Vec::with_capacity(self.alloc, refs.len() as usize)?;
         for i in 0..refs.len() {
@@ -59,8 +63,10 @@ impl<'a> Builder<'a> {
         values: Refs,
         levels: u64,
     ) -> Result<BTreeMap<Utf16, Value>, AllocError>
-        requires { SpellsPairsWithin (octets_of self.now.file) (numbers_of keys) (numbers_of values) levels }
-        ensures { IfOk result (λ pairs. PairsSpelled (octets_of self.now.file) (numbers_of keys.entry) (numbers_of values.entry) (view_pairs pairs.entries)) }
+        requires { SpellsPairsWithin (octets_of self.now.file) (numbers_of keys) (numbers_of values)
+            levels }
+        ensures { IfOk result (λ pairs. PairsSpelled (octets_of self.now.file)
+            (numbers_of keys.entry) (numbers_of values.entry) (view_pairs pairs.entries)) }
     {
         let mut keys = self.keys(keys)?;
         let distinct = tables::sort(keys.as_mut_slice());
@@ -72,7 +78,8 @@ impl<'a> Builder<'a> {
     // The texts that the references spell, each at its place.
     fn keys(&self, refs: Refs) -> Result<Vec<Key<'a>>, AllocError>
         requires { AllSpellTexts (octets_of self.now.file) (numbers_of refs) }
-        ensures texts { IfOk result (λ keys. AreTexts (octets_of self.now.file) (numbers_of refs.entry) (map units_at keys.items)) }
+        ensures texts { IfOk result (λ keys. AreTexts (octets_of self.now.file)
+            (numbers_of refs.entry) (map units_at keys.items)) }
         ensures placed { IfOk result (λ keys. AreInPlace keys.items) }
     {
         let mut keys = Vec::with_capacity(self.alloc, refs.len() as usize)?;

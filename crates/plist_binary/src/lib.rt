@@ -9,6 +9,7 @@ mod path;
 mod reader;
 mod scalars;
 mod tables;
+mod visiting;
 
 pub use fault::BinaryFault;
 pub use judging::judge;

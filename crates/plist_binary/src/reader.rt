@@ -23,7 +23,8 @@ use std::alloc::Global;
 /// equal keys, then the values. Want of memory may come before any of them.
 pub fn read(alloc: Global, octets: &[u8]) -> Result<Value, BinaryFault>
     ensures read { IfOk result (λ value. IsBinary octets.now (view value)) }
-    ensures refused { IfErr result (λ fault. fault ≢ BinaryFault.OutOfMemory → (v : Plist) → IsBinary octets.now v → ⊥) }
+    ensures refused { IfErr result (λ fault. fault ≢ BinaryFault.OutOfMemory → (v : Plist) →
+        IsBinary octets.now v → ⊥) }
     ensures stands { IfErr result (Stands octets.now) }
 {
     let file = BinFile::of(octets)?;

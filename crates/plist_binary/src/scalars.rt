@@ -1,3 +1,4 @@
+//! Scalars and texts, in memory of their own.
 ghost use Rattle.std.specs.Prelude.{◌≡◌, IfOk};
 ghost use Rattle.plist_value.specs.Plist.{scalar as scalar_value};
 ghost use Rattle.plist_value.specs.Scalars.{content_of};

@@ -1,3 +1,4 @@
+//! The keys of a table in order, and the table of its pairs.
 ghost use Rattle.std.specs.Prelude.{◌≡◌, ◌<◌, ◌==◌, ◌↔◌, All, IsTrue, IfOk, length, map};
 ghost use Rattle.std.specs.Ordering.{eq_by_cmp, nat_cmp};
 ghost use Rattle.std.specs.Cmp.Lexicographic.{slice_cmp};
@@ -24,8 +25,10 @@ pub(crate) struct Key<'a> {
 // Whether no two of the keys are equal, which then ascend.
 pub(crate) fn sort(keys: &mut [Key]) -> bool
     ensures moved { IsPermutation keys.old keys.new }
-    ensures distinct { IsTrue result ↔ IsDistinct (eq_by_cmp (slice_cmp nat_cmp)) (map units_at keys.old) }
-    ensures ascend { IsTrue result ↔ IsStrictlySortedBy (slice_cmp nat_cmp) (map units_at keys.new) }
+    ensures distinct { IsTrue result ↔ IsDistinct (eq_by_cmp (slice_cmp nat_cmp))
+        (map units_at keys.old) }
+    ensures ascend { IsTrue result ↔ IsStrictlySortedBy (slice_cmp nat_cmp)
+        (map units_at keys.new) }
 {
     if ascend(keys) {
         return true;
@@ -47,7 +50,8 @@ fn ascend(keys: &[Key]) -> bool
 }
 
 fn is_below(text: &TextRef, next: &TextRef) -> bool
-    ensures { IsTrue result ↔ (slice_cmp nat_cmp (units_of text.now) (units_of next.now) ≡ Ordering.Less) }
+    ensures { IsTrue result ↔ (slice_cmp nat_cmp (units_of text.now) (units_of next.now) ≡
+        Ordering.Less) }
 {
     text < next
 }
@@ -62,8 +66,10 @@ pub(crate) fn table(
     requires within { All (λ key. place_of key < length values.items) keys.items }
     requires apart { IsDistinct (λ x y. x == y) (map place_of keys.items) }
     requires ascend { IsStrictlySortedBy (slice_cmp nat_cmp) (map units_at keys.items) }
-    ensures pairs { IfOk result (λ pairs. pairs.entries ≡ map (pair_at values.items) keys.entry.items) }
-    ensures ordered { IfOk result (λ pairs. IsStrictlySortedBy (slice_cmp nat_cmp) (keys_of pairs.entries)) }
+    ensures pairs { IfOk result (λ pairs. pairs.entries ≡ map (pair_at values.items)
+        keys.entry.items) }
+    ensures ordered { IfOk result (λ pairs. IsStrictlySortedBy (slice_cmp nat_cmp)
+        (keys_of pairs.entries)) }
 {
     let mut keys = keys;
     let mut values = values;
