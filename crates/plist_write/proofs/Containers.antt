@@ -32,13 +32,13 @@ module _ (v : Plist) (container : IsContainer v) (part : List Plist) (tree : pre
   stands_open : Stands all k (v ∷ part)
   stands_open = rw tree at stands
 
-  here : (value_at all k ≡ v) × (k < length all)
+  pub here : (value_at all k ≡ v) × (k < length all)
   here = Stands-head v part stands_open
 
-  own : first_place all k v ≡ k
+  pub own : first_place all k v ≡ k
   own = container-first all k v container
 
-  no_scalar : (q : Scalar) → least_place q all ≡ k → ⊥
+  pub no_scalar : (q : Scalar) → least_place q all ≡ k → ⊥
   no_scalar q e =
       let below = here.1 in
       let at = least_place-at q all (omega arith) in
@@ -52,10 +52,10 @@ module _ (v : Plist) (container : IsContainer v) (part : List Plist) (tree : pre
     counted = ap length begins.slot_added.1 ∙ length-append old.slots.items _ ∙ add-one _ ∙ ap suc ready.counted ∙ sym (count-kept all k v here.0 here.1 own);
   }
 
-  number_is : number_in all k ≡ count_below k (kept_places all)
+  pub number_is : number_in all k ≡ count_below k (kept_places all)
   number_is = ap (λ u. count_below (first_place all k u) (kept_places all)) here.0 ∙ ap (λ n. count_below n (kept_places all)) own
 
-  found_is : found_in all k (v ∷ part) ≡ held_at (number_in all) k v ∷ found_in all (suc k) part
+  pub found_is : found_in all k (v ∷ part) ≡ held_at (number_in all) k v ∷ found_in all (suc k) part
   found_is = rw (eq-eqb _ _ own) refl
 
   filled : (old mid done new : Plan) (number : ℕ) (filled_by : Slot) → Begins old mid number → Adds all (suc k) part mid done → held_in filled_by ≡ held_at (number_in all) k v → Finishes number filled_by done new → Adds all k (preorder v) old new

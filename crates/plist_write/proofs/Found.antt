@@ -37,7 +37,7 @@ modest_keys (pair key v ps) n p =
     (record { nodes_fit = omega arith; payload_fits = omega arith }, modest_keys ps (omega arith) (omega arith))
 
 mutual
-  modest_tree : (v : Plist) → IsModest v → AllModest (preorder v)
+  pub modest_tree : (v : Plist) → IsModest v → AllModest (preorder v)
   modest_tree (scalar s) h = (h, tt)
   modest_tree (list vs) h = let n = h.nodes_fit in (h, modest_items vs (omega arith) h.payload_fits)
   modest_tree (table ps) h =
@@ -100,12 +100,12 @@ octets-held number width k (scalar s) = refl
 octets-held number width k (list vs) = refl
 octets-held number width k (table ps) = refl
 
-octets-all : (number : ℕ → ℕ) (width : ℕ) (kept : List (ℕ × Plist)) → map (spelling_of width) (map (λ p. held_at number p.0 p.1) kept) ≡ map (λ p. object_octets number width p.0 p.1) kept
+pub octets-all : (number : ℕ → ℕ) (width : ℕ) (kept : List (ℕ × Plist)) → map (spelling_of width) (map (λ p. held_at number p.0 p.1) kept) ≡ map (λ p. object_octets number width p.0 p.1) kept
 octets-all number width [] = refl
 octets-all number width (p ∷ kept) =
     let first = octets-held number width p.0 p.1 in let others = octets-all number width kept in cc
 
-spellable_all : (all : List Plist) (number : ℕ → ℕ) (width : ℕ) → ((k : ℕ) → number k < 256 ^ width) → (k : ℕ) (rest : List Plist) → AllModest rest → CanSpellAll width (map (λ p. held_at number p.0 p.1) (kept_from all k rest))
+pub spellable_all : (all : List Plist) (number : ℕ → ℕ) (width : ℕ) → ((k : ℕ) → number k < 256 ^ width) → (k : ℕ) (rest : List Plist) → AllModest rest → CanSpellAll width (map (λ p. held_at number p.0 p.1) (kept_from all k rest))
 spellable_all all number width below k [] h = tt
 spellable_all all number width below k (v ∷ rest) h =
     let others = spellable_all all number width below (suc k) rest h.1 in

@@ -10,7 +10,7 @@ pub mod Octets
 pub mod Reading
 pub mod Binary
 pub mod Counting
-mod Held
+pub mod Held
 pub mod Walking
 pub mod Containers
 pub mod Found

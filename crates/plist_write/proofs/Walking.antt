@@ -64,30 +64,30 @@ Walks-append xs ys f g h old mid new ms ns joined x y = record {
 }
 
 module _ (s : Scalar) (all : List Plist) (k : ℕ) (stands : Stands all k (scalar s ∷ [])) where
-  here : (value_at all k ≡ scalar s) × (k < length all)
+  pub here : (value_at all k ≡ scalar s) × (k < length all)
   here = Stands-head (scalar s) [] stands
 
   before : least_place s all ≤ k
   before = least_place-le s all k here.0
 
-  number_is : number_in all k ≡ count_below (least_place s all) (kept_places all)
+  pub number_is : number_in all k ≡ count_below (least_place s all) (kept_places all)
   number_is = ap (λ v. count_below (first_place all k v) (kept_places all)) here.0
 
-  same_scalar : (q : Scalar) → least_place q all ≡ k → q ≡ s
+  pub same_scalar : (q : Scalar) → least_place q all ≡ k → q ≡ s
   same_scalar q e =
       let below = here.1 in
       let at = least_place-at q all (omega arith) in
       let is : scalar q ≡ scalar s = sym at ∙ ap (value_at all) e ∙ here.0 in
       cc
 
-  known-before : (n : ℕ) → number_known all k s ≡ Some n → (least_place s all < k) × (n ≡ count_below (least_place s all) (kept_places all))
+  pub known-before : (n : ℕ) → number_known all k s ≡ Some n → (least_place s all < k) × (n ≡ count_below (least_place s all) (kept_places all))
   known-before n known =
       elim (cases_lt (least_place s all) k) [
         | inl below ↦ (below, let e = rw (lt-ltb (least_place s all) k below) at known in cc)
         | inr above ↦ (let e : None ≡ Some n = rw (le-ltb (least_place s all) k above) at known in cc)
       ]
 
-  unknown-first : number_known all k s ≡ None → least_place s all ≡ k
+  pub unknown-first : number_known all k s ≡ None → least_place s all ≡ k
   unknown-first unknown =
       elim (cases_lt (least_place s all) k) [
         | inl below ↦ (let e = rw (lt-ltb (least_place s all) k below) at unknown in cc)
