@@ -1,0 +1,79 @@
+-- The walk does a container when it does its children, which give way to their numbers.
+use Rattle.std.proofs.Common.{◌≡◌, ℕ, suc, ◌+◌, ◌<◌, ◌≤◌, List, [], ◌∷◌, ◌++◌, length, drop, take, map, refl, sym, ap, subst, ◌∙◌, arith, add-one, length-append, append_assoc}
+use Rattle.std.proofs.lemmas.List.{length-map, map-append, drop_all, drop_at, take_at}
+use Rattle.plist_value.specs.Plist.{Plist, list, table, Items, Pairs, IsContainer}
+use Rattle.plist_object.specs.Objects.{holds_list, holds_table}
+use Rattle.plist_object.specs.Places.{Holds}
+use Rattle.plist_write.specs.Tree.{key_texts, preorder, preorder_items, preorder_values, item_places, key_places, value_places}
+use Rattle.plist_write.specs.Sharing.{kept_places, count_below}
+use Rattle.plist_write.specs.Plan.{Stands, held_at, number_in, found_in}
+use Rattle.plist_write.proofs.Trees.{Stands-tail, length-key_places, length-value_places}
+use Rattle.plist_write.proofs.Counting.{count-kept, known-still}
+use Rattle.plist_write.proofs.Containers.{here, own, no_scalar, number_is, found_is}
+use Rattle.plist_engine.specs.declared.plan.Plan.{Plan}
+use Rattle.plist_engine.specs.Plan.{references_of, IsLike, IsReady, Grows, Adds, Walks, WalksTree, WalksItems, Begins}
+use Rattle.plist_engine.proofs.Flat.{flat, preorder-flat, places-flat}
+
+-- what the references became, and those behind them
+pub record Filled (objects numbers behind : List ℕ) (old done : Plan) : Type 0 where
+  pub as_many : length numbers ≡ length objects
+  pub filled : done.references.items ≡ old.references.items ++ (numbers ++ behind)
+
+module _ (v : Plist) (container : IsContainer v) (part : List Plist) (tree : preorder v ≡ v ∷ part) (all : List Plist) (k : ℕ) (stands : Stands all k (preorder v)) where
+  below_ready : (i : ℕ) (objects : List ℕ) (old mid : Plan) (number : ℕ) → Begins i objects old mid number → IsReady all k old → IsReady all (suc k) mid
+  below_ready i objects old mid number begins ready = record {
+    numbered = rw (begins.scalars_kept, begins.numbers_kept) ready.numbered;
+    known = λ q. rw (begins.scalars_kept, begins.numbers_kept) (ready.known q ∙ sym (known-still all k _ (no_scalar v container part tree all k stands _)));
+    counted = ap length begins.original_added ∙ length-append old.originals.items _ ∙ add-one _ ∙ ap suc ready.counted ∙ sym (count-kept all k v (here v container part tree all k stands).0 (here v container part tree all k stands).1 (own v container part tree all k stands));
+  }
+
+  grown : (f : List ℕ) (i : ℕ) (objects numbers behind : List ℕ) (old mid done : Plan) (number : ℕ) → Begins i objects old mid number → Filled objects numbers behind old done → Grows f (length mid.references.items) mid done (found_in all (suc k) part) → IsLike f i (held_at (number_in all) k v) → references_of (held_at (number_in all) k v) ≡ numbers → Grows f 0 old done (found_in all k (v ∷ part))
+  grown f i objects numbers behind old mid done number begins filled g like refers =
+      let front = length mid.references.items in
+      let size : length (old.references.items ++ numbers) ≡ front = length-append old.references.items numbers ∙ ap (λ n. length old.references.items + n) filled.as_many ∙ sym (length-append old.references.items objects) ∙ ap length (sym begins.references_added) in
+      let left : drop front done.references.items ≡ behind = ap (drop front) (filled.filled ∙ sym (append_assoc old.references.items numbers behind)) ∙ drop_at (old.references.items ++ numbers) behind front size in
+      let nothing : drop front mid.references.items ≡ [] = drop_all front mid.references.items (omega arith) in
+      let same : behind ≡ g.references = sym left ∙ g.references_added ∙ ap (λ rs. rs ++ g.references) nothing in
+      rw (found_is v container part tree all k stands) (record {
+        originals = i ∷ g.originals;
+        references = numbers ++ behind;
+        originals_added = g.originals_added ∙ ap (λ os. os ++ g.originals) begins.original_added ∙ append_assoc old.originals.items (i ∷ []) g.originals;
+        references_added = filled.filled;
+        stand_for = (like, (g.references, (ap (λ rs. rs ++ behind) (sym refers) ∙ ap (λ rs. references_of (held_at (number_in all) k v) ++ rs) same, g.stand_for)));
+      })
+
+pub Walks-container : (f : List ℕ) (v : Plist) → IsContainer v → (part : List Plist) → preorder v ≡ v ∷ part → (i : ℕ) (objects numbers behind : List ℕ) (old mid done : Plan) (number : ℕ) → Begins i objects old mid number → Filled objects numbers behind old done → ((all : List Plist) (k : ℕ) → Stands all k part → IsReady all k mid → Adds f (length mid.references.items) all k part mid done) → ((all : List Plist) (k : ℕ) → Stands all (suc k) part → IsReady all (suc k) mid → IsLike f i (held_at (number_in all) k v) × (references_of (held_at (number_in all) k v) ≡ numbers)) → WalksTree f 0 v old done number
+Walks-container f v container part tree i objects numbers behind old mid done number begins filled adds holds = record {
+  numbered = λ all k stands ready.
+      let e : number ≡ number_in all k = begins.number_is ∙ ready.counted ∙ sym (number_is v container part tree all k stands) in
+      ap (λ n. n ∷ []) e;
+  adds = λ all k stands ready.
+      let below = below_ready v container part tree all k stands i objects old mid number begins ready in
+      let children = Stands-tail v part (rw tree at stands) in
+      let inner = adds all (suc k) children below in
+      let like = holds all k children below in
+      let moved : suc k + length part ≡ k + length (v ∷ part) = omega arith in
+      rw tree (record {
+        ready = subst (λ (n : ℕ). IsReady all n done) moved inner.ready;
+        grows = grown v container part tree all k stands f i objects numbers behind old mid done number begins filled inner.grows like.0 like.1;
+      });
+}
+
+pub Walks-list : (f : List ℕ) (vs : Items) (i : ℕ) (objects numbers behind : List ℕ) (old mid done : Plan) (number : ℕ) → Holds f i (holds_list objects) → Begins i objects old mid number → Filled objects numbers behind old done → WalksItems f (length mid.references.items) vs mid done numbers → WalksTree f 0 (list vs) old done number
+Walks-list f vs i objects numbers behind old mid done number holds begins filled walks =
+    Walks-container f (list vs) tt (preorder_items vs) refl i objects numbers behind old mid done number begins filled walks.adds
+    (λ all k stands ready. let is = walks.numbered all (suc k) stands ready in ((objects, (holds, ap length (sym is) ∙ filled.as_many)), sym is))
+
+pub Walks-table : (f : List ℕ) (ps : Pairs) (i : ℕ) (keys values objects numbers behind : List ℕ) (old mid done : Plan) (number : ℕ) → Holds f i (holds_table keys values) → length (key_texts ps) ≡ length keys → Begins i objects old mid number → Filled objects numbers behind old done → WalksItems f (length mid.references.items) (flat ps) mid done numbers → WalksTree f 0 (table ps) old done number
+Walks-table f ps i keys values objects numbers behind old mid done number holds long begins filled walks =
+    let same = preorder-flat ps in
+    Walks-container f (table ps) tt (key_texts ps ++ preorder_values ps) refl i objects numbers behind old mid done number begins filled
+    (λ all k stands ready. rw same at (walks.adds all k (rw same stands) ready))
+    (λ all k stands ready.
+    let number = number_in all in
+    let first = map number (key_places (suc k) ps) in
+    let later = map number (value_places (suc k + length (key_texts ps)) ps) in
+    let is : numbers ≡ first ++ later = walks.numbered all (suc k) (rw same stands) ready ∙ ap (map number) (places-flat (suc k) ps) ∙ map-append number (key_places (suc k) ps) (value_places (suc k + length (key_texts ps)) ps) in
+    let keys_long : length first ≡ length keys = length-map (key_places (suc k) ps) number ∙ length-key_places (suc k) ps ∙ long in
+    let values_long : length later ≡ length keys = length-map (value_places (suc k + length (key_texts ps)) ps) number ∙ length-value_places (suc k + length (key_texts ps)) ps ∙ long in
+    ((keys, (values, (holds, (keys_long, values_long)))), sym is))

@@ -1,0 +1,14 @@
+pub mod Growing
+pub mod Walking
+pub mod Flat
+pub mod Containers
+pub mod Filling
+pub mod Ordering
+pub mod Within
+pub mod Walked
+pub mod Parting
+pub mod Gathering
+pub mod PlaceSteps
+pub mod ObjectSteps
+pub mod FileSteps
+pub mod Finding

@@ -1,0 +1,162 @@
+-- The rows of a table in the order of their texts.
+use Rattle.std.proofs.Common.{◌≡◌, ℕ, zero, suc, ◌+◌, ◌<◌, ◌≤◌, List, [], ◌∷◌, ◌++◌, length, get_or, map, take, false, refl, sym, ap, subst, ◌∙◌, arith, append_assoc, Ok, Err}
+use Rattle.std.specs.Prelude.{All, Result}
+use Rattle.std.specs.declared.cmp.Ordering.{Ordering}
+use Rattle.std.specs.declared.cmp.Ordering.TheVariants.{Less, Equal, Greater}
+use Rattle.std.specs.Ordering.{is_lt, is_eq, eq_by_cmp, nat_cmp, on, ordering_reverse}
+use Rattle.std.specs.Cmp.{IsTotalOrder}
+use Rattle.std.specs.Cmp.Lexicographic.{slice_cmp}
+use Rattle.std.specs.List.{AllByRecursion, IsDistinct, zip}
+use Rattle.std.specs.List.Sorted.{IsPermutation, IsSorted, IsStrictlySortedBy}
+use Rattle.std.proofs.lemmas.Cmp.{nat_list_cmp_total, on_total, eq_by_cmp_equiv}
+use Rattle.std.proofs.lemmas.List.{get_or-map, length-map, map-append, take_more, take_all}
+use Rattle.std.proofs.lemmas.List.Elements.{All-from_recursion}
+use Rattle.std.proofs.lemmas.List.Sorted.{All-permutation, IsPermutation-sym, IsPermutation-trans}
+use Rattle.std.proofs.lemmas.Map.Keys.{sorted_from_all_adjacent, IsDistinct-from_sorted, IsDistinct-IsPermutation, apart_from_distinct}
+use Rattle.std.proofs.lemmas.Slice.Zip.{get_or-zip, length-zip}
+use Rattle.plist_value.specs.Plist.{text, Pairs, no_pairs, pair, ArePairs, IsKeyBelow}
+use Rattle.plist_object.specs.declared.object.ObjectFault.{ObjectFault}
+use Rattle.plist_object.specs.Ascending.{same_order}
+use Rattle.plist_object.specs.Objects.{Held, holds_scalar, holds_list, holds_table}
+use Rattle.plist_object.specs.Places.{Holds, what_holds}
+use Rattle.plist_object.specs.Spelled.{SpellPairs}
+use Rattle.plist_value.specs.Plist.{Scalar}
+use Rattle.plist_engine.specs.declared.order.Row.{Row}
+use Rattle.plist_engine.specs.Order.{HoldsKey, by_text, pair_of, units_at}
+use Rattle.plist_engine.specs.Spelling.{HoldsText, IsTable, SpellTable, in_turn}
+
+-- the units of the text that was read, and none where it is none
+abbrev units_in_scalar : Scalar → List ℕ
+units_in_scalar (text units) = units
+units_in_scalar s = []
+
+abbrev units_in : Result Held ObjectFault → List ℕ
+units_in (Ok (holds_scalar s)) = units_in_scalar s
+units_in (Ok (holds_list refs)) = []
+units_in (Ok (holds_table keys values)) = []
+units_in (Err e) = []
+
+-- the units of the key that a row refers to
+key_of : List ℕ → (ℕ × ℕ) → List ℕ
+key_of f row = units_in (what_holds f row.0)
+
+key_of-held : (f : List ℕ) (row : ℕ × ℕ) (key : List ℕ) → Holds f row.0 (holds_scalar (text key)) → key_of f row ≡ key
+unfolding key_of
+key_of-held f row key holds = rw holds.reads refl
+
+by_key : List ℕ → (ℕ × ℕ) → (ℕ × ℕ) → Ordering
+by_key f = on (key_of f) (slice_cmp nat_cmp)
+
+by_key_total : (f : List ℕ) → IsTotalOrder (by_key f)
+unfolding by_key
+by_key_total f = on_total (key_of f) nat_list_cmp_total
+
+below_next : (key next : List ℕ) (ps : Pairs) → slice_cmp nat_cmp key next ≡ Less → IsKeyBelow next ps → IsKeyBelow key ps
+below_next key next no_pairs first below = tt
+below_next key next (pair third v ps) first below = nat_list_cmp_total.trans key next third first below
+
+rows_above : (f key : List ℕ) (rows : List (ℕ × ℕ)) (ps : Pairs) → SpellPairs f rows ps → ArePairs ps → IsKeyBelow key ps → AllByRecursion (λ row. slice_cmp nat_cmp key (key_of f row) ≡ Less) rows
+rows_above f key [] ps spells valid below = tt
+rows_above f key (row ∷ rows) no_pairs spells valid below =
+    absurd (let none : row ∷ rows ≡ [] = spells in cc)
+rows_above f key (row ∷ rows) (pair next v ps) spells valid below = (
+  subst (λ (us : List ℕ). slice_cmp nat_cmp key us ≡ Less) (sym (key_of-held f row next spells.0)) below,
+  rows_above f key rows ps spells.2 valid.3 (below_next key next ps below valid.2),
+)
+
+-- rows that spell the pairs of a table ascend
+rows_ascend : (f : List ℕ) (rows : List (ℕ × ℕ)) (ps : Pairs) → SpellPairs f rows ps → ArePairs ps → IsStrictlySortedBy (by_key f) rows
+unfolding IsStrictlySortedBy by_key
+rows_ascend f [] ps spells valid = tt
+rows_ascend f (row ∷ rows) no_pairs spells valid = absurd (let none : row ∷ rows ≡ [] = spells in cc)
+rows_ascend f (row ∷ rows) (pair key v ps) spells valid = (
+  subst (λ (us : List ℕ). AllByRecursion (λ (r : ℕ × ℕ). slice_cmp nat_cmp us (key_of f r) ≡ Less) rows) (sym (key_of-held f row key spells.0)) (rows_above f key rows ps spells.2 valid.3 valid.2),
+  rows_ascend f rows ps spells.2 valid.3,
+)
+
+turned : (o p : Ordering) → o ≡ ordering_reverse p → is_lt p ≡ false → is_eq o ≡ false → o ≡ Less
+turned o Less is order apart = absurd (cc)
+turned o Equal is order apart = absurd (cc)
+turned o Greater is order apart = is
+
+module _ (f : List ℕ) (sorted : List Row) (held : All (HoldsKey f) sorted) (order : IsSorted by_text sorted) where
+  key_at : (k : ℕ) (d : ℕ × ℕ) (e : Row) → k < length sorted → key_of f (get_or (map pair_of sorted) k d) ≡ units_at (get_or sorted k e)
+  key_at k d e h =
+      ap (key_of f) (get_or-map pair_of sorted k e d h) ∙ key_of-held f (pair_of (get_or sorted k e)) (units_at (get_or sorted k e)) (held k e h)
+
+  in_order : (e : Row) (d : ℕ × ℕ) (k : ℕ) → k + 1 < length sorted → is_lt (by_key f (get_or (map pair_of sorted) (k + 1) d) (get_or (map pair_of sorted) k d)) ≡ false
+  unfolding by_key
+  in_order e d k h =
+      let lower = key_at k d e (omega arith) in
+      let upper = key_at (k + 1) d e h in
+      ap (λ us. is_lt (slice_cmp nat_cmp us (key_of f (get_or (map pair_of sorted) k d)))) upper ∙ ap (λ us. is_lt (slice_cmp nat_cmp (units_at (get_or sorted (k + 1) e)) us)) lower ∙ order k e (omega arith) h
+
+  strictly : (e : Row) → IsDistinct (eq_by_cmp (by_key f)) (map pair_of sorted) → IsStrictlySortedBy (by_key f) (map pair_of sorted)
+  strictly e distinct =
+      let pairs = map pair_of sorted in
+      let d : ℕ × ℕ = (0, 0) in
+      let long = length-map sorted pair_of in
+      sorted_from_all_adjacent (by_key_total f) pairs d (λ k h.
+      let p = get_or pairs k d in
+      let q = get_or pairs (k + 1) d in
+      turned (by_key f p q) (by_key f q p) ((by_key_total f).antisymm p q) (in_order e d k (omega arith)) (apart_from_distinct (eq_by_cmp (by_key f)) pairs k (k + 1) d distinct (omega arith) h))
+
+strictly_sorted : (f : List ℕ) (sorted : List Row) → All (HoldsKey f) sorted → IsSorted by_text sorted → IsDistinct (eq_by_cmp (by_key f)) (map pair_of sorted) → IsStrictlySortedBy (by_key f) (map pair_of sorted)
+unfolding IsStrictlySortedBy
+strictly_sorted f [] held order distinct = tt
+strictly_sorted f (row ∷ sorted) held order distinct =
+    strictly f (row ∷ sorted) held order row distinct
+
+-- rows in the order of their texts are those that spell the pairs of the table
+pub rows_are : (f keys values : List ℕ) (sorted : List Row) (rows : List (ℕ × ℕ)) (ps : Pairs) → IsPermutation (zip keys values) (map pair_of sorted) → All (HoldsKey f) sorted → IsSorted by_text sorted → SpellTable f keys values rows ps → map pair_of sorted ≡ rows
+rows_are f keys values sorted rows ps moved held order table =
+    let pairs = map pair_of sorted in
+    let ascend = rows_ascend f rows ps table.spell table.valid in
+    let between = IsPermutation-trans rows (zip keys values) pairs (IsPermutation-sym (zip keys values) rows table.moved) moved in
+    let distinct = IsDistinct-IsPermutation (eq_by_cmp (by_key f)) (eq_by_cmp_equiv (by_key_total f)).symm rows pairs between (IsDistinct-from_sorted (by_key f) rows ascend) in
+    same_order (by_key_total f) (zip keys values) pairs rows moved table.moved (strictly_sorted f sorted held order distinct) ascend
+
+all_texts : (f : List ℕ) (rows : List (ℕ × ℕ)) (ps : Pairs) → SpellPairs f rows ps → AllByRecursion (λ row. HoldsText f row.0) rows
+all_texts f [] ps h = tt
+all_texts f (row ∷ rows) no_pairs h = absurd (let none : row ∷ rows ≡ [] = h in cc)
+all_texts f (row ∷ rows) (pair key v ps) h = (record { units = key; holds = h.0 }, all_texts f rows ps h.2)
+
+pub text_at : (f keys values : List ℕ) (k i : ℕ) → IsTable f keys values → k < length keys → i ≡ get_or keys k 0 → HoldsText f i
+text_at f keys values k i table h is =
+    let P : ℕ × ℕ → Type 0 = λ row. HoldsText f row.0 in
+    let all = All-from_recursion P table.rows (all_texts f table.rows table.pairs table.spell.spell) in
+    let there = All-permutation P table.rows (zip keys values) (IsPermutation-sym (zip keys values) table.rows table.spell.moved) all in
+    let as_many = table.as_many in
+    let long = length-zip keys values in
+    let within : k < length (zip keys values) = rw long (omega arith) in
+    let row = there k (0, 0) within in
+    let at = get_or-zip keys values k (0, 0) h (omega arith) in
+    subst (λ (n : ℕ). HoldsText f n) (ap (λ (p : ℕ × ℕ). p.0) at ∙ sym is) row
+
+pub pairs-next : (keys values : List ℕ) (rows pushed : List Row) (row : Row) (k : ℕ) → k < length keys → length keys ≡ length values → row.key ≡ get_or keys k 0 → row.value ≡ get_or values k 0 → pushed ≡ rows ++ (row ∷ []) → map pair_of rows ≡ take k (zip keys values) → map pair_of pushed ≡ take (k + 1) (zip keys values)
+pairs-next keys values rows pushed row k h as_many is_key is_value added so_far =
+    let long = length-zip keys values in
+    let within : k < length (zip keys values) = rw long (omega arith) in
+    let at : get_or (zip keys values) k (0, 0) ≡ (get_or keys k 0, get_or values k 0) = get_or-zip keys values k (0, 0) h (omega arith) in
+    let one : pair_of row ≡ get_or (zip keys values) k (0, 0) = ap (λ n. (n, row.value)) is_key ∙ ap (λ n. (get_or keys k 0, n)) is_value ∙ sym at in
+    ap (map pair_of) added ∙ map-append pair_of rows (row ∷ []) ∙ ap (λ xs. xs ++ (pair_of row ∷ [])) so_far ∙ ap (λ p. take k (zip keys values) ++ (p ∷ [])) one ∙ sym (take_more (zip keys values) k (0, 0) within)
+
+pub pairs-end : (keys values : List ℕ) (rows : List Row) (k : ℕ) → length keys ≤ k → length keys ≡ length values → map pair_of rows ≡ take k (zip keys values) → map pair_of rows ≡ zip keys values
+pairs-end keys values rows k past as_many so_far =
+    let long = length-zip keys values in
+    let within : length (zip keys values) ≤ k = rw long (omega arith) in
+    so_far ∙ take_all k (zip keys values) within
+
+firsts : (rows : List Row) → map (λ (p : ℕ × ℕ). p.0) (map pair_of rows) ≡ map (λ (row : Row). row.key) rows
+firsts [] = refl
+firsts (row ∷ rows) = ap (λ xs. row.key ∷ xs) (firsts rows)
+
+seconds : (rows : List Row) → map (λ (p : ℕ × ℕ). p.1) (map pair_of rows) ≡ map (λ (row : Row). row.value) rows
+seconds [] = refl
+seconds (row ∷ rows) = ap (λ xs. row.value ∷ xs) (seconds rows)
+
+pub in_turn-pairs : (rows : List Row) (old mid new : List ℕ) → mid ≡ old ++ map (λ row. row.key) rows → new ≡ mid ++ map (λ row. row.value) rows → new ≡ old ++ in_turn (map pair_of rows)
+in_turn-pairs rows old mid new first second =
+    let keys = map (λ (row : Row). row.key) rows in
+    let values = map (λ (row : Row). row.value) rows in
+    second ∙ ap (λ xs. xs ++ values) first ∙ append_assoc old keys values ∙ ap (λ xs. old ++ (xs ++ values)) (sym (firsts rows)) ∙ ap (λ xs. old ++ (map (λ (p : ℕ × ℕ). p.0) (map pair_of rows) ++ xs)) (sym (seconds rows))

@@ -1,0 +1,85 @@
+-- What was walked when the parts were.
+use Rattle.std.proofs.Common.{◌≡◌, ℕ, ◌+◌, ◌<◌, ◌≤◌, List, [], ◌∷◌, ◌++◌, length, get_or, drop, take, refl, sym, ap, subst, ◌∙◌}
+use Rattle.std.proofs.lemmas.List.{drop_more, drop_all, drop_at, take_at, append-nil}
+use Rattle.plist_value.specs.Plist.{Scalar, Plist, scalar, list, table, Items, no_items, item, Pairs, IsScalar}
+use Rattle.plist_object.specs.Objects.{holds_scalar, holds_list, holds_table}
+use Rattle.plist_object.specs.Places.{Holds}
+use Rattle.plist_object.specs.Spelled.{SpellItems}
+use Rattle.plist_object.specs.Uniqueness.{same_items}
+use Rattle.plist_write.specs.Tree.{preorder}
+use Rattle.plist_engine.specs.declared.plan.Plan.{Plan}
+use Rattle.plist_engine.specs.Spelling.{SpellTable, in_turn}
+use Rattle.plist_engine.specs.Plan.{WalksItems, Begins, NumbersScalar, IsWalked, ItemsWalked, AreWalked}
+use Rattle.plist_engine.proofs.Walking.{Walks-none, Walks-item, Walks-lift}
+use Rattle.plist_engine.proofs.Containers.{Filled, Walks-list, Walks-table}
+use Rattle.plist_engine.proofs.Flat.{flat, spell-flat, valid-flat, length-keys}
+
+pub walked-scalar : (f : List ℕ) (i : ℕ) (s : Scalar) (old new : Plan) (number : ℕ) → Holds f i (holds_scalar s) → IsScalar s → NumbersScalar i s old new number → IsWalked f i old new number
+walked-scalar f i s old new number holds valid numbers = record {
+  value = scalar s;
+  valid = valid;
+  spells = holds;
+  walks = numbers.walks f holds;
+  references = [];
+  references_added = numbers.references_kept ∙ sym (append-nil _);
+}
+
+module _ (f : List ℕ) (i : ℕ) (objects : List ℕ) (old mid done : Plan) (number first : ℕ) (at_end : first ≡ length old.references.items) (begins : Begins i objects old mid number) (walked : AreWalked f first mid done) where
+  pub objects-begun : drop first mid.references.items ≡ objects
+  objects-begun =
+      ap (drop first) begins.references_added ∙ drop_at old.references.items objects first (sym at_end)
+
+  pub filled : Filled objects walked.numbers walked.behind old done
+  filled = record {
+    as_many = walked.as_many ∙ ap length objects-begun;
+    filled = walked.filled ∙ ap (λ front. front ++ (walked.numbers ++ walked.behind)) (ap (take first) begins.references_added ∙ take_at old.references.items objects first (sym at_end));
+  }
+
+  pub walked-list : Holds f i (holds_list objects) → IsWalked f i old done number
+  walked-list holds =
+      let children = walked.walked in
+      record {
+        value = list children.items;
+        valid = children.valid;
+        spells = (objects, (holds, subst (λ (refs : List ℕ). SpellItems f refs children.items) objects-begun children.spell));
+        walks = Walks-list f children.items i objects walked.numbers walked.behind old mid done number holds begins filled children.walks;
+        references = walked.numbers ++ walked.behind;
+        references_added = filled.filled;
+      }
+
+pub walked-table : (f : List ℕ) (i : ℕ) (keys values : List ℕ) (rows : List (ℕ × ℕ)) (ps : Pairs) (old mid done : Plan) (number first : ℕ) → length keys ≡ length values → SpellTable f keys values rows ps → first ≡ length old.references.items → Begins i (in_turn rows) old mid number → AreWalked f first mid done → Holds f i (holds_table keys values) → IsWalked f i old done number
+walked-table f i keys values rows ps old mid done number first as_many spell at_end begins walked holds =
+    let objects = in_turn rows in
+    let children = walked.walked in
+    let begun = objects-begun f i objects old mid done number first at_end begins walked in
+    let fill = filled f i objects old mid done number first at_end begins walked in
+    let same : children.items ≡ flat ps = same_items f objects children.items (flat ps) children.valid (valid-flat ps spell.valid) (subst (λ (refs : List ℕ). SpellItems f refs children.items) begun children.spell) (spell-flat f rows ps spell.spell) in
+    record {
+      value = table ps;
+      valid = spell.valid;
+      spells = (keys, (values, (rows, (holds, (spell.moved, spell.spell)))));
+      walks = Walks-table f ps i keys values objects walked.numbers walked.behind old mid done number holds (length-keys f keys values rows ps as_many spell.moved spell.spell) begins fill (subst (λ (vs : Items). WalksItems f (length mid.references.items) vs mid done walked.numbers) same children.walks);
+      references = walked.numbers ++ walked.behind;
+      references_added = fill.filled;
+    }
+
+-- one value more is walked
+pub walked-next : (f start : List ℕ) (i x : ℕ) (plan mid next new : Plan) (n : ℕ) (numbers : List ℕ) → i < length start → x ≡ get_or start i 0 → length start ≤ length plan.references.items → IsWalked f x plan mid n → next.scalars ≡ mid.scalars → next.numbers ≡ mid.numbers → next.originals ≡ mid.originals → drop (length start) next.references.items ≡ drop (length start) mid.references.items → ItemsWalked f (length start) (drop (i + 1) start) next new numbers → ItemsWalked f (length start) (drop i start) plan new (n ∷ numbers)
+walked-next f start i x plan mid next new n numbers h is within one same_scalars same_numbers same_originals same_references rest =
+    let v = one.value in
+    let split : drop i start ≡ x ∷ drop (i + 1) start = drop_more start i 0 h ∙ ap (λ y. y ∷ drop (i + 1) start) (sym is) in
+    record {
+      items = item v rest.items;
+      valid = (one.valid, rest.valid);
+      spell = subst (λ (refs : List ℕ). SpellItems f refs (item v rest.items)) (sym split) (one.spells, rest.spell);
+      walks = Walks-item f (length start) v rest.items plan next new n numbers (Walks-lift f (length start) (preorder v) (λ k. k ∷ []) plan mid next (n ∷ []) one.walks within same_scalars same_numbers same_originals same_references) rest.walks;
+    }
+
+-- none is left
+pub walked-none : (f start : List ℕ) (i : ℕ) (plan : Plan) → length start ≤ i → ItemsWalked f (length start) (drop i start) plan plan []
+walked-none f start i plan past = record {
+  items = no_items;
+  valid = tt;
+  spell = drop_all i start past;
+  walks = Walks-none f (length start) plan;
+}

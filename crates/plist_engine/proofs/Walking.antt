@@ -1,0 +1,153 @@
+-- The walk does a tree when it does its parts.
+use Rattle.std.proofs.Common.{◌≡◌, ℕ, suc, ◌+◌, ◌<◌, ◌≤◌, List, [], ◌∷◌, ◌++◌, length, drop, map, Some, None, refl, sym, ap, subst, ◌∙◌, inl, inr, arith, cond, add-one, add-zero, length-append}
+use Rattle.std.proofs.lemmas.Bool.{true≢false, le-ltb, eq-eqb, ne_eqb, cases_Bool}
+use Rattle.std.proofs.lemmas.List.{map-append, append-nil}
+use Rattle.std.specs.Ordering.{on}
+use Rattle.indexmap.specs.IndexSet.{insert_key}
+use Rattle.plist_value.specs.Plist.{Scalar, Plist, scalar, Items, item}
+use Rattle.plist_value.specs.Equality.{scalar_eq}
+use Rattle.plist_value.specs.EqualityLaws.{scalar_eq-Decides}
+use Rattle.plist_value.specs.Scalars.{content_of}
+use Rattle.plist_value.specs.declared.scalar_ref.ScalarRef.{ScalarRef}
+use Rattle.plist_object.specs.Objects.{holds_scalar}
+use Rattle.plist_object.specs.Places.{Holds}
+use Rattle.plist_write.specs.Tree.{preorder, preorder_items, item_places}
+use Rattle.plist_write.specs.Sharing.{least_place, kept_places, count_below}
+use Rattle.plist_write.specs.Plan.{Stands, number_in, found_in, number_known}
+use Rattle.plist_engine.specs.declared.plan.Plan.{Plan}
+use Rattle.plist_engine.specs.Plan.{number_held, IsReady, Grows, Adds, Walks, WalksTree, WalksScalar, WalksItems, IsEmptyPlan, StandFor}
+use Rattle.plist_write.proofs.Numbering.{count_below-none}
+use Rattle.plist_write.proofs.Held.{insert_key-known, length-pushed, number-pushed}
+use Rattle.plist_write.proofs.Trees.{length-preorder, Stands-front, Stands-rest, Stands-all}
+use Rattle.plist_write.proofs.Counting.{count-kept, count-shared, known-still, known-now}
+use Rattle.plist_write.proofs.Walking.{found_in-append, here, number_is, same_scalar, known-before, unknown-first}
+use Rattle.plist_engine.proofs.Growing.{Grows-none, Grows-append, Grows-lift, Grows-scalar}
+
+-- nothing to do
+pub Walks-none : (f : List ℕ) (front : ℕ) (plan : Plan) → Walks f front [] (λ k. []) plan plan []
+Walks-none f front plan = record {
+  numbered = λ all k stands ready. refl;
+  adds = λ all k stands ready. record { ready = rw add-zero ready; grows = Grows-none f front plan };
+}
+
+-- one part, and then another
+pub Adds-append : (f : List ℕ) (front : ℕ) (all : List Plist) (k : ℕ) (old mid new : Plan) (xs ys : List Plist) → Adds f front all k xs old mid → Adds f front all (k + length xs) ys mid new → Adds f front all k (xs ++ ys) old new
+Adds-append f front all k old mid new xs ys x y =
+    let far : k + length xs + length ys ≡ k + length (xs ++ ys) = rw length-append (omega arith) in
+    record {
+      ready = subst (λ (n : ℕ). IsReady all n new) far y.ready;
+      grows = rw found_in-append (Grows-append f front old mid new (found_in all k xs) (found_in all (k + length xs) ys) x.grows y.grows);
+    }
+
+pub Walks-append : (f : List ℕ) (front : ℕ) (xs ys : List Plist) (p q r : ℕ → List ℕ) (old mid new : Plan) (ms ns : List ℕ) → ((k : ℕ) → r k ≡ p k ++ q (k + length xs)) → Walks f front xs p old mid ms → Walks f front ys q mid new ns → Walks f front (xs ++ ys) r old new (ms ++ ns)
+Walks-append f front xs ys p q r old mid new ms ns joined x y = record {
+  numbered = λ all k stands ready.
+      let first = Stands-front xs ys stands in
+      let later = Stands-rest xs ys (length xs) refl stands in
+      let done = x.adds all k first ready in
+      rw (joined k, map-append) (let a = x.numbered all k first ready in let b = y.numbered all (k + length xs) later done.ready in cc);
+  adds = λ all k stands ready.
+      let done = x.adds all k (Stands-front xs ys stands) ready in
+      Adds-append f front all k old mid new xs ys done (y.adds all (k + length xs) (Stands-rest xs ys (length xs) refl stands) done.ready);
+}
+
+-- a plan with other references in front
+pub Walks-lift : (f : List ℕ) (front : ℕ) (part : List Plist) (places : ℕ → List ℕ) (old mid new : Plan) (ns : List ℕ) → Walks f 0 part places old mid ns → front ≤ length old.references.items → new.scalars ≡ mid.scalars → new.numbers ≡ mid.numbers → new.originals ≡ mid.originals → drop front new.references.items ≡ drop front mid.references.items → Walks f front part places old new ns
+Walks-lift f front part places old mid new ns x within same_scalars same_numbers same_originals same_references = record {
+  numbered = x.numbered;
+  adds = λ all k stands ready.
+      let done = x.adds all k stands ready in
+      record {
+        ready = record {
+          numbered = rw (same_numbers, same_scalars) done.ready.numbered;
+          known = λ q. rw (same_numbers, same_scalars) (done.ready.known q);
+          counted = rw same_originals done.ready.counted;
+        };
+        grows = Grows-lift f front old mid new (found_in all k part) done.grows within same_originals same_references;
+      };
+}
+
+-- a scalar that is known
+pub Walks-known : (f : List ℕ) (r : ScalarRef) (old new : Plan) (n : ℕ) → number_held old r ≡ Some n → new.scalars.keys ≡ insert_key (on content_of scalar_eq) old.scalars.keys r → new.numbers ≡ old.numbers → new.originals ≡ old.originals → new.references ≡ old.references → WalksScalar f 0 (content_of r) old new n
+Walks-known f r old new n held inserted same_numbers same_originals same_references = record {
+  numbered = λ all k stands ready.
+      let known = known-before (content_of r) all k stands n (sym (ready.known r) ∙ held) in
+      let is = number_is (content_of r) all k stands in
+      let e : n ≡ number_in all k = known.1 ∙ sym is in
+      ap (λ m. m ∷ []) e;
+  adds = λ all k stands ready.
+      let s = content_of r in
+      let known = known-before s all k stands n (sym (ready.known r) ∙ held) in
+      let at = here s all k stands in
+      let below = known.0 in
+      let same_keys : new.scalars.keys ≡ old.scalars.keys = inserted ∙ insert_key-known old.scalars.keys old.numbers.items r n ready.numbered held in
+      let apart : (q : ScalarRef) → least_place (content_of q) all ≡ k → ⊥ =
+      λ q e. let same = same_scalar s all k stands (content_of q) e in let e2 : least_place s all ≡ k = rw same at e in omega arith in
+      let later : least_place s all ≡ k → ⊥ = λ (e : least_place s all ≡ k). omega arith in
+      let nothing : Grows f 0 old new [] = record {
+        originals = [];
+        references = [];
+        originals_added = rw same_originals (sym (append-nil _));
+        references_added = rw same_references (sym (append-nil _));
+        stand_for = refl;
+      } in
+      record {
+        ready = rw add-one (record {
+          numbered = rw (same_numbers, same_keys) ready.numbered;
+          known = λ q. rw (same_numbers, same_keys) (ready.known q ∙ sym (known-still all k (content_of q) (apart q)));
+          counted = rw same_originals (ready.counted ∙ sym (count-shared all k (scalar s) at.0 at.1 below));
+        });
+        grows = rw (ne_eqb (least_place s all) k later) nothing;
+      };
+}
+
+-- one that is new, which is put last
+pub Walks-new : (f : List ℕ) (r : ScalarRef) (i : ℕ) (old new : Plan) (n : ℕ) → Holds f i (holds_scalar (content_of r)) → number_held old r ≡ None → n ≡ length old.originals.items → new.originals.items ≡ old.originals.items ++ (i ∷ []) → new.references ≡ old.references → new.scalars.keys ≡ insert_key (on content_of scalar_eq) old.scalars.keys r → new.numbers.items ≡ old.numbers.items ++ (n ∷ []) → WalksScalar f 0 (content_of r) old new n
+Walks-new f r i old new n holds unknown last added same_references inserted pushed =
+    let s = content_of r in
+    let long : length new.originals.items ≡ suc (length old.originals.items) = ap length added ∙ length-append old.originals.items (i ∷ []) ∙ add-one _ in
+    record {
+      numbered = λ all k stands ready.
+          let first = unknown-first s all k stands (sym (ready.known r) ∙ unknown) in
+          let is = number_is s all k stands in
+          let e : n ≡ number_in all k = last ∙ ready.counted ∙ ap (λ m. count_below m (kept_places all)) (sym first) ∙ sym is in
+          ap (λ m. m ∷ []) e;
+      adds = λ all k stands ready.
+          let first = unknown-first s all k stands (sym (ready.known r) ∙ unknown) in
+          let at = here s all k stands in
+          let number : n ≡ count_below k (kept_places all) = last ∙ ready.counted in
+          let knows : (q : ScalarRef) → number_held new q ≡ cond (scalar_eq s (content_of q)) (Some n) (number_held old q) =
+          λ q. rw (inserted, pushed) (number-pushed old.scalars.keys old.numbers.items r n q ready.numbered unknown) in
+          let now : (q : ScalarRef) → number_held new q ≡ number_known all (suc k) (content_of q) =
+          λ q. elim (cases_Bool (scalar_eq s (content_of q))) [
+            | inl same ↦ (let e : s ≡ content_of q = (scalar_eq-Decides s (content_of q)).0 same in let firstq : least_place (content_of q) all ≡ k = ap (λ x. least_place x all) (sym e) ∙ first in knows q ∙ rw same (ap Some number) ∙ sym (known-now all k (content_of q) firstq))
+            | inr other ↦ knows q ∙ rw other (ready.known q) ∙ sym (known-still all k (content_of q) (λ e. let same = same_scalar s all k stands (content_of q) e in let yes = (scalar_eq-Decides s (content_of q)).1 (sym same) in true≢false (sym yes ∙ other)))
+          ] in
+          record {
+            ready = rw add-one (record {
+              numbered = rw (inserted, pushed) (length-pushed old.scalars.keys old.numbers.items r n ready.numbered unknown);
+              known = now;
+              counted = long ∙ ap suc ready.counted ∙ sym (count-kept all k (scalar s) at.0 at.1 first);
+            });
+            grows = rw (eq-eqb (least_place s all) k first) (Grows-scalar f 0 i old new s holds added (rw same_references refl));
+          };
+    }
+
+pub Walks-item : (f : List ℕ) (front : ℕ) (v : Plist) (vs : Items) (old mid new : Plan) (n : ℕ) (ns : List ℕ) → WalksTree f front v old mid n → WalksItems f front vs mid new ns → WalksItems f front (item v vs) old new (n ∷ ns)
+Walks-item f front v vs old mid new n ns x y =
+    Walks-append f front (preorder v) (preorder_items vs) (λ k. k ∷ []) (λ k. item_places k vs) (λ k. item_places k (item v vs)) old mid new (n ∷ []) ns (λ k. ap (λ m. k ∷ item_places (k + m) vs) (sym (length-preorder v))) x y
+
+-- a walk that begins with nothing finds the objects of the whole tree
+pub Walks-whole : (f : List ℕ) (v : Plist) (empty done : Plan) (n : ℕ) → IsEmptyPlan empty → WalksTree f 0 v empty done n → StandFor f done.originals.items done.references.items (found_in (preorder v) 0 (preorder v))
+Walks-whole f v empty done n nothing walks =
+    let all = preorder v in
+    let start : IsReady all 0 empty = record {
+      numbered = nothing.numbered;
+      known = λ q. nothing.unknown q ∙ rw (le-ltb (least_place (content_of q) all) 0 (omega arith)) refl;
+      counted = ap length nothing.none ∙ sym (count_below-none all all 0 0 (omega arith));
+    } in
+    let adds = walks.adds all 0 (Stands-all all) start in
+    let grows = adds.grows in
+    let originals : done.originals.items ≡ grows.originals = grows.originals_added ∙ ap (λ os. os ++ grows.originals) nothing.none in
+    let references : done.references.items ≡ grows.references = grows.references_added ∙ ap (λ rs. rs ++ grows.references) nothing.no_references in
+    rw (originals, references) grows.stand_for

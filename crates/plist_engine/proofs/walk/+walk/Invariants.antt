@@ -1,0 +1,22 @@
+use Rattle.std.proofs.Common.{ℕ, ◌+◌, ◌*◌, List, ◌++◌, length, drop}
+use Rattle.plist_object.specs.Views.{octets_of}
+use Rattle.plist_engine.specs.declared.plan.Plan.{Plan}
+use Rattle.plist_engine.specs.Plan.{ItemsWalked}
+use Rattle.plist_engine.proofs.Filling.{IsFilling}
+use Rattle.plist_engine.proofs.walk.+walk.Given as goal
+
+abbrev pub decreases-walk : goal.decreases-walk
+decreases-walk l = 2 * l.levels
+
+abbrev pub decreases-walk_children : goal.decreases-walk_children
+decreases-walk_children l = 2 * l.levels + 1
+
+-- once those that are left are walked, all are
+abbrev pub invariant-walk_children-loop-i : goal.invariant-walk_children-loop-i
+invariant-walk_children-loop-i l =
+    let start = l.fn.plan.references.items in
+    record {
+      done : List ℕ;
+      filling : IsFilling l.first l.i start l.plan.references.items done;
+      more : (new : Plan) (numbers : List ℕ) → ItemsWalked (octets_of l.file) (length start) (drop l.i start) l.plan new numbers → ItemsWalked (octets_of l.file) (length start) (drop l.first start) l.fn.plan new (done ++ numbers);
+    }

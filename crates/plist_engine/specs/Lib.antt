@@ -1,0 +1,5 @@
+pub mod Spelling
+pub mod Plan
+pub mod Order
+pub mod Parts
+pub mod Pending

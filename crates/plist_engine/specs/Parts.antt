@@ -1,0 +1,52 @@
+-- What the objects of the canonical file hold, told by objects of another file and a list of references.
+use Rattle.std.specs.Prelude.{◌≡◌, ℕ, ◌+◌, ◌≤◌, List, [], ◌∷◌, length, map, take, drop, Result, Ok, Err, ⊤}
+use Rattle.plist_value.specs.Scalars.{content_of}
+use Rattle.plist_object.specs.declared.object.ObjectFault.{ObjectFault}
+use Rattle.plist_object.specs.Objects.{Held, holds_scalar, holds_list, holds_table}
+use Rattle.plist_object.specs.Places.{what_holds}
+use Rattle.plist_object.specs.Shortest.{spelling_of}
+use Rattle.plist_engine.specs.declared.parts.Part.{Part}
+use Rattle.plist_engine.specs.declared.parts.Part.TheVariants as part
+use Rattle.plist_engine.specs.Spelling.{IsRead}
+
+-- what was read, an empty list where it does not read
+abbrev pub held_or_none : Result Held ObjectFault → Held
+held_or_none (Ok held) = held
+held_or_none (Err e) = holds_list []
+
+abbrev pub held_at : List ℕ → ℕ → Held
+held_at f i = held_or_none (what_holds f i)
+
+-- how many references are held
+abbrev pub reference_count : Held → ℕ
+reference_count (holds_scalar s) = 0
+reference_count (holds_list items) = length items
+reference_count (holds_table keys values) = length keys + length keys
+
+-- the same with the first of these references
+abbrev pub renumbered : Held → List ℕ → Held
+renumbered (holds_scalar s) refs = holds_scalar s
+renumbered (holds_list items) refs = holds_list (take (length items) refs)
+renumbered (holds_table keys values) refs =
+    holds_table (take (length keys) refs) (take (length keys) (drop (length keys) refs))
+
+-- what these objects hold with these references in turn
+abbrev pub helds_of : List ℕ → List ℕ → List ℕ → List Held
+helds_of f [] refs = []
+helds_of f (i ∷ originals) refs =
+    renumbered (held_at f i) refs ∷ helds_of f originals (drop (reference_count (held_at f i)) refs)
+
+-- each object reads, and there are as many references as they want
+abbrev pub AreSound : List ℕ → List ℕ → List ℕ → Type 0
+AreSound f [] refs = ⊤
+AreSound f (i ∷ originals) refs =
+    IsRead f i × ((reference_count (held_at f i) ≤ length refs) × AreSound f originals (drop (reference_count (held_at f i)) refs))
+
+-- the octets of each object
+abbrev pub octets_for : ℕ → List ℕ → List ℕ → List ℕ → List (List ℕ)
+octets_for width f originals refs = map (spelling_of width) (helds_of f originals refs)
+
+abbrev pub held_in : Part → Held
+held_in (part.Scalar s) = holds_scalar (content_of s)
+held_in (part.List items) = holds_list items.now
+held_in (part.Table keys values) = holds_table keys.now values.now

@@ -1,0 +1,129 @@
+-- The walk that plans a canonical file over the objects of another file.
+use Rattle.std.specs.Prelude.{◌≡◌, ℕ, ◌+◌, List, [], ◌∷◌, ◌++◌, length, map, drop, take, slice_get, Option, None}
+use Rattle.std.specs.Ordering.{on}
+use Rattle.indexmap.specs.IndexSet.{insert_index}
+use Rattle.plist_value.specs.Plist.{Scalar, Plist, scalar, Items, IsPlist, AreItems}
+use Rattle.plist_value.specs.Equality.{scalar_eq}
+use Rattle.plist_value.specs.Scalars.{content_of}
+use Rattle.plist_value.specs.declared.scalar_ref.ScalarRef.{ScalarRef}
+use Rattle.plist_object.specs.Objects.{Held, holds_scalar, holds_list, holds_table}
+use Rattle.plist_object.specs.Places.{Holds}
+use Rattle.plist_object.specs.Spelled.{Spells, SpellItems}
+use Rattle.plist_write.specs.Tree.{preorder, preorder_items, item_places}
+use Rattle.plist_write.specs.Sharing.{kept_places, count_below}
+use Rattle.plist_write.specs.Plan.{Stands, number_in, found_in, number_known}
+use Rattle.plist_engine.specs.declared.plan.Objects.{Objects}
+use Rattle.plist_engine.specs.declared.plan.Plan.{Plan}
+
+-- the references that are held, those of a table to keys before those to values
+abbrev pub references_of : Held → List ℕ
+references_of (holds_scalar s) = []
+references_of (holds_list refs) = refs
+references_of (holds_table keys values) = keys ++ values
+
+-- The object i of the file holds the same scalar, a list of as many items, or a table of as many pairs.
+abbrev pub IsLike : List ℕ → ℕ → Held → Type 0
+IsLike f i (holds_scalar s) = Holds f i (holds_scalar s)
+IsLike f i (holds_list refs) = (items : List ℕ) × (Holds f i (holds_list items) × (length refs ≡ length items))
+IsLike f i (holds_table keys values) =
+    (held_keys : List ℕ) × ((held_values : List ℕ) × (Holds f i (holds_table held_keys held_values) × ((length keys ≡ length held_keys) × (length values ≡ length held_keys))))
+
+-- These objects of the file, with these as their references in turn, are what the objects of another file hold.
+abbrev pub StandFor : List ℕ → List ℕ → List ℕ → List Held → Type 0
+StandFor f [] refs [] = refs ≡ []
+StandFor f [] refs (h ∷ hs) = ⊥
+StandFor f (i ∷ originals) refs [] = ⊥
+StandFor f (i ∷ originals) refs (h ∷ hs) =
+    IsLike f i h × ((behind : List ℕ) × ((refs ≡ references_of h ++ behind) × StandFor f originals behind hs))
+
+-- the number under which a scalar is found, if it is: the one at its index in the set
+abbrev pub number_held : Plan → ScalarRef → Option ℕ
+number_held plan s = slice_get plan.numbers.items (insert_index (on content_of scalar_eq) plan.scalars s)
+
+-- there is a number for each scalar of the set
+abbrev pub IsNumbered : Plan → Type 0
+IsNumbered plan = length plan.numbers.items ≡ length plan.scalars.keys
+
+-- nothing was found
+pub record IsEmptyPlan (plan : Plan) : Type 0 where
+  pub numbered : IsNumbered plan
+  pub unknown : (s : ScalarRef) → number_held plan s ≡ None
+  pub none : plan.originals.items ≡ []
+  pub no_references : plan.references.items ≡ []
+
+-- the places below k are done: each scalar there is known by its number, and so many objects were found
+pub record IsReady (all : List Plist) (k : ℕ) (plan : Plan) : Type 0 where
+  pub numbered : IsNumbered plan
+  pub known : (s : ScalarRef) → number_held plan s ≡ number_known all k (content_of s)
+  pub counted : length plan.originals.items ≡ count_below k (kept_places all)
+
+-- What these objects hold was added. Of the references only those behind the front are looked at.
+pub record Grows (f : List ℕ) (front : ℕ) (old new : Plan) (helds : List Held) : Type 0 where
+  pub originals : List ℕ
+  pub references : List ℕ
+  pub originals_added : new.originals.items ≡ old.originals.items ++ originals
+  pub references_added : drop front new.references.items ≡ drop front old.references.items ++ references
+  pub stand_for : StandFor f originals references helds
+
+-- the list `part`, which stands at the place k, was done
+pub record Adds (f : List ℕ) (front : ℕ) (all : List Plist) (k : ℕ) (part : List Plist) (old new : Plan) : Type 0 where
+  pub ready : IsReady all (k + length part) new
+  pub grows : Grows f front old new (found_in all k part)
+
+-- The list `part` was done, wherever it stands, and these are the numbers of the places, which are counted from its own.
+pub record Walks (f : List ℕ) (front : ℕ) (part : List Plist) (places : ℕ → List ℕ) (old new : Plan) (numbers : List ℕ) : Type 0 where
+  pub numbered : (all : List Plist) (k : ℕ) → Stands all k part → IsReady all k old → numbers ≡ map (number_in all) (places k)
+  pub adds : (all : List Plist) (k : ℕ) → Stands all k part → IsReady all k old → Adds f front all k part old new
+
+abbrev pub WalksOne : List ℕ → ℕ → List Plist → Plan → Plan → ℕ → Type 0
+WalksOne f front part old new number = Walks f front part (λ k. k ∷ []) old new (number ∷ [])
+
+abbrev pub WalksTree : List ℕ → ℕ → Plist → Plan → Plan → ℕ → Type 0
+WalksTree f front v = WalksOne f front (preorder v)
+
+abbrev pub WalksScalar : List ℕ → ℕ → Scalar → Plan → Plan → ℕ → Type 0
+WalksScalar f front s = WalksOne f front (scalar s ∷ [])
+
+abbrev pub WalksItems : List ℕ → ℕ → Items → Plan → Plan → List ℕ → Type 0
+WalksItems f front vs = Walks f front (preorder_items vs) (λ k. item_places k vs)
+
+-- One more object, of the number, and its references. What they become comes later.
+pub record Begins (i : ℕ) (refs : List ℕ) (old new : Plan) (number : ℕ) : Type 0 where
+  pub number_is : number ≡ length old.originals.items
+  pub scalars_kept : new.scalars ≡ old.scalars
+  pub numbers_kept : new.numbers ≡ old.numbers
+  pub original_added : new.originals.items ≡ old.originals.items ++ (i ∷ [])
+  pub references_added : new.references.items ≡ old.references.items ++ refs
+
+-- A scalar was numbered that an object of a file holds.
+pub record NumbersScalar (i : ℕ) (s : Scalar) (old new : Plan) (number : ℕ) : Type 0 where
+  pub walks : (f : List ℕ) → Holds f i (holds_scalar s) → WalksScalar f 0 s old new number
+  pub references_kept : new.references.items ≡ old.references.items
+
+-- the value that the object spells was walked, and references were only added
+pub record IsWalked (f : List ℕ) (i : ℕ) (old new : Plan) (number : ℕ) : Type 0 where
+  pub value : Plist
+  pub valid : IsPlist value
+  pub spells : Spells f i value
+  pub walks : WalksTree f 0 value old new number
+  pub references : List ℕ
+  pub references_added : new.references.items ≡ old.references.items ++ references
+
+-- the items that the objects spell were walked, in turn, and these are their numbers
+pub record ItemsWalked (f : List ℕ) (front : ℕ) (refs : List ℕ) (old new : Plan) (numbers : List ℕ) : Type 0 where
+  pub items : Items
+  pub valid : AreItems items
+  pub spell : SpellItems f refs items
+  pub walks : WalksItems f front items old new numbers
+
+-- The objects from the first place on were walked: they gave way to their numbers, and references were added behind.
+pub record AreWalked (f : List ℕ) (first : ℕ) (old new : Plan) : Type 0 where
+  pub numbers : List ℕ
+  pub behind : List ℕ
+  pub walked : ItemsWalked f (length old.references.items) (drop first old.references.items) old new numbers
+  pub as_many : length numbers ≡ length (drop first old.references.items)
+  pub filled : new.references.items ≡ take first old.references.items ++ (numbers ++ behind)
+
+-- These are the objects of the canonical file of the value, in the order of their numbers.
+pub record AreObjectsOf (f : List ℕ) (v : Plist) (objects : Objects) : Type 0 where
+  pub stand_for : StandFor f objects.originals.items objects.references.items (found_in (preorder v) 0 (preorder v))

@@ -1,0 +1,50 @@
+-- What objects of a file spell that is walked with so many levels left.
+use Rattle.std.specs.Prelude.{◌≡◌, ℕ, ◌≤◌, List, length, map, ◌++◌}
+use Rattle.std.specs.List.{zip}
+use Rattle.std.specs.List.Sorted.{IsPermutation}
+use Rattle.plist_value.specs.Plist.{Plist, Items, Pairs, text, IsPlist, AreItems, ArePairs}
+use Rattle.plist_value.specs.Limits.{depth, depth_of_items, depth_of_pairs}
+use Rattle.plist_object.specs.Objects.{Held, holds_scalar}
+use Rattle.plist_object.specs.Places.{Holds}
+use Rattle.plist_object.specs.Spelled.{Spells, SpellItems, SpellPairs}
+
+-- the object reads
+pub record IsRead (f : List ℕ) (i : ℕ) : Type 0 where
+  pub held : Held
+  pub holds : Holds f i held
+
+-- the object holds a text
+pub record HoldsText (f : List ℕ) (i : ℕ) : Type 0 where
+  pub units : List ℕ
+  pub holds : Holds f i (holds_scalar (text units))
+
+-- the object spells a value of at most so many levels
+pub record SpellsWithin (f : List ℕ) (i levels : ℕ) : Type 0 where
+  pub value : Plist
+  pub valid : IsPlist value
+  pub spells : Spells f i value
+  pub deep : depth value ≤ levels
+
+-- the objects spell items, in turn, of at most so many levels
+pub record SpellWithin (f refs : List ℕ) (levels : ℕ) : Type 0 where
+  pub items : Items
+  pub valid : AreItems items
+  pub spell : SpellItems f refs items
+  pub deep : depth_of_items items ≤ levels
+
+-- the references to keys and to their values spell the pairs of a table, in the order of the rows
+pub record SpellTable (f keys values : List ℕ) (rows : List (ℕ × ℕ)) (ps : Pairs) : Type 0 where
+  pub moved : IsPermutation (zip keys values) rows
+  pub spell : SpellPairs f rows ps
+  pub valid : ArePairs ps
+
+-- the references spell the pairs of a table
+pub record IsTable (f keys values : List ℕ) : Type 0 where
+  pub rows : List (ℕ × ℕ)
+  pub pairs : Pairs
+  pub as_many : length keys ≡ length values
+  pub spell : SpellTable f keys values rows pairs
+
+-- the references to keys, and then those to their values, in the order of the rows
+abbrev pub in_turn : List (ℕ × ℕ) → List ℕ
+in_turn rows = map (λ row. row.0) rows ++ map (λ row. row.1) rows

@@ -1,0 +1,14 @@
+//! The canonical file of the value that a binary file spells, made from that file without the value.
+#![tactic(auto)]
+
+mod making;
+mod objects;
+mod order;
+mod parts;
+mod plan;
+mod putting;
+pub mod sending;
+mod walk;
+
+pub use making::canonical_of;
+pub use sending::write_canonical_of;

@@ -1,0 +1,30 @@
+//! What objects of a file hold.
+ghost use Rattle.plist_value.specs.Plist.{text};
+ghost use Rattle.plist_value.specs.Texts.{units_of};
+ghost use Rattle.plist_object.specs.Objects.{IsHeld, holds_scalar};
+ghost use Rattle.plist_object.specs.Places.{Holds};
+ghost use Rattle.plist_object.specs.Views.{held_of, octets_of};
+ghost use Rattle.plist_engine.specs.Spelling.{IsRead, HoldsText};
+
+use plist_object::{BinFile, Object};
+use plist_value::{ScalarRef, TextRef};
+
+/// What an object that reads holds.
+pub(crate) fn object_of<'a>(file: &BinFile<'a>, n: u64) -> Object<'a>
+    requires { IsRead (octets_of file.now) n }
+    ensures holds { Holds (octets_of file.now) n (held_of result) }
+    ensures valid { IsHeld (held_of result) }
+{
+    file.object(n).unwrap()
+}
+
+/// The text that an object holds.
+pub(crate) fn text_of<'a>(file: &BinFile<'a>, n: u64) -> TextRef<'a>
+    requires { HoldsText (octets_of file.now) n }
+    ensures { Holds (octets_of file.now) n (holds_scalar (text (units_of result))) }
+{
+    match object_of(file, n) {
+        Object::Scalar(ScalarRef::Text(text)) => text,
+        _ => unreachable!(),
+    }
+}

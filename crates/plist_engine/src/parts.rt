@@ -1,0 +1,43 @@
+//! The objects of the canonical file, taken from the file and the numbers of their children.
+ghost use Rattle.std.specs.Prelude.{◌≡◌, ◌≤◌, length, drop};
+ghost use Rattle.plist_object.specs.Views.{octets_of};
+ghost use Rattle.plist_engine.specs.Spelling.{IsRead};
+ghost use Rattle.plist_engine.specs.Parts.{held_at, held_in, reference_count, renumbered};
+
+use crate::objects::object_of;
+use plist_object::{BinFile, Object};
+use plist_value::ScalarRef;
+
+/// An object: a scalar, the numbers of a list's items, or those of a table's keys and of its values.
+#[derive(Clone, Copy)]
+pub(crate) enum Part<'a, 'b> {
+    Scalar(ScalarRef<'a>),
+    List(&'b [u64]),
+    Table(&'b [u64], &'b [u64]),
+}
+
+/// The object that stands for one of the file, with the first of the numbers as its references, and the
+/// numbers behind them.
+pub(crate) fn part_of<'a, 'b>(
+    file: &BinFile<'a>,
+    object: u64,
+    numbers: &'b [u64],
+) -> (Part<'a, 'b>, &'b [u64])
+    requires read { IsRead (octets_of file.now) object }
+    requires numbers { reference_count (held_at (octets_of file.now) object) ≤ length numbers.now }
+    ensures part { held_in result.0 ≡ renumbered (held_at (octets_of file.now) object) numbers.entry.now }
+    ensures behind { result.1.now ≡ drop (reference_count (held_at (octets_of file.now) object)) numbers.entry.now }
+{
+    match object_of(file, object) {
+        Object::Scalar(scalar) => (Part::Scalar(scalar), numbers),
+        Object::List(items) => {
+            let count = items.len() as usize;
+            (Part::List(&numbers[..count]), &numbers[count..])
+        }
+        Object::Table(keys, _) => {
+            let count = keys.len() as usize;
+            let (of_keys, others) = (&numbers[..count], &numbers[count..]);
+            (Part::Table(of_keys, &others[..count]), &others[count..])
+        }
+    }
+}

@@ -1,0 +1,73 @@
+//! The walk from the top of a file over the sorted tree of its value, which numbers the objects.
+ghost use Rattle.std.specs.Prelude.{◌≡◌, ◌≤◌, length, drop, IfOk};
+ghost use Rattle.plist_value.specs.Plist.{Plist};
+ghost use Rattle.plist_object.specs.Spelled.{IsBinary};
+ghost use Rattle.plist_object.specs.Views.{octets_of};
+ghost use Rattle.plist_engine.specs.Spelling.{SpellsWithin, SpellWithin};
+ghost use Rattle.plist_engine.specs.Plan.{AreWalked, IsWalked, AreObjectsOf};
+
+use crate::objects::object_of;
+use crate::plan::{Objects, Plan};
+use plist_object::{BinFile, Object};
+use plist_value::MAX_DEPTH;
+use std::alloc::{AllocError, Global};
+
+/// The objects of the canonical file of the value that the file spells.
+pub(crate) fn objects_of(alloc: Global, file: &BinFile) -> Result<Objects, AllocError>
+    requires { (v : Plist) × IsBinary (octets_of file.now) v }
+    ensures { IfOk result (λ objects. (v : Plist) → IsBinary (octets_of file.now) v → AreObjectsOf (octets_of file.now) v objects) }
+{
+    let mut plan = Plan::new(alloc);
+    walk(alloc, file, &mut plan, file.top(), MAX_DEPTH)?;
+    Ok(plan.into_objects())
+}
+
+// The number of the value that the object spells, whose objects are added.
+#[cycle(walk)]
+fn walk<'a>(
+    alloc: Global,
+    file: &BinFile<'a>,
+    plan: &mut Plan<'a>,
+    object: u64,
+    levels: u64,
+) -> Result<u64, AllocError>
+    requires { SpellsWithin (octets_of file.now) object levels }
+    ensures { IfOk result (IsWalked (octets_of file.now) object plan.old plan.new) }
+{
+    match object_of(file, object) {
+        Object::Scalar(scalar) => plan.scalar(object, scalar),
+        Object::List(items) => {
+            let first = plan.references.len();
+            let number = plan.begin_list(object, &items)?;
+            walk_children(alloc, file, plan, first, levels - 1)?;
+            Ok(number)
+        }
+        Object::Table(keys, values) => {
+            let first = plan.references.len();
+            let number = plan.begin_table(alloc, file, object, &keys, &values)?;
+            walk_children(alloc, file, plan, first, levels - 1)?;
+            Ok(number)
+        }
+    }
+}
+
+// Walks the values of the objects among the references, from the first place on: each gives way to its number.
+#[cycle(walk)]
+fn walk_children<'a>(
+    alloc: Global,
+    file: &BinFile<'a>,
+    plan: &mut Plan<'a>,
+    first: usize,
+    levels: u64,
+) -> Result<(), AllocError>
+    requires first { first ≤ length plan.old.references.items }
+    requires spell { SpellWithin (octets_of file.now) (drop first plan.old.references.items) levels }
+    ensures { IfOk result (λ _. AreWalked (octets_of file.now) first plan.old plan.new) }
+{
+    for i in first..plan.references.len() {
+        let object = plan.references[i];
+        let number = walk(alloc, file, plan, object, levels)?;
+        plan.references[i] = number;
+    }
+    Ok(())
+}
