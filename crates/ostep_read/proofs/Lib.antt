@@ -1,0 +1,13 @@
+pub mod Exits
+pub mod Shown
+pub mod TokenKinds
+pub mod MachineLemmas
+pub mod PhraseSteps
+pub mod SortingSteps
+pub mod Standing
+pub mod DueSteps
+pub mod TakeSteps
+pub mod Wholes
+pub mod Refusals
+pub mod ReadSteps
+pub mod BareSteps
