@@ -2,6 +2,10 @@
 #![tactic(auto)]
 
 #[cfg(test)]
+mod faults_of_texts;
+#[cfg(test)]
+mod reading;
+#[cfg(test)]
 mod tokens;
 #[cfg(test)]
 mod writing;
