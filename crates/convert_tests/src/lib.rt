@@ -11,3 +11,5 @@ mod container_tests;
 mod size_tests;
 #[cfg(test)]
 mod tests;
+#[cfg(test)]
+mod text_tests;

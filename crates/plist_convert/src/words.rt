@@ -22,8 +22,8 @@ static FORMS: [&str; 1] = ["binary1"];
 const ABOUT: &str = "Converts Apple property lists to their canonical form";
 
 const AFTER: &str = "\
-Without words: reads a property list in binary form (bplist00) from standard input and writes the
-canonical binary file of its value to standard output.
+Without words: reads a property list in binary (bplist00) or OpenStep form from standard input and writes
+the canonical binary file of its value to standard output.
 
 Example: plistconv < Info.plist > canonical.plist
 
@@ -40,9 +40,9 @@ Exit status:
 const CONVERT_ABOUT: &str = "Writes the property list of one file to another";
 
 const CONVERT_AFTER: &str = "\
-Reads a property list in binary form (bplist00) from IN and writes the canonical binary file of its
-value to OUT. Prints nothing where that is done, else one line that says what is refused and why. OUT is
-created, or emptied, only after IN was accepted, and may be IN.
+Reads a property list in binary (bplist00) or OpenStep form from IN and writes the canonical binary
+file of its value to OUT. Prints nothing where that is done, else one line that says what is refused
+and why. OUT is created, or emptied, only after IN was accepted, and may be IN.
 
 Example: plistconv convert binary1 Info.plist canonical.plist";
 

@@ -1,1 +1,3 @@
+pub mod Accepting
+pub mod Refusing
 mod Rows

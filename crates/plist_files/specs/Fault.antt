@@ -4,14 +4,18 @@ use Rattle.std.specs.Fmt.{decimal}
 use Rattle.plist_binary.specs.Codes as binary_codes
 use Rattle.plist_binary.specs.declared.fault.BinaryFault.{BinaryFault}
 use Rattle.plist_binary.specs.declared.fault.BinaryFault.TheVariants as binary
+use Rattle.ostep_form.specs.Fault as text_codes
+use Rattle.ostep_form.specs.declared.fault.TextFault.{TextFault}
+use Rattle.ostep_form.specs.declared.fault.TextFault.TheVariants as text
 use Rattle.plist_canon.specs.declared.checking.CheckFault.{CheckFault}
 use Rattle.plist_canon.specs.declared.checking.CheckFault.TheVariants as check
 use Rattle.plist_files.specs.declared.faults.Fault.{Fault}
-use Rattle.plist_files.specs.declared.faults.Fault.TheVariants.{Binary, ReadFailed, WriteFailed, InputTooLarge, OutOfMemory}
+use Rattle.plist_files.specs.declared.faults.Fault.TheVariants.{Binary, Text, ReadFailed, WriteFailed, InputTooLarge, OutOfMemory}
 
 -- the number of a refusal
 abbrev pub code_of : Fault → ℕ
 code_of (Binary fault) = binary_codes.fault_code fault
+code_of (Text fault) = text_codes.code_of fault
 code_of ReadFailed = 50
 code_of (WriteFailed _) = 51
 code_of InputTooLarge = 52
@@ -24,6 +28,7 @@ after_octets sent = codes " after " ++ (decimal sent ++ codes " octets")
 -- what is printed: the number, the name and the place
 abbrev pub fault_text : Fault → List ℕ
 fault_text (Binary fault) = binary_codes.fault_text fault
+fault_text (Text fault) = text_codes.text_of_fault fault
 fault_text ReadFailed = codes "50 ReadFailed"
 fault_text (WriteFailed sent) = codes "51 WriteFailed" ++ after_octets sent
 fault_text InputTooLarge = codes "52 InputTooLarge"
@@ -33,10 +38,15 @@ fault_text (OutOfMemory sent) = codes "60 OutOfMemory" ++ after_octets sent
 abbrev pub status_for : ℕ → ℕ
 status_for code = if (code == 50) || (code == 51) then 4 else (if code == 60 then 5 else 2)
 
--- the reader's refusal as one of this crate: its want of memory came before anything went out
+-- the refusal of a binary file as one of this crate: a want of memory came before anything went out
 abbrev pub fault_for : BinaryFault → Fault
 fault_for binary.OutOfMemory = OutOfMemory 0
 fault_for fault = Binary fault
+
+-- the reader's refusal of a text, likewise
+abbrev pub text_fault_for : TextFault → Fault
+text_fault_for text.OutOfMemory = OutOfMemory 0
+text_fault_for fault = Text fault
 
 -- the refusal of a check as one of this crate, with the same number
 abbrev pub check_fault_for : CheckFault → Fault

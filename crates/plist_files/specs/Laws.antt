@@ -1,12 +1,18 @@
 -- What holds of all accepted octets.
-use Rattle.std.specs.Prelude.{◌≡◌, ◌↔◌, List, ℕ}
-use Rattle.plist_value.specs.Plist.{Plist}
+use Rattle.std.specs.Prelude.{◌≡◌, ◌↔◌, true, List, ℕ}
+use Rattle.plist_value.specs.Plist.{Plist, IsPlist}
+use Rattle.plist_value.specs.Limits.{Fits}
 use Rattle.plist_write.specs.Canonical.{canon}
-use Rattle.plist_files.specs.Accepted.{IsAccepted}
+use Rattle.plist_files.specs.Accepted.{IsAccepted, begins_as_binary}
 
 -- no octets spell two values
 abbrev pub OneValue : Type 0
 OneValue = (octets : List ℕ) (v w : Plist) → IsAccepted octets v → IsAccepted octets w → v ≡ w
+
+-- the canonical file of a value within the limits begins with `bplist`, is accepted, and spells the value
+abbrev pub CanonicalIsAccepted : Type 0
+CanonicalIsAccepted =
+    (v : Plist) → IsPlist v → Fits v → (begins_as_binary (canon v) ≡ true) × IsAccepted (canon v) v
 
 -- Two canonical files are equal octet for octet exactly if the two values are; each is accepted, spells the value
 -- that its source spells, and is its own canonical file.

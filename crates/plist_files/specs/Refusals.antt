@@ -1,18 +1,22 @@
 -- What is refused, and what a refusal says of the octets.
-use Rattle.std.specs.Prelude.{◌≡◌, ◌≢◌, ℕ, List}
+use Rattle.std.specs.Prelude.{◌≡◌, ◌≢◌, true, false, ℕ, List}
 use Rattle.plist_value.specs.Plist.{Plist}
-use Rattle.plist_binary.specs.Faults.{Stands}
+use Rattle.plist_binary.specs.Faults as of_binary
 use Rattle.plist_binary.specs.declared.fault.BinaryFault.TheVariants as binary
-use Rattle.plist_files.specs.Accepted.{IsAccepted}
+use Rattle.ostep_form.specs.Stands as of_text
+use Rattle.ostep_form.specs.declared.fault.TextFault.TheVariants as text
+use Rattle.plist_files.specs.Accepted.{IsAccepted, begins_as_binary}
 use Rattle.plist_files.specs.Fault.{code_of}
 use Rattle.plist_files.specs.declared.faults.Fault.{Fault}
-use Rattle.plist_files.specs.declared.faults.Fault.TheVariants.{Binary, ReadFailed, WriteFailed, InputTooLarge, OutOfMemory}
+use Rattle.plist_files.specs.declared.faults.Fault.TheVariants.{Binary, Text, ReadFailed, WriteFailed, InputTooLarge, OutOfMemory}
 
--- The fault stands in the octets, at its place. A want of memory says nothing of them: it came before anything went
--- out, and is told by its own name, not as the reader's.
+-- The fault stands in the octets, at its place, and is of the form that they are read as. A want of memory says nothing
+-- of them: it came before anything went out, and is told by its own name, not as a reader's.
 abbrev pub FaultStands : List ℕ → Fault → Type 0
 FaultStands octets (Binary binary.OutOfMemory) = ⊥
-FaultStands octets (Binary fault) = Stands octets fault
+FaultStands octets (Binary fault) = (begins_as_binary octets ≡ true) × of_binary.Stands octets fault
+FaultStands octets (Text text.OutOfMemory) = ⊥
+FaultStands octets (Text fault) = (begins_as_binary octets ≡ false) × of_text.Stands octets fault
 FaultStands octets (OutOfMemory sent) = sent ≡ 0
 FaultStands octets ReadFailed = ⊥
 FaultStands octets (WriteFailed sent) = ⊥

@@ -1,24 +1,39 @@
 //! From octets to values and to canonical files.
-ghost use Rattle.std.specs.Prelude.{IfOk, IfErr};
+ghost use Rattle.std.specs.Prelude.{◌≡◌, IfOk, IfErr};
+ghost use Rattle.plist_value.specs.Limits.{Fits};
 ghost use Rattle.plist_value.specs.View.{view};
-ghost use Rattle.plist_files.specs.Accepted.{IsAccepted, IsCanonicalOf};
+ghost use Rattle.plist_files.specs.Accepted.{IsAccepted, IsCanonicalOf, begins_as_binary as begins};
 ghost use Rattle.plist_files.specs.Pair.{IsPair, IsRefusedPair};
 ghost use Rattle.plist_files.specs.Refusals.{IsRefused};
 
 use crate::{Fault, PairFault};
+use ostep_read::read_text;
 use plist_value::{Value, same};
 use std::alloc::Global;
 
-/// The value that the octets spell.
+/// The value that the octets spell: those that begin with `bplist` are read as a binary file, and all others
+/// as a text. It is within the limits.
 ///
 /// # Errors
 ///
-/// Those of [`plist_binary::read`]; its want of memory is `OutOfMemory { sent: 0 }`.
+/// Those of [`plist_binary::read`] and of [`ostep_read::read_text`]; their want of memory is
+/// `OutOfMemory { sent: 0 }`.
 pub fn read_any(alloc: Global, octets: &[u8]) -> Result<Value, Fault>
     ensures read { IfOk result (λ value. IsAccepted octets.now (view value)) }
+    ensures fits { IfOk result (λ value. Fits (view value)) }
     ensures refused { IfErr result (IsRefused octets.now) }
 {
-    Ok(plist_binary::read(alloc, octets)?)
+    if begins_as_binary(octets) {
+        Ok(plist_binary::read(alloc, octets)?)
+    } else {
+        Ok(read_text(alloc, octets)?)
+    }
+}
+
+fn begins_as_binary(octets: &[u8]) -> bool
+    ensures { result ≡ begins octets.now }
+{
+    octets.starts_with(b"bplist")
 }
 
 /// The canonical file of the value that the octets spell.

@@ -1,10 +1,11 @@
 //! Every refusal of this crate, with its number, its printed form, and the program's status for it.
 ghost use Rattle.std.specs.Prelude.{◌≡◌};
-ghost use Rattle.plist_files.specs.Fault.{check_fault_for, code_of, fault_for, fault_text, status_for};
+ghost use Rattle.plist_files.specs.Fault.{check_fault_for, code_of, fault_for, fault_text, status_for, text_fault_for};
 ghost use Rattle.plist_files.specs.Status.{status_code};
 ghost use Rattle.plist_files.specs.declared.faults.Fault.TheVariants.{OutOfMemory, ReadFailed};
 
 use crate::Status;
+use ostep_form::TextFault;
 use plist_binary::BinaryFault;
 use plist_canon::CheckFault;
 use plist_devices::DeviceFault;
@@ -17,6 +18,8 @@ use std::fmt;
 pub enum Fault {
     /// 1 to 18: the octets are no binary file of a value.
     Binary(BinaryFault),
+    /// 14, 16 to 18, 20, 21 and 23 to 32: the octets are no text of a value.
+    Text(TextFault),
     /// 50: the source failed.
     ReadFailed,
     /// 51: the sink failed after it had taken `sent` octets.
@@ -34,6 +37,7 @@ impl Fault {
     {
         match self {
             Fault::Binary(fault) => fault.code(),
+            Fault::Text(fault) => fault.code(),
             Fault::ReadFailed => 50,
             Fault::WriteFailed { .. } => 51,
             Fault::InputTooLarge => 52,
@@ -72,6 +76,7 @@ impl fmt::Display for Fault {
     fn fmt<W: fmt::Write>(&self, f: &mut fmt::Formatter<W>) -> fmt::Result {
         match self {
             Fault::Binary(fault) => write!(f, "{fault}"),
+            Fault::Text(fault) => write!(f, "{fault}"),
             Fault::ReadFailed => write!(f, "50 ReadFailed"),
             Fault::WriteFailed { sent } => write!(f, "51 WriteFailed after {sent} octets"),
             Fault::InputTooLarge => write!(f, "52 InputTooLarge"),
@@ -87,6 +92,17 @@ impl From<BinaryFault> for Fault {
         match fault {
             BinaryFault::OutOfMemory => Fault::OutOfMemory { sent: 0 },
             _ => Fault::Binary(fault),
+        }
+    }
+}
+
+impl From<TextFault> for Fault {
+    ghost from_gives = { λ fault refusal. refusal ≡ text_fault_for fault };
+
+    fn from(fault: TextFault) -> Fault {
+        match fault {
+            TextFault::OutOfMemory => Fault::OutOfMemory { sent: 0 },
+            _ => Fault::Text(fault),
         }
     }
 }
