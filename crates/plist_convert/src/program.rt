@@ -106,7 +106,8 @@ fn send_canonical<I: Read, O: Write>(
     input: &mut I,
     output: &mut O,
 ) -> Result<(), Fault>
-    ensures sent { OnOk result (Filters (I.remaining input.old) (O.contents output.old) (O.contents output.new)) }
+    ensures sent { OnOk result
+        (Filters (I.remaining input.old) (O.contents output.old) (O.contents output.new)) }
     ensures kept { IfErr result (λ fault. status_for (code_of fault) ≡ 2
         → O.contents output.new ≡ O.contents output.old) }
 {
@@ -167,7 +168,8 @@ fn canonical_at<R: Files>(rt: &R, alloc: Global, path: &str) -> Result<Vec<u8>, 
 
 /// The canonical file of the value that the device's octets spell. They are dropped before it is made.
 fn canonical_of<D: Read + Drop>(alloc: Global, device: D) -> Result<Vec<u8>, Fault>
-    ensures { IfOk result (λ file. IfSome (D.remaining device) (λ octets. IsCanonicalOf octets file.items)) }
+    ensures { IfOk result (λ file.
+        IfSome (D.remaining device) (λ octets. IsCanonicalOf octets file.items)) }
 {
     let value = value_of(alloc, device)?;
     Ok(canonical(alloc, &value)?)
@@ -175,7 +177,8 @@ fn canonical_of<D: Read + Drop>(alloc: Global, device: D) -> Result<Vec<u8>, Fau
 
 /// The value that the device's octets spell.
 fn value_of<D: Read + Drop>(alloc: Global, device: D) -> Result<Value, Fault>
-    ensures read { IfOk result (λ value. IfSome (D.remaining device) (λ octets. IsAccepted octets (view value))) }
+    ensures read { IfOk result (λ value.
+        IfSome (D.remaining device) (λ octets. IsAccepted octets (view value))) }
     ensures fits { IfOk result (λ value. Fits (view value)) }
 {
     let octets = load(alloc, &mut ReaderSource::new(device))?;
@@ -233,7 +236,8 @@ fn explain<O: Write>(error: &Error, output: &mut O) -> Status
 
 /// Prints the text, and answers the status, or that a line could not be printed.
 fn print<O: Write, D: Display + Drop>(output: &mut O, text: D, status: Status) -> Status
-    ensures { ((result ≡ status) × IfSome (D.output text) (Appends (O.contents output.old) (O.contents output.new)))
+    ensures { ((result ≡ status)
+        × IfSome (D.output text) (Appends (O.contents output.old) (O.contents output.new)))
         ⊎ (result ≡ Status.DeviceFailed) }
 {
     match write!(output, "{text}") {

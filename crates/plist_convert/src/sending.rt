@@ -9,7 +9,9 @@ use std::io::Write;
 /// [`Fault::WriteFailed`] with the number of octets that were taken before.
 pub(crate) fn send<W: Write>(device: &mut W, octets: &[u8]) -> Result<(), Fault>
     ensures ok { OnOk result (Appends (W.contents device.old) (W.contents device.new) octets.now) }
-    ensures err { IfErr result (λ fault. (sent : ℕ) × (fault ≡ Fault.WriteFailed sent) × (sent < length octets.now)
+    ensures err { IfErr result (λ fault. (sent : ℕ)
+        × (fault ≡ Fault.WriteFailed sent)
+        × (sent < length octets.now)
         × Appends (W.contents device.old) (W.contents device.new) (take sent octets.now)) }
 {
     let mut sent = 0;

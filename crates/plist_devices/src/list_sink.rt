@@ -68,7 +68,8 @@ impl Sink for ListSink {
             (failures_of self.old) (failures_of self.new) result piece.now }
         ensures fails { IsErr result ↔ FailsAt self.old piece.now }
         ensures count { IfOk result (λ n. n
-            ≡ min (min (step_of self.old) (length piece.now)) (room_of self.old - length (octets_taken self.old))) }
+            ≡ min (min (step_of self.old) (length piece.now))
+            (room_of self.old - length (octets_taken self.old))) }
         ensures room { room_of self.new ≡ room_of self.old }
         ensures step { step_of self.new ≡ step_of self.old }
     {

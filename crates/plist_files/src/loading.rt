@@ -20,7 +20,8 @@ const TAKE_SIZE: usize = 4096;
 /// [`Fault::InputTooLarge`], and where no memory is left the fault is [`Fault::OutOfMemory`]. After a
 /// refusal the octets that were taken are gone from the source.
 pub fn load<S: Source>(alloc: Global, from: &mut S) -> Result<Vec<u8>, Fault>
-    ensures whole { IfOk result (λ octets. IfSome (S.remaining from.old) (λ all. octets.items ≡ all)) }
+    ensures whole { IfOk result (λ octets.
+        IfSome (S.remaining from.old) (λ all. octets.items ≡ all)) }
     ensures within { IfOk result (λ octets. vec_len octets ≤ MAX_INPUT) }
     ensures end { OnOk result (IsAtEnd (S.remaining from.new)) }
 
