@@ -1,5 +1,5 @@
-use plist_tests::files::{file, one};
 use plist_convert::{canonicalise, read_any, same_files};
+use plist_tests::files::{file, one};
 use plist_value::Value;
 use std::test::Fail;
 
@@ -105,10 +105,10 @@ fn files_are_refused_with_their_fault(rt: HostRuntime) -> Result<(), Fail> {
 #[test]
 fn the_first_of_two_files_is_read_first(rt: HostRuntime) -> Result<(), Fail> {
     let null = one(rt.alloc(), &[0x00])?;
-    let fault = same_files(rt.alloc(), null.as_slice(), b"").err();
+    let fault = same_files(rt.alloc(), null.as_slice(), b"bplist").err();
     assert_eq!(rt; fault.ok_or("a refusal")?.code(), 8);
     let flag = one(rt.alloc(), &[0x09])?;
-    let fault = same_files(rt.alloc(), flag.as_slice(), b"").err();
+    let fault = same_files(rt.alloc(), flag.as_slice(), b"bplist").err();
     assert_eq!(rt; fault.ok_or("a refusal")?.code(), 1);
     Ok(())
 }

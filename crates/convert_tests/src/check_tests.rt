@@ -1,5 +1,5 @@
-use plist_tests::files::file;
 use plist_convert::run;
+use plist_tests::files::file;
 use std::fs;
 use std::test::Fail;
 

@@ -1,5 +1,5 @@
-use plist_tests::files::file;
 use plist_convert::{canonicalise, run, same_files};
+use plist_tests::files::file;
 use std::alloc::{AllocError, Global};
 use std::fs;
 use std::test::Fail;

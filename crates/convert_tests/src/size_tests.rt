@@ -1,5 +1,5 @@
-use plist_tests::files::{end, one};
 use plist_convert::canonicalise;
+use plist_tests::files::{end, one};
 use std::alloc::{AllocError, Global};
 use std::test::Fail;
 
