@@ -1,9 +1,8 @@
 -- What is known of the objects of a file while it is judged.
-use Rattle.std.specs.Prelude.{◌≡◌, ℕ, ◌≤◌, List, length, slice_index_or, ⊤}
+use Rattle.std.specs.Prelude.{◌≡◌, ◌≢◌, ℕ, ◌≤◌, List, slice_index_or, ⊤}
 use Rattle.std.specs.List.{Contains}
 use Rattle.plist_value.specs.Plist.{Plist, IsPlist}
 use Rattle.plist_value.specs.Limits.{nodes, depth, payload}
-use Rattle.plist_object.specs.Layout.{trailer_of}
 use Rattle.plist_object.specs.Spelled.{Spells}
 use Rattle.plist_binary.specs.declared.memos.Memo.{Memo}
 use Rattle.plist_binary.specs.declared.memos.State.{State}
@@ -29,5 +28,9 @@ state_of states i = slice_index_or states i Unseen
 
 -- what is known of each object is so
 pub record AreStates (f path : List ℕ) (states : List State) : Type 0 where
-  pub long : length states ≡ (trailer_of f).count
   pub each : (i : ℕ) → IsState f path i (state_of states i)
+
+-- of the object is known the state, and of each other one what was known before
+pub record IsMarked (before : List State) (object : ℕ) (state : State) (after : List State) : Type 0 where
+  pub here : state_of after object ≡ state
+  pub elsewhere : (i : ℕ) → i ≢ object → state_of after i ≡ state_of before i

@@ -14,7 +14,7 @@ ghost use Rattle.plist_binary.specs.Passing.{IsWithinLimits, limits};
 ghost use Rattle.plist_binary.specs.Paths.{AllRefer, Leads, containers_of};
 ghost use Rattle.plist_binary.specs.Readings.{Refuses, RefusesItems, RefusesPairs};
 
-use crate::memos::{Memo, State};
+use crate::memos::{Memo, State, mark, state_at};
 use crate::path::Path;
 use crate::visiting::take_payload;
 use crate::{BinaryFault, tables};
@@ -57,10 +57,9 @@ impl<'a> Walker<'a> {
             (trailer_of (octets_of self.now.file)).top MAX_DEPTH limits) }
     {
         let mut states = Vec::new(self.alloc);
-        states.resize(self.file.count() as usize, State::Unseen)?;
         let mut left = Budget::whole();
         self.pass(
-            states.as_mut_slice(),
+            &mut states,
             &Path::Above,
             self.file.top(),
             MAX_DEPTH,
@@ -73,7 +72,7 @@ impl<'a> Walker<'a> {
     #[cycle(walk)]
     fn pass(
         &self,
-        states: &mut [State],
+        states: &mut Vec<State>,
         path: &Path,
         object: u64,
         levels: u64,
@@ -82,13 +81,13 @@ impl<'a> Walker<'a> {
         requires listed { object < (trailer_of (octets_of self.now.file)).count }
         requires leads { Leads (octets_of self.now.file) (containers_of path.now) object }
         requires depth { length (containers_of path.now) + levels ≡ MAX_DEPTH }
-        requires states { AreStates (octets_of self.now.file) (containers_of path.now) states.old }
+        requires states { AreStates (octets_of self.now.file) (containers_of path.now) states.old.items }
         requires limits { IsWithinLimits left.old }
         ensures passed { IfOk result (λ deep. Passes (octets_of self.now.file) object levels
             left.old deep left.new) }
         ensures refused { IfErr result (Refuses (octets_of self.now.file) object levels left.old) }
         ensures kept { OnOk result (AreStates (octets_of self.now.file) (containers_of path.now)
-            states.new) }
+            states.new.items) }
     {
         if let Some((deep, rest)) = self.recall(&*states, path, object, levels, *left) {
             *left = rest;
@@ -101,7 +100,7 @@ impl<'a> Walker<'a> {
     #[cycle(walk)]
     fn walk(
         &self,
-        states: &mut [State],
+        states: &mut Vec<State>,
         path: &Path,
         object: u64,
         levels: u64,
@@ -110,17 +109,18 @@ impl<'a> Walker<'a> {
         requires listed { object < (trailer_of (octets_of self.now.file)).count }
         requires leads { Leads (octets_of self.now.file) (containers_of path.now) object }
         requires depth { length (containers_of path.now) + levels ≡ MAX_DEPTH }
-        requires states { AreStates (octets_of self.now.file) (containers_of path.now) states.old }
+        requires states { AreStates (octets_of self.now.file) (containers_of path.now) states.old.items }
         requires limits { IsWithinLimits left.old }
         ensures passed { IfOk result (λ deep. Passes (octets_of self.now.file) object levels
             left.old deep left.new) }
         ensures refused { IfErr result (Refuses (octets_of self.now.file) object levels left.old) }
         ensures kept { OnOk result (AreStates (octets_of self.now.file) (containers_of path.now)
-            states.new) }
+            states.new.items) }
     {
         let before = *left;
         let deep = self.content(states, path, object, levels, left)?;
-        states[object as usize] = State::Passed(Memo::of(before, *left, deep));
+        let memo = Memo::of(before, *left, deep);
+        mark(states, self.file.count(), object, State::Passed(memo))?;
         Ok(deep)
     }
 
@@ -128,7 +128,7 @@ impl<'a> Walker<'a> {
     #[cycle(walk)]
     fn content(
         &self,
-        states: &mut [State],
+        states: &mut Vec<State>,
         path: &Path,
         object: u64,
         levels: u64,
@@ -137,13 +137,13 @@ impl<'a> Walker<'a> {
         requires listed { object < (trailer_of (octets_of self.now.file)).count }
         requires leads { Leads (octets_of self.now.file) (containers_of path.now) object }
         requires depth { length (containers_of path.now) + levels ≡ MAX_DEPTH }
-        requires states { AreStates (octets_of self.now.file) (containers_of path.now) states.old }
+        requires states { AreStates (octets_of self.now.file) (containers_of path.now) states.old.items }
         requires limits { IsWithinLimits left.old }
         ensures passed { IfOk result (λ deep. Passes (octets_of self.now.file) object levels
             left.old deep left.new) }
         ensures refused { IfErr result (Refuses (octets_of self.now.file) object levels left.old) }
         ensures kept { OnOk result (AreStates (octets_of self.now.file)
-            (object ∷ containers_of path.now) states.new) }
+            (object ∷ containers_of path.now) states.new.items) }
     {
         match self.enter(&*states, path, object, levels, left)? {
             Object::Scalar(scalar) => {
@@ -151,12 +151,12 @@ impl<'a> Walker<'a> {
                 Ok(1)
             }
             Object::List(items) => {
-                states[object as usize] = State::Open;
+                mark(states, self.file.count(), object, State::Open)?;
                 let deep = self.items(states, object, path, items, levels - 1, left)?;
                 Ok(1 + deep)
             }
             Object::Table(keys, values) => {
-                states[object as usize] = State::Open;
+                mark(states, self.file.count(), object, State::Open)?;
                 let deep = self.pairs(states, object, path, keys, values, levels - 1, left)?;
                 Ok(1 + deep)
             }
@@ -167,7 +167,7 @@ impl<'a> Walker<'a> {
     #[cycle(walk)]
     fn items(
         &self,
-        states: &mut [State],
+        states: &mut Vec<State>,
         container: u64,
         before: &Path,
         refs: Refs,
@@ -178,14 +178,14 @@ impl<'a> Walker<'a> {
         requires refer { AllRefer (octets_of self.now.file) container (numbers_of refs) }
         requires depth { length (containers_of before.now) + 1 + levels ≡ MAX_DEPTH }
         requires states { AreStates (octets_of self.now.file) (container ∷ containers_of before.now)
-            states.old }
+            states.old.items }
         requires limits { IsWithinLimits left.old }
         ensures passed { IfOk result (λ deep. PassesItems (octets_of self.now.file)
             (numbers_of refs.entry) levels left.old deep left.new) }
         ensures refused { IfErr result (RefusesItems (octets_of self.now.file)
             (numbers_of refs.entry) levels left.old) }
         ensures kept { OnOk result (AreStates (octets_of self.now.file)
-            (container ∷ containers_of before.now) states.new) }
+            (container ∷ containers_of before.now) states.new.items) }
     {
         let path = Path::In(container, &*before);
         let mut deepest = 0;
@@ -202,7 +202,7 @@ impl<'a> Walker<'a> {
     #[cycle(walk)]
     fn pairs(
         &self,
-        states: &mut [State],
+        states: &mut Vec<State>,
         table: u64,
         before: &Path,
         keys: Refs,
@@ -215,14 +215,14 @@ impl<'a> Walker<'a> {
             (holds_table (numbers_of keys) (numbers_of values)) }
         requires depth { length (containers_of before.now) + 1 + levels ≡ MAX_DEPTH }
         requires states { AreStates (octets_of self.now.file) (table ∷ containers_of before.now)
-            states.old }
+            states.old.items }
         requires limits { IsWithinLimits left.old }
         ensures passed { IfOk result (λ deep. PassesPairs (octets_of self.now.file)
             (numbers_of keys.entry) (numbers_of values.entry) levels left.old deep left.new) }
         ensures refused { IfErr result (RefusesPairs (octets_of self.now.file)
             (numbers_of keys.entry) (numbers_of values.entry) levels left.old) }
         ensures kept { OnOk result (AreStates (octets_of self.now.file)
-            (table ∷ containers_of before.now) states.new) }
+            (table ∷ containers_of before.now) states.new.items) }
     {
         let mut keys = self.keys(&*states, table, before, keys, levels, left)?;
         if !tables::sort(keys.as_mut_slice()) {
@@ -235,18 +235,18 @@ impl<'a> Walker<'a> {
     // The depth of an object that was passed before, and what is left after it, where it fits.
     fn recall(
         &self,
-        states: &[State],
+        states: &Vec<State>,
         path: &Path,
         object: u64,
         levels: u64,
         left: Budget,
     ) -> Option<(u64, Budget)>
         requires listed { object < (trailer_of (octets_of self.now.file)).count }
-        requires states { AreStates (octets_of self.now.file) (containers_of path.now) states.now }
+        requires states { AreStates (octets_of self.now.file) (containers_of path.now) states.now.items }
         ensures { IfSome result (λ known. Passes (octets_of self.now.file) object levels left
             known.0 known.1) }
     {
-        let State::Passed(memo) = &states[object as usize] else {
+        let State::Passed(memo) = state_at(states, object) else {
             return None;
         };
         let deep = u64::from(memo.depth);

@@ -1,9 +1,11 @@
 //! What is known of the objects of a file while it is judged.
-ghost use Rattle.std.specs.Prelude.{◌≡◌, ◌+◌, ◌≤◌, IfSome};
+ghost use Rattle.std.specs.Prelude.{◌≡◌, ◌+◌, ◌<◌, ◌≤◌, IfSome, OnOk};
 ghost use Rattle.plist_value.specs.declared.TheConstants.{MAX_NODES, MAX_DEPTH, MAX_PAYLOAD};
 ghost use Rattle.plist_value.specs.Budget.{Spends};
+ghost use Rattle.plist_binary.specs.Memos.{IsMarked, state_of};
 
 use plist_value::Budget;
+use std::alloc::AllocError;
 
 // What the value takes of the limits that an object spells.
 #[derive(Clone, Copy)]
@@ -51,5 +53,50 @@ impl Memo {
             nodes: left.nodes.checked_sub(u64::from(self.nodes))?,
             payload: left.payload.checked_sub(u64::from(self.payload))?,
         })
+    }
+}
+
+// As many states as most files need that are refused soon.
+const FIRST_STATES: u64 = 4096;
+
+// What is known of the object: nothing where there is no state of it yet.
+pub(crate) fn state_at(states: &Vec<State>, object: u64) -> State
+    ensures { result ≡ state_of states.now.items object }
+{
+    if object < states.len() as u64 {
+        states[object as usize]
+    } else {
+        State::Unseen
+    }
+}
+
+// Marks the object, which is one of so many.
+pub(crate) fn mark(
+    states: &mut Vec<State>,
+    count: u64,
+    object: u64,
+    state: State,
+) -> Result<(), AllocError>
+    requires { object < count }
+    ensures { OnOk result (IsMarked states.old.items object state states.new.items) }
+{
+    if object < states.len() as u64 {
+        states[object as usize] = state;
+        return Ok(());
+    }
+    states.resize(states_for(count, object), State::Unseen)?;
+    states[object as usize] = state;
+    Ok(())
+}
+
+// How many states there are to be where there is one of the object.
+fn states_for(count: u64, object: u64) -> usize
+    requires { object < count }
+    ensures { object < result }
+{
+    if object < FIRST_STATES && FIRST_STATES < count {
+        FIRST_STATES as usize
+    } else {
+        count as usize
     }
 }

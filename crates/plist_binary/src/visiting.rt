@@ -20,7 +20,7 @@ ghost use Rattle.plist_binary.specs.Readings.{texts, RefusesKey, RefusesKeys};
 
 use crate::BinaryFault;
 use crate::judging::Walker;
-use crate::memos::State;
+use crate::memos::{State, state_at};
 use crate::path::Path;
 use crate::tables::Key;
 use plist_object::{Object, Refs};
@@ -30,7 +30,7 @@ impl<'a> Walker<'a> {
     // The texts that the references of the table spell, each at its place.
     pub(crate) fn keys(
         &self,
-        states: &[State],
+        states: &Vec<State>,
         table: u64,
         before: &Path,
         refs: Refs,
@@ -41,7 +41,7 @@ impl<'a> Walker<'a> {
         requires keys { HasKeys (octets_of self.now.file) table (numbers_of refs) }
         requires depth { length (containers_of before.now) + 1 + levels ≡ MAX_DEPTH }
         requires states { AreStates (octets_of self.now.file) (table ∷ containers_of before.now)
-            states.now }
+            states.now.items }
         ensures read { IfOk result (λ keys. ReadsItems (octets_of self.now.file)
             (numbers_of refs.entry) levels left.old (texts (map units_at keys.items)) left.new) }
         ensures placed { IfOk result (λ keys. AreInPlace keys.items) }
@@ -61,7 +61,7 @@ impl<'a> Walker<'a> {
     // The text that the object spells, a key of the table.
     fn key(
         &self,
-        states: &[State],
+        states: &Vec<State>,
         table: u64,
         before: &Path,
         object: u64,
@@ -73,7 +73,7 @@ impl<'a> Walker<'a> {
         requires key { IsKeyOf (octets_of self.now.file) table object }
         requires depth { length (containers_of before.now) + 1 + levels ≡ MAX_DEPTH }
         requires states { AreStates (octets_of self.now.file) (table ∷ containers_of before.now)
-            states.now }
+            states.now.items }
         ensures read { IfOk result (λ key. Reads (octets_of self.now.file) object levels left.old
             (scalar_value (text (units_of key))) left.new) }
         ensures refused { IfErr result (RefusesKey (octets_of self.now.file) object levels
@@ -105,7 +105,7 @@ impl<'a> Walker<'a> {
     // What the object holds, to which the path leads: a node of the value.
     pub(crate) fn enter(
         &self,
-        states: &[State],
+        states: &Vec<State>,
         path: &Path,
         object: u64,
         levels: u64,
@@ -114,7 +114,7 @@ impl<'a> Walker<'a> {
         requires listed { object < (trailer_of (octets_of self.now.file)).count }
         requires leads { Leads (octets_of self.now.file) (containers_of path.now) object }
         requires depth { length (containers_of path.now) + levels ≡ MAX_DEPTH }
-        requires states { AreStates (octets_of self.now.file) (containers_of path.now) states.now }
+        requires states { AreStates (octets_of self.now.file) (containers_of path.now) states.now.items }
         ensures held { IfOk result (λ held. what_holds (octets_of self.now.file) object ≡ Ok
             (held_of held)) }
         ensures valid { IfOk result (λ held. IsHeld (held_of held)) }
@@ -123,7 +123,7 @@ impl<'a> Walker<'a> {
         ensures refused { IfErr result (Refuses (octets_of self.now.file) object levels left.old) }
     {
         if let Path::In(container, _) = path
-            && let State::Open = &states[object as usize]
+            && let State::Open = state_at(states, object)
         {
             return Err(BinaryFault::Cycle { object: *container });
         }

@@ -69,7 +69,7 @@ content-returns-in_ok-take_payload-in-Scalar-clause-passed t c =
 
 pub content-returns-in_ok-take_payload-in-Scalar-clause-kept : goal.content-returns-in_ok-take_payload-in-Scalar-clause-kept
 content-returns-in_ok-take_payload-in-Scalar-clause-kept t c =
-    AreStates-wider (octets_of c.args.self.now.file) (containers_of c.args.path.now) c.args.states.now c.args.object c.requires.states
+    AreStates-wider (octets_of c.args.self.now.file) (containers_of c.args.path.now) c.args.states.now.items c.args.object c.requires.states
 
 pub content-items-requires : goal.content-items-requires
 content-items-requires t c =
@@ -77,7 +77,7 @@ content-items-requires t c =
     let refs = numbers_of c.in-List.items in
     let reads : what_holds f c.args.object ≡ Ok (holds_list refs) = rw c.in-List.is at c.in_ok-scalar.ensures.held in
     let some = c.in_ok-scalar.ensures.deep in
-    (search rules, (c.requires.leads, (AllRefer-items f c.args.object refs record { listed = c.requires.listed; reads = reads }, (omega arith, (AreStates-open f (containers_of c.args.path.now) c.args.states.now c.args.object c.requires.listed c.requires.states, within_after c.args.left.now c.enter.new.left 1 0 c.requires.limits c.in_ok-scalar.ensures.spent)))))
+    (search rules, (c.requires.leads, (AllRefer-items f c.args.object refs record { listed = c.requires.listed; reads = reads }, (omega arith, (AreStates-open f (containers_of c.args.path.now) c.args.states.now.items c.mark.new.states.items c.args.object c.in_ok-mark-in-List.ensures c.requires.states, within_after c.args.left.now c.enter.new.left 1 0 c.requires.limits c.in_ok-scalar.ensures.spent)))))
 
 pub content-returns-in_err-deep-in-List-clause-refused : goal.content-returns-in_err-deep-in-List-clause-refused
 content-returns-in_err-deep-in-List-clause-refused t c =
@@ -101,7 +101,7 @@ content-pairs-requires t c =
     let values = numbers_of c.in-Table.values in
     let reads : what_holds f c.args.object ≡ Ok (holds_table keys values) = rw c.in-Table.is at c.in_ok-scalar.ensures.held in
     let some = c.in_ok-scalar.ensures.deep in
-    (search rules, (c.requires.leads, (record { listed = c.requires.listed; reads = reads }, (omega arith, (AreStates-open f (containers_of c.args.path.now) c.args.states.now c.args.object c.requires.listed c.requires.states, within_after c.args.left.now c.enter.new.left 1 0 c.requires.limits c.in_ok-scalar.ensures.spent)))))
+    (search rules, (c.requires.leads, (record { listed = c.requires.listed; reads = reads }, (omega arith, (AreStates-open f (containers_of c.args.path.now) c.args.states.now.items c.mark-in-Table.new.states.items c.args.object c.in_ok-mark-in-Table.ensures c.requires.states, within_after c.args.left.now c.enter.new.left 1 0 c.requires.limits c.in_ok-scalar.ensures.spent)))))
 
 pub content-returns-in_err-deep-in-Table-clause-refused : goal.content-returns-in_err-deep-in-Table-clause-refused
 content-returns-in_err-deep-in-Table-clause-refused t c =
@@ -203,5 +203,5 @@ pairs-returns-clause-passed t c =
 pub walk-returns-clause-kept : goal.walk-returns-clause-kept
 walk-returns-clause-kept t c =
     let f = octets_of c.args.self.now.file in
-    let known = IsMemo-passed f c.args.object c.args.levels c.args.left.now c.content.new.left c.in_ok-deep.deep c.of.result c.in_ok-deep.ensures.passed c.of.ensures.nodes c.of.ensures.payload c.of.ensures.depth in
-    AreStates-passed f (containers_of c.args.path.now) c.content.new.states c.args.object c.of.result c.requires.listed known c.in_ok-deep.ensures.kept
+    let known = IsMemo-passed f c.args.object c.args.levels c.args.left.now c.content.new.left c.in_ok-deep.deep c.of-memo.result c.in_ok-deep.ensures.passed c.of-memo.ensures.nodes c.of-memo.ensures.payload c.of-memo.ensures.depth in
+    AreStates-passed f (containers_of c.args.path.now) c.content.new.states.items c.mark.new.states.items c.args.object c.of-memo.result c.in_ok-mark.ensures known c.in_ok-deep.ensures.kept

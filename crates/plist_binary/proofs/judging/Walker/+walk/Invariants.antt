@@ -25,6 +25,6 @@ abbrev pub invariant-items-loop-i : goal.invariant-items-loop-i
 invariant-items-loop-i l =
     record {
       passed : PassesItems (octets_of l.self.file) (take l.i (numbers_of l.refs)) l.levels l.initial.left l.deepest l.left;
-      states : AreStates (octets_of l.self.file) (l.container ∷ containers_of l.before) l.states;
+      states : AreStates (octets_of l.self.file) (l.container ∷ containers_of l.before) l.states.items;
       within : IsWithinLimits l.left;
     }

@@ -1,4 +1,4 @@
-use Rattle.std.proofs.Common.{◌≡◌, ◌∷◌, ℕ, List, rules, subst, ap}
+use Rattle.std.proofs.Common.{◌≡◌, ◌∷◌, ℕ, List, rules, subst, sym, ap, ◌∙◌}
 use Rattle.plist_object.specs.Ascending.{Among}
 use Rattle.plist_object.specs.Views.{octets_of}
 use Rattle.plist_binary.specs.declared.fault.BinaryFault.TheVariants.{TooManyNodes}
@@ -13,7 +13,7 @@ returns-clause-refused c =
     let f = octets_of c.args.self.now.file in
     let path : containers_of c.args.path.now ≡ c.in-In.container ∷ containers_of c.in-In.field-1.now = ap containers_of c.in-In.is in
     let leads = subst (λ (containers : List ℕ). Leads f containers c.args.object) path c.requires.leads in
-    let among = Open-among f (containers_of c.args.path.now) c.args.states.now c.args.object c.requires.states c.in-Open.is in
+    let among = Open-among f (containers_of c.args.path.now) c.args.states.now.items c.args.object c.requires.states (sym c.state_at.ensures ∙ c.in-Open.is) in
     Refuses-cycle f (containers_of c.in-In.field-1.now) c.in-In.container c.args.object c.args.levels c.args.left.now c.args.self.now.laid leads (subst (λ (containers : List ℕ). Among c.args.object containers) path among)
 
 pub returns-in_err-take_node-clause-refused : goal.returns-in_err-take_node-clause-refused
