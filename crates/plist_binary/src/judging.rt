@@ -81,7 +81,8 @@ impl<'a> Walker<'a> {
         requires listed { object < (trailer_of (octets_of self.now.file)).count }
         requires leads { Leads (octets_of self.now.file) (containers_of path.now) object }
         requires depth { length (containers_of path.now) + levels ≡ MAX_DEPTH }
-        requires states { AreStates (octets_of self.now.file) (containers_of path.now) states.old.items }
+        requires states { AreStates (octets_of self.now.file) (containers_of path.now)
+            states.old.items }
         requires limits { IsWithinLimits left.old }
         ensures passed { IfOk result (λ deep. Passes (octets_of self.now.file) object levels
             left.old deep left.new) }
@@ -109,7 +110,8 @@ impl<'a> Walker<'a> {
         requires listed { object < (trailer_of (octets_of self.now.file)).count }
         requires leads { Leads (octets_of self.now.file) (containers_of path.now) object }
         requires depth { length (containers_of path.now) + levels ≡ MAX_DEPTH }
-        requires states { AreStates (octets_of self.now.file) (containers_of path.now) states.old.items }
+        requires states { AreStates (octets_of self.now.file) (containers_of path.now)
+            states.old.items }
         requires limits { IsWithinLimits left.old }
         ensures passed { IfOk result (λ deep. Passes (octets_of self.now.file) object levels
             left.old deep left.new) }
@@ -137,7 +139,8 @@ impl<'a> Walker<'a> {
         requires listed { object < (trailer_of (octets_of self.now.file)).count }
         requires leads { Leads (octets_of self.now.file) (containers_of path.now) object }
         requires depth { length (containers_of path.now) + levels ≡ MAX_DEPTH }
-        requires states { AreStates (octets_of self.now.file) (containers_of path.now) states.old.items }
+        requires states { AreStates (octets_of self.now.file) (containers_of path.now)
+            states.old.items }
         requires limits { IsWithinLimits left.old }
         ensures passed { IfOk result (λ deep. Passes (octets_of self.now.file) object levels
             left.old deep left.new) }
@@ -242,7 +245,8 @@ impl<'a> Walker<'a> {
         left: Budget,
     ) -> Option<(u64, Budget)>
         requires listed { object < (trailer_of (octets_of self.now.file)).count }
-        requires states { AreStates (octets_of self.now.file) (containers_of path.now) states.now.items }
+        requires states { AreStates (octets_of self.now.file) (containers_of path.now)
+            states.now.items }
         ensures { IfSome result (λ known. Passes (octets_of self.now.file) object levels left
             known.0 known.1) }
     {

@@ -114,7 +114,8 @@ impl<'a> Walker<'a> {
         requires listed { object < (trailer_of (octets_of self.now.file)).count }
         requires leads { Leads (octets_of self.now.file) (containers_of path.now) object }
         requires depth { length (containers_of path.now) + levels ≡ MAX_DEPTH }
-        requires states { AreStates (octets_of self.now.file) (containers_of path.now) states.now.items }
+        requires states { AreStates (octets_of self.now.file) (containers_of path.now)
+            states.now.items }
         ensures held { IfOk result (λ held. what_holds (octets_of self.now.file) object ≡ Ok
             (held_of held)) }
         ensures valid { IfOk result (λ held. IsHeld (held_of held)) }
