@@ -70,6 +70,7 @@ fn token_here(
 }
 
 /// The next token behind white and comments, and the cursor behind it. None where no token follows.
+#[inline(never)]
 pub fn next_token(
     alloc: Global,
     cursor: Cursor<'_>,
