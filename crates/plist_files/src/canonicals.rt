@@ -1,5 +1,6 @@
 //! From octets to values and to canonical files.
-ghost use Rattle.std.specs.Prelude.{◌≡◌, IfOk, IfErr};
+ghost use Rattle.std.specs.Prelude.{◌≡◌, true, IfOk, IfErr, OnOk};
+ghost use Rattle.plist_value.specs.Plist.{Plist};
 ghost use Rattle.plist_value.specs.Limits.{Fits};
 ghost use Rattle.plist_value.specs.View.{view};
 ghost use Rattle.plist_files.specs.Accepted.{IsAccepted, IsCanonicalOf, begins_as_binary as begins};
@@ -8,7 +9,10 @@ ghost use Rattle.plist_files.specs.Refusals.{IsRefused};
 
 use crate::{Fault, PairFault};
 use ostep_read::read_text;
-use plist_value::{Value, same};
+use plist_binary::{BinaryFault, judge};
+use plist_engine::canonical_of;
+use plist_object::BinFile;
+use plist_value::Value;
 use std::alloc::Global;
 
 /// The value that the octets spell: those that begin with `bplist` are read as a binary file, and all others
@@ -30,13 +34,32 @@ pub fn read_any(alloc: Global, octets: &[u8]) -> Result<Value, Fault>
     }
 }
 
-fn begins_as_binary(octets: &[u8]) -> bool
+/// Whether the octets spell a value, of which nothing is made where they are a binary file.
+///
+/// # Errors
+///
+/// Those of [`read_any`].
+pub fn judge_any(alloc: Global, octets: &[u8]) -> Result<(), Fault>
+    ensures ok { OnOk result ((v : Plist) × IsAccepted octets.now v) }
+    ensures refused { IfErr result (IsRefused octets.now) }
+{
+    if begins_as_binary(octets) {
+        Ok(judge(alloc, octets)?)
+    } else {
+        read_text(alloc, octets)?;
+        Ok(())
+    }
+}
+
+/// Whether the octets are read as a binary file: they begin with `bplist`.
+pub fn begins_as_binary(octets: &[u8]) -> bool
     ensures { result ≡ begins octets.now }
 {
     octets.starts_with(b"bplist")
 }
 
-/// The canonical file of the value that the octets spell.
+/// The canonical file of the value that the octets spell. That of a binary file is planned and made from the
+/// file itself, without its value.
 ///
 /// # Errors
 ///
@@ -45,8 +68,23 @@ pub fn canonicalise(alloc: Global, octets: &[u8]) -> Result<Vec<u8>, Fault>
     ensures canonical { IfOk result (λ file. IsCanonicalOf octets.now file.items) }
     ensures refused { IfErr result (IsRefused octets.now) }
 {
-    let value = read_any(alloc, octets)?;
-    Ok(plist_write::canonical(alloc, &value)?)
+    if begins_as_binary(octets) {
+        canonicalise_binary(alloc, octets)
+    } else {
+        let value = read_text(alloc, octets)?;
+        Ok(plist_write::canonical(alloc, &value)?)
+    }
+}
+
+// The canonical file of what a binary file spells.
+fn canonicalise_binary(alloc: Global, octets: &[u8]) -> Result<Vec<u8>, Fault>
+    requires { begins octets.now ≡ true }
+    ensures canonical { IfOk result (λ file. IsCanonicalOf octets.now file.items) }
+    ensures refused { IfErr result (IsRefused octets.now) }
+{
+    let file = BinFile::of(octets).map_err(BinaryFault::from)?;
+    judge(alloc, octets)?;
+    Ok(canonical_of(alloc, &file)?)
 }
 
 /// Whether the two octet lists spell equal values, which is whether their canonical files are equal. The
@@ -59,13 +97,13 @@ pub fn same_files(alloc: Global, a: &[u8], b: &[u8]) -> Result<bool, PairFault>
     ensures same { IfOk result (λ equal. IsPair a.now b.now equal) }
     ensures refused { IfErr result (IsRefusedPair a.now b.now) }
 {
-    let first = match read_any(alloc, a) {
-        Ok(value) => value,
+    let first = match canonicalise(alloc, a) {
+        Ok(file) => file,
         Err(fault) => return Err(PairFault::First(fault)),
     };
-    let second = match read_any(alloc, b) {
-        Ok(value) => value,
+    let second = match canonicalise(alloc, b) {
+        Ok(file) => file,
         Err(fault) => return Err(PairFault::Second(fault)),
     };
-    Ok(same(&first, &second))
+    Ok(first == second)
 }

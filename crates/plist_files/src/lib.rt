@@ -10,7 +10,7 @@ pub mod loading;
 pub mod pairs;
 pub mod statuses;
 
-pub use canonicals::{canonicalise, read_any, same_files};
+pub use canonicals::{begins_as_binary, canonicalise, judge_any, read_any, same_files};
 pub use faults::Fault;
 pub use lines::line;
 pub use loading::{MAX_INPUT, load};
