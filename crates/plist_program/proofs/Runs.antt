@@ -1,0 +1,115 @@
+-- From what the parts of a word ensure to its run.
+use Rattle.std.proofs.Common.{ap, arith, inl, inr, refl, subst, sym, Err, List, Ok, Option, Result, ℕ, ◌∙◌, ◌≡◌, ◌⊎◌}
+use Rattle.std.specs.Prelude.{◌≤◌, IfOk, MatchResult, length}
+use Rattle.std.specs.declared.alloc.AllocError.{AllocError}
+use Rattle.clap.specs.Words.{Text, kind_of}
+use Rattle.clap.specs.declared.Error.{Error}
+use Rattle.plist_devices.specs.Count.{HasFailed, count_limit}
+use Rattle.plist_files.specs.Fault.{code_of, status_for}
+use Rattle.plist_files.specs.declared.faults.Fault.{Fault}
+use Rattle.plist_files.specs.declared.faults.Fault.TheVariants.{WriteFailed}
+use Rattle.plist_disk.specs.Files.{FileName, Holds, SameFiles}
+use Rattle.plist_words.specs.Reading.{IsReading}
+use Rattle.plist_program.specs.declared.answers.Answer.{Answer}
+use Rattle.plist_program.specs.Answer.{IsSameAnswer, Said, refusal, said_of}
+use Rattle.plist_program.specs.Ending.{Ends, HaveFailed, Prints, no_memory}
+use Rattle.plist_program.specs.Explaining.{said_of_kind}
+use Rattle.plist_program.specs.Program.{IsRefusedRun}
+use Rattle.plist_program.specs.Runs.{IsCompared, IsFileRun, IsStoreRun, IsWanting, standard}
+use Rattle.plist_program.specs.State.{Ending, Input, State}
+use Rattle.plist_program.proofs.Disks.{stored_before}
+
+-- what printing an answer ensures
+abbrev pub Gives : State → State → Result Answer AllocError → ℕ → Type 0
+Gives before after answer status = MatchResult answer
+    (λ a. Prints before.printed after.printed before.print_failures after.print_failures (said_of a) status)
+    (λ _. Prints before.printed after.printed before.print_failures after.print_failures no_memory status)
+
+pub file_answered : (Answers : List ℕ → Said → Type 0) (path : FileName) (before after : State) (status : ℕ) (octets : List ℕ)
+    (answer : Result Answer AllocError) → Holds before.files path octets → SameFiles before.files after.files
+    → after.disk_failures ≡ before.disk_failures → IfOk answer (λ a. Answers octets (said_of a)) → Gives before after answer status
+    → IsFileRun Answers path before after status
+file_answered Answers path before after status octets (Ok a) holds kept unfailed answers prints = inr (inl (record {
+  octets = octets;
+  stands = holds;
+  said = said_of a;
+  answers = answers;
+  kept = kept;
+  unfailed = unfailed;
+  ends = inl prints;
+}))
+file_answered Answers path before after status octets (Err e) holds kept unfailed answers prints =
+    inr (inr (record { kept = kept; unfailed = unfailed; ends = prints }))
+
+pub files_compared : (first second : FileName) (before after : State) (status : ℕ) (a b : List ℕ) (answer : Result Answer AllocError)
+    → Holds before.files first a → Holds before.files second b → SameFiles before.files after.files
+    → after.disk_failures ≡ before.disk_failures → IfOk answer (λ r. IsSameAnswer first second a b (said_of r))
+    → Gives before after answer status
+    → IsCompared first second before after status ⊎ IsWanting before after status
+files_compared first second before after status a b (Ok r) holds_a holds_b kept unfailed answers prints = inl (record {
+  a = a;
+  b = b;
+  first_stands = holds_a;
+  second_stands = holds_b;
+  said = said_of r;
+  answers = answers;
+  kept = kept;
+  unfailed = unfailed;
+  ends = inl prints;
+})
+files_compared first second before after status a b (Err e) holds_a holds_b kept unfailed answers prints =
+    inr (record { kept = kept; unfailed = unfailed; ends = prints })
+
+-- what is stored after a load is stored from before it
+pub store_before : (from to : FileName) (file : List ℕ) (before middle after : State) (status : ℕ)
+    → SameFiles before.files middle.files → middle.disk_failures ≡ before.disk_failures → middle.printed ≡ before.printed
+    → middle.print_failures ≡ before.print_failures → IsStoreRun from to file middle after status
+    → IsStoreRun from to file before after status
+store_before from to file before middle after status same e printed failures run = record {
+  result = run.result;
+  stored = stored_before before.files middle.files after.files before.disk_failures middle.disk_failures after.disk_failures to file run.result same e run.stored;
+  ends = rw (← printed, ← failures) run.ends;
+}
+
+failed_twice : (before middle after : ℕ) → HasFailed before middle → (after ≡ middle) ⊎ HasFailed middle after → HaveFailed before after
+failed_twice before middle after (inl up) (inl same) = inl (omega (arith, up, same))
+failed_twice before middle after (inl up) (inr (inl more)) = inl (omega (arith, up, more))
+failed_twice before middle after (inl up) (inr (inr top)) = inr (omega (arith, top))
+failed_twice before middle after (inr top) (inl same) = inr (omega (arith, top, same))
+failed_twice before middle after (inr top) (inr (inl more)) = inr (omega (arith, top, more))
+failed_twice before middle after (inr top) (inr (inr end)) = inr (omega (arith, end))
+
+-- the file did not go out whole, whatever became of the line of that
+pub send_failed : (old new : Option (List ℕ)) (before middle after : ℕ) (fault : Fault) (sent status : ℕ) → fault ≡ WriteFailed sent
+    → HasFailed before middle → Ends old new middle after (refusal standard fault) status
+    → ((status ≡ 4) ⊎ (status ≡ 5)) × HaveFailed before after
+send_failed old new before middle after fault sent status is failed (inl (inl usual)) =
+    (inl (usual.0 ∙ ap (λ f. status_for (code_of f)) is), failed_twice before middle after failed (inl usual.2))
+send_failed old new before middle after fault sent status is failed (inl (inr unprinted)) =
+    (inl unprinted.0, failed_twice before middle after failed (inr unprinted.1))
+send_failed old new before middle after fault sent status is failed (inr (inl memory)) =
+    (inr memory.0, failed_twice before middle after failed (inl memory.2))
+send_failed old new before middle after fault sent status is failed (inr (inr unprinted)) =
+    (inl unprinted.0, failed_twice before middle after failed (inr unprinted.1))
+
+-- the words are refused
+pub refused_run : (words : List Text) (input : Input) (before after : State) (error : Error) (status : ℕ) → 2 ≤ length words
+    → IsReading words (Err error) → after.files ≡ before.files → after.disk_failures ≡ before.disk_failures
+    → (text : List ℕ) × Ending before after (said_of_kind text (kind_of error)) status
+    → IsRefusedRun words input input before after status
+refused_run words input before after error status many r files failures ends = record {
+  many = many;
+  untouched = refl;
+  explained = record {
+    kinds = r.kinds;
+    asked = r.asked;
+    parse = r.parse;
+    error = kind_of error;
+    among = r.refused;
+    nothing = r.nothing;
+    files = files;
+    disk_failures = failures;
+    text = ends.0;
+    ends = ends.1;
+  };
+}

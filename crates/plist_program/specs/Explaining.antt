@@ -1,0 +1,34 @@
+-- How the program ends where the words are refused or ask for help.
+use Rattle.std.specs.Prelude.{◌≡◌, ◌≢◌, ◌⊎◌, ℕ, List, [], None, Option}
+use Rattle.clap.specs.Words.{IsAmong, Kinds, Text}
+use Rattle.clap.specs.declared.error.ErrorKind.{ErrorKind}
+use Rattle.clap.specs.declared.error.ErrorKind.TheVariants as kind
+use Rattle.plist_words.specs.Asked.{Asked}
+use Rattle.plist_words.specs.Reading.{IsParse}
+use Rattle.plist_program.specs.Answer.{Said}
+use Rattle.plist_program.specs.State.{Ending, State}
+
+-- the status for an error of this kind: help and the version are what was asked for
+abbrev pub status_of_kind : ErrorKind → ℕ
+status_of_kind kind.DisplayHelp = 0
+status_of_kind kind.DisplayVersion = 0
+status_of_kind kind.OutOfMemory = 5
+status_of_kind _ = 3
+
+-- some text, with the status for an error of this kind
+abbrev pub said_of_kind : List ℕ → ErrorKind → Said
+said_of_kind text error = record { text = text; status = status_of_kind error }
+
+-- The words are refused, or ask for help, by an error of one of the kinds that the parser has for them; the files are
+-- as they were. It is want of memory, where the parser takes them and they ask for something.
+pub record IsExplained (words : List Text) (before after : State) (status : ℕ) : Type 0 where
+  pub kinds : Kinds
+  pub asked : Option Asked
+  pub parse : IsParse words kinds asked
+  pub error : ErrorKind
+  pub among : kinds ≢ [] → (error ≡ kind.OutOfMemory) ⊎ IsAmong error kinds
+  pub nothing : kinds ≡ [] → (asked ≡ None) ⊎ (error ≡ kind.OutOfMemory)
+  pub files : after.files ≡ before.files
+  pub disk_failures : after.disk_failures ≡ before.disk_failures
+  pub text : List ℕ
+  pub ends : Ending before after (said_of_kind text error) status

@@ -1,0 +1,15 @@
+-- The printed line of a verdict, and the program's status for it.
+use Rattle.std.specs.Prelude.{ℕ, List, ◌++◌, codes}
+use Rattle.std.specs.Fmt.{decimal}
+use Rattle.plist_canon.specs.declared.checking.Verdict.{Verdict}
+use Rattle.plist_canon.specs.declared.checking.Verdict.TheVariants.{Canonical, Broken}
+use Rattle.plist_binary.specs.Codes.{at_object}
+
+abbrev pub verdict_text : Verdict → List ℕ
+verdict_text Canonical = codes "canonical"
+verdict_text (Broken rule object) = codes "broken C" ++ (decimal rule ++ at_object object)
+
+-- 0 where the file is canonical, else 1
+abbrev pub verdict_status_for : Verdict → ℕ
+verdict_status_for Canonical = 0
+verdict_status_for (Broken _ _) = 1

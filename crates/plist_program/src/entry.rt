@@ -1,0 +1,92 @@
+//! The whole program.
+ghost use Rattle.std.specs.Prelude.{◌≡◌, ℕ, None, map};
+ghost use Rattle.plist_words.specs.Asked.{asked_by};
+ghost use Rattle.plist_program.specs.Program.{IsAskedRun, IsRun};
+ghost use Rattle.plist_program.specs.State.{Input, input_of, state};
+
+use crate::filtering::filter;
+use crate::outputs::{Output, Stream};
+use crate::printing::explain;
+use crate::words::{check_file, compare_files, convert_to, lint_file};
+use plist_devices::{ReaderSource, Source};
+use plist_disk::{Disk, HostDisk};
+use plist_words::{Request, read_words};
+use std::alloc::Global;
+use std::io::{Read, Write};
+use std::rt::Files;
+
+/// The whole program over the files of the host: reads the words, of which the first is the program's name,
+/// does what they ask, and answers the exit status: 0 where it is done, 1 where two values differ or a file
+/// that was checked is not canonical, 2 where a file is refused, 3 where the words are not understood, 4
+/// where a file cannot be read or written or a line cannot be printed, 5 where no memory is left.
+///
+/// `input` and `output` are standard input and standard output. Answers, refusals and the texts of `clap`
+/// are printed on `output`.
+pub fn run<R: Files, I: Read, O: Write>(
+    rt: &R,
+    alloc: Global,
+    words: &[&str],
+    input: &mut I,
+    output: &mut O,
+) -> u8
+    // It is a run over a disk that tells nothing, whose devices and streams failed so many times.
+    ensures { (disk_failed : ℕ) × (print_failed : ℕ) × (rest : Input) × IsRun (map (λ word. word.now) words.now)
+        (input_of (I.remaining input.old) 0) rest
+        (state None 0 (O.contents output.old) 0)
+        (state None disk_failed (O.contents output.new) print_failed) result }
+{
+    run_on(
+        alloc,
+        &mut HostDisk::new(rt),
+        words,
+        &mut ReaderSource::new(input),
+        &mut Stream::new(output),
+    )
+}
+
+/// The whole program over any disk and streams, as [`run`] over the files of the host.
+pub fn run_on<D: Disk, S: Source, W: Output>(
+    alloc: Global,
+    disk: &mut D,
+    words: &[&str],
+    input: &mut S,
+    output: &mut W,
+) -> u8
+    ensures run { IsRun (map (λ word. word.now) words.now)
+        (input_of (S.remaining input.old) (S.failures input.old))
+        (input_of (S.remaining input.new) (S.failures input.new))
+        (state (D.files disk.old) (D.failures disk.old) (W.printed output.old) (W.failures output.old))
+        (state (D.files disk.new) (D.failures disk.new) (W.printed output.new) (W.failures output.new))
+        result }
+    ensures same { W.device output.new ≡ W.device output.old }
+{
+    match read_words(alloc, words) {
+        Ok(request) => obey(alloc, disk, request, input, output),
+        Err(error) => explain(alloc, &error, output),
+    }
+}
+
+/// Does what was asked for.
+fn obey<D: Disk, S: Source, W: Output>(
+    alloc: Global,
+    disk: &mut D,
+    request: Request,
+    input: &mut S,
+    output: &mut W,
+) -> u8
+    ensures run { IsAskedRun (asked_by request.entry)
+        (input_of (S.remaining input.old) (S.failures input.old))
+        (input_of (S.remaining input.new) (S.failures input.new))
+        (state (D.files disk.old) (D.failures disk.old) (W.printed output.old) (W.failures output.old))
+        (state (D.files disk.new) (D.failures disk.new) (W.printed output.new) (W.failures output.new))
+        result }
+    ensures same { W.device output.new ≡ W.device output.old }
+{
+    match request {
+        Request::Filter => filter(alloc, input, output),
+        Request::Convert { form, from, to } => convert_to(alloc, disk, form, from, to, output),
+        Request::Same { first, second } => compare_files(alloc, disk, first, second, output),
+        Request::Lint { path } => lint_file(alloc, disk, path, output),
+        Request::Check { path } => check_file(alloc, disk, path, output),
+    }
+}

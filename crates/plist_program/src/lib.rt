@@ -1,0 +1,13 @@
+//! What the program `plistconv` does, over any disk, input and output: for each word what is answered for
+//! the octets that were loaded, and the whole program.
+#![tactic(auto)]
+
+pub mod answers;
+mod entry;
+mod filtering;
+pub mod outputs;
+mod printing;
+mod verdicts;
+mod words;
+
+pub use entry::{run, run_on};

@@ -1,0 +1,106 @@
+//! Printing: octets, lines, and how the program ends for them.
+ghost use Rattle.std.specs.Prelude.{◌≡◌, ◌<◌, ℕ, List, MatchResult, OnOk, IfErr, length, take};
+ghost use Rattle.std.specs.Io.KnownBytes.{Appends};
+ghost use Rattle.clap.specs.Words.{kind_of};
+ghost use Rattle.plist_devices.specs.Count.{HasFailed};
+ghost use Rattle.plist_files.specs.Status.{status_code};
+ghost use Rattle.plist_program.specs.Answer.{refusal, said_of};
+ghost use Rattle.plist_program.specs.Ending.{Ends, Prints, no_memory as no_memory_said};
+ghost use Rattle.plist_program.specs.Explaining.{said_of_kind, status_of_kind};
+
+use crate::answers::{Answer, refused};
+use crate::outputs::Output;
+use clap::error::{Error, ErrorKind};
+use plist_files::{Fault, Status};
+use std::alloc::{AllocError, Global};
+
+/// Prints all octets, and counts what went out: [`Fault::WriteFailed`] tells how many were printed before
+/// the device failed.
+pub(crate) fn send<W: Output>(output: &mut W, octets: &[u8]) -> Result<(), Fault>
+    ensures ok { OnOk result (Appends (W.printed output.old) (W.printed output.new) octets.now
+        × (W.failures output.new ≡ W.failures output.old)) }
+    ensures err { IfErr result (λ fault. (sent : ℕ) × (fault ≡ Fault.WriteFailed sent) × (sent < length octets.now)
+        × Appends (W.printed output.old) (W.printed output.new) (take sent octets.now)
+        × HasFailed (W.failures output.old) (W.failures output.new)) }
+    ensures same { W.device output.new ≡ W.device output.old }
+{
+    let mut sent = 0;
+    while sent < octets.len() {
+        match output.print_some(&octets[sent..]) {
+            Ok(taken) => sent += taken,
+            Err(_) => return Err(Fault::WriteFailed { sent: sent as u64 }),
+        }
+    }
+    Ok(())
+}
+
+/// Prints the text, and answers the status, or that it could not be printed.
+pub(crate) fn print<W: Output>(output: &mut W, text: &str, status: Status) -> u8
+    ensures ends { Prints (W.printed output.old) (W.printed output.new)
+        (W.failures output.old) (W.failures output.new)
+        (record { text = text.now; status = status_code status }) result }
+    ensures same { W.device output.new ≡ W.device output.old }
+{
+    match send(output, text.as_bytes()) {
+        Ok(()) => status.code(),
+        Err(_) => Status::DeviceFailed.code(),
+    }
+}
+
+/// Prints an answer, and answers its status.
+pub(crate) fn give<W: Output>(output: &mut W, answer: Result<Answer, AllocError>) -> u8
+    ensures ends { MatchResult answer
+        (λ answer. Prints (W.printed output.old) (W.printed output.new)
+        (W.failures output.old) (W.failures output.new) (said_of answer) result)
+        (λ _. Prints (W.printed output.old) (W.printed output.new)
+        (W.failures output.old) (W.failures output.new) no_memory_said result) }
+    ensures same { W.device output.new ≡ W.device output.old }
+{
+    match answer {
+        Ok(answer) => print(output, answer.text.as_str(), answer.status),
+        Err(_) => report_no_memory(output),
+    }
+}
+
+/// Prints the line of a refusal, and answers its status.
+pub(crate) fn report<W: Output>(alloc: Global, path: &str, fault: &Fault, output: &mut W) -> u8
+    ensures ends { Ends (W.printed output.old) (W.printed output.new)
+        (W.failures output.old) (W.failures output.new) (refusal path.now fault.now) result }
+    ensures same { W.device output.new ≡ W.device output.old }
+{
+    match refused(alloc, path, fault) {
+        Ok(answer) => print(output, answer.text.as_str(), answer.status),
+        Err(_) => report_no_memory(output),
+    }
+}
+
+/// Prints what `clap` says of the words, and answers the status.
+pub(crate) fn explain<W: Output>(alloc: Global, error: &Error, output: &mut W) -> u8
+    ensures ends { (text : List ℕ) × Ends (W.printed output.old) (W.printed output.new)
+        (W.failures output.old) (W.failures output.new) (said_of_kind text (kind_of error.now)) result }
+    ensures same { W.device output.new ≡ W.device output.old }
+{
+    let status = status_of(error);
+    match format!(in alloc; "{error}") {
+        Ok(text) if status != Status::NoMemory => print(output, text.as_str(), status),
+        _ => report_no_memory(output),
+    }
+}
+
+fn status_of(error: &Error) -> Status
+    ensures { status_code result ≡ status_of_kind (kind_of error.now) }
+{
+    match error.kind() {
+        ErrorKind::OutOfMemory => Status::NoMemory,
+        ErrorKind::DisplayHelp | ErrorKind::DisplayVersion => Status::Done,
+        _ => Status::BadWords,
+    }
+}
+
+fn report_no_memory<W: Output>(output: &mut W) -> u8
+    ensures ends { Prints (W.printed output.old) (W.printed output.new)
+        (W.failures output.old) (W.failures output.new) no_memory_said result }
+    ensures same { W.device output.new ≡ W.device output.old }
+{
+    print(output, "refused 60 OutOfMemory\n", Status::NoMemory)
+}

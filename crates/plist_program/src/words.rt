@@ -1,0 +1,159 @@
+//! What each word of the program does with the files that it names.
+ghost use Rattle.std.specs.Prelude.{◌≡◌};
+ghost use Rattle.plist_value.specs.Limits.{Fits};
+ghost use Rattle.plist_value.specs.View.{view};
+ghost use Rattle.plist_write.specs.Canonical.{canon};
+ghost use Rattle.plist_program.specs.Runs.{IsCheckRun, IsConvertRun, IsLintRun, IsSameRun, IsStoreRun};
+ghost use Rattle.plist_program.specs.Program.{IsConvertTo};
+ghost use Rattle.plist_program.specs.State.{state};
+
+use crate::answers::{check_answer, lint_answer, same_answer};
+use crate::outputs::Output;
+use crate::printing::{give, print, report};
+use plist_disk::{CanonicalFile, Disk};
+use plist_files::{Fault, Status, read_any};
+use plist_value::Value;
+use plist_words::Form;
+use plist_write::WriteFault;
+use std::alloc::Global;
+
+/// `check IN`.
+pub(crate) fn check_file<D: Disk, W: Output>(
+    alloc: Global,
+    disk: &mut D,
+    path: &str,
+    output: &mut W,
+) -> u8
+    ensures run { IsCheckRun path.now
+        (state (D.files disk.old) (D.failures disk.old) (W.printed output.old) (W.failures output.old))
+        (state (D.files disk.new) (D.failures disk.new) (W.printed output.new) (W.failures output.new))
+        result }
+    ensures same { W.device output.new ≡ W.device output.old }
+{
+    match disk.load(alloc, path) {
+        Ok(octets) => give(output, check_answer(alloc, path, octets.as_slice())),
+        Err(fault) => report(alloc, path, &fault, output),
+    }
+}
+
+/// `lint IN`.
+pub(crate) fn lint_file<D: Disk, W: Output>(
+    alloc: Global,
+    disk: &mut D,
+    path: &str,
+    output: &mut W,
+) -> u8
+    ensures run { IsLintRun path.now
+        (state (D.files disk.old) (D.failures disk.old) (W.printed output.old) (W.failures output.old))
+        (state (D.files disk.new) (D.failures disk.new) (W.printed output.new) (W.failures output.new))
+        result }
+    ensures same { W.device output.new ≡ W.device output.old }
+{
+    match disk.load(alloc, path) {
+        Ok(octets) => give(output, lint_answer(alloc, path, octets.as_slice())),
+        Err(fault) => report(alloc, path, &fault, output),
+    }
+}
+
+/// `same A B`: loads A, then B, and only then reads them.
+pub(crate) fn compare_files<D: Disk, W: Output>(
+    alloc: Global,
+    disk: &mut D,
+    first: &str,
+    second: &str,
+    output: &mut W,
+) -> u8
+    ensures run { IsSameRun first.now second.now
+        (state (D.files disk.old) (D.failures disk.old) (W.printed output.old) (W.failures output.old))
+        (state (D.files disk.new) (D.failures disk.new) (W.printed output.new) (W.failures output.new))
+        result }
+    ensures same { W.device output.new ≡ W.device output.old }
+{
+    let a = match disk.load(alloc, first) {
+        Ok(octets) => octets,
+        Err(fault) => return report(alloc, first, &fault, output),
+    };
+    match disk.load(alloc, second) {
+        Ok(b) => give(
+            output,
+            same_answer(alloc, first, second, a.as_slice(), b.as_slice()),
+        ),
+        Err(fault) => report(alloc, second, &fault, output),
+    }
+}
+
+/// `convert FORM IN OUT`.
+pub(crate) fn convert_to<D: Disk, W: Output>(
+    alloc: Global,
+    disk: &mut D,
+    form: Form,
+    from: &str,
+    to: &str,
+    output: &mut W,
+) -> u8
+    ensures run { IsConvertTo form from.now to.now
+        (state (D.files disk.old) (D.failures disk.old) (W.printed output.old) (W.failures output.old))
+        (state (D.files disk.new) (D.failures disk.new) (W.printed output.new) (W.failures output.new))
+        result }
+    ensures same { W.device output.new ≡ W.device output.old }
+{
+    match form {
+        Form::Binary1 => convert_file(alloc, disk, from, to, output),
+        Form::OpenStep => print(
+            output,
+            "error: no OpenStep text is written yet\n",
+            Status::BadWords,
+        ),
+    }
+}
+
+/// `convert binary1 IN OUT`: reads all of IN, and only then creates or empties OUT.
+fn convert_file<D: Disk, W: Output>(
+    alloc: Global,
+    disk: &mut D,
+    from: &str,
+    to: &str,
+    output: &mut W,
+) -> u8
+    ensures run { IsConvertRun from.now to.now
+        (state (D.files disk.old) (D.failures disk.old) (W.printed output.old) (W.failures output.old))
+        (state (D.files disk.new) (D.failures disk.new) (W.printed output.new) (W.failures output.new))
+        result }
+    ensures same { W.device output.new ≡ W.device output.old }
+{
+    let octets = match disk.load(alloc, from) {
+        Ok(octets) => octets,
+        Err(fault) => return report(alloc, from, &fault, output),
+    };
+    match read_any(alloc, octets.as_slice()) {
+        Ok(value) => store_file(alloc, disk, value, from, to, output),
+        Err(fault) => report(alloc, from, &fault, output),
+    }
+}
+
+/// The canonical file of the value, to the path.
+fn store_file<D: Disk, W: Output>(
+    alloc: Global,
+    disk: &mut D,
+    value: Value,
+    from: &str,
+    to: &str,
+    output: &mut W,
+) -> u8
+    requires { Fits (view value) }
+    ensures run { IsStoreRun from.now to.now (canon (view value))
+        (state (D.files disk.old) (D.failures disk.old) (W.printed output.old) (W.failures output.old))
+        (state (D.files disk.new) (D.failures disk.new) (W.printed output.new) (W.failures output.new))
+        result }
+    ensures same { W.device output.new ≡ W.device output.old }
+{
+    match disk.store(alloc, to, &CanonicalFile::new(value)) {
+        Ok(_) => Status::Done.code(),
+        Err(WriteFault::WriteFailed { sent }) => {
+            report(alloc, to, &Fault::WriteFailed { sent }, output)
+        }
+        Err(WriteFault::OutOfMemory { sent }) => {
+            report(alloc, from, &Fault::OutOfMemory { sent }, output)
+        }
+    }
+}
