@@ -10,12 +10,13 @@ use Rattle.ostep_form.specs.declared.fault.TextFault.TheVariants as text
 use Rattle.plist_canon.specs.declared.checking.CheckFault.{CheckFault}
 use Rattle.plist_canon.specs.declared.checking.CheckFault.TheVariants as check
 use Rattle.plist_files.specs.declared.faults.Fault.{Fault}
-use Rattle.plist_files.specs.declared.faults.Fault.TheVariants.{Binary, Text, ReadFailed, WriteFailed, InputTooLarge, OutOfMemory}
+use Rattle.plist_files.specs.declared.faults.Fault.TheVariants.{Binary, Text, NotInOpenStep, ReadFailed, WriteFailed, InputTooLarge, OutOfMemory}
 
 -- the number of a refusal
 abbrev pub code_of : Fault → ℕ
 code_of (Binary fault) = binary_codes.fault_code fault
 code_of (Text fault) = text_codes.code_of fault
+code_of NotInOpenStep = 40
 code_of ReadFailed = 50
 code_of (WriteFailed _) = 51
 code_of InputTooLarge = 52
@@ -29,6 +30,7 @@ after_octets sent = codes " after " ++ (decimal sent ++ codes " octets")
 abbrev pub fault_text : Fault → List ℕ
 fault_text (Binary fault) = binary_codes.fault_text fault
 fault_text (Text fault) = text_codes.text_of_fault fault
+fault_text NotInOpenStep = codes "40 NotInOpenStep"
 fault_text ReadFailed = codes "50 ReadFailed"
 fault_text (WriteFailed sent) = codes "51 WriteFailed" ++ after_octets sent
 fault_text InputTooLarge = codes "52 InputTooLarge"

@@ -8,7 +8,7 @@ use Rattle.ostep_form.specs.declared.fault.TextFault.TheVariants as text
 use Rattle.plist_files.specs.Accepted.{IsAccepted, begins_as_binary}
 use Rattle.plist_files.specs.Fault.{code_of}
 use Rattle.plist_files.specs.declared.faults.Fault.{Fault}
-use Rattle.plist_files.specs.declared.faults.Fault.TheVariants.{Binary, Text, ReadFailed, WriteFailed, InputTooLarge, OutOfMemory}
+use Rattle.plist_files.specs.declared.faults.Fault.TheVariants.{Binary, Text, NotInOpenStep, ReadFailed, WriteFailed, InputTooLarge, OutOfMemory}
 
 -- The fault stands in the octets, at its place, and is of the form that they are read as. A want of memory says nothing
 -- of them: it came before anything went out, and is told by its own name, not as a reader's.
@@ -18,6 +18,7 @@ FaultStands octets (Binary fault) = (begins_as_binary octets ≡ true) × of_bin
 FaultStands octets (Text text.OutOfMemory) = ⊥
 FaultStands octets (Text fault) = (begins_as_binary octets ≡ false) × of_text.Stands octets fault
 FaultStands octets (OutOfMemory sent) = sent ≡ 0
+FaultStands octets NotInOpenStep = ⊥
 FaultStands octets ReadFailed = ⊥
 FaultStands octets (WriteFailed sent) = ⊥
 FaultStands octets InputTooLarge = ⊥

@@ -20,6 +20,8 @@ pub enum Fault {
     Binary(BinaryFault),
     /// 14, 16 to 18, 20, 21 and 23 to 32: the octets are no text of a value.
     Text(TextFault),
+    /// 40: the value has no OpenStep text.
+    NotInOpenStep,
     /// 50: the source failed.
     ReadFailed,
     /// 51: the sink failed after it had taken `sent` octets.
@@ -38,6 +40,7 @@ impl Fault {
         match self {
             Fault::Binary(fault) => fault.code(),
             Fault::Text(fault) => fault.code(),
+            Fault::NotInOpenStep => 40,
             Fault::ReadFailed => 50,
             Fault::WriteFailed { .. } => 51,
             Fault::InputTooLarge => 52,
@@ -77,6 +80,7 @@ impl fmt::Display for Fault {
         match self {
             Fault::Binary(fault) => write!(f, "{fault}"),
             Fault::Text(fault) => write!(f, "{fault}"),
+            Fault::NotInOpenStep => write!(f, "40 NotInOpenStep"),
             Fault::ReadFailed => write!(f, "50 ReadFailed"),
             Fault::WriteFailed { sent } => write!(f, "51 WriteFailed after {sent} octets"),
             Fault::InputTooLarge => write!(f, "52 InputTooLarge"),
