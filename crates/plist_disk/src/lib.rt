@@ -6,8 +6,10 @@ pub mod disks;
 mod file_sink;
 pub mod host_disk;
 pub mod memory_disk;
+pub mod octets;
 
 pub use contents::{CanonicalFile, Content};
 pub use disks::Disk;
 pub use host_disk::HostDisk;
 pub use memory_disk::MemoryDisk;
+pub use octets::Octets;
