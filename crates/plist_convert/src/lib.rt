@@ -2,13 +2,8 @@
 //! it all that the library offers: sources, what is loaded from them, canonical files, refusals.
 #![tactic(auto)]
 
-mod program;
-mod sending;
-mod verdicts;
-mod words;
-
 pub use plist_devices::{DeviceFault, ListSource, ReaderSource, Source};
 pub use plist_files::{
     Fault, MAX_INPUT, PairFault, Status, canonicalise, laws, line, load, read_any, same_files,
 };
-pub use program::run;
+pub use plist_program::run;

@@ -3,7 +3,7 @@ use Rattle.std.proofs.Common.{subst, sym, Err, List, None, Ok, Option, Result, S
 use Rattle.std.specs.Prelude.{◌≢◌, ◌<◌, IfSome, length, take}
 use Rattle.plist_devices.specs.Count.{HasFailed}
 use Rattle.plist_files.specs.declared.faults.Fault.{Fault}
-use Rattle.plist_files.specs.declared.faults.Fault.TheVariants.{Binary, InputTooLarge, OutOfMemory, ReadFailed, WriteFailed}
+use Rattle.plist_files.specs.declared.faults.Fault.TheVariants.{InputTooLarge, OutOfMemory, ReadFailed}
 use Rattle.plist_files.specs.declared.loading.TheConstants.{MAX_INPUT}
 use Rattle.plist_write.specs.declared.sending.WriteFault.{WriteFault}
 use Rattle.plist_write.specs.Sending.{IsBlamed, sent_of}
@@ -44,8 +44,7 @@ unloaded_before f m path before middle after ReadFailed same e h =
 unloaded_before f m path before middle after InputTooLarge same e h =
     (told_before (IsLargeAt path) (λ old mid s t. (t.0, (sym (s path) ∙ t.1.0, t.1.1))) f m same h.0, h.1 ∙ e)
 unloaded_before f m path before middle after (OutOfMemory sent) same e h = (h.0, h.1 ∙ e)
-unloaded_before f m path before middle after (Binary fault) same e h = absurd h
-unloaded_before f m path before middle after (WriteFailed sent) same e h = absurd h
+unloaded_before f m path before middle after _ same e h = absurd h
 
 abbrev IsFrontAt : FileName → List ℕ → ℕ → Files → Files → Type 0
 IsFrontAt path octets sent old new = ((sent ≡ 0) × (new path ≡ old path)) ⊎ (new path ≡ Some (take sent octets))

@@ -1,14 +1,13 @@
 -- The whole program: words, what is there before, what is there after, and the status.
-use Rattle.std.specs.Prelude.{◌≡◌, ◌⊎◌, ℕ, ◌<◌, ◌≤◌, List, [], Option, Some, length, codes}
+use Rattle.std.specs.Prelude.{◌≡◌, ◌⊎◌, ℕ, ◌<◌, ◌≤◌, List, [], Option, Some, length}
 use Rattle.clap.specs.Words.{Kinds, Text}
 use Rattle.plist_words.specs.Asked.{Asked, Filters, Converts, Compares, Lints, Checks}
 use Rattle.plist_words.specs.Reading.{IsParse}
 use Rattle.plist_words.specs.declared.request.Form.{Form}
 use Rattle.plist_words.specs.declared.request.Form.TheVariants.{Binary1, OpenStep}
-use Rattle.plist_program.specs.Answer.{said}
 use Rattle.plist_program.specs.Explaining.{IsExplained}
-use Rattle.plist_program.specs.Runs.{IsCheckRun, IsConvertRun, IsFilterRun, IsLintRun, IsSameRun}
-use Rattle.plist_program.specs.State.{Ending, Input, State}
+use Rattle.plist_program.specs.Runs.{IsCheckRun, IsConvertRun, IsConvertTextRun, IsFilterRun, IsLintRun, IsSameRun}
+use Rattle.plist_program.specs.State.{Input, State}
 
 -- no file and no failure of one changes
 abbrev pub KeepsDisk : State → State → Type 0
@@ -17,8 +16,7 @@ KeepsDisk before after = (after.files ≡ before.files) × (after.disk_failures 
 -- `convert FORM IN OUT`
 unfoldable pub IsConvertTo : Form → Text → Text → State → State → ℕ → Type 0
 IsConvertTo Binary1 from to before after status = IsConvertRun from to before after status
-IsConvertTo OpenStep from to before after status =
-    KeepsDisk before after × Ending before after (said (codes "error: no OpenStep text is written yet") 3) status
+IsConvertTo OpenStep from to before after status = IsConvertTextRun from to before after status
 
 -- what was asked for is done
 unfoldable pub IsAskedRun : Asked → Input → Input → State → State → ℕ → Type 0

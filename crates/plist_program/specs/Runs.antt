@@ -10,7 +10,7 @@ use Rattle.plist_files.specs.declared.faults.Fault.TheVariants as refusal_kind
 use Rattle.plist_write.specs.declared.sending.WriteFault.{WriteFault}
 use Rattle.plist_write.specs.declared.sending.WriteFault.TheVariants as write
 use Rattle.plist_disk.specs.Files.{FileName, Holds, IsStored, IsUnloaded, SameFiles}
-use Rattle.plist_program.specs.Answer.{IsCheckAnswer, IsLintAnswer, IsRefusedAnswer, IsSameAnswer, Said, refusal}
+use Rattle.plist_program.specs.Answer.{IsCheckAnswer, IsLintAnswer, IsRefusedAnswer, IsSameAnswer, IsTextOf, IsTextRefusal, Said, refusal}
 use Rattle.plist_program.specs.Ending.{HaveFailed}
 use Rattle.plist_program.specs.State.{Ending, Input, State, Wanting}
 
@@ -99,6 +99,20 @@ unfoldable pub IsConvertRun : FileName → FileName → State → State → ℕ 
 IsConvertRun from to before after status =
     IsUnread from before after status ⊎ (IsAnswered (IsRefusedAnswer from) from before after status
     ⊎ IsConverted from to before after status)
+
+-- The OpenStep text of what stands at one path goes to the other.
+pub record IsTextConverted (from to : FileName) (before after : State) (status : ℕ) : Type 0 where
+  pub octets : List ℕ
+  pub stands : Holds before.files from octets
+  pub text : List ℕ
+  pub is : IsTextOf octets text
+  pub stored : IsStoreRun from to text before after status
+
+-- `convert openstep IN OUT`
+unfoldable pub IsConvertTextRun : FileName → FileName → State → State → ℕ → Type 0
+IsConvertTextRun from to before after status =
+    IsUnread from before after status ⊎ (IsAnswered (IsTextRefusal from) from before after status
+    ⊎ IsTextConverted from to before after status)
 
 -- the path that stands for standard input and standard output in a line
 abbrev pub standard : FileName

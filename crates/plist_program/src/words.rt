@@ -1,18 +1,14 @@
 //! What each word of the program does with the files that it names.
 ghost use Rattle.std.specs.Prelude.{◌≡◌};
-ghost use Rattle.plist_value.specs.Limits.{Fits};
-ghost use Rattle.plist_value.specs.View.{view};
-ghost use Rattle.plist_write.specs.Canonical.{canon};
-ghost use Rattle.plist_program.specs.Runs.{IsCheckRun, IsConvertRun, IsLintRun, IsSameRun, IsStoreRun};
+ghost use Rattle.plist_program.specs.Runs.{IsCheckRun, IsConvertRun, IsConvertTextRun, IsLintRun, IsSameRun, IsStoreRun};
 ghost use Rattle.plist_program.specs.Program.{IsConvertTo};
 ghost use Rattle.plist_program.specs.State.{state};
 
-use crate::answers::{check_answer, lint_answer, same_answer};
+use crate::answers::{check_answer, lint_answer, same_answer, text_of_octets};
 use crate::outputs::Output;
-use crate::printing::{give, print, report};
-use plist_disk::{CanonicalFile, Disk};
+use crate::printing::{give, report};
+use plist_disk::{CanonicalFile, Content, Disk, Octets};
 use plist_files::{Fault, Status, read_any};
-use plist_value::Value;
 use plist_words::Form;
 use plist_write::WriteFault;
 use std::alloc::Global;
@@ -99,11 +95,7 @@ pub(crate) fn convert_to<D: Disk, W: Output>(
 {
     match form {
         Form::Binary1 => convert_file(alloc, disk, from, to, output),
-        Form::OpenStep => print(
-            output,
-            "error: no OpenStep text is written yet\n",
-            Status::BadWords,
-        ),
+        Form::OpenStep => convert_text(alloc, disk, from, to, output),
     }
 }
 
@@ -126,28 +118,51 @@ fn convert_file<D: Disk, W: Output>(
         Err(fault) => return report(alloc, from, &fault, output),
     };
     match read_any(alloc, octets.as_slice()) {
-        Ok(value) => store_file(alloc, disk, value, from, to, output),
+        Ok(value) => store_file(alloc, disk, &CanonicalFile::new(value), from, to, output),
         Err(fault) => report(alloc, from, &fault, output),
     }
 }
 
-/// The canonical file of the value, to the path.
-fn store_file<D: Disk, W: Output>(
+/// `convert openstep IN OUT`: makes all of the text, and only then creates or empties OUT.
+fn convert_text<D: Disk, W: Output>(
     alloc: Global,
     disk: &mut D,
-    value: Value,
     from: &str,
     to: &str,
     output: &mut W,
 ) -> u8
-    requires { Fits (view value) }
-    ensures run { IsStoreRun from.now to.now (canon (view value))
+    ensures run { IsConvertTextRun from.now to.now
         (state (D.files disk.old) (D.failures disk.old) (W.printed output.old) (W.failures output.old))
         (state (D.files disk.new) (D.failures disk.new) (W.printed output.new) (W.failures output.new))
         result }
     ensures same { W.device output.new ≡ W.device output.old }
 {
-    match disk.store(alloc, to, &CanonicalFile::new(value)) {
+    let octets = match disk.load(alloc, from) {
+        Ok(octets) => octets,
+        Err(fault) => return report(alloc, from, &fault, output),
+    };
+    match text_of_octets(alloc, octets.as_slice()) {
+        Ok(text) => store_file(alloc, disk, &Octets::new(text), from, to, output),
+        Err(fault) => report(alloc, from, &fault, output),
+    }
+}
+
+/// The content, to the path.
+fn store_file<D: Disk, C: Content, W: Output>(
+    alloc: Global,
+    disk: &mut D,
+    content: &C,
+    from: &str,
+    to: &str,
+    output: &mut W,
+) -> u8
+    ensures run { IsStoreRun from.now to.now (C.octets content.now)
+        (state (D.files disk.old) (D.failures disk.old) (W.printed output.old) (W.failures output.old))
+        (state (D.files disk.new) (D.failures disk.new) (W.printed output.new) (W.failures output.new))
+        result }
+    ensures same { W.device output.new ≡ W.device output.old }
+{
+    match disk.store(alloc, to, content) {
         Ok(_) => Status::Done.code(),
         Err(WriteFault::WriteFailed { sent }) => {
             report(alloc, to, &Fault::WriteFailed { sent }, output)

@@ -4,7 +4,7 @@ use Rattle.plist_write.specs.Canonical.{canon}
 use Rattle.plist_files.specs.Accepted.{IsAccepted}
 use Rattle.plist_files.specs.Refusals.{IsRefused}
 use Rattle.plist_program.specs.Answer.{refusal}
-use Rattle.plist_program.specs.Runs.{IsConvertRun}
+use Rattle.plist_program.specs.Runs.{IsConvertRun, IsStoreRun}
 use Rattle.plist_program.specs.State.{state}
 use Rattle.plist_program.proofs.Runs.{store_before}
 use Rattle.plist_program.proofs.words.convert_file.Goals as goal
@@ -25,6 +25,7 @@ returns-in-Ok-read_any-clause-run g c =
     let middle = state (g.D.Disk.files c.load.new.self) (g.D.Disk.failures c.load.new.self) (g.W.Output.printed c.args.output.now) (g.W.Output.failures c.args.output.now) in
     let after = state (g.D.Disk.files c.store_file.new.disk) (g.D.Disk.failures c.store_file.new.disk) (g.W.Output.printed c.store_file.new.output) (g.W.Output.failures c.store_file.new.output) in
     let value = view c.in-Ok-read_any.value in
+    let stored : IsStoreRun c.args.from.now c.args.to.now (canon value) middle after c.store_file.result = rw c.new.ensures at c.store_file.ensures.run in
     let accepted : IsAccepted c.in-Ok.octets.items value = search rules in
     inr (inr (record {
       octets = c.in-Ok.octets.items;
@@ -32,7 +33,7 @@ returns-in-Ok-read_any-clause-run g c =
       file = canon value;
       canonical = record { value = value; accepted = accepted; canonical = refl };
       stored = store_before c.args.from.now c.args.to.now (canon value) before middle after c.store_file.result
-          c.in-Ok.ensures.kept c.in-Ok.ensures.unfailed refl refl c.store_file.ensures.run;
+          c.in-Ok.ensures.kept c.in-Ok.ensures.unfailed refl refl stored;
     }))
 
 pub returns-clause-run : goal.returns-clause-run

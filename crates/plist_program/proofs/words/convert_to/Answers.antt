@@ -1,4 +1,3 @@
-use Rattle.std.proofs.Common.{inl, refl}
 use Rattle.plist_program.specs.Program.{IsConvertTo}
 use Rattle.plist_program.proofs.words.convert_to.Goals as goal
 
@@ -8,4 +7,4 @@ returns-in-Binary1-clause-run g c = rw c.in-Binary1.is c.convert_file.ensures.ru
 
 pub returns-in-OpenStep-clause-run : goal.returns-in-OpenStep-clause-run
 unfolding IsConvertTo
-returns-in-OpenStep-clause-run g c = rw c.in-OpenStep.is ((refl, refl), inl c.print.ensures.ends)
+returns-in-OpenStep-clause-run g c = rw c.in-OpenStep.is c.convert_text.ensures.run

@@ -1,4 +1,0 @@
-pub mod CommandLine
-pub mod Filter
-pub mod Printed
-pub mod Verdicts

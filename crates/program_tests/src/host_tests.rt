@@ -1,0 +1,176 @@
+//! The words of the program, over the files of the host.
+use crate::worked_files::{REAL4, REAL8, TABLE, TABLE_TEXT, TRUE, TWICE, UNSORTED};
+use plist_program::run;
+use std::fs;
+use std::io::{self, Read, Write};
+use std::test::Fail;
+
+fn status_of(rt: &HostRuntime, words: &[&str], output: &mut Vec<u8>) -> u8 {
+    let mut input: &[u8] = b"";
+    run(rt, rt.alloc(), words, &mut input, output)
+}
+
+/// What stands at the paths of the worked rows.
+const FILES: [(&str, &[u8]); 7] = [
+    ("row2.txt", TABLE_TEXT),
+    ("row2.bin", TABLE),
+    ("unsorted.bin", UNSORTED),
+    ("twice.txt", TWICE),
+    ("real4.bin", REAL4),
+    ("real8.bin", REAL8),
+    ("true.bin", TRUE),
+];
+
+#[test]
+fn answers_the_worked_rows(rt: HostRuntime) -> Result<(), Fail> {
+    for (path, octets) in FILES {
+        fs::write(&rt, path, octets)?;
+    }
+    let rows = [
+        ("plistconv convert binary1 row2.txt out", "", 0),
+        ("plistconv same row2.txt row2.bin", "equal\n", 0),
+        ("plistconv same real4.bin real8.bin", "different\n", 1),
+        ("plistconv lint row2.txt", "row2.txt: OK\n", 0),
+        (
+            "plistconv lint twice.txt",
+            "twice.txt: refused 14 DuplicateKey at octet 3\n",
+            2,
+        ),
+        (
+            "plistconv same row2.bin twice.txt",
+            "twice.txt: refused 14 DuplicateKey at octet 3\n",
+            2,
+        ),
+        (
+            "plistconv same twice.txt missing",
+            "missing: refused 50 ReadFailed\n",
+            4,
+        ),
+        ("plistconv convert openstep row2.bin text", "", 0),
+        (
+            "plistconv convert openstep true.bin new",
+            "true.bin: refused 40 NotInOpenStep\n",
+            2,
+        ),
+        ("plistconv check row2.bin", "canonical\n", 0),
+        ("plistconv check unsorted.bin", "broken C5 at object 0\n", 1),
+        (
+            "plistconv check row2.txt",
+            "row2.txt: refused 1 TooShort\n",
+            2,
+        ),
+        (
+            "plistconv lint missing",
+            "missing: refused 50 ReadFailed\n",
+            4,
+        ),
+        ("plistconv lint .", ".: refused 50 ReadFailed\n", 4),
+        (
+            "plistconv convert binary1 row2.txt .",
+            ".: refused 51 WriteFailed after 0 octets\n",
+            4,
+        ),
+        (
+            "plistconv convert binary1 row2.txt no/new",
+            "no/new: refused 51 WriteFailed after 0 octets\n",
+            4,
+        ),
+        (
+            "plistconv convert binary1 twice.txt new",
+            "twice.txt: refused 14 DuplicateKey at octet 3\n",
+            2,
+        ),
+        ("plistconv convert binary1 unsorted.bin unsorted.bin", "", 0),
+        ("plistconv check unsorted.bin", "canonical\n", 0),
+    ];
+    for (text, printed, want) in rows {
+        let words: Vec<&str> = text.split(' ').collect(rt.alloc())?;
+        let mut output = Vec::new(rt.alloc());
+        let status = status_of(&rt, words.as_slice(), &mut output);
+        assert_eq!(rt; output.as_slice(), printed.as_bytes(), "at {text}");
+        assert_eq!(rt; status, want, "at {text}");
+    }
+    let written = fs::read(&rt, "out")?;
+    assert_eq!(rt; written.as_slice(), TABLE);
+    let written = fs::read(&rt, "text")?;
+    assert_eq!(rt; written.as_slice(), b"{\na = b;\nb = a;\n}\n".as_slice());
+    assert!(rt; !fs::exists(&rt, "new")?);
+    for (path, _) in FILES {
+        fs::remove_file(&rt, path)?;
+    }
+    fs::remove_file(&rt, "out")?;
+    fs::remove_file(&rt, "text")?;
+    Ok(())
+}
+
+#[test]
+fn answers_other_words(rt: HostRuntime) -> Result<(), Fail> {
+    let rows = [
+        ("plistconv -h", 0, "Converts Apple property lists"),
+        ("plistconv --help", 0, "Converts Apple property lists"),
+        ("plistconv convert --help", 0, "Writes the property list"),
+        ("plistconv same --help", 0, "Says whether two files"),
+        ("plistconv lint -h", 0, "Says whether a file is a"),
+        ("plistconv check --help", 0, "Says whether a file is the"),
+        ("plistconv --version", 0, "plistconv 0.1.0\n"),
+        ("plistconv turn row2.txt", 3, "error: "),
+        ("plistconv same row2.txt", 3, "error: "),
+        ("plistconv lint", 3, "error: "),
+        ("plistconv convert binary2 a b", 3, "error: "),
+        ("plistconv --", 3, "error: "),
+    ];
+    for (text, want, printed) in rows {
+        let words: Vec<&str> = text.split(' ').collect(rt.alloc())?;
+        let mut output = Vec::new(rt.alloc());
+        let status = status_of(&rt, words.as_slice(), &mut output);
+        assert_eq!(rt; status, want, "at {text}");
+        assert!(rt; output.starts_with(printed.as_bytes()), "at {text}");
+    }
+    Ok(())
+}
+
+/// Fails at each read.
+#[derive(Drop)]
+struct Broken;
+
+impl Read for Broken {
+    fn read(&mut self, _buf: &mut [u8]) -> io::Result<usize> {
+        Err(io::Error::from(io::ErrorKind::Other))
+    }
+}
+
+/// Takes one octet at a time, and nothing behind the room.
+#[derive(Drop)]
+struct Narrow {
+    room: usize,
+}
+
+impl Write for Narrow {
+    fn write(&mut self, buf: &[u8]) -> io::Result<usize> {
+        let taken = self.room.min(buf.len()).min(1);
+        self.room -= taken;
+        Ok(taken)
+    }
+
+    fn flush(&mut self) -> io::Result<()> {
+        Ok(())
+    }
+}
+
+#[test]
+fn filters_standard_input(rt: HostRuntime) -> Result<(), Fail> {
+    let mut input = UNSORTED;
+    let mut output = Vec::new(rt.alloc());
+    let status = run(&rt, rt.alloc(), &["plistconv"], &mut input, &mut output);
+    assert_eq!(rt; status, 0);
+    assert_eq!(rt; output.as_slice(), TABLE);
+    let mut output = Vec::new(rt.alloc());
+    assert_eq!(rt; run(&rt, rt.alloc(), &[], &mut Broken, &mut output), 4);
+    assert_eq!(rt; output.as_slice(), b"-: refused 50 ReadFailed\n".as_slice());
+    // The file breaks off, and the line of that cannot be printed either.
+    let mut input = TABLE;
+    let mut narrow = Narrow { room: 10 };
+    assert_eq!(rt; run(&rt, rt.alloc(), &[], &mut input, &mut narrow), 4);
+    assert_eq!(rt; narrow.room, 0);
+    Ok(())
+}

@@ -1,0 +1,9 @@
+//! Tests of the program, by `run` over the files of the host and by `run_on` over a disk in memory.
+#![tactic(auto)]
+
+#[cfg(test)]
+mod host_tests;
+#[cfg(test)]
+mod memory_tests;
+#[cfg(test)]
+mod worked_files;
