@@ -1,4 +1,4 @@
-//! What holds of the definitions alone: each law is the contract of a function that answers nothing.
+//! What holds of the definitions alone: each law is the contract of a function that does nothing.
 ghost use Rattle.ostep_form.specs.Laws.{OneValue, FaultyIsNoText, WrittenIsText};
 
 /// No octets are a text of two values.
@@ -16,8 +16,9 @@ pub fn faulty_is_no_text()
     ostep_lex::laws::faulty_has_none();
 }
 
-/// The text that is written for a value within the limits is a text of it, does not begin with `bplist`,
-/// and has at most one octet, three for each octet of the payload, and five for each node.
+/// The text that is written for a value within the limits is a text of it, does not begin with
+/// `bplist`, and has at most one octet, three for each octet of the payload, and five for each
+/// node.
 pub fn written_is_text()
     ensures { WrittenIsText }
 {}

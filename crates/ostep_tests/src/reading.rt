@@ -19,7 +19,8 @@ fn values(rt: HostRuntime) -> Result<(), Fail> {
         (b"{}", "Table({})"),
         (
             b"{b=a;a=b;}",
-            "Table({Utf16 { units: [97] }: Text(Utf16 { units: [98] }), Utf16 { units: [98] }: Text(Utf16 { units: [97] })})",
+            "Table({Utf16 { units: [97] }: Text(Utf16 { units: [98] }), \
+             Utf16 { units: [98] }: Text(Utf16 { units: [97] })})",
         ),
         (
             b"(a, <61>,)",
@@ -27,7 +28,8 @@ fn values(rt: HostRuntime) -> Result<(), Fail> {
         ),
         (
             b"{\"\\Uff61\"=a;\"\\Ud800\\Udc00\"=b;}",
-            "Table({Utf16 { units: [55296, 56320] }: Text(Utf16 { units: [98] }), Utf16 { units: [65377] }: Text(Utf16 { units: [97] })})",
+            "Table({Utf16 { units: [55296, 56320] }: Text(Utf16 { units: [98] }), \
+             Utf16 { units: [65377] }: Text(Utf16 { units: [97] })})",
         ),
         (
             b"\"\\177\\1234\\U41\"",
@@ -40,7 +42,8 @@ fn values(rt: HostRuntime) -> Result<(), Fail> {
         ),
         (
             b"\"a\" = \"b\"; \"c\";",
-            "Table({Utf16 { units: [97] }: Text(Utf16 { units: [98] }), Utf16 { units: [99] }: Text(Utf16 { units: [99] })})",
+            "Table({Utf16 { units: [97] }: Text(Utf16 { units: [98] }), \
+             Utf16 { units: [99] }: Text(Utf16 { units: [99] })})",
         ),
         (
             &[0xfe, 0xff, 0x00, 0x61, 0x00, 0x3b],
