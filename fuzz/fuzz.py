@@ -1,14 +1,15 @@
 #!/usr/bin/env python3
 """Compares the program with a second reading of the formats (oracle.py) on random inputs.
 
-    fuzz.py PROGRAM [--seconds N] [--seed N]
+    fuzz.py PROGRAM [--seconds N] [--seed N] [--words lint,check,binary1,openstep,same,none] [--binary]
 
 Each case is a random value, spelled as a binary file (any order, sharing and widths) or as an OpenStep
 text (any white, comments and quotes), and often damaged. The program's answers to `lint`, `check`,
 `same`, `convert binary1`, `convert openstep` and to no words must be those of the second reading. What a
 word writes must be read again as the same value, a canonical file must be its own canonical file, and
 Python's plistlib must read it as the same value. The first differences are printed and their inputs
-kept; the status is 1 where there is one."""
+kept; the status is 1 where there is one. With --words only these are tried, and with --binary only inputs
+that begin as binary files."""
 import argparse
 import os
 import plistlib
@@ -231,7 +232,11 @@ def damaged(rng, octets):
     return bytes(octets)
 
 
-def random_input(rng):
+def random_input(rng, binary):
+    if binary:
+        octets = random_file(rng, random_value(rng, rng.choice([0, 1, 2, 3]), writable=False))
+        octets = damaged(rng, octets) if rng.random() < 0.6 else octets
+        return octets if octets.startswith(b'bplist') else b'bplist' + octets[6:]
     choice = rng.random()
     if choice < 0.03:
         pool = [b'{', b'}', b'(', b')', b',', b';', b'=', b'a', b'"b"', b'<0f>', b'c', b' ', b'//', b'/*', b'*/']
@@ -248,8 +253,8 @@ def random_input(rng):
 
 
 class Program:
-    def __init__(self, path, folder):
-        self.path, self.folder = os.path.abspath(path), folder
+    def __init__(self, path, folder, words):
+        self.path, self.folder, self.words = os.path.abspath(path), folder, words
 
     def run(self, *words, input=b''):
         done = subprocess.run([self.path, *words], input=input, capture_output=True, cwd=self.folder, timeout=60)
@@ -284,27 +289,42 @@ def differences(program, octets, other):
             found.append('%s: answered %r, and not %r' % (word, got, want))
 
     value, refusal = answer(lambda: oracle.read_any(octets), 'in')
-    expect('lint', program.run('lint', 'in'), refusal or (0, b'in: OK\n'))
+    if 'lint' in program.words:
+        expect('lint', program.run('lint', 'in'), refusal or (0, b'in: OK\n'))
+    if 'check' in program.words:
+        expect_verdict(program, expect, octets)
+    if 'same' in program.words:
+        second, second_refusal = answer(lambda: oracle.read_any(other), 'other')
+        same = refusal or second_refusal or ((0, b'equal\n') if value == second else (1, b'different\n'))
+        expect('same', program.run('same', 'in', 'other'), same)
+    file = None if refusal else oracle.canonical(value)
+    if 'binary1' in program.words:
+        expect_written(program, expect, 'binary1', value, refusal, oracle.canonical)
+    if 'openstep' in program.words:
+        written = expect_written(program, expect, 'openstep', value, refusal, oracle.openstep)
+        if written is not None and 'none' in program.words:
+            expect('no words, of the text', program.run(input=written), (0, file))
+    if 'none' in program.words:
+        line = refusal and refusal[1].replace(b'in:', b'-:', 1)
+        expect('no words', program.run(input=octets), (2, line) if refusal else (0, file))
+    if not refusal:
+        expect_canonical(program, expect, value, file)
+    return found
+
+
+def expect_verdict(program, expect, octets):
     verdict, fault = answer(lambda: oracle.check(octets), 'in')
     told = fault or (0 if verdict == 'canonical' else 1, verdict.encode() + b'\n')
     expect('check', program.run('check', 'in'), told)
-    expect_written(program, expect, 'binary1', value, refusal, oracle.canonical)
-    written = expect_written(program, expect, 'openstep', value, refusal, oracle.openstep)
-    second, second_refusal = answer(lambda: oracle.read_any(other), 'other')
-    same = refusal or second_refusal or ((0, b'equal\n') if value == second else (1, b'different\n'))
-    expect('same', program.run('same', 'in', 'other'), same)
-    if refusal:
-        expect('no words', program.run(input=octets), (2, refusal[1].replace(b'in:', b'-:', 1)))
-        return found
-    file = oracle.canonical(value)
-    expect('no words', program.run(input=octets), (0, file))
-    expect('no words, again', program.run(input=file), (0, file))
-    program.file('canonical', file)
-    expect('check of the canonical file', program.run('check', 'canonical'), (0, b'canonical\n'))
-    if written is not None:
-        expect('no words, of the text', program.run(input=written), (0, file))
+
+
+def expect_canonical(program, expect, value, file):
+    if 'none' in program.words:
+        expect('no words, again', program.run(input=file), (0, file))
+    if 'check' in program.words:
+        program.file('canonical', file)
+        expect('check of the canonical file', program.run('check', 'canonical'), (0, b'canonical\n'))
     expect('plistlib', from_plistlib(file), plain(value))
-    return found
 
 
 def expect_written(program, expect, form, value, refusal, write):
@@ -366,13 +386,15 @@ def main():
     parser.add_argument('--seconds', type=float, default=60)
     parser.add_argument('--seed', type=int, default=1)
     parser.add_argument('--keep', default='fuzz-differences', help='a folder for inputs that differ')
+    parser.add_argument('--words', default='lint,check,binary1,openstep,same,none', help='what is tried')
+    parser.add_argument('--binary', action='store_true', help='binary files alone')
     arguments = parser.parse_args()
     rng, cases, bad = random.Random(arguments.seed), 0, 0
     end = time.monotonic() + arguments.seconds
     with tempfile.TemporaryDirectory() as folder:
-        program, other = Program(arguments.program, folder), b'{}'
+        program, other = Program(arguments.program, folder, arguments.words.split(',')), b'{}'
         while time.monotonic() < end and bad < 5:
-            octets = random_input(rng)
+            octets = random_input(rng, arguments.binary)
             found = differences(program, octets, other)
             cases += 1
             if found:
@@ -382,7 +404,7 @@ def main():
                 with open(path, 'wb') as out:
                     out.write(octets)
                 print(path, *found, sep='\n  ')
-            other = octets if rng.random() < 0.5 else random_input(rng)
+            other = octets if rng.random() < 0.5 else random_input(rng, arguments.binary)
     print('%d cases, %d differ' % (cases, bad))
     return 1 if bad else 0
 

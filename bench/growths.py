@@ -1,0 +1,168 @@
+#!/usr/bin/env python3
+"""Refuses each allocation in turn, from outside, in runs of `plistconv` with each of its words, and in the
+tests of the crates.
+
+usage: bench/growths.py [PLISTCONV] [--tests CRATE..]   (./plistconv if not given; all crates with built tests)
+
+A run of the program with a refused allocation must end as with ample memory, or with status 5 and the line
+of 60, having sent as many octets as that line says. Where it is refused before any octet went out, the file
+that was to be written stands as it was. A test must pass, or end with an allocation error or with 60. Tests
+that make more than 2,000 allocations, or take longer than a second, are left out by name.
+
+`rt test` in a crate builds its tests. The library that refuses is bench/refuse.c, made with cc.
+"""
+import collections
+import glob
+import os
+import re
+import subprocess
+import sys
+import tempfile
+import time
+
+import refused
+from hostile import joined
+
+MOST = 2_000
+BEFORE = b"as it was"
+
+INPUTS = {
+    "table.txt": b"{b=a;a=b;}",
+    "mixed.txt": b'(a, <0f 61>, {k; "\\Ud800" = (b, {}); }, "/* c */", // c\n \'\xf0\x9f\x98\x80\')',
+    "pairs.strings": '"a" = "b"; "c";'.encode("utf-16"),
+    "twice.txt": b"{a;a=b;}",
+    "open.txt": b"(a, b",
+    "bad.txt": b"@",
+    "table.bin": joined([b"\xd2\x01\x02\x02\x01", b"Qa", b"Qb"], 1),
+    "unsorted.bin": joined([b"\xd2\x01\x02\x02\x01", b"Qb", b"Qa"], 1),
+    "shared.bin": joined([b"\xa3\x01\x01\x02", b"\xa2\x02\x03", b"\x61\xd8\x00", b"\x41a"], 1),
+    "scalars.bin": joined([b"\xa4\x01\x02\x03\x04", b"\x10\x05", b"\x23" + bytes(8), b"\x4f\x10\x14" + bytes(20),
+                           b"\xd1\x05\x03", b"\x5f\x10\x10" + b"k" * 16], 1),
+    "cycle.bin": joined([b"\xa1\x00"], 1),
+    "same-keys.bin": joined([b"\xd2\x01\x02\x03\x03", b"Qa", b"Qa", b"\x09"], 1),
+    "short.bin": b"bplist00",
+}
+
+WORDS = [["convert", "binary1", "IN", "out"], ["convert", "openstep", "IN", "out"], ["lint", "IN"], ["check", "IN"],
+         ["same", "IN", "table.txt"], ["same", "unsorted.bin", "IN"]]
+OTHER_WORDS = [["--help"], ["convert", "--help"], ["--version"], ["turn", "table.bin"], ["check"], ["lint", "missing"],
+               ["check", "missing"], ["convert", "binary1", "table.bin", "no/out"], ["same", "table.bin", "missing"]]
+
+
+class Refusing:
+    """Runs of programs of which one allocation is refused."""
+
+    def __init__(self, folder):
+        self.folder, self.out = folder, os.path.join(folder, "out")
+        self.library, self.count = os.path.join(folder, "refuse.so"), os.path.join(folder, "count")
+        source = os.path.join(refused.HERE, "refuse.c")
+        subprocess.run(["cc", "-shared", "-fPIC", "-O1", "-o", self.library, source, "-ldl"], check=True)
+
+    def run(self, words, octets, number):
+        """The status, the output, what stands in `out`, and how many allocations were made."""
+        with open(self.out, "wb") as file:
+            file.write(BEFORE)
+        status, output, complaint, allocations = refused.run(words, octets, self.library, number, self.count)
+        with open(self.out, "rb") as file:
+            return (status, output, file.read()), complaint, allocations
+
+
+def is_wanting(ending, ample, path):
+    """Whether the run ended for want of memory, having sent as many octets of the ample output as it says."""
+    status, output, written = ending
+    line = re.search(rb"(?:(?P<path>[^\n]*): )?refused 60 OutOfMemory(?: after (?P<sent>\d+) octets)?\n$", output)
+    if status != 5 or line is None:
+        return False
+    sent = int(line["sent"] or 0)
+    if path == b"-":
+        return output == ample[1][:sent] + line[0] and written == BEFORE
+    return output == line[0] and written == (ample[2][:sent] if sent else BEFORE)
+
+
+def program_runs(program, refusing):
+    for words in WORDS:
+        for name in INPUTS:
+            yield [program, *(name if word == "IN" else word for word in words)], b""
+    for words in OTHER_WORDS:
+        yield [program, *words], b""
+    for octets in INPUTS.values():
+        yield [program], octets
+
+
+def refuse_in_program(program, refusing):
+    wrong, endings = 0, collections.defaultdict(collections.Counter)
+    for words, octets in program_runs(program, refusing):
+        path = b"-" if len(words) == 1 else None
+        ample, _, allocations = refusing.run(words, octets, 0)
+        kind = " ".join(words[1:3] if words[1:2] == ["convert"] else words[1:2]) or "no words"
+        number = 0
+        while number < allocations:
+            number += 1
+            ending, complaint, allocations = refusing.run(words, octets, number)
+            told = "as with ample memory" if ending == ample else "60" if is_wanting(ending, ample, path) else "otherwise"
+            endings[kind][told] += 1
+            if told == "otherwise":
+                wrong += 1
+                print(f"{words[1:]}, {octets!r}, allocation {number}: {ending}, {complaint[-200:]!r}", flush=True)
+    for kind, counts in endings.items():
+        print(f"{kind}: " + ", ".join(f"{runs} runs ended {told}" for told, runs in sorted(counts.items())), flush=True)
+    return wrong
+
+
+def tests_of(crate):
+    """The names of a crate's tests, module by module."""
+    root = os.path.join(refused.HERE, "..", "crates", crate, "src")
+    for path in sorted(glob.glob(os.path.join(root, "**", "*.rt"), recursive=True)):
+        module = os.path.relpath(path, root)[:-len(".rt")].replace(os.sep, "::")
+        with open(path, encoding="utf-8") as source:
+            for name in re.findall(r"#\[test\]\s+fn (\w+)", source.read()):
+                yield name if module == "lib" else f"{module}::{name}"
+
+
+def refuse_in_tests(crate, refusing):
+    wrong, counts, left_out = 0, collections.Counter(), []
+    program = os.path.abspath(os.path.join(refused.HERE, "..", "crates", crate, "out", crate + "_tests"))
+    for name in tests_of(crate):
+        begin = time.perf_counter()
+        ample, complaint, allocations = refusing.run([program, name], b"", 0)
+        if time.perf_counter() - begin > 1 or allocations > MOST:
+            left_out.append(name)
+            continue
+        number = 0
+        while number < allocations:
+            number += 1
+            ending, complaint, allocations = refusing.run([program, name], b"", number)
+            said = ending[1] + complaint
+            told = "as with ample memory" if ending[:2] == ample[:2] else "otherwise"
+            if told == "otherwise" and re.search(rb"AllocError|AllocFailed|OutOfMemory|out of memory|\b60\b", said):
+                told = "with an allocation error or 60"
+            counts[told] += 1
+            if told == "otherwise":
+                wrong += 1
+                print(f"{crate} {name}, allocation {number}: {ending[0]}, {said[-200:]!r}", flush=True)
+    print(f"tests of {crate}: " + ", ".join(f"{runs} runs ended {told}" for told, runs in sorted(counts.items())), flush=True)
+    if left_out:
+        print(f"tests of {crate} left out: " + ", ".join(left_out), flush=True)
+    return wrong
+
+
+def main():
+    words = sys.argv[1:]
+    at = words.index("--tests") if "--tests" in words else len(words)
+    program = os.path.abspath(words[0] if at > 0 else "./plistconv")
+    crates = words[at + 1:] or sorted(path.split(os.sep)[-3] for path in glob.glob(
+        os.path.join(refused.HERE, "..", "crates", "*", "out", "*_tests")) if os.path.isfile(path))
+    with tempfile.TemporaryDirectory() as folder:
+        refusing = Refusing(folder)
+        os.chdir(folder)
+        for name, octets in INPUTS.items():
+            with open(name, "wb") as file:
+                file.write(octets)
+        wrong = refuse_in_program(program, refusing)
+        wrong += sum(refuse_in_tests(crate, refusing) for crate in crates)
+    print("each run ended as it should" if wrong == 0 else f"{wrong} runs ended otherwise")
+    return 1 if wrong else 0
+
+
+if __name__ == "__main__":
+    sys.exit(main())

@@ -1,0 +1,149 @@
+//! Binary files, accepted and refused, canonical and not.
+use plist_tests::files::{Draft, file, file_of, one};
+use std::alloc::{AllocError, Global};
+
+// Objects that stand alone in a file.
+const ALONE: [&[u8]; 35] = [
+    b"\xd0",
+    b"\x10\xff",
+    b"\x11\x01\x00",
+    b"\x12\xff\xff\xff\xff",
+    b"\x13\x00\x00\x00\x01\x00\x00\x00\x00",
+    b"\x13\xff\xff\xff\xff\xff\xff\xff\xff",
+    b"\x13\x80\0\0\0\0\0\0\0",
+    b"\x14\0\0\0\0\0\0\0\0\x80\0\0\0\0\0\0\0",
+    b"\x13\0\0\0\0\0\0\0\x05",
+    b"\x10\x05",
+    b"\x61\x00a",
+    b"\x5f\x10\x01a",
+    b"Qa",
+    b"\xa0",
+    b"\xa1\x00",
+    b"\x00",
+    b"\x80\x05",
+    b"\xc0",
+    b"T\x7fS4A",
+    b"\x40",
+    b"Vbplist",
+    b"Sa.b",
+    b"\x22\x3f\x80\0\0",
+    b"\x23\x3f\xf0\0\0\0\0\0\0",
+    b"\x14\0\0\0\0\0\0\0\x01\0\0\0\0\0\0\0\0",
+    b"Q\x80",
+    b"Ra",
+    b"\x5f\x13\xff\xff\xff\xff\xff\xff\xff\xffa",
+    b"\xa1\x01",
+    b"\x70",
+    b"\x15",
+    b"\x5f\x09a",
+    b"\x09",
+    b"\x61\xd8\x00",
+    b"\x62\xd8\x3d\xde\x00",
+];
+
+// Objects that stand in a file one behind the other, and the width of a reference.
+const TOGETHER: [(&[&[u8]], u8); 17] = [
+    (&[b"\xd2\x01\x02\x02\x01", b"Qa", b"Qb"], 1),
+    (&[b"\xd2\x01\x02\x02\x01", b"Qb", b"Qa"], 1),
+    (&[b"\xd2\x02\x01\x01\x02", b"Qb", b"Qa"], 1),
+    (&[b"\xa2\x01\x02", b"Qa", b"\x41a"], 1),
+    (&[b"\xa2\x01\x01", b"\xa0"], 1),
+    (&[b"\xa2\x01\x02", b"\xa0", b"\xa0"], 1),
+    (
+        &[
+            b"\xd2\x01\x02\x03\x04",
+            b"\x62\xd8\x00\xdc\x00",
+            b"\x61\xff\x61",
+            b"Qb",
+            b"Qa",
+        ],
+        1,
+    ),
+    (&[b"\xa3\x01\x02\x03", b"X/usr/bin", b"Ta//b", b"Qd"], 1),
+    (&[b"\xd1\x01\x01", b"Qa"], 1),
+    (&[b"\xa1\x01", b"\x09"], 1),
+    (
+        &[
+            b"\xa2\x01\x02",
+            b"\x23\x41\0\0\0\0\0\0\0",
+            b"\x33\x41\0\0\0\0\0\0\0",
+        ],
+        1,
+    ),
+    (&[b"\xd1\x01\x01", b"\x09"], 1),
+    (&[b"\xd2\x01\x02\x03\x03", b"Qa", b"Qa", b"\x09"], 1),
+    (&[b"\xa1\x00\x00\x01", b"\x09"], 3),
+    (&[b"\xa2\x01\x02", b"RQa", b"Qa"], 1),
+    (
+        &[
+            b"\xd2\x01\x02\x03\x04",
+            b"^archiveVersion",
+            b"Wclasses",
+            b"Q1",
+            b"\xd0",
+        ],
+        1,
+    ),
+    (&[b"\xa1\x01", b"\xa0"], 1),
+];
+
+/// Files of at most 80 octets.
+pub(crate) fn small_files(alloc: Global) -> Result<Vec<Vec<u8>>, AllocError> {
+    let mut files = Vec::new(alloc);
+    for object in ALONE {
+        files.push(one(alloc, object)?)?;
+    }
+    for (objects, width) in TOGETHER {
+        files.push(file_of(alloc, objects, width)?)?;
+    }
+    // Two texts of which one lies in the other, an object in the header, and a trailer that does not begin
+    // with zeros.
+    files.push(file(alloc, b"\xa2\x01\x02RQa", &[8, 11, 12], 1)?)?;
+    files.push(file(alloc, b"\x09", &[7], 1)?)?;
+    let mut marked = file_of(alloc, &[b"\xd2\x01\x02\x02\x01", b"Qa", b"Qb"], 1)?;
+    if let Some(slack) = marked.get_mut(20) {
+        *slack = 1;
+    }
+    files.push(marked)?;
+    Ok(files)
+}
+
+// The canonical file of the list of the texts of the numbers below the count, of three digits each.
+fn numbers(alloc: Global, count: u8, width: u8) -> Result<Vec<u8>, AllocError> {
+    let mut list = Vec::from_slice(alloc, &[0xaf, 0x10, count])?;
+    for number in 0..u16::from(count) {
+        let [high, low] = (number + 1).to_be_bytes();
+        if width == 2 {
+            list.push(high)?;
+        }
+        list.push(low)?;
+    }
+    let mut draft = Draft::new(alloc)?;
+    draft.put(list.as_slice())?;
+    for number in 0..count {
+        let digits = [number / 100, number / 10 % 10, number % 10];
+        draft.put(&[0x53, b'0' + digits[0], b'0' + digits[1], b'0' + digits[2]])?;
+    }
+    draft.finish(2, width)
+}
+
+// Data of so many zeros.
+fn zeros(alloc: Global, count: u8, offset_width: u8) -> Result<Vec<u8>, AllocError> {
+    let mut object = Vec::from_slice(alloc, &[0x4f, 0x10, count])?;
+    object.resize(3 + usize::from(count), 0)?;
+    let mut draft = Draft::new(alloc)?;
+    draft.put(object.as_slice())?;
+    draft.finish(offset_width, 1)
+}
+
+/// Canonical files of 288 to 2,598 octets: of 255 and 256 objects, of data just below and at the place 256,
+/// and of lists 512 deep.
+pub(crate) fn long_files(alloc: Global) -> Result<Vec<Vec<u8>>, AllocError> {
+    let mut files = Vec::new(alloc);
+    files.push(numbers(alloc, 254, 1)?)?;
+    files.push(numbers(alloc, 255, 2)?)?;
+    files.push(zeros(alloc, 244, 1)?)?;
+    files.push(zeros(alloc, 245, 2)?)?;
+    files.push(plist_tests::files::chain(alloc, 512, b"Qa")?)?;
+    Ok(files)
+}

@@ -1,0 +1,11 @@
+//! Tests of what hostile input does: each prefix of files and texts, and files and texts made to overrun.
+#![tactic(auto)]
+
+#[cfg(test)]
+mod files;
+#[cfg(test)]
+mod overruns;
+#[cfg(test)]
+mod prefixes;
+#[cfg(test)]
+mod texts;

@@ -1,0 +1,77 @@
+//! Files that run past an end, round in a cycle or past a limit: the canonical file of what is accepted, and
+//! the reader's refusal of all others.
+use plist_binary::BinaryFault;
+use plist_files::{Fault, canonicalise};
+use plist_object::{LayoutFault, ObjectFault};
+use plist_tests::files::{chain, fan, file_of, put_trailer, tower};
+use std::alloc::Global;
+use std::test::Fail;
+
+// Objects of a file, and why it is refused.
+const REFUSED: [(&[&[u8]], BinaryFault); 6] = [
+    (
+        &[b"\xa1\x01", b"\xa1\x00"],
+        BinaryFault::Cycle { object: 1 },
+    ),
+    (&[b"\xd1\x01\x00", b"Qa"], BinaryFault::Cycle { object: 0 }),
+    (
+        &[b"\xd1\x00\x01", b"\x09"],
+        BinaryFault::Cycle { object: 0 },
+    ),
+    // Counts of 2^64 - 1 references, of 2^63 pairs, and of 2^64 octets.
+    (&[b"\xaf\x13\xff\xff\xff\xff\xff\xff\xff\xff"], CUT),
+    (&[b"\xdf\x13\x80\0\0\0\0\0\0\0"], CUT),
+    (&[b"\x4f\x14\0\0\0\0\0\0\0\x01\0\0\0\0\0\0\0\0"], CUT),
+];
+
+const CUT: BinaryFault = BinaryFault::Object {
+    object: 0,
+    fault: ObjectFault::CutObject,
+};
+
+fn is_refused(alloc: Global, octets: &[u8], fault: BinaryFault) -> bool {
+    canonicalise(alloc, octets).err() == Some(Fault::Binary(fault))
+}
+
+#[test]
+fn small_files_that_overrun(rt: HostRuntime) -> Result<(), Fail> {
+    let alloc = rt.alloc();
+    for (objects, fault) in REFUSED {
+        let octets = file_of(alloc, objects, 1)?;
+        assert!(rt; is_refused(alloc, octets.as_slice(), fault), "{octets:?}");
+    }
+    // The flag true, with a table of eight octets; (2^61 + 1) * 8 is 8 where a product wraps.
+    let rows = [([8, 1], (1 << 61) + 1), ([0, 1], 1), ([8, 9], 1)];
+    for (widths, count) in rows {
+        let mut octets = Vec::from_slice(alloc, b"bplist00\x09\0\0\0\0\0\0\0\x08")?;
+        put_trailer(&mut octets, widths, count, 9)?;
+        assert_eq!(rt; octets.len(), 49);
+        let fault = BinaryFault::Layout(LayoutFault::BadTrailer);
+        assert!(rt; is_refused(alloc, octets.as_slice(), fault), "{octets:?}");
+    }
+    Ok(())
+}
+
+#[test]
+fn files_past_a_limit(rt: HostRuntime) -> Result<(), Fail> {
+    let alloc = rt.alloc();
+    let deep = BinaryFault::TooDeep { object: 512 };
+    for (count, last) in [(513, 0x09), (20_000, 0xa0)] {
+        let octets = chain(alloc, count, &[last])?;
+        assert!(rt; is_refused(alloc, octets.as_slice(), deep), "{count} objects");
+    }
+    let wide = BinaryFault::TooManyNodes { object: 29 };
+    assert!(rt; is_refused(alloc, tower(alloc)?.as_slice(), wide));
+    Ok(())
+}
+
+// Each is its own canonical file.
+#[test]
+fn files_within_the_limits(rt: HostRuntime) -> Result<(), Fail> {
+    let alloc = rt.alloc();
+    for octets in [chain(alloc, 512, b"\x09")?, fan(alloc, 4_194_304, b"\x09")?] {
+        let canonical = canonicalise(alloc, octets.as_slice())?;
+        assert!(rt; canonical == octets, "of {} octets", octets.len());
+    }
+    Ok(())
+}
