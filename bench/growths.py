@@ -122,6 +122,9 @@ def tests_of(crate):
 def refuse_in_tests(crate, refusing):
     wrong, counts, left_out = 0, collections.Counter(), []
     program = os.path.abspath(os.path.join(refused.HERE, "..", "crates", crate, "out", crate + "_tests"))
+    if not os.path.exists(program):
+        print(f"tests of {crate}: not built, which `rt test` in crates/{crate} does")
+        return 0
     for name in tests_of(crate):
         begin = time.perf_counter()
         ample, complaint, allocations = refusing.run([program, name], b"", 0)

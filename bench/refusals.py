@@ -9,17 +9,16 @@ Each answer must be the one that stands here, and what is refused in a few hundr
 greatest resident size, for accepted files of one run. The last two columns of a refused input are what each
 MB of it adds to the time and memory of an empty run: where work is linear they do not grow with the size.
 
-The system counts a started program's greatest size from that of the process that starts it, so files are
-made by a process of their own (--make).
+Files are made by a process of their own (--make).
 """
 import os
 import subprocess
 import sys
 import tempfile
-import time
 
 from hostile import file, head, joined, number
 
+HERE = os.path.dirname(os.path.abspath(__file__))
 MIB = 1 << 20
 
 
@@ -102,14 +101,19 @@ def make(name, size, path):
         target.write(REFUSED[name][0](int(size)) if name in REFUSED else ACCEPTED[name][0]())
 
 
-def run(words):
-    """The status, what is printed, the seconds and the greatest resident size, in MiB, of one run."""
-    begin = time.perf_counter()
-    ran = subprocess.Popen(words, stdout=subprocess.PIPE)
-    printed = ran.stdout.read().decode().strip()
-    _, status, usage = os.wait4(ran.pid, 0)
-    ran.returncode = os.waitstatus_to_exitcode(status)
-    return ran.returncode, printed, time.perf_counter() - begin, usage.ru_maxrss / 1024
+class Measure:
+    """Runs of programs, with their time and memory (bench/measure.c, made with cc)."""
+
+    def __init__(self, folder):
+        self.program, self.file = os.path.join(folder, "measure"), os.path.join(folder, "measured")
+        subprocess.run(["cc", "-O1", "-o", self.program, os.path.join(HERE, "measure.c")], check=True)
+
+    def run(self, words):
+        """The status, what is printed, the seconds and the greatest resident size, in MiB, of one run."""
+        ran = subprocess.run([self.program, self.file, *words], stdout=subprocess.PIPE, check=False)
+        with open(self.file, encoding="ascii") as measured:
+            seconds, size = measured.read().split()
+        return ran.returncode, ran.stdout.decode().strip(), float(seconds), int(size) / 1024
 
 
 def made(name, size, path):
@@ -117,7 +121,7 @@ def made(name, size, path):
     return os.path.getsize(path)
 
 
-def refused(program, source, target, empty):
+def refused(measure, program, source, target, empty):
     """Prints the rows of refused inputs; how many of them are not as they should be."""
     wrong = 0
     print("| refused | octets | answer | seconds | MiB | seconds for each MB | MiB for each MB |")
@@ -125,7 +129,7 @@ def refused(program, source, target, empty):
     for name, (_, sizes, answer) in REFUSED.items():
         for size in sizes:
             octets = made(name, size, source)
-            runs = [run([program, "convert", "binary1", source, target]) for _ in range(3)]
+            runs = [measure.run([program, "convert", "binary1", source, target]) for _ in range(3)]
             status, printed = runs[0][:2]
             told = printed.removeprefix(source + ": refused ")
             seconds, memory = min(run[2] for run in runs), max(run[3] for run in runs)
@@ -138,7 +142,7 @@ def refused(program, source, target, empty):
     return wrong
 
 
-def accepted(program, source, target):
+def accepted(measure, program, source, target):
     """Prints the rows of accepted files, of which each canonical file must be so; how many are not."""
     wrong = 0
     print("| accepted | octets | canonical octets | seconds | MiB | octets of memory for each node, beside both files "
@@ -146,13 +150,13 @@ def accepted(program, source, target):
     print("|---|---|---|---|---|---|---|---|")
     for name, (_, nodes) in ACCEPTED.items():
         octets = made(name, 0, source)
-        status, _, seconds, memory = run([program, "convert", "binary1", source, target])
+        status, _, seconds, memory = measure.run([program, "convert", "binary1", source, target])
         length = os.path.getsize(target) if status == 0 else 0
-        checked = run([program, "check", target]) if status == 0 else (4, "", 0, 0)
+        checked = measure.run([program, "check", target]) if status == 0 else (4, "", 0, 0)
         good = status == 0 and checked[:2] == (0, "canonical")
         wrong += not good
-        beside = (memory * MIB - octets - length) / nodes
-        print(f"| {name} | {octets:,} | {length:,} | {seconds:.3f} | {memory:.0f} | {beside:.0f} | {checked[2]:.3f} "
+        beside = f"{(memory * MIB - octets - length) / nodes:.0f}" if nodes > MIB else ""
+        print(f"| {name} | {octets:,} | {length:,} | {seconds:.3f} | {memory:.0f} | {beside} | {checked[2]:.3f} "
               f"| {checked[3]:.0f} |" + ("" if good else " ✗"), flush=True)
     return wrong
 
@@ -164,12 +168,13 @@ def main():
     program = os.path.abspath(sys.argv[1] if len(sys.argv) > 1 else "./plistconv")
     with tempfile.TemporaryDirectory() as folder:
         source, target = os.path.join(folder, "source"), os.path.join(folder, "target")
-        runs = [run([program, "--version"]) for _ in range(3)]
+        measure = Measure(folder)
+        runs = [measure.run([program, "--version"]) for _ in range(3)]
         empty = min(run[2] for run in runs), max(run[3] for run in runs)
         print(f"An empty run takes {empty[0]:.3f} seconds and {empty[1]:.0f} MiB.\n")
-        wrong = refused(program, source, target, empty)
+        wrong = refused(measure, program, source, target, empty)
         print()
-        wrong += accepted(program, source, target)
+        wrong += accepted(measure, program, source, target)
     return 1 if wrong else 0
 
 

@@ -1,5 +1,7 @@
-//! Files that run past an end, round in a cycle or past a limit: the canonical file of what is accepted, and
-//! the reader's refusal of all others.
+//! Files and texts that run past an end, round in a cycle or past a limit: the canonical file of what is
+//! accepted, and the reader's refusal of all others.
+use crate::texts::nested;
+use ostep_form::TextFault;
 use plist_binary::BinaryFault;
 use plist_files::{Fault, canonicalise};
 use plist_object::{LayoutFault, ObjectFault};
@@ -30,7 +32,7 @@ const CUT: BinaryFault = BinaryFault::Object {
 };
 
 fn is_refused(alloc: Global, octets: &[u8], fault: BinaryFault) -> bool {
-    canonicalise(alloc, octets).err() == Some(Fault::Binary(fault))
+    matches!(canonicalise(alloc, octets), Err(Fault::Binary(found)) if found == fault)
 }
 
 #[test]
@@ -58,10 +60,16 @@ fn files_past_a_limit(rt: HostRuntime) -> Result<(), Fail> {
     let deep = BinaryFault::TooDeep { object: 512 };
     for (count, last) in [(513, 0x09), (20_000, 0xa0)] {
         let octets = chain(alloc, count, &[last])?;
-        assert!(rt; is_refused(alloc, octets.as_slice(), deep), "{count} objects");
+        assert!(rt;
+            is_refused(alloc, octets.as_slice(), deep),
+            "{count} objects"
+        );
     }
     let wide = BinaryFault::TooManyNodes { object: 29 };
     assert!(rt; is_refused(alloc, tower(alloc)?.as_slice(), wide));
+    let wider = fan(alloc, 16_777_216, b"\x09")?;
+    let fault = BinaryFault::TooManyNodes { object: 1 };
+    assert!(rt; is_refused(alloc, wider.as_slice(), fault));
     Ok(())
 }
 
@@ -72,6 +80,29 @@ fn files_within_the_limits(rt: HostRuntime) -> Result<(), Fail> {
     for octets in [chain(alloc, 512, b"\x09")?, fan(alloc, 4_194_304, b"\x09")?] {
         let canonical = canonicalise(alloc, octets.as_slice())?;
         assert!(rt; canonical == octets, "of {} octets", octets.len());
+    }
+    Ok(())
+}
+
+#[test]
+fn deep_texts(rt: HostRuntime) -> Result<(), Fail> {
+    let alloc = rt.alloc();
+    let deepest = nested(alloc, b"{a=", b"b", b";}", 511)?;
+    assert!(rt; canonicalise(alloc, deepest.as_slice()).is_ok());
+    let lists = nested(alloc, b"(", b"a", b")", 511)?;
+    let canonical = canonicalise(alloc, lists.as_slice())?;
+    assert_eq!(rt; canonical.len(), 2599);
+    // Each is refused where the value 513 levels deep begins, whatever comes after that.
+    let rows: [(&[u8], &[u8], usize, usize); 4] = [
+        (b"(", b")", 512, 512),
+        (b"(", b"", 1_000_000, 512),
+        (b"{a=", b"", 512, 1534),
+        (b"{a=", b"", 1_000_000, 1534),
+    ];
+    for (opening, ending, count, octet) in rows {
+        let text = nested(alloc, opening, b"a", ending, count)?;
+        let fault = canonicalise(alloc, text.as_slice()).err();
+        assert_eq!(rt; fault, Some(Fault::Text(TextFault::TooDeep { octet })));
     }
     Ok(())
 }

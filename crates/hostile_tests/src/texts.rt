@@ -46,11 +46,21 @@ pub(crate) const SMALL_TEXTS: [&[u8]; 41] = [
     b"a\xed\xa0\x80",
 ];
 
-/// Lists within lists, so many, with the string `a` in the innermost.
-pub(crate) fn nested_lists(alloc: Global, count: usize) -> Result<Vec<u8>, AllocError> {
+/// The middle between so many openings and so many endings.
+pub(crate) fn nested(
+    alloc: Global,
+    opening: &[u8],
+    middle: &[u8],
+    ending: &[u8],
+    count: usize,
+) -> Result<Vec<u8>, AllocError> {
     let mut text = Vec::new(alloc);
-    text.resize(count, b'(')?;
-    text.push(b'a')?;
-    text.resize(count.saturating_mul(2).saturating_add(1), b')')?;
+    for _ in 0..count {
+        text.extend_from_slice(opening)?;
+    }
+    text.extend_from_slice(middle)?;
+    for _ in 0..count {
+        text.extend_from_slice(ending)?;
+    }
     Ok(text)
 }
