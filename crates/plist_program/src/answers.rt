@@ -5,7 +5,7 @@ ghost use Rattle.plist_program.specs.Answer.{IsCheckAnswer, IsLintAnswer, IsSame
 use crate::verdicts::{verdict_line, verdict_status};
 use ostep_write::{TextWriteFault, write_text};
 use plist_canon::check;
-use plist_files::{Fault, PairFault, Status, line, read_any, same_files};
+use plist_files::{Fault, PairFault, Status, judge_any, line, read_any, same_files};
 use std::alloc::{AllocError, Global};
 
 /// A line that is printed, with its line end, and the status with which the program ends.
@@ -43,11 +43,10 @@ pub fn check_answer(alloc: Global, path: &str, octets: &[u8]) -> Result<Answer, 
 pub fn lint_answer(alloc: Global, path: &str, octets: &[u8]) -> Result<Answer, AllocError>
     ensures { IfOk result (λ answer. IsLintAnswer path.now octets.now (said_of answer)) }
 {
-    let _value = match read_any(alloc, octets) {
-        Ok(value) => value,
-        Err(fault) => return refused(alloc, path, &fault),
-    };
-    accepted(alloc, path)
+    match judge_any(alloc, octets) {
+        Ok(()) => accepted(alloc, path),
+        Err(fault) => refused(alloc, path, &fault),
+    }
 }
 
 /// What `same` answers for the octets of two files: `equal` and 0 exactly where they spell equal values,

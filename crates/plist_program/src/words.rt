@@ -7,8 +7,8 @@ ghost use Rattle.plist_program.specs.State.{state};
 use crate::answers::{check_answer, lint_answer, same_answer, text_of_octets};
 use crate::outputs::Output;
 use crate::printing::{give, report};
-use plist_disk::{CanonicalFile, Content, Disk, Octets};
-use plist_files::{Fault, Status, read_any};
+use plist_disk::{Content, Disk, Octets};
+use plist_files::{Fault, Status, canonicalise};
 use plist_words::Form;
 use plist_write::WriteFault;
 use std::alloc::Global;
@@ -99,7 +99,7 @@ pub(crate) fn convert_to<D: Disk, W: Output>(
     }
 }
 
-/// `convert binary1 IN OUT`: reads all of IN, and only then creates or empties OUT.
+/// `convert binary1 IN OUT`: makes all of the canonical file, and only then creates or empties OUT.
 fn convert_file<D: Disk, W: Output>(
     alloc: Global,
     disk: &mut D,
@@ -117,8 +117,8 @@ fn convert_file<D: Disk, W: Output>(
         Ok(octets) => octets,
         Err(fault) => return report(alloc, from, &fault, output),
     };
-    match read_any(alloc, octets.as_slice()) {
-        Ok(value) => store_file(alloc, disk, &CanonicalFile::new(value), from, to, output),
+    match canonicalise(alloc, octets.as_slice()) {
+        Ok(file) => store_file(alloc, disk, &Octets::new(file), from, to, output),
         Err(fault) => report(alloc, from, &fault, output),
     }
 }
