@@ -1,17 +1,16 @@
 -- The walk does a container when it does its children, which give way to their numbers.
-use Rattle.std.proofs.Common.{◌≡◌, ℕ, suc, ◌+◌, ◌<◌, ◌≤◌, List, [], ◌∷◌, ◌++◌, length, drop, take, map, refl, sym, ap, subst, ◌∙◌, arith, add-one, length-append, append_assoc}
-use Rattle.std.proofs.lemmas.List.{length-map, map-append, drop_all, drop_at, take_at}
+use Rattle.std.proofs.Common.{◌≡◌, ℕ, suc, ◌+◌, List, [], ◌∷◌, ◌++◌, length, drop, map, refl, sym, ap, subst, ◌∙◌, arith, add-one, length-append, append_assoc}
+use Rattle.std.proofs.lemmas.List.{length-map, map-append, drop_all, drop_at}
 use Rattle.plist_value.specs.Plist.{Plist, list, table, Items, Pairs, IsContainer}
 use Rattle.plist_object.specs.Objects.{holds_list, holds_table}
 use Rattle.plist_object.specs.Places.{Holds}
-use Rattle.plist_write.specs.Tree.{key_texts, preorder, preorder_items, preorder_values, item_places, key_places, value_places}
-use Rattle.plist_write.specs.Sharing.{kept_places, count_below}
+use Rattle.plist_write.specs.Tree.{key_texts, preorder, preorder_items, preorder_values, key_places, value_places}
 use Rattle.plist_write.specs.Plan.{Stands, held_at, number_in, found_in}
 use Rattle.plist_write.proofs.Trees.{Stands-tail, length-key_places, length-value_places}
 use Rattle.plist_write.proofs.Counting.{count-kept, known-still}
 use Rattle.plist_write.proofs.Containers.{here, own, no_scalar, number_is, found_is}
 use Rattle.plist_engine.specs.declared.plan.Plan.{Plan}
-use Rattle.plist_engine.specs.Plan.{references_of, IsLike, IsReady, Grows, Adds, Walks, WalksTree, WalksItems, Begins}
+use Rattle.plist_engine.specs.Plan.{references_of, IsLike, IsReady, Grows, Adds, WalksTree, WalksItems, Begins}
 use Rattle.plist_engine.proofs.Flat.{flat, preorder-flat, places-flat}
 
 -- what the references became, and those behind them

@@ -1,5 +1,5 @@
 -- A file that goes out in three parts behind the header.
-use Rattle.std.proofs.Common.{◌≡◌, ℕ, ◌+◌, ◌<◌, List, [], ◌++◌, length, Option, Ok, Err, refl, sym, ap, subst, ◌∙◌, arith, length-append}
+use Rattle.std.proofs.Common.{◌≡◌, ℕ, ◌+◌, List, [], ◌++◌, length, Option, Ok, Err, ap, subst, ◌∙◌, length-append}
 use Rattle.std.specs.List.{concat}
 use Rattle.plist_object.specs.Layout.{header}
 use Rattle.plist_object.specs.Spelling.{least_width, references}

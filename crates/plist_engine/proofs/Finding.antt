@@ -1,8 +1,7 @@
 -- The objects that the walk finds are those of the canonical file, and can be sent.
-use Rattle.std.proofs.Common.{◌≡◌, ℕ, ◌+◌, ◌*◌, ◌^◌, ◌<◌, ◌≤◌, List, length, map, refl, sym, ap, ◌∙◌, arith}
+use Rattle.std.proofs.Common.{◌≡◌, ℕ, ◌^◌, ◌<◌, ◌≤◌, List, length, sym, ap, ◌∙◌, arith}
 use Rattle.std.proofs.lemmas.List.{length-map}
-use Rattle.plist_value.specs.Plist.{Plist, IsPlist}
-use Rattle.plist_value.specs.Limits.{nodes, payload, Fits}
+use Rattle.plist_value.specs.Plist.{Plist}
 use Rattle.plist_object.specs.Spelled.{IsBinary}
 use Rattle.plist_object.specs.Spelling.{least_width}
 use Rattle.plist_write.specs.Tree.{preorder}

@@ -12,3 +12,4 @@ pub mod PlaceSteps
 pub mod ObjectSteps
 pub mod FileSteps
 pub mod Finding
+pub mod Remembering

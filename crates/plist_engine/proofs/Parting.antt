@@ -1,8 +1,8 @@
 -- What objects hold, told by the objects of another file.
-use Rattle.std.proofs.Common.{◌≡◌, ℕ, suc, ◌+◌, ◌≤◌, List, [], ◌∷◌, ◌++◌, length, map, take, drop, Ok, refl, sym, ap, subst, ◌∙◌, arith, length-append, append_assoc}
+use Rattle.std.proofs.Common.{◌≡◌, ℕ, suc, ◌+◌, ◌≤◌, List, [], ◌∷◌, ◌++◌, length, take, drop, refl, sym, ap, subst, ◌∙◌, arith, length-append, append_assoc}
 use Rattle.std.proofs.lemmas.List.{length-map, take_at, drop_at}
 use Rattle.plist_object.specs.Objects.{Held, holds_scalar, holds_list, holds_table}
-use Rattle.plist_object.specs.Places.{Holds, what_holds}
+use Rattle.plist_object.specs.Places.{Holds}
 use Rattle.plist_object.specs.Shortest.{spelling_of}
 use Rattle.plist_engine.specs.Plan.{references_of, IsLike, StandFor}
 use Rattle.plist_engine.specs.Parts.{held_or_none, held_at, reference_count, renumbered, helds_of, AreSound, octets_for}

@@ -1,10 +1,10 @@
 -- The walk does a tree when it does its parts.
-use Rattle.std.proofs.Common.{◌≡◌, ℕ, suc, ◌+◌, ◌<◌, ◌≤◌, List, [], ◌∷◌, ◌++◌, length, drop, map, Some, None, refl, sym, ap, subst, ◌∙◌, inl, inr, arith, cond, add-one, add-zero, length-append}
+use Rattle.std.proofs.Common.{◌≡◌, ℕ, suc, ◌+◌, ◌≤◌, List, [], ◌∷◌, ◌++◌, length, drop, Some, None, refl, sym, ap, subst, ◌∙◌, inl, inr, arith, cond, add-one, add-zero, length-append}
 use Rattle.std.proofs.lemmas.Bool.{true≢false, le-ltb, eq-eqb, ne_eqb, cases_Bool}
 use Rattle.std.proofs.lemmas.List.{map-append, append-nil}
 use Rattle.std.specs.Ordering.{on}
 use Rattle.indexmap.specs.IndexSet.{insert_key}
-use Rattle.plist_value.specs.Plist.{Scalar, Plist, scalar, Items, item}
+use Rattle.plist_value.specs.Plist.{Plist, scalar, Items, item}
 use Rattle.plist_value.specs.Equality.{scalar_eq}
 use Rattle.plist_value.specs.EqualityLaws.{scalar_eq-Decides}
 use Rattle.plist_value.specs.Scalars.{content_of}
@@ -13,7 +13,7 @@ use Rattle.plist_object.specs.Objects.{holds_scalar}
 use Rattle.plist_object.specs.Places.{Holds}
 use Rattle.plist_write.specs.Tree.{preorder, preorder_items, item_places}
 use Rattle.plist_write.specs.Sharing.{least_place, kept_places, count_below}
-use Rattle.plist_write.specs.Plan.{Stands, number_in, found_in, number_known}
+use Rattle.plist_write.specs.Plan.{number_in, found_in, number_known}
 use Rattle.plist_engine.specs.declared.plan.Plan.{Plan}
 use Rattle.plist_engine.specs.Plan.{number_held, IsReady, Grows, Adds, Walks, WalksTree, WalksScalar, WalksItems, IsEmptyPlan, StandFor}
 use Rattle.plist_write.proofs.Numbering.{count_below-none}

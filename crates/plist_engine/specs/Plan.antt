@@ -1,5 +1,5 @@
 -- The walk that plans a canonical file over the objects of another file.
-use Rattle.std.specs.Prelude.{◌≡◌, ℕ, ◌+◌, List, [], ◌∷◌, ◌++◌, length, map, drop, take, slice_get, Option, None}
+use Rattle.std.specs.Prelude.{◌≡◌, ℕ, ◌+◌, ◌-◌, ◌^◌, List, [], ◌∷◌, ◌++◌, length, map, drop, take, slice_get, slice_index_or, Option, Some, None}
 use Rattle.std.specs.Ordering.{on}
 use Rattle.indexmap.specs.IndexSet.{insert_index}
 use Rattle.plist_value.specs.Plist.{Scalar, Plist, scalar, Items, IsPlist, AreItems}
@@ -93,7 +93,34 @@ pub record Begins (i : ℕ) (refs : List ℕ) (old new : Plan) (number : ℕ) : 
   pub scalars_kept : new.scalars ≡ old.scalars
   pub numbers_kept : new.numbers ≡ old.numbers
   pub original_added : new.originals.items ≡ old.originals.items ++ (i ∷ [])
+  pub memo_kept : new.memo ≡ old.memo
   pub references_added : new.references.items ≡ old.references.items ++ refs
+
+-- the object holds a scalar that has the number
+pub record IsRemembered (f : List ℕ) (plan : Plan) (i number : ℕ) : Type 0 where
+  pub shown : ScalarRef
+  pub holds : Holds f i (holds_scalar (content_of shown))
+  pub held : number_held plan shown ≡ Some number
+
+-- stands for the number of an object that has none yet
+abbrev pub no_number : ℕ
+no_number = 2 ^ 64 - 1
+
+-- what the memo has of an object
+abbrev pub remembered : Plan → ℕ → ℕ
+remembered plan i = slice_index_or plan.memo.items i no_number
+
+-- each number of the memo is that of the scalar that the object holds
+pub record RemembersNumbers (f : List ℕ) (plan : Plan) : Type 0 where
+  pub numbered : IsNumbered plan
+  pub each : (i : ℕ) → (remembered plan i ≡ no_number → ⊥) → IsRemembered f plan i (remembered plan i)
+
+-- The scalar has the number now, and each that had one has it still.
+pub record EntersScalar (shown : ScalarRef) (old new : Plan) (number : ℕ) : Type 0 where
+  pub memo_kept : new.memo ≡ old.memo
+  pub numbered : IsNumbered old → IsNumbered new
+  pub found : IsNumbered old → number_held new shown ≡ Some number
+  pub still : IsNumbered old → (s : ScalarRef) (n : ℕ) → number_held old s ≡ Some n → number_held new s ≡ Some n
 
 -- A scalar was numbered that an object of a file holds.
 pub record NumbersScalar (i : ℕ) (s : Scalar) (old new : Plan) (number : ℕ) : Type 0 where

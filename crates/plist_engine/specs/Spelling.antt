@@ -3,7 +3,7 @@ use Rattle.std.specs.Prelude.{◌≡◌, ℕ, ◌≤◌, List, length, map, ◌+
 use Rattle.std.specs.List.{zip}
 use Rattle.std.specs.List.Sorted.{IsPermutation}
 use Rattle.plist_value.specs.Plist.{Plist, Items, Pairs, text, IsPlist, AreItems, ArePairs}
-use Rattle.plist_value.specs.Limits.{depth, depth_of_items, depth_of_pairs}
+use Rattle.plist_value.specs.Limits.{depth, depth_of_items}
 use Rattle.plist_object.specs.Objects.{Held, holds_scalar}
 use Rattle.plist_object.specs.Places.{Holds}
 use Rattle.plist_object.specs.Spelled.{Spells, SpellItems, SpellPairs}

@@ -48,7 +48,8 @@ impl Sink for Whole {
 /// Where there is no memory for the file, or for the plan of its objects.
 pub fn canonical_of(alloc: Global, file: &BinFile) -> Result<Vec<u8>, AllocError>
     requires { (v : Plist) × IsBinary (octets_of file.now) v }
-    ensures { IfOk result (λ octets. (v : Plist) → IsBinary (octets_of file.now) v → octets.items ≡ canon v) }
+    ensures { IfOk result (λ octets. (v : Plist) → IsBinary (octets_of file.now) v
+        → octets.items ≡ canon v) }
 {
     let mut whole = Whole {
         octets: Vec::new(alloc),

@@ -50,14 +50,16 @@ pub(crate) fn push_all(items: &Refs, references: &mut Vec<u64>) -> Result<(), Al
 
 // The references of the rows, in turn.
 fn push_rows(rows: &[Row], references: &mut Vec<u64>) -> Result<(), AllocError>
-    ensures { OnOk result (references.new.items ≡ references.old.items ++ in_turn (map pair_of rows.now)) }
+    ensures { OnOk result (references.new.items
+        ≡ references.old.items ++ in_turn (map pair_of rows.now)) }
 {
     push_keys(rows, references)?;
     push_values(rows, references)
 }
 
 fn push_keys(rows: &[Row], references: &mut Vec<u64>) -> Result<(), AllocError>
-    ensures { OnOk result (references.new.items ≡ references.old.items ++ map (λ row. row.key) rows.now) }
+    ensures { OnOk result (references.new.items
+        ≡ references.old.items ++ map (λ row. row.key) rows.now) }
 {
     for row in rows {
         references.push(row.key)?;
@@ -66,7 +68,8 @@ fn push_keys(rows: &[Row], references: &mut Vec<u64>) -> Result<(), AllocError>
 }
 
 fn push_values(rows: &[Row], references: &mut Vec<u64>) -> Result<(), AllocError>
-    ensures { OnOk result (references.new.items ≡ references.old.items ++ map (λ row. row.value) rows.now) }
+    ensures { OnOk result (references.new.items
+        ≡ references.old.items ++ map (λ row. row.value) rows.now) }
 {
     for row in rows {
         references.push(row.value)?;
@@ -82,7 +85,9 @@ fn sorted_rows<'a>(
     values: &Refs,
 ) -> Result<Vec<Row<'a>>, AllocError>
     requires { IsTable (octets_of file.now) (numbers_of keys.now) (numbers_of values.now) }
-    ensures moved { IfOk result (λ rows. IsPermutation (zip (numbers_of keys.now) (numbers_of values.now)) (map pair_of rows.items)) }
+    ensures moved { IfOk result (λ rows.
+        IsPermutation (zip (numbers_of keys.now) (numbers_of values.now))
+        (map pair_of rows.items)) }
     ensures held { IfOk result (λ rows. All (HoldsKey (octets_of file.now)) rows.items) }
     ensures sorted { IfOk result (λ rows. IsSorted by_text rows.items) }
 {
@@ -99,7 +104,8 @@ fn rows_of<'a>(
     values: &Refs,
 ) -> Result<Vec<Row<'a>>, AllocError>
     requires { IsTable (octets_of file.now) (numbers_of keys.now) (numbers_of values.now) }
-    ensures rows { IfOk result (λ rows. map pair_of rows.items ≡ zip (numbers_of keys.now) (numbers_of values.now)) }
+    ensures rows { IfOk result (λ rows.
+        map pair_of rows.items ≡ zip (numbers_of keys.now) (numbers_of values.now)) }
     ensures held { IfOk result (λ rows. All (HoldsKey (octets_of file.now)) rows.items) }
 {
     let mut rows = Vec::with_capacity(alloc, keys.len() as usize)?;

@@ -24,9 +24,12 @@ pub(crate) fn part_of<'a, 'b>(
     numbers: &'b [u64],
 ) -> (Part<'a, 'b>, &'b [u64])
     requires read { IsRead (octets_of file.now) object }
-    requires numbers { reference_count (held_at (octets_of file.now) object) ≤ length numbers.now }
-    ensures part { held_in result.0 ≡ renumbered (held_at (octets_of file.now) object) numbers.entry.now }
-    ensures behind { result.1.now ≡ drop (reference_count (held_at (octets_of file.now) object)) numbers.entry.now }
+    requires numbers { reference_count (held_at (octets_of file.now) object)
+        ≤ length numbers.now }
+    ensures part { held_in result.0
+        ≡ renumbered (held_at (octets_of file.now) object) numbers.entry.now }
+    ensures behind { result.1.now
+        ≡ drop (reference_count (held_at (octets_of file.now) object)) numbers.entry.now }
 {
     match object_of(file, object) {
         Object::Scalar(scalar) => (Part::Scalar(scalar), numbers),

@@ -1,10 +1,13 @@
 //! The objects of the canonical file, in the order of their numbers, as they are found in a file.
-ghost use Rattle.std.specs.Prelude.{◌≡◌, ℕ, List, IfOk};
+ghost use Rattle.std.specs.Prelude.{◌≡◌, ℕ, List, IfOk, IfSome, OnOk};
 ghost use Rattle.plist_value.specs.Scalars.{content_of};
 ghost use Rattle.plist_value.specs.Plist.{Pairs};
+ghost use Rattle.plist_object.specs.Objects.{holds_scalar};
+ghost use Rattle.plist_object.specs.Places.{Holds};
 ghost use Rattle.plist_object.specs.Views.{numbers_of, octets_of};
 ghost use Rattle.plist_engine.specs.Spelling.{IsTable, SpellTable, in_turn};
 ghost use Rattle.plist_engine.specs.Plan.{Begins, IsEmptyPlan, NumbersScalar};
+ghost use Rattle.plist_engine.specs.Plan.{EntersScalar, IsRemembered, RemembersNumbers, remembered};
 
 use crate::order::{push_all, push_sorted};
 use indexmap::IndexSet;
@@ -20,25 +23,67 @@ pub(crate) struct Objects {
     pub(crate) references: Vec<u64>,
 }
 
-/// The objects so far, the scalars among them, and the numbers of these.
+/// Stands for the number of an object that has none yet.
+const NO_NUMBER: u64 = u64::MAX;
+
+/// The objects so far, the scalars among them, and the numbers of these. Beside them stands a memo: for each
+/// object of the file that was met as a scalar its number.
 #[derive(Drop)]
 pub(crate) struct Plan<'a> {
     scalars: IndexSet<ScalarRef<'a>>,
     numbers: Vec<u64>,
+    memo: Vec<u64>,
     originals: Vec<u64>,
     pub(crate) references: Vec<u64>,
 }
 
 impl<'a> Plan<'a> {
-    pub(crate) fn new(alloc: Global) -> Plan<'a>
-        ensures { IsEmptyPlan result }
+    /// Nothing was found of a file of so many objects.
+    pub(crate) fn new(alloc: Global, count: u64) -> Result<Plan<'a>, AllocError>
+        ensures empty { IfOk result IsEmptyPlan }
+        ensures memo { IfOk result (λ plan. (i : ℕ) → remembered plan i ≡ NO_NUMBER) }
     {
-        Plan {
+        let mut memo = Vec::new(alloc);
+        memo.resize(count as usize, NO_NUMBER)?;
+        Ok(Plan {
             scalars: IndexSet::new(alloc),
             numbers: Vec::new(alloc),
+            memo,
             originals: Vec::new(alloc),
             references: Vec::new(alloc),
+        })
+    }
+
+    /// The number of the scalar that the object holds, if it was met before.
+    pub(crate) fn number_of(&self, object: u64) -> Option<u64>
+        ensures { IfSome result (λ number. (f : List ℕ) → RemembersNumbers f self.now
+            → IsRemembered f self.now object number) }
+    {
+        let place = object as usize;
+        if place >= self.memo.len() {
+            return None;
         }
+        let number = self.memo[place];
+        if number == NO_NUMBER {
+            return None;
+        }
+        Some(number)
+    }
+
+    /// The number of the scalar that the object holds, which is kept for the next time.
+    pub(crate) fn scalar(&mut self, object: u64, scalar: ScalarRef<'a>) -> Result<u64, AllocError>
+        ensures numbers { IfOk result (NumbersScalar object (content_of scalar.entry) self.old self.new) }
+        ensures memo { OnOk result ((f : List ℕ)
+            → Holds f object (holds_scalar (content_of scalar.entry))
+            → RemembersNumbers f self.old → RemembersNumbers f self.new) }
+    {
+        let number = self.enter(object, scalar)?;
+        let place = object as usize;
+        if place >= self.memo.len() {
+            return Ok(number);
+        }
+        self.memo[place] = number;
+        Ok(number)
     }
 
     pub(crate) fn into_objects(self) -> Objects
@@ -51,10 +96,11 @@ impl<'a> Plan<'a> {
         }
     }
 
-    /// The number of the scalar that the object holds: that of an equal one, or a new one where the set did
-    /// not have it.
-    pub(crate) fn scalar(&mut self, object: u64, scalar: ScalarRef<'a>) -> Result<u64, AllocError>
-        ensures { IfOk result (NumbersScalar object (content_of scalar.entry) self.old self.new) }
+    // The number of the scalar that the object holds: that of an equal one, or a new one where the set did not
+    // have it.
+    fn enter(&mut self, object: u64, scalar: ScalarRef<'a>) -> Result<u64, AllocError>
+        ensures numbers { IfOk result (NumbersScalar object (content_of scalar.entry) self.old self.new) }
+        ensures enters { IfOk result (EntersScalar scalar.entry self.old self.new) }
     {
         let (index, _) = self.scalars.insert_full(scalar)?;
         if let Some(number) = self.numbers.get(index) {

@@ -46,7 +46,8 @@ pub fn write_canonical_of<W: Sink>(
 ) -> Result<u64, WriteFault>
     requires { (v : Plist) × IsBinary (octets_of file.now) v }
     ensures { (v : Plist) → IsBinary (octets_of file.now) v
-        → IsWritten (canon v) (W.taken out.old) (W.taken out.new) (W.failures out.old) (W.failures out.new) result }
+        → IsWritten (canon v) (W.taken out.old) (W.taken out.new)
+        (W.failures out.old) (W.failures out.new) result }
 {
     let Ok(objects) = objects_of(alloc, file) else {
         return Err(WriteFault::OutOfMemory { sent: 0 });
@@ -63,10 +64,14 @@ fn send_file<W: Sink>(
 ) -> Result<u64, WriteFault>
     requires few { length objects.originals.items < 2 ^ 32 }
     requires sound { AreSound (octets_of file.now) objects.originals.items objects.references.items }
-    requires spellable { CanSpellAll (least_width (length objects.originals.items)) (helds_of (octets_of file.now) objects.originals.items objects.references.items) }
-    requires short { length (file_of (octets_for (least_width (length objects.originals.items)) (octets_of file.now) objects.originals.items objects.references.items)) < 2 ^ 64 }
-    ensures { Sends (file_of (octets_for (least_width (length objects.originals.items)) (octets_of file.now) objects.originals.items objects.references.items))
-        0 (W.taken out.old) (W.taken out.new) (W.failures out.old) (W.failures out.new) result }
+    requires spellable { CanSpellAll (least_width (length objects.originals.items))
+        (helds_of (octets_of file.now) objects.originals.items objects.references.items) }
+    requires short { length (file_of (octets_for (least_width (length objects.originals.items))
+        (octets_of file.now) objects.originals.items objects.references.items)) < 2 ^ 64 }
+    ensures { Sends (file_of (octets_for (least_width (length objects.originals.items))
+        (octets_of file.now) objects.originals.items objects.references.items))
+        0 (W.taken out.old) (W.taken out.new)
+        (W.failures out.old) (W.failures out.new) result }
 {
     let Objects {
         originals,
@@ -104,10 +109,16 @@ fn send_objects<W: Sink>(
     requires width { IsWidth width }
     requires sound { AreSound (octets_of file.now) originals.old.items references.now }
     requires spellable { CanSpellAll width (helds_of (octets_of file.now) originals.old.items references.now) }
-    requires room { pending.old.sent + (length pending.old.octets.items + length (concat (octets_for width (octets_of file.now) originals.old.items references.now))) < 2 ^ 64 - 8 }
-    ensures goes { Goes (concat (octets_for width (octets_of file.now) originals.old.items references.now)) pending.old pending.new
-        (W.taken out.old) (W.taken out.new) (W.failures out.old) (W.failures out.new) result }
-    ensures places { OnOk result (originals.new.items ≡ starts 8 (octets_for width (octets_of file.now) originals.old.items references.now)) }
+    requires room { pending.old.sent + (length pending.old.octets.items
+        + length (concat
+        (octets_for width (octets_of file.now) originals.old.items references.now)))
+        < 2 ^ 64 - 8 }
+    ensures goes { Goes
+        (concat (octets_for width (octets_of file.now) originals.old.items references.now))
+        pending.old pending.new (W.taken out.old) (W.taken out.new)
+        (W.failures out.old) (W.failures out.new) result }
+    ensures places { OnOk result (originals.new.items
+        ≡ starts 8 (octets_for width (octets_of file.now) originals.old.items references.now)) }
 {
     let mut numbers = references;
     let mut place = 8;
@@ -134,7 +145,8 @@ fn send_places<W: Sink>(
 ) -> Result<(), WriteFault>
     requires width { IsWidth width }
     requires fit { All (λ place. place < 256 ^ width) places.now }
-    requires room { pending.old.sent + (length pending.old.octets.items + length (references width places.now)) < 2 ^ 64 }
+    requires room { pending.old.sent
+        + (length pending.old.octets.items + length (references width places.now)) < 2 ^ 64 }
     ensures { Goes (references width places.now) pending.old pending.new
         (W.taken out.old) (W.taken out.new) (W.failures out.old) (W.failures out.new) result }
 {
@@ -154,7 +166,8 @@ fn send_trailer<W: Sink>(
     pending: &mut Pending,
     out: &mut W,
 ) -> Result<(), WriteFault>
-    requires room { pending.old.sent + (length pending.old.octets.items + length (trailer_octets count place)) < 2 ^ 64 }
+    requires room { pending.old.sent
+        + (length pending.old.octets.items + length (trailer_octets count place)) < 2 ^ 64 }
     ensures goes { Goes (trailer_octets count place) pending.old pending.new
         (W.taken out.old) (W.taken out.new) (W.failures out.old) (W.failures out.new) result }
     ensures none { OnOk result (pending.new.octets.items ≡ []) }

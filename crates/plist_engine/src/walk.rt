@@ -1,10 +1,10 @@
 //! The walk from the top of a file over the sorted tree of its value, which numbers the objects.
-ghost use Rattle.std.specs.Prelude.{◌≡◌, ◌≤◌, length, drop, IfOk};
+ghost use Rattle.std.specs.Prelude.{◌≡◌, ◌≤◌, length, drop, IfOk, OnOk};
 ghost use Rattle.plist_value.specs.Plist.{Plist};
 ghost use Rattle.plist_object.specs.Spelled.{IsBinary};
 ghost use Rattle.plist_object.specs.Views.{octets_of};
 ghost use Rattle.plist_engine.specs.Spelling.{SpellsWithin, SpellWithin};
-ghost use Rattle.plist_engine.specs.Plan.{AreWalked, IsWalked, AreObjectsOf};
+ghost use Rattle.plist_engine.specs.Plan.{AreObjectsOf, AreWalked, IsWalked, RemembersNumbers};
 
 use crate::objects::object_of;
 use crate::plan::{Objects, Plan};
@@ -15,9 +15,10 @@ use std::alloc::{AllocError, Global};
 /// The objects of the canonical file of the value that the file spells.
 pub(crate) fn objects_of(alloc: Global, file: &BinFile) -> Result<Objects, AllocError>
     requires { (v : Plist) × IsBinary (octets_of file.now) v }
-    ensures { IfOk result (λ objects. (v : Plist) → IsBinary (octets_of file.now) v → AreObjectsOf (octets_of file.now) v objects) }
+    ensures { IfOk result (λ objects. (v : Plist) → IsBinary (octets_of file.now) v
+        → AreObjectsOf (octets_of file.now) v objects) }
 {
-    let mut plan = Plan::new(alloc);
+    let mut plan = Plan::new(alloc, file.count())?;
     walk(alloc, file, &mut plan, file.top(), MAX_DEPTH)?;
     Ok(plan.into_objects())
 }
@@ -31,9 +32,14 @@ fn walk<'a>(
     object: u64,
     levels: u64,
 ) -> Result<u64, AllocError>
-    requires { SpellsWithin (octets_of file.now) object levels }
-    ensures { IfOk result (IsWalked (octets_of file.now) object plan.old plan.new) }
+    requires spells { SpellsWithin (octets_of file.now) object levels }
+    requires memo { RemembersNumbers (octets_of file.now) plan.old }
+    ensures walked { IfOk result (IsWalked (octets_of file.now) object plan.old plan.new) }
+    ensures memo { OnOk result (RemembersNumbers (octets_of file.now) plan.new) }
 {
+    if let Some(number) = plan.number_of(object) {
+        return Ok(number);
+    }
     match object_of(file, object) {
         Object::Scalar(scalar) => plan.scalar(object, scalar),
         Object::List(items) => {
@@ -62,7 +68,9 @@ fn walk_children<'a>(
 ) -> Result<(), AllocError>
     requires first { first ≤ length plan.old.references.items }
     requires spell { SpellWithin (octets_of file.now) (drop first plan.old.references.items) levels }
-    ensures { IfOk result (λ _. AreWalked (octets_of file.now) first plan.old plan.new) }
+    requires memo { RemembersNumbers (octets_of file.now) plan.old }
+    ensures walked { OnOk result (AreWalked (octets_of file.now) first plan.old plan.new) }
+    ensures memo { OnOk result (RemembersNumbers (octets_of file.now) plan.new) }
 {
     for i in first..plan.references.len() {
         let object = plan.references[i];

@@ -1,4 +1,3 @@
-use Rattle.std.proofs.Common.{refl, rules}
 use Rattle.std.proofs.lemmas.Result.{on_ok_weaker}
 use Rattle.plist_engine.proofs.Ordering.{in_turn-pairs}
 use Rattle.plist_engine.proofs.order.push_rows.Goals as goal

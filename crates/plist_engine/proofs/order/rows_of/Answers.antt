@@ -1,6 +1,6 @@
-use Rattle.std.proofs.Common.{◌≡◌, ◌<◌, ◌≤◌, List, length, rules, sym, subst, ◌∙◌, arith}
+use Rattle.std.proofs.Common.{List, sym, subst, arith}
 use Rattle.std.specs.Prelude.{All}
-use Rattle.std.proofs.lemmas.List.Elements.{All-push, All-nil}
+use Rattle.std.proofs.lemmas.List.Elements.{All-push}
 use Rattle.plist_object.specs.Views.{octets_of, numbers_of}
 use Rattle.plist_engine.specs.declared.order.Row.{Row}
 use Rattle.plist_engine.specs.Order.{HoldsKey}

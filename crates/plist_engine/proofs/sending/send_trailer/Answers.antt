@@ -1,4 +1,4 @@
-use Rattle.std.proofs.Common.{◌≡◌, ℕ, List, ◌++◌, ap, length, length-append, refl, arith, ◌∙◌}
+use Rattle.std.proofs.Common.{ap, length, length-append, refl, arith, ◌∙◌}
 use Rattle.plist_write.specs.Canonical.{trailer_octets}
 use Rattle.plist_engine.specs.declared.sending.Pending.{Pending}
 use Rattle.plist_engine.proofs.Gathering.{Gathers-put, Stops-no_memory, Goes-err, Goes-after}

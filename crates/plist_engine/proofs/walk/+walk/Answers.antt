@@ -1,13 +1,14 @@
 use Rattle.std.proofs.Common.{◌≡◌, ℕ, ◌+◌, ◌-◌, ◌<◌, ◌≤◌, List, [], ◌∷◌, ◌++◌, length, drop, get_or, rules, refl, sym, ap, subst, ◌∙◌, arith, length-append, append_assoc}
 use Rattle.std.proofs.lemmas.List.{append-nil, drop_at, get_or-drop, length-drop}
-use Rattle.std.proofs.lemmas.Result.{IfOk-weaker}
+use Rattle.std.proofs.lemmas.Result.{IfOk-weaker, on_ok_weaker}
 use Rattle.plist_value.specs.Scalars.{content_of}
 use Rattle.plist_object.specs.Views.{octets_of, numbers_of}
-use Rattle.plist_engine.specs.Plan.{ItemsWalked, IsWalked, NumbersScalar}
+use Rattle.plist_engine.specs.Plan.{ItemsWalked}
 use Rattle.plist_engine.specs.Spelling.{SpellsWithin, SpellWithin, in_turn}
 use Rattle.plist_engine.proofs.Filling.{filling-start, filling-long, filling-object, filling-next, filling-end, kept-behind}
 use Rattle.plist_engine.proofs.Within.{read_within, levels_within, items_within, table_within, is_table, flat_within, value_within}
 use Rattle.plist_engine.proofs.Walked.{walked-scalar, walked-list, walked-table, walked-next, walked-none}
+use Rattle.plist_engine.proofs.Remembering.{remembers-begun, remembers-same, walked-again}
 use Rattle.plist_engine.proofs.walk.+walk.Goals as goal
 
 -- a bound on the references that a list was put behind
@@ -15,11 +16,16 @@ behind_old : (old objects new : List ℕ) (first : ℕ) → first ≡ length old
 behind_old old objects new first at_end added =
     let e = ap length added in let size = length-append old objects in omega arith
 
+pub walk-returns-in-Some-clause-walked : goal.walk-returns-in-Some-clause-walked
+walk-returns-in-Some-clause-walked t c =
+    let f = octets_of c.args.file.now in
+    walked-again f c.args.object c.args.levels c.args.plan.now c.in-Some.number c.requires.spells c.requires.memo (c.in-Some.ensures f c.requires.memo)
+
 pub walk-object_of-requires : goal.walk-object_of-requires
-walk-object_of-requires t c = read_within (octets_of c.args.file.now) c.args.object c.args.levels c.requires
+walk-object_of-requires t c = read_within (octets_of c.args.file.now) c.args.object c.args.levels c.requires.spells
 
 pub walk-overflow_sub-levels : goal.walk-overflow_sub-levels
-walk-overflow_sub-levels t c = levels_within (octets_of c.args.file.now) c.args.object c.args.levels c.requires
+walk-overflow_sub-levels t c = levels_within (octets_of c.args.file.now) c.args.object c.args.levels c.requires.spells
 
 pub walk-walk_children-requires : goal.walk-walk_children-requires
 walk-walk_children-requires t c =
@@ -27,20 +33,20 @@ walk-walk_children-requires t c =
     let old = c.args.plan.now.references.items in
     let objects = numbers_of c.in-List.items in
     let first = c.len-first.result in
-    let some = levels_within f c.args.object c.args.levels c.requires in
+    let some = levels_within f c.args.object c.args.levels c.requires.spells in
     let at_end : first ≡ length old = search rules in
     let added = c.in_ok-number-in-List.ensures.references_added in
     let begun : drop first c.begin_list.new.self.references.items ≡ objects = ap (drop first) added ∙ drop_at old objects first (sym at_end) in
-    let within = items_within f c.args.object c.args.levels objects c.requires c.in-List.ensures.holds in
-    (omega (arith, c.decreases), (behind_old old objects c.begin_list.new.self.references.items first at_end added, subst (λ (refs : List ℕ). SpellWithin f refs (c.args.levels - 1)) (sym begun) within))
+    let within = items_within f c.args.object c.args.levels objects c.requires.spells c.in-List.ensures.holds in
+    (omega (arith, c.decreases), (behind_old old objects c.begin_list.new.self.references.items first at_end added, (subst (λ (refs : List ℕ). SpellWithin f refs (c.args.levels - 1)) (sym begun) within, remembers-begun f c.args.object objects c.args.plan.now c.begin_list.new.self c.in_ok-number-in-List.number c.in_ok-number-in-List.ensures c.requires.memo)))
 
 pub walk-begin_table-requires : goal.walk-begin_table-requires
 walk-begin_table-requires t c =
-    is_table (octets_of c.args.file.now) c.args.object c.args.levels (numbers_of c.in-Table.keys) (numbers_of c.in-Table.values) c.requires c.in-Table.ensures.holds c.in-Table.ensures.valid
+    is_table (octets_of c.args.file.now) c.args.object c.args.levels (numbers_of c.in-Table.keys) (numbers_of c.in-Table.values) c.requires.spells c.in-Table.ensures.holds c.in-Table.ensures.valid
 
 pub walk-overflow_sub-levels-in-Table : goal.walk-overflow_sub-levels-in-Table
 walk-overflow_sub-levels-in-Table t c =
-    levels_within (octets_of c.args.file.now) c.args.object c.args.levels c.requires
+    levels_within (octets_of c.args.file.now) c.args.object c.args.levels c.requires.spells
 
 pub walk-walk_children-requires-in-Table : goal.walk-walk_children-requires-in-Table
 walk-walk_children-requires-in-Table t c =
@@ -49,43 +55,50 @@ walk-walk_children-requires-in-Table t c =
     let keys = numbers_of c.in-Table.keys in
     let values = numbers_of c.in-Table.values in
     let first = c.len-first-in-Table.result in
-    let some = levels_within f c.args.object c.args.levels c.requires in
+    let some = levels_within f c.args.object c.args.levels c.requires.spells in
     let at_end : first ≡ length old = search rules in
-    let within = table_within f c.args.object c.args.levels keys values c.requires c.in-Table.ensures.holds in
+    let within = table_within f c.args.object c.args.levels keys values c.requires.spells c.in-Table.ensures.holds in
     let objects = in_turn within.rows in
     let added = (c.in_ok-number-in-Table.ensures within.rows within.pairs within.spell).references_added in
     let begun : drop first c.begin_table.new.self.references.items ≡ objects = ap (drop first) added ∙ drop_at old objects first (sym at_end) in
-    (omega (arith, c.decreases), (behind_old old objects c.begin_table.new.self.references.items first at_end added, subst (λ (refs : List ℕ). SpellWithin f refs (c.args.levels - 1)) (sym begun) (flat_within f keys values (c.args.levels - 1) within)))
+    (omega (arith, c.decreases), (behind_old old objects c.begin_table.new.self.references.items first at_end added, (subst (λ (refs : List ℕ). SpellWithin f refs (c.args.levels - 1)) (sym begun) (flat_within f keys values (c.args.levels - 1) within), remembers-begun f c.args.object objects c.args.plan.now c.begin_table.new.self c.in_ok-number-in-Table.number (c.in_ok-number-in-Table.ensures within.rows within.pairs within.spell) c.requires.memo)))
 
-pub walk-returns-in-Scalar : goal.walk-returns-in-Scalar
-walk-returns-in-Scalar t c =
+pub walk-returns-in-Scalar-clause-walked : goal.walk-returns-in-Scalar-clause-walked
+walk-returns-in-Scalar-clause-walked t c =
     let f = octets_of c.args.file.now in
     let old = c.args.plan.now in
     let new = c.scalar.new.self in
     let s = content_of c.in-Scalar.scalar in
     IfOk-weaker c.scalar.result _ _
     (λ number numbers. walked-scalar f c.args.object s old new number c.in-Scalar.ensures.holds c.in-Scalar.ensures.valid numbers)
-    c.scalar.ensures
+    c.scalar.ensures.numbers
 
-pub walk-returns-in_ok-walk_children-in-List : goal.walk-returns-in_ok-walk_children-in-List
-walk-returns-in_ok-walk_children-in-List t c =
+pub walk-returns-in_ok-walk_children-in-List-clause-walked : goal.walk-returns-in_ok-walk_children-in-List-clause-walked
+walk-returns-in_ok-walk_children-in-List-clause-walked t c =
     let at_end : c.len-first.result ≡ length c.args.plan.now.references.items = search rules in
-    walked-list (octets_of c.args.file.now) c.args.object (numbers_of c.in-List.items) c.args.plan.now c.begin_list.new.self c.walk_children.new.plan c.in_ok-number-in-List.number c.len-first.result at_end c.in_ok-number-in-List.ensures c.in_ok-walk_children-in-List.ensures c.in-List.ensures.holds
+    walked-list (octets_of c.args.file.now) c.args.object (numbers_of c.in-List.items) c.args.plan.now c.begin_list.new.self c.walk_children.new.plan c.in_ok-number-in-List.number c.len-first.result at_end c.in_ok-number-in-List.ensures c.in_ok-walk_children-in-List.ensures.walked c.in-List.ensures.holds
 
-pub walk-returns-in_ok-walk_children-in-Table : goal.walk-returns-in_ok-walk_children-in-Table
-walk-returns-in_ok-walk_children-in-Table t c =
+pub walk-returns-in_ok-walk_children-in-Table-clause-walked : goal.walk-returns-in_ok-walk_children-in-Table-clause-walked
+walk-returns-in_ok-walk_children-in-Table-clause-walked t c =
     let f = octets_of c.args.file.now in
     let keys = numbers_of c.in-Table.keys in
     let values = numbers_of c.in-Table.values in
     let at_end : c.len-first-in-Table.result ≡ length c.args.plan.now.references.items = search rules in
-    let within = table_within f c.args.object c.args.levels keys values c.requires c.in-Table.ensures.holds in
-    walked-table f c.args.object keys values within.rows within.pairs c.args.plan.now c.begin_table.new.self c.walk_children-in-Table.new.plan c.in_ok-number-in-Table.number c.len-first-in-Table.result c.in-Table.ensures.valid within.spell at_end (c.in_ok-number-in-Table.ensures within.rows within.pairs within.spell) c.in_ok-walk_children-in-Table.ensures c.in-Table.ensures.holds
+    let within = table_within f c.args.object c.args.levels keys values c.requires.spells c.in-Table.ensures.holds in
+    walked-table f c.args.object keys values within.rows within.pairs c.args.plan.now c.begin_table.new.self c.walk_children-in-Table.new.plan c.in_ok-number-in-Table.number c.len-first-in-Table.result c.in-Table.ensures.valid within.spell at_end (c.in_ok-number-in-Table.ensures within.rows within.pairs within.spell) c.in_ok-walk_children-in-Table.ensures.walked c.in-Table.ensures.holds
+
+pub walk-returns-in-Scalar-clause-memo : goal.walk-returns-in-Scalar-clause-memo
+walk-returns-in-Scalar-clause-memo t c =
+    on_ok_weaker c.scalar.result
+    (λ keeps. keeps (octets_of c.args.file.now) c.in-Scalar.ensures.holds c.requires.memo)
+    c.scalar.ensures.memo
 
 pub walk_children-loop-i-init : goal.walk_children-loop-i-init
 walk_children-loop-i-init t c = record {
   done = [];
   filling = filling-start c.args.first c.args.plan.now.references.items c.requires.first;
   more = λ new numbers w. w;
+  memo = c.requires.memo;
 }
 
 pub walk_children-walk-requires : goal.walk_children-walk-requires
@@ -103,7 +116,7 @@ walk_children-walk-requires t c =
     let far : first + (i - first) ≡ i = omega arith in
     let at : get_or (drop first start) (i - first) 0 ≡ get_or start i 0 = get_or-drop first start (i - first) 0 ∙ ap (λ k. get_or start k 0) far in
     let within = value_within f (drop first start) c.args.levels (i - first) c.requires.spell (omega arith) in
-    (omega (arith, c.decreases), subst (λ (x : ℕ). SpellsWithin f x c.args.levels) (at ∙ sym stands ∙ sym object) within)
+    (omega (arith, c.decreases), (subst (λ (x : ℕ). SpellsWithin f x c.args.levels) (at ∙ sym stands ∙ sym object) within, c.loop-i.invariant.memo))
 
 pub walk_children-index_mut-requires : goal.walk_children-index_mut-requires
 walk_children-index_mut-requires t c =
@@ -112,7 +125,7 @@ walk_children-index_mut-requires t c =
     let i = c.loop-i.i in
     let below : i < length start = omega (arith, c.len-i-end.ensures, c.args.plan.now.references.ok.0) in
     let long = filling-long c.args.first i start now c.loop-i.invariant.done c.requires.first c.loop-i.invariant.filling in
-    let grown = ap length c.in_ok-number.ensures.references_added ∙ length-append now c.in_ok-number.ensures.references in
+    let grown = ap length c.in_ok-number.ensures.walked.references_added ∙ length-append now c.in_ok-number.ensures.walked.references in
     omega (arith, below, long, grown, c.walk.new.plan.references.ok.0)
 
 pub walk_children-loop-i-preserved : goal.walk_children-loop-i-preserved
@@ -126,7 +139,7 @@ walk_children-loop-i-preserved t c =
     let done = c.loop-i.invariant.done in
     let filling = c.loop-i.invariant.filling in
     let mid = c.walk.new.plan in
-    let one = c.in_ok-number.ensures in
+    let one = c.in_ok-number.ensures.walked in
     let below : i < length start = omega (arith, c.len-i-end.ensures, c.args.plan.now.references.ok.0) in
     let x = c.index-object.result.now in
     let object : c.index-object.result.now ≡ get_or now i c.index-object.result.now = search rules in
@@ -138,10 +151,11 @@ walk_children-loop-i-preserved t c =
       more = λ new numbers w.
           let all = c.loop-i.invariant.more new (n ∷ numbers) (walked-next f start i c.index-object.result.now c.loop-i.plan mid _ new n numbers below (object ∙ stands) long one refl refl refl (kept-behind i (length start) mid.references.items n below) w) in
           subst (λ (ns : List ℕ). ItemsWalked f (length start) (drop first start) c.args.plan.now new ns) (sym (append_assoc done (n ∷ []) numbers)) all;
+      memo = remembers-same f mid _ refl refl refl c.in_ok-number.ensures.memo;
     }
 
-pub walk_children-returns : goal.walk_children-returns
-walk_children-returns t c =
+pub walk_children-returns-clause-walked : goal.walk_children-returns-clause-walked
+walk_children-returns-clause-walked t c =
     let f = octets_of c.args.file.now in
     let start = c.args.plan.now.references.items in
     let first = c.args.first in

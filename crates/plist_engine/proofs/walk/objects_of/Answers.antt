@@ -1,17 +1,15 @@
-use Rattle.std.proofs.Common.{◌≡◌, ◌≤◌, List, ℕ, sym, subst, ap, rules, ◌∙◌}
+use Rattle.std.proofs.Common.{◌≡◌, ℕ, sym, subst}
 use Rattle.plist_value.specs.Plist.{Plist}
 use Rattle.plist_object.specs.Views.{octets_of}
-use Rattle.plist_object.specs.Layout.{trailer_of}
 use Rattle.plist_object.specs.Spelled.{Spells}
 use Rattle.plist_object.specs.Uniqueness.{same_value}
-use Rattle.plist_engine.specs.declared.plan.Plan.{Plan}
-use Rattle.plist_engine.specs.Spelling.{SpellsWithin}
 use Rattle.plist_engine.specs.Plan.{WalksTree}
+use Rattle.plist_engine.proofs.Remembering.{remembers-none}
 use Rattle.plist_engine.proofs.Walking.{Walks-whole}
 use Rattle.plist_engine.proofs.walk.objects_of.Goals as goal
 
-pub walk-requires : goal.walk-requires
-walk-requires c =
+pub walk-requires-clause-spells : goal.walk-requires-clause-spells
+walk-requires-clause-spells c =
     let binary = c.requires.1 in
     record {
       value = c.requires.0;
@@ -23,11 +21,14 @@ walk-requires c =
 pub returns : goal.returns
 returns c = λ v binary.
     let f = octets_of c.args.file.now in
-    let walked = c.in_ok-walk.ensures in
+    let walked = c.in_ok-walk.ensures.walked in
     let top = c.top.result in
     let spells = subst (λ (i : ℕ). Spells f i v) (sym c.top.ensures.value) binary.spells in
     let same : walked.value ≡ v = same_value f top walked.value v walked.valid binary.valid walked.spells spells in
-    let walks = subst (λ (u : Plist). WalksTree f 0 u c.new-plan.result c.walk.new.plan c.in_ok-walk.field-0) same walked.walks in
+    let walks = subst (λ (u : Plist). WalksTree f 0 u c.in_ok-plan.plan c.walk.new.plan c.in_ok-walk.field-0) same walked.walks in
     record {
-      stand_for = rw (c.into_objects.ensures.originals, c.into_objects.ensures.references) (Walks-whole f v c.new-plan.result c.walk.new.plan c.in_ok-walk.field-0 c.new-plan.ensures walks);
+      stand_for = rw (c.into_objects.ensures.originals, c.into_objects.ensures.references) (Walks-whole f v c.in_ok-plan.plan c.walk.new.plan c.in_ok-walk.field-0 c.in_ok-plan.ensures.empty walks);
     }
+
+pub walk-requires-clause-memo : goal.walk-requires-clause-memo
+walk-requires-clause-memo c = remembers-none (octets_of c.args.file.now) c.in_ok-plan.plan c.in_ok-plan.ensures.empty.numbered c.in_ok-plan.ensures.memo

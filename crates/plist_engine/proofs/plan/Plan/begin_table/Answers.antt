@@ -6,6 +6,7 @@ returns c = λ rows ps spell. record {
   number_is = search rules;
   scalars_kept = refl;
   numbers_kept = refl;
+  memo_kept = refl;
   original_added = c.in_ok-push.ensures.items;
   references_added = c.in_ok-push_sorted.ensures rows ps spell;
 }

@@ -1,25 +1,19 @@
-use Rattle.std.proofs.Common.{◌≡◌, Some, None, length, slice_get, rules, refl}
-use Rattle.std.proofs.lemmas.Option.{slice_get_read, slice_get_past}
-use Rattle.plist_engine.proofs.Walking.{Walks-known, Walks-new}
+use Rattle.std.proofs.Common.{◌<◌, length, refl, arith}
+use Rattle.plist_value.specs.Scalars.{content_of}
+use Rattle.plist_engine.proofs.Remembering.{scalar-set, remembers-entered, remembers-set}
 use Rattle.plist_engine.proofs.plan.Plan.scalar.Goals as goal
 
-pub returns-in-Some : goal.returns-in-Some
-returns-in-Some c =
-    let numbers = c.deref.result.now in
-    let index = c.in_ok-index.index in
-    let number = c.in-Some.number.now in
-    let found : slice_get numbers index ≡ Some number = slice_get_read numbers (length numbers) index number refl (search rules) (search rules) in
-    record {
-      walks = λ f holds. Walks-known f c.args.scalar c.args.self.now _ _ (rw (c.deref.ensures.value, c.in_ok-index.ensures.index) at found) c.in_ok-index.ensures.keys refl refl refl;
-      references_kept = refl;
-    }
+pub returns-then-place-len-clause-memo : goal.returns-then-place-len-clause-memo
+returns-then-place-len-clause-memo c = λ f holds memo.
+    remembers-entered f c.args.scalar c.args.self.now c.enter.new.self c.in_ok-number.number c.in_ok-number.ensures.enters memo
 
-pub returns : goal.returns
-returns c =
-    let numbers = c.deref.result.now in
-    let index = c.in_ok-index.index in
-    let missed : slice_get numbers index ≡ None = slice_get_past numbers index (search rules) in
-    record {
-      walks = λ f holds. Walks-new f c.args.scalar c.args.object c.args.self.now _ c.len-number.result holds (rw (c.deref.ensures.value, c.in_ok-index.ensures.index) at missed) (search rules) c.in_ok-push-2.ensures.items refl c.in_ok-index.ensures.keys c.in_ok-push.ensures.items;
-      references_kept = refl;
-    }
+pub returns-clause-numbers : goal.returns-clause-numbers
+returns-clause-numbers c =
+    scalar-set c.args.object (content_of c.args.scalar) c.args.self.now c.enter.new.self _ c.in_ok-number.number c.in_ok-number.ensures.numbers refl refl refl refl
+
+pub returns-clause-memo : goal.returns-clause-memo
+returns-clause-memo c = λ f holds memo.
+    let mid = c.enter.new.self in
+    let enters = c.in_ok-number.ensures.enters in
+    let within : c.args.object < length mid.memo.items = omega (arith, c.len.ensures, mid.memo.ok.0) in
+    remembers-set f c.args.object c.args.scalar mid _ c.in_ok-number.number within refl refl refl holds (enters.found memo.numbered) (remembers-entered f c.args.scalar c.args.self.now mid c.in_ok-number.number enters memo)
