@@ -72,7 +72,8 @@ impl<'a> Plan<'a> {
 
     /// The number of the scalar that the object holds, which is kept for the next time.
     pub(crate) fn scalar(&mut self, object: u64, scalar: ScalarRef<'a>) -> Result<u64, AllocError>
-        ensures numbers { IfOk result (NumbersScalar object (content_of scalar.entry) self.old self.new) }
+        ensures numbers { IfOk result
+            (NumbersScalar object (content_of scalar.entry) self.old self.new) }
         ensures memo { OnOk result ((f : List ℕ)
             → Holds f object (holds_scalar (content_of scalar.entry))
             → RemembersNumbers f self.old → RemembersNumbers f self.new) }
@@ -99,7 +100,8 @@ impl<'a> Plan<'a> {
     // The number of the scalar that the object holds: that of an equal one, or a new one where the set did not
     // have it.
     fn enter(&mut self, object: u64, scalar: ScalarRef<'a>) -> Result<u64, AllocError>
-        ensures numbers { IfOk result (NumbersScalar object (content_of scalar.entry) self.old self.new) }
+        ensures numbers { IfOk result
+            (NumbersScalar object (content_of scalar.entry) self.old self.new) }
         ensures enters { IfOk result (EntersScalar scalar.entry self.old self.new) }
     {
         let (index, _) = self.scalars.insert_full(scalar)?;

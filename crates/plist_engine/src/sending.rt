@@ -63,7 +63,8 @@ fn send_file<W: Sink>(
     out: &mut W,
 ) -> Result<u64, WriteFault>
     requires few { length objects.originals.items < 2 ^ 32 }
-    requires sound { AreSound (octets_of file.now) objects.originals.items objects.references.items }
+    requires sound { AreSound (octets_of file.now)
+        objects.originals.items objects.references.items }
     requires spellable { CanSpellAll (least_width (length objects.originals.items))
         (helds_of (octets_of file.now) objects.originals.items objects.references.items) }
     requires short { length (file_of (octets_for (least_width (length objects.originals.items))
@@ -108,7 +109,8 @@ fn send_objects<W: Sink>(
 ) -> Result<(), WriteFault>
     requires width { IsWidth width }
     requires sound { AreSound (octets_of file.now) originals.old.items references.now }
-    requires spellable { CanSpellAll width (helds_of (octets_of file.now) originals.old.items references.now) }
+    requires spellable { CanSpellAll width
+        (helds_of (octets_of file.now) originals.old.items references.now) }
     requires room { pending.old.sent + (length pending.old.octets.items
         + length (concat
         (octets_for width (octets_of file.now) originals.old.items references.now)))

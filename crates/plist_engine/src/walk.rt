@@ -67,7 +67,8 @@ fn walk_children<'a>(
     levels: u64,
 ) -> Result<(), AllocError>
     requires first { first ≤ length plan.old.references.items }
-    requires spell { SpellWithin (octets_of file.now) (drop first plan.old.references.items) levels }
+    requires spell { SpellWithin (octets_of file.now)
+        (drop first plan.old.references.items) levels }
     requires memo { RemembersNumbers (octets_of file.now) plan.old }
     ensures walked { OnOk result (AreWalked (octets_of file.now) first plan.old plan.new) }
     ensures memo { OnOk result (RemembersNumbers (octets_of file.now) plan.new) }
