@@ -1,0 +1,4 @@
+pub mod Answers
+pub mod Given
+pub mod Refusals
+pub mod Texts
