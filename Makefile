@@ -1,5 +1,6 @@
 # plistconv: `make` builds ./plistconv, `make test` is the gate, `make install PREFIX=..` installs.
-# Besides the gate: `make edits [CRATE=NAME]`, `make fuzz [SECONDS=60] [SEED=1]`, `make recipes`.
+# Besides the gate: `make edits [CRATE=NAME]`, `make fuzz [SECONDS=60] [SEED=1]`, `make recipes`,
+# `make hostile` (what refusals and large files cost), `make growths` (each allocation refused in turn).
 PREFIX ?= /usr/local
 SECONDS ?= 60
 SEED ?= 1
@@ -10,7 +11,7 @@ plistconv: $(SOURCES)
 	cd crates/plistconv && rt run -- --version
 	cp crates/plistconv/out/plistconv $@
 
-.PHONY: test edits fuzz recipes install clean
+.PHONY: test edits fuzz recipes hostile growths install clean
 
 test:
 	rt ci
@@ -23,6 +24,13 @@ fuzz: plistconv
 
 recipes: plistconv
 	PLISTCONV=./plistconv recipes/test
+
+hostile: plistconv
+	python3 bench/hostile.py ./plistconv
+	python3 bench/refusals.py ./plistconv
+
+growths: plistconv
+	python3 bench/growths.py ./plistconv
 
 install: plistconv
 	install -d $(DESTDIR)$(PREFIX)/bin $(DESTDIR)$(PREFIX)/share/man/man1

@@ -5,6 +5,8 @@
 mod canonical_tests;
 #[cfg(test)]
 mod check_tests;
+#[cfg(test)]
+mod engine;
 pub mod files;
 #[cfg(test)]
 mod judge_tests;
