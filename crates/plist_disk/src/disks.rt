@@ -57,7 +57,8 @@ pub trait Disk {
 
 /// The count of failures after a file was sent so.
 pub(crate) fn failures_after(failures: u64, sent: &Result<u64, WriteFault>) -> u64
-    ensures { MatchResult sent.now (λ _. result ≡ failures) (λ fault. IsBlamed fault failures result) }
+    ensures { MatchResult sent.now
+        (λ _. result ≡ failures) (λ fault. IsBlamed fault failures result) }
 {
     match sent {
         Err(WriteFault::WriteFailed { .. }) => failures.saturating_add(1),

@@ -43,7 +43,8 @@ impl MemoryDisk {
     pub fn put(&mut self, alloc: Global, path: &str, octets: Vec<u8>) -> Result<(), AllocError>
         ensures put { IfOk result (λ _. files_of self.new path.now ≡ Some octets.items) }
         ensures others { SameBeside path.now (Some (files_of self.old)) (Some (files_of self.new)) }
-        ensures unchanged { OnErr result ((other : FileName) → files_of self.new other ≡ files_of self.old other) }
+        ensures unchanged { OnErr result ((other : FileName)
+            → files_of self.new other ≡ files_of self.old other) }
         ensures failures { failures_of self.new ≡ failures_of self.old }
         ensures room { room_of self.new ≡ room_of self.old }
     {

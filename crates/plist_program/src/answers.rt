@@ -63,7 +63,8 @@ pub fn same_answer(
     a: &[u8],
     b: &[u8],
 ) -> Result<Answer, AllocError>
-    ensures { IfOk result (λ answer. IsSameAnswer first.now second.now a.now b.now (said_of answer)) }
+    ensures { IfOk result (λ answer.
+        IsSameAnswer first.now second.now a.now b.now (said_of answer)) }
 {
     match same_files(alloc, a, b) {
         Ok(equal) => equality(alloc, equal),

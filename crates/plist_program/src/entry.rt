@@ -30,7 +30,8 @@ pub fn run<R: Files, I: Read, O: Write>(
     output: &mut O,
 ) -> u8
     // It is a run over a disk that tells nothing, whose devices and streams failed so many times.
-    ensures { (disk_failed : ℕ) × (print_failed : ℕ) × (rest : Input) × IsRun (map (λ word. word.now) words.now)
+    ensures { (disk_failed : ℕ) × (print_failed : ℕ) × (rest : Input)
+        × IsRun (map (λ word. word.now) words.now)
         (input_of (I.remaining input.old) 0) rest
         (state None 0 (O.contents output.old) 0)
         (state None disk_failed (O.contents output.new) print_failed) result }
@@ -55,8 +56,10 @@ pub fn run_on<D: Disk, S: Source, W: Output>(
     ensures run { IsRun (map (λ word. word.now) words.now)
         (input_of (S.remaining input.old) (S.failures input.old))
         (input_of (S.remaining input.new) (S.failures input.new))
-        (state (D.files disk.old) (D.failures disk.old) (W.printed output.old) (W.failures output.old))
-        (state (D.files disk.new) (D.failures disk.new) (W.printed output.new) (W.failures output.new))
+        (state (D.files disk.old) (D.failures disk.old)
+            (W.printed output.old) (W.failures output.old))
+        (state (D.files disk.new) (D.failures disk.new)
+            (W.printed output.new) (W.failures output.new))
         result }
     ensures same { W.device output.new ≡ W.device output.old }
 {
@@ -77,8 +80,10 @@ fn obey<D: Disk, S: Source, W: Output>(
     ensures run { IsAskedRun (asked_by request.entry)
         (input_of (S.remaining input.old) (S.failures input.old))
         (input_of (S.remaining input.new) (S.failures input.new))
-        (state (D.files disk.old) (D.failures disk.old) (W.printed output.old) (W.failures output.old))
-        (state (D.files disk.new) (D.failures disk.new) (W.printed output.new) (W.failures output.new))
+        (state (D.files disk.old) (D.failures disk.old)
+            (W.printed output.old) (W.failures output.old))
+        (state (D.files disk.new) (D.failures disk.new)
+            (W.printed output.new) (W.failures output.new))
         result }
     ensures same { W.device output.new ≡ W.device output.old }
 {

@@ -34,7 +34,8 @@ pub(crate) fn filter<S: Source, W: Output>(alloc: Global, input: &mut S, output:
 
 /// The canonical file of all that the source gives.
 fn canonical_of<S: Source>(alloc: Global, input: &mut S) -> Result<Vec<u8>, Fault>
-    ensures file { IfOk result (λ file. IfSome (S.remaining input.old) (λ octets. IsCanonicalOf octets file.items)) }
+    ensures file { IfOk result (λ file. IfSome (S.remaining input.old)
+        (λ octets. IsCanonicalOf octets file.items)) }
     ensures refused { IfErr result (IsInputFault
         (input_of (S.remaining input.old) (S.failures input.old))
         (input_of (S.remaining input.new) (S.failures input.new))) }

@@ -19,7 +19,8 @@ use std::alloc::{AllocError, Global};
 pub(crate) fn send<W: Output>(output: &mut W, octets: &[u8]) -> Result<(), Fault>
     ensures ok { OnOk result (Appends (W.printed output.old) (W.printed output.new) octets.now
         × (W.failures output.new ≡ W.failures output.old)) }
-    ensures err { IfErr result (λ fault. (sent : ℕ) × (fault ≡ Fault.WriteFailed sent) × (sent < length octets.now)
+    ensures err { IfErr result (λ fault. (sent : ℕ) × (fault ≡ Fault.WriteFailed sent)
+        × (sent < length octets.now)
         × Appends (W.printed output.old) (W.printed output.new) (take sent octets.now)
         × HasFailed (W.failures output.old) (W.failures output.new)) }
     ensures same { W.device output.new ≡ W.device output.old }
@@ -77,7 +78,8 @@ pub(crate) fn report<W: Output>(alloc: Global, path: &str, fault: &Fault, output
 /// Prints what `clap` says of the words, and answers the status.
 pub(crate) fn explain<W: Output>(alloc: Global, error: &Error, output: &mut W) -> u8
     ensures ends { (text : List ℕ) × Ends (W.printed output.old) (W.printed output.new)
-        (W.failures output.old) (W.failures output.new) (said_of_kind text (kind_of error.now)) result }
+        (W.failures output.old) (W.failures output.new)
+        (said_of_kind text (kind_of error.now)) result }
     ensures same { W.device output.new ≡ W.device output.old }
 {
     let status = status_of(error);

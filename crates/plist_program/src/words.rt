@@ -21,8 +21,10 @@ pub(crate) fn check_file<D: Disk, W: Output>(
     output: &mut W,
 ) -> u8
     ensures run { IsCheckRun path.now
-        (state (D.files disk.old) (D.failures disk.old) (W.printed output.old) (W.failures output.old))
-        (state (D.files disk.new) (D.failures disk.new) (W.printed output.new) (W.failures output.new))
+        (state (D.files disk.old) (D.failures disk.old)
+            (W.printed output.old) (W.failures output.old))
+        (state (D.files disk.new) (D.failures disk.new)
+            (W.printed output.new) (W.failures output.new))
         result }
     ensures same { W.device output.new ≡ W.device output.old }
 {
@@ -40,8 +42,10 @@ pub(crate) fn lint_file<D: Disk, W: Output>(
     output: &mut W,
 ) -> u8
     ensures run { IsLintRun path.now
-        (state (D.files disk.old) (D.failures disk.old) (W.printed output.old) (W.failures output.old))
-        (state (D.files disk.new) (D.failures disk.new) (W.printed output.new) (W.failures output.new))
+        (state (D.files disk.old) (D.failures disk.old)
+            (W.printed output.old) (W.failures output.old))
+        (state (D.files disk.new) (D.failures disk.new)
+            (W.printed output.new) (W.failures output.new))
         result }
     ensures same { W.device output.new ≡ W.device output.old }
 {
@@ -60,8 +64,10 @@ pub(crate) fn compare_files<D: Disk, W: Output>(
     output: &mut W,
 ) -> u8
     ensures run { IsSameRun first.now second.now
-        (state (D.files disk.old) (D.failures disk.old) (W.printed output.old) (W.failures output.old))
-        (state (D.files disk.new) (D.failures disk.new) (W.printed output.new) (W.failures output.new))
+        (state (D.files disk.old) (D.failures disk.old)
+            (W.printed output.old) (W.failures output.old))
+        (state (D.files disk.new) (D.failures disk.new)
+            (W.printed output.new) (W.failures output.new))
         result }
     ensures same { W.device output.new ≡ W.device output.old }
 {
@@ -88,8 +94,10 @@ pub(crate) fn convert_to<D: Disk, W: Output>(
     output: &mut W,
 ) -> u8
     ensures run { IsConvertTo form from.now to.now
-        (state (D.files disk.old) (D.failures disk.old) (W.printed output.old) (W.failures output.old))
-        (state (D.files disk.new) (D.failures disk.new) (W.printed output.new) (W.failures output.new))
+        (state (D.files disk.old) (D.failures disk.old)
+            (W.printed output.old) (W.failures output.old))
+        (state (D.files disk.new) (D.failures disk.new)
+            (W.printed output.new) (W.failures output.new))
         result }
     ensures same { W.device output.new ≡ W.device output.old }
 {
@@ -108,8 +116,10 @@ fn convert_file<D: Disk, W: Output>(
     output: &mut W,
 ) -> u8
     ensures run { IsConvertRun from.now to.now
-        (state (D.files disk.old) (D.failures disk.old) (W.printed output.old) (W.failures output.old))
-        (state (D.files disk.new) (D.failures disk.new) (W.printed output.new) (W.failures output.new))
+        (state (D.files disk.old) (D.failures disk.old)
+            (W.printed output.old) (W.failures output.old))
+        (state (D.files disk.new) (D.failures disk.new)
+            (W.printed output.new) (W.failures output.new))
         result }
     ensures same { W.device output.new ≡ W.device output.old }
 {
@@ -132,8 +142,10 @@ fn convert_text<D: Disk, W: Output>(
     output: &mut W,
 ) -> u8
     ensures run { IsConvertTextRun from.now to.now
-        (state (D.files disk.old) (D.failures disk.old) (W.printed output.old) (W.failures output.old))
-        (state (D.files disk.new) (D.failures disk.new) (W.printed output.new) (W.failures output.new))
+        (state (D.files disk.old) (D.failures disk.old)
+            (W.printed output.old) (W.failures output.old))
+        (state (D.files disk.new) (D.failures disk.new)
+            (W.printed output.new) (W.failures output.new))
         result }
     ensures same { W.device output.new ≡ W.device output.old }
 {
@@ -157,8 +169,10 @@ fn store_file<D: Disk, C: Content, W: Output>(
     output: &mut W,
 ) -> u8
     ensures run { IsStoreRun from.now to.now (C.octets content.now)
-        (state (D.files disk.old) (D.failures disk.old) (W.printed output.old) (W.failures output.old))
-        (state (D.files disk.new) (D.failures disk.new) (W.printed output.new) (W.failures output.new))
+        (state (D.files disk.old) (D.failures disk.old)
+            (W.printed output.old) (W.failures output.old))
+        (state (D.files disk.new) (D.failures disk.new)
+            (W.printed output.new) (W.failures output.new))
         result }
     ensures same { W.device output.new ≡ W.device output.old }
 {

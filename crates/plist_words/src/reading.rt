@@ -91,7 +91,8 @@ fn form_named(name: &str) -> Option<Form>
 
 /// The word that stands in this place.
 fn value<'a>(given: &ArgMatches<'a>, id: &str) -> Option<&'a str>
-    ensures { option_map (λ text. text.now) result ≡ first_of id.now (rows_of (found_of given.now)) }
+    ensures { option_map (λ text. text.now) result
+        ≡ first_of id.now (rows_of (found_of given.now)) }
 {
     given.get_str(id)
 }
