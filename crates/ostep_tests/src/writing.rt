@@ -1,6 +1,7 @@
 //! The texts of values, the values without one, and what the faults of the writer print.
+use ostep_read::read_text;
 use ostep_write::{TextWriteFault, write_text};
-use plist_value::{Utf16, Value, Whole, fits};
+use plist_value::{Utf16, Value, Whole, fits, same};
 use std::alloc::{AllocError, Global};
 use std::collections::BTreeMap;
 use std::test::Fail;
@@ -41,9 +42,11 @@ fn written(rt: &HostRuntime, value: &Value) -> Result<Result<Vec<u8>, TextWriteF
     Ok(write_text(rt.alloc(), value))
 }
 
-// Whether it is written as these octets.
+// Whether it is written as these octets, which are read again as it.
 fn is_written(rt: &HostRuntime, value: &Value, expected: &[u8]) -> Result<bool, Fail> {
-    Ok(written(rt, value)??.as_slice() == expected)
+    let octets = written(rt, value)??;
+    let again = read_text(rt.alloc(), octets.as_slice())?;
+    Ok(octets.as_slice() == expected && same(&again, value))
 }
 
 // Whether it is refused as a value without a text.
