@@ -14,13 +14,6 @@ VALUES = [
 ]
 
 
-def nested(depth):
-    value = []
-    for _ in range(depth - 1):
-        value = [value]
-    return value
-
-
 def refused(call, *arguments):
     try:
         call(*arguments)
@@ -77,9 +70,22 @@ def test_refusals():
 
 
 def test_depth():
+    """A value of the greatest depth, 512, in a thread with 1 MiB of stack."""
     deep = b"(" * 511 + b"a" + b")" * 511
-    assert plistconv.check(plistconv.canonical(deep)).canonical
-    assert refused(plistconv.canonical, b"(" + deep + b")")[0] == 16
+    seen = []
+
+    def work():
+        file = plistconv.canonical(deep)
+        seen.append(plistconv.check(file).canonical and plistconv.same(deep, file))
+        seen.append(plistconv.same(deep, plistconv.text(file)))
+        seen.append(refused(plistconv.canonical, b"(" + deep + b")")[0] == 16)
+
+    before = threading.stack_size(1 << 20)
+    thread = threading.Thread(target=work)
+    thread.start()
+    thread.join()
+    threading.stack_size(before)
+    assert seen == [True] * 3, seen
 
 
 def test_threads():

@@ -1,5 +1,5 @@
 -- No refusal has the number 0.
-use Rattle.std.proofs.Common.{◌≡◌, ◌<◌, ℕ, lit<}
+use Rattle.std.proofs.Common.{◌<◌, lit<}
 use Rattle.plist_object.specs.Codes.{layout_code, object_code}
 use Rattle.plist_object.specs.declared.layout.LayoutFault.{LayoutFault}
 use Rattle.plist_object.specs.declared.layout.LayoutFault.TheVariants as layout

@@ -43,7 +43,11 @@ pub extern "C" fn plistconv_check(
             0
         }
         Err(fault) => {
-            *finding = Finding { object: 0, canonical: 0, rule: 0 };
+            *finding = Finding {
+                object: 0,
+                canonical: 0,
+                rule: 0,
+            };
             *refusal = Refusal::of(&Fault::from(fault), 1);
             fault.code()
         }
@@ -54,7 +58,15 @@ fn found(verdict: Verdict) -> Finding
     ensures { result ≡ finding_of verdict }
 {
     match verdict {
-        Verdict::Canonical => Finding { object: 0, canonical: 1, rule: 0 },
-        Verdict::Broken { rule, object } => Finding { object, canonical: 0, rule },
+        Verdict::Canonical => Finding {
+            object: 0,
+            canonical: 1,
+            rule: 0,
+        },
+        Verdict::Broken { rule, object } => Finding {
+            object,
+            canonical: 0,
+            rule,
+        },
     }
 }

@@ -28,21 +28,36 @@ impl Refusal {
     pub(crate) fn none() -> Refusal
         ensures { result ≡ no_refusal }
     {
-        Refusal { place: 0, number: 0, unit: 0, input: 0 }
+        Refusal {
+            place: 0,
+            number: 0,
+            unit: 0,
+            input: 0,
+        }
     }
 
     // The value of the first input has no text in OpenStep form.
     pub(crate) fn not_in_openstep() -> Refusal
         ensures { result ≡ of.not_in_openstep }
     {
-        Refusal { place: 0, number: 40, unit: 0, input: 1 }
+        Refusal {
+            place: 0,
+            number: 40,
+            unit: 0,
+            input: 1,
+        }
     }
 
     // The refusal of the input.
     pub(crate) fn of(fault: &Fault, input: u8) -> Refusal
         ensures { result ≡ refusal_of fault.now input }
     {
-        Refusal { place: place(fault), number: fault.code(), unit: unit(fault), input }
+        Refusal {
+            place: place(fault),
+            number: fault.code(),
+            unit: unit(fault),
+            input,
+        }
     }
 }
 
@@ -52,7 +67,8 @@ fn unit(fault: &Fault) -> u8
     match fault {
         Fault::Binary(BinaryFault::Layout(_)) | Fault::Binary(BinaryFault::OutOfMemory) => 0,
         Fault::Binary(_) => 1,
-        Fault::Text(TextFault::OutOfMemory) | Fault::Text(TextFault::Tokens(LexFault::OutOfMemory)) => 0,
+        Fault::Text(TextFault::OutOfMemory)
+        | Fault::Text(TextFault::Tokens(LexFault::OutOfMemory)) => 0,
         Fault::Text(_) => 2,
         Fault::WriteFailed { .. } | Fault::OutOfMemory { .. } => 3,
         Fault::ReadFailed | Fault::InputTooLarge => 0,

@@ -32,7 +32,7 @@ pub returns-clause-refused : goal.returns-clause-refused
 returns-clause-refused c = λ _.
     let told = c.of-in-Err-OutOfMemory.ensures in
     let refused : IsRefused c.args.octets.now (OutOfMemory 0) =
-      record { stands = refl; none = λ other v accepted. other refl } in
+    record { stands = refl; none = λ other v accepted. other refl } in
     record {
       reason = unread (OutOfMemory 0) refused told;
       number_told = sym (ap (λ (r : Refusal). r.number) told);
