@@ -18,7 +18,7 @@ for name in "${names[@]}"; do
     fi
 done
 
-copy=$(mktemp -d -t plistconv-edits-XXXXXX)
+copy=$(mktemp -d)
 trap 'rm -rf "$copy"' EXIT
 cp -r crates.txt crates "$copy/"
 [ -f HANDLES ] && cp HANDLES "$copy/"

@@ -1,3 +1,4 @@
+//! Canonical files of scalars, through the library.
 use plist_convert::{canonicalise, read_any, same_files};
 use plist_tests::files::{file, one};
 use plist_value::Value;

@@ -1,3 +1,4 @@
+//! The word `check` on files that the tests write.
 use plist_convert::run;
 use plist_tests::files::file;
 use std::fs;

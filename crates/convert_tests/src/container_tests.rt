@@ -1,3 +1,4 @@
+//! Files with containers, through the library and the program.
 use plist_convert::{canonicalise, run, same_files};
 use plist_tests::files::file;
 use std::alloc::{AllocError, Global};

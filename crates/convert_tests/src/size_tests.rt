@@ -1,3 +1,4 @@
+//! Canonical files at which a width grows.
 use plist_convert::canonicalise;
 use plist_tests::files::{end, one};
 use std::alloc::{AllocError, Global};

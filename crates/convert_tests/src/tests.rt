@@ -1,3 +1,4 @@
+//! Loading, refusals with their lines, and the program on single objects.
 use plist_binary::BinaryFault;
 use plist_convert::{DeviceFault, Fault, ListSource, ReaderSource, Source, line, load, run};
 use plist_object::{LayoutFault, ObjectFault};

@@ -1,3 +1,4 @@
+//! Texts, through the library and the program.
 use plist_convert::{Fault, PairFault, canonicalise, line, run, same_files};
 use plist_tests::files::file;
 use std::alloc::{AllocError, Global};
