@@ -119,7 +119,7 @@ row-read {octets} {after = after} tokens at token key l e h r = record {
   spells = λ rest. with_value (r.spells rest);
   reads = subst (λ x. ReadsOn octets tokens (λ rest. x ∷ equals ∷ r.inside rest) after) l
       (subst (λ x. ReadsOn octets tokens (λ rest. at.lexeme ∷ x ∷ r.inside rest) after) e
-        (behind-first tokens at (behind-first (tokens ++ at ∷ []) token r.reads)));
+      (behind-first tokens at (behind-first (tokens ++ at ∷ []) token r.reads)));
 }
 
 pub alone-read : {octets : List ℕ} {after : Reader} (tokens : List Placed) (at token : Placed) (key : List ℕ) → at.lexeme ≡ string key → token.lexeme ≡ semicolon

@@ -55,8 +55,8 @@ pub put-stands : (key : List ℕ) (v : Plist) (ps : Pairs) → has_key key ps �
 put-stands key v no_pairs d = first
 put-stands key v (pair next w ps) d =
     elim (apart key next (has_key-head key next w ps d)) [
-      below e ↦ subst (λ x. StandsAmong key v (pair next w ps) x) (sym (put-at Less key next v w ps e)) first
-    | above e f ↦ subst (λ x. StandsAmong key v (pair next w ps) x) (sym (put-at Greater key next v w ps e)) (later (put-stands key v ps (has_key-tail key next w ps d)))
+      | below e ↦ subst (λ x. StandsAmong key v (pair next w ps) x) (sym (put-at Less key next v w ps e)) first
+      | above e f ↦ subst (λ x. StandsAmong key v (pair next w ps) x) (sym (put-at Greater key next v w ps e)) (later (put-stands key v ps (has_key-tail key next w ps d)))
     ]
 
 -- a key that is below the pairs and below the new key
@@ -64,17 +64,17 @@ below-put : (low key : List ℕ) (v : Plist) (ps : Pairs) → slice_cmp nat_cmp 
 below-put low key v no_pairs b h d = b
 below-put low key v (pair next w ps) b h d =
     elim (apart key next (has_key-head key next w ps d)) [
-      below e ↦ subst (λ x. IsKeyBelow low x) (sym (put-at Less key next v w ps e)) b
-    | above e f ↦ subst (λ x. IsKeyBelow low x) (sym (put-at Greater key next v w ps e)) h
+      | below e ↦ subst (λ x. IsKeyBelow low x) (sym (put-at Less key next v w ps e)) b
+      | above e f ↦ subst (λ x. IsKeyBelow low x) (sym (put-at Greater key next v w ps e)) h
     ]
 
 pub put-pairs : (key : List ℕ) (v : Plist) (ps : Pairs) → AreUnits key → IsPlist v → ArePairs ps → has_key key ps ≡ false → ArePairs (put_pair key v ps)
 put-pairs key v no_pairs u i a d = (u, i, tt, tt)
 put-pairs key v (pair next w ps) u i a d =
     elim (apart key next (has_key-head key next w ps d)) [
-      below e ↦ subst (λ x. ArePairs x) (sym (put-at Less key next v w ps e)) (u, i, e, a)
-    | above e f ↦ subst (λ x. ArePairs x) (sym (put-at Greater key next v w ps e))
-        (a.0, a.1, below-put next key v ps f (a.2) (has_key-tail key next w ps d), put-pairs key v ps u i (a.3) (has_key-tail key next w ps d))
+      | below e ↦ subst (λ x. ArePairs x) (sym (put-at Less key next v w ps e)) (u, i, e, a)
+      | above e f ↦ subst (λ x. ArePairs x) (sym (put-at Greater key next v w ps e))
+          (a.0, a.1, below-put next key v ps f (a.2) (has_key-tail key next w ps d), put-pairs key v ps u i (a.3) (has_key-tail key next w ps d))
     ]
 
 pub pairs-ascend : (ps : Pairs) → ArePairs ps → IsAscending ps
@@ -135,7 +135,7 @@ pub put-ascends : (key : List ℕ) (v : Plist) (ps : Pairs) → IsAscending ps �
 put-ascends key v no_pairs a d = (tt, tt)
 put-ascends key v (pair next w ps) a d =
     elim (apart key next (has_key-head key next w ps d)) [
-      below e ↦ subst (λ x. IsAscending x) (sym (put-at Less key next v w ps e)) (e, a)
-    | above e f ↦ subst (λ x. IsAscending x) (sym (put-at Greater key next v w ps e))
-        (below-put next key v ps f (a.0) (has_key-tail key next w ps d), put-ascends key v ps (a.1) (has_key-tail key next w ps d))
+      | below e ↦ subst (λ x. IsAscending x) (sym (put-at Less key next v w ps e)) (e, a)
+      | above e f ↦ subst (λ x. IsAscending x) (sym (put-at Greater key next v w ps e))
+          (below-put next key v ps f (a.0) (has_key-tail key next w ps d), put-ascends key v ps (a.1) (has_key-tail key next w ps d))
     ]

@@ -117,10 +117,10 @@ pub junk-at : {octets : List ℕ} {reader : Reader} (tokens : List Placed) (toke
 junk-at {octets} tokens token whole b h n p d all t =
     let s = splits-at tokens [] token whole b h all t in
     elim (is-some (whole []) n) [
-      some first more e ↦ Faults.behind_phrase
-        (subst (λ ls. Splits octets token.start ls (token.lexeme ∷ lexemes s.others)) e s.splits)
-        (subst (λ ls. IsPhrase ls) e p)
-        (λ q. goes-nowhere tokens whole token.lexeme b d (subst (λ ls. BeginsPhrase (ls ++ token.lexeme ∷ [])) (sym e) q))
+      | some first more e ↦ Faults.behind_phrase
+          (subst (λ ls. Splits octets token.start ls (token.lexeme ∷ lexemes s.others)) e s.splits)
+          (subst (λ ls. IsPhrase ls) e p)
+          (λ q. goes-nowhere tokens whole token.lexeme b d (subst (λ ls. BeginsPhrase (ls ++ token.lexeme ∷ [])) (sym e) q))
     ]
 
 begins-at : {octets : List ℕ} {reader : Reader} {b : Before} (tokens more : List Placed) (token : Placed) (whole : Front) → AreBefore tokens whole
@@ -129,12 +129,14 @@ begins-at : {octets : List ℕ} {reader : Reader} {b : Before} (tokens more : Li
     → (all : List Placed) → HasTokens octets all → (others : List Placed) × BeginsAt octets token.start b (token.lexeme ∷ lexemes (more ++ others))
 begins-at {b = b} tokens more token whole f h n all t =
     let s = splits-at tokens more token whole f h all t in
-    let from : List Lexeme = token.lexeme ∷ lexemes (more ++ s.others) in
-    (s.others, record {
-      before = whole [];
-      splits = s.splits;
-      begins = subst (λ ls. NodeAt ls b from) (sym (whole-append tokens whole f from)) (n s.others);
-    })
+    let from : List Lexeme = token.lexeme ∷ lexemes (more ++ s.others) in (
+      s.others,
+      record {
+        before = whole [];
+        splits = s.splits;
+        begins = subst (λ ls. NodeAt ls b from) (sym (whole-append tokens whole f from)) (n s.others);
+      },
+    )
 
 -- where a value or a key begins at a token, a limit that it passes is refused there
 pub node-refuses : {octets : List ℕ} {reader : Reader} {b : Before} (tokens more : List Placed) (token : Placed) (whole : Front) (levels load : ℕ) (left : Budget)

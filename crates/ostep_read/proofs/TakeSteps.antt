@@ -105,7 +105,7 @@ pub item-taken-at : {old at called final new : Budget} {levels : ℕ} (vs all : 
     → all ≡ push vs w → TakesItems old levels all final
 item-taken-at {old} {at} {final = final} {new = new} {levels = levels} vs all w t e u f g =
     subst (λ x. TakesItems old levels x final) (sym g) (subst (λ x. TakesItems old levels (push vs w) x) (sym f)
-      (item-taken vs w t (subst (λ x. Takes x levels w new) e u)))
+    (item-taken vs w t (subst (λ x. Takes x levels w new) e u)))
 
 pub scalar-taken : {left after : Budget} {levels : ℕ} (s : Scalar) → Spends left 1 (payload_of_scalar s) after → 1 ≤ levels → IsScalar s → Takes left levels (scalar s) after
 scalar-taken s p o v = record { spent = record { nodes_left = p.nodes_left; payload_left = p.payload_left }; deep = o; valid = v }

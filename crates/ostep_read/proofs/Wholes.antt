@@ -42,8 +42,8 @@ pub string-refuses : {octets : List ℕ} {reader : Reader} {b : Before} (tokens 
 string-refuses {octets} {b = b} tokens more at octet key whole levels load left l s f h n m i =
     subst (λ x. MayRefuse octets x levels load left) s
     (node-refuses tokens more at whole levels load left f h
-      (λ others. subst (λ x. NodeAt (whole (x ∷ lexemes (more ++ others))) b (x ∷ lexemes (more ++ others))) (sym l) (n others))
-      (λ rest. let load_is : payload_at (at.lexeme ∷ rest) ≡ 2 * length key = payload-string at.lexeme key rest l in omega (arith, load_is, m)) i)
+    (λ others. subst (λ x. NodeAt (whole (x ∷ lexemes (more ++ others))) b (x ∷ lexemes (more ++ others))) (sym l) (n others))
+    (λ rest. let load_is : payload_at (at.lexeme ∷ rest) ≡ 2 * length key = payload-string at.lexeme key rest l in omega (arith, load_is, m)) i)
 
 -- the string at the front, as a value or a table that begins there, and as the first key
 pub front-refuses : {octets : List ℕ} {reader : Reader} (more : List Placed) (at : Placed) (octet : ℕ) (key : List ℕ) (levels load : ℕ) (left : Budget)

@@ -1,9 +1,8 @@
 //! The reader of property lists in text form.
 #![tactic(auto)]
 
+pub mod read;
 mod reader;
 mod values;
-
-pub mod read;
 
 pub use read::read_text;

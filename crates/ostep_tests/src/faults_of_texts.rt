@@ -43,11 +43,7 @@ fn codes_and_printed_texts(rt: HostRuntime) -> Result<(), Fail> {
             32,
             "32 BadUtf16 at octet 9",
         ),
-        (
-            TextFault::from(LexFault::OutOfMemory),
-            60,
-            "60 OutOfMemory",
-        ),
+        (TextFault::from(LexFault::OutOfMemory), 60, "60 OutOfMemory"),
     ];
     for (fault, code, printed) in rows {
         assert_eq!(rt; fault.code(), code);

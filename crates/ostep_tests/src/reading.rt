@@ -67,7 +67,10 @@ fn equal_values(rt: HostRuntime) -> Result<(), Fail> {
         (&[0xff, 0xfe], b"{}"),
         (b"{a;}", b"{a=a;}"),
         (b"a = b;", b"{a=b;}"),
-        (b"(/usr/bin, a//b, /* c */ d)", b"(\"/usr/bin\",\"a//b\",\"d\")"),
+        (
+            b"(/usr/bin, a//b, /* c */ d)",
+            b"(\"/usr/bin\",\"a//b\",\"d\")",
+        ),
         (
             b"// !$*UTF8*$!\n{\narchiveVersion = 1;\nclasses = { };\n}",
             b"{classes={};archiveVersion=\"1\";}",

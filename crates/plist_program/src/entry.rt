@@ -57,9 +57,9 @@ pub fn run_on<D: Disk, S: Source, W: Output>(
         (input_of (S.remaining input.old) (S.failures input.old))
         (input_of (S.remaining input.new) (S.failures input.new))
         (state (D.files disk.old) (D.failures disk.old)
-            (W.printed output.old) (W.failures output.old))
+        (W.printed output.old) (W.failures output.old))
         (state (D.files disk.new) (D.failures disk.new)
-            (W.printed output.new) (W.failures output.new))
+        (W.printed output.new) (W.failures output.new))
         result }
     ensures same { W.device output.new ≡ W.device output.old }
 {
@@ -81,9 +81,9 @@ fn obey<D: Disk, S: Source, W: Output>(
         (input_of (S.remaining input.old) (S.failures input.old))
         (input_of (S.remaining input.new) (S.failures input.new))
         (state (D.files disk.old) (D.failures disk.old)
-            (W.printed output.old) (W.failures output.old))
+        (W.printed output.old) (W.failures output.old))
         (state (D.files disk.new) (D.failures disk.new)
-            (W.printed output.new) (W.failures output.new))
+        (W.printed output.new) (W.failures output.new))
         result }
     ensures same { W.device output.new ≡ W.device output.old }
 {

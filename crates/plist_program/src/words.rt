@@ -22,9 +22,9 @@ pub(crate) fn check_file<D: Disk, W: Output>(
 ) -> u8
     ensures run { IsCheckRun path.now
         (state (D.files disk.old) (D.failures disk.old)
-            (W.printed output.old) (W.failures output.old))
+        (W.printed output.old) (W.failures output.old))
         (state (D.files disk.new) (D.failures disk.new)
-            (W.printed output.new) (W.failures output.new))
+        (W.printed output.new) (W.failures output.new))
         result }
     ensures same { W.device output.new ≡ W.device output.old }
 {
@@ -43,9 +43,9 @@ pub(crate) fn lint_file<D: Disk, W: Output>(
 ) -> u8
     ensures run { IsLintRun path.now
         (state (D.files disk.old) (D.failures disk.old)
-            (W.printed output.old) (W.failures output.old))
+        (W.printed output.old) (W.failures output.old))
         (state (D.files disk.new) (D.failures disk.new)
-            (W.printed output.new) (W.failures output.new))
+        (W.printed output.new) (W.failures output.new))
         result }
     ensures same { W.device output.new ≡ W.device output.old }
 {
@@ -65,9 +65,9 @@ pub(crate) fn compare_files<D: Disk, W: Output>(
 ) -> u8
     ensures run { IsSameRun first.now second.now
         (state (D.files disk.old) (D.failures disk.old)
-            (W.printed output.old) (W.failures output.old))
+        (W.printed output.old) (W.failures output.old))
         (state (D.files disk.new) (D.failures disk.new)
-            (W.printed output.new) (W.failures output.new))
+        (W.printed output.new) (W.failures output.new))
         result }
     ensures same { W.device output.new ≡ W.device output.old }
 {
@@ -95,9 +95,9 @@ pub(crate) fn convert_to<D: Disk, W: Output>(
 ) -> u8
     ensures run { IsConvertTo form from.now to.now
         (state (D.files disk.old) (D.failures disk.old)
-            (W.printed output.old) (W.failures output.old))
+        (W.printed output.old) (W.failures output.old))
         (state (D.files disk.new) (D.failures disk.new)
-            (W.printed output.new) (W.failures output.new))
+        (W.printed output.new) (W.failures output.new))
         result }
     ensures same { W.device output.new ≡ W.device output.old }
 {
@@ -117,9 +117,9 @@ fn convert_file<D: Disk, W: Output>(
 ) -> u8
     ensures run { IsConvertRun from.now to.now
         (state (D.files disk.old) (D.failures disk.old)
-            (W.printed output.old) (W.failures output.old))
+        (W.printed output.old) (W.failures output.old))
         (state (D.files disk.new) (D.failures disk.new)
-            (W.printed output.new) (W.failures output.new))
+        (W.printed output.new) (W.failures output.new))
         result }
     ensures same { W.device output.new ≡ W.device output.old }
 {
@@ -143,9 +143,9 @@ fn convert_text<D: Disk, W: Output>(
 ) -> u8
     ensures run { IsConvertTextRun from.now to.now
         (state (D.files disk.old) (D.failures disk.old)
-            (W.printed output.old) (W.failures output.old))
+        (W.printed output.old) (W.failures output.old))
         (state (D.files disk.new) (D.failures disk.new)
-            (W.printed output.new) (W.failures output.new))
+        (W.printed output.new) (W.failures output.new))
         result }
     ensures same { W.device output.new ≡ W.device output.old }
 {
@@ -170,9 +170,9 @@ fn store_file<D: Disk, C: Content, W: Output>(
 ) -> u8
     ensures run { IsStoreRun from.now to.now (C.octets content.now)
         (state (D.files disk.old) (D.failures disk.old)
-            (W.printed output.old) (W.failures output.old))
+        (W.printed output.old) (W.failures output.old))
         (state (D.files disk.new) (D.failures disk.new)
-            (W.printed output.new) (W.failures output.new))
+        (W.printed output.new) (W.failures output.new))
         result }
     ensures same { W.device output.new ≡ W.device output.old }
 {

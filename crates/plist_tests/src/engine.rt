@@ -61,7 +61,10 @@ fn scalars_are_spelled_shortest(rt: HostRuntime) -> Result<(), Fail> {
     for (source, object) in rows {
         let source = file(rt.alloc(), source, &[8], 1)?;
         let canonical = canonical_file(rt.alloc(), source.as_slice())?;
-        assert_eq!(rt; canonical.as_slice(), file(rt.alloc(), object, &[8], 1)?.as_slice());
+        assert_eq!(rt;
+            canonical.as_slice(),
+            file(rt.alloc(), object, &[8], 1)?.as_slice()
+        );
     }
     Ok(())
 }
@@ -70,11 +73,29 @@ fn scalars_are_spelled_shortest(rt: HostRuntime) -> Result<(), Fail> {
 // whose references have one octet.
 const CONTAINERS: [(&[u8], &[u8], u8, &[u8], &[u8]); 9] = [
     // Keys are sorted, and values share the objects of the keys.
-    (b"\xd2\x01\x02\x02\x01QbQa", &[8, 13, 15], 1, b"\xd2\x01\x02\x02\x01QaQb", &[8, 13, 15]),
+    (
+        b"\xd2\x01\x02\x02\x01QbQa",
+        &[8, 13, 15],
+        1,
+        b"\xd2\x01\x02\x02\x01QaQb",
+        &[8, 13, 15],
+    ),
     // Equal octets of two kinds are two objects.
-    (b"\xa2\x01\x02Qa\x41a", &[8, 11, 13], 1, b"\xa2\x01\x02Qa\x41a", &[8, 11, 13]),
+    (
+        b"\xa2\x01\x02Qa\x41a",
+        &[8, 11, 13],
+        1,
+        b"\xa2\x01\x02Qa\x41a",
+        &[8, 11, 13],
+    ),
     // A list that is named twice, an empty one too, is spelled twice.
-    (&[0xa2, 1, 1, 0xa0], &[8, 11], 1, &[0xa2, 1, 2, 0xa0, 0xa0], &[8, 11, 12]),
+    (
+        &[0xa2, 1, 1, 0xa0],
+        &[8, 11],
+        1,
+        &[0xa2, 1, 2, 0xa0, 0xa0],
+        &[8, 11, 12],
+    ),
     (
         &[0xa2, 1, 1, 0xa1, 2, 0x09],
         &[8, 11, 13],
@@ -107,9 +128,21 @@ const CONTAINERS: [(&[u8], &[u8], u8, &[u8], &[u8]); 9] = [
         &[8, 13, 18, 21, 23],
     ),
     // References take no more octets than they need.
-    (&[0xa1, 0, 0, 1, 0x09], &[8, 12], 3, &[0xa1, 1, 0x09], &[8, 10]),
+    (
+        &[0xa1, 0, 0, 1, 0x09],
+        &[8, 12],
+        3,
+        &[0xa1, 1, 0x09],
+        &[8, 10],
+    ),
     // Objects may overlap.
-    (b"\xa2\x01\x02\x52Qa", &[8, 11, 12], 1, b"\xa2\x01\x02\x52QaQa", &[8, 11, 14]),
+    (
+        b"\xa2\x01\x02\x52Qa",
+        &[8, 11, 12],
+        1,
+        b"\xa2\x01\x02\x52QaQa",
+        &[8, 11, 14],
+    ),
 ];
 
 #[test]
@@ -148,7 +181,10 @@ fn rotated(alloc: Global, place: u8) -> Result<Vec<u8>, AllocError> {
         object.extend_from_slice(behind)?;
         objects.push(object)?;
     }
-    let parts: Vec<&[u8]> = objects.iter().map(|object| object.as_slice()).collect(alloc)?;
+    let parts: Vec<&[u8]> = objects
+        .iter()
+        .map(|object| object.as_slice())
+        .collect(alloc)?;
     let mut file = file_of(alloc, parts.as_slice(), 1)?;
     // The last octet of the number of the top object.
     let top = file.len().saturating_sub(9);

@@ -32,7 +32,7 @@ returns-in_err-first-clause-refused c =
     let octets = c.args.octets.now in
     refused-by c.args.octets.now c.faulty_is_no_text.ensures c.from_residual-in_err-first.result
     (passed_on (Stands octets) c.in_err-first.field-0.0 c.from_residual-in_err-first.result c.from_residual-in_err-first.ensures.1
-      (c.in_err-first.ensures.stands octets [] (record { behind = c.in_ok-open.ensures.ok; ends = refl })))
+    (c.in_err-first.ensures.stands octets [] (record { behind = c.in_ok-open.ensures.ok; ends = refl })))
 
 pub returns-in_default-clause-read : goal.returns-in_default-clause-read
 returns-in_default-clause-read c =

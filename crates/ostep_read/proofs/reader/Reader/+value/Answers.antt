@@ -56,9 +56,9 @@ items-returns-in_err-item t c = record {
       let first = c.in_ok-first.first in
       passed_on (Stands octets) c.in_err-item.field-0.0 c.from_residual-in_err-item.result c.from_residual-in_err-item.ensures.1
       (c.in_err-item.ensures.stands octets r.reads.all (λ rest. whole (r.inside rest)) (with_items (view_items c.loop-items.items.items) (opened b)) (Machine.in_list a)
-        (r.reads.follow whole f) (c.in_ok-first.ensures.read octets r.reads.all r.reads.has)
-        (item-due r.inside d r.spells (item-begun a first.kind c.in_default.not-ParenClose))
-        (left-same c.in_ok-first.ensures.left (items-left b (view_items c.loop-items.items.items) i c.loop-items.invariant.taken)));
+      (r.reads.follow whole f) (c.in_ok-first.ensures.read octets r.reads.all r.reads.has)
+      (item-due r.inside d r.spells (item-begun a first.kind c.in_default.not-ParenClose))
+      (left-same c.in_ok-first.ensures.left (items-left b (view_items c.loop-items.items.items) i c.loop-items.invariant.taken)));
 }
 
 pub items-returns-in_err-behind : goal.items-returns-in_err-behind
@@ -72,7 +72,7 @@ items-returns-in_err-behind t c = record {
       let more : Front = λ rest. lexeme_of c.in_ok-first.first.kind ∷ v.inside rest in
       passed_on (Stands octets) c.in_err-behind.field-0.0 c.from_residual-in_err-behind.result c.from_residual-in_err-behind.ensures.1
       (c.in_err-behind.ensures.stands octets v.reads.all (λ rest. whole (r.inside (more rest))) (v.reads.follow (λ rest. whole (r.inside rest)) (r.reads.follow whole f)) v.reads.has
-        (item-open r.inside more d r.spells v.spells));
+      (item-open r.inside more d r.spells v.spells));
 }
 
 pub items-returns-in-ParenClose-kind : goal.items-returns-in-ParenClose-kind
@@ -103,9 +103,9 @@ items-returns-in_default-kind t c = record {
       let has = c.in_ok-behind.ensures.read octets v.reads.all v.reads.has in
       c.refuse.ensures octets (v.reads.all ++ token ∷ []) has
       (expected-at v.reads.all token (λ rest. whole (r.inside (more rest))) (v.reads.follow (λ rest. whole (r.inside rest)) (r.reads.follow whole f)) has
-        (item-open r.inside more d r.spells v.spells)
-        (leads-nowhere (λ rest. whole (r.inside (more rest))) (Machine.behind (Machine.in_list a)) token.lexeme (item-leads r.inside more d r.spells v.spells)
-          (item-ended a c.in_ok-behind.behind.kind c.in_default-kind.not-ParenClose c.in_default-kind.not-Comma)));
+      (item-open r.inside more d r.spells v.spells)
+      (leads-nowhere (λ rest. whole (r.inside (more rest))) (Machine.behind (Machine.in_list a)) token.lexeme (item-leads r.inside more d r.spells v.spells)
+      (item-ended a c.in_ok-behind.behind.kind c.in_default-kind.not-ParenClose c.in_default-kind.not-Comma)));
 }
 
 pub items-loop-items-preserved : goal.items-loop-items-preserved
@@ -127,7 +127,7 @@ row-returns-in_err-charge-clause-stands t c octets tokens at whole b around befo
     let few : c.text_payload.result ≤ 2 * length c.args.key.now = omega (arith, c.text_payload.ensures.payload) in
     passed_on (Stands octets) c.in_err-charge.field-0.0 c.from_residual.result c.from_residual.ensures.1
     (c.in_err-charge.ensures.stands octets (tokens ++ at ∷ []) h
-      (key-refuses tokens at c.args.octet c.args.key.now whole c.args.levels c.text_payload.result c.args.self.now.left l s f h d few i))
+    (key-refuses tokens at c.args.octet c.args.key.now whole c.args.levels c.text_payload.result c.args.self.now.left l s f h d few i))
 
 pub row-returns-then-contains_key-clause-stands : goal.row-returns-then-contains_key-clause-stands
 row-returns-then-contains_key-clause-stands t c octets tokens at whole b around before l s f h d i =
@@ -185,9 +185,9 @@ row-returns-in-Semicolon-clause-taken t c =
     let spent : Spends c.args.self.now.left 1 (2 * length key) c.charge.new.self.left = spends-same c.in_ok-charge.ensures.spent c.text_payload.ensures.payload in
     both_ok c.key_alone.result (λ v. view v ≡ scalar (text key)) (Spends c.expect.new.self.left 1 (2 * length key) after) (λ v. TakesRow c.args.self.now.left c.args.levels key (view v) after)
     (λ v e u.
-      let alone : Takes c.charge.new.self.left c.args.levels (scalar (text key)) after =
-      taken-same c.in_ok-behind.ensures.left refl (scalar-taken (text key) u c.in_ok-charge.ensures.deep c.text_payload.ensures.valid) in
-      row-taken key (view v) spent c.in_ok-charge.ensures.deep (subst (λ x. Takes c.charge.new.self.left c.args.levels x after) (sym e) alone) c.text_payload.ensures.valid)
+    let alone : Takes c.charge.new.self.left c.args.levels (scalar (text key)) after =
+    taken-same c.in_ok-behind.ensures.left refl (scalar-taken (text key) u c.in_ok-charge.ensures.deep c.text_payload.ensures.valid) in
+    row-taken key (view v) spent c.in_ok-charge.ensures.deep (subst (λ x. Takes c.charge.new.self.left c.args.levels x after) (sym e) alone) c.text_payload.ensures.valid)
     c.key_alone.ensures.value c.key_alone.ensures.spent
 
 pub row-returns-in-Semicolon-clause-once : goal.row-returns-in-Semicolon-clause-once
@@ -217,7 +217,7 @@ row-returns-in-Semicolon-clause-stands t c octets tokens at whole b around befor
     let two : HasRead octets (tokens ++ at ∷ token ∷ []) c.expect.new.self = subst (λ ts. HasRead octets ts c.expect.new.self) (append_assoc tokens (at ∷ []) (token ∷ [])) has_behind in
     c.key_alone.ensures.stands octets ((tokens ++ at ∷ []) ++ token ∷ []) has_behind
     (alone-refuses tokens at token c.args.octet key whole c.args.levels c.expect.new.self.left l s (ap lexeme_of c.in-Semicolon.is) f two d once
-      (left-same c.in_ok-behind.ensures.left (key-left key i spent)))
+    (left-same c.in_ok-behind.ensures.left (key-left key i spent)))
 
 pub row-returns : goal.row-returns
 row-returns t c =
@@ -235,8 +235,8 @@ row-returns t c =
           sym (has_key-looked key c.args.rows.now.entries) ∙ (sym c.contains_key.ensures ∙ c.if-contains_key.false) in
           c.refuse-in_default.ensures octets ((tokens ++ at ∷ []) ++ token ∷ []) has_behind
           (expected-at (tokens ++ at ∷ []) token (λ rest. whole (string key ∷ rest)) (before-key tokens at key whole l f) has_behind (key-open key d once)
-            (leads-nowhere (λ rest. whole (string key ∷ rest)) (Machine.key around) token.lexeme (λ rest. d.leads (string key ∷ rest))
-              (key-ended around c.in_ok-behind.behind.kind c.in_default.not-Equals c.in_default.not-Semicolon)));
+          (leads-nowhere (λ rest. whole (string key ∷ rest)) (Machine.key around) token.lexeme (λ rest. d.leads (string key ∷ rest))
+          (key-ended around c.in_ok-behind.behind.kind c.in_default.not-Equals c.in_default.not-Semicolon)));
     }
 
 pub row_value-returns-in_err-first-clause-stands : goal.row_value-returns-in_err-first-clause-stands
@@ -248,7 +248,7 @@ pub row_value-returns-in_err-value-clause-stands : goal.row_value-returns-in_err
 row_value-returns-in_err-value-clause-stands t c octets tokens whole b around f h d i =
     passed_on (Stands octets) c.in_err-value.field-0.0 c.from_residual-in_err-value.result c.from_residual-in_err-value.ensures.1
     (c.in_err-value.ensures.stands octets tokens whole b around f (c.in_ok-first.ensures.read octets tokens h) (row_value-first (lexeme_of c.in_ok-first.first.kind) d)
-      (left-same c.in_ok-first.ensures.left i))
+    (left-same c.in_ok-first.ensures.left i))
 
 pub row_value-returns-in_err-behind-clause-stands : goal.row_value-returns-in_err-behind-clause-stands
 row_value-returns-in_err-behind-clause-stands t c octets tokens whole b around f h d i =
@@ -274,8 +274,8 @@ row_value-returns-in_default t c = record {
       let has = c.in_ok-behind.ensures.read octets v.reads.all v.reads.has in
       c.refuse.ensures octets (v.reads.all ++ token ∷ []) has
       (expected-at v.reads.all token (λ rest. whole (more rest)) (v.reads.follow whole f) has (row_value-behind more d v.spells)
-        (leads-nowhere (λ rest. whole (more rest)) (Machine.behind around) token.lexeme (row_value-leads more d v.spells)
-          (row-ended d.table c.in_ok-behind.behind.kind c.in_default.not-Semicolon)));
+      (leads-nowhere (λ rest. whole (more rest)) (Machine.behind around) token.lexeme (row_value-leads more d v.spells)
+      (row-ended d.table c.in_ok-behind.behind.kind c.in_default.not-Semicolon)));
 }
 
 pub rows-loop-rows-init : goal.rows-loop-rows-init
@@ -291,7 +291,7 @@ rows-returns-in_err-token-clause-stands t c octets tokens whole b a f h d i =
     let r = c.loop-rows.invariant.read octets tokens h in
     passed_on (Stands octets) c.in_err-token.field-0.0 c.from_residual.result c.from_residual.ensures.1
     (c.in_err-token.ensures.stands octets r.reads.all (λ rest. whole (r.inside rest)) (r.reads.follow whole f) r.reads.has
-      (rows-open (row-due r.inside d r.spells r.same c.loop-rows.invariant.taken.valid)))
+    (rows-open (row-due r.inside d r.spells r.same c.loop-rows.invariant.taken.valid)))
 
 pub rows-returns-in-BraceClose-clause-read : goal.rows-returns-in-BraceClose-clause-read
 rows-returns-in-BraceClose-clause-read t c octets tokens h =
@@ -303,8 +303,8 @@ rows-returns-in_err-value-in-Text-clause-stands t c octets tokens whole b a f h 
     let r = c.loop-rows.invariant.read octets tokens h in
     passed_on (Stands octets) c.in_err-value-in-Text.field-0.0 c.from_residual-in_err-value-in-Text.result c.from_residual-in_err-value-in-Text.ensures.1
     (c.in_err-value-in-Text.ensures.stands octets r.reads.all (placed c.in_ok-token.token) (λ rest. whole (r.inside rest)) (opened b) (Machine.in_braces a) r.rows
-      (rw c.in-Text.is refl) refl (r.reads.follow whole f) (c.in_ok-token.ensures.read octets r.reads.all r.reads.has)
-      (row-due r.inside d r.spells r.same c.loop-rows.invariant.taken.valid) (left-same c.in_ok-token.ensures.left (rows-left i c.loop-rows.invariant.taken r.same)))
+    (rw c.in-Text.is refl) refl (r.reads.follow whole f) (c.in_ok-token.ensures.read octets r.reads.all r.reads.has)
+    (row-due r.inside d r.spells r.same c.loop-rows.invariant.taken.valid) (left-same c.in_ok-token.ensures.left (rows-left i c.loop-rows.invariant.taken r.same)))
 
 pub rows-loop-rows-preserved : goal.rows-loop-rows-preserved
 rows-loop-rows-preserved t c =
@@ -319,7 +319,7 @@ rows-loop-rows-preserved t c =
           let r = c.loop-rows.invariant.read octets tokens h in
           subst (λ x. ReadsRows octets tokens [] x c.row.new.self) (sym (ap view_pairs entries ∙ view_pairs-insert_entry c.loop-rows.rows.entries _ value))
           (row-more-read r (c.in_ok-value-in-Text.ensures.read octets r.reads.all (placed c.in_ok-token.token) (rw c.in-Text.is refl) (c.in_ok-token.ensures.read octets r.reads.all r.reads.has))
-            c.in_ok-value-in-Text.ensures.once);
+          c.in_ok-value-in-Text.ensures.once);
     }
 
 pub rows-returns-in_default : goal.rows-returns-in_default
@@ -335,8 +335,8 @@ rows-returns-in_default t c =
           let due = row-due r.inside d r.spells r.same c.loop-rows.invariant.taken.valid in
           c.refuse.ensures octets (r.reads.all ++ token ∷ []) has
           (expected-at r.reads.all token (λ rest. whole (r.inside rest)) (r.reads.follow whole f) has (rows-open due)
-            (leads-nowhere (λ rest. whole (r.inside rest)) (Machine.rows (Machine.in_braces a)) token.lexeme due.leads
-              (table-ended a c.in_ok-token.token.kind c.in_default.not-BraceClose c.in_default.not-Text)));
+          (leads-nowhere (λ rest. whole (r.inside rest)) (Machine.rows (Machine.in_braces a)) token.lexeme due.leads
+          (table-ended a c.in_ok-token.token.kind c.in_default.not-BraceClose c.in_default.not-Text)));
     }
 
 pub value-returns-in_err-charge-in-Text-clause-stands : goal.value-returns-in_err-charge-in-Text-clause-stands
@@ -345,7 +345,7 @@ value-returns-in_err-charge-in-Text-clause-stands t c octets tokens whole b a f 
     let few : c.text_payload.result ≤ 2 * length c.in-Text.text = omega (arith, is) in
     passed_on (Stands octets) c.in_err-charge-in-Text.field-0.0 c.from_residual.result c.from_residual.ensures.1
     (c.in_err-charge-in-Text.ensures.stands octets (tokens ++ placed c.args.first ∷ []) h
-      (value-refuses tokens (placed c.args.first) (string c.in-Text.text) whole c.args.levels c.text_payload.result c.args.self.now.left (ap lexeme_of c.in-Text.is) f h d.at (λ rest. refl) (λ rest. few) i))
+    (value-refuses tokens (placed c.args.first) (string c.in-Text.text) whole c.args.levels c.text_payload.result c.args.self.now.left (ap lexeme_of c.in-Text.is) f h d.at (λ rest. refl) (λ rest. few) i))
 
 pub value-returns-in_err-charge-in-Octets-clause-stands : goal.value-returns-in_err-charge-in-Octets-clause-stands
 value-returns-in_err-charge-in-Octets-clause-stands t c octets tokens whole b a f h d i =
@@ -353,14 +353,14 @@ value-returns-in_err-charge-in-Octets-clause-stands t c octets tokens whole b a 
     let few : c.data_payload.result ≤ length c.in-Octets.octets.items = omega (arith, c.data_payload.ensures.payload, ap length seen) in
     passed_on (Stands octets) c.in_err-charge-in-Octets.field-0.0 c.from_residual-in_err-charge-in-Octets.result c.from_residual-in_err-charge-in-Octets.ensures.1
     (c.in_err-charge-in-Octets.ensures.stands octets (tokens ++ placed c.args.first ∷ []) h
-      (value-refuses tokens (placed c.args.first) (data_token c.in-Octets.octets.items) whole c.args.levels c.data_payload.result c.args.self.now.left (ap lexeme_of c.in-Octets.is) f h d.at (λ rest. refl)
-        (λ rest. few) i))
+    (value-refuses tokens (placed c.args.first) (data_token c.in-Octets.octets.items) whole c.args.levels c.data_payload.result c.args.self.now.left (ap lexeme_of c.in-Octets.is) f h d.at (λ rest. refl)
+    (λ rest. few) i))
 
 pub value-returns-in_err-charge-in-ParenOpen-clause-stands : goal.value-returns-in_err-charge-in-ParenOpen-clause-stands
 value-returns-in_err-charge-in-ParenOpen-clause-stands t c octets tokens whole b a f h d i =
     passed_on (Stands octets) c.in_err-charge-in-ParenOpen.field-0.0 c.from_residual-in_err-charge-in-ParenOpen.result c.from_residual-in_err-charge-in-ParenOpen.ensures.1
     (c.in_err-charge-in-ParenOpen.ensures.stands octets (tokens ++ placed c.args.first ∷ []) h
-      (value-refuses tokens (placed c.args.first) paren_open whole c.args.levels 0 c.args.self.now.left (ap lexeme_of c.in-ParenOpen.is) f h d.at (λ rest. refl) (λ rest. omega arith) i))
+    (value-refuses tokens (placed c.args.first) paren_open whole c.args.levels 0 c.args.self.now.left (ap lexeme_of c.in-ParenOpen.is) f h d.at (λ rest. refl) (λ rest. omega arith) i))
 
 pub value-returns-in_err-items-in-ParenOpen-clause-stands : goal.value-returns-in_err-items-in-ParenOpen-clause-stands
 value-returns-in_err-items-in-ParenOpen-clause-stands t c octets tokens whole b a f h d i =
@@ -369,13 +369,13 @@ value-returns-in_err-items-in-ParenOpen-clause-stands t c octets tokens whole b 
     let is : lexeme_of c.args.first.kind ≡ paren_open = ap lexeme_of c.in-ParenOpen.is in
     passed_on (Stands octets) c.in_err-items-in-ParenOpen.field-0.0 c.from_residual-in_err-items-in-ParenOpen.result c.from_residual-in_err-items-in-ParenOpen.ensures.1
     (c.in_err-items-in-ParenOpen.ensures.stands octets (tokens ++ placed c.args.first ∷ []) (λ rest. whole (paren_open ∷ rest)) b a (before-at tokens (placed c.args.first) paren_open whole is f) has
-      (list-due (subst (λ x. ValueDue whole b a x) is d)) (opened-left i c.in_ok-charge-in-ParenOpen.ensures.spent c.in_ok-charge-in-ParenOpen.ensures.deep))
+    (list-due (subst (λ x. ValueDue whole b a x) is d)) (opened-left i c.in_ok-charge-in-ParenOpen.ensures.spent c.in_ok-charge-in-ParenOpen.ensures.deep))
 
 pub value-returns-in_err-charge-in-BraceOpen-clause-stands : goal.value-returns-in_err-charge-in-BraceOpen-clause-stands
 value-returns-in_err-charge-in-BraceOpen-clause-stands t c octets tokens whole b a f h d i =
     passed_on (Stands octets) c.in_err-charge-in-BraceOpen.field-0.0 c.from_residual-in_err-charge-in-BraceOpen.result c.from_residual-in_err-charge-in-BraceOpen.ensures.1
     (c.in_err-charge-in-BraceOpen.ensures.stands octets (tokens ++ placed c.args.first ∷ []) h
-      (value-refuses tokens (placed c.args.first) brace_open whole c.args.levels 0 c.args.self.now.left (ap lexeme_of c.in-BraceOpen.is) f h d.at (λ rest. refl) (λ rest. omega arith) i))
+    (value-refuses tokens (placed c.args.first) brace_open whole c.args.levels 0 c.args.self.now.left (ap lexeme_of c.in-BraceOpen.is) f h d.at (λ rest. refl) (λ rest. omega arith) i))
 
 pub value-returns-in_err-rows-in-BraceOpen-clause-stands : goal.value-returns-in_err-rows-in-BraceOpen-clause-stands
 value-returns-in_err-rows-in-BraceOpen-clause-stands t c octets tokens whole b a f h d i =
@@ -384,7 +384,7 @@ value-returns-in_err-rows-in-BraceOpen-clause-stands t c octets tokens whole b a
     let is : lexeme_of c.args.first.kind ≡ brace_open = ap lexeme_of c.in-BraceOpen.is in
     passed_on (Stands octets) c.in_err-rows-in-BraceOpen.field-0.0 c.from_residual-in_err-rows-in-BraceOpen.result c.from_residual-in_err-rows-in-BraceOpen.ensures.1
     (c.in_err-rows-in-BraceOpen.ensures.stands octets (tokens ++ placed c.args.first ∷ []) (λ rest. whole (brace_open ∷ rest)) b a (before-at tokens (placed c.args.first) brace_open whole is f) has
-      (table-due (subst (λ x. ValueDue whole b a x) is d)) (opened-left i c.in_ok-charge-in-BraceOpen.ensures.spent c.in_ok-charge-in-BraceOpen.ensures.deep))
+    (table-due (subst (λ x. ValueDue whole b a x) is d)) (opened-left i c.in_ok-charge-in-BraceOpen.ensures.spent c.in_ok-charge-in-BraceOpen.ensures.deep))
 
 pub value-returns-in_ok-charge-in-Text-clause-taken : goal.value-returns-in_ok-charge-in-Text-clause-taken
 value-returns-in_ok-charge-in-Text-clause-taken t c =
@@ -393,7 +393,7 @@ value-returns-in_ok-charge-in-Text-clause-taken t c =
     let is : c.text_payload.result ≡ 2 * length key = rw c.in-Text.is at c.text_payload.ensures.payload in
     let valid : AreUnits key = rw c.in-Text.is at c.text_payload.ensures.valid in
     rw c.in-Text.is (subst (λ x. Takes c.args.self.now.left c.args.levels x after) (sym (view-text key))
-      (scalar-taken (text key) (spends-same c.in_ok-charge-in-Text.ensures.spent is) c.in_ok-charge-in-Text.ensures.deep valid))
+    (scalar-taken (text key) (spends-same c.in_ok-charge-in-Text.ensures.spent is) c.in_ok-charge-in-Text.ensures.deep valid))
 
 pub value-returns-in_ok-charge-in-Text-clause-read : goal.value-returns-in_ok-charge-in-Text-clause-read
 value-returns-in_ok-charge-in-Text-clause-read t c octets tokens h =
@@ -403,7 +403,7 @@ value-returns-in_ok-charge-in-Text-clause-read t c octets tokens h =
     let shown : view (Value.Text key) ≡ scalar (text key) = view-text key in
     let read : ReadsValue octets tokens token.lexeme (view (Value.Text key)) after =
     subst (λ x. ReadsValue octets tokens token.lexeme x after) (sym shown) (string-read tokens token key (ap lexeme_of c.in-Text.is)
-      (same-read c.args.self.now after h c.in_ok-charge-in-Text.ensures.cursor c.in_ok-charge-in-Text.ensures.end)) in
+    (same-read c.args.self.now after h c.in_ok-charge-in-Text.ensures.cursor c.in_ok-charge-in-Text.ensures.end)) in
     rw c.in-Text.is (subst (λ l. ReadsValue octets tokens l (view (Value.Text key)) after) (ap lexeme_of c.in-Text.is) read)
 
 pub value-returns-in_ok-charge-in-Octets-clause-taken : goal.value-returns-in_ok-charge-in-Octets-clause-taken
@@ -413,7 +413,7 @@ value-returns-in_ok-charge-in-Octets-clause-taken t c =
     let seen : c.as_slice.result.now ≡ xs.items = rw c.in-Octets.is at c.as_slice.ensures.value in
     let valid : AreOctets xs.items = subst (λ ys. AreOctets ys) seen c.data_payload.ensures.valid in
     rw c.in-Octets.is (subst (λ x. Takes c.args.self.now.left c.args.levels x after) (sym (view-bytes xs))
-      (scalar-taken (bytes xs.items) (spends-same c.in_ok-charge-in-Octets.ensures.spent (c.data_payload.ensures.payload ∙ ap length seen)) c.in_ok-charge-in-Octets.ensures.deep valid))
+    (scalar-taken (bytes xs.items) (spends-same c.in_ok-charge-in-Octets.ensures.spent (c.data_payload.ensures.payload ∙ ap length seen)) c.in_ok-charge-in-Octets.ensures.deep valid))
 
 pub value-returns-in_ok-charge-in-Octets-clause-read : goal.value-returns-in_ok-charge-in-Octets-clause-read
 value-returns-in_ok-charge-in-Octets-clause-read t c octets tokens h =
@@ -422,7 +422,7 @@ value-returns-in_ok-charge-in-Octets-clause-read t c octets tokens h =
     let after = c.charge-in-Octets.new.self in
     let read : ReadsValue octets tokens token.lexeme (view (Value.Bytes xs)) after =
     subst (λ x. ReadsValue octets tokens token.lexeme x after) (sym (view-bytes xs)) (data-read tokens token xs.items (ap lexeme_of c.in-Octets.is)
-      (same-read c.args.self.now after h c.in_ok-charge-in-Octets.ensures.cursor c.in_ok-charge-in-Octets.ensures.end)) in
+    (same-read c.args.self.now after h c.in_ok-charge-in-Octets.ensures.cursor c.in_ok-charge-in-Octets.ensures.end)) in
     rw c.in-Octets.is (subst (λ l. ReadsValue octets tokens l (view (Value.Bytes xs)) after) (ap lexeme_of c.in-Octets.is) read)
 
 pub value-returns-in_ok-items-in-ParenOpen-clause-read : goal.value-returns-in_ok-items-in-ParenOpen-clause-read
@@ -438,7 +438,7 @@ value-returns-in_ok-rows-in-BraceOpen-clause-read t c octets tokens h =
     let has : HasRead octets (tokens ++ placed c.args.first ∷ []) charged = same-read c.args.self.now charged h c.in_ok-charge-in-BraceOpen.ensures.cursor c.in_ok-charge-in-BraceOpen.ensures.end in
     subst (λ x. ReadsValue octets tokens (lexeme_of c.args.first.kind) x c.rows.new.self) (sym (view-table c.in_ok-rows-in-BraceOpen.rows))
     (table-read tokens (placed c.args.first) (ap lexeme_of c.in-BraceOpen.is) (c.in_ok-rows-in-BraceOpen.ensures.read octets (tokens ++ placed c.args.first ∷ []) has)
-      c.in_ok-rows-in-BraceOpen.ensures.taken.valid)
+    c.in_ok-rows-in-BraceOpen.ensures.taken.valid)
 
 pub value-returns-in_default : goal.value-returns-in_default
 value-returns-in_default t c = record {
@@ -451,5 +451,5 @@ value-returns-in_default t c = record {
       let n = c.in_default in
       c.refuse.ensures octets (tokens ++ token ∷ []) h
       (expected-at tokens token whole f h (value-open d (value-none kind n.not-Text n.not-Octets n.not-ParenOpen n.not-BraceOpen))
-        (value-nowhere d (value-ended a kind n.not-Text n.not-Octets n.not-ParenOpen n.not-BraceOpen)));
+      (value-nowhere d (value-ended a kind n.not-Text n.not-Octets n.not-ParenOpen n.not-BraceOpen)));
 }

@@ -36,7 +36,7 @@ returns-in_err-value-in-Text-clause-stands c octets left i t r =
     let has : HasRead octets (b.tokens ++ token ∷ []) c.next.new.self = rw c.in-Some.is at (c.in_ok-token.ensures.read octets b.tokens b.has) in
     passed_on (Stands octets) c.in_err-value-in-Text.field-0.0 c.from_residual-in_err-value-in-Text.result c.from_residual-in_err-value-in-Text.ensures.1
     (c.in_err-value-in-Text.ensures.stands octets b.tokens token b.whole (opened nothing) Machine.bare b.rows (rw c.in-Text.is refl) refl b.before has b.due
-      (left-same c.in_ok-token.ensures.left (rows-left i b.taken b.due.sorted.same)))
+    (left-same c.in_ok-token.ensures.left (rows-left i b.taken b.due.sorted.same)))
 
 pub loop-rows-preserved : goal.loop-rows-preserved
 loop-rows-preserved c octets left i t r =
@@ -46,7 +46,7 @@ loop-rows-preserved c octets left i t r =
     subst (λ x. BareRead octets left x c.row.new.self)
     (sym (ap view_pairs c.in_ok-insert-in-Text.ensures.entries ∙ view_pairs-insert_entry c.loop-rows.rows.entries _ c.in_ok-value-in-Text.value))
     (bare-more b (row-same c.in_ok-token.ensures.left c.in_ok-value-in-Text.ensures.taken) c.in_ok-value-in-Text.ensures.once
-      (c.in_ok-value-in-Text.ensures.read octets b.tokens token (rw c.in-Text.is refl) has))
+    (c.in_ok-value-in-Text.ensures.read octets b.tokens token (rw c.in-Text.is refl) has))
 
 pub returns-in_default-kind : goal.returns-in_default-kind
 returns-in_default-kind c = record {
@@ -57,7 +57,7 @@ returns-in_default-kind c = record {
       let has : HasRead octets (b.tokens ++ token ∷ []) c.next.new.self = rw c.in-Some.is at (c.in_ok-token.ensures.read octets b.tokens b.has) in
       c.refuse.ensures octets (b.tokens ++ token ∷ []) has
       (junk-at b.tokens token b.whole b.before has b.some (table (view_pairs c.loop-rows.rows.entries), bare-phrase b)
-        (bare-ends b token.lexeme (bare-ended c.in-Some.token.kind c.in_default-kind.not-Text)));
+      (bare-ends b token.lexeme (bare-ended c.in-Some.token.kind c.in_default-kind.not-Text)));
 }
 
 pub returns-clause-read : goal.returns-clause-read

@@ -25,4 +25,4 @@ returns-in-Some-clause-stands c octets first r e =
     let read : HasRead octets (r.reads.all ++ token ∷ []) c.next.new.self = rw c.in-Some.is at (c.in_ok-next.ensures.read octets r.reads.all r.reads.has) in
     c.refuse.ensures octets (r.reads.all ++ token ∷ []) read
     (junk-at r.reads.all token (λ rest. first ∷ r.inside rest) (r.reads.follow (λ rest. rest) (λ rest. refl)) read (λ n. cc n) (view c.args.value, a_value (r.spells []))
-      (λ rest. value-ends r e token.lexeme rest))
+    (λ rest. value-ends r e token.lexeme rest))

@@ -31,7 +31,7 @@ returns-in_err-charge-clause-stands c octets at l s h i =
     let few : c.text_payload.result ≤ 2 * length c.args.text = omega (arith, c.text_payload.ensures.payload) in
     passed_on (Stands octets) c.in_err-charge.field-0.0 c.from_residual-in_err-charge.result c.from_residual-in_err-charge.ensures.1
     (c.in_err-charge.ensures.stands octets (at ∷ []) one
-      (front-refuses [] at c.args.octet c.args.text MAX_DEPTH c.text_payload.result c.next.new.self.left l s one few (left-same c.in_ok-second.ensures.left i)))
+    (front-refuses [] at c.args.octet c.args.text MAX_DEPTH c.text_payload.result c.next.new.self.left l s one few (left-same c.in_ok-second.ensures.left i)))
 
 pub returns-in_default-clause-read : goal.returns-in_default-clause-read
 returns-in_default-clause-read c octets at l s h i =
@@ -64,7 +64,7 @@ returns-in_err-value-in-Equals-clause-stands c octets at l s h i =
     let inner = first_key-left c.args.text left c.in_ok-first_key-in-Equals.ensures.spent in
     passed_on (Stands octets) c.in_err-value-in-Equals.field-0.0 c.from_residual-in_err-value-in-Equals.result c.from_residual-in_err-value-in-Equals.ensures.1
     (c.in_err-value-in-Equals.ensures.stands octets (at ∷ second ∷ []) (λ rest. string c.args.text ∷ equals ∷ rest) (with_key c.args.text (with_rows no_pairs (opened nothing))) Machine.bare
-      (before-two at second (string c.args.text) equals l (ap lexeme_of c.in-Equals.is)) three (first_value-due c.args.text) inner)
+    (before-two at second (string c.args.text) equals l (ap lexeme_of c.in-Equals.is)) three (first_value-due c.args.text) inner)
 
 pub returns-in_err-value-in-Semicolon-clause-stands : goal.returns-in_err-value-in-Semicolon-clause-stands
 returns-in_err-value-in-Semicolon-clause-stands c octets at l s h i =
@@ -76,7 +76,7 @@ returns-in_err-value-in-Semicolon-clause-stands c octets at l s h i =
     let inner = first_key-left c.args.text left c.in_ok-first_key-in-Semicolon.ensures.spent in
     passed_on (Stands octets) c.in_err-value-in-Semicolon.field-0.0 c.from_residual-in_err-value-in-Semicolon.result c.from_residual-in_err-value-in-Semicolon.ensures.1
     (c.in_err-value-in-Semicolon.ensures.stands octets (at ∷ second ∷ []) three
-      (first_alone-refuses at second c.args.octet c.args.text 511 keyed.left l s (ap lexeme_of c.in-Semicolon.is) three inner))
+    (first_alone-refuses at second c.args.octet c.args.text 511 keyed.left l s (ap lexeme_of c.in-Semicolon.is) three inner))
 
 pub returns-in_err-charge-in_default-kind : goal.returns-in_err-charge-in_default-kind
 returns-in_err-charge-in_default-kind c = record {
@@ -87,7 +87,7 @@ returns-in_err-charge-in_default-kind c = record {
       let few : c.text_payload-in_default-kind.result ≤ 2 * length c.args.text = omega (arith, c.text_payload-in_default-kind.ensures.payload) in
       passed_on (Stands octets) c.in_err-charge-in_default-kind.field-0.0 c.from_residual-in_err-charge-in_default-kind.result c.from_residual-in_err-charge-in_default-kind.ensures.1
       (c.in_err-charge-in_default-kind.ensures.stands octets (at ∷ second ∷ []) two
-        (front-refuses (second ∷ []) at c.args.octet c.args.text MAX_DEPTH c.text_payload-in_default-kind.result c.next.new.self.left l s two few (left-same c.in_ok-second.ensures.left i)));
+      (front-refuses (second ∷ []) at c.args.octet c.args.text MAX_DEPTH c.text_payload-in_default-kind.result c.next.new.self.left l s two few (left-same c.in_ok-second.ensures.left i)));
 }
 
 pub returns-in_ok-charge-in_default-kind : goal.returns-in_ok-charge-in_default-kind
@@ -101,8 +101,8 @@ returns-in_ok-charge-in_default-kind c = record {
       same-read c.next.new.self charged two c.in_ok-charge-in_default-kind.ensures.cursor c.in_ok-charge-in_default-kind.ensures.end in
       c.refuse.ensures octets (at ∷ second ∷ []) three
       (junk-at (at ∷ []) second (λ rest. string c.args.text ∷ rest) (λ rest. ap (λ x. x ∷ rest) l) three (λ n. cc n) (scalar (text c.args.text), a_value a_string)
-        (leads-nowhere (λ rest. string c.args.text ∷ rest) Machine.lone second.lexeme (λ rest. refl)
-          (key-ended Machine.bare c.in-Some.second.kind c.in_default-kind.not-Equals c.in_default-kind.not-Semicolon)));
+      (leads-nowhere (λ rest. string c.args.text ∷ rest) Machine.lone second.lexeme (λ rest. refl)
+      (key-ended Machine.bare c.in-Some.second.kind c.in_default-kind.not-Equals c.in_default-kind.not-Semicolon)));
 }
 
 pub returns-in_ok-value-in-Equals-clause-read : goal.returns-in_ok-value-in-Equals-clause-read
@@ -146,10 +146,10 @@ returns-in_ok-value-in-Semicolon-clause-read c octets at l s h i =
     let value = c.in_ok-value-in-Semicolon.value in
     let after = c.key_alone.new.self in
     let taken : Takes keyed.left 511 (view value) after.left = subst (λ x. Takes keyed.left 511 x after.left) (sym c.in_ok-value-in-Semicolon.ensures.value)
-        (scalar-taken (text c.args.text) c.in_ok-value-in-Semicolon.ensures.spent c.in_ok-value-in-Semicolon.ensures.deep c.in_ok-first_key-in-Semicolon.ensures.valid) in
+    (scalar-taken (text c.args.text) c.in_ok-value-in-Semicolon.ensures.spent c.in_ok-value-in-Semicolon.ensures.deep c.in_ok-first_key-in-Semicolon.ensures.valid) in
     let four : HasRead octets (at ∷ second ∷ []) after = same-read keyed after three c.in_ok-value-in-Semicolon.ensures.cursor c.in_ok-value-in-Semicolon.ensures.end in
     let row : ReadsRow octets [] c.args.text (view value) after = subst (λ x. ReadsRow octets [] c.args.text x after) (sym c.in_ok-value-in-Semicolon.ensures.value)
-        (alone-read [] at second c.args.text l (ap lexeme_of c.in-Semicolon.is) four) in
+    (alone-read [] at second c.args.text l (ap lexeme_of c.in-Semicolon.is) four) in
     let first = first-taken c.args.text (view value) left c.in_ok-first_key-in-Semicolon.ensures.spent taken c.in_ok-first_key-in-Semicolon.ensures.valid in
     c.bare_table-in-Semicolon.ensures.read octets first.left first.is_left first.taken row
 
@@ -164,9 +164,9 @@ returns-in_ok-value-in-Semicolon-clause-stands c octets at l s h i =
     let value = c.in_ok-value-in-Semicolon.value in
     let after = c.key_alone.new.self in
     let taken : Takes keyed.left 511 (view value) after.left = subst (λ x. Takes keyed.left 511 x after.left) (sym c.in_ok-value-in-Semicolon.ensures.value)
-        (scalar-taken (text c.args.text) c.in_ok-value-in-Semicolon.ensures.spent c.in_ok-value-in-Semicolon.ensures.deep c.in_ok-first_key-in-Semicolon.ensures.valid) in
+    (scalar-taken (text c.args.text) c.in_ok-value-in-Semicolon.ensures.spent c.in_ok-value-in-Semicolon.ensures.deep c.in_ok-first_key-in-Semicolon.ensures.valid) in
     let four : HasRead octets (at ∷ second ∷ []) after = same-read keyed after three c.in_ok-value-in-Semicolon.ensures.cursor c.in_ok-value-in-Semicolon.ensures.end in
     let row : ReadsRow octets [] c.args.text (view value) after = subst (λ x. ReadsRow octets [] c.args.text x after) (sym c.in_ok-value-in-Semicolon.ensures.value)
-        (alone-read [] at second c.args.text l (ap lexeme_of c.in-Semicolon.is) four) in
+    (alone-read [] at second c.args.text l (ap lexeme_of c.in-Semicolon.is) four) in
     let first = first-taken c.args.text (view value) left c.in_ok-first_key-in-Semicolon.ensures.spent taken c.in_ok-first_key-in-Semicolon.ensures.valid in
     c.bare_table-in-Semicolon.ensures.stands octets first.left first.is_left first.taken row
