@@ -1,6 +1,6 @@
 # plistconv: `make` builds ./plistconv, `make test` is the gate, `make install PREFIX=..` installs.
 # Besides the gate: `make edits [CRATE=NAME]`, `make fuzz [SECONDS=60] [SEED=1]`, `make recipes`,
-# `make lib` (the C library) and `make install-lib`, `make hostile` (what refusals and large files cost), `make growths` (each allocation refused in turn).
+# `make hostile` (what refusals and large files cost), `make growths` (each allocation refused in turn).
 PREFIX ?= /usr/local
 SECONDS ?= 60
 SEED ?= 1
@@ -43,7 +43,5 @@ install: plistconv
 	install -m 644 completions/plistconv.fish $(DESTDIR)$(PREFIX)/share/fish/vendor_completions.d/plistconv.fish
 
 clean:
-	rm -f plistconv libplistconv.a libplistconv.so
+	rm -f plistconv
 	rm -rf crates/*/out
-
-include lib.mk

@@ -1,4 +1,0 @@
-pub mod Answers
-pub mod Given
-pub mod Refusals
-pub mod Texts
