@@ -27,7 +27,7 @@ fn answers_the_worked_rows(rt: HostRuntime) -> Result<(), Fail> {
         fs::write(&rt, path, octets)?;
     }
     let rows = [
-        ("plistconv convert binary1 row2.txt out", "", 0),
+        ("plistconv convert binary1 row2.txt converted", "", 0),
         ("plistconv same row2.txt row2.bin", "equal\n", 0),
         ("plistconv same real4.bin real8.bin", "different\n", 1),
         ("plistconv lint row2.txt", "row2.txt: OK\n", 0),
@@ -90,7 +90,7 @@ fn answers_the_worked_rows(rt: HostRuntime) -> Result<(), Fail> {
         assert_eq!(rt; output.as_slice(), printed.as_bytes(), "at {text}");
         assert_eq!(rt; status, want, "at {text}");
     }
-    let written = fs::read(&rt, "out")?;
+    let written = fs::read(&rt, "converted")?;
     assert_eq!(rt; written.as_slice(), TABLE);
     let written = fs::read(&rt, "text")?;
     assert_eq!(rt; written.as_slice(), b"{\na = b;\nb = a;\n}\n".as_slice());
@@ -98,7 +98,7 @@ fn answers_the_worked_rows(rt: HostRuntime) -> Result<(), Fail> {
     for (path, _) in FILES {
         fs::remove_file(&rt, path)?;
     }
-    fs::remove_file(&rt, "out")?;
+    fs::remove_file(&rt, "converted")?;
     fs::remove_file(&rt, "text")?;
     Ok(())
 }
