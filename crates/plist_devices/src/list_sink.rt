@@ -1,5 +1,5 @@
 //! A list of octets as a sink.
-ghost use Rattle.std.specs.Prelude.{◌≡◌, ◌+◌, ◌-◌, ◌<◌, ◌≤◌, ◌↔◌, ◌++◌, [], Some, IsErr, IsTrue, IfOk, min, length, take, vec_len, vec_capacity};
+ghost use Rattle.std.specs.Prelude.{◌≡◌, ◌+◌, ◌-◌, ◌<◌, ◌≤◌, ◌↔◌, ◌++◌, [], None, Some, IsErr, IsTrue, IfOk, min, length, take, vec_len, vec_capacity};
 ghost use Rattle.plist_devices.specs.Sink.{IsPut};
 
 use crate::{DeviceFault, Sink};
@@ -62,6 +62,8 @@ impl Sink for ListSink {
     ghost taken = { λ sink. Some (octets_taken sink) };
 
     ghost failures = { failures_of };
+
+    ghost device = { λ _. None };
 
     fn put(&mut self, piece: &[u8]) -> Result<usize, DeviceFault>
         ensures put { IsPut (Some (octets_taken self.old)) (Some (octets_taken self.new))

@@ -58,6 +58,8 @@ impl<R: Files> Sink for FileSink<'_, R> {
 
     ghost failures = { failures_of };
 
+    ghost device = { λ _. None };
+
     fn put(&mut self, piece: &[u8]) -> Result<usize, DeviceFault> {
         if self.failures == u64::MAX {
             return Err(DeviceFault);

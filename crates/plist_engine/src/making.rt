@@ -1,5 +1,5 @@
 //! The canonical file of the value that a file spells, as octets.
-ghost use Rattle.std.specs.Prelude.{◌≡◌, Some, IfOk};
+ghost use Rattle.std.specs.Prelude.{◌≡◌, None, Some, IfOk};
 ghost use Rattle.plist_value.specs.Plist.{Plist};
 ghost use Rattle.plist_object.specs.Spelled.{IsBinary};
 ghost use Rattle.plist_object.specs.Views.{octets_of};
@@ -21,6 +21,8 @@ impl Sink for Whole {
     ghost taken = { λ whole. Some whole.octets.items };
 
     ghost failures = { λ whole. whole.failures };
+
+    ghost device = { λ _. None };
 
     fn put(&mut self, piece: &[u8]) -> Result<usize, DeviceFault> {
         if self.failures == u64::MAX {

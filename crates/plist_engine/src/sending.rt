@@ -45,9 +45,10 @@ pub fn write_canonical_of<W: Sink>(
     out: &mut W,
 ) -> Result<u64, WriteFault>
     requires { (v : Plist) × IsBinary (octets_of file.now) v }
-    ensures { (v : Plist) → IsBinary (octets_of file.now) v
+    ensures written { (v : Plist) → IsBinary (octets_of file.now) v
         → IsWritten (canon v) (W.taken out.old) (W.taken out.new)
         (W.failures out.old) (W.failures out.new) result }
+    ensures same { W.device out.new ≡ W.device out.old }
 {
     let Ok(objects) = objects_of(alloc, file) else {
         return Err(WriteFault::OutOfMemory { sent: 0 });
@@ -69,10 +70,11 @@ fn send_file<W: Sink>(
         (helds_of (octets_of file.now) objects.originals.items objects.references.items) }
     requires short { length (file_of (octets_for (least_width (length objects.originals.items))
         (octets_of file.now) objects.originals.items objects.references.items)) < 2 ^ 64 }
-    ensures { Sends (file_of (octets_for (least_width (length objects.originals.items))
+    ensures sends { Sends (file_of (octets_for (least_width (length objects.originals.items))
         (octets_of file.now) objects.originals.items objects.references.items))
         0 (W.taken out.old) (W.taken out.new)
         (W.failures out.old) (W.failures out.new) result }
+    ensures same { W.device out.new ≡ W.device out.old }
 {
     let Objects {
         originals,
@@ -121,6 +123,7 @@ fn send_objects<W: Sink>(
         (W.failures out.old) (W.failures out.new) result }
     ensures places { OnOk result (originals.new.items
         ≡ starts 8 (octets_for width (octets_of file.now) originals.old.items references.now)) }
+    ensures same { W.device out.new ≡ W.device out.old }
 {
     let mut numbers = references;
     let mut place = 8;
@@ -149,8 +152,9 @@ fn send_places<W: Sink>(
     requires fit { All (λ place. place < 256 ^ width) places.now }
     requires room { pending.old.sent
         + (length pending.old.octets.items + length (references width places.now)) < 2 ^ 64 }
-    ensures { Goes (references width places.now) pending.old pending.new
+    ensures goes { Goes (references width places.now) pending.old pending.new
         (W.taken out.old) (W.taken out.new) (W.failures out.old) (W.failures out.new) result }
+    ensures same { W.device out.new ≡ W.device out.old }
 {
     for place in places {
         make_room(8, pending, out)?;
@@ -173,6 +177,7 @@ fn send_trailer<W: Sink>(
     ensures goes { Goes (trailer_octets count place) pending.old pending.new
         (W.taken out.old) (W.taken out.new) (W.failures out.old) (W.failures out.new) result }
     ensures none { OnOk result (pending.new.octets.items ≡ []) }
+    ensures same { W.device out.new ≡ W.device out.old }
 {
     let Ok(()) = put_trailer(&mut pending.octets, count, place) else {
         return Err(WriteFault::OutOfMemory { sent: pending.sent });
@@ -183,8 +188,9 @@ fn send_trailer<W: Sink>(
 // Sends what waits, where it would be too long for one piece with so many octets more.
 fn make_room<W: Sink>(more: u64, pending: &mut Pending, out: &mut W) -> Result<(), WriteFault>
     requires room { pending.old.sent + length pending.old.octets.items < 2 ^ 64 }
-    ensures { Goes [] pending.old pending.new
+    ensures goes { Goes [] pending.old pending.new
         (W.taken out.old) (W.taken out.new) (W.failures out.old) (W.failures out.new) result }
+    ensures same { W.device out.new ≡ W.device out.old }
 {
     let held = pending.octets.len() as u64;
     if held == 0 || more <= PIECE - held.min(PIECE) {
@@ -199,6 +205,7 @@ fn flush<W: Sink>(pending: &mut Pending, out: &mut W) -> Result<(), WriteFault>
     ensures goes { Goes [] pending.old pending.new
         (W.taken out.old) (W.taken out.new) (W.failures out.old) (W.failures out.new) result }
     ensures none { OnOk result (pending.new.octets.items ≡ []) }
+    ensures same { W.device out.new ≡ W.device out.old }
 {
     pending.sent = send(&pending.octets, pending.sent, out)?;
     pending.octets.clear();
@@ -208,8 +215,9 @@ fn flush<W: Sink>(pending: &mut Pending, out: &mut W) -> Result<(), WriteFault>
 // One piece, in as many puts as the sink asks for.
 fn send<W: Sink>(piece: &[u8], sent: u64, out: &mut W) -> Result<u64, WriteFault>
     requires { sent + length piece.now < 2 ^ 64 }
-    ensures { Sends piece.now sent (W.taken out.old) (W.taken out.new)
+    ensures sends { Sends piece.now sent (W.taken out.old) (W.taken out.new)
         (W.failures out.old) (W.failures out.new) result }
+    ensures same { W.device out.new ≡ W.device out.old }
 {
     let mut done = 0;
     while done < piece.len() {

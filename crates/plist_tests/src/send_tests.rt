@@ -30,6 +30,8 @@ impl Sink for Noting {
 
     ghost failures = { λ _. 0 };
 
+    ghost device = { λ _. None };
+
     fn put(&mut self, piece: &[u8]) -> Result<usize, DeviceFault> {
         self.longest = self.longest.max(piece.len());
         self.all = self.all.saturating_add(piece.len());

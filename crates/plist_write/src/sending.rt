@@ -57,8 +57,9 @@ pub fn write_canonical<W: Sink>(
     out: &mut W,
 ) -> Result<u64, WriteFault>
     requires { Fits (view value.now) }
-    ensures { IsWritten (canon (view value.now)) (W.taken out.old) (W.taken out.new)
+    ensures written { IsWritten (canon (view value.now)) (W.taken out.old) (W.taken out.new)
         (W.failures out.old) (W.failures out.new) result }
+    ensures same { W.device out.new ≡ W.device out.old }
 {
     let Ok(slots) = slots_of(alloc, value) else {
         return Err(WriteFault::OutOfMemory { sent: 0 });
@@ -69,9 +70,10 @@ pub fn write_canonical<W: Sink>(
 // The file of the objects.
 fn send_file<W: Sink>(alloc: Global, slots: &[Slot], out: &mut W) -> Result<u64, WriteFault>
     requires { IsPlan slots.now }
-    ensures { Sends (file_of (spelled (least_width (length slots.now)) slots.now)) 0
+    ensures sends { Sends (file_of (spelled (least_width (length slots.now)) slots.now)) 0
         (W.taken out.old) (W.taken out.new)
         (W.failures out.old) (W.failures out.new) result }
+    ensures same { W.device out.new ≡ W.device out.old }
 {
     let width = width_of(slots.len() as u64);
     let sent = send(b"bplist00", 0, out)?;
@@ -96,6 +98,7 @@ fn send_objects<W: Sink>(
         (W.taken out.new)
         (W.failures out.old) (W.failures out.new) result }
     ensures light { IfOk result (λ after. after ≤ sent + weights (held_by slots.now)) }
+    ensures same { W.device out.new ≡ W.device out.old }
 {
     let mut sent = sent;
     let mut object = Vec::new(alloc);
@@ -124,9 +127,10 @@ fn send_offsets<W: Sink>(
     requires fits { 8 + length (concat (spelled width slots.now)) < 256 ^ offset_width }
     requires room { sent + length
         (references offset_width (starts 8 (spelled width slots.now))) < 2 ^ 64 }
-    ensures { Sends (references offset_width (starts 8 (spelled width slots.now))) sent
+    ensures sends { Sends (references offset_width (starts 8 (spelled width slots.now))) sent
         (W.taken out.old) (W.taken out.new)
         (W.failures out.old) (W.failures out.new) result }
+    ensures same { W.device out.new ≡ W.device out.old }
 {
     let mut sent = sent;
     let mut place = 8;
@@ -155,8 +159,9 @@ fn send_trailer<W: Sink>(
     out: &mut W,
 ) -> Result<u64, WriteFault>
     requires { sent + 32 < 2 ^ 64 }
-    ensures { Sends (trailer_octets count place) sent (W.taken out.old) (W.taken out.new)
+    ensures sends { Sends (trailer_octets count place) sent (W.taken out.old) (W.taken out.new)
         (W.failures out.old) (W.failures out.new) result }
+    ensures same { W.device out.new ≡ W.device out.old }
 {
     let mut trailer = Vec::new(alloc);
     let Ok(()) = put_trailer(&mut trailer, count, place) else {
@@ -168,8 +173,9 @@ fn send_trailer<W: Sink>(
 // One piece, in as many puts as the sink asks for.
 fn send<W: Sink>(piece: &[u8], sent: u64, out: &mut W) -> Result<u64, WriteFault>
     requires { sent + length piece.now < 2 ^ 64 }
-    ensures { Sends piece.now sent (W.taken out.old) (W.taken out.new)
+    ensures sends { Sends piece.now sent (W.taken out.old) (W.taken out.new)
         (W.failures out.old) (W.failures out.new) result }
+    ensures same { W.device out.new ≡ W.device out.old }
 {
     let mut done = 0;
     while done < piece.len() {

@@ -11,7 +11,7 @@ loop-sent-preserved g c =
     let left : length (drop sent octets) ≡ length octets - sent = length-drop sent octets in
     let whole : take (length octets - sent) (drop sent octets) ≡ drop sent octets =
     take_all (length octets - sent) (drop sent octets) (omega arith) in
-    let put = c.in-Ok.ensures in
+    let put = c.in-Ok.ensures.put in
     let bound = rw whole at put.within in
     let some = rw whole at put.some in
     record {

@@ -34,8 +34,8 @@ send_objects-requires-clause-room g c =
     let begun = ap length c.in-Ok.ensures.items in
     omega (arith, all, begun)
 
-pub returns-in_err-send_objects : goal.returns-in_err-send_objects
-returns-in_err-send_objects g c =
+pub returns-in_err-send_objects-clause-sends : goal.returns-in_err-send_objects-clause-sends
+returns-in_err-send_objects-clause-sends g c =
     let e = err_from_is_err_and c.from_residual.result c.from_residual.ensures.1 in
     let f = octets_of c.args.file.now in
     let originals = c.args.objects.originals.items in
@@ -99,8 +99,8 @@ send_places-requires-clause-room g c =
     let entries = ap length (entries_are objects c.width_of-2.result _ c.deref-2.result.now c.width_of-2.ensures.value is (c.deref-2.ensures.value ∙ c.in_ok-send_objects.ensures.places)) in
     omega (arith, all, begun, gathered, entries)
 
-pub returns-in_err-send_places : goal.returns-in_err-send_places
-returns-in_err-send_places g c =
+pub returns-in_err-send_places-clause-sends : goal.returns-in_err-send_places-clause-sends
+returns-in_err-send_places-clause-sends g c =
     let e = err_from_is_err_and c.from_residual-in_err-send_places.result c.from_residual-in_err-send_places.ensures.1 in
     let f = octets_of c.args.file.now in
     let originals = c.args.objects.originals.items in
@@ -114,7 +114,7 @@ returns-in_err-send_places g c =
     let held : c.len.result ≡ length c.send_objects.new.pending.octets.items = search rules in
     let is = place_is c.in-Ok.octets.items c.send_objects.new.pending.sent c.len.result _ (length (concat objects)) begun (omega (arith, gathered, held)) refl in
     let parts = file-is objects c.in-Ok.octets.items _ c.width_of-2.result (length objects) c.deref-2.result.now c.in-Ok.ensures.items c.width_of-2.ensures.value (c.deref-2.ensures.value ∙ c.in_ok-send_objects.ensures.places) refl is ∙ same_file f originals refs c.deref.result.now c.width_of.result width c.deref.ensures.value in
-    rw (e.1, e.2) (stops-second _ (concat objects) (references c.width_of-2.result c.deref-2.result.now) _ p parts refl c.send_objects.new.pending _ _ _ _ _ _ _ c.in_ok-send_objects.ensures.goes.done c.in_err-send_places.ensures.stopped)
+    rw (e.1, e.2) (stops-second _ (concat objects) (references c.width_of-2.result c.deref-2.result.now) _ p parts refl c.send_objects.new.pending _ _ _ _ _ _ _ c.in_ok-send_objects.ensures.goes.done c.in_err-send_places.ensures.goes.stopped)
 
 pub send_trailer-requires : goal.send_trailer-requires
 send_trailer-requires g c =
@@ -127,14 +127,14 @@ send_trailer-requires g c =
     let all = short f originals refs c.deref.result.now c.width_of.result (2 ^ 64) width c.deref.ensures.value c.requires.short in
     let begun = ap length c.in-Ok.ensures.items in
     let gathered = c.in_ok-send_objects.ensures.goes.done.count in
-    let listed = c.in_ok-send_places.ensures.done.count in
+    let listed = c.in_ok-send_places.ensures.goes.done.count in
     let held : c.len.result ≡ length c.send_objects.new.pending.octets.items = search rules in
     let is = place_is c.in-Ok.octets.items c.send_objects.new.pending.sent c.len.result _ (length (concat objects)) begun (omega (arith, gathered, held)) refl in
     let entries = ap length (entries_are objects c.width_of-2.result _ c.deref-2.result.now c.width_of-2.ensures.value is (c.deref-2.ensures.value ∙ c.in_ok-send_objects.ensures.places)) in
     omega (arith, all, begun, gathered, listed, entries)
 
-pub returns-in_err-send_trailer : goal.returns-in_err-send_trailer
-returns-in_err-send_trailer g c =
+pub returns-in_err-send_trailer-clause-sends : goal.returns-in_err-send_trailer-clause-sends
+returns-in_err-send_trailer-clause-sends g c =
     let e = err_from_is_err_and c.from_residual-in_err-send_trailer.result c.from_residual-in_err-send_trailer.ensures.1 in
     let f = octets_of c.args.file.now in
     let originals = c.args.objects.originals.items in
@@ -148,10 +148,10 @@ returns-in_err-send_trailer g c =
     let held : c.len.result ≡ length c.send_objects.new.pending.octets.items = search rules in
     let is = place_is c.in-Ok.octets.items c.send_objects.new.pending.sent c.len.result _ (length (concat objects)) begun (omega (arith, gathered, held)) refl in
     let parts = file-is objects c.in-Ok.octets.items _ c.width_of-2.result c.len-count.result c.deref-2.result.now c.in-Ok.ensures.items c.width_of-2.ensures.value (c.deref-2.ensures.value ∙ c.in_ok-send_objects.ensures.places) (count ∙ sym (length-octets c.width_of.result f originals c.deref.result.now)) is ∙ same_file f originals refs c.deref.result.now c.width_of.result width c.deref.ensures.value in
-    rw (e.1, e.2) (stops-third _ (concat objects) (references c.width_of-2.result c.deref-2.result.now) _ p parts refl c.send_objects.new.pending c.send_places.new.pending _ _ _ _ _ _ _ _ _ c.in_ok-send_objects.ensures.goes.done c.in_ok-send_places.ensures.done c.in_err-send_trailer.ensures.goes.stopped)
+    rw (e.1, e.2) (stops-third _ (concat objects) (references c.width_of-2.result c.deref-2.result.now) _ p parts refl c.send_objects.new.pending c.send_places.new.pending _ _ _ _ _ _ _ _ _ c.in_ok-send_objects.ensures.goes.done c.in_ok-send_places.ensures.goes.done c.in_err-send_trailer.ensures.goes.stopped)
 
-pub returns : goal.returns
-returns g c =
+pub returns-clause-sends : goal.returns-clause-sends
+returns-clause-sends g c =
     let f = octets_of c.args.file.now in
     let originals = c.args.objects.originals.items in
     let refs = c.args.objects.references.items in
@@ -164,4 +164,4 @@ returns g c =
     let held : c.len.result ≡ length c.send_objects.new.pending.octets.items = search rules in
     let is = place_is c.in-Ok.octets.items c.send_objects.new.pending.sent c.len.result _ (length (concat objects)) begun (omega (arith, gathered, held)) refl in
     let parts = file-is objects c.in-Ok.octets.items _ c.width_of-2.result c.len-count.result c.deref-2.result.now c.in-Ok.ensures.items c.width_of-2.ensures.value (c.deref-2.ensures.value ∙ c.in_ok-send_objects.ensures.places) (count ∙ sym (length-octets c.width_of.result f originals c.deref.result.now)) is ∙ same_file f originals refs c.deref.result.now c.width_of.result width c.deref.ensures.value in
-    goes-whole _ (concat objects) (references c.width_of-2.result c.deref-2.result.now) _ p parts refl c.send_objects.new.pending c.send_places.new.pending c.send_trailer.new.pending _ _ _ _ _ _ _ _ c.in_ok-send_objects.ensures.goes.done c.in_ok-send_places.ensures.done c.in_ok-send_trailer.ensures.goes.done c.in_ok-send_trailer.ensures.none
+    goes-whole _ (concat objects) (references c.width_of-2.result c.deref-2.result.now) _ p parts refl c.send_objects.new.pending c.send_places.new.pending c.send_trailer.new.pending _ _ _ _ _ _ _ _ c.in_ok-send_objects.ensures.goes.done c.in_ok-send_places.ensures.goes.done c.in_ok-send_trailer.ensures.goes.done c.in_ok-send_trailer.ensures.none

@@ -16,7 +16,7 @@ returns-in_err-make_room-clause-goes g c =
     let start = c.args.originals.now.items in
     let all = concat (octets_for c.args.width f start c.args.references.now) in
     let rest = concat (octets_for c.args.width f (drop c.loop-i.i start) c.loop-i.numbers.now) in
-    let stops = Stops-none rest c.loop-i.pending _ _ _ _ _ c.in_err-make_room.ensures.stopped in
+    let stops = Stops-none rest c.loop-i.pending _ _ _ _ _ c.in_err-make_room.ensures.goes.stopped in
     rw (p.1, p.2) (Goes-err all c.args.pending.now _ _ _ _ _ _ (Stops-next c.loop-i.invariant.done rest all c.args.pending.now c.loop-i.pending _ _ _ _ _ _ _ c.loop-i.invariant.split c.loop-i.invariant.gathers stops))
 
 pub returns-in_default-clause-goes : goal.returns-in_default-clause-goes
@@ -26,7 +26,7 @@ returns-in_default-clause-goes g c =
     let all = concat (octets_for c.args.width f start c.args.references.now) in
     let rest = concat (octets_for c.args.width f (drop c.loop-i.i start) c.loop-i.numbers.now) in
     let mid = c.make_room.new.pending in
-    let kept = Gathers-keep c.loop-i.invariant.done c.args.pending.now c.loop-i.pending mid _ _ _ _ _ _ c.loop-i.invariant.gathers c.in_ok-make_room.ensures.done in
+    let kept = Gathers-keep c.loop-i.invariant.done c.args.pending.now c.loop-i.pending mid _ _ _ _ _ _ c.loop-i.invariant.gathers c.in_ok-make_room.ensures.goes.done in
     Goes-err all c.args.pending.now _ _ _ _ _ _ (Stops-next c.loop-i.invariant.done rest all c.args.pending.now mid _ _ _ _ _ _ _ c.loop-i.invariant.split kept (Stops-no_memory rest mid _ _))
 
 pub make_room-requires : goal.make_room-requires
@@ -78,7 +78,7 @@ loop-i-preserved g c =
     let mid = c.make_room.new.pending in
     let next : Pending = record { octets = c.put_part.new.out; sent = mid.sent } in
     let done = c.loop-i.invariant.done in
-    let kept = Gathers-keep done c.args.pending.now c.loop-i.pending mid _ _ _ _ _ _ c.loop-i.invariant.gathers c.in_ok-make_room.ensures.done in
+    let kept = Gathers-keep done c.args.pending.now c.loop-i.pending mid _ _ _ _ _ _ c.loop-i.invariant.gathers c.in_ok-make_room.ensures.goes.done in
     record {
       long = length-set now i place ∙ c.loop-i.invariant.long;
       kept = kept-next now start i place c.loop-i.invariant.kept;
@@ -89,6 +89,7 @@ loop-i-preserved g c =
       done = done ++ octets;
       split = split-next done octets (concat objects) _ _ one.split c.loop-i.invariant.split;
       gathers = Gathers-append done octets c.args.pending.now mid next _ _ _ _ _ _ kept (Gathers-put octets mid next _ _ c.in-Ok.ensures refl);
+      same = c.in_ok-make_room.ensures.same ∙ c.loop-i.invariant.same;
     }
 
 pub returns-clause-goes : goal.returns-clause-goes

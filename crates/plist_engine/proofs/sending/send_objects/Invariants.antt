@@ -24,4 +24,5 @@ invariant-loop-i g l =
       done : List ℕ;
       split : done ++ concat (octets_for l.width f left l.numbers) ≡ concat all;
       gathers : Gathers done l.fn.pending l.pending (g.W.Sink.taken l.fn.out) (g.W.Sink.taken l.out) (g.W.Sink.failures l.fn.out) (g.W.Sink.failures l.out);
+      same : g.W.Sink.device l.out ≡ g.W.Sink.device l.fn.out;
     }

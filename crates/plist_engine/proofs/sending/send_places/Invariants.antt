@@ -9,4 +9,5 @@ invariant-loop-place g l = record {
   done : List ℕ;
   split : done ++ references l.width (drop l.place-index l.places) ≡ references l.width l.places;
   gathers : Gathers done l.fn.pending l.pending (g.W.Sink.taken l.fn.out) (g.W.Sink.taken l.out) (g.W.Sink.failures l.fn.out) (g.W.Sink.failures l.out);
+  same : g.W.Sink.device l.out ≡ g.W.Sink.device l.fn.out;
 }

@@ -11,8 +11,8 @@ written : (file other : List ℕ) (a b : Option (List ℕ)) (x y : ℕ) (result 
 written file other a b x y result same sends =
     is_written other a b x y result (subst (λ (os : List ℕ). Sends os 0 a b x y result) same sends)
 
-pub returns-in_default : goal.returns-in_default
-returns-in_default g c = λ v binary. is_written (canon v) _ _ _ _ _ (Sends-no_memory (canon v) 0 _ _)
+pub returns-in_default-clause-written : goal.returns-in_default-clause-written
+returns-in_default-clause-written g c = λ v binary. is_written (canon v) _ _ _ _ _ (Sends-no_memory (canon v) 0 _ _)
 
 pub send_file-requires-clause-few : goal.send_file-requires-clause-few
 send_file-requires-clause-few g c =
@@ -30,6 +30,6 @@ pub send_file-requires-clause-short : goal.send_file-requires-clause-short
 send_file-requires-clause-short g c =
     short-objects (octets_of c.args.file.now) c.requires.0 c.requires.1 c.in-Ok.objects (c.in-Ok.ensures c.requires.0 c.requires.1)
 
-pub returns : goal.returns
-returns g c = λ v binary.
-    written _ (canon v) _ _ _ _ c.send_file.result (is-canon (octets_of c.args.file.now) v binary c.in-Ok.objects (c.in-Ok.ensures v binary)) c.send_file.ensures
+pub returns-clause-written : goal.returns-clause-written
+returns-clause-written g c = λ v binary.
+    written _ (canon v) _ _ _ _ c.send_file.result (is-canon (octets_of c.args.file.now) v binary c.in-Ok.objects (c.in-Ok.ensures v binary)) c.send_file.ensures.sends

@@ -7,6 +7,7 @@ invariant-loop-done g l = record {
   within : l.done ≤ length l.piece;
   taken : Appends (g.W.Sink.taken l.fn.out) (g.W.Sink.taken l.out) (take l.done l.piece);
   kept : g.W.Sink.failures l.out ≡ g.W.Sink.failures l.fn.out;
+  same : g.W.Sink.device l.out ≡ g.W.Sink.device l.fn.out;
 }
 
 abbrev pub decreases-loop-done : goal.decreases-loop-done

@@ -34,7 +34,7 @@ returns-in_err-sent-clause-sends g c =
     let is : slot ≡ get_or slots i slot = search rules in
     let split = objects-more c.args.width slots i slot is c.loop-slot-test.true in
     let piece : c.deref.result.now ≡ spelling_of c.args.width (held_in slot) = c.deref.ensures.value ∙ c.in-Ok.ensures.octets ∙ ap (λ xs. xs ++ spelling_of c.args.width (held_in slot)) c.clear.ensures.items in
-    let stopped = Sends-stop c.deref.result.now (concat (spelled c.args.width (drop (i + 1) slots))) _ _ _ _ _ _ c.in_err-sent.ensures in
+    let stopped = Sends-stop c.deref.result.now (concat (spelled c.args.width (drop (i + 1) slots))) _ _ _ _ _ _ c.in_err-sent.ensures.sends in
     rw (p.1, p.2) (c.loop-slot.invariant.left _ _ (Err c.in_err-sent.field-0.0) (rw (split, sym piece) stopped))
 
 pub loop-slot-preserved : goal.loop-slot-preserved
@@ -46,7 +46,7 @@ loop-slot-preserved g c =
     let split = objects-more c.args.width slots i slot is c.loop-slot-test.true in
     let piece : c.deref.result.now ≡ spelling_of c.args.width (held_in slot) = c.deref.ensures.value ∙ c.in-Ok.ensures.octets ∙ ap (λ xs. xs ++ spelling_of c.args.width (held_in slot)) c.clear.ensures.items in
     let rest = concat (spelled c.args.width (drop (i + 1) slots)) in
-    let sent = c.in_ok-sent.ensures.all.0 in
+    let sent = c.in_ok-sent.ensures.sends.all.0 in
     let total = c.loop-slot.invariant.light in
     let size = ap length piece in
     let most = c.put_slot.ensures.light in
@@ -55,7 +55,8 @@ loop-slot-preserved g c =
       spellable = can_spell-more c.args.width slots i slot c.loop-slot-test.true c.loop-slot.invariant.spellable;
       light = omega (arith, sent, total, size, most, left);
       left = λ new after result later.
-          c.loop-slot.invariant.left new after result (rw (split, sym piece) (Sends-append c.deref.result.now rest _ _ _ _ _ _ _ _ result c.in_ok-sent.ensures later));
+          c.loop-slot.invariant.left new after result (rw (split, sym piece) (Sends-append c.deref.result.now rest _ _ _ _ _ _ _ _ result c.in_ok-sent.ensures.sends later));
+      same = c.in_ok-sent.ensures.same ∙ c.loop-slot.invariant.same;
     }
 
 pub returns-clause-sends : goal.returns-clause-sends

@@ -1,4 +1,4 @@
-use Rattle.std.proofs.Common.{ℕ, ◌+◌, ◌≤◌, List, Option, Result, drop}
+use Rattle.std.proofs.Common.{◌≡◌, ℕ, ◌+◌, ◌≤◌, List, Option, Result, drop}
 use Rattle.std.specs.List.{concat}
 use Rattle.plist_write.specs.declared.sending.WriteFault.{WriteFault}
 use Rattle.plist_write.specs.Plan.{held_by}
@@ -14,4 +14,5 @@ invariant-loop-slot g l =
       spellable : CanSpellAll l.width (held_by rest);
       light : l.sent + weights (held_by rest) ≤ l.fn.sent + weights (held_by l.slots);
       left : (new : Option (List ℕ)) (after : ℕ) (result : Result ℕ WriteFault) → Sends (concat (spelled l.width rest)) l.sent (g.W.Sink.taken l.out) new (g.W.Sink.failures l.out) after result → Sends (concat (spelled l.width l.slots)) l.fn.sent (g.W.Sink.taken l.fn.out) new (g.W.Sink.failures l.fn.out) after result;
+      same : g.W.Sink.device l.out ≡ g.W.Sink.device l.fn.out;
     }

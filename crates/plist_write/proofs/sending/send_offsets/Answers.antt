@@ -21,8 +21,8 @@ put_offsets-requires-clause-fits g c =
     let fits = c.requires.fits in
     omega (arith, measure, total, fits)
 
-pub returns-in_default : goal.returns-in_default
-returns-in_default g c = c.loop-done.invariant.left _ _ _ (Sends-no_memory _ c.loop-done.sent _ _)
+pub returns-in_default-clause-sends : goal.returns-in_default-clause-sends
+returns-in_default-clause-sends g c = c.loop-done.invariant.left _ _ _ (Sends-no_memory _ c.loop-done.sent _ _)
 
 pub send-requires : goal.send-requires
 send-requires g c =
@@ -40,8 +40,8 @@ send-requires g c =
     let room = c.requires.room in
     omega (arith, sizes, size, total, room)
 
-pub returns-in_err-sent : goal.returns-in_err-sent
-returns-in_err-sent g c =
+pub returns-in_err-sent-clause-sends : goal.returns-in_err-sent-clause-sends
+returns-in_err-sent-clause-sends g c =
     let p = err_from_is_err_and c.from_residual.result c.from_residual.ensures.1 in
     let slots = c.args.slots.now in
     let done = c.loop-done.done in
@@ -51,7 +51,7 @@ returns-in_err-sent g c =
     let first = references c.args.offset_width (starts c.loop-done.place (spelled c.args.width front)) in
     let later = references c.args.offset_width (starts (c.loop-done.place + length (concat (spelled c.args.width front))) (spelled c.args.width (drop end slots))) in
     let piece : c.deref.result.now ≡ first = c.deref.ensures.value ∙ c.in-Ok.ensures.offsets ∙ ap (λ xs. xs ++ first) c.clear.ensures.items in
-    let stopped = Sends-stop c.deref.result.now later _ _ _ _ _ _ c.in_err-sent.ensures in
+    let stopped = Sends-stop c.deref.result.now later _ _ _ _ _ _ c.in_err-sent.ensures.sends in
     rw (p.1, p.2) (c.loop-done.invariant.left _ _ (Err c.in_err-sent.field-0.0) (rw (split, sym piece) stopped))
 
 pub loop-done-preserved : goal.loop-done-preserved
@@ -70,7 +70,7 @@ loop-done-preserved g c =
     let size = ap length piece in
     let next = c.in-Ok.ensures.next in
     let total = c.loop-done.invariant.measured in
-    let sent = c.in_ok-sent.ensures.all.0 in
+    let sent = c.in_ok-sent.ensures.sends.all.0 in
     let room = c.loop-done.invariant.room in
     let least = c.min.ensures in
     record {
@@ -79,10 +79,11 @@ loop-done-preserved g c =
       measured = omega (arith, measure, total, next);
       room = rw next (omega (arith, sizes, size, room, sent));
       left = λ new after result rest.
-          c.loop-done.invariant.left new after result (rw (split, sym piece) (Sends-append c.deref.result.now later _ _ _ _ _ _ _ _ result c.in_ok-sent.ensures (rw next at rest)));
+          c.loop-done.invariant.left new after result (rw (split, sym piece) (Sends-append c.deref.result.now later _ _ _ _ _ _ _ _ result c.in_ok-sent.ensures.sends (rw next at rest)));
+      same = c.in_ok-sent.ensures.same ∙ c.loop-done.invariant.same;
     }
 
-pub returns : goal.returns
-returns g c =
+pub returns-clause-sends : goal.returns-clause-sends
+returns-clause-sends g c =
     let none : drop c.loop-done.done c.args.slots.now ≡ [] = drop_all c.loop-done.done c.args.slots.now c.loop-done-test.false in
     c.loop-done.invariant.left _ _ _ (rw none (Sends-none c.loop-done.sent _ _))

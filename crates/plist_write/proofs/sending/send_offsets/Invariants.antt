@@ -20,6 +20,7 @@ invariant-loop-done g l =
       measured : l.place + length (concat (spelled l.width rest)) ≡ 8 + length (concat (spelled l.width l.slots));
       room : l.sent + length entries ≡ l.fn.sent + length whole;
       left : (new : Option (List ℕ)) (after : ℕ) (result : Result ℕ WriteFault) → Sends entries l.sent (g.W.Sink.taken l.out) new (g.W.Sink.failures l.out) after result → Sends whole l.fn.sent (g.W.Sink.taken l.fn.out) new (g.W.Sink.failures l.fn.out) after result;
+      same : g.W.Sink.device l.out ≡ g.W.Sink.device l.fn.out;
     }
 
 abbrev pub decreases-loop-done : goal.decreases-loop-done

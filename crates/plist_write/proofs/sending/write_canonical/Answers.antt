@@ -8,8 +8,8 @@ pub send_file-requires : goal.send_file-requires
 send_file-requires g c =
     rw c.deref.ensures.value (is_plan (view c.args.value.now) c.requires c.in-Ok.slots.items c.in-Ok.ensures)
 
-pub returns : goal.returns
-returns g c =
+pub returns-clause-written : goal.returns-clause-written
+returns-clause-written g c =
     let e = is_canon (view c.args.value.now) c.requires c.in-Ok.slots.items c.in-Ok.ensures in
-    let sent = rw c.deref.ensures.value at c.send_file.ensures in
+    let sent = rw c.deref.ensures.value at c.send_file.ensures.sends in
     is_written _ _ _ _ _ c.send_file.result (rw (sym e) sent)
