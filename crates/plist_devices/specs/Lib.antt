@@ -5,3 +5,5 @@ pub mod ListSource
 pub mod ReaderSource
 pub mod Sink
 pub mod Source
+pub mod Stream
+pub mod WriterSink

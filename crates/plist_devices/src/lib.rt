@@ -1,5 +1,5 @@
-//! Devices that take and give octets: what a sink and a source are, over memory and over a reader of the
-//! library.
+//! Devices that take and give octets: what a sink and a source are, over memory, over readers and
+//! over writers of the library.
 #![tactic(auto)]
 
 mod faults;
@@ -9,6 +9,8 @@ pub mod reader_source;
 pub mod readers;
 pub mod sinks;
 pub mod sources;
+pub mod stream;
+pub mod writer_sink;
 
 pub use faults::DeviceFault;
 pub use list_sink::ListSink;
@@ -17,3 +19,5 @@ pub use reader_source::ReaderSource;
 pub use readers::Device;
 pub use sinks::Sink;
 pub use sources::Source;
+pub use stream::Stream;
+pub use writer_sink::WriterSink;

@@ -1,0 +1,11 @@
+-- What a contract sees of a `WriterSink`.
+use Rattle.std.specs.Prelude.{ℕ, List, Option}
+use Rattle.plist_devices.specs.declared.writer_sink.WriterSink.{WriterSink}
+
+-- the octets that the writer tells
+abbrev pub octets_taken : {W : Type 0} → (W → Option (List ℕ)) → WriterSink W → Option (List ℕ)
+octets_taken contents sink = contents sink.device
+
+-- how many puts failed, up to the greatest count
+abbrev pub failures_of : {W : Type 0} → WriterSink W → ℕ
+failures_of sink = sink.failures

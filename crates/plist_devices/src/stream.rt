@@ -1,0 +1,50 @@
+//! A writer of the library that is borrowed, as a sink.
+ghost use Rattle.std.specs.Prelude.{◌≡◌, Some};
+
+use crate::writer_sink::put_on;
+use crate::{DeviceFault, Sink};
+use std::io::Write;
+
+/// A writer of the library that is borrowed to print on. A write that fails, or takes none of a piece that
+/// is not empty, is a put that fails.
+///
+/// As [`WriterSink`](crate::WriterSink), but whoever lends the writer knows what was put on it.
+#[derive(Drop)]
+pub struct Stream<'a, O> {
+    device: &'a mut O,
+    failures: u64,
+}
+
+impl<'a, O: Write> Stream<'a, O> {
+    ghost use Rattle.plist_devices.specs.Stream.{device_of, octets_taken, failures_of};
+
+    /// A sink that writes to this writer.
+    pub fn new(device: &'a mut O) -> Stream<'a, O>
+        ensures device { device_of result ≡ Some device.entry.ghost_name }
+        ensures taken { octets_taken O.contents result ≡ O.contents device.old }
+        ensures failures { failures_of result ≡ 0 }
+    {
+        Stream {
+            device,
+            failures: 0,
+        }
+    }
+}
+
+impl<O: Write> Sink for Stream<'_, O> {
+    ghost use Rattle.plist_devices.specs.Stream.{device_of, octets_taken, failures_of};
+
+    ghost taken = { octets_taken O.contents };
+
+    ghost failures = { failures_of };
+
+    ghost device = { device_of };
+
+    fn put(&mut self, piece: &[u8]) -> Result<usize, DeviceFault> {
+        put_on(self.device, &mut self.failures, piece)
+    }
+
+    fn failures(&self) -> u64 {
+        self.failures
+    }
+}
