@@ -1,5 +1,6 @@
 //! The layout of a binary file: header, objects, offset table and trailer.
-ghost use Rattle.std.specs.Prelude.{◌≡◌, ◌+◌, ◌*◌, ◌<◌, ◌≤◌, ◌^◌, ◌↔◌, IsTrue, IsOk, IfOk, MatchResult, length};
+ghost use Rattle.std.specs.Prelude.{◌≡◌, ◌+◌, ◌*◌, ◌<◌, ◌≤◌, ◌^◌, ◌↔◌};
+ghost use Rattle.std.specs.Prelude.{IsTrue, IsOk, IfOk, MatchResult, length};
 ghost use Rattle.std.specs.Option.{SomeIff};
 ghost use Rattle.plist_object.specs.Layout.{IsLaid, IsLayoutFault, slack_of, trailer_of};
 
@@ -118,7 +119,8 @@ impl Trailer {
 
 impl<'a> BinFile<'a> {
     ghost use Rattle.plist_object.specs.Objects.{IsHeld};
-    ghost use Rattle.plist_object.specs.Places.{place_of, octets_at, object_at, span_of, what_holds};
+    ghost use Rattle.plist_object.specs.Places.{place_of, octets_at, object_at};
+    ghost use Rattle.plist_object.specs.Places.{span_of, what_holds};
     ghost use Rattle.plist_object.specs.Shortest.{IsShortest};
     ghost use Rattle.plist_object.specs.Views.{Gives, held_of, octets_of};
 

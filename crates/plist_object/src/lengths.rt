@@ -5,7 +5,8 @@ ghost use Rattle.std.specs.Prelude.{nat_lt};
 ghost use Rattle.plist_value.specs.Plist.{IsWhole};
 ghost use Rattle.plist_value.specs.Texts.{units_of};
 ghost use Rattle.plist_value.specs.Scalars.{content_of};
-ghost use Rattle.plist_object.specs.Spelling.{least_width, list_spelling, scalar_spelling, table_spelling, whole_spelling, text_spelling};
+ghost use Rattle.plist_object.specs.Spelling.{least_width, list_spelling, scalar_spelling};
+ghost use Rattle.plist_object.specs.Spelling.{table_spelling, whole_spelling, text_spelling};
 ghost use Rattle.plist_object.specs.Sizes.{IsSmall, IsWidth, head_size};
 
 use plist_value::{ScalarRef, TextRef};

@@ -1,5 +1,7 @@
 //! Objects in their canonical spelling.
-ghost use Rattle.std.specs.Prelude.{◌≡◌, ◌+◌, ◌*◌, ◌<◌, ◌≤◌, ◌^◌, [], ◌∷◌, ◌++◌, length, All, OnOk, OnErr, nat_lt, replicate, true};
+ghost use Rattle.std.specs.Prelude.{◌≡◌, ◌+◌, ◌*◌, ◌<◌, ◌≤◌, ◌^◌, [], ◌∷◌, ◌++◌};
+ghost use Rattle.std.specs.Prelude.{length, All, OnOk, OnErr, nat_lt, replicate};
+ghost use Rattle.std.specs.Prelude.{true};
 ghost use Rattle.std.specs.List.{list_all};
 ghost use Rattle.byteorder.specs.Endian.{big_bytes};
 ghost use Rattle.plist_value.specs.Plist.{IsWhole};
@@ -7,7 +9,9 @@ ghost use Rattle.plist_value.specs.Texts.{units_of};
 ghost use Rattle.plist_value.specs.Scalars.{content_of};
 ghost use Rattle.plist_object.specs.Appending.{Appends, HasRoom};
 ghost use Rattle.plist_object.specs.Sizes.{IsSmall, IsWidth};
-ghost use Rattle.plist_object.specs.Spelling.{head, least_integer, list_spelling, references, table_spelling, scalar_spelling, text_spelling, whole_spelling};
+ghost use Rattle.plist_object.specs.Spelling.{head, least_integer, list_spelling};
+ghost use Rattle.plist_object.specs.Spelling.{references, table_spelling, scalar_spelling};
+ghost use Rattle.plist_object.specs.Spelling.{text_spelling, whole_spelling};
 
 use crate::lengths::{is_ascii, list_length, scalar_length, table_length, width_of};
 use crate::markers::{

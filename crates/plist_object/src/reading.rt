@@ -2,7 +2,11 @@
 //! offset table.
 ghost use Rattle.std.specs.Prelude.{◌≡◌, ◌≢◌, ◌+◌, ◌*◌, ◌<◌, ◌≤◌, ◌/◌, ◌%◌, length, IfOk};
 ghost use Rattle.byteorder.specs.Endian.{big_number};
-ghost use Rattle.plist_object.specs.Objects.{IsHeld, holds_scalar, cut, integer_length, count_spelled, count_of_content, content, whole_in, simple_object, whole_object, real_object, moment_object, data_object, ascii_object, wide_object, list_object, table_object, marked_object, object_in};
+ghost use Rattle.plist_object.specs.Objects.{IsHeld, holds_scalar, cut, integer_length};
+ghost use Rattle.plist_object.specs.Objects.{count_spelled, count_of_content, content, whole_in};
+ghost use Rattle.plist_object.specs.Objects.{simple_object, whole_object, real_object};
+ghost use Rattle.plist_object.specs.Objects.{moment_object, data_object, ascii_object, wide_object};
+ghost use Rattle.plist_object.specs.Objects.{list_object, table_object, marked_object, object_in};
 ghost use Rattle.plist_object.specs.Views.{Gives, held_of};
 ghost use Rattle.plist_value.specs.Plist.{AreOctets};
 ghost use Rattle.plist_value.specs.Plist as kind;

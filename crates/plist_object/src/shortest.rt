@@ -1,11 +1,13 @@
 //! Whether an object begins as the canonical spelling of what it holds: with the marker, and the count or
 //! the whole number, in the least width.
-ghost use Rattle.std.specs.Prelude.{◌≡◌, ◌<◌, ◌≤◌, ◌^◌, ◌↔◌, ◌+◌, ◌++◌, IsTrue, length, replicate, take};
+ghost use Rattle.std.specs.Prelude.{◌≡◌, ◌<◌, ◌≤◌, ◌^◌, ◌↔◌, ◌+◌, ◌++◌};
+ghost use Rattle.std.specs.Prelude.{IsTrue, length, replicate, take};
 ghost use Rattle.byteorder.specs.Endian.{big_bytes};
 ghost use Rattle.plist_value.specs.Plist.{AreOctets, IsWhole};
 ghost use Rattle.plist_value.specs.Texts.{units_of};
 ghost use Rattle.plist_value.specs.Scalars.{content_of};
-ghost use Rattle.plist_object.specs.Heads.{Begins, BeginsCanonically, BeginsScalar, IsCounted, text_head};
+ghost use Rattle.plist_object.specs.Heads.{Begins, BeginsCanonically, BeginsScalar};
+ghost use Rattle.plist_object.specs.Heads.{IsCounted, text_head};
 ghost use Rattle.plist_object.specs.Objects.{holds_scalar};
 ghost use Rattle.plist_object.specs.Spelling.{head, least_integer, whole_spelling};
 ghost use Rattle.plist_object.specs.Views.{held_of};

@@ -2,7 +2,9 @@
 ghost use Rattle.std.specs.Prelude.{◌≤◌, ◌↔◌, IsTrue, IfSome, IfNone};
 ghost use Rattle.std.specs.Bool.{OnTrue};
 ghost use Rattle.plist_value.specs.Plist.{IsPlist, AreItems, ArePairs};
-ghost use Rattle.plist_value.specs.Limits.{Fits, nodes, depth, payload, nodes_of_items, depth_of_items, payload_of_items, nodes_of_pairs, depth_of_pairs, payload_of_pairs};
+ghost use Rattle.plist_value.specs.Limits.{Fits, nodes, depth, payload, nodes_of_items};
+ghost use Rattle.plist_value.specs.Limits.{depth_of_items, payload_of_items, nodes_of_pairs};
+ghost use Rattle.plist_value.specs.Limits.{depth_of_pairs, payload_of_pairs};
 ghost use Rattle.plist_value.specs.View.{view, view_items, view_pairs};
 ghost use Rattle.plist_value.specs.Budget.{Spends, IsOver};
 

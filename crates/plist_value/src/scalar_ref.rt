@@ -33,7 +33,8 @@ pub enum ScalarRef<'a> {
 
 impl<'a> ScalarRef<'a> {
     ghost use Rattle.plist_value.specs.Limits.{payload_of_scalar};
-    ghost use Rattle.plist_value.specs.Plist.{IsContainer, IsScalar, scalar, real4, real8, moment, bytes};
+    ghost use Rattle.plist_value.specs.Plist.{IsContainer, IsScalar, scalar};
+    ghost use Rattle.plist_value.specs.Plist.{real4, real8, moment, bytes};
     ghost use Rattle.plist_value.specs.View.{view};
 
     /// The scalar that the value is, or `None` exactly for a list or a table.
