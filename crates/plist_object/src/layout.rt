@@ -4,6 +4,7 @@ ghost use Rattle.std.specs.Prelude.{IsTrue, IsOk, IfOk, MatchResult, length};
 ghost use Rattle.std.specs.Option.{SomeIff};
 ghost use Rattle.plist_object.specs.Layout.{IsLaid, IsLayoutFault, slack_of, trailer_of};
 
+use crate::markers::HEADER;
 use crate::object::{Object, ObjectFault};
 use crate::reading;
 use crate::refs::number_at;
@@ -134,7 +135,7 @@ impl<'a> BinFile<'a> {
         if octets.len() < 42 {
             return Err(LayoutFault::TooShort);
         }
-        if !octets.starts_with(b"bplist00") {
+        if !octets.starts_with(&HEADER) {
             return Err(LayoutFault::BadHeader);
         }
         let trailer = Trailer::read(octets);

@@ -14,6 +14,7 @@ mod shortest;
 
 pub use layout::{BinFile, LayoutFault};
 pub use lengths::{list_length, scalar_length, table_length, width_of};
+pub use markers::HEADER;
 pub use object::{Object, ObjectFault};
 pub use puts::{put_list, put_scalar, put_table};
 pub use refs::Refs;

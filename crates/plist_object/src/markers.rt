@@ -1,4 +1,7 @@
-//! The markers that objects begin with (CFBinaryPList.c).
+//! The octets that a file begins with, and the markers that objects begin with (CFBinaryPList.c).
+
+/// The first eight octets of a file.
+pub const HEADER: [u8; 8] = *b"bplist00";
 
 // The kind of an object, in the high four bits of its marker.
 pub(crate) const SIMPLE: u8 = 0x0;
@@ -23,8 +26,10 @@ pub(crate) const SET: u8 = 0xc;
 
 pub(crate) const TABLE: u8 = 0xd;
 
-// Markers that say all but the content: false and true, whole numbers of so many octets, reals of four and
+// Markers that say all but the content: null, false and true, whole numbers of so many octets, reals of four and
 // of eight octets, and dates.
+pub(crate) const NULL: u8 = 0x00;
+
 pub(crate) const FALSE: u8 = 0x08;
 
 pub(crate) const TRUE: u8 = 0x09;
@@ -44,3 +49,8 @@ pub(crate) const REAL_4: u8 = 0x22;
 pub(crate) const REAL_8: u8 = 0x23;
 
 pub(crate) const MOMENT_8: u8 = 0x33;
+
+// The low four bits of a marker with content of four and of eight octets: of a real or a date.
+pub(crate) const FOUR_OCTETS: u8 = 0x2;
+
+pub(crate) const EIGHT_OCTETS: u8 = 0x3;

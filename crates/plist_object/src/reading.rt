@@ -13,8 +13,8 @@ ghost use Rattle.plist_value.specs.Plist as kind;
 ghost use Rattle.plist_value.specs.Wholes.{number_of};
 
 use crate::markers::{
-    ASCII, DATA, LIST, MOMENT, REAL, SET, SIMPLE, TABLE, UID, WHOLE, WHOLE_1, WHOLE_2, WHOLE_4,
-    WHOLE_8, WHOLE_16, WIDE,
+    ASCII, DATA, EIGHT_OCTETS, FALSE, FOUR_OCTETS, LIST, MOMENT, NULL, REAL, SET, SIMPLE, TABLE,
+    TRUE, UID, WHOLE, WHOLE_1, WHOLE_2, WHOLE_4, WHOLE_8, WHOLE_16, WIDE,
 };
 use crate::{Object, ObjectFault, Refs};
 use byteorder::{BigEndian, ByteOrder};
@@ -107,9 +107,9 @@ fn simple(octets: &[u8], low: u8) -> Read<'_, Object<'_>>
     ensures valid { IfOk result (λ p. IsHeld (held_of p.0)) }
 {
     match low {
-        0x0 => Err(ObjectFault::NullObject),
-        0x8 => Ok((Object::Scalar(ScalarRef::Flag(false)), octets)),
-        0x9 => Ok((Object::Scalar(ScalarRef::Flag(true)), octets)),
+        NULL => Err(ObjectFault::NullObject),
+        FALSE => Ok((Object::Scalar(ScalarRef::Flag(false)), octets)),
+        TRUE => Ok((Object::Scalar(ScalarRef::Flag(true)), octets)),
         _ => Err(ObjectFault::BadMarker),
     }
 }
@@ -169,11 +169,11 @@ fn real(octets: &[u8], low: u8) -> Read<'_, Object<'_>>
     ensures valid { IfOk result (λ p. IsHeld (held_of p.0)) }
 {
     match low {
-        0x2 => {
+        FOUR_OCTETS => {
             let (real, rest) = octets.split_first_chunk().ok_or(ObjectFault::CutObject)?;
             Ok((real4(*real), rest))
         }
-        0x3 => {
+        EIGHT_OCTETS => {
             let (real, rest) = octets.split_first_chunk().ok_or(ObjectFault::CutObject)?;
             Ok((real8(*real), rest))
         }
@@ -186,7 +186,7 @@ fn moment(octets: &[u8], low: u8) -> Read<'_, Object<'_>>
     ensures read { Gives (λ p. (held_of p.0, p.1.now)) result (moment_object low octets.entry.now) }
     ensures valid { IfOk result (λ p. IsHeld (held_of p.0)) }
 {
-    if low != 0x3 {
+    if low != EIGHT_OCTETS {
         return Err(ObjectFault::BadMarker);
     }
     let (moment, rest) = octets.split_first_chunk().ok_or(ObjectFault::CutObject)?;
