@@ -11,8 +11,8 @@ use Rattle.plist_object.specs.Layout.{trailer_of}
 use Rattle.plist_object.specs.Objects.{holds_scalar, holds_list, holds_table}
 use Rattle.plist_object.specs.Places.{Holds}
 use Rattle.plist_object.specs.Spelled.{Spells, SpellItems}
-use Rattle.plist_object.specs.Ascending.{Among, Among-contains}
-use Rattle.plist_object.specs.Uniqueness.{same_held, same_value}
+use Rattle.plist_object.proofs.Ascending.{Among, Among-contains}
+use Rattle.plist_object.proofs.Uniqueness.{same_held, same_value}
 use Rattle.plist_binary.specs.Building.{SpellsWithin, AllSpellWithin, AllSpellTexts, SpellsText, SpellsPairsWithin, HoldsSome, AreSpelled, AreTexts, PairsSpelled, IsSpelled}
 use Rattle.plist_binary.specs.Passing.{PassesTop}
 use Rattle.plist_binary.specs.Readings.{texts}

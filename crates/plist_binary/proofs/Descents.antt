@@ -7,8 +7,8 @@ use Rattle.plist_value.specs.Limits.{nodes, nodes_of_items, nodes_of_pairs}
 use Rattle.plist_object.specs.Objects.{Held, holds_scalar, holds_list, holds_table}
 use Rattle.plist_object.specs.Places.{Holds}
 use Rattle.plist_object.specs.Spelled.{Spells, SpellItems, SpellPairs}
-use Rattle.plist_object.specs.Ascending.{Among, Among-contains, Among-permutation}
-use Rattle.plist_object.specs.Uniqueness.{same_held}
+use Rattle.plist_object.proofs.Ascending.{Among, Among-contains, Among-permutation}
+use Rattle.plist_object.proofs.Uniqueness.{same_held}
 use Rattle.plist_binary.specs.Paths.{references_in, Refers}
 use Rattle.plist_binary.proofs.Paired.{length-values}
 

@@ -7,8 +7,8 @@ use Rattle.plist_object.specs.declared.object.ObjectFault.{ObjectFault}
 use Rattle.plist_object.specs.Layout.{IsLaid, trailer_of}
 use Rattle.plist_object.specs.Places.{what_holds}
 use Rattle.plist_object.specs.Spelled.{Spells}
-use Rattle.plist_object.specs.Ascending.{Among, Contains-among}
-use Rattle.plist_object.specs.Uniqueness.{same_value}
+use Rattle.plist_object.proofs.Ascending.{Among, Contains-among}
+use Rattle.plist_object.proofs.Uniqueness.{same_value}
 use Rattle.plist_value.specs.declared.budget.Budget.{Budget}
 use Rattle.plist_binary.specs.declared.fault.BinaryFault.TheVariants.{Object, Cycle, TooDeep, TooManyNodes}
 use Rattle.plist_binary.specs.Paths.{Leads}

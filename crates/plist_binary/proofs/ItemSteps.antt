@@ -5,7 +5,7 @@ use Rattle.plist_value.specs.Limits.{nodes, depth, payload, nodes_of_items, dept
 use Rattle.plist_object.specs.Layout.{IsLaid, trailer_of}
 use Rattle.plist_object.specs.Places.{what_holds}
 use Rattle.plist_object.specs.Spelled.{Spells, SpellItems}
-use Rattle.plist_object.specs.Uniqueness.{same_items}
+use Rattle.plist_object.proofs.Uniqueness.{same_items}
 use Rattle.plist_value.specs.declared.budget.Budget.{Budget}
 use Rattle.plist_binary.specs.declared.fault.BinaryFault.{BinaryFault}
 use Rattle.plist_binary.specs.declared.fault.BinaryFault.TheVariants.{BadReference, OutOfMemory}

@@ -6,8 +6,8 @@ use Rattle.plist_object.specs.Layout.{IsLaid, trailer_of}
 use Rattle.plist_object.specs.Objects.{Held, holds_scalar, holds_list, holds_table}
 use Rattle.plist_object.specs.Places.{Holds, what_holds}
 use Rattle.plist_object.specs.Spelled.{Spells, SpellItems}
-use Rattle.plist_object.specs.Ascending.{Among, Among-contains, Contains-among}
-use Rattle.plist_object.specs.Uniqueness.{same_held, same_items}
+use Rattle.plist_object.proofs.Ascending.{Among, Among-contains, Contains-among}
+use Rattle.plist_object.proofs.Uniqueness.{same_held, same_items}
 use Rattle.plist_value.specs.declared.budget.Budget.{Budget}
 use Rattle.plist_binary.specs.declared.fault.BinaryFault.{BinaryFault}
 use Rattle.plist_binary.specs.declared.fault.BinaryFault.TheVariants.{KeyNotText}

@@ -10,7 +10,7 @@ use Rattle.plist_object.specs.Layout.{IsLaid, trailer_of}
 use Rattle.plist_object.specs.Objects.{Held, holds_scalar, holds_list, holds_table}
 use Rattle.plist_object.specs.Places.{Holds, what_holds}
 use Rattle.plist_object.specs.Spelled.{Spells, SpellItems}
-use Rattle.plist_object.specs.Uniqueness.{same_held}
+use Rattle.plist_object.proofs.Uniqueness.{same_held}
 use Rattle.plist_value.specs.declared.budget.Budget.{Budget}
 use Rattle.plist_binary.specs.declared.fault.BinaryFault.{BinaryFault}
 use Rattle.plist_binary.specs.declared.fault.BinaryFault.TheVariants.{TooMuchPayload, OutOfMemory}

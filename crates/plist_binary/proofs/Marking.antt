@@ -3,7 +3,7 @@ use Rattle.std.proofs.Common.{◌≡◌, ℕ, List, ◌∷◌, refl, true, false
 use Rattle.std.specs.Prelude.{◌≢◌}
 use Rattle.std.proofs.Math.Dec.{eqb}
 use Rattle.std.proofs.lemmas.Bool.Decides.{eqb_tells}
-use Rattle.plist_object.specs.Ascending.{Among, Contains-among, Among-contains}
+use Rattle.plist_object.proofs.Ascending.{Among, Contains-among, Among-contains}
 use Rattle.plist_binary.specs.declared.memos.Memo.{Memo}
 use Rattle.plist_binary.specs.declared.memos.State.{State}
 use Rattle.plist_binary.specs.declared.memos.State.TheVariants.{Unseen, Open, Passed}

@@ -18,7 +18,7 @@ use Rattle.plist_object.specs.Layout.{IsLaid}
 use Rattle.plist_object.specs.Objects.{holds_scalar, holds_table}
 use Rattle.plist_object.specs.Places.{Holds}
 use Rattle.plist_object.specs.Spelled.{SpellItems, SpellPairs}
-use Rattle.plist_object.specs.Uniqueness.{same_items}
+use Rattle.plist_object.proofs.Uniqueness.{same_items}
 use Rattle.plist_value.specs.declared.budget.Budget.{Budget}
 use Rattle.plist_binary.specs.declared.fault.BinaryFault.{BinaryFault}
 use Rattle.plist_binary.specs.declared.fault.BinaryFault.TheVariants.{DuplicateKey, OutOfMemory}

@@ -6,8 +6,8 @@ use Rattle.plist_object.specs.Layout.{header, IsLaid}
 use Rattle.plist_object.specs.Objects.{Held, holds_list, marked_object, content, count_of_content, list_object}
 use Rattle.plist_object.specs.Places.{Holds, what_holds, object_at, octets_at}
 use Rattle.plist_object.specs.Spelled.{IsBinary}
-use Rattle.plist_object.specs.Ascending.{Among-contains}
-use Rattle.plist_object.specs.Uniqueness.{same_held}
+use Rattle.plist_object.proofs.Ascending.{Among-contains}
+use Rattle.plist_object.proofs.Uniqueness.{same_held}
 use Rattle.plist_binary.specs.declared.fault.BinaryFault.TheVariants.{Cycle}
 use Rattle.plist_binary.specs.Faults.{Stands}
 use Rattle.plist_binary.specs.Paths.{Leads, Refers, references_in}

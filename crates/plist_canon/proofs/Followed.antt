@@ -5,7 +5,7 @@ use Rattle.plist_value.specs.Limits.{Fits}
 use Rattle.plist_object.specs.Layout.{Trailer, IsLaid}
 use Rattle.plist_object.specs.Objects.{Held, object_in}
 use Rattle.plist_object.specs.Spelled.{Spells}
-use Rattle.plist_object.specs.Uniqueness.{same_value}
+use Rattle.plist_object.proofs.Uniqueness.{same_value}
 use Rattle.plist_object.specs.Shortest.{spelling_of}
 use Rattle.plist_object.specs.Spelling.{least_width}
 use Rattle.plist_write.specs.Tree.{preorder}

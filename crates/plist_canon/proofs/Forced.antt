@@ -14,7 +14,7 @@ use Rattle.plist_write.proofs.Numbering.{least_place-le, least_place-holds, firs
 use Rattle.plist_write.proofs.Counting.{count-kept, count-shared}
 use Rattle.plist_write.proofs.Reading.{count_below-le}
 use Rattle.plist_canon.proofs.KeptPlaces.{is_made}
-use Rattle.plist_object.specs.Uniqueness.{same_held}
+use Rattle.plist_object.proofs.Uniqueness.{same_held}
 use Rattle.plist_canon.proofs.Entries.{AreNumbers, AreNumbers-own, AreNumbers-same, PlacesHold-at}
 use Rattle.plist_canon.proofs.WalkTrees.{tree_of_walk, held-walked, Spells-walked}
 

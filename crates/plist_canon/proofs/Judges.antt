@@ -18,7 +18,7 @@ use Rattle.plist_object.specs.Views.{held_of}
 use Rattle.plist_object.specs.Layout.{trailer_of}
 use Rattle.plist_object.specs.Objects.{Held, holds_scalar, holds_list, holds_table, ◌>>=◌}
 use Rattle.plist_object.specs.Places.{Holds, object_at, what_holds, span_of}
-use Rattle.plist_object.specs.Uniqueness.{same_held}
+use Rattle.plist_object.proofs.Uniqueness.{same_held}
 use Rattle.plist_canon.specs.declared.repeats.Repeats.{Repeats}
 use Rattle.plist_canon.specs.Rules.{HoldsText, HoldTexts, IsWellRead, HasAscendingKeys, IsNoRepeat, Adjoins}
 use Rattle.plist_canon.specs.Checking.{RefersWell, AreInOrder, AscendInTurn, IsEndBefore, Follows, was_met, Meets, IsHeldBefore, HasMet}

@@ -10,7 +10,7 @@ use Rattle.plist_value.specs.Plist.{Scalar, text, Plist, scalar, list, table, It
 use Rattle.plist_object.specs.Layout.{trailer_of}
 use Rattle.plist_object.specs.Objects.{holds_scalar, holds_list, holds_table}
 use Rattle.plist_object.specs.Places.{what_holds, Holds}
-use Rattle.plist_object.specs.Uniqueness.{same_held}
+use Rattle.plist_object.proofs.Uniqueness.{same_held}
 use Rattle.plist_write.specs.Tree.{key_texts, preorder, preorder_items, preorder_values, item_places, key_places, value_places}
 use Rattle.plist_write.specs.Sharing.{first_place, kept_places, value_at}
 use Rattle.plist_write.specs.Plan.{Stands, held_at, number_in}

@@ -11,7 +11,7 @@ use Rattle.plist_object.specs.Layout.{header, IsLaid}
 use Rattle.plist_object.specs.Objects.{Held, holds_scalar, holds_list, object_in, count_spelled, count_of_content, content, simple_object, ascii_object, list_object, table_object, marked_object}
 use Rattle.plist_object.specs.Places.{octets_at, object_at, what_holds, span_of, Holds}
 use Rattle.plist_object.specs.Shortest.{spelling_of, IsShortest}
-use Rattle.plist_object.specs.Uniqueness.{same_held}
+use Rattle.plist_object.proofs.Uniqueness.{same_held}
 use Rattle.plist_write.specs.Canonical.{canon}
 use Rattle.plist_canon.specs.Rules.{refs_of, ReadsWithinLimits, FollowsRules, HasPlainTrailer, HasLeastWidths, Adjoins, IsSpelledCanonically, HasAscendingKeys, IsNoRepeat, Walk, visit, Walks, end, step, MeetsInOrder, IsNumberedInPreorder}
 use Rattle.plist_canon.proofs.Followed.{canonical_follows_rules}

@@ -7,7 +7,7 @@ use Rattle.plist_value.specs.Limits.{nodes, depth, payload, payload_of_scalar, n
 use Rattle.plist_object.specs.Objects.{Held, holds_scalar, holds_list, holds_table}
 use Rattle.plist_object.specs.Places.{Holds}
 use Rattle.plist_object.specs.Spelled.{Spells, SpellItems}
-use Rattle.plist_object.specs.Uniqueness.{same_held}
+use Rattle.plist_object.proofs.Uniqueness.{same_held}
 use Rattle.plist_value.specs.declared.budget.Budget.{Budget}
 use Rattle.plist_value.specs.Budget.{Spends, IsOver}
 use Rattle.plist_canon.specs.Rules.{HasAscendingKeys}

@@ -11,7 +11,7 @@ use Rattle.plist_value.specs.Limits.{nodes, depth, nodes_of_items, depth_of_item
 use Rattle.plist_object.specs.Objects.{holds_scalar, holds_table}
 use Rattle.plist_object.specs.Places.{Holds}
 use Rattle.plist_object.specs.Spelled.{Spells, SpellItems, SpellPairs}
-use Rattle.plist_object.specs.Uniqueness.{same_held, same_rows, same_pairs}
+use Rattle.plist_object.proofs.Uniqueness.{same_held, same_rows, same_pairs}
 use Rattle.plist_canon.specs.Rules.{HoldTexts, HasAscendingKeys}
 use Rattle.plist_canon.proofs.KeyPairs.{pairs_of, put_texts, ArePairs-pairs_of}
 

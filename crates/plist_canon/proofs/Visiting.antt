@@ -6,7 +6,7 @@ use Rattle.std.proofs.lemmas.List.{append-nil}
 use Rattle.plist_object.specs.Layout.{trailer_of}
 use Rattle.plist_object.specs.Objects.{Held, holds_scalar}
 use Rattle.plist_object.specs.Places.{Holds}
-use Rattle.plist_object.specs.Uniqueness.{same_held}
+use Rattle.plist_object.proofs.Uniqueness.{same_held}
 use Rattle.plist_canon.specs.Rules.{refs_of, HoldsScalar, Walk, Walks, visit, end, step, MeetsInOrder, IsNumberedInPreorder}
 use Rattle.plist_canon.specs.declared.weights.Weight.{Weight}
 use Rattle.plist_canon.specs.Weights.{AreWeights}

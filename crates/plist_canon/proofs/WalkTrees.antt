@@ -15,7 +15,7 @@ use Rattle.plist_write.specs.Tree.{key_texts, preorder, preorder_items, preorder
 use Rattle.plist_write.proofs.Trees.{length-preorder, length-key_places, Stands-all}
 use Rattle.plist_write.proofs.Sizes.{item_count}
 use Rattle.plist_write.proofs.Spelled.{Spells-tree}
-use Rattle.plist_object.specs.Uniqueness.{same_held}
+use Rattle.plist_object.proofs.Uniqueness.{same_held}
 use Rattle.plist_object.proofs.HeldRanges.{Holds-held}
 use Rattle.plist_canon.proofs.Entries.{AreNumbers, PlacesHold, AreNumbers-front, AreNumbers-rest, AreNumbers-own, PlacesHold-append, PlacesHold-at}
 use Rattle.plist_canon.proofs.KeyPairs.{pairs_of, put_texts, key_texts-pairs_of, preorder-pairs_of, places-pairs_of, AreItems-put_texts, ArePairs-pairs_of}

@@ -8,7 +8,7 @@ use Rattle.plist_value.specs.Limits.{payload_of_scalar}
 use Rattle.plist_object.specs.Layout.{trailer_of}
 use Rattle.plist_object.specs.Objects.{Held, holds_scalar, holds_list, holds_table}
 use Rattle.plist_object.specs.Places.{Holds}
-use Rattle.plist_object.specs.Uniqueness.{same_held}
+use Rattle.plist_object.proofs.Uniqueness.{same_held}
 use Rattle.plist_canon.specs.declared.weights.Weight.{Weight}
 use Rattle.plist_canon.specs.declared.weights.Weight.TheVariants.{Container}
 use Rattle.plist_canon.specs.Rules.{HoldsScalar}

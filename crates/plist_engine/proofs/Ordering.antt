@@ -16,7 +16,7 @@ use Rattle.std.proofs.lemmas.Map.Keys.{sorted_from_all_adjacent, IsDistinct-from
 use Rattle.std.proofs.lemmas.Slice.Zip.{get_or-zip, length-zip}
 use Rattle.plist_value.specs.Plist.{text, Pairs, no_pairs, pair, ArePairs, IsKeyBelow}
 use Rattle.plist_object.specs.declared.object.ObjectFault.{ObjectFault}
-use Rattle.plist_object.specs.Ascending.{same_order}
+use Rattle.plist_object.proofs.Ascending.{same_order}
 use Rattle.plist_object.specs.Objects.{Held, holds_scalar, holds_list, holds_table}
 use Rattle.plist_object.specs.Places.{Holds, what_holds}
 use Rattle.plist_object.specs.Spelled.{SpellPairs}

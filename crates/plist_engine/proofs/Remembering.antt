@@ -12,7 +12,7 @@ use Rattle.plist_value.specs.declared.scalar_ref.ScalarRef.{ScalarRef}
 use Rattle.plist_object.specs.Objects.{holds_scalar, holds_list, holds_table}
 use Rattle.plist_object.specs.Places.{Holds}
 use Rattle.plist_object.specs.Spelled.{Spells}
-use Rattle.plist_object.specs.Uniqueness.{same_held}
+use Rattle.plist_object.proofs.Uniqueness.{same_held}
 use Rattle.plist_write.proofs.Held.{insert_key-known, length-pushed, number-pushed}
 use Rattle.plist_write.proofs.Numbering.{is_scalar-same}
 use Rattle.plist_engine.specs.declared.plan.Plan.{Plan}

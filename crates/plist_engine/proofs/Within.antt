@@ -7,7 +7,7 @@ use Rattle.plist_value.specs.Limits.{depth, depth_of_items, depth_of_pairs}
 use Rattle.plist_object.specs.Objects.{holds_scalar, holds_list, holds_table}
 use Rattle.plist_object.specs.Places.{Holds}
 use Rattle.plist_object.specs.Spelled.{Spells, SpellItems}
-use Rattle.plist_object.specs.Uniqueness.{same_held}
+use Rattle.plist_object.proofs.Uniqueness.{same_held}
 use Rattle.plist_engine.specs.Spelling.{IsRead, SpellsWithin, SpellWithin, SpellTable, IsTable, in_turn}
 use Rattle.plist_engine.proofs.Flat.{flat, spell-flat, valid-flat, deep-flat}
 

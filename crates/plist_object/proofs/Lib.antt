@@ -1,3 +1,5 @@
+pub mod Ascending
+pub mod Uniqueness
 pub mod CanonicalHeads
 pub mod Counts
 pub mod HeldRanges

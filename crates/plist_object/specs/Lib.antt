@@ -13,8 +13,6 @@ pub mod Spelling
 pub mod Appending
 pub mod Sizes
 pub mod Codes
-pub mod Ascending
-pub mod Uniqueness
 pub mod Laws
 pub mod Shortest
 pub mod Heads

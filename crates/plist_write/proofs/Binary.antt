@@ -9,7 +9,7 @@ use Rattle.plist_object.specs.Layout.{trailer_of, Trailer, IsLaid}
 use Rattle.plist_object.specs.Objects.{Held, object_in}
 use Rattle.plist_object.specs.Places.{object_at, what_holds, Holds}
 use Rattle.plist_object.specs.Spelled.{Spells, IsBinary}
-use Rattle.plist_object.specs.Uniqueness.{same_value}
+use Rattle.plist_object.proofs.Uniqueness.{same_value}
 use Rattle.plist_object.specs.Spelling.{least_width}
 use Rattle.plist_write.specs.Tree.{preorder}
 use Rattle.plist_write.specs.Sharing.{first_place, kept_places, count_below, value_at, number_among}

@@ -2,7 +2,7 @@ use Rattle.std.proofs.Common.{◌≡◌, ℕ, sym, subst}
 use Rattle.plist_value.specs.Plist.{Plist}
 use Rattle.plist_object.specs.Views.{octets_of}
 use Rattle.plist_object.specs.Spelled.{Spells}
-use Rattle.plist_object.specs.Uniqueness.{same_value}
+use Rattle.plist_object.proofs.Uniqueness.{same_value}
 use Rattle.plist_engine.specs.Plan.{WalksTree}
 use Rattle.plist_engine.proofs.Remembering.{remembers-none}
 use Rattle.plist_engine.proofs.Walking.{Walks-whole}

@@ -1,5 +1,5 @@
 use Rattle.std.proofs.Common.{◌≡◌, ◌∷◌, ℕ, List, rules, subst, sym, ap, ◌∙◌}
-use Rattle.plist_object.specs.Ascending.{Among}
+use Rattle.plist_object.proofs.Ascending.{Among}
 use Rattle.plist_object.specs.Views.{octets_of}
 use Rattle.plist_binary.specs.declared.fault.BinaryFault.TheVariants.{TooManyNodes}
 use Rattle.plist_binary.specs.Paths.{containers_of, Leads}

@@ -13,7 +13,7 @@ use Rattle.plist_object.specs.declared.object.ObjectFault.{ObjectFault}
 use Rattle.plist_object.specs.Objects.{Held, holds_scalar, holds_list, holds_table}
 use Rattle.plist_object.specs.Places.{Holds, what_holds}
 use Rattle.plist_object.specs.Spelled.{Spells, SpellItems, SpellPairs}
-use Rattle.plist_object.specs.Ascending.{same_order}
+use Rattle.plist_object.proofs.Ascending.{same_order}
 
 -- an object holds one thing
 pub same_held : (f : List ℕ) (i : ℕ) (a b : Held) → Holds f i a → Holds f i b → a ≡ b
