@@ -1,9 +1,11 @@
 #!/usr/bin/env bash
 # scripts/edits.sh [NAME..]: tries the edits crates/NAME/edits/*.edit, which the gate leaves out, on a copy of the
 # tree: the prover must refuse each. With no NAME, those of every crate that has some. As many crates run side by
-# side as there are processors (or JOBS). It prints one line a crate, and fails where one edit is not refused.
+# side as there are processors (or JOBS). It prints one line a crate, and fails where one edit is not refused, or
+# no longer applies: scripts/stale_edits.py says which those are in a second, of the edits of the gate too.
 set -u
 cd "$(dirname "$0")/.." || exit 2
+scripts/stale_edits.py "$@" || exit 1
 
 names=("$@")
 if [ ${#names[@]} -eq 0 ]; then
@@ -26,6 +28,17 @@ for name in "${names[@]}"; do
     rm -rf "$copy/crates/$name/must-fail"
     mv "$copy/crates/$name/edits" "$copy/crates/$name/must-fail"
 done
+
+# The libraries that edits are tried over, one after another: those tried side by side would build them at once.
+for name in "${names[@]}"; do
+    sed -n "s/^$name\( [^:]*\)\?://p" crates.txt
+done | tr ' ' '\n' | sort -u | while read -r library; do
+    [ -d "$copy/crates/$library/src" ] || continue
+    (cd "$copy/crates/$library" && rt lib) > "$copy/$library.lib.log" 2>&1 && continue
+    echo "edits: $library is not proved" >&2
+    tail -n 5 "$copy/$library.lib.log" >&2
+    exit 1
+done || exit 1
 
 # Tries the edits of one crate, and prints how many were refused, with what was said of the others.
 try() {

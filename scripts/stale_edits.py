@@ -1,0 +1,69 @@
+#!/usr/bin/env python3
+"""scripts/stale_edits.py [NAME..]: says in a second which edits no longer apply.
+
+Of each edit in crates/NAME/must-fail/ and crates/NAME/edits/ (of every crate, with no NAME) each `old:` text has
+to stand exactly once in the edit's file, as the pairs before it left that file, and its `new:` text has to change
+it. Two edits of one crate that make the same change are named too. Fails where one edit is stale.
+"""
+
+import sys
+from pathlib import Path
+
+CRATES = Path(__file__).resolve().parent.parent / "crates"
+
+
+def pairs(edit):
+    """The file of each pair of texts, with what the pair takes away and what it puts there."""
+    file = old = None
+    for line in edit.read_text(encoding="utf-8").splitlines():
+        word, _, text = line.partition(": ")
+        if word == "file":
+            file = text
+        elif word == "old":
+            old = text
+        elif word == "new" or line == "new:":
+            yield file, old, text
+        elif line.strip():
+            raise ValueError(f"no line of an edit: {line}")
+
+
+def change(crate, edit):
+    """The files that the edit makes, or a ValueError that says why it does not apply."""
+    made = {}
+    for file, old, new in pairs(edit):
+        text = made.get(file)
+        if text is None:
+            path = crate / (file or "")
+            if not path.is_file():
+                raise ValueError(f"no file {file}")
+            text = path.read_text(encoding="utf-8")
+        if text.count(old) != 1:
+            raise ValueError(f"stands {text.count(old)} times in {file}: {old}")
+        if old == new:
+            raise ValueError(f"changes nothing: {old}")
+        made[file] = text.replace(old, new)
+    if not made:
+        raise ValueError("has no pair of texts")
+    return tuple(sorted(made.items()))
+
+
+def main(names):
+    found = stale = 0
+    for crate in [CRATES / name for name in names] or sorted(CRATES.iterdir()):
+        changes = {}
+        for edit in sorted([*crate.glob("must-fail/*.edit"), *crate.glob("edits/*.edit")]):
+            found += 1
+            name = edit.relative_to(CRATES)
+            try:
+                other = changes.setdefault(change(crate, edit), name)
+                if other != name:
+                    raise ValueError(f"makes the same change as {other}")
+            except ValueError as fault:
+                stale += 1
+                print(f"{name}: {fault}")
+    print(f"{found} edits, {stale} stale")
+    return 1 if stale else 0
+
+
+if __name__ == "__main__":
+    sys.exit(main(sys.argv[1:]))
