@@ -9,7 +9,8 @@ use Rattle.plist_object.specs.Places.{Holds}
 use Rattle.plist_object.specs.Spelled.{Spells, SpellItems, SpellPairs}
 use Rattle.plist_object.proofs.Ascending.{Among, Among-contains, Among-permutation}
 use Rattle.plist_object.proofs.Uniqueness.{same_held}
-use Rattle.plist_binary.specs.Paths.{references_in, Refers}
+use Rattle.plist_object.specs.References.{references_of}
+use Rattle.plist_binary.specs.Paths.{Refers}
 use Rattle.plist_binary.proofs.Paired.{length-values}
 
 -- the object spells a value of at most so many nodes
@@ -105,10 +106,10 @@ among_both i (x ∷ xs) ys among =
 pub descends : (f : List ℕ) (j i : ℕ) (v : Plist) → IsPlist v → Spells f j v → Refers f j i → (most : ℕ) → nodes v ≤ suc most → SpellsBelow f i most
 descends f j i (scalar s) valid spells refers most few =
     let held = same_held f j refers.held (holds_scalar s) refers.holds spells in
-    absurd (Among-contains i [] (subst (λ (h : Held). Contains (references_in h) i) held refers.among))
+    absurd (Among-contains i [] (subst (λ (h : Held). Contains (references_of h) i) held refers.among))
 descends f j i (list vs) valid spells refers most few =
     let held = same_held f j refers.held (holds_list spells.0) refers.holds spells.1.0 in
-    let among = Among-contains i spells.0 (subst (λ (h : Held). Contains (references_in h) i) held refers.among) in
+    let among = Among-contains i spells.0 (subst (λ (h : Held). Contains (references_of h) i) held refers.among) in
     wider f i (nodes_of_items vs) most (omega arith) (among_items f i spells.0 vs valid spells.1.1 among)
 descends f j i (table ps) valid spells refers most few =
     let keys = spells.0 in
@@ -119,7 +120,7 @@ descends f j i (table ps) valid spells refers most few =
     let spell = spells.1.1.1.1.1 in
     let long = length-values f j keys values holds in
     let held = same_held f j refers.held (holds_table keys values) refers.holds holds in
-    let among = Among-contains i (keys ++ values) (subst (λ (h : Held). Contains (references_in h) i) held refers.among) in
+    let among = Among-contains i (keys ++ values) (subst (λ (h : Held). Contains (references_of h) i) held refers.among) in
     wider f i (nodes_of_pairs ps) most (omega arith)
     (⊎_elim
     (λ (m : Among i keys).

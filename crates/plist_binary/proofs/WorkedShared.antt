@@ -10,7 +10,8 @@ use Rattle.plist_object.proofs.Ascending.{Among-contains}
 use Rattle.plist_object.proofs.Uniqueness.{same_held}
 use Rattle.plist_binary.specs.declared.fault.BinaryFault.TheVariants.{Cycle}
 use Rattle.plist_binary.specs.Faults.{Stands}
-use Rattle.plist_binary.specs.Paths.{Leads, Refers, references_in}
+use Rattle.plist_object.specs.References.{references_of}
+use Rattle.plist_binary.specs.Paths.{Leads, Refers}
 use Rattle.plist_binary.proofs.Worked.{all_under, end_of, trailer, laid}
 
 -- a list that holds one empty list twice
@@ -44,11 +45,11 @@ shared-refers : (i j : ℕ) → Refers shared i j → (i ≡ 0) × (j ≡ 1)
 unfolding shared end_of
 shared-refers zero j refers =
     let held = same_held shared 0 refers.held (holds_list (1 ∷ 1 ∷ [])) refers.holds shared-first in
-    let among = Among-contains j (1 ∷ 1 ∷ []) (subst (λ (h : Held). Contains (references_in h) j) held refers.among) in
+    let among = Among-contains j (1 ∷ 1 ∷ []) (subst (λ (h : Held). Contains (references_of h) j) held refers.among) in
     (refl, ⊎_elim (λ e. e) (⊎_elim (λ e. e) absurd) among)
 shared-refers (suc zero) j refers =
     let held = same_held shared 1 refers.held (holds_list []) refers.holds shared-second in
-    absurd (Among-contains j [] (subst (λ (h : Held). Contains (references_in h) j) held refers.among))
+    absurd (Among-contains j [] (subst (λ (h : Held). Contains (references_of h) j) held refers.among))
 shared-refers (suc (suc i)) j refers =
     let listed : suc (suc i) < 2 = refers.holds.listed in
     absurd (omega arith)

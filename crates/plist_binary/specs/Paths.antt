@@ -1,22 +1,17 @@
 -- Paths through a file, from its top.
-use Rattle.std.specs.Prelude.{◌≡◌, ℕ, List, [], ◌∷◌, ◌++◌}
+use Rattle.std.specs.Prelude.{◌≡◌, ℕ, List, [], ◌∷◌}
 use Rattle.std.specs.List.{Contains}
 use Rattle.plist_object.specs.Layout.{trailer_of, IsLaid}
-use Rattle.plist_object.specs.Objects.{Held, holds_scalar, holds_list, holds_table}
+use Rattle.plist_object.specs.Objects.{Held, holds_table}
 use Rattle.plist_object.specs.Places.{Holds}
+use Rattle.plist_object.specs.References.{references_of}
 use Rattle.plist_binary.specs.declared.path.Path.{Path, Above, In'}
-
--- the references that an object holds: a list's to its items; a table's to its keys, then to their values
-abbrev pub references_in : Held → List ℕ
-references_in (holds_scalar s) = []
-references_in (holds_list refs) = refs
-references_in (holds_table keys values) = keys ++ values
 
 -- the object j holds a reference to i
 pub record Refers (f : List ℕ) (j i : ℕ) : Type 0 where
   pub held : Held
   pub holds : Holds f j held
-  pub among : Contains (references_in held) i
+  pub among : Contains (references_of held) i
 
 -- the objects, the last first, lead from the top to i: each refers to the next, and the last one to i
 abbrev pub Leads : List ℕ → List ℕ → ℕ → Type 0

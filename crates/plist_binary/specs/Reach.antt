@@ -6,11 +6,11 @@ use Rattle.plist_object.specs.declared.object.ObjectFault.{ObjectFault}
 use Rattle.plist_object.specs.Layout.{trailer_of}
 use Rattle.plist_object.specs.Objects.{Held, holds_scalar, holds_list, holds_table}
 use Rattle.plist_object.specs.Places.{what_holds}
-use Rattle.plist_binary.specs.Paths.{references_in}
+use Rattle.plist_object.specs.References.{references_of}
 
 -- the references of what was read, none where it does not read
 abbrev pub references_read : Result Held ObjectFault → List ℕ
-references_read (Ok held) = references_in held
+references_read (Ok held) = references_of held
 references_read (Err e) = []
 
 -- the references to objects among them

@@ -6,6 +6,7 @@ pub use Rattle.byteorder.specs.Endian
 pub mod Layout
 pub mod Trailers
 pub mod Objects
+pub mod References
 pub mod Places
 pub mod Views
 pub mod Spelled
