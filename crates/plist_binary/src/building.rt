@@ -12,7 +12,7 @@ ghost use Rattle.plist_binary.specs.Building.{IsSpelled, AreSpelled, AreTexts, P
 ghost use Rattle.plist_binary.specs.Building.{SpellsUnits};
 
 use crate::tables::Key;
-use crate::visiting::text_of;
+use crate::visiting::text_in;
 use crate::{scalars, tables};
 use plist_object::{BinFile, Object, Refs};
 use plist_value::{TextRef, Utf16, Value};
@@ -96,7 +96,7 @@ impl<'a> Builder<'a> {
         requires { SpellsText (octets_of self.now.file) object }
         ensures { SpellsUnits (octets_of self.now.file) object (units_of result) }
     {
-        text_of(self.held(object)).unwrap()
+        text_in(self.held(object)).unwrap()
     }
 
     // What the object holds.

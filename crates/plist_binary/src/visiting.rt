@@ -80,7 +80,7 @@ impl<'a> Walker<'a> {
             left.old) }
     {
         let path = Path::In(table, &*before);
-        let Some(key) = text_of(self.enter(states, &path, object, levels, left)?) else {
+        let Some(key) = text_in(self.enter(states, &path, object, levels, left)?) else {
             return Err(BinaryFault::KeyNotText { object: table });
         };
         take_payload(left, object, ScalarRef::Text(key))?;
@@ -171,7 +171,7 @@ pub(crate) fn take_payload(
 }
 
 // The text that an object holds.
-pub(crate) fn text_of(held: Object<'_>) -> Option<TextRef<'_>>
+pub(crate) fn text_in(held: Object<'_>) -> Option<TextRef<'_>>
     ensures text { IfSome result (λ key. held_of held.entry ≡ holds_scalar (text (units_of key))) }
     ensures other { IfNone result (¬ IsText (held_of held.entry)) }
 {
