@@ -74,7 +74,8 @@ pub struct BinFile<'a> {
     trailer: Trailer,
     ghost laid: { IsLaid octets.now },
     ghost offset_width_read: { trailer.offset_width ≡ (trailer_of octets.now).offset_width },
-    ghost reference_width_read: { trailer.reference_width ≡ (trailer_of octets.now).reference_width },
+    ghost reference_width_read: { trailer.reference_width
+        ≡ (trailer_of octets.now).reference_width },
     ghost count_read: { trailer.count ≡ (trailer_of octets.now).count },
     ghost top_read: { trailer.top ≡ (trailer_of octets.now).top },
     ghost table_read: { trailer.table ≡ (trailer_of octets.now).table },

@@ -1,7 +1,6 @@
 //! Objects in their canonical spelling.
 ghost use Rattle.std.specs.Prelude.{◌≡◌, ◌+◌, ◌*◌, ◌<◌, ◌≤◌, ◌^◌, [], ◌∷◌, ◌++◌};
-ghost use Rattle.std.specs.Prelude.{length, All, OnOk, OnErr, nat_lt, replicate};
-ghost use Rattle.std.specs.Prelude.{true};
+ghost use Rattle.std.specs.Prelude.{length, All, OnOk, OnErr, nat_lt, replicate, true};
 ghost use Rattle.std.specs.List.{list_all};
 ghost use Rattle.byteorder.specs.Endian.{big_bytes};
 ghost use Rattle.plist_value.specs.Plist.{IsWhole};
