@@ -1,10 +1,12 @@
 //! Texts and data as they are written.
-ghost use Rattle.std.specs.Prelude.{◌≡◌, ◌<◌, ◌≤◌, [], ◌∷◌, ◌++◌, true, nat_eq, length, take, drop, codes, flat_map, OnOk, IfOk};
+ghost use Rattle.std.specs.Prelude.{◌≡◌, ◌<◌, ◌≤◌, [], ◌∷◌, ◌++◌, true, nat_eq};
+ghost use Rattle.std.specs.Prelude.{length, take, drop, codes, flat_map, OnOk, IfOk};
 ghost use Rattle.std.specs.Bool.{OnTrue};
 ghost use Rattle.std.specs.List.{starts_with};
 ghost use Rattle.std.specs.Char.{digit_char, is_ascii_alphanumeric};
 ghost use Rattle.ostep_write.specs.Ascii.{are_ascii};
-ghost use Rattle.ostep_form.specs.Written.{are_alphanumeric, is_plain, quoted_unit, two_digits, written_data, written_text};
+ghost use Rattle.ostep_form.specs.Written.{are_alphanumeric, is_plain, quoted_unit};
+ghost use Rattle.ostep_form.specs.Written.{two_digits, written_data, written_text};
 
 use std::alloc::AllocError;
 
