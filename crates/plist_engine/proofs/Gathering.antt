@@ -1,6 +1,7 @@
 -- Octets that go out one after another.
-use Rattle.std.proofs.Common.{◌≡◌, ℕ, ◌+◌, ◌<◌, List, [], ◌++◌, length, Option, Result, Ok, Err, sym, ap, subst, ◌∙◌, arith, length-append, append_assoc}
+use Rattle.std.proofs.Common.{◌≡◌, ℕ, ◌+◌, ◌<◌, List, [], ◌∷◌, ◌++◌, length, Option, Result, Ok, Err, sym, ap, subst, ◌∙◌, arith, length-append, append_assoc}
 use Rattle.std.proofs.lemmas.List.{append-nil}
+use Rattle.std.specs.List.{concat}
 use Rattle.plist_write.specs.declared.sending.WriteFault.{WriteFault}
 use Rattle.plist_write.specs.declared.sending.WriteFault.TheVariants.{OutOfMemory}
 use Rattle.plist_write.specs.Sending.{Sends}
@@ -28,6 +29,16 @@ Gathers-sent old new t u x y none sent = record {
   count = let a = sent.all.0 in let b = ap length none in omega arith;
 }
 
+-- where none wait they go out by themselves
+pub Gathers-straight : (octets : List ℕ) (old new : Pending) (t u : Option (List ℕ)) (x y : ℕ) → old.octets.items ≡ [] → new.octets.items ≡ [] → Sends octets old.sent t u x y (Ok new.sent) → Gathers octets old new t u x y
+Gathers-straight octets old new t u x y none none_left sent = record {
+  through = λ rest last at_last result sends.
+      let later = subst (λ (xs : List ℕ). Sends xs new.sent u last y at_last result) (ap (λ xs. xs ++ rest) none_left) sends in
+      let all = Sends-append octets rest old.sent new.sent t u last x y at_last result sent later in
+      subst (λ (xs : List ℕ). Sends xs old.sent t last x at_last result) (sym (ap (λ xs. xs ++ (octets ++ rest)) none)) all;
+  count = let a = sent.all.0 in let b = ap length none in let d = ap length none_left in omega arith;
+}
+
 pub Gathers-append : (xs ys : List ℕ) (p q r : Pending) (t u v : Option (List ℕ)) (x y z : ℕ) → Gathers xs p q t u x y → Gathers ys q r u v y z → Gathers (xs ++ ys) p r t v x z
 Gathers-append xs ys p q r t u v x y z a b = record {
   through = λ rest last at_last result sends.
@@ -47,6 +58,11 @@ pub Stops-front : (xs ys : List ℕ) (p : Pending) (t u : Option (List ℕ)) (x 
 Stops-front xs ys p t u x y fault stops rest =
     subst (λ (os : List ℕ). Sends (p.octets.items ++ os) p.sent t u x y (Err fault)) (sym (append_assoc xs ys rest)) (stops (ys ++ rest))
 
+-- it was refused at the first of the objects
+pub Stops-first : (octets : List ℕ) (left behind : List (List ℕ)) (p : Pending) (t u : Option (List ℕ)) (x y : ℕ) (fault : WriteFault) → left ≡ octets ∷ behind → Stops octets p t u x y fault → Stops (concat left) p t u x y fault
+Stops-first octets left behind p t u x y fault split stops =
+    subst (λ (os : List (List ℕ)). Stops (concat os) p t u x y fault) (sym split) (Stops-front octets (concat behind) p t u x y fault stops)
+
 -- nothing more than nothing was asked
 pub Stops-none : (ys : List ℕ) (p : Pending) (t u : Option (List ℕ)) (x y : ℕ) (fault : WriteFault) → Stops [] p t u x y fault → Stops ys p t u x y fault
 Stops-none ys p t u x y fault stops = Stops-front [] ys p t u x y fault stops
@@ -56,6 +72,11 @@ Stops-no_memory octets p t x rest = Sends-no_memory (p.octets.items ++ (octets +
 
 pub Stops-sent : (p : Pending) (t u : Option (List ℕ)) (x y : ℕ) (fault : WriteFault) → Sends p.octets.items p.sent t u x y (Err fault) → Stops [] p t u x y fault
 Stops-sent p t u x y fault sends rest = Sends-stop p.octets.items rest p.sent t u x y fault sends
+
+-- where none wait they are refused by themselves
+pub Stops-straight : (octets : List ℕ) (p : Pending) (t u : Option (List ℕ)) (x y : ℕ) (fault : WriteFault) → p.octets.items ≡ [] → Sends octets p.sent t u x y (Err fault) → Stops octets p t u x y fault
+Stops-straight octets p t u x y fault none sends rest =
+    subst (λ (xs : List ℕ). Sends xs p.sent t u x y (Err fault)) (sym (ap (λ xs. xs ++ (octets ++ rest)) none)) (Sends-stop octets rest p.sent t u x y fault sends)
 
 -- all of the octets went out
 pub Gathers-all : (octets : List ℕ) (p q : Pending) (t u : Option (List ℕ)) (x y : ℕ) → Gathers octets p q t u x y → q.octets.items ≡ [] → Sends (p.octets.items ++ octets) p.sent t u x y (Ok q.sent)

@@ -3,6 +3,7 @@ ghost use Rattle.std.specs.Prelude.{◌≡◌, ◌<◌, ◌≤◌, ◌^◌, ◌+
 ghost use Rattle.byteorder.specs.Endian.{big_bytes};
 ghost use Rattle.plist_object.specs.Sizes.{IsWidth};
 ghost use Rattle.plist_object.specs.Shortest.{spelling_of};
+ghost use Rattle.plist_object.specs.Spelling.{head};
 ghost use Rattle.plist_write.specs.Canonical.{trailer_octets};
 ghost use Rattle.plist_write.specs.Pieces.{CanSpell};
 ghost use Rattle.plist_engine.specs.Parts.{held_in};
@@ -38,6 +39,24 @@ pub(crate) fn put_part(out: &mut Vec<u8>, width: u8, part: &Part) -> Result<(), 
         Part::List(items) => put_list(out, width, items),
         Part::Table(keys, values) => put_table(out, width, keys, values),
     }
+}
+
+/// How data of so many octets, at least 15, begins.
+pub(crate) fn put_data_head(out: &mut Vec<u8>, count: u64) -> Result<(), AllocError>
+    requires { 15 ≤ count }
+    ensures { OnOk result (out.new.items ≡ out.old.items ++ head 4 count) }
+{
+    let marker = if count < 256 {
+        0x10
+    } else if count < 65536 {
+        0x11
+    } else if count < 4294967296 {
+        0x12
+    } else {
+        0x13
+    };
+    out.extend_from_slice(&[0x4f, marker])?;
+    put_number(out, width_of(count), count)
 }
 
 /// The number in so many octets.

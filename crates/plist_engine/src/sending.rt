@@ -1,22 +1,24 @@
 //! The canonical file of the value that a file spells, sent in pieces.
-ghost use Rattle.std.specs.Prelude.{◌≡◌, ◌+◌, ◌<◌, ◌-◌, ◌^◌, [], length, All, OnOk};
+ghost use Rattle.std.specs.Prelude.{◌≡◌, ◌+◌, ◌<◌, ◌≤◌, ◌-◌, ◌^◌, [], length, All, OnOk};
 ghost use Rattle.std.specs.List.{concat};
-ghost use Rattle.plist_value.specs.Plist.{Plist};
+ghost use Rattle.plist_value.specs.Plist.{Plist, bytes};
 ghost use Rattle.plist_object.specs.Sizes.{IsWidth};
 ghost use Rattle.plist_object.specs.Spelled.{IsBinary};
-ghost use Rattle.plist_object.specs.Spelling.{least_width, references};
+ghost use Rattle.plist_object.specs.Shortest.{spelling_of};
+ghost use Rattle.plist_object.specs.Spelling.{least_width, references, scalar_spelling};
 ghost use Rattle.plist_object.specs.Views.{octets_of};
 ghost use Rattle.plist_write.specs.Canonical.{canon, file_of, starts, trailer_octets};
-ghost use Rattle.plist_write.specs.Pieces.{CanSpellAll};
+ghost use Rattle.plist_write.specs.Pieces.{CanSpell, CanSpellAll};
 ghost use Rattle.plist_write.specs.Sending.{IsWritten, Sends};
-ghost use Rattle.plist_engine.specs.Parts.{AreSound, helds_of, octets_for};
+ghost use Rattle.plist_engine.specs.Parts.{AreSound, held_in, helds_of, octets_for};
 ghost use Rattle.plist_engine.specs.Pending.{Goes};
 
-use crate::parts::part_of;
+use crate::parts::{Part, part_of};
 use crate::plan::Objects;
-use crate::putting::{part_length, put_number, put_part, put_trailer};
+use crate::putting::{part_length, put_data_head, put_number, put_part, put_trailer};
 use crate::walk::objects_of;
 use plist_object::{BinFile, width_of};
+use plist_value::ScalarRef;
 use plist_write::{Sink, WriteFault};
 use std::alloc::Global;
 
@@ -130,14 +132,59 @@ fn send_objects<W: Sink>(
     for i in 0..originals.len() {
         let (part, behind) = part_of(file, originals[i], numbers);
         let size = part_length(width, &part);
-        make_room(size, pending, out)?;
-        let Ok(()) = put_part(&mut pending.octets, width, &part) else {
-            return Err(WriteFault::OutOfMemory { sent: pending.sent });
-        };
+        send_part(width, &part, size, pending, out)?;
         originals[i] = place;
         place += size;
         numbers = behind;
     }
+    Ok(())
+}
+
+// One object, which has so many octets. Long data goes from the file to the sink, and all else behind what
+// waits.
+fn send_part<W: Sink>(
+    width: u8,
+    part: &Part,
+    size: u64,
+    pending: &mut Pending,
+    out: &mut W,
+) -> Result<(), WriteFault>
+    requires width { IsWidth width }
+    requires spellable { CanSpell width (held_in part.now) }
+    requires room { pending.old.sent + (length pending.old.octets.items
+        + length (spelling_of width (held_in part.now))) < 2 ^ 64 }
+    ensures goes { Goes (spelling_of width (held_in part.now)) pending.old pending.new
+        (W.taken out.old) (W.taken out.new) (W.failures out.old) (W.failures out.new) result }
+    ensures same { W.device out.new ≡ W.device out.old }
+{
+    match part {
+        Part::Scalar(ScalarRef::Bytes(octets)) if octets.len() as u64 > PIECE => {
+            send_data(octets, pending, out)
+        }
+        _ => {
+            make_room(size, pending, out)?;
+            let Ok(()) = put_part(&mut pending.octets, width, part) else {
+                return Err(WriteFault::OutOfMemory { sent: pending.sent });
+            };
+            Ok(())
+        }
+    }
+}
+
+// Data of at least 15 octets, which are not copied.
+fn send_data<W: Sink>(octets: &[u8], pending: &mut Pending, out: &mut W) -> Result<(), WriteFault>
+    requires long { 15 ≤ length octets.now }
+    requires room { pending.old.sent + (length pending.old.octets.items
+        + length (scalar_spelling (bytes octets.now))) < 2 ^ 64 }
+    ensures goes { Goes (scalar_spelling (bytes octets.now)) pending.old pending.new
+        (W.taken out.old) (W.taken out.new) (W.failures out.old) (W.failures out.new) result }
+    ensures same { W.device out.new ≡ W.device out.old }
+{
+    let Ok(()) = put_data_head(&mut pending.octets, octets.len() as u64) else {
+        return Err(WriteFault::OutOfMemory { sent: pending.sent });
+    };
+    flush(pending, out)?;
+    pending.sent = send(octets, pending.sent, out)?;
     Ok(())
 }
 

@@ -1,42 +1,51 @@
-use Rattle.std.proofs.Common.{◌≡◌, ◌+◌, ◌<◌, ◌≤◌, ◌++◌, drop, get_or, length, rules, refl, ◌∙◌, arith, length-set}
+use Rattle.std.proofs.Common.{◌≡◌, ◌+◌, ◌<◌, ◌≤◌, ◌++◌, drop, get_or, length, rules, ◌∙◌, arith, length-set}
 use Rattle.std.specs.List.{concat}
 use Rattle.std.proofs.lemmas.Result.{err_from_is_err_and}
 use Rattle.plist_object.specs.Shortest.{spelling_of}
 use Rattle.plist_object.specs.Views.{octets_of}
-use Rattle.plist_engine.specs.declared.sending.Pending.{Pending}
 use Rattle.plist_engine.specs.Parts.{held_in, octets_for}
-use Rattle.plist_engine.proofs.Gathering.{Gathers-put, Gathers-append, Gathers-keep, Gathers-same, Stops-none, Stops-next, Stops-no_memory, Goes-ok, Goes-err, room-left}
+use Rattle.plist_engine.proofs.Gathering.{Gathers-append, Gathers-same, Stops-first, Stops-next, Goes-ok, Goes-err, room-left}
 use Rattle.plist_engine.proofs.ObjectSteps.{step, same-at, kept-next, places-next, measured-next, split-next, none-left, split-end, places-end}
 use Rattle.plist_engine.proofs.sending.send_objects.Goals as goal
 
-pub returns-in_err-make_room-clause-goes : goal.returns-in_err-make_room-clause-goes
-returns-in_err-make_room-clause-goes g c =
-    let p = err_from_is_err_and c.from_residual.result c.from_residual.ensures.1 in
+pub send_part-requires-clause-room : goal.send_part-requires-clause-room
+send_part-requires-clause-room g c =
     let f = octets_of c.args.file.now in
     let start = c.args.originals.now.items in
+    let now = c.loop-i.originals.items in
+    let i = c.loop-i.i in
+    let x = c.index.result.now in
+    let part = c.part_of.result.0 in
+    let below : i < length start = omega (arith, c.len-i-end.ensures, c.args.originals.now.ok.0) in
+    let is : x ≡ get_or now i x = search rules in
+    let stands = is ∙ same-at now start i x c.loop-i.invariant.kept in
+    let one = step c.args.width f start i x c.loop-i.numbers.now c.part_of.result.1.now part below stands c.part_of.ensures.part c.part_of.ensures.behind c.loop-i.invariant.sound c.loop-i.invariant.spellable in
     let all = concat (octets_for c.args.width f start c.args.references.now) in
-    let rest = concat (octets_for c.args.width f (drop c.loop-i.i start) c.loop-i.numbers.now) in
-    let stops = Stops-none rest c.loop-i.pending _ _ _ _ _ c.in_err-make_room.ensures.goes.stopped in
-    rw (p.1, p.2) (Goes-err all c.args.pending.now _ _ _ _ _ _ (Stops-next c.loop-i.invariant.done rest all c.args.pending.now c.loop-i.pending _ _ _ _ _ _ _ c.loop-i.invariant.split c.loop-i.invariant.gathers stops))
-
-pub returns-in_default-clause-goes : goal.returns-in_default-clause-goes
-returns-in_default-clause-goes g c =
-    let f = octets_of c.args.file.now in
-    let start = c.args.originals.now.items in
-    let all = concat (octets_for c.args.width f start c.args.references.now) in
-    let rest = concat (octets_for c.args.width f (drop c.loop-i.i start) c.loop-i.numbers.now) in
-    let mid = c.make_room.new.pending in
-    let kept = Gathers-keep c.loop-i.invariant.done c.args.pending.now c.loop-i.pending mid _ _ _ _ _ _ c.loop-i.invariant.gathers c.in_ok-make_room.ensures.goes.done in
-    Goes-err all c.args.pending.now _ _ _ _ _ _ (Stops-next c.loop-i.invariant.done rest all c.args.pending.now mid _ _ _ _ _ _ _ c.loop-i.invariant.split kept (Stops-no_memory rest mid _ _))
-
-pub make_room-requires : goal.make_room-requires
-make_room-requires g c =
-    let f = octets_of c.args.file.now in
-    let start = c.args.originals.now.items in
-    let all = concat (octets_for c.args.width f start c.args.references.now) in
-    let rest = concat (octets_for c.args.width f (drop c.loop-i.i start) c.loop-i.numbers.now) in
+    let rest = concat (octets_for c.args.width f (drop i start) c.loop-i.numbers.now) in
+    let measured = measured-next c.loop-i.place c.part_length-size.result (8 + length all) (spelling_of c.args.width (held_in part)) _ _ c.part_length-size.ensures one.split c.loop-i.invariant.measured in
+    let most = measured.1 in
     let left = room-left c.loop-i.invariant.done rest all c.args.pending.now c.loop-i.pending _ _ _ _ _ c.loop-i.invariant.split c.loop-i.invariant.gathers c.requires.room in
-    omega (arith, left)
+    let size = c.part_length-size.ensures in
+    omega (arith, left, most, size)
+
+pub returns-in_err-send_part-clause-goes : goal.returns-in_err-send_part-clause-goes
+returns-in_err-send_part-clause-goes g c =
+    let e = err_from_is_err_and c.from_residual.result c.from_residual.ensures.1 in
+    let f = octets_of c.args.file.now in
+    let start = c.args.originals.now.items in
+    let now = c.loop-i.originals.items in
+    let i = c.loop-i.i in
+    let x = c.index.result.now in
+    let part = c.part_of.result.0 in
+    let octets = spelling_of c.args.width (held_in part) in
+    let below : i < length start = omega (arith, c.len-i-end.ensures, c.args.originals.now.ok.0) in
+    let is : x ≡ get_or now i x = search rules in
+    let stands = is ∙ same-at now start i x c.loop-i.invariant.kept in
+    let one = step c.args.width f start i x c.loop-i.numbers.now c.part_of.result.1.now part below stands c.part_of.ensures.part c.part_of.ensures.behind c.loop-i.invariant.sound c.loop-i.invariant.spellable in
+    let all = concat (octets_for c.args.width f start c.args.references.now) in
+    let rest = concat (octets_for c.args.width f (drop i start) c.loop-i.numbers.now) in
+    let stops = Stops-first octets _ _ c.loop-i.pending _ _ _ _ _ one.split c.in_err-send_part.ensures.goes.stopped in
+    rw (e.1, e.2) (Goes-err all c.args.pending.now _ _ _ _ _ _ (Stops-next c.loop-i.invariant.done rest all c.args.pending.now c.loop-i.pending _ _ _ _ _ _ _ c.loop-i.invariant.split c.loop-i.invariant.gathers stops))
 
 pub overflow_add-place : goal.overflow_add-place
 overflow_add-place g c =
@@ -75,10 +84,7 @@ loop-i-preserved g c =
     let one = step width f start i x c.loop-i.numbers.now c.part_of.result.1.now part below stands c.part_of.ensures.part c.part_of.ensures.behind c.loop-i.invariant.sound c.loop-i.invariant.spellable in
     let objects = octets_for width f start c.args.references.now in
     let measured = measured-next place size (8 + length (concat objects)) octets _ _ c.part_length-size.ensures one.split c.loop-i.invariant.measured in
-    let mid = c.make_room.new.pending in
-    let next : Pending = record { octets = c.put_part.new.out; sent = mid.sent } in
     let done = c.loop-i.invariant.done in
-    let kept = Gathers-keep done c.args.pending.now c.loop-i.pending mid _ _ _ _ _ _ c.loop-i.invariant.gathers c.in_ok-make_room.ensures.goes.done in
     record {
       long = length-set now i place ∙ c.loop-i.invariant.long;
       kept = kept-next now start i place c.loop-i.invariant.kept;
@@ -88,8 +94,8 @@ loop-i-preserved g c =
       places = places-next now i place size octets _ _ objects within c.part_length-size.ensures one.split c.loop-i.invariant.places;
       done = done ++ octets;
       split = split-next done octets (concat objects) _ _ one.split c.loop-i.invariant.split;
-      gathers = Gathers-append done octets c.args.pending.now mid next _ _ _ _ _ _ kept (Gathers-put octets mid next _ _ c.in-Ok.ensures refl);
-      same = c.in_ok-make_room.ensures.same ∙ c.loop-i.invariant.same;
+      gathers = Gathers-append done octets c.args.pending.now c.loop-i.pending c.send_part.new.pending _ _ _ _ _ _ c.loop-i.invariant.gathers c.in_ok-send_part.ensures.goes.done;
+      same = c.in_ok-send_part.ensures.same ∙ c.loop-i.invariant.same;
     }
 
 pub returns-clause-goes : goal.returns-clause-goes
