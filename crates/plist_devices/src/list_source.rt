@@ -1,5 +1,6 @@
 //! A list of octets as a source.
-ghost use Rattle.std.specs.Prelude.{◌≡◌, ◌<◌, ◌≤◌, ◌↔◌, ◌++◌, Some, IsErr, IsTrue, IfOk, OnErr, min, length, take, drop};
+ghost use Rattle.std.specs.Prelude.{◌≡◌, ◌<◌, ◌≤◌, ◌↔◌, ◌++◌, Some, IsErr};
+ghost use Rattle.std.specs.Prelude.{IsTrue, IfOk, OnErr, min, length, take, drop};
 ghost use Rattle.plist_devices.specs.Count.{one_more};
 ghost use Rattle.plist_devices.specs.Source.{IsTake};
 
@@ -18,7 +19,8 @@ pub struct ListSource<'a> {
 }
 
 impl<'a> ListSource<'a> {
-    ghost use Rattle.plist_devices.specs.ListSource.{octets_left, step_of, failing_take, takes_made, failures_of, FailsNext};
+    ghost use Rattle.plist_devices.specs.ListSource.{octets_left, step_of, failing_take};
+    ghost use Rattle.plist_devices.specs.ListSource.{takes_made, failures_of, FailsNext};
 
     /// A source of these octets that gives at most `step` of them per take. The take number `fail_at`,
     /// counted from 1, fails, and so does any after number 2^64 - 1.
@@ -50,7 +52,8 @@ impl<'a> ListSource<'a> {
 }
 
 impl Source for ListSource<'_> {
-    ghost use Rattle.plist_devices.specs.ListSource.{octets_left, step_of, failing_take, takes_made, failures_of, FailsNext};
+    ghost use Rattle.plist_devices.specs.ListSource.{octets_left, step_of, failing_take};
+    ghost use Rattle.plist_devices.specs.ListSource.{takes_made, failures_of, FailsNext};
 
     ghost remaining = { λ source. Some (octets_left source) };
 
