@@ -1,7 +1,8 @@
 //! The command line, as `clap` is told of it.
 ghost use Rattle.std.specs.Prelude.{◌≡◌, IfOk, codes, false};
 ghost use Rattle.clap.specs.Words.{app_of, new_app, rule_of};
-ghost use Rattle.plist_words.specs.CommandLine.{IsConvert, IsProgram, file_word, one_file, program_top, same as same_line};
+ghost use Rattle.plist_words.specs.CommandLine.{IsConvert, IsProgram, file_word, one_file};
+ghost use Rattle.plist_words.specs.CommandLine.{program_top, same as same_line};
 
 use crate::help;
 use clap::{Arg, Command};

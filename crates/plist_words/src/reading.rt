@@ -1,7 +1,8 @@
 //! What the words on the command line ask for.
 ghost use Rattle.std.specs.Prelude.{◌≡◌, ◌<◌, ◌≤◌, length, map, option_map, Ok};
 ghost use Rattle.clap.specs.Words.{first_of, found_of, rows_of, subcommand_rows_of};
-ghost use Rattle.plist_words.specs.Asked.{asked_by, asked_at, check_at, convert_at, form_of, lint_at, same_at};
+ghost use Rattle.plist_words.specs.Asked.{asked_by, asked_at, check_at, convert_at};
+ghost use Rattle.plist_words.specs.Asked.{form_of, lint_at, same_at};
 ghost use Rattle.plist_words.specs.Reading.{IsReading};
 
 use crate::commands::program;
