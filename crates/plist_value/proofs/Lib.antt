@@ -1,5 +1,6 @@
 pub mod Keys
 pub mod WideUnits
+mod Fours
 pub mod Pairs
 pub mod Hashes
 pub mod Rows

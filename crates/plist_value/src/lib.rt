@@ -11,6 +11,7 @@ pub mod text_ref;
 pub mod utf16;
 pub mod value;
 pub mod whole;
+mod words;
 
 pub use budget::Budget;
 pub use copies::copy;
