@@ -5,12 +5,14 @@
 
 Each case is a random value, spelled as a binary file (any order, sharing and widths) or as an OpenStep
 text (any white, comments and quotes), and often damaged. The program's answers to `lint`, `check`,
-`same`, `convert binary1`, `convert openstep` and to no words must be those of the second reading. What a
-word writes must be read again as the same value, a canonical file must be its own canonical file, and
-Python's plistlib must read it as the same value. The first differences are printed and their inputs
+`same`, `convert binary1`, `convert openstep` and to no words must be those of the second reading; often
+the second file of `same` is another spelling of the same value. What a word writes must be read again as
+the same value, a canonical file must be its own canonical file, and Python's plistlib must read it as the
+same value. A run that does not end within a minute, or by a signal, is a difference. The first differences are printed and their inputs
 kept; the status is 1 where there is one. With --words only these are tried, and with --binary only inputs
 that begin as binary files."""
 import argparse
+import datetime
 import os
 import plistlib
 import random
@@ -232,21 +234,30 @@ def damaged(rng, octets):
     return bytes(octets)
 
 
+def is_writable(value):
+    """Whether the value has a text."""
+    kind, content = value
+    inside = content if kind == 'list' else content.values() if kind == 'table' else []
+    return kind in ('text', 'bytes', 'list', 'table') and all(map(is_writable, inside))
+
+
+def spelling(rng, value, binary):
+    """The value in a form, an order, a sharing and widths of chance."""
+    if binary or not is_writable(value) or rng.random() < 0.5:
+        return random_file(rng, value)
+    return random_text_octets(rng, value)
+
+
 def random_input(rng, binary):
-    if binary:
-        octets = random_file(rng, random_value(rng, rng.choice([0, 1, 2, 3]), writable=False))
-        octets = damaged(rng, octets) if rng.random() < 0.6 else octets
-        return octets if octets.startswith(b'bplist') else b'bplist' + octets[6:]
-    choice = rng.random()
-    if choice < 0.03:
+    if not binary and rng.random() < 0.03:
         pool = [b'{', b'}', b'(', b')', b',', b';', b'=', b'a', b'"b"', b'<0f>', b'c', b' ', b'//', b'/*', b'*/']
         return b''.join(rng.choice(pool) for _ in range(rng.randrange(12)))
-    depth = rng.choice([0, 1, 2, 3])
-    if choice < 0.55:
-        octets = random_file(rng, random_value(rng, depth, writable=rng.random() < 0.4))
-    else:
-        octets = random_text_octets(rng, random_value(rng, depth, writable=True))
-    return damaged(rng, octets) if rng.random() < 0.4 else octets
+    value = random_value(rng, rng.choice([0, 1, 2, 3]), writable=not binary and rng.random() < 0.7)
+    octets = spelling(rng, value, binary)
+    if rng.random() >= (0.6 if binary else 0.4):
+        return octets
+    octets = damaged(rng, octets)
+    return octets if not binary or octets.startswith(b'bplist') else b'bplist' + octets[6:]
 
 
 # The program, and what it has to answer
@@ -257,7 +268,10 @@ class Program:
         self.path, self.folder, self.words = os.path.abspath(path), folder, words
 
     def run(self, *words, input=b''):
-        done = subprocess.run([self.path, *words], input=input, capture_output=True, cwd=self.folder, timeout=60)
+        try:
+            done = subprocess.run([self.path, *words], input=input, capture_output=True, cwd=self.folder, timeout=60)
+        except subprocess.TimeoutExpired:
+            return None, b'no end within a minute'
         return done.returncode, done.stdout
 
     def file(self, name, octets=None):
@@ -324,7 +338,7 @@ def expect_canonical(program, expect, value, file):
     if 'check' in program.words:
         program.file('canonical', file)
         expect('check of the canonical file', program.run('check', 'canonical'), (0, b'canonical\n'))
-    expect('plistlib', from_plistlib(file), plain(value))
+    expect_plistlib(expect, value, file)
 
 
 def expect_written(program, expect, form, value, refusal, write):
@@ -335,49 +349,38 @@ def expect_written(program, expect, form, value, refusal, write):
     return octets
 
 
-def plain(value):
-    """The value as plistlib would give it, with dates and reals by their octets."""
+EPOCH = datetime.datetime(2001, 1, 1)
+
+
+def is_read(read, value):
+    """Whether what plistlib read is the value."""
     kind, content = value
     if kind == 'list':
-        return [plain(item) for item in content]
+        return isinstance(read, list) and len(read) == len(content) and all(map(is_read, read, content))
     if kind == 'table':
-        return {plain(('text', key)): plain(item) for key, item in content.items()}
-    if kind == 'text':
-        return b''.join(u.to_bytes(2, 'big') for u in content).decode('utf-16-be', 'replace')
-    return content if kind in ('whole', 'flag', 'bytes') else kind
+        keys = {units_as_string(key): item for key, item in content.items()}
+        return isinstance(read, dict) and read.keys() == keys.keys() and all(
+            is_read(read[key], item) for key, item in keys.items())
+    if kind in ('real4', 'real8'):
+        number = struct.unpack('>f' if kind == 'real4' else '>d', content)[0]
+        return isinstance(read, float) and (read == number or read != read and number != number)
+    if kind == 'moment':
+        return read == EPOCH + datetime.timedelta(seconds=struct.unpack('>d', content)[0])
+    plain = units_as_string(content) if kind == 'text' else content
+    return type(read) is type(plain) and read == plain
 
 
-def from_plistlib(file):
-    """What plistlib reads; its refusal of lone surrogates and of far dates is no difference."""
+def units_as_string(units):
+    return b''.join(unit.to_bytes(2, 'big') for unit in units).decode('utf-16-be')
+
+
+def expect_plistlib(expect, value, file):
+    """plistlib reads the file as the value; it refuses lone surrogates, and dates far from now."""
     try:
         read = plistlib.loads(file)
     except (plistlib.InvalidFileException, OverflowError, UnicodeDecodeError, ValueError):
-        return Any()
-    return Any(read)
-
-
-class Any:
-    """Equal to a value that plistlib read, as far as plistlib can tell; or to all, where it read none."""
-
-    def __init__(self, read=None):
-        self.read = read
-
-    def __eq__(self, value):
-        return self.read is None or alike(self.read, value)
-
-    def __repr__(self):
-        return repr(self.read)
-
-
-def alike(read, value):
-    if value in ('real4', 'real8', 'moment') and not isinstance(read, str):
-        return True
-    if isinstance(value, list):
-        return isinstance(read, list) and len(read) == len(value) and all(map(alike, read, value))
-    if isinstance(value, dict):
-        return isinstance(read, dict) and read.keys() == value.keys() and all(
-            alike(read[key], value[key]) for key in value)
-    return type(read) is type(value) and read == value
+        return
+    expect('plistlib, which read %r, not that but the value' % (read,), is_read(read, value), True)
 
 
 def main():
@@ -395,6 +398,9 @@ def main():
         program, other = Program(arguments.program, folder, arguments.words.split(',')), b'{}'
         while time.monotonic() < end and bad < 5:
             octets = random_input(rng, arguments.binary)
+            value, _ = answer(lambda: oracle.read_any(octets), 'in')
+            if value is not None and rng.random() < 0.4:
+                other = spelling(rng, value, arguments.binary)
             found = differences(program, octets, other)
             cases += 1
             if found:
