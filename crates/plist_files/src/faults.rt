@@ -1,6 +1,7 @@
 //! Every refusal of this crate, with its number, its printed form, and the program's status for it.
 ghost use Rattle.std.specs.Prelude.{◌≡◌};
-ghost use Rattle.plist_files.specs.Fault.{check_fault_for, code_of, fault_for, fault_text, status_for, text_fault_for};
+ghost use Rattle.plist_files.specs.Fault.{check_fault_for, code_of, fault_for};
+ghost use Rattle.plist_files.specs.Fault.{fault_text, status_for, text_fault_for};
 ghost use Rattle.plist_files.specs.Status.{status_code};
 ghost use Rattle.plist_files.specs.declared.faults.Fault.TheVariants.{OutOfMemory, ReadFailed};
 
