@@ -39,15 +39,8 @@ pub fn run(alloc: Global, cursor: Cursor<'_>) -> Result<(Vec<u16>, Cursor<'_>), 
 fn push_character(units: &mut Vec<u16>, c: char) -> Result<(), AllocError>
     ensures { OnOk result (units.new.items ≡ units.old.items ++ encode_utf16 c) }
 {
-    let code = u32::from(c);
-    if code < 0x1_0000 {
-        units.push(code as u16)?;
-    } else {
-        let high = code - 0x1_0000;
-        units.push((0xd800 + high / 0x400) as u16)?;
-        units.push((0xdc00 + high % 0x400) as u16)?;
-    }
-    Ok(())
+    let mut buffer = [0; 2];
+    units.extend_from_slice(c.encode_utf16(&mut buffer))
 }
 
 /// The character that a letter stands for behind a backslash; any other stands for itself.

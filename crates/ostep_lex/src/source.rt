@@ -31,8 +31,8 @@ fn unit(order: ByteOrder, first: u8, second: u8) -> u16
     ensures { unit_octets order result ≡ first ∷ second ∷ [] }
 {
     match order {
-        ByteOrder::Big => u16::from(first) * 256 + u16::from(second),
-        ByteOrder::Little => u16::from(second) * 256 + u16::from(first),
+        ByteOrder::Big => u16::from_be_bytes([first, second]),
+        ByteOrder::Little => u16::from_le_bytes([first, second]),
     }
 }
 
