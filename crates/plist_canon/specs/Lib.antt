@@ -13,4 +13,3 @@ pub mod Codes
 pub mod Weights
 pub mod Preorders
 pub mod Charges
-pub mod Ranks

@@ -3,14 +3,14 @@ ghost use Rattle.std.specs.Prelude.{◌≡◌, ◌↔◌, ◌<◌, ℕ, suc, IsT
 ghost use Rattle.plist_object.specs.Layout.{trailer_of};
 ghost use Rattle.plist_object.specs.Places.{Holds, object_at, span_of};
 ghost use Rattle.plist_object.specs.Views.{held_of, octets_of};
-ghost use Rattle.plist_canon.specs.Ranks.{AreRanks};
+ghost use Rattle.plist_ranks.specs.Ranks.{AreRanks};
 ghost use Rattle.plist_canon.specs.Rules.{HasPlainTrailer, HasLeastWidths, Adjoins, IsSpelledCanonically, HasAscendingKeys, IsNoRepeat};
 ghost use Rattle.plist_canon.specs.Checking.{IsFlaw, RefersWell, IsEndBefore, Follows, IsJudged, HasMet};
 
-use crate::ranks::{Keys, Ranks};
 use crate::references::{keys_ascend, refers_well};
 use crate::repeats::Repeats;
 use plist_object::{BinFile, Object, width_of};
+use plist_ranks::{Keys, Ranks};
 use std::alloc::{AllocError, AllocFailed, Global};
 
 /// A broken rule and the object at which it is, or want of memory.
@@ -131,14 +131,18 @@ struct Placed {
 
 // The ranks of the texts that tables name as keys. Where so many of these texts overlap that they cannot be
 // sorted in time, the first object that does not stand where the one before it ends is answered.
-fn rank_keys(alloc: Global, file: &BinFile, placed: Placed) -> Result<Ranks, Flaw>
+fn rank_keys<'a>(
+    alloc: Global,
+    file: &BinFile<'a>,
+    placed: Placed,
+) -> Result<Ranks<'a>, Flaw>
     requires { IfSome placed.flaw (IsFlaw (octets_of file.now)) }
     ensures ok { IfOk result (λ ranks. AreRanks (octets_of file.now) ranks) }
     ensures err { IfErr result (IsFlaw (octets_of file.now)) }
 {
     let mut keys = Keys::of_tables(alloc, file, placed.objects)?;
     if let Some(flaw) = placed.flaw {
-        if keys.overlap(file) {
+        if keys.overlap() {
             return Err(flaw);
         }
     }

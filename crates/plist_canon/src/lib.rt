@@ -7,7 +7,6 @@ pub mod laws;
 mod limits;
 mod objects;
 mod preorder;
-mod ranks;
 mod references;
 mod repeats;
 mod weights;

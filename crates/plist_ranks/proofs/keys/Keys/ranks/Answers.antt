@@ -2,9 +2,9 @@ use Rattle.std.proofs.Common.{List, sym, subst}
 use Rattle.std.specs.Prelude.{All}
 use Rattle.std.proofs.lemmas.List.Sorted.{All-permutation}
 use Rattle.plist_object.specs.Views.{octets_of}
-use Rattle.plist_canon.specs.declared.ranks.Key.{Key}
-use Rattle.plist_canon.specs.Ranks.{HoldsKey}
-use Rattle.plist_canon.proofs.ranks.Keys.ranks.Goals as goal
+use Rattle.plist_ranks.specs.declared.keys.Key.{Key}
+use Rattle.plist_ranks.specs.Ranks.{HoldsKey}
+use Rattle.plist_ranks.proofs.keys.Keys.ranks.Goals as goal
 
 pub ranks_in_order-requires-clause-held : goal.ranks_in_order-requires-clause-held
 ranks_in_order-requires-clause-held c =

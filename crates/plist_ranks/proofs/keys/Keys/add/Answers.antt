@@ -3,9 +3,9 @@ use Rattle.std.specs.Prelude.{All}
 use Rattle.std.proofs.lemmas.List.{length-set}
 use Rattle.std.proofs.lemmas.List.Elements.{All-push}
 use Rattle.plist_object.specs.Views.{octets_of}
-use Rattle.plist_canon.specs.declared.ranks.Key.{Key}
-use Rattle.plist_canon.specs.Ranks.{HoldsKey}
-use Rattle.plist_canon.proofs.ranks.Keys.add.Goals as goal
+use Rattle.plist_ranks.specs.declared.keys.Key.{Key}
+use Rattle.plist_ranks.specs.Ranks.{HoldsKey}
+use Rattle.plist_ranks.proofs.keys.Keys.add.Goals as goal
 
 pub returns : goal.returns
 returns c =
@@ -13,6 +13,6 @@ returns c =
     let old = c.args.self.now in
     let key : Key = record { text = c.in-Some.text; object = c.args.object } in
     record {
-      held = subst (λ (keys : List Key). All (HoldsKey f) keys) (sym c.in_ok-push.ensures.items) (All-push (HoldsKey f) old.entries.items key c.requires.held c.in-Some.ensures.some);
+      held = subst (λ (keys : List Key). All (HoldsKey f) keys) (sym c.in_ok-push.ensures.items) (All-push (HoldsKey f) old.entries.items key c.requires.held c.in-Some.ensures);
       marked = length-set old.seen.items c.args.object _ ∙ c.requires.marked;
     }

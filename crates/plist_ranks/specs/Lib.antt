@@ -1,0 +1,3 @@
+pub use Rattle.plist_value.specs.Plist
+pub use Rattle.plist_object.specs.Places
+pub mod Ranks
