@@ -9,7 +9,8 @@ use Rattle.plist_object.specs.Views.{numbers_of}
 use Rattle.plist_object.specs.declared.refs.Refs.{Refs}
 use Rattle.plist_canon.specs.declared.preorder.Frame.{Frame}
 use Rattle.plist_canon.specs.declared.preorder.Visit.{Visit}
-use Rattle.plist_canon.specs.Rules.{refs_of, HoldsScalar, IsWellRead, IsNumberedInPreorder}
+use Rattle.plist_object.specs.References.{references_of}
+use Rattle.plist_canon.specs.Rules.{HoldsScalar, IsWellRead, IsNumberedInPreorder}
 use Rattle.plist_canon.specs.Preorders.{CanFinish, part_of, part_read, frame_left, path_left, new_frame, IsKnown, LeadsTo, Visits, Enters, IsWalking}
 use Rattle.plist_canon.specs.declared.weights.Weight.{Weight}
 use Rattle.plist_canon.specs.Weights.{weight_of, AreWeights, AreAllWeights}
@@ -77,12 +78,12 @@ module _ (f : List ℕ) (number : ℕ) (old : List Frame) (weights told : List W
         left = parts new (ap path_left new_is ∙ path_left-push mid (new_frame number keys) ∙ ap (λ xs. xs ++ path_left mid) (sym first) ∙ ap (λ xs. part_of false held ++ xs) mid_left);
       }
 
-both-parts : (held : Held) (rest : List ℕ) → refs_of held ++ rest ≡ part_of false held ++ (part_of true held ++ rest)
+both-parts : (held : Held) (rest : List ℕ) → references_of held ++ rest ≡ part_of false held ++ (part_of true held ++ rest)
 both-parts (holds_scalar s) rest = refl
 both-parts (holds_list refs) rest = refl
 both-parts (holds_table keys values) rest = append_assoc keys values rest
 
-entered-left : (f : List ℕ) (number : ℕ) (old new : List Frame) (weights told : List Weight) (held : Held) → Holds f number held → Enters f number old new weights told → path_left new ≡ refs_of held ++ path_left old
+entered-left : (f : List ℕ) (number : ℕ) (old new : List Frame) (weights told : List Weight) (held : Held) → Holds f number held → Enters f number old new weights told → path_left new ≡ references_of held ++ path_left old
 entered-left f number old new weights told held holds enters =
     let left = rw holds.reads at enters.left in
     left ∙ sym (both-parts held (path_left old))

@@ -13,7 +13,8 @@ use Rattle.plist_object.specs.Places.{octets_at, object_at, what_holds, span_of,
 use Rattle.plist_object.specs.Shortest.{spelling_of, IsShortest}
 use Rattle.plist_object.proofs.Uniqueness.{same_held}
 use Rattle.plist_write.specs.Canonical.{canon}
-use Rattle.plist_canon.specs.Rules.{refs_of, ReadsWithinLimits, FollowsRules, HasPlainTrailer, HasLeastWidths, Adjoins, IsSpelledCanonically, HasAscendingKeys, IsNoRepeat, Walk, visit, Walks, end, step, MeetsInOrder, IsNumberedInPreorder}
+use Rattle.plist_object.specs.References.{references_of}
+use Rattle.plist_canon.specs.Rules.{ReadsWithinLimits, FollowsRules, HasPlainTrailer, HasLeastWidths, Adjoins, IsSpelledCanonically, HasAscendingKeys, IsNoRepeat, Walk, visit, Walks, end, step, MeetsInOrder, IsNumberedInPreorder}
 use Rattle.plist_canon.proofs.Followed.{canonical_follows_rules}
 
 -- The end of a file of fewer than 256 octets: the first octet of the slack, the width of a reference, how many objects
@@ -62,9 +63,9 @@ stray_file = header ++ (161 ∷ 1 ∷ 8 ∷ end_of 1 10)
 stray-laid : IsLaid stray_file
 stray-laid = record { long = omega arith; headed = refl; trailed = omega arith }
 
-numbers_below : (held : Held) → held ≡ holds_list (1 ∷ []) → AllByRecursion (λ reference. reference < 1) (refs_of held) → ⊥
+numbers_below : (held : Held) → held ≡ holds_list (1 ∷ []) → AllByRecursion (λ reference. reference < 1) (references_of held) → ⊥
 numbers_below held e numbers =
-    let below = subst (λ (held : Held). AllByRecursion (λ reference. reference < 1) (refs_of held)) e numbers in
+    let below = subst (λ (held : Held). AllByRecursion (λ reference. reference < 1) (references_of held)) e numbers in
     let first : 1 < 1 = below.0 in
     omega arith
 
@@ -173,7 +174,7 @@ BeginWith [] entries = ⊤
 BeginWith (i ∷ refs) entries = (rest : List ℕ) × (entries ≡ i ∷ rest)
 
 -- what a walk visits first, and what it walks from there
-walk_parts : (f : List ℕ) (i : ℕ) (entries : List ℕ) → Walk f i entries → (held : Held) × ((rest : List ℕ) × ((entries ≡ i ∷ rest) × Holds f i held × Walks f (refs_of held) rest))
+walk_parts : (f : List ℕ) (i : ℕ) (entries : List ℕ) → Walk f i entries → (held : Held) × ((rest : List ℕ) × ((entries ≡ i ∷ rest) × Holds f i held × Walks f (references_of held) rest))
 walk_parts f i entries (visit j held rest holds walks) = (held, (rest, (refl, holds, walks)))
 
 walks_begin : (f refs entries : List ℕ) → Walks f refs entries → BeginWith refs entries
@@ -192,6 +193,6 @@ breaks-c7 h =
     let x = walk_parts unordered_file 0 h.entries h.walk in
     let top : Holds unordered_file 0 (holds_list (2 ∷ 1 ∷ [])) = record { listed = omega arith; reads = refl } in
     let held = same_held unordered_file 0 x.0 (holds_list (2 ∷ 1 ∷ [])) x.1.1.1 top in
-    let walks = subst (λ (held : Held). Walks unordered_file (refs_of held) x.1.0) held x.1.1.2 in
+    let walks = subst (λ (held : Held). Walks unordered_file (references_of held) x.1.0) held x.1.1.2 in
     let begin = walks_begin unordered_file (2 ∷ 1 ∷ []) x.1.0 walks in
     not_in_order begin.0 (subst (λ (es : List ℕ). MeetsInOrder unordered_file 0 es 3) (x.1.1.0 ∙ ap (λ es. 0 ∷ es) begin.1) h.order)

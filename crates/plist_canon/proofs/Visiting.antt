@@ -7,7 +7,8 @@ use Rattle.plist_object.specs.Layout.{trailer_of}
 use Rattle.plist_object.specs.Objects.{Held, holds_scalar}
 use Rattle.plist_object.specs.Places.{Holds}
 use Rattle.plist_object.proofs.Uniqueness.{same_held}
-use Rattle.plist_canon.specs.Rules.{refs_of, HoldsScalar, Walk, Walks, visit, end, step, MeetsInOrder, IsNumberedInPreorder}
+use Rattle.plist_object.specs.References.{references_of}
+use Rattle.plist_canon.specs.Rules.{HoldsScalar, Walk, Walks, visit, end, step, MeetsInOrder, IsNumberedInPreorder}
 use Rattle.plist_canon.specs.declared.weights.Weight.{Weight}
 use Rattle.plist_canon.specs.Weights.{AreWeights}
 use Rattle.plist_canon.proofs.Weighing.{Weighs-scalar}
@@ -18,7 +19,7 @@ record Entered (f : List ℕ) (i : ℕ) (entries : List ℕ) : Type 0 where
   held : Held
   rest : List ℕ
   holds : Holds f i held
-  walks : Walks f (refs_of held) rest
+  walks : Walks f (references_of held) rest
   joined : entries ≡ i ∷ rest
 
 enter : (f : List ℕ) (i : ℕ) (entries : List ℕ) → Walk f i entries → Entered f i entries
@@ -98,7 +99,7 @@ record Next (f : List ℕ) (i : ℕ) (refs : List ℕ) (met : ℕ) : Type 0 wher
   rest : List ℕ
   others : List ℕ
   holds : Holds f i held
-  inner : Walks f (refs_of held) rest
+  inner : Walks f (references_of held) rest
   outer : Walks f refs others
   order : ((i ≡ met) × MeetsInOrder f (suc met) (rest ++ others) (trailer_of f).count) ⊎ ((i < met) × HoldsScalar f i × MeetsInOrder f met (rest ++ others) (trailer_of f).count)
 
@@ -118,22 +119,22 @@ next f i refs met can =
     }
 
 -- the next new object: what it refers to comes next
-pub CanFinish-new : (f : List ℕ) (refs : List ℕ) (met : ℕ) (held : Held) → Holds f met held → CanFinish f (met ∷ refs) met ↔ CanFinish f (refs_of held ++ refs) (suc met)
+pub CanFinish-new : (f : List ℕ) (refs : List ℕ) (met : ℕ) (held : Held) → Holds f met held → CanFinish f (met ∷ refs) met ↔ CanFinish f (references_of held ++ refs) (suc met)
 CanFinish-new f refs met held holds = (
   λ can.
       let n = next f met refs met can in
       let same : n.held ≡ held = same_held f met n.held held n.holds holds in
-      let inner = subst (λ (h : Held). Walks f (refs_of h) n.rest) same n.inner in
+      let inner = subst (λ (h : Held). Walks f (references_of h) n.rest) same n.inner in
       record {
         entries = n.rest ++ n.others;
-        walks = Walks-append f (refs_of held) refs n.rest n.others inner n.outer;
+        walks = Walks-append f (references_of held) refs n.rest n.others inner n.outer;
         order = elim n.order [
           | inl fresh ↦ fresh.1
           | inr again ↦ (let below = again.0 in absurd (omega arith))
         ];
       },
   λ can.
-      let s = Walks-split f (refs_of held) refs can.entries can.walks in
+      let s = Walks-split f (references_of held) refs can.entries can.walks in
       record {
         entries = (met ∷ s.front) ++ s.back;
         walks = step met refs (met ∷ s.front) s.back (visit met held s.front holds s.first) s.second;
@@ -147,7 +148,7 @@ CanFinish-known f i refs met below scalar = (
   λ can.
       let n = next f i refs met can in
       let same : n.held ≡ holds_scalar scalar.0 = same_held f i n.held (holds_scalar scalar.0) n.holds scalar.1 in
-      let inner : Walks f [] n.rest = subst (λ (h : Held). Walks f (refs_of h) n.rest) same n.inner in
+      let inner : Walks f [] n.rest = subst (λ (h : Held). Walks f (references_of h) n.rest) same n.inner in
       let none : n.rest ≡ [] = no_entry f n.rest inner in
       record {
         entries = n.others;

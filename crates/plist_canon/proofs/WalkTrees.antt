@@ -8,7 +8,8 @@ use Rattle.plist_object.specs.Layout.{trailer_of}
 use Rattle.plist_object.specs.Objects.{Held, holds_scalar, holds_list, holds_table}
 use Rattle.plist_object.specs.Places.{Holds}
 use Rattle.plist_object.specs.Spelled.{Spells}
-use Rattle.plist_canon.specs.Rules.{keys_of, refs_of, HoldsText, HoldTexts, IsWellRead, HasAscendingKeys, Walk, visit, Walks, end, step}
+use Rattle.plist_object.specs.References.{references_of}
+use Rattle.plist_canon.specs.Rules.{keys_of, HoldsText, HoldTexts, IsWellRead, HasAscendingKeys, Walk, visit, Walks, end, step}
 use Rattle.plist_write.specs.Plan.{held_at}
 use Rattle.plist_write.specs.Sharing.{value_at}
 use Rattle.plist_write.specs.Tree.{key_texts, preorder, preorder_items, preorder_values, item_places, key_places, value_places}
@@ -203,7 +204,7 @@ Spells-walked f i entries tree =
     subst (λ n. Spells f n tree.value) (tree.top number 0 (AreNumbers-own entries)) spells
 
 module _ (f : List ℕ) (octets : AreOctets f) (read : (i : ℕ) → i < (trailer_of f).count → IsWellRead f i) (ascending : (i : ℕ) → i < (trailer_of f).count → HasAscendingKeys f i) where
-  object-walked : (i : ℕ) (held : Held) (entries : List ℕ) → Holds f i held → WalkedItems f (refs_of held) entries → WalkedTree f i (i ∷ entries)
+  object-walked : (i : ℕ) (held : Held) (entries : List ℕ) → Holds f i held → WalkedItems f (references_of held) entries → WalkedTree f i (i ∷ entries)
   object-walked i (holds_scalar s) entries holds xs = scalar-walked f i s entries octets holds xs
   object-walked i (holds_list refs) entries holds xs = list-walked f i refs entries holds xs
   object-walked i (holds_table keys values) entries holds xs =
@@ -212,7 +213,7 @@ module _ (f : List ℕ) (octets : AreOctets f) (read : (i : ℕ) → i < (traile
   mutual
     pub tree_of_walk : (i : ℕ) (entries : List ℕ) → Walk f i entries → WalkedTree f i entries
     tree_of_walk _ _ (visit i held entries holds walks) =
-        object-walked i held entries holds (items_of_walks (refs_of held) entries walks)
+        object-walked i held entries holds (items_of_walks (references_of held) entries walks)
 
     items_of_walks : (refs entries : List ℕ) → Walks f refs entries → WalkedItems f refs entries
     items_of_walks _ _ end = no_items-walked f

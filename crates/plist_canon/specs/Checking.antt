@@ -12,7 +12,8 @@ use Rattle.plist_value.specs.declared.scalar_ref.ScalarRef.{ScalarRef}
 use Rattle.plist_object.specs.Layout.{trailer_of, IsLayoutFault}
 use Rattle.plist_object.specs.Objects.{Held, holds_scalar}
 use Rattle.plist_object.specs.Places.{Holds, what_holds, span_of}
-use Rattle.plist_canon.specs.Rules.{keys_of, refs_of, HoldsText, IsWellRead, IsSpelledCanonically, HasAscendingKeys, IsNoRepeat, FollowsRules, IsBroken}
+use Rattle.plist_object.specs.References.{references_of}
+use Rattle.plist_canon.specs.Rules.{keys_of, HoldsText, IsWellRead, IsSpelledCanonically, HasAscendingKeys, IsNoRepeat, FollowsRules, IsBroken}
 use Rattle.plist_canon.specs.declared.checking.CheckFault.{CheckFault}
 use Rattle.plist_canon.specs.declared.checking.CheckFault.TheVariants as fault
 use Rattle.plist_canon.specs.declared.checking.Verdict.{Verdict}
@@ -46,7 +47,7 @@ AllAscend f = (i : ℕ) → i < (trailer_of f).count → HasAscendingKeys f i
 
 -- the references of what is held are numbers of objects, and those to keys name texts
 pub record RefersWell (f : List ℕ) (held : Held) : Type 0 where
-  pub numbers : AllByRecursion (λ reference. reference < (trailer_of f).count) (refs_of held)
+  pub numbers : AllByRecursion (λ reference. reference < (trailer_of f).count) (references_of held)
   pub texts : AllByRecursion (HoldsText f) (keys_of held)
 
 -- the objects hold texts, the first below the second

@@ -11,6 +11,7 @@ use Rattle.plist_object.specs.Objects.{Held, holds_scalar, holds_list, holds_tab
 use Rattle.plist_object.specs.Places.{Holds, object_at, what_holds, span_of}
 use Rattle.plist_object.specs.Spelled.{Spells}
 use Rattle.plist_object.specs.Spelling.{least_width}
+use Rattle.plist_object.specs.References.{references_of}
 use Rattle.plist_object.specs.Shortest.{IsShortest}
 
 -- the references of a table to its keys
@@ -18,12 +19,6 @@ abbrev pub keys_of : Held → List ℕ
 keys_of (holds_scalar s) = []
 keys_of (holds_list refs) = []
 keys_of (holds_table keys values) = keys
-
--- all references that an object holds, in the order of the file
-abbrev pub refs_of : Held → List ℕ
-refs_of (holds_scalar s) = []
-refs_of (holds_list refs) = refs
-refs_of (holds_table keys values) = keys ++ values
 
 abbrev pub HoldsScalar : List ℕ → ℕ → Type 0
 HoldsScalar f i = (s : Scalar) × Holds f i (holds_scalar s)
@@ -41,7 +36,7 @@ HoldTexts f (i ∷ refs) (units ∷ texts) = Holds f i (holds_scalar (text units
 pub record IsWellRead (f : List ℕ) (i : ℕ) : Type 0 where
   pub held : Held
   pub holds : Holds f i held
-  pub numbers : AllByRecursion (λ reference. reference < (trailer_of f).count) (refs_of held)
+  pub numbers : AllByRecursion (λ reference. reference < (trailer_of f).count) (references_of held)
   pub texts : AllByRecursion (HoldsText f) (keys_of held)
 
 -- C0: every object is well read, and the value that object 0 spells is within the limits.
@@ -83,7 +78,7 @@ IsNoRepeat f i =
 -- The walk from the object i in preorder: i itself, and then the walks from its references in turn.
 mutual
   pub data Walk (f : List ℕ) : ℕ → List ℕ → Type 0 where
-    visit : (i : ℕ) (held : Held) (entries : List ℕ) → Holds f i held → Walks f (refs_of held) entries → Walk f i (i ∷ entries)
+    visit : (i : ℕ) (held : Held) (entries : List ℕ) → Holds f i held → Walks f (references_of held) entries → Walk f i (i ∷ entries)
 
   pub data Walks (f : List ℕ) : List ℕ → List ℕ → Type 0 where
     end : Walks f [] []
