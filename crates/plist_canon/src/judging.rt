@@ -1,11 +1,14 @@
 //! The rules of the trailer and of each object.
-ghost use Rattle.std.specs.Prelude.{◌≡◌, ◌↔◌, ◌<◌, ℕ, suc, IsTrue, Ok, IsOk, IfOk, IfErr, IfSome, IfNone, OnOk};
+ghost use Rattle.std.specs.Prelude.{◌≡◌, ◌↔◌, ◌<◌, ℕ, suc, IsTrue, Ok};
+ghost use Rattle.std.specs.Prelude.{IsOk, IfOk, IfErr, IfSome, IfNone, OnOk};
 ghost use Rattle.plist_object.specs.Layout.{trailer_of};
 ghost use Rattle.plist_object.specs.Places.{Holds, object_at, span_of};
 ghost use Rattle.plist_object.specs.Views.{held_of, octets_of};
 ghost use Rattle.plist_ranks.specs.Ranks.{AreRanks};
-ghost use Rattle.plist_canon.specs.Rules.{HasPlainTrailer, HasLeastWidths, Adjoins, IsSpelledCanonically, HasAscendingKeys, IsNoRepeat};
-ghost use Rattle.plist_canon.specs.Checking.{IsFlaw, RefersWell, IsEndBefore, Follows, IsJudged, HasMet};
+ghost use Rattle.plist_canon.specs.Rules.{HasPlainTrailer, HasLeastWidths, Adjoins};
+ghost use Rattle.plist_canon.specs.Rules.{IsSpelledCanonically, HasAscendingKeys, IsNoRepeat};
+ghost use Rattle.plist_canon.specs.Checking.{IsFlaw, RefersWell, IsEndBefore};
+ghost use Rattle.plist_canon.specs.Checking.{Follows, IsJudged, HasMet};
 
 use crate::references::{keys_ascend, refers_well};
 use crate::repeats::Repeats;
