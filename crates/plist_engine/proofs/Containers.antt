@@ -10,7 +10,8 @@ use Rattle.plist_write.proofs.Trees.{Stands-tail, length-key_places, length-valu
 use Rattle.plist_write.proofs.Counting.{count-kept, known-still}
 use Rattle.plist_write.proofs.Containers.{here, own, no_scalar, number_is, found_is}
 use Rattle.plist_engine.specs.declared.plan.Plan.{Plan}
-use Rattle.plist_engine.specs.Plan.{references_of, IsLike, IsReady, Grows, Adds, WalksTree, WalksItems, Begins}
+use Rattle.plist_object.specs.References.{references_of}
+use Rattle.plist_engine.specs.Plan.{IsLike, IsReady, Grows, Adds, WalksTree, WalksItems, Begins}
 use Rattle.plist_engine.proofs.Flat.{flat, preorder-flat, places-flat}
 
 -- what the references became, and those behind them

@@ -5,7 +5,8 @@ use Rattle.plist_value.specs.Plist.{Scalar}
 use Rattle.plist_object.specs.Objects.{Held, holds_scalar}
 use Rattle.plist_object.specs.Places.{Holds}
 use Rattle.plist_engine.specs.declared.plan.Plan.{Plan}
-use Rattle.plist_engine.specs.Plan.{references_of, StandFor, Grows}
+use Rattle.plist_object.specs.References.{references_of}
+use Rattle.plist_engine.specs.Plan.{StandFor, Grows}
 
 pub StandFor-append : (f xs ys refs behind : List ℕ) (hs gs : List Held) → StandFor f xs refs hs → StandFor f ys behind gs → StandFor f (xs ++ ys) (refs ++ behind) (hs ++ gs)
 StandFor-append f [] ys refs behind [] gs a b = rw a b

@@ -4,7 +4,8 @@ use Rattle.std.proofs.lemmas.List.{length-map, take_at, drop_at}
 use Rattle.plist_object.specs.Objects.{Held, holds_scalar, holds_list, holds_table}
 use Rattle.plist_object.specs.Places.{Holds}
 use Rattle.plist_object.specs.Shortest.{spelling_of}
-use Rattle.plist_engine.specs.Plan.{references_of, IsLike, StandFor}
+use Rattle.plist_object.specs.References.{references_of}
+use Rattle.plist_engine.specs.Plan.{IsLike, StandFor}
 use Rattle.plist_engine.specs.Parts.{held_or_none, held_at, reference_count, renumbered, helds_of, AreSound, octets_for}
 use Rattle.plist_engine.specs.Spelling.{IsRead}
 

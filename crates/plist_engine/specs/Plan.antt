@@ -8,18 +8,13 @@ use Rattle.plist_value.specs.Scalars.{content_of}
 use Rattle.plist_value.specs.declared.scalar_ref.ScalarRef.{ScalarRef}
 use Rattle.plist_object.specs.Objects.{Held, holds_scalar, holds_list, holds_table}
 use Rattle.plist_object.specs.Places.{Holds}
+use Rattle.plist_object.specs.References.{references_of}
 use Rattle.plist_object.specs.Spelled.{Spells, SpellItems}
 use Rattle.plist_write.specs.Tree.{preorder, preorder_items, item_places}
 use Rattle.plist_write.specs.Sharing.{kept_places, count_below}
 use Rattle.plist_write.specs.Plan.{Stands, number_in, found_in, number_known}
 use Rattle.plist_engine.specs.declared.plan.Objects.{Objects}
 use Rattle.plist_engine.specs.declared.plan.Plan.{Plan}
-
--- the references that are held, those of a table to keys before those to values
-abbrev pub references_of : Held → List ℕ
-references_of (holds_scalar s) = []
-references_of (holds_list refs) = refs
-references_of (holds_table keys values) = keys ++ values
 
 -- The object i of the file holds the same scalar, a list of as many items, or a table of as many pairs.
 abbrev pub IsLike : List ℕ → ℕ → Held → Type 0
