@@ -17,7 +17,7 @@ use crate::parts::{Part, part_of};
 use crate::plan::Objects;
 use crate::putting::{part_length, put_data_head, put_number, put_part, put_trailer};
 use crate::walk::objects_of;
-use plist_object::{BinFile, width_of};
+use plist_object::{BinFile, HEADER, width_of};
 use plist_value::ScalarRef;
 use plist_write::{Sink, WriteFault};
 use std::alloc::Global;
@@ -84,7 +84,7 @@ fn send_file<W: Sink>(
     } = objects;
     let mut places = originals;
     let count = places.len() as u64;
-    let Ok(octets) = Vec::from_slice(alloc, b"bplist00") else {
+    let Ok(octets) = Vec::from_slice(alloc, &HEADER) else {
         return Err(WriteFault::OutOfMemory { sent: 0 });
     };
     let mut pending = Pending { octets, sent: 0 };
