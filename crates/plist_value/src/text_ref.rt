@@ -1,16 +1,16 @@
 //! Texts that are borrowed.
 ghost use Rattle.std.specs.Prelude.{◌≡◌, ◌<◌, ◌≤◌, ◌+◌, ◌%◌, ◌↔◌, IsSome};
-ghost use Rattle.std.specs.Prelude.{IfSome, All, nat_eq, length, slice_index};
+ghost use Rattle.std.specs.Prelude.{IfSome, All, nat_eq, length, slice_index, fold};
 ghost use Rattle.std.specs.Ordering.{nat_cmp, on, as_partial_cmp};
 ghost use Rattle.std.specs.Cmp.{partial_order_from_own_ties};
 ghost use Rattle.std.specs.Cmp.Lexicographic.{pointwise, slice_cmp, bytes_decides};
 ghost use Rattle.std.specs.Cmp.Rules.{comparing};
 ghost use Rattle.std.specs.Hash.{on_Alike, same_Alike};
-ghost use Rattle.plist_value.specs.Hashes.{fed_text, pair_from, word_from};
+ghost use Rattle.plist_value.specs.Hashes.{fed_text, fed_units, pair_from, word_from};
 ghost use Rattle.std.proofs.Common.{rules};
 ghost use Rattle.plist_value.specs.Texts.{units_of, wide_units};
 
-use crate::words::compare;
+use crate::words::{compare, feed};
 use std::cmp::Ordering;
 use std::hash::{Hash, Hasher};
 
@@ -194,13 +194,23 @@ impl<'a> Hash for TextRef<'a> {
 
     fn hash<H: Hasher>(&self, state: &mut H) {
         state.write_usize(self.len());
-        let words = self.len() / 4;
-        for i in 0..words {
-            state.write_u64(self.word_at(4 * i));
+        match self.kept {
+            Kept::Units(units) => feed(units, state),
+            _ => feed_each(self, state),
         }
-        for i in 4 * words..self.len() {
-            state.write_u16(self.unit(i));
-        }
+    }
+}
+
+// However it is kept; the units of a slice are fed faster.
+fn feed_each<H: Hasher>(text: &TextRef, state: &mut H)
+    ensures { state.new ≡ fold H.write state.old (fed_units (units_of text.now)) }
+{
+    let words = text.len() / 4;
+    for i in 0..words {
+        state.write_u64(text.word_at(4 * i));
+    }
+    for i in 4 * words..text.len() {
+        state.write_u16(text.unit(i));
     }
 }
 

@@ -1,10 +1,11 @@
 //! Four units as one number.
-ghost use Rattle.std.specs.Prelude.{◌≡◌, ◌<◌, ◌^◌};
+ghost use Rattle.std.specs.Prelude.{◌≡◌, ◌<◌, ◌^◌, fold};
 ghost use Rattle.std.specs.Ordering.{nat_cmp};
 ghost use Rattle.std.specs.Cmp.Lexicographic.{slice_cmp};
-ghost use Rattle.plist_value.specs.Hashes.{word};
+ghost use Rattle.plist_value.specs.Hashes.{fed_units, word};
 
 use std::cmp::Ordering;
+use std::hash::Hasher;
 
 // The four units as one number, the first in its lowest bits.
 #[inline(always)]
@@ -31,4 +32,18 @@ pub(crate) fn compare(units: &[u16], others: &[u16]) -> Ordering
         other_rest = other_behind;
     }
     rest.cmp(other_rest)
+}
+
+/// Feeds the units to the hasher: four in each write, and one in each for those that are left.
+pub(crate) fn feed<H: Hasher>(units: &[u16], state: &mut H)
+    ensures { state.new ≡ fold H.write state.old (fed_units units.now) }
+{
+    let mut rest = units;
+    while let [a, b, c, d, behind @ ..] = rest {
+        state.write_u64(word(*a, *b, *c, *d));
+        rest = behind;
+    }
+    for unit in rest {
+        state.write_u16(*unit);
+    }
 }
