@@ -111,10 +111,13 @@ pub(crate) fn head_length(count: u64) -> u64
 pub(crate) fn is_ascii(text: &TextRef) -> bool
     ensures { result ≡ list_all (λ unit. nat_lt unit 128) (units_of text.now) }
 {
+    let text = *text;
+    let mut most = 0;
     for i in 0..text.len() {
-        if text.unit(i) >= 128 {
-            return false;
+        let unit = text.unit(i);
+        if unit > most {
+            most = unit;
         }
     }
-    true
+    most < 128
 }

@@ -214,6 +214,7 @@ fn push_ascii(out: &mut Vec<u8>, text: &TextRef)
     requires room { HasRoom out.old (length (units_of text.now)) }
     ensures { Appends out.old out.new (units_of text.now) }
 {
+    let text = *text;
     for i in 0..text.len() {
         push_octet(out, text.unit(i) as u8);
     }
@@ -224,6 +225,7 @@ fn push_wide(out: &mut Vec<u8>, text: &TextRef)
     requires { HasRoom out.old (length (references 2 (units_of text.now))) }
     ensures { Appends out.old out.new (references 2 (units_of text.now)) }
 {
+    let text = *text;
     for i in 0..text.len() {
         push_number(out, u64::from(text.unit(i)), 2);
     }
