@@ -4,6 +4,7 @@
 
 pub mod canonicals;
 pub mod faults;
+pub mod forms;
 pub mod laws;
 pub mod lines;
 pub mod loading;
@@ -12,6 +13,7 @@ pub mod statuses;
 
 pub use canonicals::{begins_as_binary, canonicalise, judge_any, read_any, same_files};
 pub use faults::Fault;
+pub use forms::Form;
 pub use lines::line;
 pub use loading::{MAX_INPUT, load};
 pub use pairs::PairFault;

@@ -3,8 +3,8 @@ use Rattle.std.specs.Prelude.{◌≡◌, ◌⊎◌, ℕ, ◌<◌, ◌≤◌, Lis
 use Rattle.clap.specs.Words.{Kinds, Text}
 use Rattle.plist_words.specs.Asked.{Asked, Filters, Converts, Compares, Lints, Checks}
 use Rattle.plist_words.specs.Reading.{IsParse}
-use Rattle.plist_words.specs.declared.request.Form.{Form}
-use Rattle.plist_words.specs.declared.request.Form.TheVariants.{Binary1, OpenStep}
+use Rattle.plist_files.specs.declared.forms.Form.{Form}
+use Rattle.plist_files.specs.declared.forms.Form.TheVariants.{Binary1, OpenStep}
 use Rattle.plist_program.specs.Explaining.{IsExplained}
 use Rattle.plist_program.specs.Runs.{IsCheckRun, IsConvertRun, IsConvertTextRun, IsFilterRun, IsLintRun, IsSameRun}
 use Rattle.plist_program.specs.State.{Input, State}

@@ -7,7 +7,7 @@ use Rattle.clap.specs.declared.error.ErrorKind.TheVariants as kind
 use Rattle.plist_words.specs.Asked.{Asked, Checks, Compares, Converts, Lints, asked_at}
 use Rattle.plist_words.specs.CommandLine.{NamesForms, program}
 use Rattle.plist_words.specs.Reading.{IsParse}
-use Rattle.plist_words.specs.declared.request.Form.TheVariants.{Binary1, OpenStep}
+use Rattle.plist_files.specs.declared.forms.Form.TheVariants.{Binary1, OpenStep}
 use Rattle.plist_words.proofs.CommandLine.{forms_at}
 
 named_forms : (forms : Bor (List (Bor Text))) → NamesForms forms

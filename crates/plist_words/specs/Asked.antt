@@ -2,8 +2,8 @@
 use Rattle.std.specs.Prelude.{List, Option, Some, None, codes, option_and_then, option_map, if◌then◌else◌}
 use Rattle.std.specs.Str.{bytes_eq}
 use Rattle.clap.specs.Words.{Row, Text, first_of}
-use Rattle.plist_words.specs.declared.request.Form.{Form}
-use Rattle.plist_words.specs.declared.request.Form.TheVariants.{Binary1, OpenStep}
+use Rattle.plist_files.specs.declared.forms.Form.{Form}
+use Rattle.plist_files.specs.declared.forms.Form.TheVariants.{Binary1, OpenStep}
 use Rattle.plist_words.specs.declared.request.Request.{Request}
 use Rattle.plist_words.specs.declared.request.Request.TheVariants as request
 

@@ -6,5 +6,6 @@ mod help;
 mod reading;
 mod request;
 
+pub use plist_files::Form;
 pub use reading::read_words;
-pub use request::{Form, Request};
+pub use request::Request;

@@ -1,13 +1,6 @@
 //! What the program can be asked for.
 
-/// The form of a property list that is written.
-#[derive(Clone, Copy, Debug, PartialEq, Eq)]
-pub enum Form {
-    /// The canonical binary file.
-    Binary1,
-    /// The OpenStep text.
-    OpenStep,
-}
+use plist_files::Form;
 
 /// One thing that the program can be asked for.
 #[derive(Clone, Copy, Debug, PartialEq, Eq)]
