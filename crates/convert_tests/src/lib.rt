@@ -13,3 +13,5 @@ mod size_tests;
 mod tests;
 #[cfg(test)]
 mod text_tests;
+#[cfg(test)]
+mod transfer_tests;

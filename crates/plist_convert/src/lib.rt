@@ -1,9 +1,11 @@
 //! The program `plistconv` over any files, input and output: its words, its answers and its statuses. With
-//! it all that the library offers: sources, what is loaded from them, canonical files, refusals.
+//! it all that the library offers: sources and sinks, what is loaded from them and converted between them,
+//! canonical files, refusals.
 #![tactic(auto)]
 
-pub use plist_devices::{DeviceFault, ListSource, ReaderSource, Source};
+pub use plist_devices::{DeviceFault, ListSink, ListSource, ReaderSource, Sink, Source};
 pub use plist_files::{
-    Fault, MAX_INPUT, PairFault, Status, canonicalise, laws, line, load, read_any, same_files,
+    Fault, Form, MAX_INPUT, PairFault, Status, canonicalise, laws, line, load, read_any, same_files,
 };
 pub use plist_program::run;
+pub use plist_transfer::convert;

@@ -9,6 +9,8 @@ use Rattle.ostep_form.specs.declared.fault.TextFault.{TextFault}
 use Rattle.ostep_form.specs.declared.fault.TextFault.TheVariants as text
 use Rattle.plist_canon.specs.declared.checking.CheckFault.{CheckFault}
 use Rattle.plist_canon.specs.declared.checking.CheckFault.TheVariants as check
+use Rattle.plist_write.specs.declared.sending.WriteFault.{WriteFault}
+use Rattle.plist_write.specs.declared.sending.WriteFault.TheVariants as write
 use Rattle.plist_files.specs.declared.faults.Fault.{Fault}
 use Rattle.plist_files.specs.declared.faults.Fault.TheVariants.{Binary, Text, NotInOpenStep, ReadFailed, WriteFailed, InputTooLarge, OutOfMemory}
 
@@ -54,3 +56,8 @@ text_fault_for fault = Text fault
 abbrev pub check_fault_for : CheckFault → Fault
 check_fault_for (check.Layout fault) = Binary (binary.Layout fault)
 check_fault_for check.OutOfMemory = OutOfMemory 0
+
+-- the refusal of what is sent as one of this crate, after as many octets
+abbrev pub write_fault_for : WriteFault → Fault
+write_fault_for (write.WriteFailed sent) = WriteFailed sent
+write_fault_for (write.OutOfMemory sent) = OutOfMemory sent

@@ -1,7 +1,7 @@
 //! Every refusal of this crate, with its number, its printed form, and the program's status for it.
 ghost use Rattle.std.specs.Prelude.{◌≡◌};
 ghost use Rattle.plist_files.specs.Fault.{check_fault_for, code_of, fault_for};
-ghost use Rattle.plist_files.specs.Fault.{fault_text, status_for, text_fault_for};
+ghost use Rattle.plist_files.specs.Fault.{fault_text, status_for, text_fault_for, write_fault_for};
 ghost use Rattle.plist_files.specs.Status.{status_code};
 ghost use Rattle.plist_files.specs.declared.faults.Fault.TheVariants.{OutOfMemory, ReadFailed};
 
@@ -10,6 +10,7 @@ use ostep_form::TextFault;
 use plist_binary::BinaryFault;
 use plist_canon::CheckFault;
 use plist_devices::DeviceFault;
+use plist_write::WriteFault;
 use std::alloc::AllocError;
 use std::error::Error;
 use std::fmt;
@@ -119,6 +120,17 @@ impl From<CheckFault> for Fault {
         match fault {
             CheckFault::Layout(fault) => Fault::Binary(BinaryFault::Layout(fault)),
             CheckFault::OutOfMemory => Fault::OutOfMemory { sent: 0 },
+        }
+    }
+}
+
+impl From<WriteFault> for Fault {
+    ghost from_gives = { λ fault refusal. refusal ≡ write_fault_for fault };
+
+    fn from(fault: WriteFault) -> Fault {
+        match fault {
+            WriteFault::WriteFailed { sent } => Fault::WriteFailed { sent },
+            WriteFault::OutOfMemory { sent } => Fault::OutOfMemory { sent },
         }
     }
 }

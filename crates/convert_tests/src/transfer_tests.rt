@@ -1,0 +1,271 @@
+//! Conversions from a source to a sink.
+use plist_convert::{
+    DeviceFault, Fault, Form, ListSink, ListSource, Sink, Source, canonicalise, convert,
+};
+use plist_tests::files::{file, one};
+use std::alloc::{AllocError, Global};
+use std::process::Abort;
+use std::test::Fail;
+
+const TABLE: &[u8] = b"{b=a;a=b;}";
+
+const TABLE_TEXT: &[u8] = b"{\na = b;\nb = a;\n}\n";
+
+// The canonical file of the table.
+fn table_file(alloc: Global) -> Result<Vec<u8>, AllocError> {
+    let objects = [0xd2, 1, 2, 2, 1, 0x51, 0x61, 0x51, 0x62];
+    file(alloc, &objects, &[8, 13, 15], 1)
+}
+
+#[test]
+fn converts_between_devices(rt: HostRuntime) -> Result<(), Fail> {
+    let alloc = rt.alloc();
+    let own = table_file(alloc)?;
+    let unsorted = [0xd2, 1, 2, 2, 1, 0x51, 0x62, 0x51, 0x61];
+    let unsorted = file(alloc, &unsorted, &[8, 13, 15], 1)?;
+    for octets in [TABLE, unsorted.as_slice(), own.as_slice(), TABLE_TEXT] {
+        let mut sink = ListSink::new(alloc, 100, 7)?;
+        let mut source = ListSource::new(octets, 3, None);
+        let sent = convert(alloc, &mut source, &mut sink, Form::Binary1);
+        assert_eq!(rt; sent, Ok(52));
+        assert_eq!(rt; sink.taken(), own.as_slice());
+        let mut sink = ListSink::new(alloc, 100, 7)?;
+        let mut source = ListSource::new(octets, 3, None);
+        let sent = convert(alloc, &mut source, &mut sink, Form::OpenStep);
+        assert_eq!(rt; sent, Ok(18));
+        assert_eq!(rt; sink.taken(), TABLE_TEXT);
+    }
+    Ok(())
+}
+
+#[test]
+fn a_failing_take_leaves_the_sink_empty(rt: HostRuntime) -> Result<(), Fail> {
+    let alloc = rt.alloc();
+    // Four takes give octets, and the fifth finds the end.
+    for number in 1..6 {
+        for form in [Form::Binary1, Form::OpenStep] {
+            let mut sink = ListSink::new(alloc, 100, 7)?;
+            let mut source = ListSource::new(TABLE, 3, Some(number));
+            let sent = convert(alloc, &mut source, &mut sink, form);
+            assert_eq!(rt; sent, Err(Fault::ReadFailed), "at take {number}");
+            assert_eq!(rt; sink.taken().len(), 0);
+            assert_eq!(rt; sink.failures(), 0);
+            assert_eq!(rt; source.failures(), 1);
+        }
+    }
+    let mut sink = ListSink::new(alloc, 100, 7)?;
+    let mut source = ListSource::new(TABLE, 3, Some(6));
+    let sent = convert(alloc, &mut source, &mut sink, Form::Binary1);
+    assert_eq!(rt; sent, Ok(52));
+    Ok(())
+}
+
+// Converts with this room in the sink, and asks for what has to have gone out.
+fn converts_into(
+    rt: &impl Abort,
+    alloc: Global,
+    octets: &[u8],
+    form: Form,
+    room: usize,
+    whole: &[u8],
+) -> Result<(), Fail> {
+    let mut sink = ListSink::new(alloc, room, 7)?;
+    let mut source = ListSource::new(octets, 3, None);
+    let answer = convert(alloc, &mut source, &mut sink, form);
+    let sent = room.min(whole.len()) as u64;
+    if room < whole.len() {
+        assert_eq!(rt; answer, Err(Fault::WriteFailed { sent }), "room {room}");
+        assert_eq!(rt; sink.failures(), 1);
+    } else {
+        assert_eq!(rt; answer, Ok(sent), "room {room}");
+        assert_eq!(rt; sink.failures(), 0);
+    }
+    assert_eq!(rt; Some(sink.taken()), whole.get(..sent as usize));
+    Ok(())
+}
+
+#[test]
+fn a_sink_of_any_room_holds_a_front(rt: HostRuntime) -> Result<(), Fail> {
+    let alloc = rt.alloc();
+    let own = table_file(alloc)?;
+    for octets in [TABLE, own.as_slice()] {
+        for room in 0..54 {
+            converts_into(&rt, alloc, octets, Form::Binary1, room, own.as_slice())?;
+        }
+        for room in 0..20 {
+            converts_into(&rt, alloc, octets, Form::OpenStep, room, TABLE_TEXT)?;
+        }
+    }
+    // Data past the greatest offset of one octet.
+    let mut data = Vec::from_slice(alloc, &[0x4f, 0x11, 0, 245])?;
+    data.extend_from_slice(&[7; 245])?;
+    let source = one(alloc, data.as_slice())?;
+    let whole = canonicalise(alloc, source.as_slice())?;
+    assert_eq!(rt; whole.len(), 290);
+    for room in [289, 290, 300] {
+        let octets = source.as_slice();
+        converts_into(&rt, alloc, octets, Form::Binary1, room, whole.as_slice())?;
+    }
+    Ok(())
+}
+
+#[test]
+fn refused_octets_leave_the_sink_empty(rt: HostRuntime) -> Result<(), Fail> {
+    let alloc = rt.alloc();
+    let flag = one(alloc, &[9])?;
+    let rows = [
+        (flag.as_slice(), Form::OpenStep, 40),
+        (b"{a;a=b;}", Form::Binary1, 14),
+        (b"{a;a=b;}", Form::OpenStep, 14),
+        (b"bplist00", Form::Binary1, 1),
+        (b"bplist00", Form::OpenStep, 1),
+        (b"(a b)", Form::Binary1, 30),
+    ];
+    for (octets, form, code) in rows {
+        let mut sink = ListSink::new(alloc, 100, 7)?;
+        let mut source = ListSource::new(octets, 3, None);
+        match convert(alloc, &mut source, &mut sink, form) {
+            Ok(sent) => assert_eq!(rt; sent, 0, "it is refused"),
+            Err(fault) => assert_eq!(rt; fault.code(), code),
+        }
+        assert_eq!(rt; sink.taken().len(), 0);
+        assert_eq!(rt; sink.failures(), 0);
+    }
+    Ok(())
+}
+
+/// A device whose count of failures stands at its greatest, so that each take and each put fails.
+#[derive(Drop)]
+struct Spent;
+
+impl Source for Spent {
+    ghost use Rattle.std.specs.Prelude.{Some, [], ◌^◌, ◌-◌};
+
+    ghost remaining = { λ _. Some [] };
+
+    ghost failures = { λ _. 2 ^ 64 - 1 };
+
+    fn take(&mut self, _into: &mut [u8]) -> Result<usize, DeviceFault> {
+        Err(DeviceFault)
+    }
+
+    fn failures(&self) -> u64 {
+        u64::MAX
+    }
+}
+
+impl Sink for Spent {
+    ghost use Rattle.std.specs.Prelude.{Some, [], ◌^◌, ◌-◌};
+
+    ghost taken = { λ _. Some [] };
+
+    ghost failures = { λ _. 2 ^ 64 - 1 };
+
+    fn put(&mut self, _piece: &[u8]) -> Result<usize, DeviceFault> {
+        Err(DeviceFault)
+    }
+
+    fn failures(&self) -> u64 {
+        u64::MAX
+    }
+}
+
+#[test]
+fn a_count_at_its_greatest_fails(rt: HostRuntime) -> Result<(), Fail> {
+    let alloc = rt.alloc();
+    for form in [Form::Binary1, Form::OpenStep] {
+        let mut sink = ListSink::new(alloc, 100, 7)?;
+        let sent = convert(alloc, &mut Spent, &mut sink, form);
+        assert_eq!(rt; sent, Err(Fault::ReadFailed));
+        assert_eq!(rt; sink.taken().len(), 0);
+        let mut source = ListSource::new(TABLE, 3, None);
+        let sent = convert(alloc, &mut source, &mut Spent, form);
+        assert_eq!(rt; sent, Err(Fault::WriteFailed { sent: 0 }));
+    }
+    Ok(())
+}
+
+/// A sink in memory that notes the longest piece that it was handed.
+#[derive(Drop)]
+struct Noting {
+    sink: ListSink,
+    longest: usize,
+}
+
+impl Sink for Noting {
+    ghost use Rattle.std.specs.Prelude.{None};
+
+    ghost taken = { λ _. None };
+
+    ghost failures = { λ noting. ListSink.failures noting.sink };
+
+    fn put(&mut self, piece: &[u8]) -> Result<usize, DeviceFault> {
+        self.longest = self.longest.max(piece.len());
+        self.sink.put(piece)
+    }
+
+    fn failures(&self) -> u64 {
+        self.sink.failures()
+    }
+}
+
+// The list of the texts 00000 to 59999, as a text.
+fn many_texts(alloc: Global) -> Result<Vec<u8>, AllocError> {
+    let mut text = Vec::from_slice(alloc, b"(")?;
+    for number in 0..60_000u32 {
+        let digits = [10_000, 1000, 100, 10, 1];
+        for power in digits {
+            text.push(b'0' + (number / power % 10) as u8)?;
+        }
+        text.push(b',')?;
+    }
+    text.push(b')')?;
+    Ok(text)
+}
+
+#[test]
+fn no_piece_is_longer_than_the_longest_object(rt: HostRuntime) -> Result<(), Fail> {
+    let alloc = rt.alloc();
+    // The file of a text, and that of the file.
+    let mut input = many_texts(alloc)?;
+    for _ in 0..2 {
+        let sink = ListSink::new(alloc, 720_048, 720_048)?;
+        let mut sink = Noting { sink, longest: 0 };
+        let mut source = ListSource::new(input.as_slice(), 4096, None);
+        let sent = convert(alloc, &mut source, &mut sink, Form::Binary1);
+        assert_eq!(rt; sent, Ok(720_048));
+        assert_eq!(rt; sink.longest, 120_004);
+        assert_eq!(rt; sink.sink.taken().len(), 720_048);
+        input = Vec::from_slice(alloc, sink.sink.taken())?;
+    }
+    Ok(())
+}
+
+// Also where memory is refused from outside, at any of the growths.
+#[test]
+fn what_went_out_is_a_front_of_the_output(rt: HostRuntime) -> Result<(), Fail> {
+    let alloc = rt.alloc();
+    let own = table_file(alloc)?;
+    let rows = [
+        (TABLE, Form::Binary1, own.as_slice()),
+        (own.as_slice(), Form::Binary1, own.as_slice()),
+        (TABLE, Form::OpenStep, TABLE_TEXT),
+    ];
+    for (octets, form, whole) in rows {
+        let mut sink = ListSink::new(alloc, 100, 7)?;
+        let mut source = ListSource::new(octets, 3, None);
+        let sent = match convert(alloc, &mut source, &mut sink, form) {
+            Ok(sent) => {
+                assert_eq!(rt; sent, whole.len() as u64);
+                sent
+            }
+            Err(Fault::OutOfMemory { sent }) => sent,
+            Err(fault) => {
+                assert_eq!(rt; fault.code(), 60);
+                0
+            }
+        };
+        assert_eq!(rt; Some(sink.taken()), whole.get(..sent as usize));
+    }
+    Ok(())
+}

@@ -1,0 +1,56 @@
+-- How a property list goes from a source to a sink.
+use Rattle.std.specs.Prelude.{◌≡◌, ◌⊎◌, ℕ, ◌≤◌, List, length, Option, Result, Err, Ok, IfSome}
+use Rattle.std.specs.Io.KnownBytes.{IsAtEnd}
+use Rattle.plist_write.specs.Sending.{IsWritten}
+use Rattle.plist_write.specs.declared.sending.WriteFault.{WriteFault}
+use Rattle.plist_files.specs.Fault.{write_fault_for}
+use Rattle.plist_files.specs.Load.{IsLoadFault}
+use Rattle.plist_files.specs.declared.faults.Fault.{Fault}
+use Rattle.plist_files.specs.declared.faults.Fault.TheVariants.{OutOfMemory, WriteFailed}
+use Rattle.plist_files.specs.declared.forms.Form.{Form}
+use Rattle.plist_files.specs.declared.loading.TheConstants.{MAX_INPUT}
+use Rattle.plist_transfer.specs.Output.{IsOutput, IsOutputFault}
+
+-- the refusals that come before the first put, but for a want of memory
+abbrev pub IsBeforePut : Fault → Type 0
+IsBeforePut (WriteFailed sent) = ⊥
+IsBeforePut (OutOfMemory sent) = ⊥
+IsBeforePut _ = Unit {0}
+
+-- what a call answers that sent something
+abbrev pub answer_of : Result ℕ WriteFault → Result ℕ Fault
+answer_of (Ok sent) = Ok sent
+answer_of (Err fault) = Err (write_fault_for fault)
+
+-- The call is refused for this cause before anything went out, and the sink did not fail.
+pub record IsUnsent (Cause : Fault → Type 0) (old new : Option (List ℕ)) (before after : ℕ) (result : Result ℕ Fault) : Type 0 where
+  pub fault : Fault
+  pub is : result ≡ Err fault
+  pub cause : Cause fault
+  pub nothing : new ≡ old
+  pub unfailed : after ≡ before
+
+-- The output for the octets goes out: all of it, or exactly a front, where the sink failed or memory was wanting.
+pub record IsSent (form : Form) (octets : List ℕ) (old new : Option (List ℕ)) (before after : ℕ) (result : Result ℕ Fault) : Type 0 where
+  pub output : List ℕ
+  pub of : IsOutput form octets output
+  pub sent : Result ℕ WriteFault
+  pub is : result ≡ answer_of sent
+  pub written : IsWritten output old new before after sent
+
+-- what is done for octets that were loaded
+abbrev pub Writes : Form → List ℕ → Option (List ℕ) → Option (List ℕ) → ℕ → ℕ → Result ℕ Fault → Type 0
+Writes form octets old new before after result =
+    IsUnsent (IsOutputFault form octets) old new before after result ⊎ IsSent form octets old new before after result
+
+-- The octets are all that the source was to give, and not too many.
+pub record IsInput (to_come rest : Option (List ℕ)) (octets : List ℕ) : Type 0 where
+  pub whole : IfSome to_come (λ all. octets ≡ all)
+  pub end : IsAtEnd rest
+  pub within : length octets ≤ MAX_INPUT
+
+-- The source was not loaded, and nothing went out; or it was, and for its octets is done what has to be.
+abbrev pub IsTransfer : Form → Option (List ℕ) → Option (List ℕ) → Option (List ℕ) → Option (List ℕ) → ℕ → ℕ → Result ℕ Fault → Type 0
+IsTransfer form to_come rest old new before after result =
+    IsUnsent IsLoadFault old new before after result
+    ⊎ ((octets : List ℕ) × IsInput to_come rest octets × Writes form octets old new before after result)

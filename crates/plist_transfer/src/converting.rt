@@ -1,0 +1,108 @@
+//! The conversion of a property list, from a source to a sink.
+ghost use Rattle.std.specs.Prelude.{◌≡◌, ◌<◌, ◌↔◌, true, length, IfErr, IfOk, OnOk, IsErrOf};
+ghost use Rattle.plist_value.specs.Plist.{Plist};
+ghost use Rattle.plist_object.specs.Spelled.{IsBinary};
+ghost use Rattle.plist_object.specs.Views.{octets_of};
+ghost use Rattle.plist_devices.specs.Count.{HasFailed, one_more};
+ghost use Rattle.plist_files.specs.Accepted.{begins_as_binary as begins};
+ghost use Rattle.plist_files.specs.Load.{Takes};
+ghost use Rattle.plist_files.specs.Refusals.{IsRefused};
+ghost use Rattle.plist_transfer.specs.Transfer.{IsBeforePut, IsTransfer, Writes};
+
+use crate::sending::send;
+use crate::texts::{text_of, value_of};
+use plist_binary::BinaryFault;
+use plist_devices::{Sink, Source};
+use plist_engine::write_canonical_of;
+use plist_files::{Fault, Form, MAX_INPUT, begins_as_binary, judge_any, load};
+use plist_object::BinFile;
+use plist_write::write_canonical;
+use std::alloc::Global;
+
+/// Loads a property list from the source, in either form, and sends its value to the sink: as the canonical
+/// file, or as the OpenStep text. Answers how many octets were sent.
+///
+/// All of the source is loaded and read, and it is sure that the value can be written, before the first put.
+/// A text that was loaded is given up before that; a binary file whose canonical file is asked for stays in
+/// memory, since it is sent from there.
+///
+/// # Errors
+///
+/// In this order: `ReadFailed` (50) where the source fails, or `InputTooLarge` (52) past [`MAX_INPUT`]
+/// octets; those of [`read_any`](plist_files::read_any); `NotInOpenStep` (40) where the value has no text;
+/// `WriteFailed` (51) where the sink fails. Want of memory (60) may come before any of them. After 51 and 60
+/// exactly the first `sent` octets of the output went out, and after any other the sink is untouched. The
+/// octets that were taken are gone from the source.
+pub fn convert<S: Source, W: Sink>(
+    alloc: Global,
+    from: &mut S,
+    to: &mut W,
+    form: Form,
+) -> Result<u64, Fault>
+    ensures transfer { IsTransfer form (S.remaining from.old) (S.remaining from.new)
+        (W.taken to.old) (W.taken to.new) (W.failures to.old) (W.failures to.new) result }
+    ensures untouched { IfErr result (λ fault. IsBeforePut fault → to.new ≡ to.old) }
+
+    // The source fails in this call exactly where that is answered; then it fails once, and else never.
+    ensures failed { IsErrOf result Fault.ReadFailed
+        ↔ HasFailed (S.failures from.old) (S.failures from.new) }
+    ensures at_once { IsErrOf result Fault.ReadFailed
+        → S.failures from.new ≡ one_more (S.failures from.old) }
+    ensures kept { ¬ IsErrOf result Fault.ReadFailed
+        → S.failures from.new ≡ S.failures from.old }
+
+    ensures too_large { Takes (S.remaining from.old) (S.remaining from.new)
+        (λ taken. IsErrOf result Fault.InputTooLarge ↔ (MAX_INPUT < length taken)) }
+{
+    let octets = load(alloc, from)?;
+    match form {
+        Form::Binary1 => write_binary1(alloc, octets, to),
+        Form::OpenStep => write_openstep(alloc, octets, to),
+    }
+}
+
+// The canonical file of what the octets spell. They are given up where they are a text.
+fn write_binary1<W: Sink>(alloc: Global, octets: Vec<u8>, to: &mut W) -> Result<u64, Fault>
+    ensures writes { Writes Form.Binary1 octets.items (W.taken to.old) (W.taken to.new)
+        (W.failures to.old) (W.failures to.new) result }
+    ensures untouched { IfErr result (λ fault. IsBeforePut fault → to.new ≡ to.old) }
+{
+    if begins_as_binary(octets.as_slice()) {
+        return write_file(alloc, octets.as_slice(), to);
+    }
+    let value = value_of(alloc, octets)?;
+    Ok(write_canonical(alloc, &value, to)?)
+}
+
+// The canonical file of what a binary file spells.
+fn write_file<W: Sink>(alloc: Global, octets: &[u8], to: &mut W) -> Result<u64, Fault>
+    requires { begins octets.now ≡ true }
+    ensures writes { Writes Form.Binary1 octets.now (W.taken to.old) (W.taken to.new)
+        (W.failures to.old) (W.failures to.new) result }
+    ensures untouched { IfErr result (λ fault. IsBeforePut fault → to.new ≡ to.old) }
+{
+    let file = judged(alloc, octets)?;
+    Ok(write_canonical_of(alloc, &file, to)?)
+}
+
+// A binary file of a value within the limits.
+fn judged<'a>(alloc: Global, octets: &'a [u8]) -> Result<BinFile<'a>, Fault>
+    requires { begins octets.now ≡ true }
+    ensures octets { IfOk result (λ file. octets_of file ≡ octets.entry.now) }
+    ensures binary { OnOk result ((v : Plist) × IsBinary octets.entry.now v) }
+    ensures refused { IfErr result (IsRefused octets.entry.now) }
+{
+    let file = BinFile::of(octets).map_err(BinaryFault::from)?;
+    judge_any(alloc, octets)?;
+    Ok(file)
+}
+
+// The OpenStep text of what the octets spell.
+fn write_openstep<W: Sink>(alloc: Global, octets: Vec<u8>, to: &mut W) -> Result<u64, Fault>
+    ensures writes { Writes Form.OpenStep octets.items (W.taken to.old) (W.taken to.new)
+        (W.failures to.old) (W.failures to.new) result }
+    ensures untouched { IfErr result (λ fault. IsBeforePut fault → to.new ≡ to.old) }
+{
+    let text = text_of(alloc, octets)?;
+    Ok(send(text.as_slice(), to)?)
+}

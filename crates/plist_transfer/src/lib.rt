@@ -1,0 +1,9 @@
+//! From a source to a sink: a property list is loaded and read whole, and then its value goes out in one of
+//! the forms.
+#![tactic(auto)]
+
+mod converting;
+mod sending;
+mod texts;
+
+pub use converting::convert;

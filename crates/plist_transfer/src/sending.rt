@@ -1,0 +1,20 @@
+//! Octets in memory, to a sink.
+ghost use Rattle.plist_write.specs.Sending.{IsWritten};
+
+use plist_devices::Sink;
+use plist_write::WriteFault;
+
+/// Sends all of the octets, in as many puts as the sink asks for, and answers how many they are.
+pub(crate) fn send<W: Sink>(octets: &[u8], to: &mut W) -> Result<u64, WriteFault>
+    ensures { IsWritten octets.now (W.taken to.old) (W.taken to.new)
+        (W.failures to.old) (W.failures to.new) result }
+{
+    let mut sent = 0;
+    while sent < octets.len() {
+        match to.put(&octets[sent..]) {
+            Ok(taken) => sent += taken,
+            Err(_) => return Err(WriteFault::WriteFailed { sent: sent as u64 }),
+        }
+    }
+    Ok(sent as u64)
+}
