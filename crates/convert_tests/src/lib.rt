@@ -8,6 +8,8 @@ mod check_tests;
 #[cfg(test)]
 mod container_tests;
 #[cfg(test)]
+mod help_tests;
+#[cfg(test)]
 mod size_tests;
 #[cfg(test)]
 mod tests;
