@@ -1,6 +1,7 @@
 # plistconv: `make` builds ./plistconv, `make test` is the gate, `make install PREFIX=..` installs.
 # Besides the gate: `make edits [CRATE=NAME]`, `make fuzz [SECONDS=60] [SEED=1]`, `make recipes`,
-# `make hostile` (what refusals and large files cost), `make growths` (each allocation refused in turn).
+# `make hostile` (what refusals and large files cost), `make growths` (each allocation refused in turn),
+# `make words` (words that are not UTF-8).
 PREFIX ?= /usr/local
 SECONDS ?= 60
 SEED ?= 1
@@ -11,7 +12,7 @@ plistconv: $(SOURCES)
 	cd crates/plistconv && rt run -- --version
 	cp crates/plistconv/out/plistconv $@
 
-.PHONY: test edits fuzz recipes hostile growths install clean
+.PHONY: test edits fuzz recipes words hostile growths install clean
 
 test:
 	rt ci
@@ -24,6 +25,9 @@ fuzz: plistconv
 
 recipes: plistconv
 	PLISTCONV=./plistconv recipes/test
+
+words: plistconv
+	PLISTCONV=./plistconv scripts/words.sh
 
 hostile: plistconv
 	python3 bench/hostile.py ./plistconv

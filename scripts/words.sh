@@ -1,0 +1,33 @@
+#!/bin/sh
+# Tries words that are not UTF-8, which no test of a crate can hand over: PLISTCONV=./plistconv scripts/words.sh
+# Each ends with status 3 and one line, and touches no file; standard input and output reach such files.
+set -eu
+PLISTCONV=$(realpath "${PLISTCONV:-plistconv}")
+work=$(mktemp -d) && trap 'rm -rf "$work"' EXIT
+cd "$work"
+named=$(printf 'caf\351.plist')
+printf '{b=a;a=b;}' > "$named"
+cp "$named" plain.plist
+
+refused() { # WORD..
+    status=0
+    printed=$("$PLISTCONV" "$@") || status=$?
+    [ "$status" = 3 ] || { echo "status $status in place of 3: $*" >&2; exit 1; }
+    [ "$printed" = 'error: a word is not UTF-8' ] || { echo "printed '$printed': $*" >&2; exit 1; }
+}
+refused "$named"
+refused lint "$named"
+refused check "$named"
+refused same plain.plist "$named"
+refused same "$named" plain.plist
+refused convert binary1 "$named" made
+refused convert binary1 plain.plist "$named"
+refused convert openstep "$named" "$named"
+refused "$(printf 'l\355nt')" plain.plist
+cmp plain.plist "$named"
+[ ! -e made ] || { echo "a file was made" >&2; exit 1; }
+
+"$PLISTCONV" < "$named" > made
+"$PLISTCONV" check made > /dev/null
+"$PLISTCONV" same made plain.plist > /dev/null
+echo "words: all as expected"
