@@ -1,7 +1,7 @@
 # plistconv: `make` builds ./plistconv, `make test` is the gate, `make install PREFIX=..` installs.
 # Besides the gate: `make edits [CRATE=NAME]`, `make fuzz [SECONDS=60] [SEED=1]`, `make recipes`,
-# `make hostile` (what refusals and large files cost), `make growths` (each allocation refused in turn),
-# `make words` (words that are not UTF-8).
+# `make lib` (the C library) and `make install-lib`, `make hostile` (what refusals and large files cost),
+# `make growths` (each allocation refused in turn), `make words` (words that are not UTF-8).
 PREFIX ?= /usr/local
 SECONDS ?= 60
 SEED ?= 1
@@ -47,5 +47,7 @@ install: plistconv
 	install -m 644 completions/plistconv.fish $(DESTDIR)$(PREFIX)/share/fish/vendor_completions.d/plistconv.fish
 
 clean:
-	rm -f plistconv
+	rm -f plistconv libplistconv.a libplistconv.so
 	rm -rf crates/*/out
+
+include lib.mk

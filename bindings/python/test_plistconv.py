@@ -1,0 +1,152 @@
+"""Runs plistconv beside plistlib: python3 bindings/python/test_plistconv.py"""
+import datetime
+import plistlib
+import random
+import sys
+import threading
+
+import plistconv
+
+VALUES = [
+    {}, [], "", "text", "héé 🙂", b"", b"\x00\xff" * 9, True, False, 0, -1, 2**63 - 1, -2**63, 1.5, -0.0,
+    datetime.datetime(2026, 1, 2, 3, 4, 5), ["a", "a", ["a"]], {"b": 1, "a": [True, {"c": b"x"}]},
+    {f"key{k}": list(range(k)) for k in range(20)}, ["x" * 300, list(range(-20, 300))],
+]
+
+
+def refused(call, *arguments):
+    try:
+        call(*arguments)
+    except plistconv.Refused as refusal:
+        return (refusal.number, refusal.unit, refusal.place, refusal.input)
+    return None
+
+
+def test_values():
+    files = []
+    for value in VALUES:
+        ours = plistconv.canonical(plistlib.dumps(value, fmt=plistlib.FMT_BINARY))
+        assert plistlib.loads(ours) == value, value
+        assert plistconv.canonical(ours) == ours, value
+        assert plistconv.check(ours).canonical, value
+        files.append(ours)
+    for i, first in enumerate(files):
+        for j, second in enumerate(files):
+            assert plistconv.same(first, second) == (i == j), (i, j)
+
+
+def test_order_of_keys():
+    keys = [f"k{n}" for n in range(50)]
+    dumps = lambda order: plistlib.dumps({k: k for k in order}, fmt=plistlib.FMT_BINARY, sort_keys=False)
+    first = dumps(keys)
+    random.Random(1).shuffle(keys)
+    second = dumps(keys)
+    assert first != second and plistconv.same(first, second)
+    assert plistconv.canonical(first) == plistconv.canonical(second)
+    assert not plistconv.check(second).canonical
+
+
+def test_texts():
+    octets = b'{ b = (x, "y"); a = <00ff>; }'
+    assert plistlib.loads(plistconv.canonical(octets)) == {"a": b"\x00\xff", "b": ["x", "y"]}
+    assert plistconv.same(octets, plistlib.dumps({"a": b"\x00\xff", "b": ["x", "y"]}, fmt=plistlib.FMT_BINARY))
+
+
+def test_openstep():
+    octets = plistlib.dumps({"b": ["x", "y z"], "a": b"\x00\xff"}, fmt=plistlib.FMT_BINARY)
+    text = plistconv.text(octets)
+    assert plistconv.text(text) == text and plistconv.same(octets, text)
+    assert refused(plistconv.text, plistlib.dumps([1], fmt=plistlib.FMT_BINARY)) == (40, None, None, 1)
+
+
+def test_refusals():
+    assert refused(plistconv.canonical, b"bplist00") == (1, None, None, 1)
+    assert refused(plistconv.check, b"") == (1, None, None, 1)
+    assert refused(plistconv.canonical, b'("a') == (24, "octet", 1, 1)
+    assert refused(plistconv.same, b"(a)", b"{a=1;a=2;}") == (14, "octet", 5, 2)
+    assert refused(plistconv.same, b"(", b"(") [3] == 1
+    uid = plistlib.dumps([plistlib.UID(1)], fmt=plistlib.FMT_BINARY)
+    assert refused(plistconv.canonical, uid) == (9, "object", 1, 1)
+
+
+def test_lines():
+    for octets, line in [
+        (b'("a', b"a b.plist: refused 24 UnclosedString at octet 1"),
+        (b"{a=1;a=2;}", b"a b.plist: refused 14 DuplicateKey at octet 5"),
+        (b"bplist00", b"a b.plist: refused 1 TooShort"),
+        (plistlib.dumps([plistlib.UID(1)], fmt=plistlib.FMT_BINARY), b"a b.plist: refused 9 UidObject at object 1"),
+    ]:
+        try:
+            plistconv.canonical(octets)
+        except plistconv.Refused as refusal:
+            assert refusal.line("a b.plist") == line, refusal.line("a b.plist")
+            assert str(refusal) == line.decode()[len("a b.plist: "):], str(refusal)
+            # A path in any octets, and one that is longer than the buffer at first.
+            for path in [b"\xff\xfe", b"p" * 1000]:
+                assert refusal.line(path) == path + line[len(b"a b.plist"):]
+        else:
+            assert False, octets
+
+
+def test_corpus_of_plistlib():
+    """The files that the tests of plistlib hold: where both take one, they read the same of it."""
+    try:
+        from test import test_plistlib as corpus
+    except ImportError:
+        print("python: the corpus of plistlib skipped, there is no test.test_plistlib (Debian: libpython3-testsuite)")
+        return
+    octets = corpus.TESTDATA[plistlib.FMT_BINARY]
+    ours = plistconv.canonical(octets)
+    assert plistlib.loads(ours) == plistlib.loads(octets)
+    assert plistconv.check(ours).canonical and plistconv.same(ours, octets)
+    assert refused(plistconv.canonical, corpus.TESTDATA["KEYED_ARCHIVE"])[0] == 9
+    assert refused(plistconv.canonical, corpus.TESTDATA[plistlib.FMT_XML])[0] == 21
+    # What plistlib refuses is refused, but that here a text is any UTF-16 units, and a date any 8 octets.
+    for name, octets in corpus.INVALID_BINARY_PLISTS:
+        is_taken = refused(plistconv.canonical, b"bplist00" + octets) is None
+        assert is_taken == (name == "invalid UTF-16" or "datetime" in name), name
+
+
+def test_depth():
+    """A value of the greatest depth, 512, in a thread with 1 MiB of stack."""
+    deep = b"(" * 511 + b"a" + b")" * 511
+    seen = []
+
+    def work():
+        file = plistconv.canonical(deep)
+        seen.append(plistconv.check(file).canonical and plistconv.same(deep, file))
+        seen.append(plistconv.same(deep, plistconv.text(file)))
+        seen.append(refused(plistconv.canonical, b"(" + deep + b")")[0] == 16)
+
+    before = threading.stack_size(1 << 20)
+    thread = threading.Thread(target=work)
+    thread.start()
+    thread.join()
+    threading.stack_size(before)
+    assert seen == [True] * 3, seen
+
+
+def test_threads():
+    octets = [plistlib.dumps(value, fmt=plistlib.FMT_BINARY) for value in VALUES]
+    wanted = [plistconv.canonical(each) for each in octets]
+    wrong = []
+
+    def work():
+        for _ in range(20):
+            if [plistconv.canonical(each) for each in octets] != wanted:
+                wrong.append(1)
+
+    threads = [threading.Thread(target=work) for _ in range(4)]
+    for thread in threads:
+        thread.start()
+    for thread in threads:
+        thread.join()
+    assert not wrong
+
+
+if __name__ == "__main__":
+    tests = [(name, test) for name, test in sorted(globals().items()) if name.startswith("test_")]
+    for name, test in tests:
+        test()
+    print(f"python: {len(tests)} tests passed")
+    sys.exit(0)

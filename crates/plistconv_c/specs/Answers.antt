@@ -1,0 +1,83 @@
+-- What each call of the library answers.
+use Rattle.std.specs.Prelude.{◌≡◌, ℕ, List, Bool, true, false}
+use Rattle.plist_value.specs.Plist.{Plist}
+use Rattle.plist_object.specs.Layout.{IsLaid}
+use Rattle.plist_canon.specs.Checking.{IsCheckFault, IsVerdict}
+use Rattle.plist_canon.specs.Locality.{IsCanonical}
+use Rattle.plist_canon.specs.declared.checking.CheckFault.{CheckFault}
+use Rattle.plist_canon.specs.declared.checking.Verdict.{Verdict}
+use Rattle.plist_canon.specs.declared.checking.Verdict.TheVariants.{Canonical, Broken}
+use Rattle.plist_files.specs.Accepted.{IsAccepted, IsCanonicalOf}
+use Rattle.plist_files.specs.Fault.{check_fault_for}
+use Rattle.plist_files.specs.Pair.{IsPair}
+use Rattle.plist_files.specs.Refusals.{IsRefused}
+use Rattle.plist_files.specs.declared.faults.Fault.{Fault}
+use Rattle.plistconv_c.specs.Given.{IsGiven}
+use Rattle.plistconv_c.specs.Refusals.{no_refusal, refusal_of}
+use Rattle.plistconv_c.specs.declared.checking.Finding.{Finding}
+use Rattle.plistconv_c.specs.declared.refusals.Refusal.{Refusal}
+
+-- the canonical file of the value that the octets spell is given in the buffer
+pub record IsCanonicalGiven (octets before after : List ℕ) (count : ℕ) (told : Refusal) : Type 0 where
+  pub file : List ℕ
+  pub canonical : IsCanonicalOf octets file
+  pub given : IsGiven file before after count
+  pub none : told ≡ no_refusal
+
+-- the octets are refused, the refusal is told by its number and its place, and the buffer is as it was
+pub record IsRefusedWhole (octets before after : List ℕ) (count : ℕ) (told : Refusal) (number : ℕ) : Type 0 where
+  pub fault : Fault
+  pub refused : IsRefused octets fault
+  pub told_so : told ≡ refusal_of fault 1
+  pub number_told : number ≡ told.number
+  pub kept : after ≡ before
+  pub nothing : count ≡ 0
+
+-- 1 for yes, 0 for no
+abbrev pub number_of : Bool → ℕ
+number_of true = 1
+number_of false = 0
+
+-- both are accepted, and the answer is whether they spell equal values
+pub record IsCompared (first second : List ℕ) (equal : ℕ) (told : Refusal) : Type 0 where
+  pub same : Bool
+  pub pair : IsPair first second same
+  pub answer : equal ≡ number_of same
+  pub none : told ≡ no_refusal
+
+-- the input that is refused, and its fault; the second only where the first is accepted
+pub data RefusedInput (first second : List ℕ) (fault : Fault) (input : ℕ) : Type 0 where
+  first_refused : IsRefused first fault → input ≡ 1 → RefusedInput first second fault input
+  second_refused : (v : Plist) → IsAccepted first v → IsRefused second fault → input ≡ 2 → RefusedInput first second fault input
+
+-- one of the two is refused, and the refusal is told
+pub record IsRefusedPair (first second : List ℕ) (equal : ℕ) (told : Refusal) (number : ℕ) : Type 0 where
+  pub fault : Fault
+  pub input : ℕ
+  pub refused : RefusedInput first second fault input
+  pub told_so : told ≡ refusal_of fault input
+  pub number_told : number ≡ told.number
+  pub nothing : equal ≡ 0
+
+-- what is found, in numbers
+abbrev pub finding_of : Verdict → Finding
+finding_of Canonical = record { object = 0; canonical = 1; rule = 0 }
+finding_of (Broken rule object) = record { object = object; canonical = 0; rule = rule }
+
+-- the octets have the layout, and what is found of them is told
+pub record IsChecked (octets : List ℕ) (finding : Finding) (told : Refusal) : Type 0 where
+  pub laid : IsLaid octets
+  pub verdict : Verdict
+  pub found : IsVerdict octets verdict
+  pub finding_told : finding ≡ finding_of verdict
+  pub canonical : finding.canonical ≡ 1 → IsCanonical octets
+  pub other : finding.canonical ≡ 0 → ¬ IsCanonical octets
+  pub none : told ≡ no_refusal
+
+-- the octets do not have the layout, or memory was wanted, and the refusal is told
+pub record IsUnchecked (octets : List ℕ) (finding : Finding) (told : Refusal) (number : ℕ) : Type 0 where
+  pub fault : CheckFault
+  pub stands : IsCheckFault octets fault
+  pub told_so : told ≡ refusal_of (check_fault_for fault) 1
+  pub number_told : number ≡ told.number
+  pub nothing : finding ≡ record { object = 0; canonical = 0; rule = 0 }

@@ -1,0 +1,32 @@
+-- What the call for a text answers.
+use Rattle.std.specs.Prelude.{◌≡◌, ℕ, List, Some, None}
+use Rattle.plist_value.specs.Plist.{Plist}
+use Rattle.ostep_form.specs.Written.{text_of}
+use Rattle.plist_files.specs.Accepted.{IsAccepted}
+use Rattle.plist_files.specs.Refusals.{IsRefused}
+use Rattle.plist_files.specs.declared.faults.Fault.{Fault}
+use Rattle.plist_files.specs.declared.faults.Fault.TheVariants.{NotInOpenStep}
+use Rattle.plistconv_c.specs.Given.{IsGiven}
+use Rattle.plistconv_c.specs.Refusals.{no_refusal, refusal_of}
+use Rattle.plistconv_c.specs.declared.refusals.Refusal.{Refusal}
+
+-- the text of the value that the octets spell is given in the buffer
+pub record IsTextGiven (octets before after : List ℕ) (count : ℕ) (told : Refusal) : Type 0 where
+  pub value : Plist
+  pub text : List ℕ
+  pub accepted : IsAccepted octets value
+  pub written : text_of value ≡ Some text
+  pub given : IsGiven text before after count
+  pub none : told ≡ no_refusal
+
+-- the octets are refused, or they spell a value that has no text
+pub data IsUnwritten (octets : List ℕ) (told : Refusal) : Type 0 where
+  unread : (fault : Fault) → IsRefused octets fault → told ≡ refusal_of fault 1 → IsUnwritten octets told
+  no_text : (v : Plist) → IsAccepted octets v → text_of v ≡ None → told ≡ refusal_of NotInOpenStep 1 → IsUnwritten octets told
+
+-- the refusal is told by its number and its place, and the buffer is as it was
+pub record IsTextRefused (octets before after : List ℕ) (count : ℕ) (told : Refusal) (number : ℕ) : Type 0 where
+  pub reason : IsUnwritten octets told
+  pub number_told : number ≡ told.number
+  pub kept : after ≡ before
+  pub nothing : count ≡ 0

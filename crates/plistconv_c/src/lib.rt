@@ -1,0 +1,19 @@
+//! The C library: what `plist_files` offers, over buffers of the caller.
+//!
+//! Each call answers 0, or the number of the refusal, which it also tells in a [`Refusal`]. Calls share
+//! nothing. `include/plistconv.h` says the same in C.
+#![tactic(auto)]
+
+mod checking;
+mod faults;
+mod files;
+mod giving;
+mod lines;
+mod refusals;
+mod texts;
+
+pub use checking::{Finding, plistconv_check};
+pub use files::{plistconv_canonical, plistconv_same};
+pub use lines::plistconv_line;
+pub use refusals::Refusal;
+pub use texts::plistconv_text;

@@ -1,0 +1,55 @@
+//! The printed line of a refusal.
+ghost use Rattle.std.specs.Prelude.{◌≡◌, ◌≢◌, IfOk};
+ghost use Rattle.plist_files.specs.Line.{line_of};
+ghost use Rattle.plistconv_c.specs.Lines.{IsLineGiven, IsNoLine};
+
+use crate::Refusal;
+use crate::faults::fault_of;
+use crate::giving::give;
+use plist_files::{Fault, line};
+use std::alloc::{AllocError, Global};
+
+/// The printed line of a refusal that a call told, without a line end, at the head of the buffer:
+/// `PATH: refused 14 DuplicateKey at octet 9`. The path stands in it as it is given, in whatever octets.
+/// Where the buffer has no room for the line, the buffer is as it was, and `length` is what is needed.
+///
+/// # Errors
+///
+/// 60 where no memory was left, and 255 where no call tells such a refusal; the buffer is as it was, and
+/// `length` is 0.
+#[unsafe(no_mangle)]
+pub extern "C" fn plistconv_line(
+    alloc: Global,
+    path: &[u8],
+    refusal: &Refusal,
+    into: &mut [u8],
+    length: &mut usize,
+) -> u8
+    ensures given { result ≡ 0
+        → IsLineGiven path.now into.old into.new length.new refusal.now }
+    ensures refused { result ≢ 0
+        → IsNoLine into.old into.new length.new refusal.now result }
+{
+    *length = 0;
+    let Some(fault) = fault_of(refusal) else {
+        return 255;
+    };
+    match line_at(alloc, path, &fault) {
+        Ok(text) => {
+            give(&text, into, length);
+            0
+        }
+        Err(AllocError) => 60,
+    }
+}
+
+// The line of the fault, behind a path in whatever octets.
+fn line_at(alloc: Global, path: &[u8], fault: &Fault) -> Result<Vec<u8>, AllocError>
+    ensures { IfOk result (λ text. text.items ≡ line_of path.now fault.now) }
+{
+    let behind = line(alloc, "", fault)?;
+    let mut text = Vec::new(alloc);
+    text.extend_from_slice(path)?;
+    text.extend_from_slice(behind.as_bytes())?;
+    Ok(text)
+}

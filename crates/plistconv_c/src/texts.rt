@@ -1,0 +1,54 @@
+//! The text of a value in OpenStep form.
+ghost use Rattle.std.specs.Prelude.{◌≡◌, ◌≢◌};
+ghost use Rattle.plistconv_c.specs.Texts.{IsTextGiven, IsTextRefused};
+
+use crate::Refusal;
+use crate::giving::give;
+use ostep_write::{TextWriteFault, write_text};
+use plist_files::{Fault, read_any};
+use std::alloc::Global;
+
+/// The OpenStep text of the value that the octets spell, at the head of the buffer. Where the buffer has no
+/// room for it, the buffer is as it was, and `length` is what is needed.
+///
+/// # Errors
+///
+/// The number of the refusal, 40 where the value has no text in this form; the buffer is as it was, and
+/// `length` is 0.
+#[unsafe(no_mangle)]
+pub extern "C" fn plistconv_text(
+    alloc: Global,
+    octets: &[u8],
+    into: &mut [u8],
+    length: &mut usize,
+    refusal: &mut Refusal,
+) -> u8
+    ensures given { result ≡ 0
+        → IsTextGiven octets.now into.old into.new length.new refusal.new }
+    ensures refused { result ≢ 0
+        → IsTextRefused octets.now into.old into.new length.new refusal.new result }
+{
+    *length = 0;
+    let value = match read_any(alloc, octets) {
+        Ok(value) => value,
+        Err(fault) => {
+            *refusal = Refusal::of(&fault, 1);
+            return fault.code();
+        }
+    };
+    match write_text(alloc, &value) {
+        Ok(text) => {
+            give(&text, into, length);
+            *refusal = Refusal::none();
+            0
+        }
+        Err(TextWriteFault::NotInOpenStep) => {
+            *refusal = Refusal::of(&Fault::NotInOpenStep, 1);
+            40
+        }
+        Err(TextWriteFault::OutOfMemory) => {
+            *refusal = Refusal::of(&Fault::OutOfMemory { sent: 0 }, 1);
+            60
+        }
+    }
+}
