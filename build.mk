@@ -1,0 +1,29 @@
+# How the crates are proved: each once those below it are, several side by side (JOBS, one for each processor).
+# A crate that is proved leaves out/NAME.proved, so a `make` that was broken off goes on where it was; within
+# a crate the toolchain does. No test is proved. What it says of a crate stands in out/NAME.log.
+RT ?= rt
+JOBS ?= $(shell nproc)
+ifeq ($(MAKELEVEL),0)
+MAKEFLAGS += --jobs=$(JOBS)
+endif
+CRATES := $(shell sed -n 's/^\([a-z_]*\).*:.*/\1/p' crates.txt)
+# (the crates of this repository that a crate stands on, and its files)
+below = $(filter $(CRATES),$(shell sed -n 's/^$(1)\( staticlib\)*: *//p' crates.txt))
+files = $(shell find $(wildcard $(addprefix crates/$(1)/,src specs proofs)) -type f)
+
+define CRATE
+out/$(1).proved: $(call files,$(1)) $(patsubst %,out/%.proved,$(call below,$(1))) | announce
+	@mkdir -p out
+	@echo "proving $(1)"
+	@cd crates/$(1) && $(RT) lib > ../../out/$(1).log 2>&1 || { cat ../../out/$(1).log >&2; exit 1; }
+	@touch $$@
+endef
+$(foreach name,$(CRATES),$(eval $(call CRATE,$(name))))
+
+.PHONY: announce
+announce:
+	@command -v $(RT) > /dev/null || { echo 'There is no $(RT) on the path: README.md, Set-up, says what it is.' >&2; exit 1; }
+	@mkdir -p out
+	@[ -e out/plist_files.proved ] || printf '%s\n' \
+	  'The toolchain builds only what it has proved. The first build proves every crate below the program:' \
+	  'some 25 processor minutes, on $(JOBS) processors. Broken off, it goes on where it was.'
