@@ -1,5 +1,5 @@
 # plistconv: `make` builds ./plistconv, `make lib` the C library, `make test` is the gate,
-# `make install PREFIX=..` and `make install-lib` install.
+# `make install PREFIX=..` and `make install-lib` install; `make dist` and `make deb` pack both (dist.mk).
 # Besides the gate: `make recipes` and `make examples`, `make edits [CRATE=NAME]`, `make fuzz [SECONDS=60] [SEED=1]`,
 # `make hostile` (what refusals and large files cost), `make growths` (each allocation refused in turn),
 # `make words` (words that are not UTF-8).
@@ -48,6 +48,6 @@ install: plistconv
 	install -D -m 644 completions/plistconv.fish $(SHARE)/fish/vendor_completions.d/plistconv.fish
 
 clean:
-	rm -rf plistconv libplistconv.a libplistconv.so out crates/*/out
+	rm -rf plistconv libplistconv.a libplistconv.so dist out crates/*/out
 
-include lib.mk
+include lib.mk dist.mk

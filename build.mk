@@ -7,9 +7,9 @@ ifeq ($(MAKELEVEL),0)
 MAKEFLAGS += --jobs=$(JOBS)
 endif
 CRATES := $(shell sed -n 's/^\([a-z_]*\).*:.*/\1/p' crates.txt)
-# (the crates of this repository that a crate stands on, and its files)
+# (the crates of this repository that a crate stands on; its files, and the folders, which tell of files that go)
 below = $(filter $(CRATES),$(shell sed -n 's/^$(1)\( staticlib\)*: *//p' crates.txt))
-files = $(shell find $(wildcard $(addprefix crates/$(1)/,src specs proofs)) -type f)
+files = $(shell find $(wildcard $(addprefix crates/$(1)/,src specs proofs)))
 
 define CRATE
 out/$(1).proved: $(call files,$(1)) $(patsubst %,out/%.proved,$(call below,$(1))) | announce
