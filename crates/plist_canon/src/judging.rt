@@ -134,11 +134,7 @@ struct Placed {
 
 // The ranks of the texts that tables name as keys. Where so many of these texts overlap that they cannot be
 // sorted in time, the first object that does not stand where the one before it ends is answered.
-fn rank_keys<'a>(
-    alloc: Global,
-    file: &BinFile<'a>,
-    placed: Placed,
-) -> Result<Ranks<'a>, Flaw>
+fn rank_keys<'a>(alloc: Global, file: &BinFile<'a>, placed: Placed) -> Result<Ranks<'a>, Flaw>
     requires { IfSome placed.flaw (IsFlaw (octets_of file.now)) }
     ensures ok { IfOk result (λ ranks. AreRanks (octets_of file.now) ranks) }
     ensures err { IfErr result (IsFlaw (octets_of file.now)) }
