@@ -2,12 +2,12 @@
 # `make install PREFIX=..` and `make install-lib` install; `make dist` and `make deb` pack both (dist.mk).
 # Besides the gate: `make recipes` and `make examples`, `make edits [CRATE=NAME]`, `make fuzz [SECONDS=60] [SEED=1]`,
 # `make hostile` (what refusals and large files cost), `make growths` (each allocation refused in turn),
-# `make words` (words that are not UTF-8).
+# `make words` (words that are not UTF-8), `make bench` (time and memory beside other programs).
 PREFIX ?= /usr/local
 SECONDS ?= 60
 SEED ?= 1
 
-.PHONY: all test edits fuzz recipes words hostile growths install clean
+.PHONY: all test edits fuzz recipes words bench hostile growths install clean
 all: plistconv
 
 include build.mk
@@ -30,6 +30,9 @@ recipes: plistconv
 
 words: plistconv
 	PLISTCONV=./plistconv scripts/words.sh
+
+bench: plistconv
+	python3 bench/bench.py ./plistconv --plot docs/benchmarks.svg
 
 hostile: plistconv
 	python3 bench/hostile.py ./plistconv

@@ -1,103 +1,195 @@
 #!/usr/bin/env python3
-"""Measures `plistconv convert binary1` beside Python's plistlib, on files that it makes.
+"""Measures `plistconv convert` on binary files and texts beside other programs, in one run.
 
-usage: bench/bench.py [PLISTCONV]   (the program to measure, ./plistconv if not given)
+usage: bench/bench.py [PLISTCONV] [--runs N] [--only NAME,..] [--small] [--plot FILE] [--instructions]
 
-Each file is made at three sizes, so that growth shows. Time is the least of three runs, memory the
-greatest resident size. The peer loads the file and dumps it as a binary property list again.
+The programs take turns, N times (5 if not given), so that other work on the machine counts for all of them.
+Seconds are those of the processor, of the user and the system, the least of these runs; memory is the greatest
+resident size. A peer reads the file and writes it as a binary property list (GNUstep's pl: as a text); what is not
+installed is skipped, with a line that names its Debian package. What each wrote must say what the file says, by
+`plistconv same`, within 60 seconds; a peer of which that is not so is left out with a line. The status is 1 where it
+is not so of ours, or where a target at the end is missed.
 
-The system counts a started program's greatest size from that of the process that starts it. So files are
-made by a process of their own (--make), and this one stays small: its own size is the least that is shown.
+Each file is made at a sixteenth, a quarter and the whole of its size, so that growth shows; with --small the whole
+is left out. --plot writes a picture of time and memory against size. --instructions counts ours by callgrind
+(Debian's valgrind) too, which other work on the machine does not change. Files are made by a process of their own.
 """
+import argparse
 import os
+import subprocess
 import sys
 import tempfile
-import time
 
-NAMES = ("mixed", "texts", "keys", "numbers")
-SCALES = (0.25, 0.5, 1.0)
+import files
+import peers
+import plot
+from measure import HERE, MOST, Measure, instructions
 
-PEER = """
-import plistlib, sys
-with open(sys.argv[1], 'rb') as source: value = plistlib.load(source)
-with open(sys.argv[2], 'wb') as target: plistlib.dump(value, target, fmt=plistlib.FMT_BINARY, sort_keys=True)
-"""
-
-
-def mixed(size, chance):
-    """Records as programs keep them, about `size` octets."""
-    import datetime
-    records = []
-    for number in range(size // 115):
-        records.append({
-            "name": f"record {number}",
-            "size": chance.randrange(1 << 40),
-            "ratio": chance.random(),
-            "made": datetime.datetime(2001, 1, 1) + datetime.timedelta(seconds=chance.randrange(1 << 30)),
-            "digest": chance.randbytes(20),
-            "flags": [chance.random() < 0.5 for _ in range(3)],
-            "title": "Überschrift %d" % chance.randrange(1000),
-        })
-    return records
+OURS, BACK = "plistconv", "plistconv, to a text"
+SCALES = (1 / 16, 1 / 4, 1)
+COPY, CRATE, OPENSTEP = "read and write", "plist (Rust)", "openstep_plist"
 
 
-def make(name, scale, path):
-    """Writes the file of this name and scale."""
-    import plistlib
-    import random
-    if name == "one number":
-        value = 5
-    elif name == "mixed":
-        value = mixed(int(10_000_000 * scale), random.Random(7))
-    elif name == "texts":
-        value = [f"{number:06d}" for number in range(int(60_000 * scale))]
-    elif name == "keys":
-        value = {f"key {number}": number % 7 for number in range(int(200_000 * scale))}
-    else:
-        value = list(range(int(1_000_000 * scale)))
-    with open(path, "wb") as target:
-        plistlib.dump(value, target, fmt=plistlib.FMT_BINARY, sort_keys=False)
+class Files:
+    """The files that are measured, each made when it is first asked for."""
+
+    def __init__(self, folder):
+        self.folder = folder
+
+    def path(self, name, scale, program=None):
+        path = os.path.join(self.folder, f"{name} {scale}")
+        if not os.path.exists(path):
+            script = os.path.join(HERE, "files.py")
+            subprocess.run([sys.executable, script, name, str(scale), path], check=True)
+        return path if program is None else f"{path} {program}"
 
 
-def run(words):
-    """The seconds and the greatest resident size, in MiB, of one run."""
-    begin = time.perf_counter()
-    child = os.spawnvp(os.P_NOWAIT, words[0], words)
-    _, status, usage = os.wait4(child, 0)
-    seconds = time.perf_counter() - begin
-    if status != 0:
-        raise SystemExit(f"{words} ended with {status}")
-    return seconds, usage.ru_maxrss / 1024
+def best(runs):
+    """The least seconds of the processor and the greatest size; None where a run did not end with 0."""
+    if any(run.status != 0 for run in runs):
+        return None
+    return min(run.processor for run in runs), max(run.octets for run in runs)
 
 
-def best(words):
-    runs = [run(words) for _ in range(3)]
-    return min(seconds for seconds, _ in runs), max(memory for _, memory in runs)
+def measured(measure, programs, source, target, count):
+    """The seconds and octets of each program, which take turns."""
+    runs = {name: [] for name in programs}
+    for _ in range(count):
+        for name, words in programs.items():
+            # What takes seconds needs no second run, and what was ended none either.
+            if runs[name] and (runs[name][0].status != 0 or runs[name][0].processor > 5):
+                continue
+            path = target(OURS) if name == BACK else source
+            runs[name].append(measure.run([*words, path, target(name)], subprocess.DEVNULL))
+    return {name: best(found) for name, found in runs.items()}
 
 
-def row(name, scale, program, folder):
-    source = os.path.join(folder, "source")
-    run([sys.executable, os.path.abspath(__file__), "--make", name, str(scale), source])
-    ours = best([program, "convert", "binary1", source, os.path.join(folder, "ours")])
-    peer = best([sys.executable, "-c", PEER, source, os.path.join(folder, "peer")])
-    size = os.path.getsize(source)
-    print(f"| {name}, {scale} | {size:,} | {ours[0]:.3f} | {peer[0]:.3f} | {peer[0] / ours[0]:.1f} "
-          f"| {ours[1]:.0f} | {peer[1]:.0f} | {ours[1] * 1048576 / max(size, 1):.1f} |", flush=True)
+def row(name, scale, octets, figures):
+    """Prints one row for each program."""
+    ours = figures[OURS][0]
+    for program, found in figures.items():
+        if found is not None:
+            print(f"| {name} | {octets:,} | {program} | {found[0]:.3f} | {ours / found[0]:.2f} "
+                  f"| {found[1] / 1e6:.1f} | {found[1] / octets:.1f} |", flush=True)
+
+
+def says_the_same(measure, program, source, written):
+    """Whether what a program wrote says what the source says."""
+    return measure.run([program, "same", source, written]).status == 0
+
+
+def one(measure, program, programs, made, name, scale, count):
+    """Measures one file; the figures, and what is wrong."""
+    source, wrong = made.path(name, scale), []
+    octets = os.path.getsize(source)
+    figures = measured(measure, programs, source, lambda of: made.path(name, scale, of), count)
+    if figures[OURS] is None:
+        raise SystemExit(f"{name}: `{program} convert binary1` does not end with 0.")
+    for other, found in figures.items():
+        if found is None:
+            wrong.append((other, f"{name} at {scale}: {other} does not end with 0 within {MOST} seconds"))
+        elif not says_the_same(measure, program, source, made.path(name, scale, other)):
+            wrong.append((other, f"{name} at {scale}: {other} does not write the same value"))
+            figures[other] = None
+    row(name, scale, octets, figures)
+    for other in figures:
+        if os.path.exists(made.path(name, scale, other)):
+            os.remove(made.path(name, scale, other))
+    return octets, figures, wrong
+
+
+class Targets:
+    """What the figures should be, said beside what they are."""
+
+    def __init__(self, figures):
+        self.figures, self.missed = figures, 0
+
+    def line(self, text, number, most):
+        self.missed += number > most
+        print(f"- {text}: at most {most:g}, measured {number:.2f}: {'met' if number <= most else 'missed'}")
+
+    def time(self, name, peer, most, scale=1):
+        _, found = self.figures.get((name, scale), (0, {}))
+        if found.get(peer):
+            self.line(f"{name}: time of {peer}'s", found[OURS][0] / found[peer][0], most)
+
+    def memory(self, name, most, scale=1):
+        if (name, scale) in self.figures:
+            octets, found = self.figures[name, scale]
+            self.line(f"{name}: memory of the input's", found[OURS][1] / octets, most)
+
+    def growth(self, name):
+        if (name, 1 / 16) in self.figures and (name, 1) in self.figures:
+            small, whole = (self.figures[name, scale][1][OURS][0] for scale in (1 / 16, 1))
+            self.line(f"{name}: time of that of a sixteenth", whole / max(small, 1e-6), 18)
+
+
+def targets(figures):
+    """Prints each target; how many are missed."""
+    said = Targets(figures)
+    for name, time, memory in (("mixed", .12, 3.5), ("keys", .35, 4), ("numbers", .25, 4)):
+        said.time(name, CRATE, time)
+        said.memory(name, memory)
+    said.time("data", COPY, 1.3)
+    said.memory("data", 1.1)
+    for name in files.TEXTS:
+        said.time(name, OPENSTEP, .25)
+        said.memory(name, 16)
+    for name in (*files.BINARY, *files.TEXTS):
+        said.growth(name)
+    return said.missed
+
+
+def read_words():
+    words = argparse.ArgumentParser()
+    words.add_argument("program", nargs="?", default="./plistconv")
+    words.add_argument("--runs", type=int, default=5)
+    words.add_argument("--only", default="", help="names of files, with commas between")
+    words.add_argument("--small", action="store_true")
+    words.add_argument("--plot")
+    words.add_argument("--instructions", action="store_true")
+    return words.parse_args()
 
 
 def main():
-    if sys.argv[1:2] == ["--make"]:
-        make(sys.argv[2], float(sys.argv[3]), sys.argv[4])
-        return
-    program = os.path.abspath(sys.argv[1] if len(sys.argv) > 1 else "./plistconv")
-    print("| file | octets | seconds | peer's seconds | times faster | MiB | peer's MiB | memory / input |")
-    print("|---|---|---|---|---|---|---|---|")
+    words = read_words()
+    program = os.path.abspath(words.program)
+    names = [*files.BINARY, *files.TEXTS]
+    names = [name for name in names if not words.only or name in words.only.split(",")]
+    figures, wrong = {}, []
     with tempfile.TemporaryDirectory() as folder:
-        row("one number", 1.0, program, folder)
-        for scale in SCALES:
-            for name in NAMES:
-                row(name, scale, program, folder)
+        measure, made = Measure(folder), Files(folder)
+        ours = {OURS: [program, "convert", "binary1"]}
+        of_binary = {**ours, **peers.found(peers.OF_BINARY, folder)}
+        of_text = {**ours, **peers.found(peers.OF_TEXT, folder), BACK: [program, "convert", "openstep"]}
+        print("| file | octets | program | seconds | ours / its | MB | memory / input |")
+        print("|---|---|---|---|---|---|---|")
+        for name in names:
+            for scale in SCALES[:2] if words.small else SCALES:
+                programs = of_binary if name in files.BINARY else of_text
+                *found, more = one(measure, program, programs, made, name, scale, words.runs)
+                figures[name, scale], wrong = found, wrong + more
+        if words.instructions:
+            counted(program, made, figures)
+    print()
+    for _, line in wrong:
+        print(line + ".\n")
+    if words.plot:
+        with open(words.plot, "w", encoding="utf-8") as picture:
+            picture.write(plot.picture(figures))
+    missed = targets(figures)
+    return 1 if missed or any(program in (OURS, BACK) for program, _ in wrong) else 0
+
+
+def counted(program, made, figures):
+    """Prints how many instructions ours takes."""
+    print("\n| file | octets | instructions, millions | for each octet |\n|---|---|---|---|")
+    for (name, scale), (octets, _) in figures.items():
+        source = made.path(name, scale)
+        count = instructions([program, "convert", "binary1", source, source + OURS])
+        if count is not None:
+            print(f"| {name} | {octets:,} | {count / 1e6:.1f} | {count / octets:.1f} |", flush=True)
 
 
 if __name__ == "__main__":
-    main()
+    sys.exit(main())

@@ -3,13 +3,14 @@
 
 usage: bench/hostile.py [PLISTCONV]   (the program to measure, ./plistconv if not given)
 
-Time is the least of three runs. Where work is linear in the file's size, the last column stays as it is.
+Time is that of the processor, the least of three runs. Where work is linear in the file's size, the last column
+stays as it is.
 """
 import os
-import subprocess
 import sys
 import tempfile
-import time
+
+from measure import Measure
 
 
 def number(value, width):
@@ -65,26 +66,20 @@ def one_text_often(size):
     return joined([head(0xA0, size // 2) + b"\x01" * (size // 2), head(0x50, length) + b"a" * length], 1)
 
 
-def seconds(program, path):
-    begin = time.perf_counter()
-    ran = subprocess.run([program, "check", path], stdout=subprocess.PIPE, check=False)
-    return time.perf_counter() - begin, ran.stdout.decode().strip()
-
-
 def main():
     program = os.path.abspath(sys.argv[1] if len(sys.argv) > 1 else "./plistconv")
     print("| file | octets | answer | seconds | seconds for each MB |")
     print("|---|---|---|---|---|")
     with tempfile.TemporaryDirectory() as folder:
-        path = os.path.join(folder, "file")
+        path, measure = os.path.join(folder, "file"), Measure(folder)
         for make in (shared_keys, overlapping_keys, one_text_often):
             for size in (250_000, 500_000, 1_000_000):
                 with open(path, "wb") as target:
                     target.write(make(size))
-                runs = [seconds(program, path) for _ in range(3)]
-                least = min(run[0] for run in runs)
+                runs = [measure.run([program, "check", path]) for _ in range(3)]
+                least = min(run.processor for run in runs)
                 octets = os.path.getsize(path)
-                print(f"| {make.__name__.replace('_', ' ')} | {octets:,} | {runs[0][1]} | {least:.3f} "
+                print(f"| {make.__name__.replace('_', ' ')} | {octets:,} | {runs[0].printed} | {least:.3f} "
                       f"| {least / octets * 1_000_000:.3f} |", flush=True)
 
 

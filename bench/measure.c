@@ -1,5 +1,6 @@
-// measure FILE PROGRAM WORD..: runs the program, and writes its seconds and its greatest resident size, in KiB,
-// into FILE. It ends with the program's status, or with 255 where a signal ended it.
+// measure FILE MOST PROGRAM WORD..: runs the program for at most so many seconds of processor time, and writes into
+// FILE its seconds, its seconds of processor time (user and system) and its greatest resident size in KiB. It ends
+// with the program's status, or with 255 where a signal ended it.
 //
 // The system counts a started program's greatest size from that of the process that starts it: this one is small.
 #define _GNU_SOURCE
@@ -11,15 +12,19 @@
 #include <time.h>
 #include <unistd.h>
 
+static double seconds_of(struct timeval time) { return (double)time.tv_sec + 1e-6 * (double)time.tv_usec; }
+
 int main(int count, char **words) {
     struct timespec begin, end;
     struct rusage usage;
     int status;
-    if (count < 3) return 255;
+    if (count < 4) return 255;
     clock_gettime(CLOCK_MONOTONIC, &begin);
     pid_t child = fork();
     if (child == 0) {
-        execv(words[2], words + 2);
+        struct rlimit limit = {.rlim_cur = strtoul(words[2], NULL, 10), .rlim_max = RLIM_INFINITY};
+        setrlimit(RLIMIT_CPU, &limit);
+        execv(words[3], words + 3);
         _exit(255);
     }
     if (child < 0 || wait4(child, &status, 0, &usage) < 0) return 255;
@@ -27,7 +32,8 @@ int main(int count, char **words) {
     FILE *file = fopen(words[1], "w");
     if (file == NULL) return 255;
     double seconds = (double)(end.tv_sec - begin.tv_sec) + 1e-9 * (double)(end.tv_nsec - begin.tv_nsec);
-    fprintf(file, "%f %ld\n", seconds, usage.ru_maxrss);
+    double processor = seconds_of(usage.ru_utime) + seconds_of(usage.ru_stime);
+    fprintf(file, "%f %f %ld\n", seconds, processor, usage.ru_maxrss);
     fclose(file);
     return WIFEXITED(status) ? WEXITSTATUS(status) : 255;
 }

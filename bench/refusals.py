@@ -4,10 +4,11 @@ each is twice the one before, and files that are accepted and spell far more tha
 
 usage: bench/refusals.py [PLISTCONV]   (the program to measure, ./plistconv if not given)
 
-Each answer must be the one that stands here, and what is refused in a few hundred octets must be so within
-16 MiB; else the row ends with a cross and the status is 1. Time is the least of three runs, memory the
-greatest resident size, for accepted files of one run. The last two columns of a refused input are what each
-MB of it adds to the time and memory of an empty run: where work is linear they do not grow with the size.
+Each answer must be the one that stands here, within 16 MiB, and what is refused in a few hundred octets in 10 ms;
+an accepted file takes at most 60 octets of memory for each node, beside the input and the output. Time is that of
+the processor, the least of three runs, memory the greatest resident size, for accepted files of one run. Where
+callgrind is installed (Debian's valgrind) the instructions of a refusal, beside those of an empty run, must not grow
+more than 1.2 times as much as its octets. A row that is not so ends with a cross, and the status is 1.
 
 Files are made by a process of their own (--make).
 """
@@ -17,8 +18,8 @@ import sys
 import tempfile
 
 from hostile import file, head, joined, number
+from measure import Measure, instructions
 
-HERE = os.path.dirname(os.path.abspath(__file__))
 MIB = 1 << 20
 
 
@@ -69,7 +70,7 @@ REFUSED = {
     "lists, each named twice": (lists_named_twice, (30, 60, 120), "17 TooManyNodes"),
     "tables, each named twice": (tables_named_twice, (30, 60, 120), "17 TooManyNodes"),
     "a chain of lists": (chain, QUARTERS, "16 TooDeep at object 512"),
-    "a list in a list": (shared_list, QUARTERS, "17 TooManyNodes"),
+    "a list in a list": (shared_list, (1 << 18, 1 << 19, 1 << 20), "17 TooManyNodes"),
     "a list of 2^62": (counted(b"\xaf"), QUARTERS, "6 CutObject at object 0"),
     "a table of 2^62": (counted(b"\xdf"), QUARTERS, "6 CutObject at object 0"),
     "data of 2^62": (counted(b"\x4f"), QUARTERS, "6 CutObject at object 0"),
@@ -101,43 +102,49 @@ def make(name, size, path):
         target.write(REFUSED[name][0](int(size)) if name in REFUSED else ACCEPTED[name][0]())
 
 
-class Measure:
-    """Runs of programs, with their time and memory (bench/measure.c, made with cc)."""
-
-    def __init__(self, folder):
-        self.program, self.file = os.path.join(folder, "measure"), os.path.join(folder, "measured")
-        subprocess.run(["cc", "-O1", "-o", self.program, os.path.join(HERE, "measure.c")], check=True)
-
-    def run(self, words):
-        """The status, what is printed, the seconds and the greatest resident size, in MiB, of one run."""
-        ran = subprocess.run([self.program, self.file, *words], stdout=subprocess.PIPE, check=False)
-        with open(self.file, encoding="ascii") as measured:
-            seconds, size = measured.read().split()
-        return ran.returncode, ran.stdout.decode().strip(), float(seconds), int(size) / 1024
-
-
 def made(name, size, path):
     subprocess.run([sys.executable, os.path.abspath(__file__), "--make", name, str(size), path], check=True)
     return os.path.getsize(path)
 
 
-def refused(measure, program, source, target, empty):
+class Growth:
+    """How the instructions of a refusal grow with its octets, from the first size to each other."""
+
+    def __init__(self, program, source, target):
+        self.words = [program, "convert", "binary1", source, target]
+        self.empty, self.first = instructions([program, "--version"]), None
+
+    def begin(self):
+        self.first = None
+
+    def of(self, octets):
+        """What an octet costs beside the first size's, or None where nothing is counted."""
+        count = instructions(self.words) if self.empty is not None else None
+        if count is None:
+            return None
+        each = max(count - self.empty, 1) / octets
+        self.first = self.first or each
+        return each / self.first
+
+
+def refused(measure, program, source, target):
     """Prints the rows of refused inputs; how many of them are not as they should be."""
-    wrong = 0
-    print("| refused | octets | answer | seconds | MiB | seconds for each MB | MiB for each MB |")
-    print("|---|---|---|---|---|---|---|")
+    wrong, growth = 0, Growth(program, source, target)
+    print("| refused | octets | answer | ms | MiB | instructions for each octet, beside the first size's |")
+    print("|---|---|---|---|---|---|")
     for name, (_, sizes, answer) in REFUSED.items():
+        growth.begin()
         for size in sizes:
             octets = made(name, size, source)
-            runs = [measure.run([program, "convert", "binary1", source, target]) for _ in range(3)]
-            status, printed = runs[0][:2]
-            told = printed.removeprefix(source + ": refused ")
-            seconds, memory = min(run[2] for run in runs), max(run[3] for run in runs)
-            good = status == 2 and told.startswith(answer) and (octets > 1000 or memory < 16)
+            runs = [measure.run(growth.words) for _ in range(3)]
+            told = runs[0].printed.removeprefix(source + ": refused ")
+            seconds, memory = min(run.processor for run in runs), max(run.octets for run in runs) / MIB
+            grown = growth.of(octets)
+            good = runs[0].status == 2 and told.startswith(answer) and memory < 16
+            good = good and (octets > 1000 or seconds < 0.01) and (grown is None or grown < 1.2)
             wrong += not good
-            each = [""] * 2 if octets < 1000 else [
-                f"{max(0, more) / octets * 1_000_000:.3f}" for more in (seconds - empty[0], memory - empty[1])]
-            print(f"| {name} | {octets:,} | {told} | {seconds:.3f} | {memory:.0f} | {each[0]} | {each[1]} |"
+            said = "" if grown is None else f"{grown:.2f}"
+            print(f"| {name} | {octets:,} | {told} | {seconds * 1000:.1f} | {memory:.1f} | {said} |"
                   + ("" if good else " ✗"), flush=True)
     return wrong
 
@@ -145,19 +152,21 @@ def refused(measure, program, source, target, empty):
 def accepted(measure, program, source, target):
     """Prints the rows of accepted files, of which each canonical file must be so; how many are not."""
     wrong = 0
-    print("| accepted | octets | canonical octets | seconds | MiB | octets of memory for each node, beside both files "
-          "| its check: seconds | MiB |")
-    print("|---|---|---|---|---|---|---|---|")
+    print("| accepted | octets | nodes | canonical octets | seconds | MB | octets of memory for each node, beside both "
+          "files | its check: seconds | MB |")
+    print("|---|---|---|---|---|---|---|---|---|")
     for name, (_, nodes) in ACCEPTED.items():
         octets = made(name, 0, source)
-        status, _, seconds, memory = measure.run([program, "convert", "binary1", source, target])
-        length = os.path.getsize(target) if status == 0 else 0
-        checked = measure.run([program, "check", target]) if status == 0 else (4, "", 0, 0)
-        good = status == 0 and checked[:2] == (0, "canonical")
+        run = measure.run([program, "convert", "binary1", source, target])
+        length = os.path.getsize(target) if run.status == 0 else 0
+        checked = measure.run([program, "check", target])
+        beside = max(run.octets - octets - length, 0) / nodes
+        good = run.status == 0 and (checked.status, checked.printed) == (0, "canonical")
+        good = good and (beside <= 60 or nodes < MIB)
         wrong += not good
-        beside = f"{(memory * MIB - octets - length) / nodes:.0f}" if nodes > MIB else ""
-        print(f"| {name} | {octets:,} | {length:,} | {seconds:.3f} | {memory:.0f} | {beside} | {checked[2]:.3f} "
-              f"| {checked[3]:.0f} |" + ("" if good else " ✗"), flush=True)
+        told = f"{beside:.0f}" if nodes > MIB else ""
+        print(f"| {name} | {octets:,} | {nodes:,} | {length:,} | {run.processor:.2f} | {run.octets / 1e6:.0f} | {told} "
+              f"| {checked.processor:.2f} | {checked.octets / 1e6:.0f} |" + ("" if good else " ✗"), flush=True)
     return wrong
 
 
@@ -170,9 +179,9 @@ def main():
         source, target = os.path.join(folder, "source"), os.path.join(folder, "target")
         measure = Measure(folder)
         runs = [measure.run([program, "--version"]) for _ in range(3)]
-        empty = min(run[2] for run in runs), max(run[3] for run in runs)
-        print(f"An empty run takes {empty[0]:.3f} seconds and {empty[1]:.0f} MiB.\n")
-        wrong = refused(measure, program, source, target, empty)
+        print(f"An empty run takes {min(run.processor for run in runs) * 1000:.1f} ms and "
+              f"{max(run.octets for run in runs) / MIB:.1f} MiB.\n")
+        wrong = refused(measure, program, source, target)
         print()
         wrong += accepted(measure, program, source, target)
     return 1 if wrong else 0

@@ -1,0 +1,59 @@
+"""The binary files and texts that bench.py measures, each at any size.
+
+usage: python3 bench/files.py NAME SCALE PATH   (makes one, in a process of its own)
+"""
+import datetime
+import plistlib
+import random
+import sys
+
+import texts
+
+
+def mixed(scale):
+    """Records as programs keep them: of size 1 about 460,000 objects in 13 MB."""
+    chance = random.Random(7)
+    return [{
+        "name": f"record {number} of the catalogue of 2026",
+        "size": chance.randrange(1 << 40),
+        "ratio": chance.random(),
+        "made": datetime.datetime(2001, 1, 1) + datetime.timedelta(seconds=chance.randrange(1 << 30)),
+        "digest": chance.randbytes(32),
+        "flags": [chance.random() < 0.5 for _ in range(3)],
+        "title": "Überschrift %d" % chance.randrange(1000),
+    } for number in range(int(65_700 * scale))]
+
+
+def keys(scale):
+    """One table of 200,000 keys, in no order, as a hashed table gives them."""
+    names = [f"key {number:06d} of the table" for number in range(int(200_000 * scale))]
+    random.Random(9).shuffle(names)
+    return {name: number % 7 for number, name in enumerate(names)}
+
+
+def numbers(scale):
+    """A list of 1,000,000 numbers, none twice."""
+    return list(range(int(1_000_000 * scale)))
+
+
+def data(scale):
+    """100 MB of data."""
+    return random.Random(5).randbytes(int(100_000_000 * scale))
+
+
+BINARY = {"mixed": mixed, "keys": keys, "numbers": numbers, "data": data}
+TEXTS = {"project": lambda scale: texts.project(int(10_000_000 * scale)),
+         "strings": lambda scale: texts.strings(int(9_000_000 * scale), "utf-8"),
+         "strings16": lambda scale: texts.strings(int(9_000_000 * scale), "utf-16-le")}
+
+
+def make(name, scale, path):
+    with open(path, "wb") as target:
+        if name in BINARY:
+            plistlib.dump(BINARY[name](scale), target, fmt=plistlib.FMT_BINARY, sort_keys=False)
+        else:
+            target.write(TEXTS[name](scale))
+
+
+if __name__ == "__main__":
+    make(sys.argv[1], float(sys.argv[2]), sys.argv[3])

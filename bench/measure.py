@@ -1,0 +1,39 @@
+"""Runs of programs, with their time and memory, for the scripts of this folder."""
+import collections
+import os
+import re
+import shutil
+import subprocess
+
+HERE = os.path.dirname(os.path.abspath(__file__))
+
+# The most seconds of processor time that a run takes; one that would take more is ended, with status 255.
+MOST = 60
+
+Run = collections.namedtuple("Run", "status printed seconds processor octets")
+
+
+class Measure:
+    """Runs programs by bench/measure.c, which is made with cc."""
+
+    def __init__(self, folder):
+        self.program, self.file = os.path.join(folder, "measure"), os.path.join(folder, "measured")
+        subprocess.run(["cc", "-O1", "-o", self.program, os.path.join(HERE, "measure.c")], check=True)
+
+    def run(self, words, errors=None):
+        """The status, what is printed, the seconds, those of the processor, and the greatest resident size."""
+        ran = subprocess.run([self.program, self.file, str(MOST), *words], stdout=subprocess.PIPE, stderr=errors, check=False)
+        with open(self.file, encoding="ascii") as measured:
+            seconds, processor, size = measured.read().split()
+        printed = ran.stdout.decode().strip()
+        return Run(ran.returncode, printed, float(seconds), float(processor), int(size) * 1024)
+
+
+def instructions(words):
+    """How many instructions a run takes, as callgrind counts them; None where that is not installed."""
+    if shutil.which("valgrind") is None:
+        return None
+    words = ["valgrind", "--tool=callgrind", "--callgrind-out-file=/dev/null", *words]
+    ran = subprocess.run(words, capture_output=True, check=False)
+    count = re.search(rb"Collected *: *(\d+)", ran.stderr)
+    return int(count[1]) if count else None

@@ -1,0 +1,84 @@
+"""The programs that bench.py measures ours beside. What is not installed is skipped, with a line that names it.
+
+Each is a list of words before a source and a target. The drivers in bench/peers are ours; what is built of them
+stands in the folder that is given, and none of it in the repository.
+"""
+import os
+import shutil
+import subprocess
+
+HERE = os.path.dirname(os.path.abspath(__file__))
+DRIVERS = os.path.join(HERE, "peers")
+REGISTRY = "/usr/share/cargo/registry"
+PYTHON = "/usr/bin/python3"
+
+
+def quiet(words, **more):
+    """Whether the words run and end with 0."""
+    try:
+        return subprocess.run(words, stdout=subprocess.DEVNULL, stderr=subprocess.DEVNULL, check=False,
+                              **more).returncode == 0
+    except OSError:
+        return False
+
+
+def python():
+    """Debian's Python, which has Debian's modules, or whichever stands first."""
+    return PYTHON if os.path.exists(PYTHON) else shutil.which("python3")
+
+
+def copy(folder):
+    """Reads the file whole and writes it: what any conversion that holds its input takes at least."""
+    program = os.path.join(folder, "copy")
+    built = quiet(["cc", "-O2", "-o", program, os.path.join(DRIVERS, "copy.c")])
+    return [program] if built else None
+
+
+def plist_crate(folder):
+    """The Rust crate plist, built by cargo from Debian's registry alone."""
+    if not any(name.startswith("plist-") for name in os.listdir(REGISTRY)) if os.path.isdir(REGISTRY) else True:
+        return None
+    root = os.path.join(folder, "plist_crate")
+    shutil.copytree(os.path.join(DRIVERS, "plist_crate"), root)
+    words = ["cargo", "build", "--offline", "--release",
+             "--config", 'source.crates-io.replace-with="debian"',
+             "--config", f'source.debian.directory="{REGISTRY}"']
+    return [os.path.join(root, "target", "release", "plist_crate")] if quiet(words, cwd=root) else None
+
+
+def libplist(folder):
+    program = os.path.join(folder, "libplist")
+    source = os.path.join(DRIVERS, "libplist.c")
+    return [program] if quiet(["cc", "-O2", "-o", program, source, "-lplist-2.0"]) else None
+
+
+def plistlib(folder):
+    return [python(), os.path.join(DRIVERS, "with_plistlib.py")]
+
+
+def openstep_plist(folder):
+    found = quiet([python(), "-c", "import openstep_plist"])
+    return [python(), os.path.join(DRIVERS, "with_openstep_plist.py")] if found else None
+
+
+def pl(folder):
+    """GNUstep's pl, which writes a text: no binary property list."""
+    found = shutil.which("pl")
+    return ["/bin/sh", "-c", f"exec {found} <\"$1\" >\"$2\"", "pl"] if found else None
+
+
+OF_BINARY = {"read and write": (copy, "cc"), "plist (Rust)": (plist_crate, "cargo and librust-plist-dev"),
+             "libplist": (libplist, "libplist-dev"), "plistlib": (plistlib, "python3")}
+OF_TEXT = {"openstep_plist": (openstep_plist, "python3-openstep-plist"), "pl": (pl, "gnustep-base-runtime")}
+
+
+def found(kinds, folder):
+    """The peers that are there."""
+    there = {}
+    for name, (make, package) in kinds.items():
+        words = make(folder)
+        if words is None:
+            print(f"{name} is skipped: it needs {package}.\n", flush=True)
+        else:
+            there[name] = words
+    return there

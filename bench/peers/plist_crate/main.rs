@@ -1,0 +1,6 @@
+//! plist_crate IN OUT: reads a property list by the Rust crate `plist`, and writes it as a binary one.
+
+fn main() -> Result<(), plist::Error> {
+    let words: Vec<String> = std::env::args().collect();
+    plist::Value::from_file(&words[1])?.to_file_binary(&words[2])
+}
