@@ -42,6 +42,7 @@ pub fn convert<S: Source, W: Sink>(
     ensures transfer { IsTransfer form (S.remaining from.old) (S.remaining from.new)
         (W.taken to.old) (W.taken to.new) (W.failures to.old) (W.failures to.new) result }
     ensures untouched { IfErr result (λ fault. IsBeforePut fault → to.new ≡ to.old) }
+    ensures same { W.device to.new ≡ W.device to.old }
 
     // The source fails in this call exactly where that is answered; then it fails once, and else never.
     ensures failed { IsErrOf result Fault.ReadFailed
@@ -66,6 +67,7 @@ fn write_binary1<W: Sink>(alloc: Global, octets: Vec<u8>, to: &mut W) -> Result<
     ensures writes { Writes Form.Binary1 octets.items (W.taken to.old) (W.taken to.new)
         (W.failures to.old) (W.failures to.new) result }
     ensures untouched { IfErr result (λ fault. IsBeforePut fault → to.new ≡ to.old) }
+    ensures same { W.device to.new ≡ W.device to.old }
 {
     if begins_as_binary(octets.as_slice()) {
         return write_file(alloc, octets.as_slice(), to);
@@ -80,6 +82,7 @@ fn write_file<W: Sink>(alloc: Global, octets: &[u8], to: &mut W) -> Result<u64, 
     ensures writes { Writes Form.Binary1 octets.now (W.taken to.old) (W.taken to.new)
         (W.failures to.old) (W.failures to.new) result }
     ensures untouched { IfErr result (λ fault. IsBeforePut fault → to.new ≡ to.old) }
+    ensures same { W.device to.new ≡ W.device to.old }
 {
     let file = judged(alloc, octets)?;
     Ok(write_canonical_of(alloc, &file, to)?)
@@ -102,6 +105,7 @@ fn write_openstep<W: Sink>(alloc: Global, octets: Vec<u8>, to: &mut W) -> Result
     ensures writes { Writes Form.OpenStep octets.items (W.taken to.old) (W.taken to.new)
         (W.failures to.old) (W.failures to.new) result }
     ensures untouched { IfErr result (λ fault. IsBeforePut fault → to.new ≡ to.old) }
+    ensures same { W.device to.new ≡ W.device to.old }
 {
     let text = text_of(alloc, octets)?;
     Ok(send(text.as_slice(), to)?)

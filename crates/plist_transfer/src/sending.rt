@@ -1,4 +1,5 @@
 //! Octets in memory, to a sink.
+ghost use Rattle.std.specs.Prelude.{◌≡◌};
 ghost use Rattle.plist_write.specs.Sending.{IsWritten};
 
 use plist_devices::Sink;
@@ -6,8 +7,9 @@ use plist_write::WriteFault;
 
 /// Sends all of the octets, in as many puts as the sink asks for, and answers how many they are.
 pub(crate) fn send<W: Sink>(octets: &[u8], to: &mut W) -> Result<u64, WriteFault>
-    ensures { IsWritten octets.now (W.taken to.old) (W.taken to.new)
+    ensures written { IsWritten octets.now (W.taken to.old) (W.taken to.new)
         (W.failures to.old) (W.failures to.new) result }
+    ensures same { W.device to.new ≡ W.device to.old }
 {
     let mut sent = 0;
     while sent < octets.len() {
