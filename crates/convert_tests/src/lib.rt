@@ -10,6 +10,8 @@ mod container_tests;
 #[cfg(test)]
 mod help_tests;
 #[cfg(test)]
+mod readme;
+#[cfg(test)]
 mod size_tests;
 #[cfg(test)]
 mod tests;

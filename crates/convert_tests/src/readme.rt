@@ -1,0 +1,28 @@
+//! The example of the README. `recipes/readme` holds it against these lines.
+use std::test::Fail;
+
+// The example of the README:
+use plist_convert::{Fault, PairFault, canonicalise, same_files};
+use std::alloc::Global;
+
+/// Under what a cache keeps that which was made of a property list: one key for all its spellings.
+fn cache_key(alloc: Global, octets: &[u8]) -> Result<Vec<u8>, Fault> {
+    canonicalise(alloc, octets)
+}
+
+/// Whether what was made of the old one still serves for the new one.
+fn still_serves(alloc: Global, old: &[u8], new: &[u8]) -> Result<bool, PairFault> {
+    same_files(alloc, old, new)
+}
+// Here it ends.
+
+#[test]
+fn spellings_have_one_key(rt: HostRuntime) -> Result<(), Fail> {
+    let old: &[u8] = b"{ name = Ada; langs = (en, fr); }";
+    let new: &[u8] = b"langs = (en, \"fr\",); name = Ada;";
+    assert_eq!(rt; cache_key(rt.alloc(), old)?, cache_key(rt.alloc(), new)?);
+    assert!(rt; still_serves(rt.alloc(), old, new)?);
+    let refused = cache_key(rt.alloc(), b"{ a = b; a = c; }").err();
+    assert_eq!(rt; refused.map(|fault| fault.code()), Some(14));
+    Ok(())
+}
