@@ -1,13 +1,13 @@
 # plistconv: `make` builds ./plistconv, `make lib` the C library, `make test` is the gate,
 # `make install PREFIX=..` and `make install-lib` install; `make dist` and `make deb` pack both (dist.mk).
-# Besides the gate: `make recipes` and `make examples`, `make edits [CRATE=NAME]`, `make fuzz [SECONDS=60] [SEED=1]`,
-# `make hostile` (what refusals and large files cost), `make growths` (each allocation refused in turn),
-# `make words` (words that are not UTF-8), `make bench` (time and memory beside other programs).
+# Besides the gate: `make recipes`, `make examples`, `make new-user` and `make words` (words that are not UTF-8),
+# `make edits [CRATE=NAME]`, `make fuzz [SECONDS=60] [SEED=1]`, `make bench` (time and memory beside other programs),
+# `make hostile` (what refusals and large files cost), `make growths` (each allocation refused in turn).
 PREFIX ?= /usr/local
 SECONDS ?= 60
 SEED ?= 1
 
-.PHONY: all test edits fuzz recipes words bench hostile growths install clean
+.PHONY: all test edits fuzz recipes new-user words bench hostile growths install clean
 all: plistconv
 
 include build.mk
@@ -27,6 +27,9 @@ fuzz: plistconv
 
 recipes: plistconv
 	PLISTCONV=./plistconv recipes/test
+
+new-user: plistconv lib
+	scripts/new-user.sh
 
 words: plistconv
 	PLISTCONV=./plistconv scripts/words.sh
