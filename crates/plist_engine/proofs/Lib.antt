@@ -7,9 +7,6 @@ pub mod Ordering
 pub mod Within
 pub mod Walked
 pub mod Parting
-pub mod Gathering
-pub mod PlaceSteps
 pub mod ObjectSteps
-pub mod FileSteps
 pub mod Finding
 pub mod Remembering

@@ -1,14 +1,12 @@
 -- The objects, one after another, of which each gives way to its place.
 use Rattle.std.proofs.Common.{◌≡◌, ℕ, ◌+◌, ◌<◌, ◌≤◌, List, [], ◌∷◌, ◌++◌, length, get_or, drop, take, set, sym, ap, subst, ◌∙◌, arith, length-append, append_assoc, add-zero}
-use Rattle.std.specs.List.{concat, AllByRecursion}
-use Rattle.std.specs.Prelude.{All}
+use Rattle.std.specs.List.{concat}
 use Rattle.std.proofs.lemmas.List.{drop_more, drop_all, drop-drop, drop-set-lt, get_or-drop, take_more_set, take_all, append-nil}
-use Rattle.std.proofs.lemmas.List.Elements.{All-from_recursion}
 use Rattle.plist_object.specs.Shortest.{spelling_of}
 use Rattle.plist_write.specs.Canonical.{starts}
-use Rattle.plist_write.specs.Pieces.{CanSpellAll}
-use Rattle.plist_engine.specs.declared.parts.Part.{Part}
-use Rattle.plist_engine.specs.Parts.{held_at, held_in, reference_count, renumbered, helds_of, AreSound, octets_for}
+use Rattle.plist_write.specs.Pieces.{CanSpellAll, held_in_part}
+use Rattle.plist_write.specs.declared.putting.Part.{Part}
+use Rattle.plist_engine.specs.Parts.{held_at, reference_count, renumbered, helds_of, AreSound, octets_for}
 
 -- what is left behind the object i
 pub record Step (width : ℕ) (f start : List ℕ) (i : ℕ) (numbers behind octets : List ℕ) : Type 0 where
@@ -16,7 +14,7 @@ pub record Step (width : ℕ) (f start : List ℕ) (i : ℕ) (numbers behind oct
   pub spellable : CanSpellAll width (helds_of f (drop (i + 1) start) behind)
   pub split : octets_for width f (drop i start) numbers ≡ octets ∷ octets_for width f (drop (i + 1) start) behind
 
-pub step : (width : ℕ) (f start : List ℕ) (i x : ℕ) (numbers behind : List ℕ) (part : Part) → i < length start → x ≡ get_or start i x → held_in part ≡ renumbered (held_at f x) numbers → behind ≡ drop (reference_count (held_at f x)) numbers → AreSound f (drop i start) numbers → CanSpellAll width (helds_of f (drop i start) numbers) → Step width f start i numbers behind (spelling_of width (held_in part))
+pub step : (width : ℕ) (f start : List ℕ) (i x : ℕ) (numbers behind : List ℕ) (part : Part) → i < length start → x ≡ get_or start i x → held_in_part part ≡ renumbered (held_at f x) numbers → behind ≡ drop (reference_count (held_at f x)) numbers → AreSound f (drop i start) numbers → CanSpellAll width (helds_of f (drop i start) numbers) → Step width f start i numbers behind (spelling_of width (held_in_part part))
 step width f start i x numbers behind part h is is_part is_behind sound spellable =
     let split : drop i start ≡ x ∷ drop (i + 1) start = drop_more start i x h ∙ ap (λ y. y ∷ drop (i + 1) start) (sym is) in
     let left = drop (i + 1) start in
@@ -58,13 +56,3 @@ split-end done all left none so_far = sym (append-nil done) ∙ ap (λ os. done 
 pub places-end : (now : List ℕ) (i place : ℕ) (left all : List (List ℕ)) → length now ≤ i → left ≡ [] → take i now ++ starts place left ≡ starts 8 all → now ≡ starts 8 all
 places-end now i place left all past none so_far =
     sym (take_all i now past) ∙ sym (append-nil (take i now)) ∙ ap (λ os. take i now ++ starts place os) (sym none) ∙ so_far
-
-starts-under : (bound p : ℕ) (objects : List (List ℕ)) → p + length (concat objects) < bound → AllByRecursion (λ q. q < bound) (starts p objects)
-starts-under bound p [] h = tt
-starts-under bound p (o ∷ objects) h =
-    let size = length-append o (concat objects) in
-    (omega arith, starts-under bound (p + length o) objects (omega arith))
-
--- all places are below the end
-pub starts-fit : (bound p : ℕ) (objects : List (List ℕ)) → p + length (concat objects) < bound → All (λ q. q < bound) (starts p objects)
-starts-fit bound p objects h = All-from_recursion (λ q. q < bound) (starts p objects) (starts-under bound p objects h)

@@ -2,4 +2,3 @@ pub mod Spelling
 pub mod Plan
 pub mod Order
 pub mod Parts
-pub mod Pending

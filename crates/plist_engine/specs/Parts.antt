@@ -1,12 +1,9 @@
 -- What the objects of the canonical file hold, told by objects of another file and a list of references.
 use Rattle.std.specs.Prelude.{ℕ, ◌+◌, ◌≤◌, List, [], ◌∷◌, length, map, take, drop, Result, Ok, Err, ⊤}
-use Rattle.plist_value.specs.Scalars.{content_of}
 use Rattle.plist_object.specs.declared.object.ObjectFault.{ObjectFault}
 use Rattle.plist_object.specs.Objects.{Held, holds_scalar, holds_list, holds_table}
 use Rattle.plist_object.specs.Places.{what_holds}
 use Rattle.plist_object.specs.Shortest.{spelling_of}
-use Rattle.plist_engine.specs.declared.parts.Part.{Part}
-use Rattle.plist_engine.specs.declared.parts.Part.TheVariants as part
 use Rattle.plist_engine.specs.Spelling.{IsRead}
 
 -- what was read, an empty list where it does not read
@@ -45,8 +42,3 @@ AreSound f (i ∷ originals) refs =
 -- the octets of each object
 abbrev pub octets_for : ℕ → List ℕ → List ℕ → List ℕ → List (List ℕ)
 octets_for width f originals refs = map (spelling_of width) (helds_of f originals refs)
-
-abbrev pub held_in : Part → Held
-held_in (part.Scalar s) = holds_scalar (content_of s)
-held_in (part.List items) = holds_list items.now
-held_in (part.Table keys values) = holds_table keys.now values.now

@@ -6,7 +6,6 @@ mod objects;
 mod order;
 mod parts;
 mod plan;
-mod putting;
 pub mod sending;
 mod walk;
 

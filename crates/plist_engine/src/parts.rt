@@ -2,19 +2,12 @@
 ghost use Rattle.std.specs.Prelude.{◌≡◌, ◌≤◌, length, drop};
 ghost use Rattle.plist_object.specs.Views.{octets_of};
 ghost use Rattle.plist_engine.specs.Spelling.{IsRead};
-ghost use Rattle.plist_engine.specs.Parts.{held_at, held_in, reference_count, renumbered};
+ghost use Rattle.plist_write.specs.Pieces.{held_in_part};
+ghost use Rattle.plist_engine.specs.Parts.{held_at, reference_count, renumbered};
 
 use crate::objects::object_of;
 use plist_object::{BinFile, Object};
-use plist_value::ScalarRef;
-
-/// An object: a scalar, the numbers of a list's items, or those of a table's keys and of its values.
-#[derive(Clone, Copy)]
-pub(crate) enum Part<'a, 'b> {
-    Scalar(ScalarRef<'a>),
-    List(&'b [u64]),
-    Table(&'b [u64], &'b [u64]),
-}
+use plist_write::Part;
 
 /// The object that stands for one of the file, with the first of the numbers as its references, and the
 /// numbers behind them.
@@ -26,7 +19,7 @@ pub(crate) fn part_of<'a, 'b>(
     requires read { IsRead (octets_of file.now) object }
     requires numbers { reference_count (held_at (octets_of file.now) object)
         ≤ length numbers.now }
-    ensures part { held_in result.0
+    ensures part { held_in_part result.0
         ≡ renumbered (held_at (octets_of file.now) object) numbers.entry.now }
     ensures behind { result.1.now
         ≡ drop (reference_count (held_at (octets_of file.now) object)) numbers.entry.now }

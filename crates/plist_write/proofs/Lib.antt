@@ -16,4 +16,6 @@ pub mod Containers
 pub mod Found
 pub mod Parts
 pub mod Sends
-pub mod Chunks
+pub mod Gathering
+pub mod FileSteps
+pub mod PlaceSteps

@@ -9,4 +9,5 @@ pub mod Canonical
 pub mod Plan
 pub mod Pieces
 pub mod Sending
+pub mod Pending
 pub mod Laws

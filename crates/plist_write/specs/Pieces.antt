@@ -2,16 +2,25 @@
 use Rattle.std.specs.Prelude.{◌≡◌, ℕ, ◌+◌, ◌*◌, ◌<◌, ◌^◌, List, [], ◌∷◌, length, map, All}
 use Rattle.std.specs.List.{AllByRecursion}
 use Rattle.plist_value.specs.Limits.{payload_of_scalar}
+use Rattle.plist_value.specs.Scalars.{content_of}
 use Rattle.plist_object.specs.Objects.{Held, holds_scalar, holds_list, holds_table}
 use Rattle.plist_object.specs.Sizes.{IsSmall}
 use Rattle.plist_object.specs.Shortest.{spelling_of}
 use Rattle.plist_object.specs.Spelling.{least_width}
 use Rattle.plist_write.specs.declared.plan.Slot.{Slot}
+use Rattle.plist_write.specs.declared.putting.Part.{Part}
+use Rattle.plist_write.specs.declared.putting.Part.TheVariants as part
 use Rattle.plist_write.specs.Plan.{held_by}
 
 -- the octets of each object
 abbrev pub spelled : ℕ → List Slot → List (List ℕ)
 spelled width slots = map (spelling_of width) (held_by slots)
+
+-- what an object holds
+abbrev pub held_in_part : Part → Held
+held_in_part (part.Scalar s) = holds_scalar (content_of s)
+held_in_part (part.List refs) = holds_list refs.now
+held_in_part (part.Table keys values) = holds_table keys.now values.now
 
 -- there are below 2^32 references, and each fits the width
 pub record AreSpellable (width : ℕ) (refs : List ℕ) : Type 0 where

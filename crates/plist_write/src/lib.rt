@@ -2,12 +2,15 @@
 #![tactic(auto)]
 
 pub mod laws;
-mod making;
+pub mod making;
+pub mod pending;
 mod plan;
-mod putting;
+pub mod putting;
 pub mod sending;
 mod walk;
 
-pub use making::canonical;
+pub use making::{GrowingSink, canonical};
+pub use pending::{Pending, send_end, send_part};
 pub use plist_devices::{DeviceFault, ListSink, Sink};
+pub use putting::{Part, part_length};
 pub use sending::{WriteFault, write_canonical};

@@ -1,17 +1,45 @@
 //! The canonical file of a value, as octets.
-ghost use Rattle.std.specs.Prelude.{◌≡◌, IfOk, length};
+ghost use Rattle.std.specs.Prelude.{◌≡◌, None, Some, IfOk};
 ghost use Rattle.plist_value.specs.Limits.{Fits};
 ghost use Rattle.plist_value.specs.View.{view};
-ghost use Rattle.plist_write.specs.Canonical.{canon, file_of};
-ghost use Rattle.plist_object.specs.Spelling.{least_width};
-ghost use Rattle.plist_write.specs.Pieces.{IsPlan, spelled};
+ghost use Rattle.plist_write.specs.Canonical.{canon};
 
-use crate::plan::Slot;
-use crate::putting::{put_offsets, put_slot, put_trailer};
-use crate::walk::slots_of;
-use plist_object::width_of;
+use crate::sending::write_canonical;
+use crate::{DeviceFault, Sink};
 use plist_value::Value;
 use std::alloc::{AllocError, Global};
+
+/// A sink into memory that grows.
+#[derive(Drop)]
+pub struct GrowingSink {
+    pub octets: Vec<u8>,
+    pub failures: u64,
+}
+
+impl Sink for GrowingSink {
+    ghost taken = { λ sink. Some sink.octets.items };
+
+    ghost failures = { λ sink. sink.failures };
+
+    ghost device = { λ _. None };
+
+    fn put(&mut self, piece: &[u8]) -> Result<usize, DeviceFault> {
+        if self.failures == u64::MAX {
+            return Err(DeviceFault);
+        }
+        match self.octets.extend_from_slice(piece) {
+            Ok(()) => Ok(piece.len()),
+            Err(_) => {
+                self.failures += 1;
+                Err(DeviceFault)
+            }
+        }
+    }
+
+    fn failures(&self) -> u64 {
+        self.failures
+    }
+}
 
 /// The canonical file of a value that is within the limits: one file for each value, and a binary file of
 /// it (the layout of CFBinaryPList.c; which of the files it is, is our profile). It goes over the value
@@ -24,24 +52,12 @@ pub fn canonical(alloc: Global, value: &Value) -> Result<Vec<u8>, AllocError>
     requires { Fits (view value.now) }
     ensures { IfOk result (λ octets. octets.items ≡ canon (view value.now)) }
 {
-    let slots = slots_of(alloc, value)?;
-    file_of_slots(alloc, &slots)
-}
-
-// The file of the objects.
-fn file_of_slots(alloc: Global, slots: &[Slot]) -> Result<Vec<u8>, AllocError>
-    requires { IsPlan slots.now }
-    ensures { IfOk result
-        (λ octets. octets.items ≡ file_of (spelled (least_width (length slots.now)) slots.now)) }
-{
-    let count = slots.len() as u64;
-    let width = width_of(count);
-    let mut out = Vec::from_slice(alloc, b"bplist00")?;
-    for slot in slots {
-        put_slot(&mut out, width, slot)?;
+    let mut sink = GrowingSink {
+        octets: Vec::new(alloc),
+        failures: 0,
+    };
+    match write_canonical(alloc, value, &mut sink) {
+        Ok(_) => Ok(sink.octets),
+        Err(_) => Err(AllocError),
     }
-    let place = out.len() as u64;
-    put_offsets(&mut out, width_of(place), width, slots, 8)?;
-    put_trailer(&mut out, count, place)?;
-    Ok(out)
 }

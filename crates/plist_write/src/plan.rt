@@ -2,8 +2,10 @@
 ghost use Rattle.std.specs.Prelude.{◌≡◌, ◌<◌, ℕ, List, length, map, IfOk};
 ghost use Rattle.plist_value.specs.Plist.{Plist};
 ghost use Rattle.plist_value.specs.Scalars.{content_of};
-ghost use Rattle.plist_write.specs.Plan.{WalksScalar, Begins, Finishes, IsEmptyPlan};
+ghost use Rattle.plist_write.specs.Plan.{WalksScalar, Begins, Finishes, IsEmptyPlan, held_in};
+ghost use Rattle.plist_write.specs.Pieces.{held_in_part};
 
+use crate::putting::Part;
 use indexmap::IndexSet;
 use plist_value::ScalarRef;
 use std::alloc::{AllocError, Global};
@@ -14,6 +16,19 @@ pub(crate) enum Slot<'a> {
     Scalar(ScalarRef<'a>),
     List(Vec<u64>),
     Table(Vec<u64>, Vec<u64>),
+}
+
+impl<'a> Slot<'a> {
+    /// The object that is sent for it.
+    pub(crate) fn part(&self) -> Part<'a, '_>
+        ensures { held_in_part result ≡ held_in self.now }
+    {
+        match self {
+            Slot::Scalar(scalar) => Part::Scalar(*scalar),
+            Slot::List(refs) => Part::List(refs),
+            Slot::Table(keys, values) => Part::Table(keys, values),
+        }
+    }
 }
 
 /// The objects so far, the scalars among them, and their numbers.

@@ -1,17 +1,14 @@
 //! The parts of a file, measured and put behind octets.
-ghost use Rattle.std.specs.Prelude.{◌≡◌, ◌+◌, ◌*◌, ◌<◌, ◌≤◌, ◌^◌, ◌++◌, length, OnOk, IfOk};
-ghost use Rattle.std.specs.List.{concat};
+ghost use Rattle.std.specs.Prelude.{◌≡◌, ◌+◌, ◌*◌, ◌<◌, ◌≤◌, ◌^◌, ◌++◌, length, OnOk};
 ghost use Rattle.byteorder.specs.Endian.{big_bytes};
 ghost use Rattle.plist_value.specs.Limits.{payload_of_scalar};
 ghost use Rattle.plist_value.specs.Scalars.{content_of};
 ghost use Rattle.plist_object.specs.Sizes.{IsSmall, IsWidth};
 ghost use Rattle.plist_object.specs.Shortest.{spelling_of};
-ghost use Rattle.plist_object.specs.Spelling.{references, scalar_spelling};
-ghost use Rattle.plist_write.specs.Canonical.{starts, trailer_octets};
-ghost use Rattle.plist_write.specs.Plan.{held_in, held_by};
-ghost use Rattle.plist_write.specs.Pieces.{CanSpell, CanSpellAll, spelled, weight_of, weights};
+ghost use Rattle.plist_object.specs.Spelling.{head, list_spelling, scalar_spelling, table_spelling};
+ghost use Rattle.plist_write.specs.Canonical.{trailer_octets};
+ghost use Rattle.plist_write.specs.Pieces.{CanSpell, held_in_part, weight_of};
 
-use crate::plan::Slot;
 use byteorder::{BigEndian, ByteOrder};
 use plist_object::{
     list_length, put_list, put_scalar, put_table, scalar_length, table_length, width_of,
@@ -19,66 +16,61 @@ use plist_object::{
 use plist_value::ScalarRef;
 use std::alloc::AllocError;
 
-// How many octets the object has.
-fn slot_length(width: u8, slot: &Slot) -> u64
+/// An object: a scalar, the numbers of a list's items, or those of a table's keys and of its values.
+#[derive(Clone, Copy)]
+pub enum Part<'a, 'b> {
+    Scalar(ScalarRef<'a>),
+    List(&'b [u64]),
+    Table(&'b [u64], &'b [u64]),
+}
+
+/// How many octets the object has, where its references have so many octets each.
+pub fn part_length(width: u8, part: &Part) -> u64
     requires width { IsWidth width }
-    requires spellable { CanSpell width (held_in slot.now) }
-    ensures { result ≡ length (spelling_of width (held_in slot.now)) }
+    requires spellable { CanSpell width (held_in_part part.now) }
+    ensures { result ≡ length (spelling_of width (held_in_part part.now)) }
 {
-    match slot {
-        Slot::Scalar(scalar) => scalar_length(scalar),
-        Slot::List(refs) => list_length(refs.len() as u64, width),
-        Slot::Table(keys, _) => table_length(keys.len() as u64, width),
+    match part {
+        Part::Scalar(scalar) => scalar_length(scalar),
+        Part::List(items) => list_length(items.len() as u64, width),
+        Part::Table(keys, _) => table_length(keys.len() as u64, width),
     }
 }
 
 /// The object, behind the octets of `out`.
-pub(crate) fn put_slot(out: &mut Vec<u8>, width: u8, slot: &Slot) -> Result<(), AllocError>
+pub(crate) fn put_part(out: &mut Vec<u8>, width: u8, part: &Part) -> Result<(), AllocError>
     requires width { IsWidth width }
-    requires narrow { width ≤ 4 }
-    requires spellable { CanSpell width (held_in slot.now) }
-    ensures octets { OnOk result
-        (out.new.items ≡ out.old.items ++ spelling_of width (held_in slot.now)) }
-    ensures light { length (spelling_of width (held_in slot.now)) ≤ weight_of (held_in slot.now) }
+    requires spellable { CanSpell width (held_in_part part.now) }
+    ensures { OnOk result
+        (out.new.items ≡ out.old.items ++ spelling_of width (held_in_part part.now)) }
 {
-    match slot {
-        Slot::Scalar(scalar) => {
-            weigh(scalar);
-            put_scalar(out, scalar)
-        }
-        Slot::List(refs) => put_list(out, width, refs),
-        Slot::Table(keys, values) => put_table(out, width, keys, values),
+    match part {
+        Part::Scalar(scalar) => put_scalar(out, scalar),
+        Part::List(items) => put_list(out, width, items),
+        Part::Table(keys, values) => put_table(out, width, keys, values),
     }
 }
 
-/// The offsets of these objects, of which the first begins at the place, behind the octets of `out`. It
-/// answers the place behind the last of them.
-pub(crate) fn put_offsets(
-    out: &mut Vec<u8>,
-    offset_width: u8,
-    width: u8,
-    slots: &[Slot],
-    place: u64,
-) -> Result<u64, AllocError>
-    requires width { IsWidth width }
-    requires offset_width { IsWidth offset_width }
-    requires spellable { CanSpellAll width (held_by slots.now) }
-    requires fits { place + length (concat (spelled width slots.now)) < 256 ^ offset_width }
-    ensures next { IfOk result (λ next. next ≡ place + length (concat (spelled width slots.now))) }
-    ensures offsets { OnOk result
-        (out.new.items ≡ out.old.items ++ references offset_width
-        (starts place (spelled width slots.now))) }
+/// How data of so many octets, at least 15, begins.
+pub(crate) fn put_data_head(out: &mut Vec<u8>, count: u64) -> Result<(), AllocError>
+    requires { 15 ≤ count }
+    ensures { OnOk result (out.new.items ≡ out.old.items ++ head 4 count) }
 {
-    let mut place = place;
-    for slot in slots {
-        put_number(out, offset_width, place)?;
-        place += slot_length(width, slot);
-    }
-    Ok(place)
+    let marker = if count < 256 {
+        0x10
+    } else if count < 65536 {
+        0x11
+    } else if count < 4294967296 {
+        0x12
+    } else {
+        0x13
+    };
+    out.extend_from_slice(&[0x4f, marker])?;
+    put_number(out, width_of(count), count)
 }
 
-// The number in so many octets.
-fn put_number(out: &mut Vec<u8>, width: u8, n: u64) -> Result<(), AllocError>
+/// The number in so many octets.
+pub(crate) fn put_number(out: &mut Vec<u8>, width: u8, n: u64) -> Result<(), AllocError>
     requires width { IsWidth width }
     requires fits { n < 256 ^ width }
     ensures { OnOk result (out.new.items ≡ out.old.items ++ big_bytes width n) }
@@ -103,8 +95,35 @@ pub(crate) fn put_trailer(out: &mut Vec<u8>, count: u64, place: u64) -> Result<(
 // What follows does nothing when it runs: it carries facts that types keep, as the lengths of arrays, to the
 // proofs.
 
+/// An object has no more octets than its weight.
+pub(crate) fn weigh(width: u8, part: &Part)
+    requires narrow { width ≤ 4 }
+    requires spellable { CanSpell width (held_in_part part.now) }
+    ensures { length (spelling_of width (held_in_part part.now))
+        ≤ weight_of (held_in_part part.now) }
+{
+    match part {
+        Part::Scalar(scalar) => weigh_scalar(scalar),
+        Part::List(refs) => weigh_list(width, refs),
+        Part::Table(keys, values) => weigh_table(width, keys, values),
+    }
+}
+
+fn weigh_list(width: u8, refs: &[u64])
+    requires narrow { width ≤ 4 }
+    requires few { length refs.now < 2 ^ 32 }
+    ensures { length (list_spelling width refs.now) ≤ 17 + 4 * length refs.now }
+{}
+
+fn weigh_table(width: u8, keys: &[u64], values: &[u64])
+    requires narrow { width ≤ 4 }
+    requires few { length keys.now < 2 ^ 32 }
+    requires pairs { length keys.now ≡ length values.now }
+    ensures { length (table_spelling width keys.now values.now) ≤ 17 + 8 * length keys.now }
+{}
+
 // A scalar has at most 17 octets beside its payload.
-fn weigh(scalar: &ScalarRef)
+fn weigh_scalar(scalar: &ScalarRef)
     requires { IsSmall (content_of scalar.now) }
     ensures { length (scalar_spelling (content_of scalar.now)) ≤ 17 + payload_of_scalar
         (content_of scalar.now) }

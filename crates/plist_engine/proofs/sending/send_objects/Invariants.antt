@@ -4,7 +4,7 @@ use Rattle.plist_object.specs.Views.{octets_of}
 use Rattle.plist_write.specs.Canonical.{starts}
 use Rattle.plist_write.specs.Pieces.{CanSpellAll}
 use Rattle.plist_engine.specs.Parts.{AreSound, helds_of, octets_for}
-use Rattle.plist_engine.specs.Pending.{Gathers}
+use Rattle.plist_write.specs.Pending.{Gathers}
 use Rattle.plist_engine.proofs.sending.send_objects.Given as goal
 
 -- those that are done and those that are left are all

@@ -1,93 +1,51 @@
-use Rattle.std.proofs.Common.{◌≡◌, ℕ, ◌+◌, ◌<◌, ◌≤◌, ◌^◌, length, refl, ap, subst, ◌∙◌, arith}
-use Rattle.std.proofs.lemmas.Result.{err_from_is_err_and}
+use Rattle.std.proofs.Common.{◌≡◌, ℕ, ◌+◌, ◌≤◌, List, length, refl, sym, ap, ◌∙◌, arith}
 use Rattle.std.specs.List.{concat}
-use Rattle.plist_object.specs.Spelling.{least_width, references}
-use Rattle.plist_write.specs.Canonical.{starts, trailer_octets}
-use Rattle.plist_write.specs.Pieces.{spelled}
-use Rattle.plist_write.proofs.Chunks.{length-entries}
-use Rattle.plist_write.proofs.Parts.{file_of-sent}
-use Rattle.plist_write.proofs.Sends.{Sends-first, Sends-second, Sends-third, Sends-whole}
-use Rattle.plist_write.proofs.Sizes.{least_width-most}
+use Rattle.std.proofs.lemmas.Result.{err_from_is_err_and}
+use Rattle.plist_object.specs.Spelling.{least_width}
+use Rattle.plist_write.specs.Canonical.{starts}
+use Rattle.plist_write.specs.Pending.{AreBefore}
+use Rattle.plist_write.specs.Pieces.{IsPlan, spelled, weights}
+use Rattle.plist_write.specs.Plan.{held_by}
+use Rattle.plist_write.specs.declared.plan.Slot.{Slot}
+use Rattle.plist_write.specs.declared.pending.Pending.{Pending}
+use Rattle.plist_write.proofs.FileSteps.{entries-most, file-stops, file-goes}
+use Rattle.plist_write.proofs.Parts.{length-spelled}
 use Rattle.plist_write.proofs.sending.send_file.Goals as goal
 
-pub send_objects-requires-clause-spellable : goal.send_objects-requires-clause-spellable
-send_objects-requires-clause-spellable g c = rw c.width_of-width.ensures.value c.requires.spellable
+-- the header and the objects stand before the rest of the file
+stands : (slots : List Slot) (width : ℕ) (q : Pending) (places : List ℕ) → places ≡ starts 8 (spelled width slots) → q.sent + length q.octets.items ≡ 8 + length (concat (spelled width slots)) → length (concat (spelled width slots)) ≤ weights (held_by slots) → IsPlan slots → AreBefore (spelled width slots) places q
+stands slots width q places begin behind body plan =
+    let most = entries-most (spelled width slots) in
+    let long = length-spelled width slots in
+    record { begin = begin; behind = behind; short = omega (arith, most, long, body, plan.light, plan.few) }
 
 pub send_objects-requires-clause-room : goal.send_objects-requires-clause-room
 send_objects-requires-clause-room g c =
     let light = c.requires.light in
-    let first = c.in_ok-sent.ensures.sends.all.0 in
-    omega (arith, light, first)
+    let begun = ap length c.in-Ok.ensures.items in
+    omega (arith, light, begun)
 
-pub send_offsets-requires-clause-spellable : goal.send_offsets-requires-clause-spellable
-send_offsets-requires-clause-spellable g c = rw c.width_of-width.ensures.value c.requires.spellable
+pub returns-in_err-places-clause-sends : goal.returns-in_err-places-clause-sends
+returns-in_err-places-clause-sends g c =
+    let e = err_from_is_err_and c.from_residual.result c.from_residual.ensures.1 in
+    let width : c.width_of-width.result ≡ least_width (length c.args.slots.now) = c.width_of-width.ensures.value in
+    let objects = spelled c.width_of-width.result c.args.slots.now in
+    let p : Pending = record { octets = c.in-Ok.octets; sent = 0 } in
+    rw (e.1, e.2, sym width) (file-stops objects p c.in-Ok.ensures.items refl _ _ _ _ _ c.in_err-places.ensures.goes.stopped)
 
-pub send_offsets-requires-clause-fits : goal.send_offsets-requires-clause-fits
-send_offsets-requires-clause-fits g c =
-    let body = length (concat (spelled c.width_of-width.result c.args.slots.now)) in
-    let place : c.in_ok-place.place ≡ 8 + body = c.in_ok-place.ensures.sends.all.0 ∙ ap (λ n. n + body) c.in_ok-sent.ensures.sends.all.0 in
-    subst (λ (n : ℕ). n < 256 ^ c.width_of.result) place c.width_of.ensures.holds
-
-pub send_offsets-requires-clause-room : goal.send_offsets-requires-clause-room
-send_offsets-requires-clause-room g c =
-    let narrow : c.width_of.result ≤ 8 = rw c.width_of.ensures.value (least_width-most c.in_ok-place.place) in
-    let entries = length-entries c.width_of.result c.width_of-width.result 8 c.args.slots.now narrow in
-    let few = c.requires.few in
-    let light = c.requires.light in
-    let first = c.in_ok-sent.ensures.sends.all.0 in
-    let place = c.in_ok-place.ensures.light in
-    omega (arith, entries, few, light, first, place)
-
-pub send_trailer-requires : goal.send_trailer-requires
-send_trailer-requires g c =
-    let narrow : c.width_of.result ≤ 8 = rw c.width_of.ensures.value (least_width-most c.in_ok-place.place) in
-    let entries = length-entries c.width_of.result c.width_of-width.result 8 c.args.slots.now narrow in
-    let few = c.requires.few in
-    let light = c.requires.light in
-    let first = c.in_ok-sent.ensures.sends.all.0 in
-    let place = c.in_ok-place.ensures.light in
-    let third = c.in_ok-sent-2.ensures.sends.all.0 in
-    omega (arith, entries, few, light, first, place, third)
-
-pub returns-in_err-sent-clause-sends : goal.returns-in_err-sent-clause-sends
-returns-in_err-sent-clause-sends g c =
-    let p = err_from_is_err_and c.from_residual.result c.from_residual.ensures.1 in
-    let width = c.width_of-width in
-    let slots = c.args.slots.now in
-    let objects = concat (spelled width.result slots) in
-    let place = 8 + length objects in
-    let parts = file_of-sent slots width.result (least_width place) (length slots) place width.ensures.value refl refl refl in
-    let entries = references (least_width place) (starts 8 (spelled width.result slots)) in
-    let tail = trailer_octets (length slots) place in
-    rw (p.1, p.2) (Sends-first _ _ objects entries tail parts _ _ _ _ _ c.in_err-sent.ensures.sends)
-
-pub returns-in_err-place-clause-sends : goal.returns-in_err-place-clause-sends
-returns-in_err-place-clause-sends g c =
-    let p = err_from_is_err_and c.from_residual-in_err-place.result c.from_residual-in_err-place.ensures.1 in
-    let width = c.width_of-width in
-    let slots = c.args.slots.now in
-    let objects = concat (spelled width.result slots) in
-    let place = 8 + length objects in
-    let parts = file_of-sent slots width.result (least_width place) (length slots) place width.ensures.value refl refl refl in
-    let entries = references (least_width place) (starts 8 (spelled width.result slots)) in
-    let tail = trailer_octets (length slots) place in
-    rw (p.1, p.2) (Sends-second _ _ objects entries tail parts _ _ _ _ _ _ _ _ c.in_ok-sent.ensures.sends c.in_err-place.ensures.sends)
-
-pub returns-in_err-sent-2-clause-sends : goal.returns-in_err-sent-2-clause-sends
-returns-in_err-sent-2-clause-sends g c =
-    let p = err_from_is_err_and c.from_residual-in_err-sent-2.result c.from_residual-in_err-sent-2.ensures.1 in
-    let width = c.width_of-width in
-    let slots = c.args.slots.now in
-    let body = length (concat (spelled width.result slots)) in
-    let place : c.in_ok-place.place ≡ 8 + body = c.in_ok-place.ensures.sends.all.0 ∙ ap (λ n. n + body) c.in_ok-sent.ensures.sends.all.0 in
-    let parts = file_of-sent slots width.result c.width_of.result (length slots) c.in_ok-place.place width.ensures.value c.width_of.ensures.value refl place in
-    rw (p.1, p.2) (Sends-third _ _ _ _ _ parts _ _ _ _ _ _ _ _ _ _ _ c.in_ok-sent.ensures.sends c.in_ok-place.ensures.sends c.in_err-sent-2.ensures.sends)
+pub send_end-requires : goal.send_end-requires
+send_end-requires g c =
+    let width = c.width_of-width.result in
+    let begun = ap length c.in-Ok.ensures.items in
+    let gathered = c.in_ok-places.ensures.goes.done.count in
+    (spelled width c.args.slots.now, stands c.args.slots.now width c.send_objects.new.pending c.deref.result.now (c.deref.ensures.value ∙ c.in_ok-places.ensures.places) (omega (arith, gathered, begun)) c.in_ok-places.ensures.light c.requires)
 
 pub returns-clause-sends : goal.returns-clause-sends
 returns-clause-sends g c =
-    let width = c.width_of-width in
-    let slots = c.args.slots.now in
-    let body = length (concat (spelled width.result slots)) in
-    let place : c.in_ok-place.place ≡ 8 + body = c.in_ok-place.ensures.sends.all.0 ∙ ap (λ n. n + body) c.in_ok-sent.ensures.sends.all.0 in
-    let parts = file_of-sent slots width.result c.width_of.result _ c.in_ok-place.place width.ensures.value c.width_of.ensures.value refl place in
-    Sends-whole _ _ _ _ _ parts _ _ _ _ _ _ _ _ _ _ _ _ _ c.send_trailer.result c.in_ok-sent.ensures.sends c.in_ok-place.ensures.sends c.in_ok-sent-2.ensures.sends c.send_trailer.ensures.sends
+    let width : c.width_of-width.result ≡ least_width (length c.args.slots.now) = c.width_of-width.ensures.value in
+    let objects = spelled c.width_of-width.result c.args.slots.now in
+    let p : Pending = record { octets = c.in-Ok.octets; sent = 0 } in
+    let begun = ap length c.in-Ok.ensures.items in
+    let gathered = c.in_ok-places.ensures.goes.done.count in
+    let before = stands c.args.slots.now c.width_of-width.result c.send_objects.new.pending c.deref.result.now (c.deref.ensures.value ∙ c.in_ok-places.ensures.places) (omega (arith, gathered, begun)) c.in_ok-places.ensures.light c.requires in
+    rw (sym width) (file-goes objects p c.in-Ok.ensures.items refl c.send_objects.new.pending c.send_end.new.pending _ _ _ _ _ _ c.send_end.result c.in_ok-places.ensures.goes.done (c.send_end.ensures.goes objects before) c.send_end.ensures.none c.send_end.ensures.sent)
