@@ -35,10 +35,16 @@ pub fn run(alloc: Global, cursor: Cursor<'_>) -> Result<(Vec<u16>, Cursor<'_>), 
     Ok((units, rest))
 }
 
+/// For how many units more there is room where a string has to grow by a character.
+const LEAST_ROOM: usize = 16;
+
 /// Appends the units of the character.
 fn push_character(units: &mut Vec<u16>, c: char) -> Result<(), AllocError>
     ensures { OnOk result (units.new.items ≡ units.old.items ++ encode_utf16 c) }
 {
+    if units.len() == units.capacity() {
+        units.reserve(LEAST_ROOM)?;
+    }
     let mut buffer = [0; 2];
     units.extend_from_slice(c.encode_utf16(&mut buffer))
 }

@@ -47,9 +47,10 @@ fn front_unit(order: ByteOrder, octets: &[u8]) -> Option<(u16, &[u8])>
     }
 }
 
-/// The character at the front of UTF-16 octets, and the octets behind it.
-#[inline(never)]
-fn front_character(order: ByteOrder, octets: &[u8]) -> Option<(char, &[u8])>
+/// The character at the front of UTF-16 octets, and the octets behind it. Its code stands where it
+/// is called.
+#[inline(always)]
+fn character_in_place(order: ByteOrder, octets: &[u8]) -> Option<(char, &[u8])>
     ensures { MatchOption result (BeginsWithNone (encoding_by order) octets.now)
         (λ found. BeginsWith (encoding_by order) octets.now found.0 found.1.now) }
 {
@@ -65,13 +66,22 @@ fn front_character(order: ByteOrder, octets: &[u8]) -> Option<(char, &[u8])>
     Some((char::from_u32(code)?, behind))
 }
 
+/// The character at the front of UTF-16 octets, and the octets behind it.
+#[inline(never)]
+fn front_character(order: ByteOrder, octets: &[u8]) -> Option<(char, &[u8])>
+    ensures { MatchOption result (BeginsWithNone (encoding_by order) octets.now)
+        (λ found. BeginsWith (encoding_by order) octets.now found.0 found.1.now) }
+{
+    character_in_place(order, octets)
+}
+
 /// The octets from the first place on at which no UTF-16 character begins.
 pub fn behind_characters(order: ByteOrder, octets: &[u8]) -> &[u8]
     ensures fronts { FrontsOf (encoding_by order) octets.now result.now }
     ensures none { BeginsWithNone (encoding_by order) result.now }
 {
     let mut rest = octets;
-    while let Some((_, behind)) = front_character(order, rest) {
+    while let Some((_, behind)) = character_in_place(order, rest) {
         rest = behind;
     }
     rest

@@ -71,7 +71,7 @@ pub fn push_octets(units: &mut Vec<u16>, octets: &[u8]) -> Result<(), AllocError
     units.reserve(octets.len())?;
     let mut rest = octets;
     while let [octet, behind @ ..] = rest {
-        units.push(u16::from(*octet))?;
+        units.push_reserved(u16::from(*octet));
         rest = behind;
     }
     Ok(())
