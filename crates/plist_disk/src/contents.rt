@@ -21,8 +21,9 @@ pub trait Content {
     /// [`WriteFault::WriteFailed`] (51) where the sink fails, and [`WriteFault::OutOfMemory`] (60) where no
     /// memory is left. Exactly the first `sent` octets went out then.
     fn send<W: Sink>(&self, alloc: Global, to: &mut W) -> Result<u64, WriteFault>
-        ensures { IsWritten (octets self.now) (W.taken to.old) (W.taken to.new)
-            (W.failures to.old) (W.failures to.new) result };
+        ensures written { IsWritten (octets self.now) (W.taken to.old) (W.taken to.new)
+            (W.failures to.old) (W.failures to.new) result }
+        ensures same { W.device to.new ≡ W.device to.old };
 }
 
 /// The canonical file of a value that is within the limits, sent object after object.

@@ -36,8 +36,9 @@ impl Content for Octets {
 
 /// Sends all of the octets, and answers how many they are.
 fn send_all<W: Sink>(octets: &[u8], to: &mut W) -> Result<u64, WriteFault>
-    ensures { IsWritten octets.now (W.taken to.old) (W.taken to.new)
+    ensures written { IsWritten octets.now (W.taken to.old) (W.taken to.new)
         (W.failures to.old) (W.failures to.new) result }
+    ensures same { W.device to.new ≡ W.device to.old }
 {
     let mut sent = 0;
     while sent < octets.len() {

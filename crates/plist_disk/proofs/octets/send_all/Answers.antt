@@ -18,4 +18,5 @@ loop-sent-preserved g c =
       within = omega arith;
       taken = rw take-add (Appends-trans _ _ _ _ _ c.loop-sent.invariant.taken (rw whole at put.octets));
       unfailed = put.count.1 ∙ c.loop-sent.invariant.unfailed;
+      same = c.in-Ok.ensures.same ∙ c.loop-sent.invariant.same;
     }
