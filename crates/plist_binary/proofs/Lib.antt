@@ -21,3 +21,4 @@ pub mod Marking
 pub mod Covering
 pub mod PassSteps
 pub mod BuildSteps
+pub mod Ranking

@@ -1,11 +1,12 @@
 -- What is passed, from its content, its items or its pairs, or from what was known of it.
-use Rattle.std.proofs.Common.{◌≡◌, ℕ, ◌+◌, ◌<◌, ◌≤◌, max, List, [], ◌∷◌, ◌++◌, length, take, slice_index, Ok, sym, subst, arith}
+use Rattle.std.proofs.Common.{◌≡◌, ℕ, ◌+◌, ◌-◌, ◌<◌, ◌≤◌, refl, max, List, [], ◌∷◌, ◌++◌, length, take, slice_index, Ok, sym, subst, arith}
 use Rattle.std.specs.Ordering.{nat_cmp}
 use Rattle.std.specs.Cmp.Lexicographic.{slice_cmp}
 use Rattle.std.specs.List.{zip}
 use Rattle.std.specs.List.Sorted.{IsPermutation, IsStrictlySortedBy}
 use Rattle.plist_value.specs.declared.budget.Budget.{Budget}
 use Rattle.plist_value.specs.Budget.{Spends}
+use Rattle.plist_value.specs.declared.TheConstants.{MAX_NODES, MAX_PAYLOAD, MAX_DEPTH}
 use Rattle.plist_value.specs.Plist.{Scalar, Plist, scalar, list, table, Items, IsScalar}
 use Rattle.plist_value.specs.Limits.{depth, payload_of_scalar}
 use Rattle.plist_value.specs.View.{items_of, pairs_of}
@@ -14,7 +15,7 @@ use Rattle.plist_object.specs.Objects.{holds_scalar, holds_list, holds_table}
 use Rattle.plist_object.specs.Places.{what_holds}
 use Rattle.plist_binary.specs.declared.memos.Memo.{Memo}
 use Rattle.plist_binary.specs.Memos.{IsMemo}
-use Rattle.plist_binary.specs.Passing.{Passes, PassesItems, PassesPairs}
+use Rattle.plist_binary.specs.Passing.{Passes, PassesItems, PassesPairs, PassesTop, limits}
 use Rattle.plist_binary.specs.Readings.{ReadsItems, texts}
 use Rattle.plist_binary.proofs.Covering.{covers}
 use Rattle.plist_binary.proofs.Inserting.{zip-firsts}
@@ -108,4 +109,18 @@ PassesPairs-sorted f keys values levels before left after us sorted deep long re
       reads = ReadsPairs-sorted f keys values levels before left after us vs pulled.moved_list long read passed.reads pulled.moved ordered;
       depth_is = (pairs_sorted f keys values deep us vs pulled.moved_list read.spell passed.reads.spell read.valid passed.reads.valid (omega (arith, depth-texts us vs many, passed.depth_is)) passed.depth_is many pulled.moved ordered).deep;
       within = passed.within;
+    }
+
+-- what passes in a part of the limits passes in all of them
+pub PassesTop-short : (f : List ℕ) (short left : Budget) (deep : ℕ) → short.nodes ≤ MAX_NODES → short.payload ≤ MAX_PAYLOAD → Passes f (trailer_of f).top MAX_DEPTH short deep left → PassesTop f
+PassesTop-short f short left deep nodes_most payload_most passed =
+    let top = (trailer_of f).top in
+    let spent = passed.reads.spent in
+    let memo : Memo = record { nodes = short.nodes - left.nodes; payload = short.payload - left.payload; depth = deep } in
+    let after : Budget = record { nodes = MAX_NODES - memo.nodes; payload = MAX_PAYLOAD - memo.payload } in
+    let is = IsMemo-passed f top MAX_DEPTH short left deep memo passed (omega (arith, spent.nodes_left)) (omega (arith, spent.payload_left)) refl in
+    record {
+      deep = deep;
+      after = after;
+      passes = Passes-memo f top MAX_DEPTH limits after memo is passed.within record { nodes_left = omega (arith, nodes_most); payload_left = omega (arith, payload_most) };
     }

@@ -7,6 +7,7 @@ ghost use Rattle.plist_object.specs.Objects.{holds_table};
 ghost use Rattle.plist_object.specs.Places.{Holds};
 ghost use Rattle.plist_object.specs.Spelled.{IsBinary};
 ghost use Rattle.plist_object.specs.Views.{numbers_of, octets_of};
+ghost use Rattle.plist_ranks.specs.Ranks.{AreRanks};
 ghost use Rattle.plist_binary.specs.Faults.{Stands};
 ghost use Rattle.plist_binary.specs.Memos.{AreStates};
 ghost use Rattle.plist_binary.specs.Passing.{Passes, PassesItems, PassesPairs, PassesTop};
@@ -19,12 +20,14 @@ use crate::path::Path;
 use crate::visiting::take_payload;
 use crate::{BinaryFault, tables};
 use plist_object::{BinFile, Object, Refs};
+use plist_ranks::{Keys, Ranks};
 use plist_value::{Budget, MAX_DEPTH};
 use std::alloc::Global;
 
 /// Whether the octets spell a value, of which nothing is made: the refusals of `read`, in their order and
-/// at their places. An object that several references share is walked once, so time and memory grow with
-/// the file and not with the value. The keys of a table are read once for each table.
+/// at their places. An object that several references share is walked once, and a key that many tables share
+/// is read twice at most, so time and memory grow with the file and not with the value. Only where objects
+/// overlap are keys read again at each table.
 ///
 /// # Errors
 ///
@@ -39,33 +42,79 @@ pub fn judge(alloc: Global, octets: &[u8]) -> Result<(), BinaryFault>
     ensures stands { IfErr result (Stands octets.now) }
 {
     let file = BinFile::of(octets)?;
-    Walker { alloc, file }.top()
+    judge_file(alloc, file)
+}
+
+// Whether the top object of the file spells a value within the limits. Where the value is far longer than the
+// file, the file shares texts, and its keys are ranked, so that no key is read again at each table.
+pub(crate) fn judge_file(alloc: Global, file: BinFile) -> Result<(), BinaryFault>
+    requires { IsLaid (octets_of file) }
+    ensures passed { OnOk result (PassesTop (octets_of file.entry)) }
+    ensures refused { IfErr result (Refuses (octets_of file.entry)
+        (trailer_of (octets_of file.entry)).top MAX_DEPTH limits) }
+{
+    let none = Ranks::none(alloc);
+    let ranks = &none;
+    let walker = Walker { alloc, file, ranks };
+    match walker.short() {
+        Ok(()) => Ok(()),
+        Err(BinaryFault::TooMuchPayload { .. }) => {
+            let ranks = Keys::of_file(alloc, &file)?.ranks(alloc, &file)?;
+            let ranks = &ranks;
+            Walker { alloc, file, ranks }.top()
+        }
+        Err(_) => walker.top(),
+    }
 }
 
 #[derive(Clone, Copy)]
-pub(crate) struct Walker<'a> {
+pub(crate) struct Walker<'a, 'r> {
     pub(crate) alloc: Global,
     pub(crate) file: BinFile<'a>,
+    pub(crate) ranks: &'r Ranks<'a>,
     ghost laid: { IsLaid (octets_of file) },
 }
 
-impl<'a> Walker<'a> {
+impl<'a, 'r> Walker<'a, 'r> {
+    // Whether the top object spells a value of not much more payload than the file has octets. What it refuses
+    // may be a value.
+    fn short(&self) -> Result<(), BinaryFault>
+        requires { AreRanks (octets_of self.now.file) self.now.ranks.now }
+        ensures { OnOk result (PassesTop (octets_of self.now.file)) }
+    {
+        let whole = Budget::whole();
+        let short = Budget {
+            nodes: whole.nodes,
+            payload: whole.payload.min(self.file.table().saturating_mul(4)),
+        };
+        let mut left = short;
+        self.depth(&mut left)?;
+        Ok(())
+    }
+
     // Whether the top object spells a value within the limits.
-    pub(crate) fn top(&self) -> Result<(), BinaryFault>
+    fn top(&self) -> Result<(), BinaryFault>
+        requires { AreRanks (octets_of self.now.file) self.now.ranks.now }
         ensures passed { OnOk result (PassesTop (octets_of self.now.file)) }
         ensures refused { IfErr result (Refuses (octets_of self.now.file)
             (trailer_of (octets_of self.now.file)).top MAX_DEPTH limits) }
     {
-        let mut states = Vec::new(self.alloc);
         let mut left = Budget::whole();
-        self.pass(
-            &mut states,
-            &Path::Above,
-            self.file.top(),
-            MAX_DEPTH,
-            &mut left,
-        )?;
+        self.depth(&mut left)?;
         Ok(())
+    }
+
+    // The depth of the value that the top object spells.
+    fn depth(&self, left: &mut Budget) -> Result<u64, BinaryFault>
+        requires limits { IsWithinLimits left.old }
+        requires ranked { AreRanks (octets_of self.now.file) self.now.ranks.now }
+        ensures passed { IfOk result (λ deep. Passes (octets_of self.now.file)
+            (trailer_of (octets_of self.now.file)).top MAX_DEPTH left.old deep left.new) }
+        ensures refused { IfErr result (Refuses (octets_of self.now.file)
+            (trailer_of (octets_of self.now.file)).top MAX_DEPTH left.old) }
+    {
+        let mut states = Vec::new(self.alloc);
+        self.pass(&mut states, &Path::Above, self.file.top(), MAX_DEPTH, left)
     }
 
     // The depth of the value that the object spells, to which the path leads, of at most so many levels.
@@ -84,6 +133,7 @@ impl<'a> Walker<'a> {
         requires states { AreStates (octets_of self.now.file) (containers_of path.now)
             states.old.items }
         requires limits { IsWithinLimits left.old }
+        requires ranked { AreRanks (octets_of self.now.file) self.now.ranks.now }
         ensures passed { IfOk result (λ deep. Passes (octets_of self.now.file) object levels
             left.old deep left.new) }
         ensures refused { IfErr result (Refuses (octets_of self.now.file) object levels left.old) }
@@ -113,6 +163,7 @@ impl<'a> Walker<'a> {
         requires states { AreStates (octets_of self.now.file) (containers_of path.now)
             states.old.items }
         requires limits { IsWithinLimits left.old }
+        requires ranked { AreRanks (octets_of self.now.file) self.now.ranks.now }
         ensures passed { IfOk result (λ deep. Passes (octets_of self.now.file) object levels
             left.old deep left.new) }
         ensures refused { IfErr result (Refuses (octets_of self.now.file) object levels left.old) }
@@ -142,6 +193,7 @@ impl<'a> Walker<'a> {
         requires states { AreStates (octets_of self.now.file) (containers_of path.now)
             states.old.items }
         requires limits { IsWithinLimits left.old }
+        requires ranked { AreRanks (octets_of self.now.file) self.now.ranks.now }
         ensures passed { IfOk result (λ deep. Passes (octets_of self.now.file) object levels
             left.old deep left.new) }
         ensures refused { IfErr result (Refuses (octets_of self.now.file) object levels left.old) }
@@ -183,6 +235,7 @@ impl<'a> Walker<'a> {
         requires states { AreStates (octets_of self.now.file) (container ∷ containers_of before.now)
             states.old.items }
         requires limits { IsWithinLimits left.old }
+        requires ranked { AreRanks (octets_of self.now.file) self.now.ranks.now }
         ensures passed { IfOk result (λ deep. PassesItems (octets_of self.now.file)
             (numbers_of refs.entry) levels left.old deep left.new) }
         ensures refused { IfErr result (RefusesItems (octets_of self.now.file)
@@ -220,6 +273,7 @@ impl<'a> Walker<'a> {
         requires states { AreStates (octets_of self.now.file) (table ∷ containers_of before.now)
             states.old.items }
         requires limits { IsWithinLimits left.old }
+        requires ranked { AreRanks (octets_of self.now.file) self.now.ranks.now }
         ensures passed { IfOk result (λ deep. PassesPairs (octets_of self.now.file)
             (numbers_of keys.entry) (numbers_of values.entry) levels left.old deep left.new) }
         ensures refused { IfErr result (RefusesPairs (octets_of self.now.file)

@@ -7,7 +7,7 @@ ghost use Rattle.plist_binary.specs.Faults.{Stands};
 
 use crate::BinaryFault;
 use crate::building::Builder;
-use crate::judging::Walker;
+use crate::judging::judge_file;
 use plist_object::BinFile;
 use plist_value::{MAX_DEPTH, Value};
 use std::alloc::Global;
@@ -28,6 +28,6 @@ pub fn read(alloc: Global, octets: &[u8]) -> Result<Value, BinaryFault>
     ensures stands { IfErr result (Stands octets.now) }
 {
     let file = BinFile::of(octets)?;
-    Walker { alloc, file }.top()?;
+    judge_file(alloc, file)?;
     Ok(Builder { alloc, file }.value(file.top(), MAX_DEPTH)?)
 }

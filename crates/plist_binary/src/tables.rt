@@ -1,12 +1,12 @@
 //! The keys of a table in order, and the table of its pairs.
 ghost use Rattle.std.specs.Prelude.{◌≡◌, ◌<◌, ◌==◌, ◌↔◌, All, IsTrue, IfOk, length, map};
-ghost use Rattle.std.specs.Ordering.{eq_by_cmp, nat_cmp};
+ghost use Rattle.std.specs.Ordering.{eq_by_cmp, nat_cmp, on};
 ghost use Rattle.std.specs.Cmp.Lexicographic.{slice_cmp};
 ghost use Rattle.std.specs.List.{IsDistinct};
-ghost use Rattle.std.specs.List.Sorted.{IsPermutation, IsStrictlySortedBy};
+ghost use Rattle.std.specs.List.Sorted.{IsPermutation, IsSorted, IsStrictlySortedBy};
 ghost use Rattle.std.specs.Map.{keys_of};
-ghost use Rattle.plist_value.specs.Texts.{units_of};
 ghost use Rattle.plist_binary.specs.Keys.{units_at, place_of, pair_at};
+ghost use Rattle.plist_binary.specs.Keys.{AreRanked, AreRankedAlike, HasRank};
 
 use crate::scalars;
 use plist_value::{TextRef, Utf16, Value};
@@ -15,15 +15,17 @@ use std::cmp::Ordering;
 use std::collections::BTreeMap;
 use std::mem;
 
-// A key of a table, and its place among the keys of the file.
+// A key of a table, its rank if it has one, and its place among the keys of the file.
 #[derive(Clone, Copy)]
 pub(crate) struct Key<'a> {
     pub(crate) text: TextRef<'a>,
+    pub(crate) rank: Option<u64>,
     pub(crate) place: usize,
 }
 
 // Whether no two of the keys are equal, which then ascend.
 pub(crate) fn sort(keys: &mut [Key]) -> bool
+    requires { AreRanked keys.old }
     ensures moved { IsPermutation keys.old keys.new }
     ensures distinct { IsTrue result ↔ IsDistinct (eq_by_cmp (slice_cmp nat_cmp))
         (map units_at keys.old) }
@@ -33,27 +35,51 @@ pub(crate) fn sort(keys: &mut [Key]) -> bool
     if ascend(keys) {
         return true;
     }
-    keys.sort_unstable_by_key(|key| key.text);
+    order(keys);
     ascend(keys)
+}
+
+// Puts the keys in the order of their texts: by ranks where all have one.
+fn order(keys: &mut [Key])
+    requires { AreRanked keys.old }
+    ensures moved { IsPermutation keys.old keys.new }
+    ensures sorted { IsSorted (on units_at (slice_cmp nat_cmp)) keys.new }
+{
+    if have_ranks(keys) {
+        keys.sort_unstable_by_key(|key| key.rank);
+        return;
+    }
+    keys.sort_unstable_by_key(|key| key.text);
+}
+
+fn have_ranks(keys: &[Key]) -> bool
+    ensures { IsTrue result → All HasRank keys.now }
+{
+    keys.iter().all(|key| key.rank.is_some())
 }
 
 // Whether each key is below the next.
 fn ascend(keys: &[Key]) -> bool
+    requires { AreRanked keys.now }
     ensures { IsTrue result ↔ IsStrictlySortedBy (slice_cmp nat_cmp) (map units_at keys.now) }
 {
     for i in 1..keys.len() {
-        if !is_below(&keys[i - 1].text, &keys[i].text) {
+        if !is_below(&keys[i - 1], &keys[i]) {
             return false;
         }
     }
     true
 }
 
-fn is_below(text: &TextRef, next: &TextRef) -> bool
-    ensures { IsTrue result ↔ (slice_cmp nat_cmp (units_of text.now) (units_of next.now) ≡
+fn is_below(key: &Key, next: &Key) -> bool
+    requires { AreRankedAlike key.now next.now }
+    ensures { IsTrue result ↔ (slice_cmp nat_cmp (units_at key.now) (units_at next.now) ≡
         Ordering.Less) }
 {
-    text < next
+    match (key.rank, next.rank) {
+        (Some(rank), Some(above)) => rank < above,
+        _ => key.text < next.text,
+    }
 }
 
 // The table of the keys, which ascend, each with the value at its place. The last key comes first: a key below

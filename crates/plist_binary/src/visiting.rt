@@ -10,9 +10,10 @@ ghost use Rattle.plist_value.specs.Texts.{units_of};
 ghost use Rattle.plist_object.specs.Layout.{trailer_of};
 ghost use Rattle.plist_object.specs.Objects.{IsHeld, holds_scalar};
 ghost use Rattle.plist_object.specs.Places.{what_holds};
-ghost use Rattle.plist_object.specs.Views.{held_of, numbers_of, octets_of};
+ghost use Rattle.plist_object.specs.Views.{Gives, held_of, numbers_of, octets_of};
+ghost use Rattle.plist_ranks.specs.Ranks.{AreRanks};
 ghost use Rattle.plist_binary.specs.Faults.{IsText};
-ghost use Rattle.plist_binary.specs.Keys.{units_at, AreInPlace};
+ghost use Rattle.plist_binary.specs.Keys.{units_at, AreInPlace, AreRanked};
 ghost use Rattle.plist_binary.specs.Memos.{AreStates};
 ghost use Rattle.plist_binary.specs.Paths.{HasKeys, IsKeyOf, Leads, containers_of};
 ghost use Rattle.plist_binary.specs.Readings.{Reads, Refuses, ReadsItems};
@@ -23,10 +24,10 @@ use crate::judging::Walker;
 use crate::memos::{State, state_at};
 use crate::path::Path;
 use crate::tables::Key;
-use plist_object::{Object, Refs};
+use plist_object::{Object, ObjectFault, Refs};
 use plist_value::{Budget, ScalarRef, TextRef};
 
-impl<'a> Walker<'a> {
+impl<'a, 'r> Walker<'a, 'r> {
     // The texts that the references of the table spell, each at its place.
     pub(crate) fn keys(
         &self,
@@ -42,9 +43,11 @@ impl<'a> Walker<'a> {
         requires depth { length (containers_of before.now) + 1 + levels ≡ MAX_DEPTH }
         requires states { AreStates (octets_of self.now.file) (table ∷ containers_of before.now)
             states.now.items }
+        requires ranked { AreRanks (octets_of self.now.file) self.now.ranks.now }
         ensures read { IfOk result (λ keys. ReadsItems (octets_of self.now.file)
             (numbers_of refs.entry) levels left.old (texts (map units_at keys.items)) left.new) }
         ensures placed { IfOk result (λ keys. AreInPlace keys.items) }
+        ensures ranked { IfOk result (λ keys. AreRanked keys.items) }
         ensures refused { IfErr result (RefusesKeys (octets_of self.now.file)
             (numbers_of refs.entry) levels left.old) }
     {
@@ -52,8 +55,9 @@ impl<'a> Walker<'a> {
         for i in 0..refs.len() {
             let object = self.referred(table, refs.get(i))?;
             let text = self.key(states, table, before, object, levels, &mut *left)?;
+            let rank = self.ranks.get(object);
             let place = keys.len();
-            keys.push(Key { text, place })?;
+            keys.push(Key { text, rank, place })?;
         }
         Ok(keys)
     }
@@ -74,6 +78,7 @@ impl<'a> Walker<'a> {
         requires depth { length (containers_of before.now) + 1 + levels ≡ MAX_DEPTH }
         requires states { AreStates (octets_of self.now.file) (table ∷ containers_of before.now)
             states.now.items }
+        requires ranked { AreRanks (octets_of self.now.file) self.now.ranks.now }
         ensures read { IfOk result (λ key. Reads (octets_of self.now.file) object levels left.old
             (scalar_value (text (units_of key))) left.new) }
         ensures refused { IfErr result (RefusesKey (octets_of self.now.file) object levels
@@ -116,6 +121,7 @@ impl<'a> Walker<'a> {
         requires depth { length (containers_of path.now) + levels ≡ MAX_DEPTH }
         requires states { AreStates (octets_of self.now.file) (containers_of path.now)
             states.now.items }
+        requires ranked { AreRanks (octets_of self.now.file) self.now.ranks.now }
         ensures held { IfOk result (λ held. what_holds (octets_of self.now.file) object ≡ Ok
             (held_of held)) }
         ensures valid { IfOk result (λ held. IsHeld (held_of held)) }
@@ -132,10 +138,26 @@ impl<'a> Walker<'a> {
         if levels == 0 {
             return Err(BinaryFault::TooDeep { object });
         }
-        match self.file.object(object) {
+        match self.object(object) {
             Ok(held) => Ok(held),
             Err(fault) => Err(BinaryFault::Object { object, fault }),
         }
+    }
+
+    // What the object holds: the text of its rank where it has one, which is not read again.
+    fn object(&self, object: u64) -> Result<Object<'a>, ObjectFault>
+        requires listed { object < (trailer_of (octets_of self.now.file)).count }
+        requires ranked { AreRanks (octets_of self.now.file) self.now.ranks.now }
+        ensures read { Gives held_of result (what_holds (octets_of self.now.file) object) }
+        ensures valid { IfOk result (λ held. IsHeld (held_of held)) }
+    {
+        let Some(rank) = self.ranks.get(object) else {
+            return self.file.object(object);
+        };
+        let Some(text) = self.ranks.text(rank) else {
+            return self.file.object(object);
+        };
+        Ok(Object::Scalar(ScalarRef::Text(text)))
     }
 }
 

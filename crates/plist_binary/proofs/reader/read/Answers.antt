@@ -9,5 +9,5 @@ use Rattle.plist_binary.proofs.reader.read.Goals as goal
 pub returns-clause-read : goal.returns-clause-read
 returns-clause-read c =
     let f = octets_of c.in_ok-file.file in
-    let fits : Fits (view c.in_ok-value.field-0) = Fits-top f (view c.in_ok-value.field-0) c.in_ok-top.ensures.passed (subst (λ (top : ℕ). IsSpelled f top (view c.in_ok-value.field-0)) c.top-2.ensures.value c.in_ok-value.ensures) in
+    let fits : Fits (view c.in_ok-value.field-0) = Fits-top f (view c.in_ok-value.field-0) c.in_ok-judge_file.ensures.passed (subst (λ (top : ℕ). IsSpelled f top (view c.in_ok-value.field-0)) c.top.ensures.value c.in_ok-value.ensures) in
     search rules

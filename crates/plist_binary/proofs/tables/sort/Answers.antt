@@ -1,7 +1,8 @@
-use Rattle.std.proofs.Common.{map, refl, rules}
-use Rattle.std.proofs.lemmas.List.Sorted.{IsPermutation-refl, IsPermutation-sym, answers_always}
+use Rattle.std.proofs.Common.{map, refl}
+use Rattle.std.proofs.lemmas.List.Sorted.{IsPermutation-refl, IsPermutation-sym}
 use Rattle.plist_binary.specs.Keys.{units_at}
 use Rattle.plist_binary.proofs.Ascents.{ascent_from_distinct, distinct_from_ascent, distinct_moved}
+use Rattle.plist_binary.proofs.Ranking.{AreRanked-moved}
 use Rattle.plist_binary.proofs.tables.sort.Goals as goal
 
 pub returns-then-ascend : goal.returns-then-ascend
@@ -15,9 +16,9 @@ returns-then-ascend c =
 pub returns : goal.returns
 returns c =
     let before = c.args.keys.now in
-    let after = c.sort_unstable_by_key.new.self in
-    let moved = c.sort_unstable_by_key.ensures.permutation in
-    let order = c.sort_unstable_by_key.ensures.sorted (λ key. key.text) (answers_always _ _ _ (λ f a r g h. search rules)) in
+    let after = c.order.new.keys in
+    let moved = c.order.ensures.moved in
+    let order = c.order.ensures.sorted in
     record {
       moved = moved;
       distinct = (
@@ -26,3 +27,6 @@ returns c =
       );
       ascend = c.ascend-2.ensures;
     }
+
+pub ascend-requires-2 : goal.ascend-requires-2
+ascend-requires-2 c = AreRanked-moved c.args.keys.now c.order.new.keys c.order.ensures.moved c.requires

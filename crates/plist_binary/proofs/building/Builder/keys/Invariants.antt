@@ -1,7 +1,8 @@
-use Rattle.std.proofs.Common.{take, map}
+use Rattle.std.proofs.Common.{take, map, []}
+use Rattle.std.specs.Prelude.{All}
 use Rattle.plist_object.specs.Views.{octets_of, numbers_of}
 use Rattle.plist_binary.specs.Building.{AreTexts}
-use Rattle.plist_binary.specs.Keys.{units_at, AreInPlace}
+use Rattle.plist_binary.specs.Keys.{units_at, AreInPlace, IsRanked}
 use Rattle.plist_binary.proofs.building.Builder.keys.Given as goal
 
 abbrev pub invariant-loop-i : goal.invariant-loop-i
@@ -9,4 +10,5 @@ invariant-loop-i l =
     record {
       texts : AreTexts (octets_of l.self.file) (take l.i (numbers_of l.refs)) (map units_at l.keys.items);
       placed : AreInPlace l.keys.items;
+      unranked : All (IsRanked []) l.keys.items;
     }

@@ -1,6 +1,8 @@
 use Rattle.std.proofs.Common.{take, map}
+use Rattle.std.specs.Prelude.{All}
 use Rattle.plist_object.specs.Views.{octets_of, numbers_of}
-use Rattle.plist_binary.specs.Keys.{units_at, AreInPlace}
+use Rattle.plist_ranks.specs.Ranks.{texts_of}
+use Rattle.plist_binary.specs.Keys.{units_at, AreInPlace, IsRanked}
 use Rattle.plist_binary.specs.Readings.{ReadsItems, texts}
 use Rattle.plist_binary.proofs.judging.Walker.keys.Given as goal
 
@@ -9,4 +11,5 @@ invariant-loop-i l =
     record {
       read : ReadsItems (octets_of l.self.file) (take l.i (numbers_of l.refs)) l.levels l.initial.left (texts (map units_at l.keys.items)) l.left;
       placed : AreInPlace l.keys.items;
+      ranked : All (IsRanked (texts_of l.self.ranks.now)) l.keys.items;
     }
