@@ -45,6 +45,53 @@ fn shared_chain(alloc: Global) -> Result<Vec<u8>, AllocError> {
     draft.finish(2, 2)
 }
 
+// A list of twenty tables, all with two keys of forty units: objects 21 and this one. Objects 22 and 23 differ
+// from 21 in their last unit, and 24 does not. No table names the three objects after it, two of which do not
+// read.
+fn tables_that_share_keys(alloc: Global, second: u8) -> Result<Vec<u8>, AllocError> {
+    let mut draft = Draft::new(alloc)?;
+    let mut list = Vec::from_slice(alloc, &[0xaf, 0x10, 20])?;
+    for i in 1..21u8 {
+        list.push(i)?;
+    }
+    draft.put(list.as_slice())?;
+    for _ in 1..20u8 {
+        draft.put(&[0xd2, 21, 22, 25, 25])?;
+    }
+    draft.put(&[0xd2, 21, second, 25, 25])?;
+    for last in [b'm', b'k', b'z', b'm'] {
+        let mut key = Vec::from_slice(alloc, &[0x5f, 0x10, 40])?;
+        key.resize(42, b'a')?;
+        key.push(last)?;
+        draft.put(key.as_slice())?;
+    }
+    for object in [
+        b"\x09".as_slice(),
+        b"\xd2\x1b\x1c\x19\x19",
+        b"\x00",
+        b"Q\xff",
+    ] {
+        draft.put(object)?;
+    }
+    draft.finish(2, 1)
+}
+
+#[test]
+fn keys_that_many_tables_share(rt: HostRuntime) -> Result<(), Fail> {
+    let alloc = rt.alloc();
+    for (second, answer) in [
+        (22, Ok(())),
+        (23, Ok(())),
+        (24, Err(BinaryFault::DuplicateKey { object: 20 })),
+        (21, Err(BinaryFault::DuplicateKey { object: 20 })),
+        (25, Err(BinaryFault::KeyNotText { object: 20 })),
+    ] {
+        let octets = tables_that_share_keys(alloc, second)?;
+        assert_eq!(rt; judge(alloc, octets.as_slice()), answer);
+    }
+    Ok(())
+}
+
 #[test]
 fn what_is_shared_is_passed(rt: HostRuntime) -> Result<(), Fail> {
     let alloc = rt.alloc();
