@@ -1,5 +1,5 @@
 #!/usr/bin/env python3
-"""Measures `plistconv check` on files made to be slow, at three sizes of which each is twice the one before.
+"""Measures `plistconv check` and `plistconv lint` on files made to be slow, at three sizes of which each is twice the one before.
 
 usage: bench/hostile.py [PLISTCONV]   (the program to measure, ./plistconv if not given)
 
@@ -66,20 +66,30 @@ def one_text_often(size):
     return joined([head(0xA0, size // 2) + b"\x01" * (size // 2), head(0x50, length) + b"a" * length], 1)
 
 
+def one_key(size):
+    """A list of tables, all with one long key."""
+    tables, length = size // 12, 5000
+    first = head(0xA0, tables) + b"".join(number(n, 3) for n in range(3, tables + 3))
+    table = b"\xd1" + number(1, 3) + number(2, 3)
+    return joined([first, head(0x50, length) + b"a" * length, b"\x09", *[table] * tables], 3)
+
+
 def main():
     program = os.path.abspath(sys.argv[1] if len(sys.argv) > 1 else "./plistconv")
-    print("| file | octets | answer | seconds | seconds for each MB |")
-    print("|---|---|---|---|---|")
+    print("| word | file | octets | answer | seconds | seconds for each MB |")
+    print("|---|---|---|---|---|---|")
     with tempfile.TemporaryDirectory() as folder:
         path, measure = os.path.join(folder, "file"), Measure(folder)
-        for make in (shared_keys, overlapping_keys, one_text_often):
+        for word, make in (("check", shared_keys), ("check", overlapping_keys), ("check", one_text_often),
+                           ("lint", shared_keys), ("lint", one_key)):
             for size in (250_000, 500_000, 1_000_000):
                 with open(path, "wb") as target:
                     target.write(make(size))
-                runs = [measure.run([program, "check", path]) for _ in range(3)]
+                runs = [measure.run([program, word, path]) for _ in range(3)]
                 least = min(run.processor for run in runs)
                 octets = os.path.getsize(path)
-                print(f"| {make.__name__.replace('_', ' ')} | {octets:,} | {runs[0].printed} | {least:.3f} "
+                answer = runs[0].printed.replace(path, "IN")
+                print(f"| {word} | {make.__name__.replace('_', ' ')} | {octets:,} | {answer} | {least:.3f} "
                       f"| {least / octets * 1_000_000:.3f} |", flush=True)
 
 
