@@ -16,7 +16,7 @@ use crate::pending::{Pending, send_end, send_part};
 use crate::plan::Slot;
 use crate::putting::{part_length, weigh};
 use crate::walk::slots_of;
-use plist_object::width_of;
+use plist_object::{HEADER, width_of};
 use plist_value::Value;
 use std::alloc::Global;
 use thiserror::Error;
@@ -77,7 +77,7 @@ fn send_file<W: Sink>(alloc: Global, slots: &[Slot], out: &mut W) -> Result<u64,
         (W.failures out.old) (W.failures out.new) result }
     ensures same { W.device out.new ≡ W.device out.old }
 {
-    let Ok(octets) = Vec::from_slice(alloc, b"bplist00") else {
+    let Ok(octets) = Vec::from_slice(alloc, &HEADER) else {
         return Err(WriteFault::OutOfMemory { sent: 0 });
     };
     let mut pending = Pending { octets, sent: 0 };
