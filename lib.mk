@@ -1,6 +1,7 @@
 # The C library: `make lib` builds libplistconv.a and libplistconv.so, which export the functions of
 # include/plistconv.h alone; `make install-lib` installs them with the header and a file for pkg-config;
-# `make examples` builds and runs the examples. The toolchain's C functions stand beside `rt`.
+# `make examples` builds and runs the examples, `make growths-lib` refuses each allocation in turn.
+# The toolchain's C functions stand beside `rt`.
 CC ?= cc
 RT_HOME := $(patsubst %/bin/,%,$(dir $(realpath $(shell command -v $(RT)))))
 RT_LIBC = $(firstword $(wildcard $(RT_HOME)/c/liblibc_c.a))
@@ -10,7 +11,7 @@ PC_PREFIX ?= $(PREFIX)
 LIB_VERSION := 1.0
 PROVED_LIB := crates/plistconv_c/out/libplistconv_c.a
 
-.PHONY: lib install-lib examples has-libc
+.PHONY: lib install-lib examples growths-lib has-libc
 
 lib: libplistconv.a libplistconv.so
 
@@ -42,3 +43,7 @@ install-lib: lib
 
 examples: lib
 	examples/test
+
+growths-lib: lib
+	$(CC) -std=c99 -Iinclude examples/c/calls.c libplistconv.a -o out/calls
+	python3 bench/refused.py out/calls < /dev/null

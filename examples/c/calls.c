@@ -1,0 +1,74 @@
+/* Calls each function of the library, and prints the line of a refusal. Exits with 0 where all answer as they
+ * must, with 5 where one answers 60 and leaves all as it was, and with 1 else. It takes no memory of its own, so
+ * `make growths-lib` can refuse each allocation that the library makes, in turn. */
+#include <plistconv.h>
+#include <string.h>
+#include <unistd.h>
+
+#define ROOM 4096
+static uint8_t file[ROOM], again[ROOM], text[ROOM], line[ROOM];
+static plistconv_refusal refusal;
+
+static const uint8_t value[] = "{ b = (x, \"y z\", (deep, (er, { k = <00ff>; }))); c = \"h\\U00e9\"; }";
+static const uint8_t twice[] = "{ a = b; c = (d); a = c; }";
+
+static void must(int holds) {
+    if (!holds) _exit(1);
+}
+
+/* The canonical file of the octets, in a buffer that must stay as it was where there is none. */
+static size_t canonical(const uint8_t *octets, size_t count, uint8_t *into, uint8_t wanted) {
+    size_t length = 7;
+    memset(into, 0xee, ROOM);
+    uint8_t number = plistconv_canonical(octets, count, into, ROOM, &length, &refusal);
+    must(refusal.number == number && refusal.input == (number != 0));
+    if (number != 0) {
+        must(length == 0);
+        for (size_t i = 0; i < ROOM; i++) must(into[i] == 0xee);
+    }
+    if (number == 60) _exit(5);
+    must(number == wanted);
+    return length;
+}
+
+static void same(const uint8_t *first, size_t count, const uint8_t *second, size_t second_count) {
+    uint8_t equal = 7;
+    uint8_t number = plistconv_same(first, count, second, second_count, &equal, &refusal);
+    if (number == 60) _exit(equal == 0 ? 5 : 1);
+    must(number == 0 && equal == 1);
+}
+
+/* The answer of plistconv_line in so much room. */
+static uint8_t line_of(size_t room, size_t *length) {
+    uint8_t number = plistconv_line((const uint8_t *)"a path", 6, &refusal, line, room, length);
+    if (number == 60) _exit(*length == 0 ? 5 : 1);
+    return number;
+}
+
+int main(void) {
+    size_t length = canonical(value, sizeof value - 1, file, 0);
+    plistconv_finding finding = {0};
+    uint8_t number = plistconv_check(file, length, &finding, &refusal);
+    if (number == 60) _exit(5);
+    must(number == 0 && finding.canonical == 1);
+    must(canonical(file, length, again, 0) == length && memcmp(file, again, length) == 0);
+    same(value, sizeof value - 1, file, length);
+
+    size_t text_length = 0;
+    number = plistconv_text(file, length, text, ROOM, &text_length, &refusal);
+    if (number == 60) _exit(text_length == 0 ? 5 : 1);
+    must(number == 0);
+    same(text, text_length, file, length);
+
+    canonical(twice, sizeof twice - 1, again, 14);
+    size_t line_length = 0;
+    must(line_of(3, &line_length) == 0 && line_length == 43 && line[0] == 0);
+    must(line_of(ROOM, &line_length) == 0 && line_length == 43);
+    plistconv_refusal none = {0};
+    refusal.unit = PLISTCONV_NO_PLACE;
+    must(line_of(ROOM, &length) == PLISTCONV_UNTOLD && length == 0);
+    refusal = none;
+    must(line_of(ROOM, &length) == PLISTCONV_UNTOLD && length == 0);
+    line[line_length] = '\n';
+    return write(1, line, line_length + 1) != (ssize_t)line_length + 1;
+}
