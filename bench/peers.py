@@ -3,6 +3,7 @@
 Each is a list of words before a source and a target. The drivers in bench/peers are ours; what is built of them
 stands in the folder that is given, and none of it in the repository.
 """
+import glob
 import os
 import shutil
 import subprocess
@@ -36,7 +37,7 @@ def copy(folder):
 
 def plist_crate(folder):
     """The Rust crate plist, built by cargo from Debian's registry alone."""
-    if not any(name.startswith("plist-") for name in os.listdir(REGISTRY)) if os.path.isdir(REGISTRY) else True:
+    if not glob.glob(os.path.join(REGISTRY, "plist-*")):
         return None
     root = os.path.join(folder, "plist_crate")
     shutil.copytree(os.path.join(DRIVERS, "plist_crate"), root)
