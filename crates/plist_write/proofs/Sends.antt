@@ -51,28 +51,6 @@ Sends-stop xs ys sent a b f g e x =
       front = (more, x.front.1, rw length-append (omega arith), rw take-append-le x.front.3, x.front.4);
     }
 
--- a file of four parts
-module _ (file h o e t : List ℕ) (parts : h ++ (o ++ (e ++ t)) ≡ file) where
-  pub Sends-first : (a b : Option (List ℕ)) (i j : ℕ) (fault : WriteFault) → Sends h 0 a b i j (Err fault) → Sends file 0 a b i j (Err fault)
-  Sends-first a b i j fault x = subst (λ (octets : List ℕ). Sends octets 0 a b i j (Err fault)) parts (Sends-stop h (o ++ (e ++ t)) 0 a b i j fault x)
-
-  pub Sends-second : (a b c : Option (List ℕ)) (i j k n : ℕ) (fault : WriteFault) → Sends h 0 a b i j (Ok n) → Sends o n b c j k (Err fault) → Sends file 0 a c i k (Err fault)
-  Sends-second a b c i j k n fault x y =
-      let later = Sends-stop o (e ++ t) n b c j k fault y in
-      subst (λ (octets : List ℕ). Sends octets 0 a c i k (Err fault)) parts (Sends-append h (o ++ (e ++ t)) 0 n a b c i j k (Err fault) x later)
-
-  pub Sends-third : (a b c d : Option (List ℕ)) (i j k l n m : ℕ) (fault : WriteFault) → Sends h 0 a b i j (Ok n) → Sends o n b c j k (Ok m) → Sends e m c d k l (Err fault) → Sends file 0 a d i l (Err fault)
-  Sends-third a b c d i j k l n m fault x y z =
-      let last = Sends-stop e t m c d k l fault z in
-      let later = Sends-append o (e ++ t) n m b c d j k l (Err fault) y last in
-      subst (λ (octets : List ℕ). Sends octets 0 a d i l (Err fault)) parts (Sends-append h (o ++ (e ++ t)) 0 n a b d i j l (Err fault) x later)
-
-  pub Sends-whole : (a b c d f : Option (List ℕ)) (i j k l r n m q : ℕ) (result : Result ℕ WriteFault) → Sends h 0 a b i j (Ok n) → Sends o n b c j k (Ok m) → Sends e m c d k l (Ok q) → Sends t q d f l r result → Sends file 0 a f i r result
-  Sends-whole a b c d f i j k l r n m q result x y z w =
-      let last = Sends-append e t m q c d f k l r result z w in
-      let later = Sends-append o (e ++ t) n m b c f j k r result y last in
-      subst (λ (octets : List ℕ). Sends octets 0 a f i r result) parts (Sends-append h (o ++ (e ++ t)) 0 n a b f i j r result x later)
-
 -- a file that is sent from its first octet on
 pub is_written : (file : List ℕ) (a b : Option (List ℕ)) (f g : ℕ) (result : Result ℕ WriteFault) → Sends file 0 a b f g result → IsWritten file a b f g result
 is_written file a b f g (Ok n) x =
