@@ -10,7 +10,7 @@ ghost use Rattle.plist_value.specs.Hashes.{fed_text, fed_units, pair_from, word_
 ghost use Rattle.std.proofs.Common.{rules};
 ghost use Rattle.plist_value.specs.Texts.{units_of, wide_units};
 
-use crate::words::{compare, feed};
+use crate::words::feed;
 use std::cmp::Ordering;
 use std::hash::{Hash, Hasher};
 
@@ -168,7 +168,7 @@ impl<'a> Ord for TextRef<'a> {
 
     fn cmp(&self, other: &Self) -> Ordering {
         match (self.kept, other.kept) {
-            (Kept::Units(units), Kept::Units(others)) => compare(units, others),
+            (Kept::Units(units), Kept::Units(others)) => units.cmp(others),
             (Kept::Ascii(octets), Kept::Ascii(others)) => octets.cmp(others),
             _ => compare_units(self, other),
         }
