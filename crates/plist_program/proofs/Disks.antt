@@ -7,7 +7,7 @@ use Rattle.plist_files.specs.declared.faults.Fault.TheVariants.{InputTooLarge, O
 use Rattle.plist_files.specs.declared.loading.TheConstants.{MAX_INPUT}
 use Rattle.plist_write.specs.declared.sending.WriteFault.{WriteFault}
 use Rattle.plist_write.specs.Sending.{IsBlamed, sent_of}
-use Rattle.plist_disk.specs.Files.{FileName, Files, Holds, HoldsFront, IsStored, IsUnloaded, Lacks, SameBeside, SameFiles, Turns}
+use Rattle.plist_disk.specs.Files.{FileName, Files, Holds, IsStored, IsUnloaded, Lacks, SameBeside, SameFiles, Turns}
 
 -- what turns from the files in between turns from those before
 turns_before : (P Q : Files → Files → Type 0)

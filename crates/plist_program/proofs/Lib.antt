@@ -1,2 +1,3 @@
+pub mod Blame
 pub mod Disks
 pub mod Runs

@@ -1,10 +1,10 @@
 -- From what the parts of a word ensure to its run.
-use Rattle.std.proofs.Common.{ap, arith, inl, inr, refl, subst, sym, Err, List, Ok, Option, Result, ℕ, ◌∙◌, ◌≡◌, ◌⊎◌}
+use Rattle.std.proofs.Common.{ap, arith, inl, inr, refl, Err, List, Ok, Option, Result, ℕ, ◌∙◌, ◌≡◌, ◌⊎◌}
 use Rattle.std.specs.Prelude.{◌≤◌, IfOk, MatchResult, length}
 use Rattle.std.specs.declared.alloc.AllocError.{AllocError}
 use Rattle.clap.specs.Words.{Text, kind_of}
 use Rattle.clap.specs.declared.Error.{Error}
-use Rattle.plist_devices.specs.Count.{HasFailed, count_limit}
+use Rattle.plist_devices.specs.Count.{HasFailed}
 use Rattle.plist_files.specs.Fault.{code_of, status_for}
 use Rattle.plist_files.specs.declared.faults.Fault.{Fault}
 use Rattle.plist_files.specs.declared.faults.Fault.TheVariants.{WriteFailed}

@@ -4,5 +4,4 @@ pub mod Explaining
 pub mod Program
 pub mod Runs
 pub mod State
-pub mod Stream
 pub mod Verdicts

@@ -5,6 +5,7 @@ use Rattle.plist_words.specs.Asked.{Asked, Filters, Converts, Compares, Lints, C
 use Rattle.plist_words.specs.Reading.{IsParse}
 use Rattle.plist_files.specs.declared.forms.Form.{Form}
 use Rattle.plist_files.specs.declared.forms.Form.TheVariants.{Binary1, OpenStep}
+use Rattle.plist_program.specs.Ending.{HaveFailed}
 use Rattle.plist_program.specs.Explaining.{IsExplained}
 use Rattle.plist_program.specs.Runs.{IsCheckRun, IsConvertRun, IsConvertTextRun, IsFilterRun, IsLintRun, IsSameRun}
 use Rattle.plist_program.specs.State.{Input, State}
@@ -60,3 +61,10 @@ pub record IsRefusedRun (words : List Text) (input rest : Input) (before after :
 abbrev pub IsRun : List Text → Input → Input → State → State → ℕ → Type 0
 IsRun words input rest before after status =
     IsObeyed words input rest before after status ⊎ IsRefusedRun words input rest before after status
+
+-- A device of the call failed: the count of the input's failures, of the files' or of the output's rose, or stands at
+-- the greatest.
+abbrev pub DeviceFailed : Input → Input → State → State → Type 0
+DeviceFailed input rest before after =
+    HaveFailed input.failures rest.failures
+    ⊎ (HaveFailed before.disk_failures after.disk_failures ⊎ HaveFailed before.print_failures after.print_failures)

@@ -1,14 +1,13 @@
 //! The whole program.
 ghost use Rattle.std.specs.Prelude.{◌≡◌, ℕ, None, map};
 ghost use Rattle.plist_words.specs.Asked.{asked_by};
-ghost use Rattle.plist_program.specs.Program.{IsAskedRun, IsRun};
+ghost use Rattle.plist_program.specs.Program.{DeviceFailed, IsAskedRun, IsRun};
 ghost use Rattle.plist_program.specs.State.{Input, input_of, state};
 
 use crate::filtering::filter;
-use crate::outputs::{Output, Stream};
 use crate::printing::explain;
 use crate::words::{check_file, compare_files, convert_to, lint_file};
-use plist_devices::{ReaderSource, Source};
+use plist_devices::{ReaderSource, Sink, Source, Stream};
 use plist_disk::{Disk, HostDisk};
 use plist_words::{Request, read_words};
 use std::alloc::Global;
@@ -46,7 +45,7 @@ pub fn run<R: Files, I: Read, O: Write>(
 }
 
 /// The whole program over any disk and streams, as [`run`] over the files of the host.
-pub fn run_on<D: Disk, S: Source, W: Output>(
+pub fn run_on<D: Disk, S: Source, W: Sink>(
     alloc: Global,
     disk: &mut D,
     words: &[&str],
@@ -57,9 +56,38 @@ pub fn run_on<D: Disk, S: Source, W: Output>(
         (input_of (S.remaining input.old) (S.failures input.old))
         (input_of (S.remaining input.new) (S.failures input.new))
         (state (D.files disk.old) (D.failures disk.old)
-        (W.printed output.old) (W.failures output.old))
+        (W.taken output.old) (W.failures output.old))
         (state (D.files disk.new) (D.failures disk.new)
-        (W.printed output.new) (W.failures output.new))
+        (W.taken output.new) (W.failures output.new))
+        result }
+    ensures same { W.device output.new ≡ W.device output.old }
+    // 4 comes only where a device failed.
+    ensures blamed { result ≡ 4 → DeviceFailed
+        (input_of (S.remaining input.old) (S.failures input.old))
+        (input_of (S.remaining input.new) (S.failures input.new))
+        (state (D.files disk.old) (D.failures disk.old)
+        (W.taken output.old) (W.failures output.old))
+        (state (D.files disk.new) (D.failures disk.new)
+        (W.taken output.new) (W.failures output.new)) }
+{
+    perform(alloc, disk, words, input, output)
+}
+
+/// Reads the words, and does what they ask for.
+fn perform<D: Disk, S: Source, W: Sink>(
+    alloc: Global,
+    disk: &mut D,
+    words: &[&str],
+    input: &mut S,
+    output: &mut W,
+) -> u8
+    ensures run { IsRun (map (λ word. word.now) words.now)
+        (input_of (S.remaining input.old) (S.failures input.old))
+        (input_of (S.remaining input.new) (S.failures input.new))
+        (state (D.files disk.old) (D.failures disk.old)
+        (W.taken output.old) (W.failures output.old))
+        (state (D.files disk.new) (D.failures disk.new)
+        (W.taken output.new) (W.failures output.new))
         result }
     ensures same { W.device output.new ≡ W.device output.old }
 {
@@ -70,7 +98,7 @@ pub fn run_on<D: Disk, S: Source, W: Output>(
 }
 
 /// Does what was asked for.
-fn obey<D: Disk, S: Source, W: Output>(
+fn obey<D: Disk, S: Source, W: Sink>(
     alloc: Global,
     disk: &mut D,
     request: Request,
@@ -81,9 +109,9 @@ fn obey<D: Disk, S: Source, W: Output>(
         (input_of (S.remaining input.old) (S.failures input.old))
         (input_of (S.remaining input.new) (S.failures input.new))
         (state (D.files disk.old) (D.failures disk.old)
-        (W.printed output.old) (W.failures output.old))
+        (W.taken output.old) (W.failures output.old))
         (state (D.files disk.new) (D.failures disk.new)
-        (W.printed output.new) (W.failures output.new))
+        (W.taken output.new) (W.failures output.new))
         result }
     ensures same { W.device output.new ≡ W.device output.old }
 {

@@ -5,9 +5,8 @@ ghost use Rattle.plist_files.specs.Accepted.{IsCanonicalOf};
 ghost use Rattle.plist_program.specs.Runs.{IsFilterRun, IsInputFault};
 ghost use Rattle.plist_program.specs.State.{input_of, state};
 
-use crate::outputs::Output;
 use crate::printing::{report, send};
-use plist_devices::Source;
+use plist_devices::{Sink, Source};
 use plist_files::{Fault, Status, canonicalise, load};
 use std::alloc::Global;
 
@@ -15,12 +14,12 @@ use std::alloc::Global;
 const STANDARD: &str = "-";
 
 /// The canonical file of the input, to the output. Nothing is printed before all of it is made.
-pub(crate) fn filter<S: Source, W: Output>(alloc: Global, input: &mut S, output: &mut W) -> u8
+pub(crate) fn filter<S: Source, W: Sink>(alloc: Global, input: &mut S, output: &mut W) -> u8
     ensures run { (disk : ℕ) (files : Option Files) → IsFilterRun
         (input_of (S.remaining input.old) (S.failures input.old))
         (input_of (S.remaining input.new) (S.failures input.new))
-        (state files disk (W.printed output.old) (W.failures output.old))
-        (state files disk (W.printed output.new) (W.failures output.new)) result }
+        (state files disk (W.taken output.old) (W.failures output.old))
+        (state files disk (W.taken output.new) (W.failures output.new)) result }
     ensures same { W.device output.new ≡ W.device output.old }
 {
     match canonical_of(alloc, input) {

@@ -5,7 +5,6 @@
 pub mod answers;
 mod entry;
 mod filtering;
-pub mod outputs;
 mod printing;
 mod verdicts;
 mod words;

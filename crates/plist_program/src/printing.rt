@@ -9,25 +9,25 @@ ghost use Rattle.plist_program.specs.Ending.{Ends, Prints, no_memory as no_memor
 ghost use Rattle.plist_program.specs.Explaining.{said_of_kind, status_of_kind};
 
 use crate::answers::{Answer, refused};
-use crate::outputs::Output;
 use clap::error::{Error, ErrorKind};
+use plist_devices::Sink;
 use plist_files::{Fault, Status};
 use std::alloc::{AllocError, Global};
 
 /// Prints all octets, and counts what went out: [`Fault::WriteFailed`] tells how many were printed before
 /// the device failed.
-pub(crate) fn send<W: Output>(output: &mut W, octets: &[u8]) -> Result<(), Fault>
-    ensures ok { OnOk result (Appends (W.printed output.old) (W.printed output.new) octets.now
+pub(crate) fn send<W: Sink>(output: &mut W, octets: &[u8]) -> Result<(), Fault>
+    ensures ok { OnOk result (Appends (W.taken output.old) (W.taken output.new) octets.now
         × (W.failures output.new ≡ W.failures output.old)) }
     ensures err { IfErr result (λ fault. (sent : ℕ) × (fault ≡ Fault.WriteFailed sent)
         × (sent < length octets.now)
-        × Appends (W.printed output.old) (W.printed output.new) (take sent octets.now)
+        × Appends (W.taken output.old) (W.taken output.new) (take sent octets.now)
         × HasFailed (W.failures output.old) (W.failures output.new)) }
     ensures same { W.device output.new ≡ W.device output.old }
 {
     let mut sent = 0;
     while sent < octets.len() {
-        match output.print_some(&octets[sent..]) {
+        match output.put(&octets[sent..]) {
             Ok(taken) => sent += taken,
             Err(_) => return Err(Fault::WriteFailed { sent: sent as u64 }),
         }
@@ -36,8 +36,8 @@ pub(crate) fn send<W: Output>(output: &mut W, octets: &[u8]) -> Result<(), Fault
 }
 
 /// Prints the text, and answers the status, or that it could not be printed.
-pub(crate) fn print<W: Output>(output: &mut W, text: &str, status: Status) -> u8
-    ensures ends { Prints (W.printed output.old) (W.printed output.new)
+pub(crate) fn print<W: Sink>(output: &mut W, text: &str, status: Status) -> u8
+    ensures ends { Prints (W.taken output.old) (W.taken output.new)
         (W.failures output.old) (W.failures output.new)
         (record { text = text.now; status = status_code status }) result }
     ensures same { W.device output.new ≡ W.device output.old }
@@ -49,11 +49,11 @@ pub(crate) fn print<W: Output>(output: &mut W, text: &str, status: Status) -> u8
 }
 
 /// Prints an answer, and answers its status.
-pub(crate) fn give<W: Output>(output: &mut W, answer: Result<Answer, AllocError>) -> u8
+pub(crate) fn give<W: Sink>(output: &mut W, answer: Result<Answer, AllocError>) -> u8
     ensures ends { MatchResult answer
-        (λ answer. Prints (W.printed output.old) (W.printed output.new)
+        (λ answer. Prints (W.taken output.old) (W.taken output.new)
         (W.failures output.old) (W.failures output.new) (said_of answer) result)
-        (λ _. Prints (W.printed output.old) (W.printed output.new)
+        (λ _. Prints (W.taken output.old) (W.taken output.new)
         (W.failures output.old) (W.failures output.new) no_memory_said result) }
     ensures same { W.device output.new ≡ W.device output.old }
 {
@@ -64,8 +64,8 @@ pub(crate) fn give<W: Output>(output: &mut W, answer: Result<Answer, AllocError>
 }
 
 /// Prints the line of a refusal, and answers its status.
-pub(crate) fn report<W: Output>(alloc: Global, path: &str, fault: &Fault, output: &mut W) -> u8
-    ensures ends { Ends (W.printed output.old) (W.printed output.new)
+pub(crate) fn report<W: Sink>(alloc: Global, path: &str, fault: &Fault, output: &mut W) -> u8
+    ensures ends { Ends (W.taken output.old) (W.taken output.new)
         (W.failures output.old) (W.failures output.new) (refusal path.now fault.now) result }
     ensures same { W.device output.new ≡ W.device output.old }
 {
@@ -76,8 +76,8 @@ pub(crate) fn report<W: Output>(alloc: Global, path: &str, fault: &Fault, output
 }
 
 /// Prints what `clap` says of the words, and answers the status.
-pub(crate) fn explain<W: Output>(alloc: Global, error: &Error, output: &mut W) -> u8
-    ensures ends { (text : List ℕ) × Ends (W.printed output.old) (W.printed output.new)
+pub(crate) fn explain<W: Sink>(alloc: Global, error: &Error, output: &mut W) -> u8
+    ensures ends { (text : List ℕ) × Ends (W.taken output.old) (W.taken output.new)
         (W.failures output.old) (W.failures output.new)
         (said_of_kind text (kind_of error.now)) result }
     ensures same { W.device output.new ≡ W.device output.old }
@@ -99,8 +99,8 @@ fn status_of(error: &Error) -> Status
     }
 }
 
-fn report_no_memory<W: Output>(output: &mut W) -> u8
-    ensures ends { Prints (W.printed output.old) (W.printed output.new)
+fn report_no_memory<W: Sink>(output: &mut W) -> u8
+    ensures ends { Prints (W.taken output.old) (W.taken output.new)
         (W.failures output.old) (W.failures output.new) no_memory_said result }
     ensures same { W.device output.new ≡ W.device output.old }
 {

@@ -5,8 +5,8 @@ ghost use Rattle.plist_program.specs.Program.{IsConvertTo};
 ghost use Rattle.plist_program.specs.State.{state};
 
 use crate::answers::{check_answer, lint_answer, same_answer, text_of_octets};
-use crate::outputs::Output;
 use crate::printing::{give, report};
+use plist_devices::Sink;
 use plist_disk::{Content, Disk, Octets};
 use plist_files::{Fault, Status, canonicalise};
 use plist_words::Form;
@@ -14,7 +14,7 @@ use plist_write::WriteFault;
 use std::alloc::Global;
 
 /// `check IN`.
-pub(crate) fn check_file<D: Disk, W: Output>(
+pub(crate) fn check_file<D: Disk, W: Sink>(
     alloc: Global,
     disk: &mut D,
     path: &str,
@@ -22,9 +22,9 @@ pub(crate) fn check_file<D: Disk, W: Output>(
 ) -> u8
     ensures run { IsCheckRun path.now
         (state (D.files disk.old) (D.failures disk.old)
-        (W.printed output.old) (W.failures output.old))
+        (W.taken output.old) (W.failures output.old))
         (state (D.files disk.new) (D.failures disk.new)
-        (W.printed output.new) (W.failures output.new))
+        (W.taken output.new) (W.failures output.new))
         result }
     ensures same { W.device output.new ≡ W.device output.old }
 {
@@ -35,7 +35,7 @@ pub(crate) fn check_file<D: Disk, W: Output>(
 }
 
 /// `lint IN`.
-pub(crate) fn lint_file<D: Disk, W: Output>(
+pub(crate) fn lint_file<D: Disk, W: Sink>(
     alloc: Global,
     disk: &mut D,
     path: &str,
@@ -43,9 +43,9 @@ pub(crate) fn lint_file<D: Disk, W: Output>(
 ) -> u8
     ensures run { IsLintRun path.now
         (state (D.files disk.old) (D.failures disk.old)
-        (W.printed output.old) (W.failures output.old))
+        (W.taken output.old) (W.failures output.old))
         (state (D.files disk.new) (D.failures disk.new)
-        (W.printed output.new) (W.failures output.new))
+        (W.taken output.new) (W.failures output.new))
         result }
     ensures same { W.device output.new ≡ W.device output.old }
 {
@@ -56,7 +56,7 @@ pub(crate) fn lint_file<D: Disk, W: Output>(
 }
 
 /// `same A B`: loads A, then B, and only then reads them.
-pub(crate) fn compare_files<D: Disk, W: Output>(
+pub(crate) fn compare_files<D: Disk, W: Sink>(
     alloc: Global,
     disk: &mut D,
     first: &str,
@@ -65,9 +65,9 @@ pub(crate) fn compare_files<D: Disk, W: Output>(
 ) -> u8
     ensures run { IsSameRun first.now second.now
         (state (D.files disk.old) (D.failures disk.old)
-        (W.printed output.old) (W.failures output.old))
+        (W.taken output.old) (W.failures output.old))
         (state (D.files disk.new) (D.failures disk.new)
-        (W.printed output.new) (W.failures output.new))
+        (W.taken output.new) (W.failures output.new))
         result }
     ensures same { W.device output.new ≡ W.device output.old }
 {
@@ -85,7 +85,7 @@ pub(crate) fn compare_files<D: Disk, W: Output>(
 }
 
 /// `convert FORM IN OUT`.
-pub(crate) fn convert_to<D: Disk, W: Output>(
+pub(crate) fn convert_to<D: Disk, W: Sink>(
     alloc: Global,
     disk: &mut D,
     form: Form,
@@ -95,9 +95,9 @@ pub(crate) fn convert_to<D: Disk, W: Output>(
 ) -> u8
     ensures run { IsConvertTo form from.now to.now
         (state (D.files disk.old) (D.failures disk.old)
-        (W.printed output.old) (W.failures output.old))
+        (W.taken output.old) (W.failures output.old))
         (state (D.files disk.new) (D.failures disk.new)
-        (W.printed output.new) (W.failures output.new))
+        (W.taken output.new) (W.failures output.new))
         result }
     ensures same { W.device output.new ≡ W.device output.old }
 {
@@ -108,7 +108,7 @@ pub(crate) fn convert_to<D: Disk, W: Output>(
 }
 
 /// `convert binary1 IN OUT`: makes all of the canonical file, and only then creates or empties OUT.
-fn convert_file<D: Disk, W: Output>(
+fn convert_file<D: Disk, W: Sink>(
     alloc: Global,
     disk: &mut D,
     from: &str,
@@ -117,9 +117,9 @@ fn convert_file<D: Disk, W: Output>(
 ) -> u8
     ensures run { IsConvertRun from.now to.now
         (state (D.files disk.old) (D.failures disk.old)
-        (W.printed output.old) (W.failures output.old))
+        (W.taken output.old) (W.failures output.old))
         (state (D.files disk.new) (D.failures disk.new)
-        (W.printed output.new) (W.failures output.new))
+        (W.taken output.new) (W.failures output.new))
         result }
     ensures same { W.device output.new ≡ W.device output.old }
 {
@@ -134,7 +134,7 @@ fn convert_file<D: Disk, W: Output>(
 }
 
 /// `convert openstep IN OUT`: makes all of the text, and only then creates or empties OUT.
-fn convert_text<D: Disk, W: Output>(
+fn convert_text<D: Disk, W: Sink>(
     alloc: Global,
     disk: &mut D,
     from: &str,
@@ -143,9 +143,9 @@ fn convert_text<D: Disk, W: Output>(
 ) -> u8
     ensures run { IsConvertTextRun from.now to.now
         (state (D.files disk.old) (D.failures disk.old)
-        (W.printed output.old) (W.failures output.old))
+        (W.taken output.old) (W.failures output.old))
         (state (D.files disk.new) (D.failures disk.new)
-        (W.printed output.new) (W.failures output.new))
+        (W.taken output.new) (W.failures output.new))
         result }
     ensures same { W.device output.new ≡ W.device output.old }
 {
@@ -160,7 +160,7 @@ fn convert_text<D: Disk, W: Output>(
 }
 
 /// The content, to the path.
-fn store_file<D: Disk, C: Content, W: Output>(
+fn store_file<D: Disk, C: Content, W: Sink>(
     alloc: Global,
     disk: &mut D,
     content: &C,
@@ -170,9 +170,9 @@ fn store_file<D: Disk, C: Content, W: Output>(
 ) -> u8
     ensures run { IsStoreRun from.now to.now (C.octets content.now)
         (state (D.files disk.old) (D.failures disk.old)
-        (W.printed output.old) (W.failures output.old))
+        (W.taken output.old) (W.failures output.old))
         (state (D.files disk.new) (D.failures disk.new)
-        (W.printed output.new) (W.failures output.new))
+        (W.taken output.new) (W.failures output.new))
         result }
     ensures same { W.device output.new ≡ W.device output.old }
 {

@@ -3,12 +3,12 @@ use Rattle.std.proofs.lemmas.Bool.{cases_lt}
 use Rattle.std.proofs.lemmas.List.{length-map}
 use Rattle.plist_program.specs.State.{input_of, state}
 use Rattle.plist_program.proofs.Runs.{refused_run}
-use Rattle.plist_program.proofs.entry.run_on.Goals as goal
+use Rattle.plist_program.proofs.entry.perform.Goals as goal
 
 pub returns-in-Err-clause-run : goal.returns-in-Err-clause-run
 returns-in-Err-clause-run g c =
-    let before = state (g.D.Disk.files c.args.disk.now) (g.D.Disk.failures c.args.disk.now) (g.W.Output.printed c.args.output.now) (g.W.Output.failures c.args.output.now) in
-    let after = state (g.D.Disk.files c.args.disk.now) (g.D.Disk.failures c.args.disk.now) (g.W.Output.printed c.explain.new.output) (g.W.Output.failures c.explain.new.output) in
+    let before = state (g.D.Disk.files c.args.disk.now) (g.D.Disk.failures c.args.disk.now) (g.W.Sink.taken c.args.output.now) (g.W.Sink.failures c.args.output.now) in
+    let after = state (g.D.Disk.files c.args.disk.now) (g.D.Disk.failures c.args.disk.now) (g.W.Sink.taken c.explain.new.output) (g.W.Sink.failures c.explain.new.output) in
     let words = map (λ word. word.now) c.args.words.now in
     elim (cases_lt (length c.args.words.now) 2) [
       | inl few ↦ let no = c.in-Err.ensures.filter few in absurd cc

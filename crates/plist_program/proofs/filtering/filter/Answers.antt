@@ -7,7 +7,7 @@ use Rattle.plist_program.proofs.filtering.filter.Goals as goal
 pub returns-in-Ok-send-clause-run : goal.returns-in-Ok-send-clause-run
 unfolding IsFilterRun
 returns-in-Ok-send-clause-run g c = λ disk files.
-    let whole : Appends (g.W.Output.printed c.args.output.now) (g.W.Output.printed c.send.new.output) c.in-Ok.file.items = search rules in
+    let whole : Appends (g.W.Sink.taken c.args.output.now) (g.W.Sink.taken c.send.new.output) c.in-Ok.file.items = search rules in
     inr (record {
       file = c.in-Ok.file.items;
       canonical = c.in-Ok.ensures.file;
@@ -21,8 +21,8 @@ returns-in-Ok-clause-run g c = λ disk files.
     inr (record {
       file = c.in-Ok.file.items;
       canonical = c.in-Ok.ensures.file;
-      ends = inr (send_failed (g.W.Output.printed c.send.new.output) (g.W.Output.printed c.report.new.output)
-          (g.W.Output.failures c.args.output.now) (g.W.Output.failures c.send.new.output) (g.W.Output.failures c.report.new.output)
+      ends = inr (send_failed (g.W.Sink.taken c.send.new.output) (g.W.Sink.taken c.report.new.output)
+          (g.W.Sink.failures c.args.output.now) (g.W.Sink.failures c.send.new.output) (g.W.Sink.failures c.report.new.output)
           c.in-Err-send.fault failed.0 c.report.result failed.1 failed.4 c.report.ensures.ends);
     })
 

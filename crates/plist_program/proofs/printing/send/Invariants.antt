@@ -5,9 +5,9 @@ use Rattle.plist_program.proofs.printing.send.Given as goal
 abbrev pub invariant-loop-sent : goal.invariant-loop-sent
 invariant-loop-sent g l = record {
   within : l.sent ≤ length l.octets;
-  printed : Appends (g.W.Output.printed l.fn.output) (g.W.Output.printed l.output) (take l.sent l.octets);
-  unfailed : g.W.Output.failures l.output ≡ g.W.Output.failures l.fn.output;
-  same : g.W.Output.device l.output ≡ g.W.Output.device l.fn.output;
+  printed : Appends (g.W.Sink.taken l.fn.output) (g.W.Sink.taken l.output) (take l.sent l.octets);
+  unfailed : g.W.Sink.failures l.output ≡ g.W.Sink.failures l.fn.output;
+  same : g.W.Sink.device l.output ≡ g.W.Sink.device l.fn.output;
 }
 
 abbrev pub decreases-loop-sent : goal.decreases-loop-sent

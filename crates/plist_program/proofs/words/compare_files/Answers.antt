@@ -19,8 +19,8 @@ returns-in-Err-clause-run g c = inl (record {
 pub returns-in-Ok-load-clause-run : goal.returns-in-Ok-load-clause-run
 unfolding IsSameRun
 returns-in-Ok-load-clause-run g c =
-    let before = state (g.D.Disk.files c.args.disk.now) (g.D.Disk.failures c.args.disk.now) (g.W.Output.printed c.args.output.now) (g.W.Output.failures c.args.output.now) in
-    let after = state (g.D.Disk.files c.load-2.new.self) (g.D.Disk.failures c.load-2.new.self) (g.W.Output.printed c.give.new.output) (g.W.Output.failures c.give.new.output) in
+    let before = state (g.D.Disk.files c.args.disk.now) (g.D.Disk.failures c.args.disk.now) (g.W.Sink.taken c.args.output.now) (g.W.Sink.failures c.args.output.now) in
+    let after = state (g.D.Disk.files c.load-2.new.self) (g.D.Disk.failures c.load-2.new.self) (g.W.Sink.taken c.give.new.output) (g.W.Sink.failures c.give.new.output) in
     let middle = g.D.Disk.files c.load.new.self in
     let a = c.in-Ok.octets.items in
     let b = c.in-Ok-load.b.items in

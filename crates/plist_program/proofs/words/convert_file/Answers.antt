@@ -1,6 +1,4 @@
 use Rattle.std.proofs.Common.{inl, inr, refl, rules}
-use Rattle.plist_value.specs.View.{view}
-use Rattle.plist_write.specs.Canonical.{canon}
 use Rattle.plist_files.specs.Accepted.{IsCanonicalOf}
 use Rattle.plist_files.specs.Refusals.{IsRefused}
 use Rattle.plist_program.specs.Answer.{refusal}
@@ -21,9 +19,9 @@ returns-in-Err-clause-run g c = inl (record {
 pub returns-in-Ok-canonicalise-clause-run : goal.returns-in-Ok-canonicalise-clause-run
 unfolding IsConvertRun
 returns-in-Ok-canonicalise-clause-run g c =
-    let before = state (g.D.Disk.files c.args.disk.now) (g.D.Disk.failures c.args.disk.now) (g.W.Output.printed c.args.output.now) (g.W.Output.failures c.args.output.now) in
-    let middle = state (g.D.Disk.files c.load.new.self) (g.D.Disk.failures c.load.new.self) (g.W.Output.printed c.args.output.now) (g.W.Output.failures c.args.output.now) in
-    let after = state (g.D.Disk.files c.store_file.new.disk) (g.D.Disk.failures c.store_file.new.disk) (g.W.Output.printed c.store_file.new.output) (g.W.Output.failures c.store_file.new.output) in
+    let before = state (g.D.Disk.files c.args.disk.now) (g.D.Disk.failures c.args.disk.now) (g.W.Sink.taken c.args.output.now) (g.W.Sink.failures c.args.output.now) in
+    let middle = state (g.D.Disk.files c.load.new.self) (g.D.Disk.failures c.load.new.self) (g.W.Sink.taken c.args.output.now) (g.W.Sink.failures c.args.output.now) in
+    let after = state (g.D.Disk.files c.store_file.new.disk) (g.D.Disk.failures c.store_file.new.disk) (g.W.Sink.taken c.store_file.new.output) (g.W.Sink.failures c.store_file.new.output) in
     let file = c.in-Ok-canonicalise.file.items in
     let stored : IsStoreRun c.args.from.now c.args.to.now file middle after c.store_file.result = rw c.new.ensures at c.store_file.ensures.run in
     let canonical : IsCanonicalOf c.in-Ok.octets.items file = search rules in

@@ -17,9 +17,9 @@ returns-in-Err-clause-run g c = inl (record {
 pub returns-in-Ok-text_of_octets-clause-run : goal.returns-in-Ok-text_of_octets-clause-run
 unfolding IsConvertTextRun
 returns-in-Ok-text_of_octets-clause-run g c =
-    let before = state (g.D.Disk.files c.args.disk.now) (g.D.Disk.failures c.args.disk.now) (g.W.Output.printed c.args.output.now) (g.W.Output.failures c.args.output.now) in
-    let middle = state (g.D.Disk.files c.load.new.self) (g.D.Disk.failures c.load.new.self) (g.W.Output.printed c.args.output.now) (g.W.Output.failures c.args.output.now) in
-    let after = state (g.D.Disk.files c.store_file.new.disk) (g.D.Disk.failures c.store_file.new.disk) (g.W.Output.printed c.store_file.new.output) (g.W.Output.failures c.store_file.new.output) in
+    let before = state (g.D.Disk.files c.args.disk.now) (g.D.Disk.failures c.args.disk.now) (g.W.Sink.taken c.args.output.now) (g.W.Sink.failures c.args.output.now) in
+    let middle = state (g.D.Disk.files c.load.new.self) (g.D.Disk.failures c.load.new.self) (g.W.Sink.taken c.args.output.now) (g.W.Sink.failures c.args.output.now) in
+    let after = state (g.D.Disk.files c.store_file.new.disk) (g.D.Disk.failures c.store_file.new.disk) (g.W.Sink.taken c.store_file.new.output) (g.W.Sink.failures c.store_file.new.output) in
     let is : IsTextOf c.in-Ok.octets.items c.in-Ok-text_of_octets.text.items = search rules in
     let stored : IsStoreRun c.args.from.now c.args.to.now c.in-Ok-text_of_octets.text.items middle after c.store_file.result = rw c.new.ensures at c.store_file.ensures.run in
     inr (inr (record {

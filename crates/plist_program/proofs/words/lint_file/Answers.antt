@@ -9,8 +9,8 @@ use Rattle.plist_program.proofs.words.lint_file.Goals as goal
 pub returns-in-Ok-clause-run : goal.returns-in-Ok-clause-run
 unfolding IsLintRun
 returns-in-Ok-clause-run g c =
-    let before = state (g.D.Disk.files c.args.disk.now) (g.D.Disk.failures c.args.disk.now) (g.W.Output.printed c.args.output.now) (g.W.Output.failures c.args.output.now) in
-    let after = state (g.D.Disk.files c.load.new.self) (g.D.Disk.failures c.load.new.self) (g.W.Output.printed c.give.new.output) (g.W.Output.failures c.give.new.output) in
+    let before = state (g.D.Disk.files c.args.disk.now) (g.D.Disk.failures c.args.disk.now) (g.W.Sink.taken c.args.output.now) (g.W.Sink.failures c.args.output.now) in
+    let after = state (g.D.Disk.files c.load.new.self) (g.D.Disk.failures c.load.new.self) (g.W.Sink.taken c.give.new.output) (g.W.Sink.failures c.give.new.output) in
     let answers : IfOk c.lint_answer.result (λ a. IsLintAnswer c.args.path.now c.in-Ok.octets.items (said_of a)) = search rules in
     file_answered (IsLintAnswer c.args.path.now) c.args.path.now before after c.give.result c.in-Ok.octets.items c.lint_answer.result
     c.in-Ok.ensures.found c.in-Ok.ensures.kept c.in-Ok.ensures.unfailed answers c.give.ensures.ends

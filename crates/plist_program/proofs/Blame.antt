@@ -1,0 +1,308 @@
+-- The program ends with 4 only where a device failed.
+use Rattle.std.proofs.Common.{arith, inl, inr, refl, sym, Err, List, Ok, Option, Result, ℕ, ◌∙◌, ◌≡◌, ◌⊎◌}
+use Rattle.std.specs.Prelude.{◌≢◌, Bool, true, false}
+use Rattle.std.specs.Io.KnownBytes.{Appends}
+use Rattle.clap.specs.Words.{Text}
+use Rattle.clap.specs.declared.error.ErrorKind.{ErrorKind}
+use Rattle.clap.specs.declared.error.ErrorKind.TheVariants as kind
+use Rattle.plist_object.specs.Codes.{layout_code, object_code}
+use Rattle.plist_object.specs.declared.layout.LayoutFault.{LayoutFault}
+use Rattle.plist_object.specs.declared.layout.LayoutFault.TheVariants as layout
+use Rattle.plist_object.specs.declared.object.ObjectFault.{ObjectFault}
+use Rattle.plist_object.specs.declared.object.ObjectFault.TheVariants as object
+use Rattle.plist_binary.specs.Codes.{fault_code}
+use Rattle.plist_binary.specs.declared.fault.BinaryFault.{BinaryFault}
+use Rattle.plist_binary.specs.declared.fault.BinaryFault.TheVariants as binary
+use Rattle.plist_devices.specs.Count.{HasFailed}
+use Rattle.ostep_lex.specs.Fault as of_lexer
+use Rattle.ostep_lex.specs.declared.fault.LexFault.{LexFault}
+use Rattle.ostep_lex.specs.declared.fault.LexFault.TheVariants as lex
+use Rattle.ostep_form.specs.Fault as of_text
+use Rattle.ostep_form.specs.declared.fault.TextFault.{TextFault}
+use Rattle.ostep_form.specs.declared.fault.TextFault.TheVariants as text
+use Rattle.plist_canon.specs.declared.checking.CheckFault.{CheckFault}
+use Rattle.plist_canon.specs.declared.checking.CheckFault.TheVariants as check
+use Rattle.plist_canon.specs.declared.checking.Verdict.{Verdict}
+use Rattle.plist_canon.specs.declared.checking.Verdict.TheVariants as verdict
+use Rattle.plist_files.specs.Fault.{check_fault_for, code_of, status_for}
+use Rattle.plist_files.specs.Refusals.{FaultStands}
+use Rattle.plist_files.specs.declared.faults.Fault.{Fault}
+use Rattle.plist_files.specs.declared.faults.Fault.TheVariants.{Binary, Text as OfText, NotInOpenStep, ReadFailed, WriteFailed, InputTooLarge, OutOfMemory}
+use Rattle.plist_files.specs.declared.pairs.PairFault.{PairFault}
+use Rattle.plist_files.specs.declared.pairs.PairFault.TheVariants.{First, Second}
+use Rattle.plist_files.specs.Pair.{IsRefusedPair}
+use Rattle.plist_write.specs.declared.sending.WriteFault.{WriteFault}
+use Rattle.plist_write.specs.declared.sending.WriteFault.TheVariants as write
+use Rattle.plist_disk.specs.Files.{FileName, IsStored, IsUnloaded}
+use Rattle.plist_words.specs.Asked.{Asked, Filters, Converts, Compares, Lints, Checks}
+use Rattle.plist_files.specs.declared.forms.Form.{Form}
+use Rattle.plist_files.specs.declared.forms.Form.TheVariants.{Binary1, OpenStep}
+use Rattle.plist_program.specs.Answer.{IsCheckAnswer, IsLintAnswer, IsRefusedAnswer, IsSameAnswer, IsTextFault, IsTextRefusal, Said, Says, equality_said, pair_refusal, refusal}
+use Rattle.plist_program.specs.Ending.{Ends, HaveFailed, Prints, no_memory}
+use Rattle.plist_program.specs.Explaining.{said_of_kind, status_of_kind}
+use Rattle.plist_program.specs.Program.{DeviceFailed, IsAskedRun, IsConvertTo, IsRun}
+use Rattle.plist_program.specs.Runs.{IsAnswered, IsCheckRun, IsConvertRun, IsConvertTextRun, IsFileRun, IsFiltered, IsFilterRun, IsInputFault, IsLintRun, IsSameRun, IsStoreRun, IsUnread, IsWanting, said_of_store, standard}
+use Rattle.plist_program.specs.State.{Ending, Input, State}
+use Rattle.plist_program.specs.Verdicts.{verdict_status_for}
+
+-- numbers that are not 4
+no_0 : ◌≢◌ {A = ℕ} 0 4
+no_0 e = omega (arith, e)
+
+no_1 : ◌≢◌ {A = ℕ} 1 4
+no_1 e = omega (arith, e)
+
+no_2 : ◌≢◌ {A = ℕ} 2 4
+no_2 e = omega (arith, e)
+
+no_3 : ◌≢◌ {A = ℕ} 3 4
+no_3 e = omega (arith, e)
+
+no_5 : ◌≢◌ {A = ℕ} 5 4
+no_5 e = omega (arith, e)
+
+-- no refusal of octets has the status of a device
+
+layout_quiet : (fault : LayoutFault) → status_for (layout_code fault) ≢ 4
+layout_quiet layout.TooShort = no_2
+layout_quiet layout.BadHeader = no_2
+layout_quiet layout.BadTrailer = no_2
+
+object_quiet : (fault : ObjectFault) → status_for (object_code fault) ≢ 4
+object_quiet object.BadOffset = no_2
+object_quiet object.CutObject = no_2
+object_quiet object.BadMarker = no_2
+object_quiet object.NullObject = no_2
+object_quiet object.UidObject = no_2
+object_quiet object.SetObject = no_2
+object_quiet object.NotAscii = no_2
+object_quiet object.WideInteger = no_2
+
+binary_quiet : (fault : BinaryFault) → status_for (fault_code fault) ≢ 4
+binary_quiet (binary.Layout fault) = layout_quiet fault
+binary_quiet (binary.Object i fault) = object_quiet fault
+binary_quiet (binary.BadReference i) = no_2
+binary_quiet (binary.KeyNotText i) = no_2
+binary_quiet (binary.DuplicateKey i) = no_2
+binary_quiet (binary.Cycle i) = no_2
+binary_quiet (binary.TooDeep i) = no_2
+binary_quiet (binary.TooManyNodes i) = no_2
+binary_quiet (binary.TooMuchPayload i) = no_2
+binary_quiet binary.OutOfMemory = no_5
+
+lex_quiet : (fault : LexFault) → status_for (of_lexer.code_of fault) ≢ 4
+lex_quiet (lex.BadUtf8 octet) = no_2
+lex_quiet (lex.XmlForm octet) = no_2
+lex_quiet (lex.UnexpectedCharacter octet) = no_2
+lex_quiet (lex.UnclosedString octet) = no_2
+lex_quiet (lex.UnclosedComment octet) = no_2
+lex_quiet (lex.BadEscape octet) = no_2
+lex_quiet (lex.OctalRange octet) = no_2
+lex_quiet (lex.OddData octet) = no_2
+lex_quiet (lex.BadData octet) = no_2
+lex_quiet (lex.BadUtf16 octet) = no_2
+lex_quiet lex.OutOfMemory = no_5
+
+text_quiet : (fault : TextFault) → status_for (of_text.code_of fault) ≢ 4
+text_quiet (text.Tokens fault) = lex_quiet fault
+text_quiet (text.DuplicateKey octet) = no_2
+text_quiet (text.TooDeep octet) = no_2
+text_quiet (text.TooManyNodes octet) = no_2
+text_quiet (text.TooMuchPayload octet) = no_2
+text_quiet (text.Expected octet) = no_2
+text_quiet (text.Junk octet) = no_2
+text_quiet text.OutOfMemory = no_5
+
+stands_quiet : (octets : List ℕ) (fault : Fault) → FaultStands octets fault → status_for (code_of fault) ≢ 4
+stands_quiet octets (Binary fault) stands = binary_quiet fault
+stands_quiet octets (OfText fault) stands = text_quiet fault
+stands_quiet octets NotInOpenStep stands = absurd stands
+stands_quiet octets ReadFailed stands = absurd stands
+stands_quiet octets (WriteFailed sent) stands = absurd stands
+stands_quiet octets InputTooLarge stands = absurd stands
+stands_quiet octets (OutOfMemory sent) stands = no_5
+
+-- no answer to octets has it
+
+says_quiet : (s t : Said) → Says s t → t.status ≢ 4 → s.status ≢ 4
+says_quiet s t says quiet four = quiet (sym says.1 ∙ four)
+
+refused_quiet : (path octets : List ℕ) (s : Said) → IsRefusedAnswer path octets s → s.status ≢ 4
+refused_quiet path octets s answer = says_quiet s _ answer.says (stands_quiet octets answer.fault answer.refused.stands)
+
+verdict_quiet : (v : Verdict) → verdict_status_for v ≢ 4
+verdict_quiet verdict.Canonical = no_0
+verdict_quiet (verdict.Broken rule i) = no_1
+
+check_fault_quiet : (fault : CheckFault) → status_for (code_of (check_fault_for fault)) ≢ 4
+check_fault_quiet (check.Layout fault) = layout_quiet fault
+check_fault_quiet check.OutOfMemory = no_5
+
+check_quiet : (path octets : List ℕ) (s : Said) → IsCheckAnswer path octets s → s.status ≢ 4
+check_quiet path octets s (inl judged) = says_quiet s _ judged.says (verdict_quiet judged.verdict)
+check_quiet path octets s (inr unchecked) = says_quiet s _ unchecked.says (check_fault_quiet unchecked.fault)
+
+lint_quiet : (path octets : List ℕ) (s : Said) → IsLintAnswer path octets s → s.status ≢ 4
+lint_quiet path octets s (inl accepted) = says_quiet s _ accepted.says no_0
+lint_quiet path octets s (inr refused) = refused_quiet path octets s refused
+
+equality_quiet : (equal : Bool) → (equality_said equal).status ≢ 4
+equality_quiet true = no_0
+equality_quiet false = no_1
+
+pair_quiet : (first second a b : List ℕ) (fault : PairFault) → IsRefusedPair a b fault → (pair_refusal first second fault).status ≢ 4
+pair_quiet first second a b (First fault) refused = stands_quiet a fault refused.stands
+pair_quiet first second a b (Second fault) refused = stands_quiet b fault refused.1.1.stands
+
+same_quiet : (first second a b : List ℕ) (s : Said) → IsSameAnswer first second a b s → s.status ≢ 4
+same_quiet first second a b s (inl compared) = says_quiet s _ compared.says (equality_quiet compared.equal)
+same_quiet first second a b s (inr refused) = says_quiet s _ refused.says (pair_quiet first second a b refused.fault refused.refused)
+
+text_fault_quiet : (octets : List ℕ) (fault : Fault) → IsTextFault octets fault → status_for (code_of fault) ≢ 4
+text_fault_quiet octets fault (inl refused) = stands_quiet octets fault refused.stands
+text_fault_quiet octets fault (inr none) = rw none.is no_2
+
+text_refusal_quiet : (path octets : List ℕ) (s : Said) → IsTextRefusal path octets s → s.status ≢ 4
+text_refusal_quiet path octets s answer = says_quiet s _ answer.says (text_fault_quiet octets answer.fault answer.cause)
+
+kind_quiet : (error : ErrorKind) → status_of_kind error ≢ 4
+kind_quiet kind.DisplayHelp = no_0
+kind_quiet kind.DisplayVersion = no_0
+kind_quiet kind.OutOfMemory = no_5
+kind_quiet _ = no_3
+
+-- a line that is printed ends with it only where its own status is that, or printing failed
+
+failed_once : (before after : ℕ) → HasFailed before after → HaveFailed before after
+failed_once before after (inl up) = inl up
+failed_once before after (inr top) = inr (omega (arith, top))
+
+prints_blamed : (old new : Option (List ℕ)) (before after : ℕ) (s : Said) (status : ℕ) → s.status ≢ 4
+    → Prints old new before after s status → status ≡ 4 → HaveFailed before after
+prints_blamed old new before after s status quiet (inl usual) four = absurd (quiet (sym usual.0 ∙ four))
+prints_blamed old new before after s status quiet (inr failed) four = failed_once before after failed.1
+
+ends_blamed : (old new : Option (List ℕ)) (before after : ℕ) (s : Said) (status : ℕ) → s.status ≢ 4
+    → Ends old new before after s status → status ≡ 4 → HaveFailed before after
+ends_blamed old new before after s status quiet (inl usual) four = prints_blamed old new before after s status quiet usual four
+ends_blamed old new before after s status quiet (inr memory) four = prints_blamed old new before after no_memory status no_5 memory four
+
+-- a device of the disk or of the output failed
+abbrev Failed : State → State → Type 0
+Failed before after = HaveFailed before.disk_failures after.disk_failures ⊎ HaveFailed before.print_failures after.print_failures
+
+ending_blamed : (before after : State) (s : Said) (status : ℕ) → s.status ≢ 4 → Ending before after s status → status ≡ 4 → Failed before after
+ending_blamed before after s status quiet ends four = inr (ends_blamed _ _ _ _ s status quiet ends four)
+
+unread_by : (path : FileName) (before after : State) (status : ℕ) (fault : Fault)
+    → IsUnloaded before.files path before.disk_failures after.disk_failures fault → Ending before after (refusal path fault) status
+    → status ≡ 4 → Failed before after
+unread_by path before after status ReadFailed cause ends four = inl (failed_once _ _ cause.1)
+unread_by path before after status InputTooLarge cause ends four = ending_blamed before after (refusal path InputTooLarge) status no_2 ends four
+unread_by path before after status (OutOfMemory sent) cause ends four = ending_blamed before after (refusal path (OutOfMemory sent)) status no_5 ends four
+unread_by path before after status _ cause ends four = absurd cause
+
+unread_blamed : (path : FileName) (before after : State) (status : ℕ) → IsUnread path before after status → status ≡ 4 → Failed before after
+unread_blamed path before after status run four = unread_by path before after status run.fault run.cause run.ends four
+
+answered_blamed : (Answers : List ℕ → Said → Type 0) (path : FileName) (before after : State) (status : ℕ)
+    → ((octets : List ℕ) (s : Said) → Answers octets s → s.status ≢ 4) → IsAnswered Answers path before after status
+    → status ≡ 4 → Failed before after
+answered_blamed Answers path before after status quiet run four =
+    ending_blamed before after run.said status (quiet run.octets run.said run.answers) run.ends four
+
+wanting_blamed : (before after : State) (status : ℕ) → IsWanting before after status → status ≡ 4 → Failed before after
+wanting_blamed before after status run four = inr (prints_blamed _ _ _ _ no_memory status no_5 run.ends four)
+
+file_blamed : (Answers : List ℕ → Said → Type 0) (path : FileName) (before after : State) (status : ℕ)
+    → ((octets : List ℕ) (s : Said) → Answers octets s → s.status ≢ 4) → IsFileRun Answers path before after status
+    → status ≡ 4 → Failed before after
+file_blamed Answers path before after status quiet (inl unread) four = unread_blamed path before after status unread four
+file_blamed Answers path before after status quiet (inr (inl answered)) four = answered_blamed Answers path before after status quiet answered four
+file_blamed Answers path before after status quiet (inr (inr wanting)) four = wanting_blamed before after status wanting four
+
+check_blamed : (path : FileName) (before after : State) (status : ℕ) → IsCheckRun path before after status → status ≡ 4 → Failed before after
+unfolding IsCheckRun
+check_blamed path before after status run four = file_blamed (IsCheckAnswer path) path before after status (check_quiet path) run four
+
+lint_blamed : (path : FileName) (before after : State) (status : ℕ) → IsLintRun path before after status → status ≡ 4 → Failed before after
+unfolding IsLintRun
+lint_blamed path before after status run four = file_blamed (IsLintAnswer path) path before after status (lint_quiet path) run four
+
+same_blamed : (first second : FileName) (before after : State) (status : ℕ) → IsSameRun first second before after status → status ≡ 4 → Failed before after
+unfolding IsSameRun
+same_blamed first second before after status (inl unread) four = unread_blamed first before after status unread four
+same_blamed first second before after status (inr (inl unread)) four = unread_blamed second before after status unread.unread four
+same_blamed first second before after status (inr (inr (inl run))) four =
+    ending_blamed before after run.said status (same_quiet first second run.a run.b run.said run.answers) run.ends four
+same_blamed first second before after status (inr (inr (inr wanting))) four = wanting_blamed before after status wanting four
+
+stored_by : (from to : FileName) (file : List ℕ) (before after : State) (status : ℕ) (result : Result ℕ WriteFault)
+    → IsStored before.files after.files before.disk_failures after.disk_failures to file result
+    → Ending before after (said_of_store from to result) status → status ≡ 4 → Failed before after
+stored_by from to file before after status (Ok sent) stored ends four = ending_blamed before after (said_of_store from to (Ok sent)) status no_0 ends four
+stored_by from to file before after status (Err (write.WriteFailed sent)) stored ends four = inl (failed_once _ _ stored.front.1)
+stored_by from to file before after status (Err (write.OutOfMemory sent)) stored ends four = ending_blamed before after (refusal from (OutOfMemory sent)) status no_5 ends four
+
+store_blamed : (from to : FileName) (file : List ℕ) (before after : State) (status : ℕ) → IsStoreRun from to file before after status
+    → status ≡ 4 → Failed before after
+store_blamed from to file before after status run four = stored_by from to file before after status run.result run.stored run.ends four
+
+convert_file_blamed : (from to : FileName) (before after : State) (status : ℕ) → IsConvertRun from to before after status → status ≡ 4 → Failed before after
+unfolding IsConvertRun
+convert_file_blamed from to before after status (inl unread) four = unread_blamed from before after status unread four
+convert_file_blamed from to before after status (inr (inl refused)) four = answered_blamed (IsRefusedAnswer from) from before after status (refused_quiet from) refused four
+convert_file_blamed from to before after status (inr (inr run)) four = store_blamed from to run.file before after status run.stored four
+
+convert_text_blamed : (from to : FileName) (before after : State) (status : ℕ) → IsConvertTextRun from to before after status → status ≡ 4 → Failed before after
+unfolding IsConvertTextRun
+convert_text_blamed from to before after status (inl unread) four = unread_blamed from before after status unread four
+convert_text_blamed from to before after status (inr (inl refused)) four = answered_blamed (IsTextRefusal from) from before after status (text_refusal_quiet from) refused four
+convert_text_blamed from to before after status (inr (inr run)) four = store_blamed from to run.text before after status run.stored four
+
+convert_blamed : (form : Form) (from to : FileName) (before after : State) (status : ℕ) → IsConvertTo form from to before after status
+    → status ≡ 4 → Failed before after
+unfolding IsConvertTo
+convert_blamed Binary1 from to before after status run four = convert_file_blamed from to before after status run four
+convert_blamed OpenStep from to before after status run four = convert_text_blamed from to before after status run four
+
+-- without words
+
+unloaded_by : (input rest : Input) (before after : State) (status : ℕ) (fault : Fault) → IsInputFault input rest fault
+    → Ending before after (refusal standard fault) status → status ≡ 4 → DeviceFailed input rest before after
+unloaded_by input rest before after status fault (inr refused) ends four =
+    inr (ending_blamed before after (refusal standard fault) status (stands_quiet refused.0 fault refused.1.1.stands) ends four)
+unloaded_by input rest before after status ReadFailed (inl load) ends four = inl (failed_once _ _ (load.1 refl))
+unloaded_by input rest before after status InputTooLarge (inl load) ends four = inr (ending_blamed before after (refusal standard InputTooLarge) status no_2 ends four)
+unloaded_by input rest before after status (OutOfMemory sent) (inl load) ends four = inr (ending_blamed before after (refusal standard (OutOfMemory sent)) status no_5 ends four)
+unloaded_by input rest before after status _ (inl load) ends four = absurd load.0
+
+filtered_blamed : (input rest : Input) (before after : State) (status : ℕ) → IsFiltered input before after status → status ≡ 4
+    → DeviceFailed input rest before after
+filtered_blamed input rest before after status run four = go run.ends
+  where
+    go : ((status ≡ 0) × Appends before.printed after.printed run.file × (after.print_failures ≡ before.print_failures)) ⊎ (((status ≡ 4) ⊎ (status ≡ 5)) × HaveFailed before.print_failures after.print_failures) → DeviceFailed input rest before after
+    go (inl whole) = absurd (no_0 (sym whole.0 ∙ four))
+    go (inr cut) = inr (inr cut.1)
+
+filter_blamed : (input rest : Input) (before after : State) (status : ℕ) → IsFilterRun input rest before after status → status ≡ 4
+    → DeviceFailed input rest before after
+unfolding IsFilterRun
+filter_blamed input rest before after status (inl run) four = unloaded_by input rest before after status run.fault run.cause run.ends four
+filter_blamed input rest before after status (inr run) four = filtered_blamed input rest before after status run four
+
+asked_blamed : (it : Asked) (input rest : Input) (before after : State) (status : ℕ) → IsAskedRun it input rest before after status
+    → status ≡ 4 → DeviceFailed input rest before after
+unfolding IsAskedRun
+asked_blamed Filters input rest before after status run four = filter_blamed input rest before after status run.1 four
+asked_blamed (Converts form from to) input rest before after status run four = inr (convert_blamed form from to before after status run.1 four)
+asked_blamed (Compares first second) input rest before after status run four = inr (same_blamed first second before after status run.1 four)
+asked_blamed (Lints path) input rest before after status run four = inr (lint_blamed path before after status run.1 four)
+asked_blamed (Checks path) input rest before after status run four = inr (check_blamed path before after status run.1 four)
+
+-- 4 is the status only where a device failed
+pub blamed : (words : List Text) (input rest : Input) (before after : State) (status : ℕ) → IsRun words input rest before after status
+    → status ≡ 4 → DeviceFailed input rest before after
+blamed words input rest before after status (inl obeyed) four = asked_blamed obeyed.it input rest before after status obeyed.done four
+blamed words input rest before after status (inr refused) four =
+    inr (ending_blamed before after (said_of_kind refused.explained.text refused.explained.error) status (kind_quiet refused.explained.error) refused.explained.ends four)
