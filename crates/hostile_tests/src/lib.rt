@@ -4,6 +4,8 @@
 #[cfg(test)]
 mod files;
 #[cfg(test)]
+mod growths;
+#[cfg(test)]
 mod overruns;
 #[cfg(test)]
 mod prefixes;

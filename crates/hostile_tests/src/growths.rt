@@ -1,0 +1,214 @@
+//! Want of memory: each call that allocates answers 60, or what it answers with ample memory. A
+//! test is run once for each allocation that it makes, which is refused from outside, by
+//! bench/growths.py.
+use ostep_form::TextFault;
+use ostep_read::read_text;
+use ostep_write::{TextWriteFault, write_text};
+use plist_binary::{BinaryFault, read};
+use plist_canon::{CheckFault, ListSink, Verdict, WriteFault, canonical, check, write_canonical};
+use plist_devices::ListSource;
+use plist_files::{Fault, PairFault, canonicalise, line, load, read_any, same_files};
+use plist_tests::files::file;
+use plist_value::{Utf16, Value, copy, fits, same};
+use std::alloc::{AllocError, Global};
+use std::test::Fail;
+
+// The table of b under a and a under b, with its keys not in order.
+const SWAPPED: &[u8] = b"{b=a;a=b;}";
+
+// A text whose keys ascend by their units, and how many octets its canonical file has.
+const SURROGATES: &[u8] = b"{\"\\Uff61\"=a;\"\\Ud800\\Udc00\"=b;}";
+
+const SURROGATES_SIZE: u64 = 62;
+
+// Texts with the number of their refusal, 0 where there is none.
+const TEXTS: [(&[u8], u8); 8] = [
+    (b"(/usr/bin, a//b, /* c */ d)", 0),
+    (b"a/*c*/", 23),
+    (b"{a;a=b;}", 14),
+    (b"{a=b}", 30),
+    (b"<0f b>", 28),
+    (b"<>", 0),
+    (b"{a;}", 0),
+    (b" ", 0),
+];
+
+// The canonical file of the table.
+fn sorted(alloc: Global) -> Result<Vec<u8>, AllocError> {
+    file(alloc, b"\xd2\x01\x02\x02\x01QaQb", &[8, 13, 15], 1)
+}
+
+// The value of a text.
+fn value_of(alloc: Global, octets: &[u8]) -> Result<Value, Fail> {
+    Ok(read_text(alloc, octets)?)
+}
+
+#[test]
+fn copies(rt: HostRuntime) -> Result<(), Fail> {
+    let value = value_of(rt.alloc(), SWAPPED)?;
+    if let Ok(copied) = copy(rt.alloc(), &value) {
+        assert!(rt; same(&copied, &value));
+    }
+    let units = Utf16::from_units(Vec::from_slice(rt.alloc(), &[0x61, 0x62])?);
+    if let Ok(copied) = units.copy(rt.alloc()) {
+        assert_eq!(rt; copied.units(), [0x61, 0x62].as_slice());
+    }
+    Ok(())
+}
+
+#[test]
+fn binary_files_are_read(rt: HostRuntime) -> Result<(), Fail> {
+    let shared = file(rt.alloc(), b"\xa2\x01\x01\xa0", &[8, 11], 1)?;
+    match read(rt.alloc(), shared.as_slice()) {
+        Ok(value) => assert!(rt; same(&value, &value_of(rt.alloc(), b"((), ())")?)),
+        Err(fault) => assert_eq!(rt; fault, BinaryFault::OutOfMemory),
+    }
+    let circular = file(rt.alloc(), &[0xa1, 0], &[8], 1)?;
+    let code = read(rt.alloc(), circular.as_slice())
+        .err()
+        .map_or(0, |fault| fault.code());
+    assert!(rt; code == 15 || code == 60);
+    Ok(())
+}
+
+#[test]
+fn files_are_made(rt: HostRuntime) -> Result<(), Fail> {
+    let value = value_of(rt.alloc(), SURROGATES)?;
+    if !fits(&value) {
+        return Err(Fail::from("it does not fit"));
+    }
+    let Ok(whole) = canonical(rt.alloc(), &value) else {
+        return Ok(());
+    };
+    assert_eq!(rt; whole.len() as u64, SURROGATES_SIZE);
+    let mut sink = ListSink::new(rt.alloc(), 100, 7)?;
+    assert_eq!(rt; sink.taken().len(), 0);
+    let sent = match write_canonical(rt.alloc(), &value, &mut sink) {
+        Ok(sent) => {
+            assert_eq!(rt; sent, SURROGATES_SIZE);
+            sent
+        }
+        Err(WriteFault::OutOfMemory { sent }) => sent,
+        Err(WriteFault::WriteFailed { .. }) => return Err(Fail::from("the sink has room")),
+    };
+    assert_eq!(rt; Some(sink.taken()), whole.as_slice().get(..sent as usize));
+    Ok(())
+}
+
+// What a file of these objects, places and first octet behind the places is answered by the check.
+fn checked(
+    alloc: Global,
+    objects: &[u8],
+    slack: u8,
+) -> Result<Result<Verdict, CheckFault>, AllocError> {
+    let mut octets = file(alloc, objects, &[8, 13, 15], 1)?;
+    let end = octets.len().saturating_sub(32);
+    if let Some(octet) = octets.get_mut(end) {
+        *octet = slack;
+    }
+    Ok(check(alloc, octets.as_slice()))
+}
+
+#[test]
+fn files_are_checked(rt: HostRuntime) -> Result<(), Fail> {
+    let broken = |rule| Verdict::Broken { rule, object: 0 };
+    let rows: [(&[u8], u8, Verdict); 4] = [
+        (b"\xd2\x01\x02\x02\x01QaQb", 0, Verdict::Canonical),
+        (b"\xd2\x02\x01\x01\x02QbQa", 0, broken(7)),
+        (b"\xd2\x01\x02\x02\x01QbQa", 0, broken(5)),
+        (b"\xd2\x01\x02\x02\x01QaQb", 1, broken(1)),
+    ];
+    for (objects, slack, verdict) in rows {
+        let answer = checked(rt.alloc(), objects, slack)?;
+        assert!(rt; answer == Ok(verdict) || answer == Err(CheckFault::OutOfMemory));
+    }
+    let code = check(rt.alloc(), SWAPPED)
+        .err()
+        .map_or(0, |fault| fault.code());
+    assert_eq!(rt; code, 1);
+    Ok(())
+}
+
+#[test]
+fn texts_are_read(rt: HostRuntime) -> Result<(), Fail> {
+    for (octets, code) in TEXTS {
+        let answers = [
+            read_text(rt.alloc(), octets)
+                .err()
+                .map_or(0, |fault| fault.code()),
+            read_any(rt.alloc(), octets)
+                .err()
+                .map_or(0, |fault| fault.code()),
+            canonicalise(rt.alloc(), octets)
+                .err()
+                .map_or(0, |fault| fault.code()),
+        ];
+        for answer in answers {
+            assert!(rt; answer == code || answer == 60);
+        }
+    }
+    if let Ok(canonical) = canonicalise(rt.alloc(), SWAPPED) {
+        assert_eq!(rt; canonical, sorted(rt.alloc())?);
+    }
+    Ok(())
+}
+
+#[test]
+fn texts_are_written(rt: HostRuntime) -> Result<(), Fail> {
+    let rows: [(&[u8], &[u8]); 5] = [
+        (b"\"bplist\"", b"\"bplist\"\n"),
+        (b"\"\\Ud800\"", b"\"\\Ud800\"\n"),
+        (SWAPPED, b"{\na = b;\nb = a;\n}\n"),
+        (b"()", b"(\n)\n"),
+        (b"a.b", b"\"a.b\"\n"),
+    ];
+    for (octets, written) in rows {
+        let value = value_of(rt.alloc(), octets)?;
+        if !fits(&value) {
+            return Err(Fail::from("it does not fit"));
+        }
+        match write_text(rt.alloc(), &value) {
+            Ok(text) => assert_eq!(rt; text.as_slice(), written),
+            Err(fault) => assert_eq!(rt; fault, TextWriteFault::OutOfMemory),
+        }
+    }
+    let mut items = Vec::new(rt.alloc());
+    items.push(Value::Flag(true))?;
+    let flags = Value::List(items);
+    if fits(&flags) {
+        let code = write_text(rt.alloc(), &flags)
+            .err()
+            .map_or(0, |fault| fault.code());
+        assert!(rt; code == 40 || code == 60);
+    }
+    Ok(())
+}
+
+#[test]
+fn files_are_compared(rt: HostRuntime) -> Result<(), Fail> {
+    let sorted = sorted(rt.alloc())?;
+    match same_files(rt.alloc(), SWAPPED, sorted.as_slice()) {
+        Ok(equal) => assert!(rt; equal),
+        Err(fault) => assert_eq!(rt; fault.code(), 60),
+    }
+    let twice = Fault::Text(TextFault::DuplicateKey { octet: 3 });
+    match same_files(rt.alloc(), SWAPPED, b"{a;a=b;}") {
+        Ok(_) => return Err(Fail::from("a key stands twice")),
+        Err(fault) => assert!(rt; fault == PairFault::Second(twice) || fault.code() == 60),
+    }
+    let printed = line(rt.alloc(), "twice.txt", &twice)?;
+    assert_eq!(rt;
+        printed.as_str(),
+        "twice.txt: refused 14 DuplicateKey at octet 3"
+    );
+    Ok(())
+}
+
+#[test]
+fn sources_are_loaded(rt: HostRuntime) -> Result<(), Fail> {
+    match load(rt.alloc(), &mut ListSource::new(SWAPPED, 3, None)) {
+        Ok(octets) => assert_eq!(rt; octets.as_slice(), SWAPPED),
+        Err(fault) => assert_eq!(rt; fault.code(), 60),
+    }
+    Ok(())
+}
