@@ -3,7 +3,9 @@
 //! canonical files, refusals.
 #![tactic(auto)]
 
-pub use plist_devices::{DeviceFault, ListSink, ListSource, ReaderSource, Sink, Source};
+pub use plist_devices::{
+    DeviceFault, ListSink, ListSource, ReaderSource, Sink, Source, Stream, WriterSink,
+};
 pub use plist_files::{
     Fault, Form, MAX_INPUT, PairFault, Status, canonicalise, laws, line, load, read_any, same_files,
 };
