@@ -31,8 +31,9 @@ const CUT: BinaryFault = BinaryFault::Object {
     fault: ObjectFault::CutObject,
 };
 
-fn is_refused(alloc: Global, octets: &[u8], fault: BinaryFault) -> bool {
-    matches!(canonicalise(alloc, octets), Err(Fault::Binary(found)) if found == fault)
+// Why the octets are refused, if they are.
+fn refusal(alloc: Global, octets: &[u8]) -> Option<Fault> {
+    canonicalise(alloc, octets).err()
 }
 
 #[test]
@@ -40,7 +41,11 @@ fn small_files_that_overrun(rt: HostRuntime) -> Result<(), Fail> {
     let alloc = rt.alloc();
     for (objects, fault) in REFUSED {
         let octets = file_of(alloc, objects, 1)?;
-        assert!(rt; is_refused(alloc, octets.as_slice(), fault), "{octets:?}");
+        assert_eq!(rt;
+            refusal(alloc, octets.as_slice()),
+            Some(Fault::Binary(fault)),
+            "{octets:?}"
+        );
     }
     // The flag true, with a table of eight octets; (2^61 + 1) * 8 is 8 where a product wraps.
     let rows = [([8, 1], (1 << 61) + 1), ([0, 1], 1), ([8, 9], 1)];
@@ -49,7 +54,11 @@ fn small_files_that_overrun(rt: HostRuntime) -> Result<(), Fail> {
         put_trailer(&mut octets, widths, count, 9)?;
         assert_eq!(rt; octets.len(), 49);
         let fault = BinaryFault::Layout(LayoutFault::BadTrailer);
-        assert!(rt; is_refused(alloc, octets.as_slice(), fault), "{octets:?}");
+        assert_eq!(rt;
+            refusal(alloc, octets.as_slice()),
+            Some(Fault::Binary(fault)),
+            "{octets:?}"
+        );
     }
     Ok(())
 }
@@ -60,16 +69,23 @@ fn files_past_a_limit(rt: HostRuntime) -> Result<(), Fail> {
     let deep = BinaryFault::TooDeep { object: 512 };
     for (count, last) in [(513, 0x09), (20_000, 0xa0)] {
         let octets = chain(alloc, count, &[last])?;
-        assert!(rt;
-            is_refused(alloc, octets.as_slice(), deep),
+        assert_eq!(rt;
+            refusal(alloc, octets.as_slice()),
+            Some(Fault::Binary(deep)),
             "{count} objects"
         );
     }
     let wide = BinaryFault::TooManyNodes { object: 29 };
-    assert!(rt; is_refused(alloc, tower(alloc)?.as_slice(), wide));
+    assert_eq!(rt;
+        refusal(alloc, tower(alloc)?.as_slice()),
+        Some(Fault::Binary(wide))
+    );
     let wider = fan(alloc, 16_777_216, b"\x09")?;
     let fault = BinaryFault::TooManyNodes { object: 1 };
-    assert!(rt; is_refused(alloc, wider.as_slice(), fault));
+    assert_eq!(rt;
+        refusal(alloc, wider.as_slice()),
+        Some(Fault::Binary(fault))
+    );
     Ok(())
 }
 
