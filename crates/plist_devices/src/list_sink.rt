@@ -1,5 +1,6 @@
 //! A list of octets as a sink.
-ghost use Rattle.std.specs.Prelude.{◌≡◌, ◌+◌, ◌-◌, ◌<◌, ◌≤◌, ◌↔◌, ◌++◌, [], None, Some, IsErr, IsTrue, IfOk, min, length, take, vec_len, vec_capacity};
+ghost use Rattle.std.specs.Prelude.{◌≡◌, ◌+◌, ◌-◌, ◌<◌, ◌≤◌, ◌↔◌, ◌++◌, [], None, Some, IsErr};
+ghost use Rattle.std.specs.Prelude.{IsTrue, IfOk, min, length, take, vec_len, vec_capacity};
 ghost use Rattle.plist_devices.specs.Sink.{IsPut};
 
 use crate::{DeviceFault, Sink};
@@ -18,7 +19,8 @@ pub struct ListSink {
 }
 
 impl ListSink {
-    ghost use Rattle.plist_devices.specs.ListSink.{octets_taken, room_of, step_of, failures_of, FailsAt};
+    ghost use Rattle.plist_devices.specs.ListSink.{octets_taken, room_of, step_of, failures_of};
+    ghost use Rattle.plist_devices.specs.ListSink.{FailsAt};
 
     /// An empty sink, with memory for all of its room. The step is above 0.
     ///
@@ -57,7 +59,8 @@ impl ListSink {
 }
 
 impl Sink for ListSink {
-    ghost use Rattle.plist_devices.specs.ListSink.{octets_taken, room_of, step_of, failures_of, FailsAt};
+    ghost use Rattle.plist_devices.specs.ListSink.{octets_taken, room_of, step_of, failures_of};
+    ghost use Rattle.plist_devices.specs.ListSink.{FailsAt};
 
     ghost taken = { λ sink. Some (octets_taken sink) };
 

@@ -1,5 +1,6 @@
 //! Octets on their way to a sink, in pieces.
-ghost use Rattle.std.specs.Prelude.{◌≡◌, ℕ, List, ◌+◌, ◌<◌, ◌≤◌, ◌-◌, ◌^◌, [], length, All, IfOk, OnOk};
+ghost use Rattle.std.specs.Prelude.{◌≡◌, ℕ, List, ◌+◌, ◌<◌, ◌≤◌, ◌-◌, ◌^◌, [], length, All, IfOk};
+ghost use Rattle.std.specs.Prelude.{OnOk};
 ghost use Rattle.plist_value.specs.Plist.{bytes};
 ghost use Rattle.plist_object.specs.Sizes.{IsWidth};
 ghost use Rattle.plist_object.specs.Shortest.{spelling_of};

@@ -3,7 +3,8 @@ ghost use Rattle.std.specs.Prelude.{◌≡◌, ◌≤◌, length, map, IfOk, OnO
 ghost use Rattle.plist_value.specs.Plist.{list, table};
 ghost use Rattle.plist_value.specs.View.{view, view_items, view_pairs};
 ghost use Rattle.plist_write.specs.Tree.{preorder};
-ghost use Rattle.plist_write.specs.Plan.{WalksTree, WalksItems, WalksKeys, WalksValues, held_by, found_in};
+ghost use Rattle.plist_write.specs.Plan.{WalksTree, WalksItems, WalksKeys, WalksValues, held_by};
+ghost use Rattle.plist_write.specs.Plan.{found_in};
 
 use crate::plan::{Plan, Slot};
 use plist_value::{ScalarRef, TextRef, Utf16, Value};
