@@ -26,4 +26,4 @@ announce:
 	@mkdir -p out
 	@[ -e out/plist_files.proved ] || printf '%s\n' \
 	  'The toolchain builds only what it has proved. The first build proves every crate below the program:' \
-	  'some 25 processor minutes, on $(JOBS) processors. Broken off, it goes on where it was.'
+	  'some 30 processor minutes, on $(JOBS) processors. Broken off, it goes on where it was.'
