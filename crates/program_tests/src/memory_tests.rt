@@ -3,7 +3,6 @@ use crate::worked_files::{TABLE, UNSORTED};
 use plist_devices::{ListSink, ListSource};
 use plist_disk::{Disk, MemoryDisk};
 use plist_program::run_on;
-use std::alloc::Global;
 use std::test::Fail;
 
 #[test]
@@ -72,45 +71,5 @@ fn filters_in_memory(rt: HostRuntime) -> Result<(), Fail> {
     let status = run_on(alloc, &mut disk, &["plistconv"], &mut input, &mut output);
     assert_eq!(rt; status, 4);
     assert_eq!(rt; output.taken(), b"-: refused 50 ReadFailed\n".as_slice());
-    Ok(())
-}
-
-/// The canonical file of 5,000 octets of data, which go out in a piece of their own.
-fn file_of_data(alloc: Global) -> Result<Vec<u8>, Fail> {
-    let mut file = Vec::from_slice(alloc, b"bplist00\x4f\x11\x13\x88")?;
-    for i in 0..5_000 {
-        file.push((i % 251) as u8)?;
-    }
-    file.extend_from_slice(&[0, 8])?;
-    file.extend_from_slice(&[0, 0, 0, 0, 0, 0, 2, 1])?;
-    file.extend_from_slice(&[0, 0, 0, 0, 0, 0, 0, 1])?;
-    file.extend_from_slice(&[0, 0, 0, 0, 0, 0, 0, 0])?;
-    file.extend_from_slice(&[0, 0, 0, 0, 0, 0, 0x13, 0x94])?;
-    Ok(file)
-}
-
-#[test]
-fn filters_long_data(rt: HostRuntime) -> Result<(), Fail> {
-    let alloc = rt.alloc();
-    let mut disk = MemoryDisk::new(alloc, 6_000, 7);
-    let file = file_of_data(alloc)?;
-    let mut input = ListSource::new(file.as_slice(), 600, None);
-    let mut output = ListSink::new(alloc, 6_000, 700)?;
-    let status = run_on(alloc, &mut disk, &["plistconv"], &mut input, &mut output);
-    assert_eq!(rt; status, 0);
-    assert_eq!(rt; output.taken(), file.as_slice());
-    // The output is full in the middle of the data.
-    let mut input = ListSource::new(file.as_slice(), 600, None);
-    let mut output = ListSink::new(alloc, 2_000, 700)?;
-    let status = run_on(alloc, &mut disk, &["plistconv"], &mut input, &mut output);
-    assert_eq!(rt; status, 4);
-    assert_eq!(rt; Some(output.taken()), file.as_slice().get(..2_000));
-    disk.put(alloc, "in", file)?;
-    let words = ["plistconv", "convert", "binary1", "in", "out"];
-    let mut input = ListSource::new(b"", 1, None);
-    let mut output = ListSink::new(alloc, 100, 7)?;
-    let status = run_on(alloc, &mut disk, words.as_slice(), &mut input, &mut output);
-    assert_eq!(rt; status, 0);
-    assert_eq!(rt; disk.at("out"), disk.at("in"));
     Ok(())
 }
