@@ -15,7 +15,7 @@ define CRATE
 out/$(1).proved: $(call files,$(1)) $(patsubst %,out/%.proved,$(call below,$(1))) | announce
 	@mkdir -p out
 	@echo "proving $(1)"
-	@cd crates/$(1) && $(RT) lib > ../../out/$(1).log 2>&1 || { cat ../../out/$(1).log >&2; exit 1; }
+	@RT=$(RT) scripts/prove.sh $(1) > out/$(1).log 2>&1 || { cat out/$(1).log >&2; exit 1; }
 	@touch $$@
 endef
 $(foreach name,$(CRATES),$(eval $(call CRATE,$(name))))
