@@ -56,6 +56,30 @@ pub fn convert<S: Source, W: Sink>(
         (λ taken. IsErrOf result Fault.InputTooLarge ↔ (MAX_INPUT < length taken)) }
 {
     let octets = load(alloc, from)?;
+    convert_octets(alloc, octets, to, form)
+}
+
+/// Sends the value that the octets spell, in either form, to the sink, and answers how many octets were sent.
+///
+/// It is [`convert`] of octets that were loaded, and they are given up: those of a text before the first put,
+/// those of a binary file whose canonical file is asked for when that is sent.
+///
+/// # Errors
+///
+/// In this order: those of [`read_any`](plist_files::read_any); `NotInOpenStep` (40) where the value has no
+/// text; `WriteFailed` (51) where the sink fails. Want of memory (60) may come before any of them. After 51
+/// and 60 exactly the first `sent` octets of the output went out, and after any other the sink is untouched.
+pub fn convert_octets<W: Sink>(
+    alloc: Global,
+    octets: Vec<u8>,
+    to: &mut W,
+    form: Form,
+) -> Result<u64, Fault>
+    ensures writes { Writes form octets.items (W.taken to.old) (W.taken to.new)
+        (W.failures to.old) (W.failures to.new) result }
+    ensures untouched { IfErr result (λ fault. IsBeforePut fault → to.new ≡ to.old) }
+    ensures same { W.device to.new ≡ W.device to.old }
+{
     match form {
         Form::Binary1 => write_binary1(alloc, octets, to),
         Form::OpenStep => write_openstep(alloc, octets, to),

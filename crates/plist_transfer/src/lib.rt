@@ -6,4 +6,4 @@ mod converting;
 mod sending;
 mod texts;
 
-pub use converting::convert;
+pub use converting::{convert, convert_octets};
