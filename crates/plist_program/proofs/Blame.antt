@@ -1,7 +1,6 @@
 -- The program ends with 4 only where a device failed.
 use Rattle.std.proofs.Common.{arith, inl, inr, refl, sym, Err, List, Ok, Option, Result, ℕ, ◌∙◌, ◌≡◌, ◌⊎◌}
 use Rattle.std.specs.Prelude.{◌≢◌, Bool, true, false}
-use Rattle.std.specs.Io.KnownBytes.{Appends}
 use Rattle.clap.specs.Words.{Text}
 use Rattle.clap.specs.declared.error.ErrorKind.{ErrorKind}
 use Rattle.clap.specs.declared.error.ErrorKind.TheVariants as kind
@@ -24,13 +23,14 @@ use Rattle.plist_canon.specs.declared.checking.CheckFault.{CheckFault}
 use Rattle.plist_canon.specs.declared.checking.CheckFault.TheVariants as check
 use Rattle.plist_canon.specs.declared.checking.Verdict.{Verdict}
 use Rattle.plist_canon.specs.declared.checking.Verdict.TheVariants as verdict
-use Rattle.plist_files.specs.Fault.{check_fault_for, code_of, status_for}
+use Rattle.plist_files.specs.Fault.{check_fault_for, code_of, status_for, write_fault_for}
 use Rattle.plist_files.specs.Refusals.{FaultStands}
 use Rattle.plist_files.specs.declared.faults.Fault.{Fault}
 use Rattle.plist_files.specs.declared.faults.Fault.TheVariants.{Binary, Text as OfText, NotInOpenStep, ReadFailed, WriteFailed, InputTooLarge, OutOfMemory}
 use Rattle.plist_files.specs.declared.pairs.PairFault.{PairFault}
 use Rattle.plist_files.specs.declared.pairs.PairFault.TheVariants.{First, Second}
 use Rattle.plist_files.specs.Pair.{IsRefusedPair}
+use Rattle.plist_write.specs.Sending.{IsWritten}
 use Rattle.plist_write.specs.declared.sending.WriteFault.{WriteFault}
 use Rattle.plist_write.specs.declared.sending.WriteFault.TheVariants as write
 use Rattle.plist_disk.specs.Files.{FileName, IsStored, IsUnloaded}
@@ -41,7 +41,7 @@ use Rattle.plist_program.specs.Answer.{IsCheckAnswer, IsLintAnswer, IsRefusedAns
 use Rattle.plist_program.specs.Ending.{Ends, HaveFailed, Prints, no_memory}
 use Rattle.plist_program.specs.Explaining.{said_of_kind, status_of_kind}
 use Rattle.plist_program.specs.Program.{DeviceFailed, IsAskedRun, IsConvertTo, IsRun}
-use Rattle.plist_program.specs.Runs.{IsAnswered, IsCheckRun, IsConvertRun, IsConvertTextRun, IsFileRun, IsFiltered, IsFilterRun, IsInputFault, IsLintRun, IsSameRun, IsStoreRun, IsUnread, IsWanting, said_of_store, standard}
+use Rattle.plist_program.specs.Runs.{EndsSending, IsAnswered, IsCheckRun, IsConvertRun, IsConvertTextRun, IsFileRun, IsFiltered, IsFilterRun, IsInputFault, IsLintRun, IsSameRun, IsStoreRun, IsUnread, IsWanting, said_of_store, standard}
 use Rattle.plist_program.specs.State.{Ending, Input, State}
 use Rattle.plist_program.specs.Verdicts.{verdict_status_for}
 
@@ -277,13 +277,35 @@ unloaded_by input rest before after status InputTooLarge (inl load) ends four = 
 unloaded_by input rest before after status (OutOfMemory sent) (inl load) ends four = inr (ending_blamed before after (refusal standard (OutOfMemory sent)) status no_5 ends four)
 unloaded_by input rest before after status _ (inl load) ends four = absurd load.0
 
+failed_twice : (before middle after : ℕ) → HasFailed before middle → (after ≡ middle) ⊎ HasFailed middle after → HaveFailed before after
+failed_twice before middle after (inl up) (inl same) = inl (omega (arith, up, same))
+failed_twice before middle after (inl up) (inr (inl more)) = inl (omega (arith, up, more))
+failed_twice before middle after (inl up) (inr (inr top)) = inr (omega (arith, top))
+failed_twice before middle after (inr top) (inl same) = inr (omega (arith, top, same))
+failed_twice before middle after (inr top) (inr (inl more)) = inr (omega (arith, top, more))
+failed_twice before middle after (inr top) (inr (inr end)) = inr (omega (arith, end))
+
+-- a failure of printing stands, whatever became of the line of that
+line_failed : (old new : Option (List ℕ)) (before middle after : ℕ) (s : Said) (status : ℕ) → HasFailed before middle
+    → Ends old new middle after s status → HaveFailed before after
+line_failed old new before middle after s status failed (inl (inl usual)) = failed_twice before middle after failed (inl usual.2)
+line_failed old new before middle after s status failed (inl (inr unprinted)) = failed_twice before middle after failed (inr unprinted.1)
+line_failed old new before middle after s status failed (inr (inl memory)) = failed_twice before middle after failed (inl memory.2)
+line_failed old new before middle after s status failed (inr (inr unprinted)) = failed_twice before middle after failed (inr unprinted.1)
+
+sending_blamed : (file : List ℕ) (old mid new : Option (List ℕ)) (before middle after status : ℕ) (sent : Result ℕ WriteFault)
+    → IsWritten file old mid before middle sent
+    → EndsSending mid new middle after (λ fault. refusal standard (write_fault_for fault)) sent status → status ≡ 4 → HaveFailed before after
+sending_blamed file old mid new before middle after status (Ok n) written ends four = absurd (no_0 (sym ends.0 ∙ four))
+sending_blamed file old mid new before middle after status (Err (write.WriteFailed n)) written ends four =
+    line_failed mid new before middle after (refusal standard (WriteFailed n)) status written.front.1 ends
+sending_blamed file old mid new before middle after status (Err (write.OutOfMemory n)) written ends four =
+    rw written.front.1 at (ends_blamed mid new middle after (refusal standard (OutOfMemory n)) status no_5 ends four)
+
 filtered_blamed : (input rest : Input) (before after : State) (status : ℕ) → IsFiltered input before after status → status ≡ 4
     → DeviceFailed input rest before after
-filtered_blamed input rest before after status run four = go run.ends
-  where
-    go : ((status ≡ 0) × Appends before.printed after.printed run.file × (after.print_failures ≡ before.print_failures)) ⊎ (((status ≡ 4) ⊎ (status ≡ 5)) × HaveFailed before.print_failures after.print_failures) → DeviceFailed input rest before after
-    go (inl whole) = absurd (no_0 (sym whole.0 ∙ four))
-    go (inr cut) = inr (inr cut.1)
+filtered_blamed input rest before after status run four =
+    inr (inr (sending_blamed run.file before.printed run.printed after.printed before.print_failures run.failures after.print_failures status run.sent run.written run.ends four))
 
 filter_blamed : (input rest : Input) (before after : State) (status : ℕ) → IsFilterRun input rest before after status → status ≡ 4
     → DeviceFailed input rest before after

@@ -1,3 +1,4 @@
 pub mod Blame
 pub mod Disks
 pub mod Runs
+pub mod Transfers

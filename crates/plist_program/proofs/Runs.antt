@@ -1,21 +1,17 @@
 -- From what the parts of a word ensure to its run.
-use Rattle.std.proofs.Common.{ap, arith, inl, inr, refl, Err, List, Ok, Option, Result, ℕ, ◌∙◌, ◌≡◌, ◌⊎◌}
+use Rattle.std.proofs.Common.{inl, inr, refl, Err, List, Ok, Result, ℕ, ◌≡◌, ◌⊎◌}
 use Rattle.std.specs.Prelude.{◌≤◌, IfOk, MatchResult, length}
 use Rattle.std.specs.declared.alloc.AllocError.{AllocError}
 use Rattle.clap.specs.Words.{Text, kind_of}
 use Rattle.clap.specs.declared.Error.{Error}
-use Rattle.plist_devices.specs.Count.{HasFailed}
-use Rattle.plist_files.specs.Fault.{code_of, status_for}
-use Rattle.plist_files.specs.declared.faults.Fault.{Fault}
-use Rattle.plist_files.specs.declared.faults.Fault.TheVariants.{WriteFailed}
 use Rattle.plist_disk.specs.Files.{FileName, Holds, SameFiles}
 use Rattle.plist_words.specs.Reading.{IsReading}
 use Rattle.plist_program.specs.declared.answers.Answer.{Answer}
-use Rattle.plist_program.specs.Answer.{IsSameAnswer, Said, refusal, said_of}
-use Rattle.plist_program.specs.Ending.{Ends, HaveFailed, Prints, no_memory}
+use Rattle.plist_program.specs.Answer.{IsSameAnswer, Said, said_of}
+use Rattle.plist_program.specs.Ending.{Prints, no_memory}
 use Rattle.plist_program.specs.Explaining.{said_of_kind}
 use Rattle.plist_program.specs.Program.{IsRefusedRun}
-use Rattle.plist_program.specs.Runs.{IsCompared, IsFileRun, IsStoreRun, IsWanting, standard}
+use Rattle.plist_program.specs.Runs.{IsCompared, IsFileRun, IsStoreRun, IsWanting}
 use Rattle.plist_program.specs.State.{Ending, Input, State}
 use Rattle.plist_program.proofs.Disks.{stored_before}
 
@@ -70,27 +66,6 @@ store_before from to file before middle after status same e printed failures run
   stored = stored_before before.files middle.files after.files before.disk_failures middle.disk_failures after.disk_failures to file run.result same e run.stored;
   ends = rw (← printed, ← failures) run.ends;
 }
-
-failed_twice : (before middle after : ℕ) → HasFailed before middle → (after ≡ middle) ⊎ HasFailed middle after → HaveFailed before after
-failed_twice before middle after (inl up) (inl same) = inl (omega (arith, up, same))
-failed_twice before middle after (inl up) (inr (inl more)) = inl (omega (arith, up, more))
-failed_twice before middle after (inl up) (inr (inr top)) = inr (omega (arith, top))
-failed_twice before middle after (inr top) (inl same) = inr (omega (arith, top, same))
-failed_twice before middle after (inr top) (inr (inl more)) = inr (omega (arith, top, more))
-failed_twice before middle after (inr top) (inr (inr end)) = inr (omega (arith, end))
-
--- the file did not go out whole, whatever became of the line of that
-pub send_failed : (old new : Option (List ℕ)) (before middle after : ℕ) (fault : Fault) (sent status : ℕ) → fault ≡ WriteFailed sent
-    → HasFailed before middle → Ends old new middle after (refusal standard fault) status
-    → ((status ≡ 4) ⊎ (status ≡ 5)) × HaveFailed before after
-send_failed old new before middle after fault sent status is failed (inl (inl usual)) =
-    (inl (usual.0 ∙ ap (λ f. status_for (code_of f)) is), failed_twice before middle after failed (inl usual.2))
-send_failed old new before middle after fault sent status is failed (inl (inr unprinted)) =
-    (inl unprinted.0, failed_twice before middle after failed (inr unprinted.1))
-send_failed old new before middle after fault sent status is failed (inr (inl memory)) =
-    (inr memory.0, failed_twice before middle after failed (inl memory.2))
-send_failed old new before middle after fault sent status is failed (inr (inr unprinted)) =
-    (inl unprinted.0, failed_twice before middle after failed (inr unprinted.1))
 
 -- the words are refused
 pub refused_run : (words : List Text) (input : Input) (before after : State) (error : Error) (status : ℕ) → 2 ≤ length words

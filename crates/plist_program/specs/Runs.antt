@@ -1,17 +1,18 @@
 -- What each word of the program does, before and after.
-use Rattle.std.specs.Prelude.{◌≡◌, ◌⊎◌, ℕ, List, [], Option, Result, Ok, Err, IfSome, codes}
-use Rattle.std.specs.Io.KnownBytes.{Appends}
+use Rattle.std.specs.Prelude.{◌≡◌, ◌⊎◌, ℕ, List, [], Option, Result, Ok, Err, IfSome, MatchResult, codes}
 use Rattle.plist_devices.specs.Count.{HasFailed}
 use Rattle.plist_files.specs.Accepted.{IsCanonicalOf}
+use Rattle.plist_files.specs.Fault.{write_fault_for}
 use Rattle.plist_files.specs.Load.{IsLoadFault}
 use Rattle.plist_files.specs.Refusals.{IsRefused}
 use Rattle.plist_files.specs.declared.faults.Fault.{Fault}
 use Rattle.plist_files.specs.declared.faults.Fault.TheVariants as refusal_kind
+use Rattle.plist_write.specs.Sending.{IsWritten}
 use Rattle.plist_write.specs.declared.sending.WriteFault.{WriteFault}
 use Rattle.plist_write.specs.declared.sending.WriteFault.TheVariants as write
 use Rattle.plist_disk.specs.Files.{FileName, Holds, IsStored, IsUnloaded, SameFiles}
 use Rattle.plist_program.specs.Answer.{IsCheckAnswer, IsLintAnswer, IsRefusedAnswer, IsSameAnswer, IsTextOf, IsTextRefusal, Said, refusal}
-use Rattle.plist_program.specs.Ending.{HaveFailed}
+use Rattle.plist_program.specs.Ending.{Ends}
 use Rattle.plist_program.specs.State.{Ending, Input, State, Wanting}
 
 -- The file at the path is not loaded, and the line of that is printed.
@@ -134,12 +135,25 @@ pub record IsUnfiltered (input rest : Input) (before after : State) (status : �
   pub cause : IsInputFault input rest fault
   pub ends : Ending before after (refusal standard fault) status
 
--- The canonical file of the input goes out; where it does not go out whole, printing failed.
+-- how the program ends when so much of a file was sent: nothing more is printed behind the whole, else the line of the
+-- refusal
+abbrev pub EndsSending : Option (List ℕ) → Option (List ℕ) → ℕ → ℕ → (WriteFault → Said) → Result ℕ WriteFault → ℕ → Type 0
+EndsSending old new before after line result status = MatchResult result
+    (λ _. (status ≡ 0) × (new ≡ old) × (after ≡ before))
+    (λ fault. Ends old new before after (line fault) status)
+
+-- The canonical file of the input goes out, all of it or exactly a front, where printing failed or memory was wanting;
+-- and behind it, from what was printed and the failures of printing by then, the line of that.
 pub record IsFiltered (input : Input) (before after : State) (status : ℕ) : Type 0 where
+  pub octets : List ℕ
+  pub whole : IfSome input.to_come (λ all. octets ≡ all)
   pub file : List ℕ
-  pub canonical : IfSome input.to_come (λ octets. IsCanonicalOf octets file)
-  pub ends : ((status ≡ 0) × Appends before.printed after.printed file × (after.print_failures ≡ before.print_failures))
-      ⊎ (((status ≡ 4) ⊎ (status ≡ 5)) × HaveFailed before.print_failures after.print_failures)
+  pub canonical : IsCanonicalOf octets file
+  pub sent : Result ℕ WriteFault
+  pub printed : Option (List ℕ)
+  pub failures : ℕ
+  pub written : IsWritten file before.printed printed before.print_failures failures sent
+  pub ends : EndsSending printed after.printed failures after.print_failures (λ fault. refusal standard (write_fault_for fault)) sent status
 
 -- without words
 unfoldable pub IsFilterRun : Input → Input → State → State → ℕ → Type 0

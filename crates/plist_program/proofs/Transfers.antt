@@ -1,0 +1,116 @@
+-- From what a transfer ensures to a run without words.
+use Rattle.std.proofs.Common.{ap, inl, inr, refl, Err, List, None, Ok, Option, Result, Some, ℕ, ◌≡◌}
+use Rattle.std.specs.Prelude.{◌↔◌, IsErrOf}
+use Rattle.plist_devices.specs.Count.{HasFailed}
+use Rattle.plist_files.specs.Accepted.{IsCanonicalOf}
+use Rattle.plist_files.specs.Fault.{write_fault_for}
+use Rattle.plist_files.specs.Refusals.{IsRefused}
+use Rattle.plist_files.specs.declared.faults.Fault.{Fault}
+use Rattle.plist_files.specs.declared.faults.Fault.TheVariants.{ReadFailed}
+use Rattle.plist_files.specs.declared.forms.Form.TheVariants.{Binary1}
+use Rattle.plist_write.specs.Canonical.{canon}
+use Rattle.plist_write.specs.declared.sending.WriteFault.{WriteFault}
+use Rattle.plist_transfer.specs.Output.{IsOutput, IsOutputFault}
+use Rattle.plist_transfer.specs.Transfer.{IsInput, IsTransfer, Writes, answer_of}
+use Rattle.plist_program.specs.Answer.{refusal}
+use Rattle.plist_program.specs.Ending.{Ends}
+use Rattle.plist_program.specs.Runs.{EndsSending, IsFilterRun, IsInputFault, standard}
+use Rattle.plist_program.specs.State.{Input, State}
+
+-- the output in this form is the canonical file
+canonical_output : (octets output : List ℕ) → IsOutput Binary1 octets output → IsCanonicalOf octets output
+canonical_output octets output of = record {
+  value = of.value;
+  accepted = of.accepted;
+  canonical = (let written : Some (canon of.value) ≡ Some output = of.written in cc);
+}
+
+-- what was sent whole
+sent_whole : (sent : Result ℕ WriteFault) (n : ℕ) (printed : Option (List ℕ)) (failures : ℕ) → Ok n ≡ answer_of sent
+    → EndsSending printed printed failures failures (λ fault. refusal standard (write_fault_for fault)) sent 0
+sent_whole (Ok m) n printed failures is = (refl, refl, refl)
+sent_whole (Err fault) n printed failures is = absurd cc
+
+-- what was not
+sent_front : (sent : Result ℕ WriteFault) (fault : Fault) (old new : Option (List ℕ)) (before after status : ℕ) → Err fault ≡ answer_of sent
+    → Ends old new before after (refusal standard fault) status
+    → EndsSending old new before after (λ f. refusal standard (write_fault_for f)) sent status
+sent_front (Ok m) fault old new before after status is ends = absurd cc
+sent_front (Err f) fault old new before after status is ends =
+    let same : fault ≡ write_fault_for f = cc in
+    rw same at ends
+
+-- all of it was sent
+writes_sent : (input rest : Input) (before after : State) (n : ℕ) (octets : List ℕ) → IsInput input.to_come rest.to_come octets
+    → Writes Binary1 octets before.printed after.printed before.print_failures after.print_failures (Ok n)
+    → IsFilterRun input rest before after 0
+unfolding IsFilterRun
+writes_sent input rest before after n octets taken (inl unsent) = absurd (let is = unsent.is in cc)
+writes_sent input rest before after n octets taken (inr goes) = inr (record {
+  octets = octets;
+  whole = taken.whole;
+  file = goes.output;
+  canonical = canonical_output octets goes.output goes.of;
+  sent = goes.sent;
+  printed = after.printed;
+  failures = after.print_failures;
+  written = goes.written;
+  ends = sent_whole goes.sent n after.printed after.print_failures goes.is;
+})
+
+pub filter_sent : (input rest : Input) (before after : State) (n : ℕ)
+    → IsTransfer Binary1 input.to_come rest.to_come before.printed after.printed before.print_failures after.print_failures (Ok n)
+    → IsFilterRun input rest before after 0
+filter_sent input rest before after n (inl unsent) = absurd (let is = unsent.is in cc)
+filter_sent input rest before after n (inr goes) = writes_sent input rest before after n goes.0 goes.1 goes.2
+
+-- a fault that comes before anything is sent
+unfiltered : (input rest : Input) (before after : State) (status : ℕ) (printed : Option (List ℕ)) (failures : ℕ) (fault : Fault)
+    → IsInputFault input rest fault → printed ≡ before.printed → failures ≡ before.print_failures
+    → Ends printed after.printed failures after.print_failures (refusal standard fault) status
+    → IsFilterRun input rest before after status
+unfolding IsFilterRun
+unfiltered input rest before after status printed failures fault cause nothing unfailed ends = inl (record {
+  fault = fault;
+  cause = cause;
+  ends = rw (← nothing, ← unfailed) ends;
+})
+
+-- the canonical file always is, so there is no other fault than that of the octets
+output_fault : (octets : List ℕ) (fault : Fault) → IsOutputFault Binary1 octets fault → IsRefused octets fault
+output_fault octets fault (inl refused) = refused
+output_fault octets fault (inr none) = absurd (let is : Some (canon none.value) ≡ None = none.none in cc)
+
+writes_refused : (input rest : Input) (before after : State) (status : ℕ) (printed : Option (List ℕ)) (failures : ℕ) (fault : Fault)
+    (octets : List ℕ) → IsInput input.to_come rest.to_come octets
+    → Writes Binary1 octets before.printed printed before.print_failures failures (Err fault)
+    → Ends printed after.printed failures after.print_failures (refusal standard fault) status
+    → IsFilterRun input rest before after status
+unfolding IsFilterRun
+writes_refused input rest before after status printed failures fault octets taken (inl unsent) ends =
+    let same : unsent.fault ≡ fault = (let is = unsent.is in cc) in
+    unfiltered input rest before after status printed failures fault
+    (inr (octets, (taken.whole, output_fault octets fault (rw same at unsent.cause)))) unsent.nothing unsent.unfailed ends
+writes_refused input rest before after status printed failures fault octets taken (inr goes) ends = inr (record {
+  octets = octets;
+  whole = taken.whole;
+  file = goes.output;
+  canonical = canonical_output octets goes.output goes.of;
+  sent = goes.sent;
+  printed = printed;
+  failures = failures;
+  written = goes.written;
+  ends = sent_front goes.sent fault printed after.printed failures after.print_failures status goes.is ends;
+})
+
+pub filter_refused : (input rest : Input) (before after : State) (status : ℕ) (printed : Option (List ℕ)) (failures : ℕ) (fault : Fault)
+    → IsTransfer Binary1 input.to_come rest.to_come before.printed printed before.print_failures failures (Err fault)
+    → (IsErrOf {T = ℕ} (Err fault) ReadFailed ↔ HasFailed input.failures rest.failures)
+    → Ends printed after.printed failures after.print_failures (refusal standard fault) status
+    → IsFilterRun input rest before after status
+filter_refused input rest before after status printed failures fault (inl unsent) failed ends =
+    let same : unsent.fault ≡ fault = (let is = unsent.is in cc) in
+    unfiltered input rest before after status printed failures fault
+    (inl (rw same at unsent.cause, λ read. failed.0 (ap Err read))) unsent.nothing unsent.unfailed ends
+filter_refused input rest before after status printed failures fault (inr goes) failed ends =
+    writes_refused input rest before after status printed failures fault goes.0 goes.1 goes.2 ends
