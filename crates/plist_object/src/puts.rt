@@ -129,7 +129,12 @@ fn push_number(out: &mut Vec<u8>, n: u64, width: u8)
 {
     let width = usize::from(width);
     let mut digits = [0; 8];
-    BigEndian::write_uint(&mut digits, n, width);
+    match width {
+        1 => digits[0] = n as u8,
+        2 => BigEndian::write_u16(&mut digits, n as u16),
+        4 => BigEndian::write_u32(&mut digits, n as u32),
+        _ => BigEndian::write_uint(&mut digits, n, width),
+    }
     push_octets(out, &digits[..width]);
 }
 

@@ -16,6 +16,7 @@ use crate::markers::{
     ASCII, DATA, EIGHT_OCTETS, FALSE, FOUR_OCTETS, LIST, MOMENT, NULL, REAL, SET, SIMPLE, TABLE,
     TRUE, UID, WHOLE, WHOLE_1, WHOLE_2, WHOLE_4, WHOLE_8, WHOLE_16, WIDE,
 };
+use crate::refs::number_in;
 use crate::{Object, ObjectFault, Refs};
 use byteorder::{BigEndian, ByteOrder};
 use plist_value::{ScalarRef, TextRef, Whole};
@@ -56,7 +57,21 @@ fn count_spelled(octets: &[u8]) -> Read<'_, u128>
     };
     let n = integer_length(*marker)?;
     let (digits, rest) = cut(octets, n)?;
-    Ok((BigEndian::read_uint128(digits, n), rest))
+    Ok((count_in(digits, n), rest))
+}
+
+// The number in all of the octets, of which there are 1, 2, 4, 8 or 16.
+fn count_in(octets: &[u8], n: usize) -> u128
+    requires whole { length octets.now ≡ n }
+    requires some { 1 ≤ n }
+    requires most { n ≤ 16 }
+    requires small { n ≢ 16 → n ≤ 8 }
+    ensures { result ≡ big_number n octets.now }
+{
+    match n {
+        16 => BigEndian::read_u128(octets),
+        _ => u128::from(number_in(octets, n)),
+    }
 }
 
 #[tactic(auto, unfolding(crate::specs::Objects::count_of_content))]
@@ -78,6 +93,7 @@ struct Counted<'a> {
     octets: &'a [u8],
 }
 
+#[inline(always)]
 #[tactic(auto, unfolding(crate::specs::Objects::content))]
 fn content(octets: &[u8], low: u8, unit: usize) -> Read<'_, Counted<'_>>
     requires { 0 < unit }
@@ -125,7 +141,7 @@ fn whole_in(octets: &[u8], n: usize) -> Result<Whole, ObjectFault>
         16 if BigEndian::read_u64(octets) != 0 => return Err(ObjectFault::WideInteger),
         16 => i128::from(BigEndian::read_u64(&octets[8..])),
         8 => i128::from(BigEndian::read_i64(octets)),
-        _ => i128::from(BigEndian::read_uint(octets, n)),
+        _ => i128::from(number_in(octets, n)),
     };
     Whole::new(number).ok_or(ObjectFault::WideInteger)
 }

@@ -57,11 +57,29 @@ impl<'a> Refs<'a> {
 }
 
 /// The number at the place `i` among numbers of so many octets each.
+#[inline(always)]
 pub(crate) fn number_at(octets: &[u8], width: usize, i: usize) -> u64
     requires width_least { 1 ≤ width }
     requires width_most { width ≤ 8 }
     requires within { i * width + width ≤ length octets.now }
     ensures { result ≡ big_number width (drop (i * width) octets.now) }
 {
-    BigEndian::read_uint(&octets[i * width..], width)
+    number_in(&octets[i * width..], width)
+}
+
+/// The number in the first octets, of which there are so many.
+#[inline(always)]
+pub(crate) fn number_in(octets: &[u8], width: usize) -> u64
+    requires width_least { 1 ≤ width }
+    requires width_most { width ≤ 8 }
+    requires within { width ≤ length octets.now }
+    ensures { result ≡ big_number width octets.now }
+{
+    match width {
+        1 => u64::from(octets[0]),
+        2 => u64::from(BigEndian::read_u16(octets)),
+        4 => u64::from(BigEndian::read_u32(octets)),
+        8 => BigEndian::read_u64(octets),
+        _ => BigEndian::read_uint(octets, width),
+    }
 }
