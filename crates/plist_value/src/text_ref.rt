@@ -10,7 +10,7 @@ ghost use Rattle.plist_value.specs.Hashes.{fed_text, fed_units, pair_from, word_
 ghost use Rattle.std.proofs.Common.{rules};
 ghost use Rattle.plist_value.specs.Texts.{units_of, wide_units};
 
-use crate::words::feed;
+use crate::words::{feed, feed_octets};
 use std::cmp::Ordering;
 use std::hash::{Hash, Hasher};
 
@@ -22,11 +22,11 @@ pub struct TextRef<'a> {
     kept: Kept<'a>,
 }
 
-// How the units are kept: as they are, one in each octet, or one in two octets, the high one first.
+// How the units are kept: as they are, one in each octet below 128, or one in two octets, the high one first.
 #[derive(Clone, Copy, Debug)]
 enum Kept<'a> {
     Units(&'a [u16]),
-    Ascii(&'a [u8]),
+    Ascii(&'a str),
     Wide(&'a [u8]),
 }
 
@@ -49,13 +49,13 @@ impl<'a> TextRef<'a> {
         ensures text { IfSome result (λ t. units_of t ≡ octets.entry.now) }
         ensures valid { IfSome result (λ t. AreUnits (units_of t)) }
     {
-        if octets.iter().all(|octet| *octet < 128) {
-            Some(TextRef {
-                kept: Kept::Ascii(octets),
-            })
-        } else {
-            None
+        if !octets.is_ascii() {
+            return None;
         }
+        let text = unsafe { str::from_utf8_unchecked(octets) };
+        Some(TextRef {
+            kept: Kept::Ascii(text),
+        })
     }
 
     /// The text whose units stand in these octets two by two, the high octet first, or `None` exactly
@@ -80,7 +80,7 @@ impl<'a> TextRef<'a> {
     {
         match self.kept {
             Kept::Units(units) => units.len(),
-            Kept::Ascii(octets) => octets.len(),
+            Kept::Ascii(text) => text.len(),
             Kept::Wide(octets) => octets.len() / 2,
         }
     }
@@ -99,8 +99,18 @@ impl<'a> TextRef<'a> {
     {
         match self.kept {
             Kept::Units(units) => plain_unit(units, i),
-            Kept::Ascii(octets) => u16::from(octets[i]),
+            Kept::Ascii(text) => u16::from(text.as_bytes()[i]),
             Kept::Wide(octets) => wide_unit(octets, i),
+        }
+    }
+
+    /// The octets of a text that is kept as ASCII octets: one for each unit.
+    pub fn octets(&self) -> Option<&'a [u8]>
+        ensures { IfSome result (λ octets. units_of self.now ≡ octets.now) }
+    {
+        match self.kept {
+            Kept::Ascii(text) => Some(text.as_bytes()),
+            _ => None,
         }
     }
 
@@ -146,7 +156,7 @@ impl<'a> PartialEq for TextRef<'a> {
     fn eq(&self, other: &Self) -> bool {
         match (self.kept, other.kept) {
             (Kept::Units(units), Kept::Units(others)) => units == others,
-            (Kept::Ascii(octets), Kept::Ascii(others)) => octets == others,
+            (Kept::Ascii(text), Kept::Ascii(other)) => text == other,
             _ => same_units(self, other),
         }
     }
@@ -169,7 +179,7 @@ impl<'a> Ord for TextRef<'a> {
     fn cmp(&self, other: &Self) -> Ordering {
         match (self.kept, other.kept) {
             (Kept::Units(units), Kept::Units(others)) => units.cmp(others),
-            (Kept::Ascii(octets), Kept::Ascii(others)) => octets.cmp(others),
+            (Kept::Ascii(text), Kept::Ascii(other)) => text.cmp(other),
             _ => compare_units(self, other),
         }
     }
@@ -196,6 +206,7 @@ impl<'a> Hash for TextRef<'a> {
         state.write_usize(self.len());
         match self.kept {
             Kept::Units(units) => feed(units, state),
+            Kept::Ascii(text) => feed_octets(text.as_bytes(), state),
             _ => feed_each(self, state),
         }
     }

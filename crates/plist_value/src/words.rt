@@ -27,3 +27,19 @@ pub(crate) fn feed<H: Hasher>(units: &[u16], state: &mut H)
         state.write_u16(*unit);
     }
 }
+
+/// Feeds the octets, a unit in each, likewise.
+pub(crate) fn feed_octets<H: Hasher>(octets: &[u8], state: &mut H)
+    ensures { state.new ≡ fold H.write state.old (fed_units octets.now) }
+{
+    let mut rest = octets;
+    while let [a, b, c, d, behind @ ..] = rest {
+        let (a, b) = (u16::from(*a), u16::from(*b));
+        let (c, d) = (u16::from(*c), u16::from(*d));
+        state.write_u64(word(a, b, c, d));
+        rest = behind;
+    }
+    for octet in rest {
+        state.write_u16(u16::from(*octet));
+    }
+}
