@@ -1,4 +1,5 @@
 pub mod Ascending
+pub mod Ascii
 pub mod Uniqueness
 pub mod CanonicalHeads
 pub mod Counts

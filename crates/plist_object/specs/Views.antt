@@ -22,3 +22,8 @@ held_of (Table keys values) = holds_table (numbers_of keys) (numbers_of values)
 abbrev pub Gives : {X Y E : Type 0} → (X → Y) → Result X E → Result Y E → Type 0
 Gives view (Ok x) read = read ≡ Ok (view x)
 Gives view (Err e) read = read ≡ Err e
+
+-- what was read, without what stands behind it
+abbrev pub first_of : {X Y E : Type 0} → Result (X × Y) E → Result X E
+first_of (Ok p) = Ok p.0
+first_of (Err e) = Err e

@@ -208,14 +208,14 @@ impl<'a> BinFile<'a> {
     }
 
     /// What the object `n`, which is below `count`, holds, or its first fault.
-    #[tactic(auto, unfolding(crate::specs::Places::what_holds))]
+    #[tactic(auto, unfolding(crate::specs::Places::what_holds, crate::specs::Places::object_at))]
     pub fn object(&self, n: u64) -> Result<Object<'a>, ObjectFault>
         requires { n < (trailer_of (octets_of self.now)).count }
         ensures read { Gives held_of result (what_holds (octets_of self.now) n) }
         ensures valid { IfOk result (λ object. IsHeld (held_of object)) }
     {
-        let (object, _) = self.read(n)?;
-        Ok(object)
+        let octets = self.octets_at(n)?;
+        reading::held(octets, self.trailer.reference_width)
     }
 
     /// The place of the first octet of the object `n`, which is below `count`, and that of the octet behind

@@ -111,6 +111,9 @@ pub(crate) fn head_length(count: u64) -> u64
 pub(crate) fn is_ascii(text: &TextRef) -> bool
     ensures { result ≡ list_all (λ unit. nat_lt unit 128) (units_of text.now) }
 {
+    if let Some(octets) = text.octets() {
+        return octets.is_ascii();
+    }
     let text = *text;
     let mut most = 0;
     for i in 0..text.len() {

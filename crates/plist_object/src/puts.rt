@@ -127,14 +127,41 @@ fn push_number(out: &mut Vec<u8>, n: u64, width: u8)
     requires room { HasRoom out.old width }
     ensures { Appends out.old out.new (big_bytes width n) }
 {
-    let width = usize::from(width);
-    let mut digits = [0; 8];
     match width {
-        1 => digits[0] = n as u8,
-        2 => BigEndian::write_u16(&mut digits, n as u16),
-        4 => BigEndian::write_u32(&mut digits, n as u32),
-        _ => BigEndian::write_uint(&mut digits, n, width),
+        1 => push_octet(out, n as u8),
+        2 => push_two(out, n as u16),
+        4 => push_four(out, n as u32),
+        _ => push_digits(out, n, usize::from(width)),
     }
+}
+
+fn push_two(out: &mut Vec<u8>, n: u16)
+    requires { HasRoom out.old 2 }
+    ensures { Appends out.old out.new (big_bytes 2 n) }
+{
+    let mut digits = [0; 2];
+    BigEndian::write_u16(&mut digits, n);
+    push_octets(out, &digits);
+}
+
+fn push_four(out: &mut Vec<u8>, n: u32)
+    requires { HasRoom out.old 4 }
+    ensures { Appends out.old out.new (big_bytes 4 n) }
+{
+    let mut digits = [0; 4];
+    BigEndian::write_u32(&mut digits, n);
+    push_octets(out, &digits);
+}
+
+fn push_digits(out: &mut Vec<u8>, n: u64, width: usize)
+    requires width_least { 1 ≤ width }
+    requires width_most { width ≤ 8 }
+    requires fits { n < 256 ^ width }
+    requires room { HasRoom out.old width }
+    ensures { Appends out.old out.new (big_bytes width n) }
+{
+    let mut digits = [0; 8];
+    BigEndian::write_uint(&mut digits, n, width);
     push_octets(out, &digits[..width]);
 }
 
@@ -219,6 +246,10 @@ fn push_ascii(out: &mut Vec<u8>, text: &TextRef)
     requires room { HasRoom out.old (length (units_of text.now)) }
     ensures { Appends out.old out.new (units_of text.now) }
 {
+    if let Some(octets) = text.octets() {
+        push_octets(out, octets);
+        return;
+    }
     let text = *text;
     for i in 0..text.len() {
         push_octet(out, text.unit(i) as u8);

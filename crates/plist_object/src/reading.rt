@@ -7,7 +7,7 @@ ghost use Rattle.plist_object.specs.Objects.{count_spelled, count_of_content, co
 ghost use Rattle.plist_object.specs.Objects.{simple_object, whole_object, real_object};
 ghost use Rattle.plist_object.specs.Objects.{moment_object, data_object, ascii_object, wide_object};
 ghost use Rattle.plist_object.specs.Objects.{list_object, table_object, marked_object, object_in};
-ghost use Rattle.plist_object.specs.Views.{Gives, held_of};
+ghost use Rattle.plist_object.specs.Views.{Gives, first_of, held_of};
 ghost use Rattle.plist_value.specs.Plist.{AreOctets};
 ghost use Rattle.plist_value.specs.Plist as kind;
 ghost use Rattle.plist_value.specs.Wholes.{number_of};
@@ -292,5 +292,45 @@ pub(crate) fn object(octets: &[u8], width: u8) -> Read<'_, Object<'_>>
         SET => Err(ObjectFault::SetObject),
         TABLE => table(octets, low, width),
         _ => Err(ObjectFault::BadMarker),
+    }
+}
+
+/// What the object that begins with these octets holds, its references of so many octets each. Each kind is answered
+/// where it is read, which is faster than to take it from `object`.
+#[tactic(auto, unfolding(crate::specs::Objects::marked_object))]
+pub(crate) fn held(octets: &[u8], width: u8) -> Result<Object<'_>, ObjectFault>
+    requires width_least { 1 ≤ width }
+    requires width_most { width ≤ 8 }
+    ensures read { Gives held_of result (first_of (object_in width octets.entry.now)) }
+    ensures valid { IfOk result (λ object. IsHeld (held_of object)) }
+{
+    let Some((marker, octets)) = octets.split_first() else {
+        return Err(ObjectFault::CutObject);
+    };
+    let low = marker % 16;
+    match marker / 16 {
+        SIMPLE => first(simple(octets, low)),
+        WHOLE => first(whole(octets, low)),
+        REAL => first(real(octets, low)),
+        MOMENT => first(moment(octets, low)),
+        DATA => first(data(octets, low)),
+        ASCII => first(ascii(octets, low)),
+        WIDE => first(wide(octets, low)),
+        UID => Err(ObjectFault::UidObject),
+        LIST => first(list(octets, low, width)),
+        SET => Err(ObjectFault::SetObject),
+        TABLE => first(table(octets, low, width)),
+        _ => Err(ObjectFault::BadMarker),
+    }
+}
+
+// What was read, without what stands behind it.
+#[inline(always)]
+fn first<'a>(read: Read<'a, Object<'a>>) -> Result<Object<'a>, ObjectFault>
+    ensures { result ≡ first_of read.entry }
+{
+    match read {
+        Ok((object, _)) => Ok(object),
+        Err(fault) => Err(fault),
     }
 }
