@@ -4,6 +4,7 @@ pub mod TokenKinds
 pub mod MachineLemmas
 pub mod PhraseSteps
 pub mod SortingSteps
+pub mod PlaceSteps
 pub mod Standing
 pub mod DueSteps
 pub mod TakeSteps

@@ -15,7 +15,7 @@ ghost use Rattle.ostep_read.specs.Machine.{at_front, begun, top};
 ghost use Rattle.ostep_read.specs.Reading.{HasRead, IsLeft, ReadsValue, ReadsRow, TakesRow};
 
 use crate::reader::Reader;
-use crate::values::text_payload;
+use crate::values::{is_known, text_payload};
 use ostep_form::TextFault;
 use ostep_lex::{Token, TokenKind, open};
 use plist_value::{Budget, MAX_DEPTH, Utf16, Value};
@@ -174,8 +174,10 @@ impl<'a> Reader<'a> {
             let octet = token.start;
             match token.kind {
                 TokenKind::Text(key) => {
-                    let value = self.row(&key, octet, BARE_LEVELS, &rows)?;
-                    drop(rows.insert(key, value)?);
+                    let place = rows.entry(key)?;
+                    let known = is_known(&place);
+                    let value = self.row(place.key(), octet, BARE_LEVELS, known)?;
+                    place.or_insert(value);
                 }
                 _ => {
                     return Err(self.refuse(TextFault::Junk { octet }));

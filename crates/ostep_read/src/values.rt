@@ -1,7 +1,13 @@
 //! Values, lists and tables, as their tokens are read.
-ghost use Rattle.std.specs.Prelude.{◌≡◌, ◌≤◌, ◌<◌, ◌*◌, ◌∷◌, ◌++◌, [], false, ℕ, List, length};
-ghost use Rattle.std.specs.Prelude.{IfOk, IfErr};
+ghost use Rattle.std.specs.Prelude.{◌≡◌, ◌≤◌, ◌<◌, ◌*◌, ◌∷◌, ◌++◌, [], false, ℕ, List};
+ghost use Rattle.std.specs.Prelude.{length, Some, None, IfOk, IfErr};
 ghost use Rattle.std.specs.Result.{OnOk};
+ghost use Rattle.std.specs.Option.{is_some};
+ghost use Rattle.std.specs.Ordering.{nat_cmp};
+ghost use Rattle.std.specs.Cmp.Lexicographic.{slice_cmp};
+ghost use Rattle.std.specs.BTreeMap.{BTreeMap as Map, ContainsKey, get, get_key};
+ghost use Rattle.std.specs.BTreeMap.Entry.{MatchEntry, entry_key};
+ghost use Rattle.plist_value.specs.declared.value.Value.{Value};
 ghost use Rattle.plist_value.specs.Plist.{Pairs, AreOctets, AreUnits, scalar, text};
 ghost use Rattle.plist_value.specs.Budget.{Spends};
 ghost use Rattle.plist_value.specs.View.{view, view_items, view_pairs};
@@ -22,6 +28,7 @@ use ostep_form::TextFault;
 use ostep_lex::{Token, TokenKind};
 use plist_value::{Utf16, Value};
 use std::collections::BTreeMap;
+use std::collections::btree_map::Entry;
 
 impl<'a> Reader<'a> {
     // The value that begins with the token, of at most so many levels.
@@ -123,8 +130,10 @@ impl<'a> Reader<'a> {
             match token.kind {
                 TokenKind::BraceClose => return Ok(rows),
                 TokenKind::Text(key) => {
-                    let value = self.row(&key, octet, levels, &rows)?;
-                    drop(rows.insert(key, value)?);
+                    let place = rows.entry(key)?;
+                    let known = is_known(&place);
+                    let value = self.row(place.key(), octet, levels, known)?;
+                    place.or_insert(value);
                 }
                 _ => {
                     return Err(self.refuse(TextFault::Expected { octet }));
@@ -133,33 +142,34 @@ impl<'a> Reader<'a> {
         }
     }
 
-    // The value of a row more, which begins with the key at the octet; no row has the key.
+    // The value of a row more, which begins with the key at the octet; a row has the key if it is
+    // known, and then the key is refused.
     #[cycle(value)]
     pub(crate) fn row(
         &mut self,
         key: &Utf16,
         octet: usize,
         levels: u64,
-        rows: &BTreeMap<Utf16, Value>,
+        known: bool,
     ) -> Result<Value, TextFault>
         ensures shorter { OnOk result
             (length (ahead self.new.cursor) ≤ length (ahead self.old.cursor)) }
         ensures taken { IfOk result (λ value.
             TakesRow self.old.left levels key.now (view value) self.new.left) }
-        ensures once { OnOk result (has_key key.now (view_pairs rows.now.entries) ≡ false) }
+        ensures once { OnOk result (known ≡ false) }
         ensures read { (octets : List ℕ) (tokens : List Placed) (at : Placed)
             → at.lexeme ≡ string key.now → HasRead octets (tokens ++ at ∷ []) self.old
             → IfOk result (λ value. ReadsRow octets tokens key.now (view value) self.new) }
         ensures stands { (octets : List ℕ) (tokens : List Placed) (at : Placed) (whole : Front)
-            (b : Before) (t : Around) (before : Pairs)
+            (b : Before) (t : Around) (before pairs : Pairs)
             → at.lexeme ≡ string key.now → at.start ≡ octet → AreBefore tokens whole
             → HasRead octets (tokens ++ at ∷ []) self.old
-            → RowDue whole b t before (view_pairs rows.now.entries)
+            → RowDue whole b t before pairs → has_key key.now pairs ≡ known
             → IsLeft self.old.left levels (with_rows before b)
             → IfErr result (Stands octets) }
     {
         self.charge(octet, levels, text_payload(key))?;
-        if rows.contains_key(key) {
+        if known {
             return Err(self.refuse(TextFault::DuplicateKey { octet }));
         }
         let behind = self.expect()?;
@@ -217,6 +227,20 @@ impl<'a> Reader<'a> {
         let payload = text_payload(key);
         self.charge(octet, levels, payload)?;
         Ok(Value::Text(key.copy(self.alloc)?))
+    }
+}
+
+// Whether a row has the key of the place, which is one among the rows.
+pub(crate) fn is_known(place: &Entry<'_, Utf16, Value>) -> bool
+    ensures { (rows : Map (List ℕ) Value) (key : List ℕ)
+        → MatchEntry place.now ((ContainsKey (slice_cmp nat_cmp) rows key)
+        × (get_key (slice_cmp nat_cmp) rows key ≡ Some (entry_key place.now)))
+        (get (slice_cmp nat_cmp) rows key ≡ None)
+        → result ≡ is_some (get (slice_cmp nat_cmp) rows key) }
+{
+    match place {
+        Entry::Vacant(_) => false,
+        Entry::Occupied(_) => true,
     }
 }
 

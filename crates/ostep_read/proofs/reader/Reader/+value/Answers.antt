@@ -1,4 +1,4 @@
-use Rattle.std.proofs.Common.{◌≡◌, ◌≤◌, ◌<◌, ◌*◌, ◌∷◌, ◌++◌, [], true, false, ℕ, List, length, refl, sym, ap, subst, ◌∙◌, append_assoc, arith}
+use Rattle.std.proofs.Common.{◌≡◌, ◌≤◌, ◌<◌, ◌*◌, ◌∷◌, ◌++◌, [], true, false, ℕ, List, length, refl, sym, ap, subst, ◌∙◌, append_assoc, nat_cmp, arith}
 use Rattle.std.specs.Prelude.{IfOk, IfErr}
 use Rattle.std.specs.Result.{OnOk}
 use Rattle.std.proofs.lemmas.Result.{IfOk-weaker}
@@ -20,6 +20,12 @@ use Rattle.ostep_read.proofs.Shown.{view-text, view-bytes, view-list, view-table
 use Rattle.ostep_read.proofs.TokenKinds.{leads-nowhere, item-begun, item-ended, row-ended, key-ended, table-ended, value-ended, value-none}
 use Rattle.ostep_read.proofs.PhraseSteps.{push, view_items-push}
 use Rattle.ostep_read.proofs.SortingSteps.{has_key-looked}
+use Rattle.ostep_read.proofs.PlaceSteps.{known-has, new-value}
+use Rattle.std.specs.Cmp.Lexicographic.{slice_cmp}
+use Rattle.std.specs.Option.{is_some}
+use Rattle.std.specs.BTreeMap.{insert_entry}
+use Rattle.std.specs.BTreeMap.Entry.{entry_value, map_with_value}
+use Rattle.std.proofs.lemmas.Map.Lookups.{exact_bytes}
 use Rattle.ostep_read.proofs.Standing.{expected-at, before-more}
 use Rattle.ostep_read.proofs.DueSteps.{list-due, items-open, item-due, item-leads, item-open, table-due, row-due, rows-open, key-open, row_value-due, row_value-first, row_value-open, row_value-leads, row_value-behind, value-open, value-nowhere}
 use Rattle.ostep_read.proofs.TakeSteps.{no-items-taken, no-pairs-taken, item-taken-at, list-taken, table-taken, pair-taken-at, row-taken, scalar-taken, opened-left, items-left, rows-left, key-left, left-same, taken-same, spends-same}
@@ -123,24 +129,22 @@ items-loop-items-preserved t c =
     }
 
 pub row-returns-in_err-charge-clause-stands : goal.row-returns-in_err-charge-clause-stands
-row-returns-in_err-charge-clause-stands t c octets tokens at whole b around before l s f h d i =
+row-returns-in_err-charge-clause-stands t c octets tokens at whole b around before pairs l s f h d k i =
     let few : c.text_payload.result ≤ 2 * length c.args.key.now = omega (arith, c.text_payload.ensures.payload) in
     passed_on (Stands octets) c.in_err-charge.field-0.0 c.from_residual.result c.from_residual.ensures.1
     (c.in_err-charge.ensures.stands octets (tokens ++ at ∷ []) h
     (key-refuses tokens at c.args.octet c.args.key.now whole c.args.levels c.text_payload.result c.args.self.now.left l s f h d few i))
 
-pub row-returns-then-contains_key-clause-stands : goal.row-returns-then-contains_key-clause-stands
-row-returns-then-contains_key-clause-stands t c octets tokens at whole b around before l s f h d i =
+pub row-returns-then-known-clause-stands : goal.row-returns-then-known-clause-stands
+row-returns-then-known-clause-stands t c octets tokens at whole b around before pairs l s f h d k i =
     let has : HasRead octets (tokens ++ at ∷ []) c.charge.new.self = same-read c.args.self.now c.charge.new.self h c.in_ok-charge.ensures.cursor c.in_ok-charge.ensures.end in
-    let twice : has_key c.args.key.now (view_pairs c.args.rows.now.entries) ≡ true =
-    sym (has_key-looked c.args.key.now c.args.rows.now.entries) ∙ (sym c.contains_key.ensures ∙ c.if-contains_key.true) in
+    let twice : has_key c.args.key.now pairs ≡ true = k ∙ c.if-known.true in
     c.refuse.ensures octets (tokens ++ at ∷ []) has (twice-stands tokens at c.args.octet c.args.key.now whole l s f has d twice)
 
 pub row-returns-in_err-behind-clause-stands : goal.row-returns-in_err-behind-clause-stands
-row-returns-in_err-behind-clause-stands t c octets tokens at whole b around before l s f h d i =
+row-returns-in_err-behind-clause-stands t c octets tokens at whole b around before pairs l s f h d k i =
     let has : HasRead octets (tokens ++ at ∷ []) c.charge.new.self = same-read c.args.self.now c.charge.new.self h c.in_ok-charge.ensures.cursor c.in_ok-charge.ensures.end in
-    let once : has_key c.args.key.now (view_pairs c.args.rows.now.entries) ≡ false =
-    sym (has_key-looked c.args.key.now c.args.rows.now.entries) ∙ (sym c.contains_key.ensures ∙ c.if-contains_key.false) in
+    let once : has_key c.args.key.now pairs ≡ false = k ∙ c.if-known.false in
     passed_on (Stands octets) c.in_err-behind.field-0.0 c.from_residual-in_err-behind.result c.from_residual-in_err-behind.ensures.1
     (c.in_err-behind.ensures.stands octets (tokens ++ at ∷ []) (λ rest. whole (string c.args.key.now ∷ rest)) (before-key tokens at c.args.key.now whole l f) has (key-open c.args.key.now d once))
 
@@ -154,7 +158,7 @@ row-returns-in-Equals-clause-taken t c =
 
 pub row-returns-in-Equals-clause-once : goal.row-returns-in-Equals-clause-once
 row-returns-in-Equals-clause-once t c =
-    on_ok _ c.row_value.result (sym (has_key-looked c.args.key.now c.args.rows.now.entries) ∙ (sym c.contains_key.ensures ∙ c.if-contains_key.false))
+    on_ok _ c.row_value.result c.if-known.false
 
 pub row-returns-in-Equals-clause-read : goal.row-returns-in-Equals-clause-read
 row-returns-in-Equals-clause-read t c octets tokens at l h =
@@ -166,12 +170,11 @@ row-returns-in-Equals-clause-read t c octets tokens at l h =
     (λ v r. row-read tokens at token c.args.key.now l (ap lexeme_of c.in-Equals.is) has r) (c.row_value.ensures.read octets ((tokens ++ at ∷ []) ++ token ∷ []) has_behind)
 
 pub row-returns-in-Equals-clause-stands : goal.row-returns-in-Equals-clause-stands
-row-returns-in-Equals-clause-stands t c octets tokens at whole b around before l s f h d i =
+row-returns-in-Equals-clause-stands t c octets tokens at whole b around before pairs l s f h d k i =
     let has : HasRead octets (tokens ++ at ∷ []) c.charge.new.self = same-read c.args.self.now c.charge.new.self h c.in_ok-charge.ensures.cursor c.in_ok-charge.ensures.end in
     let token = placed c.in_ok-behind.behind in
     let has_behind = c.in_ok-behind.ensures.read octets (tokens ++ at ∷ []) has in
-    let once : has_key c.args.key.now (view_pairs c.args.rows.now.entries) ≡ false =
-    sym (has_key-looked c.args.key.now c.args.rows.now.entries) ∙ (sym c.contains_key.ensures ∙ c.if-contains_key.false) in
+    let once : has_key c.args.key.now pairs ≡ false = k ∙ c.if-known.false in
     let key = c.args.key.now in
     let spent : Spends c.args.self.now.left 1 (2 * length key) c.charge.new.self.left = spends-same c.in_ok-charge.ensures.spent c.text_payload.ensures.payload in
     c.row_value.ensures.stands octets ((tokens ++ at ∷ []) ++ token ∷ []) (λ rest. whole (string key ∷ equals ∷ rest)) (with_key key (with_rows before b)) around
@@ -192,7 +195,7 @@ row-returns-in-Semicolon-clause-taken t c =
 
 pub row-returns-in-Semicolon-clause-once : goal.row-returns-in-Semicolon-clause-once
 row-returns-in-Semicolon-clause-once t c =
-    on_ok _ c.key_alone.result (sym (has_key-looked c.args.key.now c.args.rows.now.entries) ∙ (sym c.contains_key.ensures ∙ c.if-contains_key.false))
+    on_ok _ c.key_alone.result c.if-known.false
 
 pub row-returns-in-Semicolon-clause-read : goal.row-returns-in-Semicolon-clause-read
 row-returns-in-Semicolon-clause-read t c octets tokens at l h =
@@ -206,12 +209,11 @@ row-returns-in-Semicolon-clause-read t c octets tokens at l h =
     (λ v e. subst (λ x. ReadsRow octets tokens key x after) (sym e) (alone-read tokens at token key l (ap lexeme_of c.in-Semicolon.is) has_after)) c.key_alone.ensures.value
 
 pub row-returns-in-Semicolon-clause-stands : goal.row-returns-in-Semicolon-clause-stands
-row-returns-in-Semicolon-clause-stands t c octets tokens at whole b around before l s f h d i =
+row-returns-in-Semicolon-clause-stands t c octets tokens at whole b around before pairs l s f h d k i =
     let has : HasRead octets (tokens ++ at ∷ []) c.charge.new.self = same-read c.args.self.now c.charge.new.self h c.in_ok-charge.ensures.cursor c.in_ok-charge.ensures.end in
     let token = placed c.in_ok-behind.behind in
     let has_behind = c.in_ok-behind.ensures.read octets (tokens ++ at ∷ []) has in
-    let once : has_key c.args.key.now (view_pairs c.args.rows.now.entries) ≡ false =
-    sym (has_key-looked c.args.key.now c.args.rows.now.entries) ∙ (sym c.contains_key.ensures ∙ c.if-contains_key.false) in
+    let once : has_key c.args.key.now pairs ≡ false = k ∙ c.if-known.false in
     let key = c.args.key.now in
     let spent : Spends c.args.self.now.left 1 (2 * length key) c.charge.new.self.left = spends-same c.in_ok-charge.ensures.spent c.text_payload.ensures.payload in
     let two : HasRead octets (tokens ++ at ∷ token ∷ []) c.expect.new.self = subst (λ ts. HasRead octets ts c.expect.new.self) (append_assoc tokens (at ∷ []) (token ∷ [])) has_behind in
@@ -226,13 +228,12 @@ row-returns t c =
       taken = tt;
       once = tt;
       read = λ octets tokens at l h. tt;
-      stands = λ octets tokens at whole b around before l s f h d i.
+      stands = λ octets tokens at whole b around before pairs l s f h d k i.
           let has : HasRead octets (tokens ++ at ∷ []) c.charge.new.self = same-read c.args.self.now c.charge.new.self h c.in_ok-charge.ensures.cursor c.in_ok-charge.ensures.end in
           let token = placed c.in_ok-behind.behind in
           let key = c.args.key.now in
           let has_behind = c.in_ok-behind.ensures.read octets (tokens ++ at ∷ []) has in
-          let once : has_key key (view_pairs c.args.rows.now.entries) ≡ false =
-          sym (has_key-looked key c.args.rows.now.entries) ∙ (sym c.contains_key.ensures ∙ c.if-contains_key.false) in
+          let once : has_key key pairs ≡ false = k ∙ c.if-known.false in
           c.refuse-in_default.ensures octets ((tokens ++ at ∷ []) ++ token ∷ []) has_behind
           (expected-at (tokens ++ at ∷ []) token (λ rest. whole (string key ∷ rest)) (before-key tokens at key whole l f) has_behind (key-open key d once)
           (leads-nowhere (λ rest. whole (string key ∷ rest)) (Machine.key around) token.lexeme (λ rest. d.leads (string key ∷ rest))
@@ -301,25 +302,40 @@ rows-returns-in-BraceClose-clause-read t c octets tokens h =
 pub rows-returns-in_err-value-in-Text-clause-stands : goal.rows-returns-in_err-value-in-Text-clause-stands
 rows-returns-in_err-value-in-Text-clause-stands t c octets tokens whole b a f h d i =
     let r = c.loop-rows.invariant.read octets tokens h in
+    let rows = c.loop-rows.rows in
+    let place = c.in_ok-place-in-Text in
+    let same : c.in-Text.key ≡ c.key.result.now = exact_bytes c.in-Text.key _ (rw c.in-Text.is at place.ensures.same_key) ∙ sym c.key.ensures in
+    let known : has_key c.in-Text.key (view_pairs rows.entries) ≡ c.is_known-known.result = known-has c.is_known-known.result c.in-Text.key rows (c.is_known-known.ensures rows c.in-Text.key (rw c.in-Text.is at place.ensures.found)) in
     passed_on (Stands octets) c.in_err-value-in-Text.field-0.0 c.from_residual-in_err-value-in-Text.result c.from_residual-in_err-value-in-Text.ensures.1
-    (c.in_err-value-in-Text.ensures.stands octets r.reads.all (placed c.in_ok-token.token) (λ rest. whole (r.inside rest)) (opened b) (Machine.in_braces a) r.rows
-    (rw c.in-Text.is refl) refl (r.reads.follow whole f) (c.in_ok-token.ensures.read octets r.reads.all r.reads.has)
-    (row-due r.inside d r.spells r.same c.loop-rows.invariant.taken.valid) (left-same c.in_ok-token.ensures.left (rows-left i c.loop-rows.invariant.taken r.same)))
+    (c.in_err-value-in-Text.ensures.stands octets r.reads.all (placed c.in_ok-token.token) (λ rest. whole (r.inside rest)) (opened b) (Machine.in_braces a) r.rows (view_pairs rows.entries)
+    (ap lexeme_of c.in-Text.is ∙ ap string same) refl (r.reads.follow whole f) (c.in_ok-token.ensures.read octets r.reads.all r.reads.has)
+    (row-due r.inside d r.spells r.same c.loop-rows.invariant.taken.valid) (subst (λ x. has_key x (view_pairs rows.entries) ≡ c.is_known-known.result) same known)
+    (left-same c.in_ok-token.ensures.left (rows-left i c.loop-rows.invariant.taken r.same)))
 
 pub rows-loop-rows-preserved : goal.rows-loop-rows-preserved
 rows-loop-rows-preserved t c =
-    let ps = view_pairs c.loop-rows.rows.entries in
+    let rows = c.loop-rows.rows in
+    let ps = view_pairs rows.entries in
+    let key = c.in-Text.key in
+    let place = c.in_ok-place-in-Text in
     let value = c.in_ok-value-in-Text.value in
-    let entries = c.in_ok-insert-in-Text.ensures.entries in
+    let same : key ≡ c.key.result.now = exact_bytes key _ (rw c.in-Text.is at place.ensures.same_key) ∙ sym c.key.ensures in
+    let once : has_key key ps ≡ false = known-has c.is_known-known.result key rows (c.is_known-known.ensures rows key (rw c.in-Text.is at place.ensures.found)) ∙ c.in_ok-value-in-Text.ensures.once in
+    let now : c.or_insert.result.now ≡ value =
+    new-value (entry_value place.place) value c.or_insert.result.now (ap is_some (rw c.in-Text.is at place.ensures.value) ∙ (has_key-looked key rows.entries ∙ once)) c.or_insert.ensures.value in
+    let more = c.rows-in-Text-2-1.given.0 in
+    let back : more ≡ map_with_value place.place c.or_insert.result.now = c.rows-in-Text-2-1.given.1 (sym place.ensures.same_map) in
+    let put : view_pairs more.entries ≡ put_pair key (view value) ps =
+    ap (λ m. view_pairs m.entries) back ∙ ap view_pairs ((rw c.in-Text.is at place.ensures.update.1) c.or_insert.result.now ∙ ap (insert_entry (slice_cmp nat_cmp) rows.entries key) now) ∙ view_pairs-insert_entry rows.entries key value in
     record {
       shorter = omega (arith, c.in_ok-value-in-Text.ensures.shorter, c.in_ok-token.ensures.shorter, c.loop-rows.invariant.shorter);
-      taken = pair-taken-at _ (view value) ps (view_pairs c.insert.new.self.entries) c.loop-rows.invariant.taken c.in_ok-token.ensures.left c.in_ok-value-in-Text.ensures.taken
-          c.in_ok-value-in-Text.ensures.once (ap view_pairs entries ∙ view_pairs-insert_entry c.loop-rows.rows.entries _ value);
+      taken = pair-taken-at key (view value) ps (view_pairs more.entries) c.loop-rows.invariant.taken c.in_ok-token.ensures.left
+          (subst (λ x. TakesRow c.expect.new.self.left c.args.levels x (view value) c.row.new.self.left) (sym same) c.in_ok-value-in-Text.ensures.taken) once put;
       read = λ octets tokens h.
           let r = c.loop-rows.invariant.read octets tokens h in
-          subst (λ x. ReadsRows octets tokens [] x c.row.new.self) (sym (ap view_pairs entries ∙ view_pairs-insert_entry c.loop-rows.rows.entries _ value))
-          (row-more-read r (c.in_ok-value-in-Text.ensures.read octets r.reads.all (placed c.in_ok-token.token) (rw c.in-Text.is refl) (c.in_ok-token.ensures.read octets r.reads.all r.reads.has))
-          c.in_ok-value-in-Text.ensures.once);
+          subst (λ x. ReadsRows octets tokens [] x c.row.new.self) (sym put)
+          (row-more-read r (subst (λ x. ReadsRow octets r.reads.all x (view value) c.row.new.self) (sym same)
+          (c.in_ok-value-in-Text.ensures.read octets r.reads.all (placed c.in_ok-token.token) (ap lexeme_of c.in-Text.is ∙ ap string same) (c.in_ok-token.ensures.read octets r.reads.all r.reads.has))) once);
     }
 
 pub rows-returns-in_default : goal.rows-returns-in_default
