@@ -21,3 +21,4 @@ pub mod LexerSteps
 pub mod SpanLemmas
 pub mod EncodingLemmas
 pub mod SourceLemmas
+pub mod UnitsLemmas

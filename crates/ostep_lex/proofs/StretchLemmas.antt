@@ -18,7 +18,7 @@ use Rattle.ostep_lex.proofs.OpenLemmas.{whole_utf8}
 pub stretch_none : (kind : Class) (octets : List ℕ) → BeginsWithStretch kind octets octets
 stretch_none kind octets = record { front = []; stretch = refl; split = refl }
 
-is_stretch-append : (kind : Class) (xs ys : List ℕ) → is_stretch kind xs ≡ true → is_stretch kind ys ≡ true → is_stretch kind (xs ++ ys) ≡ true
+pub is_stretch-append : (kind : Class) (xs ys : List ℕ) → is_stretch kind xs ≡ true → is_stretch kind ys ≡ true → is_stretch kind (xs ++ ys) ≡ true
 is_stretch-append kind [] ys a b = b
 is_stretch-append kind (x ∷ xs) ys a b =
     let here = and_left (nat_lt x 128 && belongs kind x) (is_stretch kind xs) a in

@@ -14,7 +14,6 @@ use Rattle.ostep_lex.specs.Octets.{OctetsPiece, Octets}
 use Rattle.ostep_lex.specs.Gap.{GapPiece, Gap, begins_gap}
 use Rattle.ostep_lex.specs.Source.{characters_in, encoding_in}
 use Rattle.ostep_lex.specs.declared.stretch.Class.{Class}
-use Rattle.ostep_lex.specs.declared.stretch.Class.TheVariants.{Raw}
 use Rattle.ostep_lex.specs.Stretch.{is_stretch}
 use Rattle.ostep_lex.specs.Pairs.{AppendsPairs}
 
@@ -61,10 +60,10 @@ pub record PassesStretch (kind : Class) (old : Cursor) (front : List ℕ) (new :
   pub text : ahead old ≡ front ++ ahead new
   pub input : SameInput old new
 
--- from the old place to the new, a stretch of raw characters stands, and these are appended
-pub record RawAppends (mark : ℕ) (units more : List ℕ) (old new : Cursor) : Type 0 where
+-- from the old place to the new, a stretch of the class stands, and its characters are appended
+pub record StretchAppends (kind : Class) (units more : List ℕ) (old new : Cursor) : Type 0 where
   pub front : List ℕ
-  pub passes : PassesStretch (Raw mark) old front new
+  pub passes : PassesStretch kind old front new
   pub appended : more ≡ units ++ front
 
 -- from the old place to the new, a piece of a gap stands, or a whole gap

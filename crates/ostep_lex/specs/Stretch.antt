@@ -5,7 +5,9 @@ use Rattle.ostep_lex.specs.declared.stretch.Class.TheVariants.{Run, White, Raw, 
 use Rattle.ostep_lex.specs.Character.{is_run, is_white, is_line_end, star}
 use Rattle.ostep_lex.specs.Quoted.{is_raw}
 use Rattle.ostep_lex.specs.declared.source.Source.{Source}
-use Rattle.ostep_lex.specs.Source.{characters_in, encoding_in, octets_in, IsWhole}
+use Rattle.ostep_lex.specs.declared.source.ByteOrder.{ByteOrder}
+use Rattle.ostep_lex.specs.Encoding.{octets_of}
+use Rattle.ostep_lex.specs.Source.{characters_in, encoding_in, encoding_by, octets_in, IsWhole}
 
 -- whether a character is of the class
 abbrev pub belongs : Class → ℕ → Bool
@@ -26,6 +28,13 @@ pub record BeginsWithStretch (kind : Class) (octets rest : List ℕ) : Type 0 wh
   pub stretch : is_stretch kind front ≡ true
   pub split : octets ≡ front ++ rest
 
+-- in UTF-16 octets the characters of a stretch stand before the rest, and these are appended
+pub record AppendsUnits (kind : Class) (order : ByteOrder) (units more octets rest : List ℕ) : Type 0 where
+  pub front : List ℕ
+  pub stretch : is_stretch kind front ≡ true
+  pub split : octets ≡ octets_of (encoding_by order) front ++ rest
+  pub appended : more ≡ units ++ front
+
 -- a stretch stands first, and behind it whole characters of the same encoding
 pub record LeadsStretch (kind : Class) (source : Source) (front : List ℕ) (behind : Source) : Type 0 where
   pub stretch : is_stretch kind front ≡ true
@@ -33,3 +42,9 @@ pub record LeadsStretch (kind : Class) (source : Source) (front : List ℕ) (beh
   pub whole : IsWhole behind
   pub encoding : encoding_in behind ≡ encoding_in source
   pub shorter : length (octets_in behind) ≤ length (octets_in source)
+
+-- the same, and the characters of the stretch are appended
+pub record AppendsStretch (kind : Class) (units more : List ℕ) (source behind : Source) : Type 0 where
+  pub front : List ℕ
+  pub leads : LeadsStretch kind source front behind
+  pub appended : more ≡ units ++ front

@@ -19,7 +19,7 @@ pub struct Cursor<'a> {
 
 impl<'a> Cursor<'a> {
     ghost use Rattle.ostep_lex.specs.Cursor.{ahead, place_at, SameInput, begins_with};
-    ghost use Rattle.ostep_lex.specs.Cursor.{PassesStretch, PassesPairs};
+    ghost use Rattle.ostep_lex.specs.Cursor.{PassesStretch, StretchAppends, PassesPairs};
     ghost use Rattle.ostep_lex.specs.Cursor.{Holds, IsBadUtf8, IsBadUtf16};
     ghost use Rattle.ostep_lex.specs.Encoding.{utf8, StopsBehind};
     ghost use Rattle.ostep_lex.specs.Source.{encoding_by};
@@ -64,6 +64,24 @@ impl<'a> Cursor<'a> {
                 end: self.end,
             },
         )
+    }
+
+    /// Appends the characters of the longest stretch of the class at the cursor, and answers the
+    /// cursor behind it.
+    #[inline(always)]
+    #[tactic(auto, unfolding(crate::specs::Cursor::ahead, crate::specs::Cursor::places_in))]
+    pub(crate) fn push_stretch(
+        self,
+        class: Class,
+        units: &mut Vec<u16>,
+    ) -> Result<Cursor<'a>, AllocError>
+        ensures { IfOk result (StretchAppends class units.old.items units.new.items self.entry) }
+    {
+        let source = self.source.push_stretch(class, units)?;
+        Ok(Cursor {
+            source,
+            end: self.end,
+        })
     }
 
     /// Appends the octets of the pairs of hexadecimal digits at the cursor, as many as stand there

@@ -5,15 +5,16 @@ ghost use Rattle.ostep_lex.specs.Digits.{begins_digit};
 ghost use Rattle.ostep_lex.specs.Quoted.{escaped, unit_letter};
 ghost use Rattle.ostep_lex.specs.Character.{backslash as backslash_code, is_quote};
 ghost use Rattle.ostep_lex.specs.Stands.{EscapeFault, QuotedFault};
+ghost use Rattle.ostep_lex.specs.declared.stretch.Class.TheVariants.{Raw};
 ghost use Rattle.ostep_lex.specs.Cursor.{ahead, places_in, SameInput, UnlessMemory};
-ghost use Rattle.ostep_lex.specs.Cursor.{EscapeAppends, PieceAppends, RawAppends};
+ghost use Rattle.ostep_lex.specs.Cursor.{EscapeAppends, PieceAppends, StretchAppends};
 ghost use Rattle.ostep_lex.specs.Cursor.{PassesQuoted, PassesRun};
 
 use crate::character::is_run;
 use crate::cursor::Cursor;
 use crate::digits::{begins_digit, number};
 use crate::fault::LexFault;
-use crate::stretch::{Class, push_octets};
+use crate::stretch::Class;
 use std::alloc::{AllocError, Global};
 
 /// The units of the run at the cursor, as many run characters as stand there, and the cursor behind
@@ -21,10 +22,8 @@ use std::alloc::{AllocError, Global};
 pub fn run(alloc: Global, cursor: Cursor<'_>) -> Result<(Vec<u16>, Cursor<'_>), AllocError>
     ensures { IfOk result (λ found. PassesRun cursor.entry found.1 found.0.items) }
 {
-    let (front, behind) = cursor.stretch(Class::Run);
     let mut units = Vec::new(alloc);
-    push_octets(&mut units, front)?;
-    let mut rest = behind;
+    let mut rest = cursor.push_stretch(Class::Run, &mut units)?;
     while let Some((c, behind)) = rest.first() {
         if !is_run(c) {
             break;
@@ -170,11 +169,10 @@ fn push_raw<'a>(
     mark: char,
     cursor: Cursor<'a>,
 ) -> Result<Cursor<'a>, AllocError>
-    ensures { IfOk result (RawAppends mark units.old.items units.new.items cursor.entry) }
+    ensures { IfOk result
+        (StretchAppends (Raw mark) units.old.items units.new.items cursor.entry) }
 {
-    let (front, behind) = cursor.stretch(Class::Raw(mark));
-    push_octets(units, front)?;
-    Ok(behind)
+    cursor.push_stretch(Class::Raw(mark), units)
 }
 
 /// The units of the string behind its quote, which stands at the place `start`, and the cursor

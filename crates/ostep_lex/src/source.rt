@@ -5,11 +5,11 @@ ghost use Rattle.ostep_lex.specs.Encoding.{BeginsWith, BeginsWithNone};
 ghost use Rattle.ostep_lex.specs.Encoding.{spelling, utf8};
 ghost use Rattle.ostep_lex.specs.Source.{unit_octets, encoding_by, FrontsOf};
 ghost use Rattle.ostep_lex.specs.Source.{characters_in, encoding_in, octets_in, IsWhole, Leads};
-ghost use Rattle.ostep_lex.specs.Stretch.{LeadsStretch};
+ghost use Rattle.ostep_lex.specs.Stretch.{LeadsStretch, AppendsStretch};
 ghost use Rattle.ostep_lex.specs.Pairs.{AppendsLead};
 
 use crate::pairs::push_front;
-use crate::stretch::{Class, stretch};
+use crate::stretch::{Class, push_octets, push_units, stretch};
 use std::alloc::AllocError;
 
 /// Which octet of a UTF-16 unit comes first.
@@ -37,7 +37,7 @@ fn unit(order: ByteOrder, first: u8, second: u8) -> u16
 }
 
 /// The unit at the front of the octets, and the octets behind it.
-fn front_unit(order: ByteOrder, octets: &[u8]) -> Option<(u16, &[u8])>
+pub fn front_unit(order: ByteOrder, octets: &[u8]) -> Option<(u16, &[u8])>
     ensures { MatchOption result (length octets.now < 2)
         (λ found. octets.now ≡ unit_octets order found.0 ++ found.1.now) }
 {
@@ -141,6 +141,25 @@ impl<'a> Source<'a> {
                 (front, Source::Utf8(behind))
             }
             Source::Utf16(..) => (&[], self),
+        }
+    }
+
+    /// Appends the characters of the longest stretch of the class at the front, and answers what is
+    /// to be read behind it.
+    pub fn push_stretch(self, class: Class, units: &mut Vec<u16>) -> Result<Source<'a>, AllocError>
+        requires { IsWhole self }
+        ensures { IfOk result (AppendsStretch class units.old.items units.new.items self.entry) }
+    {
+        match self {
+            Source::Utf8(text) => {
+                let (front, behind) = stretch(text, class);
+                push_octets(units, front)?;
+                Ok(Source::Utf8(behind))
+            }
+            Source::Utf16(order, octets) => {
+                let behind = push_units(units, class, order, octets)?;
+                Ok(Source::Utf16(order, behind))
+            }
         }
     }
 

@@ -1,8 +1,9 @@
 //! Stretches: ASCII characters of one class at the front of a text, found in its octets.
-ghost use Rattle.std.specs.Prelude.{◌≡◌, ◌++◌, ◌&&◌, nat_lt, true, chars, OnOk, IsUtf8};
-ghost use Rattle.ostep_lex.specs.Stretch.{belongs, is_stretch, BeginsWithStretch};
+ghost use Rattle.std.specs.Prelude.{◌≡◌, ◌++◌, ◌&&◌, nat_lt, true, chars, OnOk, IfOk, IsUtf8};
+ghost use Rattle.ostep_lex.specs.Stretch.{belongs, is_stretch, BeginsWithStretch, AppendsUnits};
 
 use crate::character::{is_line_end, is_run, is_white};
+use crate::source::{ByteOrder, front_unit};
 use std::alloc::AllocError;
 
 /// A class of characters.
@@ -75,4 +76,26 @@ pub fn push_octets(units: &mut Vec<u16>, octets: &[u8]) -> Result<(), AllocError
         rest = behind;
     }
     Ok(())
+}
+
+/// Appends the units of the longest stretch at the front of UTF-16 octets, and answers the octets
+/// behind it.
+pub fn push_units<'a>(
+    units: &mut Vec<u16>,
+    class: Class,
+    order: ByteOrder,
+    octets: &'a [u8],
+) -> Result<&'a [u8], AllocError>
+    ensures { IfOk result (λ behind.
+        AppendsUnits class order units.old.items units.new.items octets.now behind.now) }
+{
+    let mut rest = octets;
+    while let Some((unit, behind)) = front_unit(order, rest) {
+        if unit >= 0x80 || !is_in(class, unit as u8) {
+            break;
+        }
+        units.push(unit)?;
+        rest = behind;
+    }
+    Ok(rest)
 }

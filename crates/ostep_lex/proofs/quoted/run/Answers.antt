@@ -9,9 +9,10 @@ use Rattle.ostep_lex.proofs.quoted.run.Goals.{in-Some+then-not-is_run, in_defaul
 
 pub loop-c-init : goal.loop-c-init
 loop-c-init c =
-    let all : c.push_octets.new.units.items ≡ c.stretch.result.0.now = c.in_ok-push_octets.ensures ∙ ap (λ us. us ++ c.stretch.result.0.now) c.new-units.ensures.items in (
-      λ more end r. subst (λ us. Run (ahead c.args.cursor) (us ++ more) end) (sym all) (run_stretch c.stretch.ensures r),
-      c.stretch.ensures.input,
+    let q = c.in_ok-rest.ensures in
+    let all : c.push_stretch.new.units.items ≡ q.front = q.appended ∙ ap (λ us. us ++ q.front) c.new-units.ensures.items in (
+      λ more end r. subst (λ us. Run (ahead c.args.cursor) (us ++ more) end) (sym all) (run_stretch q.passes r),
+      q.passes.input,
     )
 
 pub loop-c-preserved : goal.loop-c-preserved

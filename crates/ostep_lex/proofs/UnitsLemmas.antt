@@ -1,0 +1,70 @@
+-- Stretches in UTF-16 octets, and what stands behind them.
+use Rattle.std.proofs.Common.{ℕ, Bool, true, ◌<◌, ◌≤◌, ◌&&◌, List, [], ◌∷◌, ◌++◌, length, ◌≡◌, refl, sym, ap, subst, ◌∙◌, arith, append_assoc, append-nil, length-append, lt-ltb}
+use Rattle.std.specs.Prelude.{nat_lt}
+use Rattle.std.specs.Char.{IsScalar}
+use Rattle.std.specs.Str.{all_scalars}
+use Rattle.std.specs.Borrow.{Bor}
+use Rattle.std.proofs.lemmas.Bool.Decides.{nat_tests}
+use Rattle.ostep_lex.specs.declared.stretch.Class.{Class}
+use Rattle.ostep_lex.specs.declared.source.ByteOrder.{ByteOrder}
+use Rattle.ostep_lex.specs.declared.source.Source.{Source}
+use Rattle.ostep_lex.specs.declared.source.Source.TheVariants.{Utf16}
+use Rattle.ostep_lex.specs.Encoding.{Encoding, spelling, octets_of}
+use Rattle.ostep_lex.specs.Source.{encoding_by, unit_octets, utf16_characters, IsWhole}
+use Rattle.ostep_lex.specs.Stretch.{belongs, is_stretch, AppendsUnits, AppendsStretch}
+use Rattle.ostep_lex.proofs.EncodingLemmas.{octets_of-append, and_left, and_right, WholeText, WholeText-behind}
+use Rattle.ostep_lex.proofs.StretchLemmas.{is_stretch-append}
+use Rattle.ostep_lex.proofs.SourceLemmas.{spelling_one, utf16_characters-spelling}
+
+low : (c : ℕ) (b : Bool) → (nat_lt c 128 && b) ≡ true → c < 128
+low c b e = grind (arith, nat_tests, and_left (nat_lt c 128) b e)
+
+ascii_scalar : (c : ℕ) → c < 128 → IsScalar c
+ascii_scalar c h = let w : c < 0xD800 = omega arith in rw (lt-ltb c 0xD800 w) refl
+
+pub units_none : (kind : Class) (order : ByteOrder) (units octets : List ℕ) → AppendsUnits kind order units units octets octets
+units_none kind order units octets = record { front = []; stretch = refl; split = refl; appended = sym (append-nil units) }
+
+pub units_more : {kind : Class} {order : ByteOrder} {units found more octets rest behind : List ℕ} (c : ℕ) → AppendsUnits kind order units found octets rest
+    → rest ≡ unit_octets order c ++ behind → (nat_lt c 128 && belongs kind c) ≡ true → more ≡ found ++ c ∷ [] → AppendsUnits kind order units more octets behind
+units_more {kind} {order} {units} {found} {more} {octets} {rest} {behind} c a e t m =
+    let small : c < 128 = low c (belongs kind c) t in
+    let one : c < 0x1_0000 = omega arith in
+    let first : rest ≡ spelling (encoding_by order) c ++ behind = e ∙ sym (spelling_one order c behind one) in
+    record {
+      front = a.front ++ c ∷ [];
+      stretch = is_stretch-append kind a.front (c ∷ []) a.stretch (rw t refl);
+      split = a.split ∙ ap (λ w. octets_of (encoding_by order) a.front ++ w) first
+          ∙ sym (append_assoc (octets_of (encoding_by order) a.front) (spelling (encoding_by order) c) behind)
+          ∙ ap (λ w. w ++ behind) (sym (octets_of-append (encoding_by order) a.front (c ∷ []) ∙ ap (λ w. octets_of (encoding_by order) a.front ++ w) (append-nil (spelling (encoding_by order) c))));
+      appended = m ∙ ap (λ w. w ++ c ∷ []) a.appended ∙ append_assoc units a.front (c ∷ []);
+    }
+
+-- of whole octets, a stretch and what is behind it
+record Behind (order : ByteOrder) (front octets behind : List ℕ) : Type 0 where
+  text : utf16_characters order octets ≡ front ++ utf16_characters order behind
+  whole : WholeText (encoding_by order) (utf16_characters order behind) behind
+  shorter : length behind ≤ length octets
+
+behind_front : (kind : Class) (order : ByteOrder) (front octets behind : List ℕ) → is_stretch kind front ≡ true → octets ≡ octets_of (encoding_by order) front ++ behind
+    → WholeText (encoding_by order) (utf16_characters order octets) octets → Behind order front octets behind
+behind_front kind order [] octets behind s e w = subst (λ b. Behind order [] octets b) e (record { text = refl; whole = w; shorter = omega arith })
+behind_front kind order (c ∷ cs) octets behind s e w =
+    let o = encoding_by order in
+    let here : (nat_lt c 128 && belongs kind c) ≡ true = and_left (nat_lt c 128 && belongs kind c) (is_stretch kind cs) s in
+    let mid : List ℕ = octets_of o cs ++ behind in
+    let first : octets ≡ spelling o c ++ mid = e ∙ append_assoc (spelling o c) (octets_of o cs) behind in
+    let t : utf16_characters order octets ≡ c ∷ utf16_characters order mid =
+    ap (utf16_characters order) first ∙ utf16_characters-spelling order c mid (ascii_scalar c (low c (belongs kind c) here)) in
+    let r = behind_front kind order cs mid behind (and_right (nat_lt c 128 && belongs kind c) (is_stretch kind cs) s) refl (WholeText-behind w t first) in
+    record { text = t ∙ ap (λ w. c ∷ w) r.text; whole = r.whole; shorter = omega (arith, r.shorter, length-append (spelling o c) mid, ap length first) }
+
+pub leads_units : {kind : Class} {order : ByteOrder} {units more : List ℕ} {source : Source} {octets behind : Bor (List ℕ)} → source ≡ Utf16 order octets → IsWhole source
+    → AppendsUnits kind order units more octets.now behind.now → AppendsStretch kind units more source (Utf16 order behind)
+leads_units {kind} {order} {units} {more} {source} {octets} {behind} e w a = subst (λ s. IsWhole s → AppendsStretch kind units more s (Utf16 order behind)) (sym e)
+    (λ v. let b = behind_front kind order a.front octets.now behind.now a.stretch a.split (record { scalars = v.scalars; spelled = v.spelled }) in
+    record {
+      front = a.front;
+      leads = record { stretch = a.stretch; text = b.text; whole = record { scalars = b.whole.scalars; spelled = b.whole.spelled }; encoding = refl; shorter = b.shorter };
+      appended = a.appended;
+    }) w
