@@ -11,7 +11,7 @@ use Rattle.ostep_lex.specs.declared.source.Source.{Source}
 use Rattle.ostep_lex.specs.declared.source.Source.TheVariants.{Utf16}
 use Rattle.ostep_lex.specs.Encoding.{Encoding, spelling, octets_of}
 use Rattle.ostep_lex.specs.Source.{encoding_by, unit_octets, utf16_characters, IsWhole}
-use Rattle.ostep_lex.specs.Stretch.{belongs, is_stretch, AppendsUnits, AppendsStretch}
+use Rattle.ostep_lex.specs.Stretch.{belongs, is_stretch, BeginsWithUnits, AppendsUnits, LeadsStretch}
 use Rattle.ostep_lex.proofs.EncodingLemmas.{octets_of-append, and_left, and_right, WholeText, WholeText-behind}
 use Rattle.ostep_lex.proofs.StretchLemmas.{is_stretch-append}
 use Rattle.ostep_lex.proofs.SourceLemmas.{spelling_one, utf16_characters-spelling}
@@ -22,12 +22,12 @@ low c b e = grind (arith, nat_tests, and_left (nat_lt c 128) b e)
 ascii_scalar : (c : ℕ) → c < 128 → IsScalar c
 ascii_scalar c h = let w : c < 0xD800 = omega arith in rw (lt-ltb c 0xD800 w) refl
 
-pub units_none : (kind : Class) (order : ByteOrder) (units octets : List ℕ) → AppendsUnits kind order units units octets octets
-units_none kind order units octets = record { front = []; stretch = refl; split = refl; appended = sym (append-nil units) }
+pub units_none : (kind : Class) (order : ByteOrder) (octets : List ℕ) → BeginsWithUnits kind order octets octets
+units_none kind order octets = record { front = []; stretch = refl; split = refl }
 
-pub units_more : {kind : Class} {order : ByteOrder} {units found more octets rest behind : List ℕ} (c : ℕ) → AppendsUnits kind order units found octets rest
-    → rest ≡ unit_octets order c ++ behind → (nat_lt c 128 && belongs kind c) ≡ true → more ≡ found ++ c ∷ [] → AppendsUnits kind order units more octets behind
-units_more {kind} {order} {units} {found} {more} {octets} {rest} {behind} c a e t m =
+pub units_more : {kind : Class} {order : ByteOrder} {octets rest behind : List ℕ} (c : ℕ) → BeginsWithUnits kind order octets rest
+    → rest ≡ unit_octets order c ++ behind → (nat_lt c 128 && belongs kind c) ≡ true → BeginsWithUnits kind order octets behind
+units_more {kind} {order} {octets} {rest} {behind} c a e t =
     let small : c < 128 = low c (belongs kind c) t in
     let one : c < 0x1_0000 = omega arith in
     let first : rest ≡ spelling (encoding_by order) c ++ behind = e ∙ sym (spelling_one order c behind one) in
@@ -37,8 +37,19 @@ units_more {kind} {order} {units} {found} {more} {octets} {rest} {behind} c a e 
       split = a.split ∙ ap (λ w. octets_of (encoding_by order) a.front ++ w) first
           ∙ sym (append_assoc (octets_of (encoding_by order) a.front) (spelling (encoding_by order) c) behind)
           ∙ ap (λ w. w ++ behind) (sym (octets_of-append (encoding_by order) a.front (c ∷ []) ∙ ap (λ w. octets_of (encoding_by order) a.front ++ w) (append-nil (spelling (encoding_by order) c))));
-      appended = m ∙ ap (λ w. w ++ c ∷ []) a.appended ∙ append_assoc units a.front (c ∷ []);
     }
+
+pub appends_none : (kind : Class) (order : ByteOrder) (units octets : List ℕ) → AppendsUnits kind order units units octets octets
+unfolding units_none
+appends_none kind order units octets = record { begins = units_none kind order octets; appended = sym (append-nil units) }
+
+pub appends_more : {kind : Class} {order : ByteOrder} {units found more octets rest behind : List ℕ} (c : ℕ) → AppendsUnits kind order units found octets rest
+    → rest ≡ unit_octets order c ++ behind → (nat_lt c 128 && belongs kind c) ≡ true → more ≡ found ++ c ∷ [] → AppendsUnits kind order units more octets behind
+unfolding units_more
+appends_more {units = units} c a e t m = record {
+  begins = units_more c a.begins e t;
+  appended = m ∙ ap (λ w. w ++ c ∷ []) a.appended ∙ append_assoc units a.begins.front (c ∷ []);
+}
 
 -- of whole octets, a stretch and what is behind it
 record Behind (order : ByteOrder) (front octets behind : List ℕ) : Type 0 where
@@ -59,12 +70,8 @@ behind_front kind order (c ∷ cs) octets behind s e w =
     let r = behind_front kind order cs mid behind (and_right (nat_lt c 128 && belongs kind c) (is_stretch kind cs) s) refl (WholeText-behind w t first) in
     record { text = t ∙ ap (λ w. c ∷ w) r.text; whole = r.whole; shorter = omega (arith, r.shorter, length-append (spelling o c) mid, ap length first) }
 
-pub leads_units : {kind : Class} {order : ByteOrder} {units more : List ℕ} {source : Source} {octets behind : Bor (List ℕ)} → source ≡ Utf16 order octets → IsWhole source
-    → AppendsUnits kind order units more octets.now behind.now → AppendsStretch kind units more source (Utf16 order behind)
-leads_units {kind} {order} {units} {more} {source} {octets} {behind} e w a = subst (λ s. IsWhole s → AppendsStretch kind units more s (Utf16 order behind)) (sym e)
+pub leads_units : {kind : Class} {order : ByteOrder} {source : Source} {octets behind : Bor (List ℕ)} → source ≡ Utf16 order octets → IsWhole source
+    → (a : BeginsWithUnits kind order octets.now behind.now) → LeadsStretch kind source a.front (Utf16 order behind)
+leads_units {kind} {order} {source} {octets} {behind} e w a = subst (λ s. IsWhole s → LeadsStretch kind s a.front (Utf16 order behind)) (sym e)
     (λ v. let b = behind_front kind order a.front octets.now behind.now a.stretch a.split (record { scalars = v.scalars; spelled = v.spelled }) in
-    record {
-      front = a.front;
-      leads = record { stretch = a.stretch; text = b.text; whole = record { scalars = b.whole.scalars; spelled = b.whole.spelled }; encoding = refl; shorter = b.shorter };
-      appended = a.appended;
-    }) w
+    record { stretch = a.stretch; text = b.text; whole = record { scalars = b.whole.scalars; spelled = b.whole.spelled }; encoding = refl; shorter = b.shorter }) w

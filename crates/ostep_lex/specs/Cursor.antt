@@ -60,7 +60,11 @@ pub record PassesStretch (kind : Class) (old : Cursor) (front : List ℕ) (new :
   pub text : ahead old ≡ front ++ ahead new
   pub input : SameInput old new
 
--- from the old place to the new, a stretch of the class stands, and its characters are appended
+-- from the old place to the new, some stretch of the class stands; and its characters are appended
+pub record SkipsStretch (kind : Class) (old new : Cursor) : Type 0 where
+  pub front : List ℕ
+  pub passes : PassesStretch kind old front new
+
 pub record StretchAppends (kind : Class) (units more : List ℕ) (old new : Cursor) : Type 0 where
   pub front : List ℕ
   pub passes : PassesStretch kind old front new

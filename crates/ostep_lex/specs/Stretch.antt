@@ -28,12 +28,15 @@ pub record BeginsWithStretch (kind : Class) (octets rest : List ℕ) : Type 0 wh
   pub stretch : is_stretch kind front ≡ true
   pub split : octets ≡ front ++ rest
 
--- in UTF-16 octets the characters of a stretch stand before the rest, and these are appended
-pub record AppendsUnits (kind : Class) (order : ByteOrder) (units more octets rest : List ℕ) : Type 0 where
+-- in UTF-16 octets the characters of a stretch stand before the rest; and these are appended
+pub record BeginsWithUnits (kind : Class) (order : ByteOrder) (octets rest : List ℕ) : Type 0 where
   pub front : List ℕ
   pub stretch : is_stretch kind front ≡ true
   pub split : octets ≡ octets_of (encoding_by order) front ++ rest
-  pub appended : more ≡ units ++ front
+
+pub record AppendsUnits (kind : Class) (order : ByteOrder) (units more octets rest : List ℕ) : Type 0 where
+  pub begins : BeginsWithUnits kind order octets rest
+  pub appended : more ≡ units ++ begins.front
 
 -- a stretch stands first, and behind it whole characters of the same encoding
 pub record LeadsStretch (kind : Class) (source : Source) (front : List ℕ) (behind : Source) : Type 0 where
@@ -43,7 +46,12 @@ pub record LeadsStretch (kind : Class) (source : Source) (front : List ℕ) (beh
   pub encoding : encoding_in behind ≡ encoding_in source
   pub shorter : length (octets_in behind) ≤ length (octets_in source)
 
--- the same, and the characters of the stretch are appended
+-- some stretch does so
+pub record PassesLead (kind : Class) (source behind : Source) : Type 0 where
+  pub front : List ℕ
+  pub leads : LeadsStretch kind source front behind
+
+-- the same, and its characters are appended
 pub record AppendsStretch (kind : Class) (units more : List ℕ) (source behind : Source) : Type 0 where
   pub front : List ℕ
   pub leads : LeadsStretch kind source front behind

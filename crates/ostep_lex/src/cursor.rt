@@ -19,7 +19,7 @@ pub struct Cursor<'a> {
 
 impl<'a> Cursor<'a> {
     ghost use Rattle.ostep_lex.specs.Cursor.{ahead, place_at, SameInput, begins_with};
-    ghost use Rattle.ostep_lex.specs.Cursor.{PassesStretch, StretchAppends, PassesPairs};
+    ghost use Rattle.ostep_lex.specs.Cursor.{SkipsStretch, StretchAppends, PassesPairs};
     ghost use Rattle.ostep_lex.specs.Cursor.{Holds, IsBadUtf8, IsBadUtf16};
     ghost use Rattle.ostep_lex.specs.Encoding.{utf8, StopsBehind};
     ghost use Rattle.ostep_lex.specs.Source.{encoding_by};
@@ -49,21 +49,16 @@ impl<'a> Cursor<'a> {
         ))
     }
 
-    /// A stretch of the class at the cursor, and the cursor behind it. It is the longest of UTF-8,
-    /// and empty of UTF-16.
+    /// The cursor behind the longest stretch of the class at the cursor.
     #[inline(always)]
     #[tactic(auto, unfolding(crate::specs::Cursor::ahead, crate::specs::Cursor::places_in))]
-    pub(crate) fn stretch(self, class: Class) -> (&'a [u8], Cursor<'a>)
-        ensures { PassesStretch class self.entry result.0.now result.1 }
+    pub(crate) fn behind_stretch(self, class: Class) -> Cursor<'a>
+        ensures { SkipsStretch class self.entry result }
     {
-        let (front, source) = self.source.stretch(class);
-        (
-            front,
-            Cursor {
-                source,
-                end: self.end,
-            },
-        )
+        Cursor {
+            source: self.source.behind_stretch(class),
+            end: self.end,
+        }
     }
 
     /// Appends the characters of the longest stretch of the class at the cursor, and answers the

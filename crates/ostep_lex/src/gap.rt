@@ -16,12 +16,12 @@ fn line_comment(cursor: Cursor<'_>) -> Cursor<'_>
     ensures comment { LineComment (ahead cursor.entry) (ahead result) }
     ensures input { SameInput cursor.entry result }
 {
-    let (_, mut rest) = cursor.stretch(Class::Line);
+    let mut rest = cursor.behind_stretch(Class::Line);
     while let Some((c, behind)) = rest.first() {
         if is_line_end(c) {
             break;
         }
-        rest = behind.stretch(Class::Line).1;
+        rest = behind.behind_stretch(Class::Line);
     }
     rest
 }
@@ -39,12 +39,12 @@ fn block_comment(cursor: Cursor<'_>) -> Option<Cursor<'_>>
     ensures { MatchOption result (NeverCloses (ahead cursor.entry)) (λ end.
         BlockComment (ahead cursor.entry) (ahead end) × SameInput cursor.entry end) }
 {
-    let (_, mut rest) = cursor.stretch(Class::Starless);
+    let mut rest = cursor.behind_stretch(Class::Starless);
     while let Some((_, behind)) = rest.first() {
         if let Some(end) = comment_end(rest) {
             return Some(end);
         }
-        rest = behind.stretch(Class::Starless).1;
+        rest = behind.behind_stretch(Class::Starless);
     }
     None
 }
@@ -95,9 +95,9 @@ pub fn gap(cursor: Cursor<'_>) -> Result<Cursor<'_>, LexFault>
     ensures ok { IfOk result (PassesGap cursor.entry) }
     ensures err { IfErr result (FaultBehind (places_in cursor.entry) (ahead cursor.entry)) }
 {
-    let (_, mut rest) = cursor.stretch(Class::White);
+    let mut rest = cursor.behind_stretch(Class::White);
     while let Some(behind) = gap_piece(rest)? {
-        rest = behind.stretch(Class::White).1;
+        rest = behind.behind_stretch(Class::White);
     }
     Ok(rest)
 }

@@ -5,11 +5,11 @@ ghost use Rattle.ostep_lex.specs.Encoding.{BeginsWith, BeginsWithNone};
 ghost use Rattle.ostep_lex.specs.Encoding.{spelling, utf8};
 ghost use Rattle.ostep_lex.specs.Source.{unit_octets, encoding_by, FrontsOf};
 ghost use Rattle.ostep_lex.specs.Source.{characters_in, encoding_in, octets_in, IsWhole, Leads};
-ghost use Rattle.ostep_lex.specs.Stretch.{LeadsStretch, AppendsStretch};
+ghost use Rattle.ostep_lex.specs.Stretch.{PassesLead, AppendsStretch};
 ghost use Rattle.ostep_lex.specs.Pairs.{AppendsLead};
 
 use crate::pairs::push_front;
-use crate::stretch::{Class, push_octets, push_units, stretch};
+use crate::stretch::{Class, behind_units, push_octets, push_units, stretch};
 use std::alloc::AllocError;
 
 /// Which octet of a UTF-16 unit comes first.
@@ -128,24 +128,23 @@ impl<'a> Source<'a> {
         }
     }
 
-    /// A stretch of the class at the front, and what is to be read behind it. It is the longest of
-    /// UTF-8, and empty of UTF-16.
+    /// What is to be read behind the longest stretch of the class at the front.
     #[inline(always)]
-    pub fn stretch(self, class: Class) -> (&'a [u8], Source<'a>)
+    pub fn behind_stretch(self, class: Class) -> Source<'a>
         requires { IsWhole self }
-        ensures { LeadsStretch class self.entry result.0.now result.1 }
+        ensures { PassesLead class self.entry result }
     {
         match self {
-            Source::Utf8(text) => {
-                let (front, behind) = stretch(text, class);
-                (front, Source::Utf8(behind))
+            Source::Utf8(text) => Source::Utf8(stretch(text, class).1),
+            Source::Utf16(order, octets) => {
+                Source::Utf16(order, behind_units(class, order, octets))
             }
-            Source::Utf16(..) => (&[], self),
         }
     }
 
     /// Appends the characters of the longest stretch of the class at the front, and answers what is
     /// to be read behind it.
+    #[inline(always)]
     pub fn push_stretch(self, class: Class, units: &mut Vec<u16>) -> Result<Source<'a>, AllocError>
         requires { IsWhole self }
         ensures { IfOk result (AppendsStretch class units.old.items units.new.items self.entry) }

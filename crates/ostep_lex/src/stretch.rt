@@ -1,6 +1,7 @@
 //! Stretches: ASCII characters of one class at the front of a text, found in its octets.
 ghost use Rattle.std.specs.Prelude.{◌≡◌, ◌++◌, ◌&&◌, nat_lt, true, chars, OnOk, IfOk, IsUtf8};
-ghost use Rattle.ostep_lex.specs.Stretch.{belongs, is_stretch, BeginsWithStretch, AppendsUnits};
+ghost use Rattle.ostep_lex.specs.Stretch.{belongs, is_stretch, BeginsWithStretch};
+ghost use Rattle.ostep_lex.specs.Stretch.{BeginsWithUnits, AppendsUnits};
 
 use crate::character::{is_line_end, is_run, is_white};
 use crate::source::{ByteOrder, front_unit};
@@ -78,8 +79,24 @@ pub fn push_octets(units: &mut Vec<u16>, octets: &[u8]) -> Result<(), AllocError
     Ok(())
 }
 
+/// Behind the longest stretch at the front of UTF-16 octets.
+#[inline(never)]
+pub fn behind_units(class: Class, order: ByteOrder, octets: &[u8]) -> &[u8]
+    ensures { BeginsWithUnits class order octets.now result.now }
+{
+    let mut rest = octets;
+    while let Some((unit, behind)) = front_unit(order, rest) {
+        if unit >= 0x80 || !is_in(class, unit as u8) {
+            break;
+        }
+        rest = behind;
+    }
+    rest
+}
+
 /// Appends the units of the longest stretch at the front of UTF-16 octets, and answers the octets
 /// behind it.
+#[inline(never)]
 pub fn push_units<'a>(
     units: &mut Vec<u16>,
     class: Class,

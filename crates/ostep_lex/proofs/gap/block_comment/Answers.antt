@@ -8,13 +8,13 @@ returns-in-Some-comment_end c =
     (c.loop-behind.invariant.0 _ (block_close c.in-Some-comment_end.ensures.0), c.in-Some-comment_end.ensures.1 ∙ c.loop-behind.invariant.2)
 
 pub loop-behind-init : goal.loop-behind-init
-loop-behind-init c = (λ end r. block_stretch c.stretch.ensures r, λ n. never_stretch c.stretch.ensures n, c.stretch.ensures.input)
+loop-behind-init c = (λ end r. block_stretch c.behind_stretch-rest.ensures.passes r, λ n. never_stretch c.behind_stretch-rest.ensures.passes n, c.behind_stretch-rest.ensures.passes.input)
 
 pub loop-behind-preserved : goal.loop-behind-preserved
 loop-behind-preserved c = (
-  λ end r. c.loop-behind.invariant.0 end (block_more c.in-Some.ensures.0 c.in_default-comment_end.ensures (block_stretch c.stretch-in-Some.ensures r)),
-  λ n. c.loop-behind.invariant.1 (never_more c.in-Some.ensures.0 c.in_default-comment_end.ensures (never_stretch c.stretch-in-Some.ensures n)),
-  c.stretch-in-Some.ensures.input ∙ c.in-Some.ensures.1 ∙ c.loop-behind.invariant.2,
+  λ end r. c.loop-behind.invariant.0 end (block_more c.in-Some.ensures.0 c.in_default-comment_end.ensures (block_stretch c.behind_stretch-rest-in-Some.ensures.passes r)),
+  λ n. c.loop-behind.invariant.1 (never_more c.in-Some.ensures.0 c.in_default-comment_end.ensures (never_stretch c.behind_stretch-rest-in-Some.ensures.passes n)),
+  c.behind_stretch-rest-in-Some.ensures.passes.input ∙ c.in-Some.ensures.1 ∙ c.loop-behind.invariant.2,
 )
 
 pub returns : goal.returns

@@ -13,13 +13,13 @@ returns-in_err-behind-clause-err c =
     (gap (c.loop-behind.invariant.0 _ none) (subst (λ p. FaultAt p (ahead rest) c.in_err-behind.field-0.0) c.loop-behind.invariant.1 c.in_err-behind.ensures.err))
 
 pub loop-behind-init : goal.loop-behind-init
-loop-behind-init c = (λ end r. gap_stretch c.stretch.ensures r, c.stretch.ensures.input)
+loop-behind-init c = (λ end r. gap_stretch c.behind_stretch-rest.ensures.passes r, c.behind_stretch-rest.ensures.passes.input)
 
 pub loop-behind-preserved : goal.loop-behind-preserved
 loop-behind-preserved c =
     let p : PassesPiece c.loop-behind.rest c.in-Some.behind = rw c.in-Some.is at c.in_ok-behind.ensures.ok in (
-      λ end r. c.loop-behind.invariant.0 end (piece p.piece (gap_stretch c.stretch-in-Some.ensures r)),
-      c.stretch-in-Some.ensures.input ∙ p.input ∙ c.loop-behind.invariant.1,
+      λ end r. c.loop-behind.invariant.0 end (piece p.piece (gap_stretch c.behind_stretch-rest-in-Some.ensures.passes r)),
+      c.behind_stretch-rest-in-Some.ensures.passes.input ∙ p.input ∙ c.loop-behind.invariant.1,
     )
 
 pub returns-clause-ok : goal.returns-clause-ok

@@ -1,0 +1,13 @@
+use Rattle.std.proofs.Common.{◌≡◌, ◌&&◌, nat_lt, true, arith}
+use Rattle.std.proofs.lemmas.Bool.Decides.{nat_tests}
+use Rattle.ostep_lex.specs.Stretch.{belongs}
+use Rattle.ostep_lex.proofs.UnitsLemmas.{units_none, units_more}
+use Rattle.ostep_lex.proofs.stretch.behind_units.Goals as goal
+
+pub loop-unit-init : goal.loop-unit-init
+loop-unit-init c = units_none _ _ _
+
+pub loop-unit-preserved : goal.loop-unit-preserved
+loop-unit-preserved c =
+    let belonging : (nat_lt c.in-Some.unit 128 && belongs c.args.class c.in-Some.unit) ≡ true = cc in
+    units_more c.in-Some.unit c.loop-unit.invariant c.in-Some.ensures belonging
