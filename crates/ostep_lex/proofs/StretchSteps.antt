@@ -19,43 +19,43 @@ use Rattle.ostep_lex.specs.Stretch.{belongs, is_stretch}
 use Rattle.ostep_lex.specs.Cursor.{ahead, PassesStretch}
 use Rattle.ostep_lex.proofs.EncodingLemmas.{and_left, and_right}
 
-here : (kind : Class) (c : ℕ) (cs : List ℕ) → is_stretch kind (c ∷ cs) ≡ true → belongs kind c ≡ true
-here kind c cs s = and_right (nat_lt c 128) (belongs kind c) (and_left (nat_lt c 128 && belongs kind c) (is_stretch kind cs) s)
+here : (kind : Class) (c : ℕ) (cs : List ℕ) → is_stretch 0xD800 kind (c ∷ cs) ≡ true → belongs kind c ≡ true
+here kind c cs s = and_right (nat_lt c 0xD800) (belongs kind c) (and_left (nat_lt c 0xD800 && belongs kind c) (is_stretch 0xD800 kind cs) s)
 
-after : (kind : Class) (c : ℕ) (cs : List ℕ) → is_stretch kind (c ∷ cs) ≡ true → is_stretch kind cs ≡ true
-after kind c cs s = and_right (nat_lt c 128 && belongs kind c) (is_stretch kind cs) s
+after : (kind : Class) (c : ℕ) (cs : List ℕ) → is_stretch 0xD800 kind (c ∷ cs) ≡ true → is_stretch 0xD800 kind cs ≡ true
+after kind c cs s = and_right (nat_lt c 0xD800 && belongs kind c) (is_stretch 0xD800 kind cs) s
 
-ascii : (b : Bool) (c : ℕ) → (nat_lt c 128 && b) ≡ true → c < 128
-ascii b c s = let t = and_left (nat_lt c 128) b s in grind (arith, nat_tests)
+low : (b : Bool) (c : ℕ) → (nat_lt c 0xD800 && b) ≡ true → c < 0xD800
+low b c s = let t = and_left (nat_lt c 0xD800) b s in grind (arith, nat_tests)
 
 not_true : (b : Bool) → not b ≡ true → b ≡ false
 not_true true e = sym e
 not_true false e = refl
 
-one_unit : (c : ℕ) → c < 128 → encode_utf16 c ≡ c ∷ []
+one_unit : (c : ℕ) → c < 0xD800 → encode_utf16 c ≡ c ∷ []
 one_unit c h = let w : c < 0x1_0000 = omega arith in rw (lt-ltb c 0x1_0000 w) refl
 
-run_front : (front rest more end : List ℕ) → is_stretch Run front ≡ true → RunOf rest more end → RunOf (front ++ rest) (front ++ more) end
+run_front : (front rest more end : List ℕ) → is_stretch 0xD800 Run front ≡ true → RunOf rest more end → RunOf (front ++ rest) (front ++ more) end
 run_front [] rest more end s r = r
 run_front (c ∷ cs) rest more end s r = Quoted.more (here Run c cs s) (run_front cs rest more end (after Run c cs s) r)
 
-quoted_front : (mark : ℕ) (front rest more end : List ℕ) → is_stretch (Raw mark) front ≡ true → Quoted mark rest more end → Quoted mark (front ++ rest) (front ++ more) end
+quoted_front : (mark : ℕ) (front rest more end : List ℕ) → is_stretch 0xD800 (Raw mark) front ≡ true → Quoted mark rest more end → Quoted mark (front ++ rest) (front ++ more) end
 quoted_front mark [] rest more end s r = r
 quoted_front mark (c ∷ cs) rest more end s r =
     let h = quoted_front mark cs rest more end (after (Raw mark) c cs s) r in
-    let low = ascii (is_raw mark c) c (and_left (nat_lt c 128 && is_raw mark c) (is_stretch (Raw mark) cs) s) in
-    subst (λ us. Quoted mark (c ∷ (cs ++ rest)) (us ++ (cs ++ more)) end) (one_unit c low) (Quoted.piece (Quoted.raw (here (Raw mark) c cs s)) h)
+    let small = low (is_raw mark c) c (and_left (nat_lt c 0xD800 && is_raw mark c) (is_stretch 0xD800 (Raw mark) cs) s) in
+    subst (λ us. Quoted mark (c ∷ (cs ++ rest)) (us ++ (cs ++ more)) end) (one_unit c small) (Quoted.piece (Quoted.raw (here (Raw mark) c cs s)) h)
 
-fault_front : (p : Places) (start mark : ℕ) (front rest : List ℕ) (fault : LexFault) → is_stretch (Raw mark) front ≡ true → QuotedFault p start mark rest fault
+fault_front : (p : Places) (start mark : ℕ) (front rest : List ℕ) (fault : LexFault) → is_stretch 0xD800 (Raw mark) front ≡ true → QuotedFault p start mark rest fault
     → QuotedFault p start mark (front ++ rest) fault
 fault_front p start mark [] rest fault s r = r
 fault_front p start mark (c ∷ cs) rest fault s r = Stands.piece (Quoted.raw (here (Raw mark) c cs s)) (fault_front p start mark cs rest fault (after (Raw mark) c cs s) r)
 
-gap_front : (front rest end : List ℕ) → is_stretch White front ≡ true → Gap rest end → Gap (front ++ rest) end
+gap_front : (front rest end : List ℕ) → is_stretch 0xD800 White front ≡ true → Gap rest end → Gap (front ++ rest) end
 gap_front [] rest end s r = r
 gap_front (c ∷ cs) rest end s r = Gap.piece (Gap.white (here White c cs s)) (gap_front cs rest end (after White c cs s) r)
 
-line_front : (front rest end : List ℕ) → is_stretch Line front ≡ true → LineComment rest end → LineComment (front ++ rest) end
+line_front : (front rest end : List ℕ) → is_stretch 0xD800 Line front ≡ true → LineComment rest end → LineComment (front ++ rest) end
 line_front [] rest end s r = r
 line_front (c ∷ cs) rest end s r = Gap.more (not_true (is_line_end c) (here Line c cs s)) (line_front cs rest end (after Line c cs s) r)
 
@@ -63,12 +63,12 @@ goes_on : (c : ℕ) (rest : List ℕ) → (c == star) ≡ false → closes_comme
 goes_on c [] e = refl
 goes_on c (d ∷ rest) e = rw e refl
 
-block_front : (front rest end : List ℕ) → is_stretch Starless front ≡ true → BlockComment rest end → BlockComment (front ++ rest) end
+block_front : (front rest end : List ℕ) → is_stretch 0xD800 Starless front ≡ true → BlockComment rest end → BlockComment (front ++ rest) end
 block_front [] rest end s r = r
 block_front (c ∷ cs) rest end s r =
     Gap.more (goes_on c (cs ++ rest) (not_true (c == star) (here Starless c cs s))) (block_front cs rest end (after Starless c cs s) r)
 
-never_front : (front rest : List ℕ) → is_stretch Starless front ≡ true → NeverCloses rest → NeverCloses (front ++ rest)
+never_front : (front rest : List ℕ) → is_stretch 0xD800 Starless front ≡ true → NeverCloses rest → NeverCloses (front ++ rest)
 never_front [] rest s r = r
 never_front (c ∷ cs) rest s r =
     Gap.more (goes_on c (cs ++ rest) (not_true (c == star) (here Starless c cs s))) (never_front cs rest (after Starless c cs s) r)

@@ -16,24 +16,24 @@ use Rattle.ostep_lex.proofs.EncodingLemmas.{octets_of-append, and_left, and_righ
 use Rattle.ostep_lex.proofs.StretchLemmas.{is_stretch-append}
 use Rattle.ostep_lex.proofs.SourceLemmas.{spelling_one, utf16_characters-spelling}
 
-low : (c : ℕ) (b : Bool) → (nat_lt c 128 && b) ≡ true → c < 128
-low c b e = grind (arith, nat_tests, and_left (nat_lt c 128) b e)
+low : (c : ℕ) (b : Bool) → (nat_lt c 0xD800 && b) ≡ true → c < 0xD800
+low c b e = grind (arith, nat_tests, and_left (nat_lt c 0xD800) b e)
 
-ascii_scalar : (c : ℕ) → c < 128 → IsScalar c
-ascii_scalar c h = let w : c < 0xD800 = omega arith in rw (lt-ltb c 0xD800 w) refl
+low_scalar : (c : ℕ) → c < 0xD800 → IsScalar c
+low_scalar c h = rw (lt-ltb c 0xD800 h) refl
 
 pub units_none : (kind : Class) (order : ByteOrder) (octets : List ℕ) → BeginsWithUnits kind order octets octets
 units_none kind order octets = record { front = []; stretch = refl; split = refl }
 
 pub units_more : {kind : Class} {order : ByteOrder} {octets rest behind : List ℕ} (c : ℕ) → BeginsWithUnits kind order octets rest
-    → rest ≡ unit_octets order c ++ behind → (nat_lt c 128 && belongs kind c) ≡ true → BeginsWithUnits kind order octets behind
+    → rest ≡ unit_octets order c ++ behind → (nat_lt c 0xD800 && belongs kind c) ≡ true → BeginsWithUnits kind order octets behind
 units_more {kind} {order} {octets} {rest} {behind} c a e t =
-    let small : c < 128 = low c (belongs kind c) t in
+    let small : c < 0xD800 = low c (belongs kind c) t in
     let one : c < 0x1_0000 = omega arith in
     let first : rest ≡ spelling (encoding_by order) c ++ behind = e ∙ sym (spelling_one order c behind one) in
     record {
       front = a.front ++ c ∷ [];
-      stretch = is_stretch-append kind a.front (c ∷ []) a.stretch (rw t refl);
+      stretch = is_stretch-append 0xD800 kind a.front (c ∷ []) a.stretch (rw t refl);
       split = a.split ∙ ap (λ w. octets_of (encoding_by order) a.front ++ w) first
           ∙ sym (append_assoc (octets_of (encoding_by order) a.front) (spelling (encoding_by order) c) behind)
           ∙ ap (λ w. w ++ behind) (sym (octets_of-append (encoding_by order) a.front (c ∷ []) ∙ ap (λ w. octets_of (encoding_by order) a.front ++ w) (append-nil (spelling (encoding_by order) c))));
@@ -44,7 +44,7 @@ unfolding units_none
 appends_none kind order units octets = record { begins = units_none kind order octets; appended = sym (append-nil units) }
 
 pub appends_more : {kind : Class} {order : ByteOrder} {units found more octets rest behind : List ℕ} (c : ℕ) → AppendsUnits kind order units found octets rest
-    → rest ≡ unit_octets order c ++ behind → (nat_lt c 128 && belongs kind c) ≡ true → more ≡ found ++ c ∷ [] → AppendsUnits kind order units more octets behind
+    → rest ≡ unit_octets order c ++ behind → (nat_lt c 0xD800 && belongs kind c) ≡ true → more ≡ found ++ c ∷ [] → AppendsUnits kind order units more octets behind
 unfolding units_more
 appends_more {units = units} c a e t m = record {
   begins = units_more c a.begins e t;
@@ -57,17 +57,17 @@ record Behind (order : ByteOrder) (front octets behind : List ℕ) : Type 0 wher
   whole : WholeText (encoding_by order) (utf16_characters order behind) behind
   shorter : length behind ≤ length octets
 
-behind_front : (kind : Class) (order : ByteOrder) (front octets behind : List ℕ) → is_stretch kind front ≡ true → octets ≡ octets_of (encoding_by order) front ++ behind
+behind_front : (kind : Class) (order : ByteOrder) (front octets behind : List ℕ) → is_stretch 0xD800 kind front ≡ true → octets ≡ octets_of (encoding_by order) front ++ behind
     → WholeText (encoding_by order) (utf16_characters order octets) octets → Behind order front octets behind
 behind_front kind order [] octets behind s e w = subst (λ b. Behind order [] octets b) e (record { text = refl; whole = w; shorter = omega arith })
 behind_front kind order (c ∷ cs) octets behind s e w =
     let o = encoding_by order in
-    let here : (nat_lt c 128 && belongs kind c) ≡ true = and_left (nat_lt c 128 && belongs kind c) (is_stretch kind cs) s in
+    let here : (nat_lt c 0xD800 && belongs kind c) ≡ true = and_left (nat_lt c 0xD800 && belongs kind c) (is_stretch 0xD800 kind cs) s in
     let mid : List ℕ = octets_of o cs ++ behind in
     let first : octets ≡ spelling o c ++ mid = e ∙ append_assoc (spelling o c) (octets_of o cs) behind in
     let t : utf16_characters order octets ≡ c ∷ utf16_characters order mid =
-    ap (utf16_characters order) first ∙ utf16_characters-spelling order c mid (ascii_scalar c (low c (belongs kind c) here)) in
-    let r = behind_front kind order cs mid behind (and_right (nat_lt c 128 && belongs kind c) (is_stretch kind cs) s) refl (WholeText-behind w t first) in
+    ap (utf16_characters order) first ∙ utf16_characters-spelling order c mid (low_scalar c (low c (belongs kind c) here)) in
+    let r = behind_front kind order cs mid behind (and_right (nat_lt c 0xD800 && belongs kind c) (is_stretch 0xD800 kind cs) s) refl (WholeText-behind w t first) in
     record { text = t ∙ ap (λ w. c ∷ w) r.text; whole = r.whole; shorter = omega (arith, r.shorter, length-append (spelling o c) mid, ap length first) }
 
 pub leads_units : {kind : Class} {order : ByteOrder} {source : Source} {octets behind : Bor (List ℕ)} → source ≡ Utf16 order octets → IsWhole source

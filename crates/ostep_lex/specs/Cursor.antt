@@ -56,7 +56,7 @@ begins_with c (d ∷ rest) = d == c
 
 -- from the old place to the new, these characters stand, a stretch of the class
 pub record PassesStretch (kind : Class) (old : Cursor) (front : List ℕ) (new : Cursor) : Type 0 where
-  pub stretch : is_stretch kind front ≡ true
+  pub stretch : is_stretch 0xD800 kind front ≡ true
   pub text : ahead old ≡ front ++ ahead new
   pub input : SameInput old new
 

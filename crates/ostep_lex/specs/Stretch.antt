@@ -1,4 +1,4 @@
--- Stretches: ASCII characters of one class.
+-- Stretches: characters of one class, of ASCII or at least below the surrogates.
 use Rattle.std.specs.Prelude.{◌≡◌, ℕ, ◌≤◌, length, Bool, true, not, ◌&&◌, ◌==◌, nat_lt, List, [], ◌∷◌, ◌++◌}
 use Rattle.ostep_lex.specs.declared.stretch.Class.{Class}
 use Rattle.ostep_lex.specs.declared.stretch.Class.TheVariants.{Run, White, Raw, Line, Starless}
@@ -17,21 +17,21 @@ belongs (Raw mark) c = is_raw mark c
 belongs Line c = not (is_line_end c)
 belongs Starless c = not (c == star)
 
--- whether all are ASCII characters of the class
-abbrev pub is_stretch : Class → List ℕ → Bool
-is_stretch kind [] = true
-is_stretch kind (c ∷ cs) = (nat_lt c 128 && belongs kind c) && is_stretch kind cs
+-- whether all are characters of the class below the limit
+abbrev pub is_stretch : ℕ → Class → List ℕ → Bool
+is_stretch limit kind [] = true
+is_stretch limit kind (c ∷ cs) = (nat_lt c limit && belongs kind c) && is_stretch limit kind cs
 
--- a stretch stands before the rest
+-- a stretch of ASCII characters stands before the rest
 pub record BeginsWithStretch (kind : Class) (octets rest : List ℕ) : Type 0 where
   pub front : List ℕ
-  pub stretch : is_stretch kind front ≡ true
+  pub stretch : is_stretch 128 kind front ≡ true
   pub split : octets ≡ front ++ rest
 
 -- in UTF-16 octets the characters of a stretch stand before the rest; and these are appended
 pub record BeginsWithUnits (kind : Class) (order : ByteOrder) (octets rest : List ℕ) : Type 0 where
   pub front : List ℕ
-  pub stretch : is_stretch kind front ≡ true
+  pub stretch : is_stretch 0xD800 kind front ≡ true
   pub split : octets ≡ octets_of (encoding_by order) front ++ rest
 
 pub record AppendsUnits (kind : Class) (order : ByteOrder) (units more octets rest : List ℕ) : Type 0 where
@@ -40,7 +40,7 @@ pub record AppendsUnits (kind : Class) (order : ByteOrder) (units more octets re
 
 -- a stretch stands first, and behind it whole characters of the same encoding
 pub record LeadsStretch (kind : Class) (source : Source) (front : List ℕ) (behind : Source) : Type 0 where
-  pub stretch : is_stretch kind front ≡ true
+  pub stretch : is_stretch 0xD800 kind front ≡ true
   pub text : characters_in source ≡ front ++ characters_in behind
   pub whole : IsWhole behind
   pub encoding : encoding_in behind ≡ encoding_in source

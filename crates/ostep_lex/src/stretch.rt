@@ -1,4 +1,5 @@
-//! Stretches: ASCII characters of one class at the front of a text, found in its octets.
+//! Stretches: characters of one class at the front of a text, found in its octets. They are ASCII
+//! in UTF-8, and below the surrogates in UTF-16.
 ghost use Rattle.std.specs.Prelude.{◌≡◌, ◌++◌, ◌&&◌, nat_lt, true, chars, OnOk, IfOk, IsUtf8};
 ghost use Rattle.ostep_lex.specs.Stretch.{belongs, is_stretch, BeginsWithStretch};
 ghost use Rattle.ostep_lex.specs.Stretch.{BeginsWithUnits, AppendsUnits};
@@ -22,20 +23,37 @@ pub enum Class {
     Starless,
 }
 
+/// Whether the character is of the class.
+#[inline(always)]
+fn is_of(class: Class, c: char) -> bool
+    ensures { result ≡ belongs class c }
+{
+    match class {
+        Class::Run => is_run(c),
+        Class::White => is_white(c),
+        Class::Raw(mark) => c != '\\' && c != mark,
+        Class::Line => !is_line_end(c),
+        Class::Starless => c != '*',
+    }
+}
+
 /// Whether the octet is an ASCII character of the class.
 #[inline(always)]
 fn is_in(class: Class, octet: u8) -> bool
     ensures { result ≡ (nat_lt octet 128 && belongs class octet) }
 {
-    let c = char::from(octet);
-    octet < 0x80
-        && match class {
-            Class::Run => is_run(c),
-            Class::White => is_white(c),
-            Class::Raw(mark) => c != '\\' && c != mark,
-            Class::Line => !is_line_end(c),
-            Class::Starless => c != '*',
-        }
+    octet < 0x80 && is_of(class, char::from(octet))
+}
+
+/// Whether the unit is a character of the class, and below the surrogates.
+#[inline(always)]
+fn is_unit_in(class: Class, unit: u16) -> bool
+    ensures { result ≡ (nat_lt unit 0xD800 && belongs class unit) }
+{
+    match char::from_u32(u32::from(unit)) {
+        Some(c) => unit < 0xd800 && is_of(class, c),
+        None => false,
+    }
 }
 
 /// Behind the longest stretch at the front of the octets.
@@ -56,7 +74,7 @@ fn behind_stretch(octets: &[u8], class: Class) -> &[u8]
 /// The longest stretch at the front of the text, and the text behind it.
 #[inline(always)]
 pub fn stretch(text: &str, class: Class) -> (&[u8], &str)
-    ensures stretch { is_stretch class result.0.now ≡ true }
+    ensures stretch { is_stretch 128 class result.0.now ≡ true }
     ensures chars { chars text.now ≡ result.0.now ++ chars result.1.now }
     ensures split { text.now ≡ result.0.now ++ result.1.now }
     ensures utf8 { IsUtf8 result.1.now }
@@ -86,7 +104,7 @@ pub fn behind_units(class: Class, order: ByteOrder, octets: &[u8]) -> &[u8]
 {
     let mut rest = octets;
     while let Some((unit, behind)) = front_unit(order, rest) {
-        if unit >= 0x80 || !is_in(class, unit as u8) {
+        if !is_unit_in(class, unit) {
             break;
         }
         rest = behind;
@@ -108,7 +126,7 @@ pub fn push_units<'a>(
 {
     let mut rest = octets;
     while let Some((unit, behind)) = front_unit(order, rest) {
-        if unit >= 0x80 || !is_in(class, unit as u8) {
+        if !is_unit_in(class, unit) {
             break;
         }
         units.push(unit)?;
