@@ -51,7 +51,7 @@ impl<'a, 'r> Walker<'a, 'r> {
         ensures refused { IfErr result (RefusesKeys (octets_of self.now.file)
             (numbers_of refs.entry) levels left.old) }
     {
-        let mut keys = Vec::new(self.alloc);
+        let mut keys = Vec::with_capacity(self.alloc, refs.len() as usize)?;
         for i in 0..refs.len() {
             let object = self.referred(table, refs.get(i))?;
             let text = self.key(states, table, before, object, levels, &mut *left)?;
