@@ -99,7 +99,7 @@ pub record IsRemembered (f : List ℕ) (plan : Plan) (i number : ℕ) : Type 0 w
 
 -- stands for the number of an object that has none yet
 abbrev pub no_number : ℕ
-no_number = 2 ^ 64 - 1
+no_number = 2 ^ 32 - 1
 
 -- what the memo has of an object
 abbrev pub remembered : Plan → ℕ → ℕ

@@ -24,15 +24,15 @@ pub(crate) struct Objects {
 }
 
 /// Stands for the number of an object that has none yet.
-const NO_NUMBER: u64 = u64::MAX;
+const NO_NUMBER: u32 = u32::MAX;
 
 /// The objects so far, the scalars among them, and the numbers of these. Beside them stands a memo: for each
 /// object of the file that was met as a scalar its number.
 #[derive(Drop)]
 pub(crate) struct Plan<'a> {
     scalars: IndexSet<ScalarRef<'a>>,
-    numbers: Vec<u64>,
-    memo: Vec<u64>,
+    numbers: Vec<u32>,
+    memo: Vec<u32>,
     originals: Vec<u64>,
     pub(crate) references: Vec<u64>,
 }
@@ -67,7 +67,7 @@ impl<'a> Plan<'a> {
         if number == NO_NUMBER {
             return None;
         }
-        Some(number)
+        Some(u64::from(number))
     }
 
     /// The number of the scalar that the object holds, which is kept for the next time.
@@ -81,10 +81,10 @@ impl<'a> Plan<'a> {
         let number = self.enter(object, scalar)?;
         let place = object as usize;
         if place >= self.memo.len() {
-            return Ok(number);
+            return Ok(u64::from(number));
         }
         self.memo[place] = number;
-        Ok(number)
+        Ok(u64::from(number))
     }
 
     pub(crate) fn into_objects(self) -> Objects
@@ -99,7 +99,7 @@ impl<'a> Plan<'a> {
 
     // The number of the scalar that the object holds: that of an equal one, or a new one where the set did not
     // have it.
-    fn enter(&mut self, object: u64, scalar: ScalarRef<'a>) -> Result<u64, AllocError>
+    fn enter(&mut self, object: u64, scalar: ScalarRef<'a>) -> Result<u32, AllocError>
         ensures numbers { IfOk result
             (NumbersScalar object (content_of scalar.entry) self.old self.new) }
         ensures enters { IfOk result (EntersScalar scalar.entry self.old self.new) }
@@ -108,7 +108,7 @@ impl<'a> Plan<'a> {
         if let Some(number) = self.numbers.get(index) {
             return Ok(*number);
         }
-        let number = self.originals.len() as u64;
+        let number = short(self.originals.len())?;
         self.numbers.push(number)?;
         self.originals.push(object)?;
         Ok(number)
@@ -144,4 +144,11 @@ impl<'a> Plan<'a> {
         push_sorted(alloc, file, keys, values, &mut self.references)?;
         Ok(number)
     }
+}
+
+// The number in 32 bits, which a value within the limits never passes.
+fn short(number: usize) -> Result<u32, AllocError>
+    ensures { IfOk result (λ short. short ≡ number) }
+{
+    u32::try_from(number).map_err(|_| AllocError)
 }

@@ -21,7 +21,7 @@ returns-clause-numbers c =
     let index = c.in_ok-index.index in
     let missed : slice_get numbers index ≡ None = slice_get_past numbers index (search rules) in
     record {
-      walks = λ f holds. Walks-new f c.args.scalar c.args.object c.args.self.now _ c.len-number.result holds (rw (c.deref.ensures.value, c.in_ok-index.ensures.index) at missed) (search rules) c.in_ok-push-2.ensures.items refl c.in_ok-index.ensures.keys c.in_ok-push.ensures.items;
+      walks = λ f holds. Walks-new f c.args.scalar c.args.object c.args.self.now _ c.in_ok-number.number holds (rw (c.deref.ensures.value, c.in_ok-index.ensures.index) at missed) (search rules) c.in_ok-push-2.ensures.items refl c.in_ok-index.ensures.keys c.in_ok-push.ensures.items;
       references_kept = refl;
     }
 
@@ -38,4 +38,4 @@ returns-clause-enters c =
     let numbers = c.deref.result.now in
     let index = c.in_ok-index.index in
     let missed : slice_get numbers index ≡ None = slice_get_past numbers index (search rules) in
-    enters-new c.args.scalar c.args.self.now _ c.len-number.result (rw (c.deref.ensures.value, c.in_ok-index.ensures.index) at missed) c.in_ok-index.ensures.keys c.in_ok-push.ensures.items refl
+    enters-new c.args.scalar c.args.self.now _ c.in_ok-number.number (rw (c.deref.ensures.value, c.in_ok-index.ensures.index) at missed) c.in_ok-index.ensures.keys c.in_ok-push.ensures.items refl
