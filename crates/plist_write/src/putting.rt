@@ -75,7 +75,35 @@ pub(crate) fn put_number(out: &mut Vec<u8>, width: u8, n: u64) -> Result<(), All
     requires fits { n < 256 ^ width }
     ensures { OnOk result (out.new.items ≡ out.old.items ++ big_bytes width n) }
 {
-    let width = usize::from(width);
+    match width {
+        2 => put_two(out, n as u16),
+        4 => put_four(out, n as u32),
+        _ => put_digits(out, usize::from(width), n),
+    }
+}
+
+fn put_two(out: &mut Vec<u8>, n: u16) -> Result<(), AllocError>
+    ensures { OnOk result (out.new.items ≡ out.old.items ++ big_bytes 2 n) }
+{
+    let mut digits = [0; 2];
+    BigEndian::write_u16(&mut digits, n);
+    out.extend_from_slice(&digits)
+}
+
+fn put_four(out: &mut Vec<u8>, n: u32) -> Result<(), AllocError>
+    ensures { OnOk result (out.new.items ≡ out.old.items ++ big_bytes 4 n) }
+{
+    let mut digits = [0; 4];
+    BigEndian::write_u32(&mut digits, n);
+    out.extend_from_slice(&digits)
+}
+
+fn put_digits(out: &mut Vec<u8>, width: usize, n: u64) -> Result<(), AllocError>
+    requires width_least { 1 ≤ width }
+    requires width_most { width ≤ 8 }
+    requires fits { n < 256 ^ width }
+    ensures { OnOk result (out.new.items ≡ out.old.items ++ big_bytes width n) }
+{
     let mut digits = [0; 8];
     BigEndian::write_uint(&mut digits, n, width);
     out.extend_from_slice(&digits[..width])
