@@ -2,14 +2,13 @@
 use Rattle.std.proofs.Common.{ℕ, Bool, true, ◌<◌, ◌≤◌, ◌&&◌, List, [], ◌∷◌, ◌++◌, length, ◌≡◌, refl, sym, ap, subst, ◌∙◌, arith, append_assoc, append-nil, length-append, lt-ltb}
 use Rattle.std.specs.Prelude.{nat_lt}
 use Rattle.std.specs.Char.{IsScalar}
-use Rattle.std.specs.Str.{all_scalars}
 use Rattle.std.specs.Borrow.{Bor}
 use Rattle.std.proofs.lemmas.Bool.Decides.{nat_tests}
 use Rattle.ostep_lex.specs.declared.stretch.Class.{Class}
 use Rattle.ostep_lex.specs.declared.source.ByteOrder.{ByteOrder}
 use Rattle.ostep_lex.specs.declared.source.Source.{Source}
 use Rattle.ostep_lex.specs.declared.source.Source.TheVariants.{Utf16}
-use Rattle.ostep_lex.specs.Encoding.{Encoding, spelling, octets_of}
+use Rattle.ostep_lex.specs.Encoding.{spelling, octets_of}
 use Rattle.ostep_lex.specs.Source.{encoding_by, unit_octets, utf16_characters, IsWhole}
 use Rattle.ostep_lex.specs.Stretch.{belongs, is_stretch, BeginsWithUnits, AppendsUnits, LeadsStretch}
 use Rattle.ostep_lex.proofs.EncodingLemmas.{octets_of-append, and_left, and_right, WholeText, WholeText-behind}

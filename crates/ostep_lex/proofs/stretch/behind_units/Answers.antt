@@ -1,5 +1,4 @@
-use Rattle.std.proofs.Common.{◌≡◌, ◌&&◌, nat_lt, true, arith}
-use Rattle.std.proofs.lemmas.Bool.Decides.{nat_tests}
+use Rattle.std.proofs.Common.{◌≡◌, ◌&&◌, nat_lt, true}
 use Rattle.ostep_lex.specs.Stretch.{belongs}
 use Rattle.ostep_lex.proofs.UnitsLemmas.{units_none, units_more}
 use Rattle.ostep_lex.proofs.stretch.behind_units.Goals as goal
