@@ -1,11 +1,14 @@
 -- Which path holds which octets, and what loading and storing do to that.
-use Rattle.std.specs.Prelude.{◌≡◌, ◌≢◌, ◌⊎◌, ⊤, ℕ, ◌<◌, ◌≤◌, List, length, take, None, Option, Some, Result, IfErr, IfOk, IfSome}
+use Rattle.std.specs.Prelude.{◌≡◌, ◌≢◌, ◌⊎◌, ⊤, ℕ, ◌<◌, ◌≤◌, List, length, take, None, Option, Some, Result, Err, IfErr, IfOk, IfSome}
 use Rattle.plist_devices.specs.Count.{HasFailed}
 use Rattle.plist_files.specs.declared.faults.Fault.{Fault}
-use Rattle.plist_files.specs.declared.faults.Fault.TheVariants.{ReadFailed, InputTooLarge, OutOfMemory}
+use Rattle.plist_files.specs.declared.faults.Fault.TheVariants.{ReadFailed, WriteFailed, InputTooLarge, OutOfMemory}
+use Rattle.plist_files.specs.declared.forms.Form.{Form}
 use Rattle.plist_files.specs.declared.loading.TheConstants.{MAX_INPUT}
 use Rattle.plist_write.specs.declared.sending.WriteFault.{WriteFault}
 use Rattle.plist_write.specs.Sending.{IsBlamed, sent_of}
+use Rattle.plist_transfer.specs.Output.{IsOutput, IsOutputFault}
+use Rattle.plist_transfer.specs.Transfer.{answer_of}
 
 -- a path, as its octets
 abbrev pub FileName : Type 0
@@ -59,3 +62,30 @@ pub record IsStored (files rest : Option Files) (before after : ℕ) (path : Fil
   pub whole : IfOk result (λ _. Turns files rest (λ old new. new path ≡ Some octets))
   pub within : IfErr result (λ fault. sent_of fault ≤ length octets)
   pub front : IfErr result (λ fault. HoldsFront files rest path octets (sent_of fault) × IsBlamed fault before after)
+
+-- The count of failures after a file was sent so: one more where the device failed.
+abbrev pub CountsFailure : ℕ → ℕ → Result ℕ Fault → Type 0
+CountsFailure before after (Err (WriteFailed sent)) = HasFailed before after
+CountsFailure before after _ = after ≡ before
+
+-- Nothing is stored, for this cause: no file changes, and no device fails.
+pub record IsUnstored (Cause : Fault → Type 0) (files rest : Option Files) (before after : ℕ) (result : Result ℕ Fault) : Type 0 where
+  pub fault : Fault
+  pub is : result ≡ Err fault
+  pub cause : Cause fault
+  pub kept : SameFiles files rest
+  pub unfailed : after ≡ before
+
+-- The output for the octets is stored, as far as a refusal lets it.
+pub record IsOutputStored (form : Form) (octets : List ℕ) (files rest : Option Files) (before after : ℕ) (path : FileName) (result : Result ℕ Fault) : Type 0 where
+  pub output : List ℕ
+  pub of : IsOutput form octets output
+  pub sent : Result ℕ WriteFault
+  pub is : result ≡ answer_of sent
+  pub stored : IsStored files rest before after path output sent
+
+-- what is done to store the value that the octets spell, in a form
+abbrev pub Stores : Form → List ℕ → Option Files → Option Files → ℕ → ℕ → FileName → Result ℕ Fault → Type 0
+Stores form octets files rest before after path result =
+    IsUnstored (IsOutputFault form octets) files rest before after result
+    ⊎ IsOutputStored form octets files rest before after path result

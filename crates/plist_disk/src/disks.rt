@@ -1,11 +1,8 @@
 //! What holds files.
-ghost use Rattle.std.specs.Prelude.{◌≡◌, ℕ, IfErr, IfOk, MatchResult, OnOk, Option};
-ghost use Rattle.plist_disk.specs.Files.{Files, Holds, IsStored, IsUnloaded, SameFiles};
-ghost use Rattle.plist_write.specs.Sending.{IsBlamed};
+ghost use Rattle.std.specs.Prelude.{◌≡◌, ℕ, IfErr, IfOk, OnOk, Option};
+ghost use Rattle.plist_disk.specs.Files.{CountsFailure, Files, Holds, IsUnloaded, SameFiles, Stores};
 
-use crate::Content;
-use plist_files::Fault;
-use plist_write::WriteFault;
+use plist_files::{Fault, Form};
 use std::alloc::Global;
 
 /// Files by path, and a count of the failures of their devices.
@@ -33,22 +30,25 @@ pub trait Disk {
         ensures refused { IfErr result
             (IsUnloaded (files self.old) path.now (failures self.old) (failures self.new)) };
 
-    /// Creates or empties the file at the path at the first octet, and sends it the content; answers how many
-    /// octets that is.
+    /// Writes the value that the octets spell to the file at the path, in this form: the file is created or
+    /// emptied at the first octet that is put. Answers how many octets it has then. The octets are given up.
     ///
     /// # Errors
     ///
-    /// [`WriteFault::WriteFailed`] (51) where the file cannot be created or written, and
-    /// [`WriteFault::OutOfMemory`] (60) where no memory is left. Exactly the first `sent` octets stand at
-    /// the path then; where that is none of them, the file may be as it was. No other file is changed.
-    fn store<C: Content>(
+    /// Those of [`convert_octets`](plist_transfer::convert_octets): before anything is put, where the octets
+    /// are refused or their value has no such form, and no file is changed;
+    /// [`Fault::WriteFailed`] (51) where the file cannot be created or written, and
+    /// [`Fault::OutOfMemory`] (60) where no memory is left. Exactly the first `sent` octets stand at the
+    /// path after these two; where that is none of them, the file may be as it was. No other file is changed.
+    fn store(
         &mut self,
         alloc: Global,
         path: &str,
-        content: &C,
-    ) -> Result<u64, WriteFault>
-        ensures { IsStored (files self.old) (files self.new) (failures self.old) (failures self.new)
-            path.now (C.octets content.now) result };
+        octets: Vec<u8>,
+        form: Form,
+    ) -> Result<u64, Fault>
+        ensures { Stores form octets.items (files self.old) (files self.new)
+            (failures self.old) (failures self.new) path.now result };
 
     /// How many devices failed so far. The count stays at `u64::MAX`.
     fn failures(&self) -> u64
@@ -56,12 +56,11 @@ pub trait Disk {
 }
 
 /// The count of failures after a file was sent so.
-pub(crate) fn failures_after(failures: u64, sent: &Result<u64, WriteFault>) -> u64
-    ensures { MatchResult sent.now
-        (λ _. result ≡ failures) (λ fault. IsBlamed fault failures result) }
+pub(crate) fn failures_after(failures: u64, sent: &Result<u64, Fault>) -> u64
+    ensures { CountsFailure failures result sent.now }
 {
     match sent {
-        Err(WriteFault::WriteFailed { .. }) => failures.saturating_add(1),
+        Err(Fault::WriteFailed { .. }) => failures.saturating_add(1),
         _ => failures,
     }
 }

@@ -2,12 +2,12 @@
 ghost use Rattle.std.specs.Prelude.{◌≡◌, IfErr};
 ghost use Rattle.plist_files.specs.Load.{IsLoadFault};
 
+use crate::Disk;
 use crate::disks::failures_after;
 use crate::file_sink::FileSink;
-use crate::{Content, Disk};
 use plist_devices::ReaderSource;
-use plist_files::{Fault, load};
-use plist_write::WriteFault;
+use plist_files::{Fault, Form, load};
+use plist_transfer::convert_octets;
 use std::alloc::Global;
 use std::fs;
 use std::rt::Files;
@@ -55,13 +55,14 @@ impl<R: Files> Disk for HostDisk<'_, R> {
         octets
     }
 
-    fn store<C: Content>(
+    fn store(
         &mut self,
         alloc: Global,
         path: &str,
-        content: &C,
-    ) -> Result<u64, WriteFault> {
-        let sent = content.send(alloc, &mut FileSink::new(self.rt, path));
+        octets: Vec<u8>,
+        form: Form,
+    ) -> Result<u64, Fault> {
+        let sent = convert_octets(alloc, octets, &mut FileSink::new(self.rt, path), form);
         self.failures = failures_after(self.failures, &sent);
         sent
     }

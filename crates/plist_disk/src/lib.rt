@@ -1,15 +1,11 @@
 //! Files by path: what a disk does, a disk in memory that tells what it holds, and the files of the host.
 #![tactic(auto)]
 
-pub mod contents;
 pub mod disks;
 mod file_sink;
 pub mod host_disk;
 pub mod memory_disk;
-pub mod octets;
 
-pub use contents::{CanonicalFile, Content};
 pub use disks::Disk;
 pub use host_disk::HostDisk;
 pub use memory_disk::MemoryDisk;
-pub use octets::Octets;

@@ -2,11 +2,11 @@
 ghost use Rattle.std.specs.Prelude.{◌≡◌, ◌≤◌, ◌<◌, IfOk, OnErr, None, Some, option_map};
 ghost use Rattle.plist_disk.specs.Files.{FileName, SameBeside};
 
+use crate::Disk;
 use crate::disks::failures_after;
-use crate::{Content, Disk};
 use plist_devices::ListSink;
-use plist_files::{Fault, MAX_INPUT};
-use plist_write::WriteFault;
+use plist_files::{Fault, Form, MAX_INPUT};
+use plist_transfer::convert_octets;
 use std::alloc::{AllocError, Global};
 use std::collections::BTreeMap;
 
@@ -79,21 +79,18 @@ impl Disk for MemoryDisk {
         Ok(Vec::from_slice(alloc, octets)?)
     }
 
-    fn store<C: Content>(
+    fn store(
         &mut self,
         alloc: Global,
         path: &str,
-        content: &C,
-    ) -> Result<u64, WriteFault> {
-        let Ok(mut sink) = ListSink::new(alloc, self.room, self.step) else {
-            return Err(WriteFault::OutOfMemory { sent: 0 });
-        };
-        let sent = content.send(alloc, &mut sink);
-        let Ok(octets) = Vec::from_slice(alloc, sink.taken()) else {
-            return Err(WriteFault::OutOfMemory { sent: 0 });
-        };
-        if self.put(alloc, path, octets).is_err() {
-            return Err(WriteFault::OutOfMemory { sent: 0 });
+        octets: Vec<u8>,
+        form: Form,
+    ) -> Result<u64, Fault> {
+        let mut sink = ListSink::new(alloc, self.room, self.step)?;
+        let sent = convert_octets(alloc, octets, &mut sink, form);
+        if sent.is_ok() || !sink.taken().is_empty() {
+            let file = Vec::from_slice(alloc, sink.taken())?;
+            self.put(alloc, path, file)?;
         }
         self.failures = failures_after(self.failures, &sent);
         sent

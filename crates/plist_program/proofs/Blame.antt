@@ -33,15 +33,15 @@ use Rattle.plist_files.specs.Pair.{IsRefusedPair}
 use Rattle.plist_write.specs.Sending.{IsWritten}
 use Rattle.plist_write.specs.declared.sending.WriteFault.{WriteFault}
 use Rattle.plist_write.specs.declared.sending.WriteFault.TheVariants as write
+use Rattle.plist_transfer.specs.Output.{IsOutputFault}
 use Rattle.plist_disk.specs.Files.{FileName, IsStored, IsUnloaded}
 use Rattle.plist_words.specs.Asked.{Asked, Filters, Converts, Compares, Lints, Checks}
 use Rattle.plist_files.specs.declared.forms.Form.{Form}
-use Rattle.plist_files.specs.declared.forms.Form.TheVariants.{Binary1, OpenStep}
-use Rattle.plist_program.specs.Answer.{IsCheckAnswer, IsLintAnswer, IsRefusedAnswer, IsSameAnswer, IsTextFault, IsTextRefusal, Said, Says, equality_said, pair_refusal, refusal}
+use Rattle.plist_program.specs.Answer.{IsCheckAnswer, IsLintAnswer, IsOutputRefusal, IsRefusedAnswer, IsSameAnswer, Said, Says, equality_said, pair_refusal, refusal}
 use Rattle.plist_program.specs.Ending.{Ends, HaveFailed, Prints, no_memory}
 use Rattle.plist_program.specs.Explaining.{said_of_kind, status_of_kind}
-use Rattle.plist_program.specs.Program.{DeviceFailed, IsAskedRun, IsConvertTo, IsRun}
-use Rattle.plist_program.specs.Runs.{EndsSending, IsAnswered, IsCheckRun, IsConvertRun, IsConvertTextRun, IsFileRun, IsFiltered, IsFilterRun, IsInputFault, IsLintRun, IsSameRun, IsStoreRun, IsUnread, IsWanting, said_of_store, standard}
+use Rattle.plist_program.specs.Program.{DeviceFailed, IsAskedRun, IsRun}
+use Rattle.plist_program.specs.Runs.{EndsSending, IsAnswered, IsCheckRun, IsConvertRun, IsFileRun, IsFiltered, IsFilterRun, IsInputFault, IsLintRun, IsSameRun, IsUnread, IsWanting, refusal_between, standard}
 use Rattle.plist_program.specs.State.{Ending, Input, State}
 use Rattle.plist_program.specs.Verdicts.{verdict_status_for}
 
@@ -158,12 +158,12 @@ same_quiet : (first second a b : List ℕ) (s : Said) → IsSameAnswer first sec
 same_quiet first second a b s (inl compared) = says_quiet s _ compared.says (equality_quiet compared.equal)
 same_quiet first second a b s (inr refused) = says_quiet s _ refused.says (pair_quiet first second a b refused.fault refused.refused)
 
-text_fault_quiet : (octets : List ℕ) (fault : Fault) → IsTextFault octets fault → status_for (code_of fault) ≢ 4
-text_fault_quiet octets fault (inl refused) = stands_quiet octets fault refused.stands
-text_fault_quiet octets fault (inr none) = rw none.is no_2
+output_quiet : (form : Form) (octets : List ℕ) (fault : Fault) → IsOutputFault form octets fault → status_for (code_of fault) ≢ 4
+output_quiet form octets fault (inl refused) = stands_quiet octets fault refused.stands
+output_quiet form octets fault (inr none) = rw none.is no_2
 
-text_refusal_quiet : (path octets : List ℕ) (s : Said) → IsTextRefusal path octets s → s.status ≢ 4
-text_refusal_quiet path octets s answer = says_quiet s _ answer.says (text_fault_quiet octets answer.fault answer.cause)
+output_refusal_quiet : (form : Form) (path octets : List ℕ) (s : Said) → IsOutputRefusal form path octets s → s.status ≢ 4
+output_refusal_quiet form path octets s answer = says_quiet s _ answer.says (output_quiet form octets answer.fault answer.cause)
 
 kind_quiet : (error : ErrorKind) → status_of_kind error ≢ 4
 kind_quiet kind.DisplayHelp = no_0
@@ -239,32 +239,19 @@ same_blamed first second before after status (inr (inr (inr wanting))) four = wa
 
 stored_by : (from to : FileName) (file : List ℕ) (before after : State) (status : ℕ) (result : Result ℕ WriteFault)
     → IsStored before.files after.files before.disk_failures after.disk_failures to file result
-    → Ending before after (said_of_store from to result) status → status ≡ 4 → Failed before after
-stored_by from to file before after status (Ok sent) stored ends four = ending_blamed before after (said_of_store from to (Ok sent)) status no_0 ends four
+    → EndsSending before.printed after.printed before.print_failures after.print_failures (λ fault. refusal_between from to (write_fault_for fault)) result status
+    → status ≡ 4 → Failed before after
+stored_by from to file before after status (Ok sent) stored ends four = absurd (no_0 (sym ends.0 ∙ four))
 stored_by from to file before after status (Err (write.WriteFailed sent)) stored ends four = inl (failed_once _ _ stored.front.1)
 stored_by from to file before after status (Err (write.OutOfMemory sent)) stored ends four = ending_blamed before after (refusal from (OutOfMemory sent)) status no_5 ends four
 
-store_blamed : (from to : FileName) (file : List ℕ) (before after : State) (status : ℕ) → IsStoreRun from to file before after status
+convert_blamed : (form : Form) (from to : FileName) (before after : State) (status : ℕ) → IsConvertRun form from to before after status
     → status ≡ 4 → Failed before after
-store_blamed from to file before after status run four = stored_by from to file before after status run.result run.stored run.ends four
-
-convert_file_blamed : (from to : FileName) (before after : State) (status : ℕ) → IsConvertRun from to before after status → status ≡ 4 → Failed before after
 unfolding IsConvertRun
-convert_file_blamed from to before after status (inl unread) four = unread_blamed from before after status unread four
-convert_file_blamed from to before after status (inr (inl refused)) four = answered_blamed (IsRefusedAnswer from) from before after status (refused_quiet from) refused four
-convert_file_blamed from to before after status (inr (inr run)) four = store_blamed from to run.file before after status run.stored four
-
-convert_text_blamed : (from to : FileName) (before after : State) (status : ℕ) → IsConvertTextRun from to before after status → status ≡ 4 → Failed before after
-unfolding IsConvertTextRun
-convert_text_blamed from to before after status (inl unread) four = unread_blamed from before after status unread four
-convert_text_blamed from to before after status (inr (inl refused)) four = answered_blamed (IsTextRefusal from) from before after status (text_refusal_quiet from) refused four
-convert_text_blamed from to before after status (inr (inr run)) four = store_blamed from to run.text before after status run.stored four
-
-convert_blamed : (form : Form) (from to : FileName) (before after : State) (status : ℕ) → IsConvertTo form from to before after status
-    → status ≡ 4 → Failed before after
-unfolding IsConvertTo
-convert_blamed Binary1 from to before after status run four = convert_file_blamed from to before after status run four
-convert_blamed OpenStep from to before after status run four = convert_text_blamed from to before after status run four
+convert_blamed form from to before after status (inl unread) four = unread_blamed from before after status unread four
+convert_blamed form from to before after status (inr (inl refused)) four = answered_blamed (IsOutputRefusal form from) from before after status (output_refusal_quiet form from) refused four
+convert_blamed form from to before after status (inr (inr run)) four =
+    stored_by from to run.file before after status run.stored.result run.stored.stored run.stored.ends four
 
 -- without words
 

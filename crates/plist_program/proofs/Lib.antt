@@ -1,4 +1,5 @@
 pub mod Blame
+pub mod Conversions
 pub mod Disks
 pub mod Runs
 pub mod Transfers

@@ -11,9 +11,8 @@ use Rattle.plist_program.specs.Answer.{IsSameAnswer, Said, said_of}
 use Rattle.plist_program.specs.Ending.{Prints, no_memory}
 use Rattle.plist_program.specs.Explaining.{said_of_kind}
 use Rattle.plist_program.specs.Program.{IsRefusedRun}
-use Rattle.plist_program.specs.Runs.{IsCompared, IsFileRun, IsStoreRun, IsWanting}
+use Rattle.plist_program.specs.Runs.{IsCompared, IsFileRun, IsWanting}
 use Rattle.plist_program.specs.State.{Ending, Input, State}
-use Rattle.plist_program.proofs.Disks.{stored_before}
 
 -- what printing an answer ensures
 abbrev pub Gives : State → State → Result Answer AllocError → ℕ → Type 0
@@ -55,17 +54,6 @@ files_compared first second before after status a b (Ok r) holds_a holds_b kept 
 })
 files_compared first second before after status a b (Err e) holds_a holds_b kept unfailed answers prints =
     inr (record { kept = kept; unfailed = unfailed; ends = prints })
-
--- what is stored after a load is stored from before it
-pub store_before : (from to : FileName) (file : List ℕ) (before middle after : State) (status : ℕ)
-    → SameFiles before.files middle.files → middle.disk_failures ≡ before.disk_failures → middle.printed ≡ before.printed
-    → middle.print_failures ≡ before.print_failures → IsStoreRun from to file middle after status
-    → IsStoreRun from to file before after status
-store_before from to file before middle after status same e printed failures run = record {
-  result = run.result;
-  stored = stored_before before.files middle.files after.files before.disk_failures middle.disk_failures after.disk_failures to file run.result same e run.stored;
-  ends = rw (← printed, ← failures) run.ends;
-}
 
 -- the words are refused
 pub refused_run : (words : List Text) (input : Input) (before after : State) (error : Error) (status : ℕ) → 2 ≤ length words

@@ -1,6 +1,5 @@
 -- What is answered for octets that were loaded: the line that is printed, and the status.
-use Rattle.std.specs.Prelude.{◌≡◌, ◌↔◌, ◌⊎◌, ◌++◌, ℕ, Bool, List, None, Some, codes, if◌then◌else◌, string_bytes}
-use Rattle.ostep_form.specs.Written.{text_of}
+use Rattle.std.specs.Prelude.{◌≡◌, ◌↔◌, ◌⊎◌, ◌++◌, ℕ, Bool, List, codes, if◌then◌else◌, string_bytes}
 use Rattle.plist_value.specs.Plist.{Plist}
 use Rattle.plist_object.specs.Layout.{IsLaid}
 use Rattle.plist_canon.specs.Checking.{IsCheckFault, IsVerdict}
@@ -15,9 +14,10 @@ use Rattle.plist_files.specs.Pair.{IsPair, IsRefusedPair}
 use Rattle.plist_files.specs.Refusals.{IsRefused}
 use Rattle.plist_files.specs.Status.{status_code}
 use Rattle.plist_files.specs.declared.faults.Fault.{Fault}
-use Rattle.plist_files.specs.declared.faults.Fault.TheVariants.{NotInOpenStep}
+use Rattle.plist_files.specs.declared.forms.Form.{Form}
 use Rattle.plist_files.specs.declared.pairs.PairFault.{PairFault}
 use Rattle.plist_files.specs.declared.pairs.PairFault.TheVariants.{First, Second}
+use Rattle.plist_transfer.specs.Output.{IsOutputFault}
 use Rattle.plist_program.specs.Verdicts.{verdict_status_for, verdict_text}
 use Rattle.plist_program.specs.declared.answers.Answer.{Answer}
 
@@ -80,27 +80,10 @@ pub record IsRefusedAnswer (path octets : List ℕ) (s : Said) : Type 0 where
   pub refused : IsRefused octets fault
   pub says : Says s (refusal path fault)
 
--- the text is the OpenStep text of the value that the octets spell
-pub record IsTextOf (octets text : List ℕ) : Type 0 where
-  pub value : Plist
-  pub accepted : IsAccepted octets value
-  pub written : text_of value ≡ Some text
-
--- the octets spell a value that has no OpenStep text
-pub record HasNoText (octets : List ℕ) (fault : Fault) : Type 0 where
-  pub value : Plist
-  pub accepted : IsAccepted octets value
-  pub none : text_of value ≡ None
-  pub is : fault ≡ NotInOpenStep
-
--- why octets have no OpenStep text: they are refused, or spell a value that has none
-abbrev pub IsTextFault : List ℕ → Fault → Type 0
-IsTextFault octets fault = IsRefused octets fault ⊎ HasNoText octets fault
-
--- the line of octets that have no OpenStep text
-pub record IsTextRefusal (path octets : List ℕ) (s : Said) : Type 0 where
+-- the line of octets for which nothing can be written in this form
+pub record IsOutputRefusal (form : Form) (path octets : List ℕ) (s : Said) : Type 0 where
   pub fault : Fault
-  pub cause : IsTextFault octets fault
+  pub cause : IsOutputFault form octets fault
   pub says : Says s (refusal path fault)
 
 -- the line of octets that spell a value

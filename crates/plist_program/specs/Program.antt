@@ -3,28 +3,21 @@ use Rattle.std.specs.Prelude.{◌≡◌, ◌⊎◌, ℕ, ◌<◌, ◌≤◌, Lis
 use Rattle.clap.specs.Words.{Kinds, Text}
 use Rattle.plist_words.specs.Asked.{Asked, Filters, Converts, Compares, Lints, Checks}
 use Rattle.plist_words.specs.Reading.{IsParse}
-use Rattle.plist_files.specs.declared.forms.Form.{Form}
-use Rattle.plist_files.specs.declared.forms.Form.TheVariants.{Binary1, OpenStep}
 use Rattle.plist_program.specs.Ending.{HaveFailed}
 use Rattle.plist_program.specs.Explaining.{IsExplained}
-use Rattle.plist_program.specs.Runs.{IsCheckRun, IsConvertRun, IsConvertTextRun, IsFilterRun, IsLintRun, IsSameRun}
+use Rattle.plist_program.specs.Runs.{IsCheckRun, IsConvertRun, IsFilterRun, IsLintRun, IsSameRun}
 use Rattle.plist_program.specs.State.{Input, State}
 
 -- no file and no failure of one changes
 abbrev pub KeepsDisk : State → State → Type 0
 KeepsDisk before after = (after.files ≡ before.files) × (after.disk_failures ≡ before.disk_failures)
 
--- `convert FORM IN OUT`
-unfoldable pub IsConvertTo : Form → Text → Text → State → State → ℕ → Type 0
-IsConvertTo Binary1 from to before after status = IsConvertRun from to before after status
-IsConvertTo OpenStep from to before after status = IsConvertTextRun from to before after status
-
 -- what was asked for is done
 unfoldable pub IsAskedRun : Asked → Input → Input → State → State → ℕ → Type 0
 IsAskedRun Filters input rest before after status =
     KeepsDisk before after × IsFilterRun input rest before after status
 IsAskedRun (Converts form from to) input rest before after status =
-    (rest ≡ input) × IsConvertTo form from to before after status
+    (rest ≡ input) × IsConvertRun form from to before after status
 IsAskedRun (Compares first second) input rest before after status =
     (rest ≡ input) × IsSameRun first second before after status
 IsAskedRun (Lints path) input rest before after status =

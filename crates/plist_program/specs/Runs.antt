@@ -1,5 +1,5 @@
 -- What each word of the program does, before and after.
-use Rattle.std.specs.Prelude.{◌≡◌, ◌⊎◌, ℕ, List, [], Option, Result, Ok, Err, IfSome, MatchResult, codes}
+use Rattle.std.specs.Prelude.{◌≡◌, ◌⊎◌, ℕ, List, Option, Result, IfSome, MatchResult, codes}
 use Rattle.plist_devices.specs.Count.{HasFailed}
 use Rattle.plist_files.specs.Accepted.{IsCanonicalOf}
 use Rattle.plist_files.specs.Fault.{write_fault_for}
@@ -7,11 +7,12 @@ use Rattle.plist_files.specs.Load.{IsLoadFault}
 use Rattle.plist_files.specs.Refusals.{IsRefused}
 use Rattle.plist_files.specs.declared.faults.Fault.{Fault}
 use Rattle.plist_files.specs.declared.faults.Fault.TheVariants as refusal_kind
+use Rattle.plist_files.specs.declared.forms.Form.{Form}
 use Rattle.plist_write.specs.Sending.{IsWritten}
 use Rattle.plist_write.specs.declared.sending.WriteFault.{WriteFault}
-use Rattle.plist_write.specs.declared.sending.WriteFault.TheVariants as write
+use Rattle.plist_transfer.specs.Output.{IsOutput}
 use Rattle.plist_disk.specs.Files.{FileName, Holds, IsStored, IsUnloaded, SameFiles}
-use Rattle.plist_program.specs.Answer.{IsCheckAnswer, IsLintAnswer, IsRefusedAnswer, IsSameAnswer, IsTextOf, IsTextRefusal, Said, refusal}
+use Rattle.plist_program.specs.Answer.{IsCheckAnswer, IsLintAnswer, IsOutputRefusal, IsSameAnswer, Said, refusal}
 use Rattle.plist_program.specs.Ending.{Ends}
 use Rattle.plist_program.specs.State.{Ending, Input, State, Wanting}
 
@@ -75,45 +76,41 @@ IsSameRun first second before after status =
     IsUnread first before after status ⊎ (IsSecondUnread first second before after status
     ⊎ (IsCompared first second before after status ⊎ IsWanting before after status))
 
--- what is said of a file that was sent so: nothing where it is whole; a failure under the path of OUT
-abbrev pub said_of_store : FileName → FileName → Result ℕ WriteFault → Said
-said_of_store from to (Ok sent) = record { text = []; status = 0 }
-said_of_store from to (Err (write.WriteFailed sent)) = refusal to (refusal_kind.WriteFailed sent)
-said_of_store from to (Err (write.OutOfMemory sent)) = refusal from (refusal_kind.OutOfMemory sent)
+-- how the program ends when so much of a file was sent: nothing more is printed behind the whole, else the line of the
+-- refusal
+abbrev pub EndsSending : Option (List ℕ) → Option (List ℕ) → ℕ → ℕ → (WriteFault → Said) → Result ℕ WriteFault → ℕ → Type 0
+EndsSending old new before after line result status = MatchResult result
+    (λ _. (status ≡ 0) × (new ≡ old) × (after ≡ before))
+    (λ fault. Ends old new before after (line fault) status)
+
+-- the path under which a refusal of a conversion is told: OUT where that cannot be written, and else IN
+abbrev pub path_of_fault : FileName → FileName → Fault → FileName
+path_of_fault from to (refusal_kind.WriteFailed sent) = to
+path_of_fault from to _ = from
+
+-- the line of a refusal of a conversion
+abbrev pub refusal_between : FileName → FileName → Fault → Said
+refusal_between from to fault = refusal (path_of_fault from to fault) fault
 
 -- The octets go to a path, as far as a refusal lets them. No other file changes.
 pub record IsStoreRun (from to : FileName) (file : List ℕ) (before after : State) (status : ℕ) : Type 0 where
   pub result : Result ℕ WriteFault
   pub stored : IsStored before.files after.files before.disk_failures after.disk_failures to file result
-  pub ends : Ending before after (said_of_store from to result) status
+  pub ends : EndsSending before.printed after.printed before.print_failures after.print_failures (λ fault. refusal_between from to (write_fault_for fault)) result status
 
--- The canonical file of what stands at one path goes to the other.
-pub record IsConverted (from to : FileName) (before after : State) (status : ℕ) : Type 0 where
+-- What is written for what stands at one path goes to the other.
+pub record IsConverted (form : Form) (from to : FileName) (before after : State) (status : ℕ) : Type 0 where
   pub octets : List ℕ
   pub stands : Holds before.files from octets
   pub file : List ℕ
-  pub canonical : IsCanonicalOf octets file
+  pub of : IsOutput form octets file
   pub stored : IsStoreRun from to file before after status
 
--- `convert binary1 IN OUT`
-unfoldable pub IsConvertRun : FileName → FileName → State → State → ℕ → Type 0
-IsConvertRun from to before after status =
-    IsUnread from before after status ⊎ (IsAnswered (IsRefusedAnswer from) from before after status
-    ⊎ IsConverted from to before after status)
-
--- The OpenStep text of what stands at one path goes to the other.
-pub record IsTextConverted (from to : FileName) (before after : State) (status : ℕ) : Type 0 where
-  pub octets : List ℕ
-  pub stands : Holds before.files from octets
-  pub text : List ℕ
-  pub is : IsTextOf octets text
-  pub stored : IsStoreRun from to text before after status
-
--- `convert openstep IN OUT`
-unfoldable pub IsConvertTextRun : FileName → FileName → State → State → ℕ → Type 0
-IsConvertTextRun from to before after status =
-    IsUnread from before after status ⊎ (IsAnswered (IsTextRefusal from) from before after status
-    ⊎ IsTextConverted from to before after status)
+-- `convert FORM IN OUT`
+unfoldable pub IsConvertRun : Form → FileName → FileName → State → State → ℕ → Type 0
+IsConvertRun form from to before after status =
+    IsUnread from before after status ⊎ (IsAnswered (IsOutputRefusal form from) from before after status
+    ⊎ IsConverted form from to before after status)
 
 -- the path that stands for standard input and standard output in a line
 abbrev pub standard : FileName
@@ -134,13 +131,6 @@ pub record IsUnfiltered (input rest : Input) (before after : State) (status : �
   pub fault : Fault
   pub cause : IsInputFault input rest fault
   pub ends : Ending before after (refusal standard fault) status
-
--- how the program ends when so much of a file was sent: nothing more is printed behind the whole, else the line of the
--- refusal
-abbrev pub EndsSending : Option (List ℕ) → Option (List ℕ) → ℕ → ℕ → (WriteFault → Said) → Result ℕ WriteFault → ℕ → Type 0
-EndsSending old new before after line result status = MatchResult result
-    (λ _. (status ≡ 0) × (new ≡ old) × (after ≡ before))
-    (λ fault. Ends old new before after (line fault) status)
 
 -- The canonical file of the input goes out, all of it or exactly a front, where printing failed or memory was wanting;
 -- and behind it, from what was printed and the failures of printing by then, the line of that.

@@ -1,11 +1,10 @@
 //! What is answered for octets that were loaded.
-ghost use Rattle.std.specs.Prelude.{◌≡◌, ◌++◌, IfErr, IfOk, codes, string_bytes};
-ghost use Rattle.plist_program.specs.Answer.{IsCheckAnswer, IsLintAnswer, IsSameAnswer, IsTextFault, IsTextOf, Says, accepted_said, equality_said, refusal, said_of};
+ghost use Rattle.std.specs.Prelude.{◌≡◌, ◌++◌, IfOk, codes, string_bytes};
+ghost use Rattle.plist_program.specs.Answer.{IsCheckAnswer, IsLintAnswer, IsSameAnswer, Says, accepted_said, equality_said, refusal, said_of};
 
 use crate::verdicts::{verdict_line, verdict_status};
-use ostep_write::{TextWriteFault, write_text};
 use plist_canon::check;
-use plist_files::{Fault, PairFault, Status, judge_any, line, read_any, same_files};
+use plist_files::{Fault, PairFault, Status, judge_any, line, same_files};
 use std::alloc::{AllocError, Global};
 
 /// A line that is printed, with its line end, and the status with which the program ends.
@@ -70,23 +69,6 @@ pub fn same_answer(
         Ok(equal) => equality(alloc, equal),
         Err(PairFault::First(fault)) => refused(alloc, first, &fault),
         Err(PairFault::Second(fault)) => refused(alloc, second, &fault),
-    }
-}
-
-/// The OpenStep text of the value that the octets spell.
-///
-/// # Errors
-///
-/// Those of [`read_any`]; `NotInOpenStep` (40) where the value has no text; want of memory (60).
-pub fn text_of_octets(alloc: Global, octets: &[u8]) -> Result<Vec<u8>, Fault>
-    ensures text { IfOk result (λ text. IsTextOf octets.now text.items) }
-    ensures refused { IfErr result (IsTextFault octets.now) }
-{
-    let value = read_any(alloc, octets)?;
-    match write_text(alloc, &value) {
-        Ok(text) => Ok(text),
-        Err(TextWriteFault::NotInOpenStep) => Err(Fault::NotInOpenStep),
-        Err(TextWriteFault::OutOfMemory) => Err(Fault::OutOfMemory { sent: 0 }),
     }
 }
 

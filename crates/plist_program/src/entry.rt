@@ -6,7 +6,7 @@ ghost use Rattle.plist_program.specs.State.{Input, input_of, state};
 
 use crate::filtering::filter;
 use crate::printing::explain;
-use crate::words::{check_file, compare_files, convert_to, lint_file};
+use crate::words::{check_file, compare_files, convert_file, lint_file};
 use plist_devices::{ReaderSource, Sink, Source, Stream};
 use plist_disk::{Disk, HostDisk};
 use plist_words::{Request, read_words};
@@ -117,7 +117,7 @@ fn obey<D: Disk, S: Source, W: Sink>(
 {
     match request {
         Request::Filter => filter(alloc, input, output),
-        Request::Convert { form, from, to } => convert_to(alloc, disk, form, from, to, output),
+        Request::Convert { form, from, to } => convert_file(alloc, disk, form, from, to, output),
         Request::Same { first, second } => compare_files(alloc, disk, first, second, output),
         Request::Lint { path } => lint_file(alloc, disk, path, output),
         Request::Check { path } => check_file(alloc, disk, path, output),

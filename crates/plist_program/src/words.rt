@@ -1,16 +1,13 @@
 //! What each word of the program does with the files that it names.
 ghost use Rattle.std.specs.Prelude.{◌≡◌};
-ghost use Rattle.plist_program.specs.Runs.{IsCheckRun, IsConvertRun, IsConvertTextRun, IsLintRun, IsSameRun, IsStoreRun};
-ghost use Rattle.plist_program.specs.Program.{IsConvertTo};
+ghost use Rattle.plist_program.specs.Runs.{IsCheckRun, IsConvertRun, IsLintRun, IsSameRun, path_of_fault};
 ghost use Rattle.plist_program.specs.State.{state};
 
-use crate::answers::{check_answer, lint_answer, same_answer, text_of_octets};
+use crate::answers::{check_answer, lint_answer, same_answer};
 use crate::printing::{give, report};
 use plist_devices::Sink;
-use plist_disk::{Content, Disk, Octets};
-use plist_files::{Fault, Status, canonicalise};
-use plist_words::Form;
-use plist_write::WriteFault;
+use plist_disk::Disk;
+use plist_files::{Fault, Form, Status};
 use std::alloc::Global;
 
 /// `check IN`.
@@ -84,8 +81,9 @@ pub(crate) fn compare_files<D: Disk, W: Sink>(
     }
 }
 
-/// `convert FORM IN OUT`.
-pub(crate) fn convert_to<D: Disk, W: Sink>(
+/// `convert FORM IN OUT`: OUT is created or emptied when the first octet goes to it, and so not where IN is
+/// refused.
+pub(crate) fn convert_file<D: Disk, W: Sink>(
     alloc: Global,
     disk: &mut D,
     form: Form,
@@ -93,29 +91,7 @@ pub(crate) fn convert_to<D: Disk, W: Sink>(
     to: &str,
     output: &mut W,
 ) -> u8
-    ensures run { IsConvertTo form from.now to.now
-        (state (D.files disk.old) (D.failures disk.old)
-        (W.taken output.old) (W.failures output.old))
-        (state (D.files disk.new) (D.failures disk.new)
-        (W.taken output.new) (W.failures output.new))
-        result }
-    ensures same { W.device output.new ≡ W.device output.old }
-{
-    match form {
-        Form::Binary1 => convert_file(alloc, disk, from, to, output),
-        Form::OpenStep => convert_text(alloc, disk, from, to, output),
-    }
-}
-
-/// `convert binary1 IN OUT`: makes all of the canonical file, and only then creates or empties OUT.
-fn convert_file<D: Disk, W: Sink>(
-    alloc: Global,
-    disk: &mut D,
-    from: &str,
-    to: &str,
-    output: &mut W,
-) -> u8
-    ensures run { IsConvertRun from.now to.now
+    ensures run { IsConvertRun form from.now to.now
         (state (D.files disk.old) (D.failures disk.old)
         (W.taken output.old) (W.failures output.old))
         (state (D.files disk.new) (D.failures disk.new)
@@ -127,62 +103,18 @@ fn convert_file<D: Disk, W: Sink>(
         Ok(octets) => octets,
         Err(fault) => return report(alloc, from, &fault, output),
     };
-    match canonicalise(alloc, octets.as_slice()) {
-        Ok(file) => store_file(alloc, disk, &Octets::new(file), from, to, output),
-        Err(fault) => report(alloc, from, &fault, output),
-    }
-}
-
-/// `convert openstep IN OUT`: makes all of the text, and only then creates or empties OUT.
-fn convert_text<D: Disk, W: Sink>(
-    alloc: Global,
-    disk: &mut D,
-    from: &str,
-    to: &str,
-    output: &mut W,
-) -> u8
-    ensures run { IsConvertTextRun from.now to.now
-        (state (D.files disk.old) (D.failures disk.old)
-        (W.taken output.old) (W.failures output.old))
-        (state (D.files disk.new) (D.failures disk.new)
-        (W.taken output.new) (W.failures output.new))
-        result }
-    ensures same { W.device output.new ≡ W.device output.old }
-{
-    let octets = match disk.load(alloc, from) {
-        Ok(octets) => octets,
-        Err(fault) => return report(alloc, from, &fault, output),
-    };
-    match text_of_octets(alloc, octets.as_slice()) {
-        Ok(text) => store_file(alloc, disk, &Octets::new(text), from, to, output),
-        Err(fault) => report(alloc, from, &fault, output),
-    }
-}
-
-/// The content, to the path.
-fn store_file<D: Disk, C: Content, W: Sink>(
-    alloc: Global,
-    disk: &mut D,
-    content: &C,
-    from: &str,
-    to: &str,
-    output: &mut W,
-) -> u8
-    ensures run { IsStoreRun from.now to.now (C.octets content.now)
-        (state (D.files disk.old) (D.failures disk.old)
-        (W.taken output.old) (W.failures output.old))
-        (state (D.files disk.new) (D.failures disk.new)
-        (W.taken output.new) (W.failures output.new))
-        result }
-    ensures same { W.device output.new ≡ W.device output.old }
-{
-    match disk.store(alloc, to, content) {
+    match disk.store(alloc, to, octets, form) {
         Ok(_) => Status::Done.code(),
-        Err(WriteFault::WriteFailed { sent }) => {
-            report(alloc, to, &Fault::WriteFailed { sent }, output)
-        }
-        Err(WriteFault::OutOfMemory { sent }) => {
-            report(alloc, from, &Fault::OutOfMemory { sent }, output)
-        }
+        Err(fault) => report(alloc, path_of(&fault, from, to), &fault, output),
+    }
+}
+
+/// The path under which a refusal of a conversion is told.
+fn path_of<'a>(fault: &Fault, from: &'a str, to: &'a str) -> &'a str
+    ensures { result.now ≡ path_of_fault from.now to.now fault.now }
+{
+    match fault {
+        Fault::WriteFailed { .. } => to,
+        _ => from,
     }
 }

@@ -8,7 +8,7 @@ returns-in-Filter-clause-run g c = rw c.in-Filter.is ((refl, refl), c.filter.ens
 
 pub returns-in-Convert-clause-run : goal.returns-in-Convert-clause-run
 unfolding IsAskedRun
-returns-in-Convert-clause-run g c = rw c.in-Convert.is (refl, c.convert_to.ensures.run)
+returns-in-Convert-clause-run g c = rw c.in-Convert.is (refl, c.convert_file.ensures.run)
 
 pub returns-in-Same-clause-run : goal.returns-in-Same-clause-run
 unfolding IsAskedRun

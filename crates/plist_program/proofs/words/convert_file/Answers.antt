@@ -1,10 +1,8 @@
-use Rattle.std.proofs.Common.{inl, inr, refl, rules}
-use Rattle.plist_files.specs.Accepted.{IsCanonicalOf}
-use Rattle.plist_files.specs.Refusals.{IsRefused}
-use Rattle.plist_program.specs.Answer.{refusal}
-use Rattle.plist_program.specs.Runs.{IsConvertRun, IsStoreRun}
+use Rattle.std.proofs.Common.{inl, refl}
+use Rattle.plist_program.specs.Ending.{Ends}
+use Rattle.plist_program.specs.Runs.{IsConvertRun, refusal_between}
 use Rattle.plist_program.specs.State.{state}
-use Rattle.plist_program.proofs.Runs.{store_before}
+use Rattle.plist_program.proofs.Conversions.{converted, unconverted}
 use Rattle.plist_program.proofs.words.convert_file.Goals as goal
 
 pub returns-in-Err-clause-run : goal.returns-in-Err-clause-run
@@ -16,34 +14,20 @@ returns-in-Err-clause-run g c = inl (record {
   ends = c.report.ensures.ends;
 })
 
-pub returns-in-Ok-canonicalise-clause-run : goal.returns-in-Ok-canonicalise-clause-run
-unfolding IsConvertRun
-returns-in-Ok-canonicalise-clause-run g c =
+pub returns-in-Ok-store-clause-run : goal.returns-in-Ok-store-clause-run
+returns-in-Ok-store-clause-run g c =
     let before = state (g.D.Disk.files c.args.disk.now) (g.D.Disk.failures c.args.disk.now) (g.W.Sink.taken c.args.output.now) (g.W.Sink.failures c.args.output.now) in
     let middle = state (g.D.Disk.files c.load.new.self) (g.D.Disk.failures c.load.new.self) (g.W.Sink.taken c.args.output.now) (g.W.Sink.failures c.args.output.now) in
-    let after = state (g.D.Disk.files c.store_file.new.disk) (g.D.Disk.failures c.store_file.new.disk) (g.W.Sink.taken c.store_file.new.output) (g.W.Sink.failures c.store_file.new.output) in
-    let file = c.in-Ok-canonicalise.file.items in
-    let stored : IsStoreRun c.args.from.now c.args.to.now file middle after c.store_file.result = rw c.new.ensures at c.store_file.ensures.run in
-    let canonical : IsCanonicalOf c.in-Ok.octets.items file = search rules in
-    inr (inr (record {
-      octets = c.in-Ok.octets.items;
-      stands = c.in-Ok.ensures.found;
-      file = file;
-      canonical = canonical;
-      stored = store_before c.args.from.now c.args.to.now file before middle after c.store_file.result
-          c.in-Ok.ensures.kept c.in-Ok.ensures.unfailed refl refl stored;
-    }))
+    let after = state (g.D.Disk.files c.store.new.self) (g.D.Disk.failures c.store.new.self) (g.W.Sink.taken c.args.output.now) (g.W.Sink.failures c.args.output.now) in
+    rw c.code.ensures.code (converted c.args.form c.in-Ok.octets.items c.args.from.now c.args.to.now before middle after c.in-Ok-store.field-0
+    c.in-Ok.ensures.found c.in-Ok.ensures.kept c.in-Ok.ensures.unfailed refl refl c.in-Ok-store.ensures)
 
-pub returns-clause-run : goal.returns-clause-run
-unfolding IsConvertRun
-returns-clause-run g c =
-    let refused : IsRefused c.in-Ok.octets.items c.in-Err-canonicalise.fault = search rules in
-    inr (inl (record {
-      octets = c.in-Ok.octets.items;
-      stands = c.in-Ok.ensures.found;
-      said = refusal c.args.from.now c.in-Err-canonicalise.fault;
-      answers = record { fault = c.in-Err-canonicalise.fault; refused = refused; says = (refl, refl) };
-      kept = c.in-Ok.ensures.kept;
-      unfailed = c.in-Ok.ensures.unfailed;
-      ends = c.report-in-Err-canonicalise.ensures.ends;
-    }))
+pub returns-in-Err-store-clause-run : goal.returns-in-Err-store-clause-run
+returns-in-Err-store-clause-run g c =
+    let before = state (g.D.Disk.files c.args.disk.now) (g.D.Disk.failures c.args.disk.now) (g.W.Sink.taken c.args.output.now) (g.W.Sink.failures c.args.output.now) in
+    let middle = state (g.D.Disk.files c.load.new.self) (g.D.Disk.failures c.load.new.self) (g.W.Sink.taken c.args.output.now) (g.W.Sink.failures c.args.output.now) in
+    let after = state (g.D.Disk.files c.store.new.self) (g.D.Disk.failures c.store.new.self) (g.W.Sink.taken c.report-in-Err-store.new.output) (g.W.Sink.failures c.report-in-Err-store.new.output) in
+    let ends : Ends before.printed after.printed before.print_failures after.print_failures (refusal_between c.args.from.now c.args.to.now c.in-Err-store.fault) c.report-in-Err-store.result =
+    rw c.path_of.ensures at c.report-in-Err-store.ensures.ends in
+    unconverted c.args.form c.in-Ok.octets.items c.args.from.now c.args.to.now before middle after c.report-in-Err-store.result c.in-Err-store.fault
+    c.in-Ok.ensures.found c.in-Ok.ensures.kept c.in-Ok.ensures.unfailed c.in-Err-store.ensures ends
