@@ -4,6 +4,7 @@
 # libplistconv.a and libplistconv.so as they were built here; scripts/new-user.sh --build builds them in the checkout
 # by `make` and `make lib` (long). `make test` is left out. What needs a Debian package that is missing is skipped.
 set -euo pipefail
+unset MAKEFLAGS MFLAGS # (a `make` that started this has its own jobs)
 top=$(cd "$(dirname "$0")/.." && pwd)
 work=$(mktemp -d)
 trap 'rm -rf "$work"' EXIT
