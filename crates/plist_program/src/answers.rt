@@ -1,6 +1,7 @@
 //! What is answered for octets that were loaded.
 ghost use Rattle.std.specs.Prelude.{◌≡◌, ◌++◌, IfOk, codes, string_bytes};
-ghost use Rattle.plist_program.specs.Answer.{IsCheckAnswer, IsLintAnswer, IsSameAnswer, Says, accepted_said, equality_said, refusal, said_of};
+ghost use Rattle.plist_program.specs.Answer.{IsCheckAnswer, IsLintAnswer, IsSameAnswer, Says};
+ghost use Rattle.plist_program.specs.Answer.{accepted_said, equality_said, refusal, said_of};
 
 use crate::verdicts::{verdict_line, verdict_status};
 use plist_canon::check;
