@@ -77,13 +77,6 @@ unstored form octets files rest before after path fault result is cause kept cou
   unfailed = unsent_count form octets fault before after cause (rw is at counts);
 })
 
--- no memory was left, and nothing is stored
-pub wanting : (form : Form) (octets : List ℕ) (files rest : Option Files) (before after : ℕ) (path : FileName) → SameFiles files rest
-    → after ≡ before → Stores form octets files rest before after path (Err (OutOfMemory 0))
-wanting form octets files rest before after path kept same =
-    unstored form octets files rest before after path (OutOfMemory 0) (Err (OutOfMemory 0)) refl
-    (inl (record { stands = refl; none = λ n. absurd (n refl) })) kept same
-
 -- what an empty sink took stands at the path
 pub stored_taken : (form : Form) (octets : List ℕ) (old new : Files) (before after failures : ℕ) (path : FileName) (taken : List ℕ)
     (result : Result ℕ Fault) → Writes form octets (Some []) (Some taken) 0 failures result → (true ≡ is_ok result) ⊎ (taken ≢ [])
