@@ -109,7 +109,7 @@ mutual
         payload_covered = omega (arith, payload_next f i below (holds_table keys values) holds.reads, rows_reach (λ i. payload_read (what_holds f i)) f below keys values rows long moved, pairs.payload_covered);
       }
 
-  covers_items : (f : List ℕ) (levels : ℕ) (refs : List ℕ) (vs : Items) → SpellItems f refs vs → depth_of_items vs ≤ levels → CoversAll f levels refs (nodes_of_items vs) (payload_of_items vs)
+  pub covers_items : (f : List ℕ) (levels : ℕ) (refs : List ℕ) (vs : Items) → SpellItems f refs vs → depth_of_items vs ≤ levels → CoversAll f levels refs (nodes_of_items vs) (payload_of_items vs)
   covers_items f levels refs no_items spell deep = record { nodes_covered = omega arith; payload_covered = omega arith }
   covers_items f levels [] (item v vs) spell deep = absurd spell
   covers_items f levels (i ∷ refs) (item v vs) spell deep =

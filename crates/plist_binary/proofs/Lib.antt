@@ -20,5 +20,6 @@ pub mod WorkedShared
 pub mod Marking
 pub mod Covering
 pub mod PassSteps
+pub mod Recalling
 pub mod BuildSteps
 pub mod Ranking

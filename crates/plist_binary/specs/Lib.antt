@@ -11,4 +11,5 @@ pub mod Keys
 pub mod Readings
 pub mod Memos
 pub mod Passing
+pub mod Recalls
 pub mod Building

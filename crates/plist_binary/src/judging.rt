@@ -12,9 +12,11 @@ ghost use Rattle.plist_binary.specs.Faults.{Stands};
 ghost use Rattle.plist_binary.specs.Memos.{AreStates};
 ghost use Rattle.plist_binary.specs.Passing.{Passes, PassesItems, PassesPairs, PassesTop};
 ghost use Rattle.plist_binary.specs.Passing.{IsWithinLimits, limits};
-ghost use Rattle.plist_binary.specs.Paths.{AllRefer, Leads, containers_of};
+ghost use Rattle.plist_binary.specs.Paths.{AllRefer, HasKeys, Leads, containers_of};
 ghost use Rattle.plist_binary.specs.Readings.{Refuses, RefusesItems, RefusesPairs};
+ghost use Rattle.plist_binary.specs.Recalls.{IsKnown, ReadsApart, RefusesTable};
 
+use crate::last_keys::{LastKeys, recall_keys};
 use crate::memos::{Memo, State, mark, state_at};
 use crate::path::Path;
 use crate::visiting::take_payload;
@@ -114,7 +116,9 @@ impl<'a, 'r> Walker<'a, 'r> {
             (trailer_of (octets_of self.now.file)).top MAX_DEPTH left.old) }
     {
         let mut states = Vec::new(self.alloc);
-        self.pass(&mut states, &Path::Above, self.file.top(), MAX_DEPTH, left)
+        let mut last = None;
+        let top = self.file.top();
+        self.pass(&mut states, &mut last, &Path::Above, top, MAX_DEPTH, left)
     }
 
     // The depth of the value that the object spells, to which the path leads, of at most so many levels.
@@ -122,6 +126,7 @@ impl<'a, 'r> Walker<'a, 'r> {
     fn pass(
         &self,
         states: &mut Vec<State>,
+        last: &mut Option<LastKeys<'a>>,
         path: &Path,
         object: u64,
         levels: u64,
@@ -134,17 +139,19 @@ impl<'a, 'r> Walker<'a, 'r> {
             states.old.items }
         requires limits { IsWithinLimits left.old }
         requires ranked { AreRanks (octets_of self.now.file) self.now.ranks.now }
+        requires last { IsKnown (octets_of self.now.file) last.old }
         ensures passed { IfOk result (λ deep. Passes (octets_of self.now.file) object levels
             left.old deep left.new) }
         ensures refused { IfErr result (Refuses (octets_of self.now.file) object levels left.old) }
         ensures kept { OnOk result (AreStates (octets_of self.now.file) (containers_of path.now)
             states.new.items) }
+        ensures last { OnOk result (IsKnown (octets_of self.now.file) last.new) }
     {
         if let Some((deep, rest)) = self.recall(&*states, path, object, levels, *left) {
             *left = rest;
             return Ok(deep);
         }
-        self.walk(states, path, object, levels, left)
+        self.walk(states, last, path, object, levels, left)
     }
 
     // The same of an object that is not known to fit: what its value takes is kept.
@@ -152,6 +159,7 @@ impl<'a, 'r> Walker<'a, 'r> {
     fn walk(
         &self,
         states: &mut Vec<State>,
+        last: &mut Option<LastKeys<'a>>,
         path: &Path,
         object: u64,
         levels: u64,
@@ -164,14 +172,16 @@ impl<'a, 'r> Walker<'a, 'r> {
             states.old.items }
         requires limits { IsWithinLimits left.old }
         requires ranked { AreRanks (octets_of self.now.file) self.now.ranks.now }
+        requires last { IsKnown (octets_of self.now.file) last.old }
         ensures passed { IfOk result (λ deep. Passes (octets_of self.now.file) object levels
             left.old deep left.new) }
         ensures refused { IfErr result (Refuses (octets_of self.now.file) object levels left.old) }
         ensures kept { OnOk result (AreStates (octets_of self.now.file) (containers_of path.now)
             states.new.items) }
+        ensures last { OnOk result (IsKnown (octets_of self.now.file) last.new) }
     {
         let before = *left;
-        let deep = self.content(states, path, object, levels, left)?;
+        let deep = self.content(states, last, path, object, levels, left)?;
         let memo = Memo::of(before, *left, deep);
         mark(states, self.file.count(), object, State::Passed(memo))?;
         Ok(deep)
@@ -182,6 +192,7 @@ impl<'a, 'r> Walker<'a, 'r> {
     fn content(
         &self,
         states: &mut Vec<State>,
+        last: &mut Option<LastKeys<'a>>,
         path: &Path,
         object: u64,
         levels: u64,
@@ -194,11 +205,13 @@ impl<'a, 'r> Walker<'a, 'r> {
             states.old.items }
         requires limits { IsWithinLimits left.old }
         requires ranked { AreRanks (octets_of self.now.file) self.now.ranks.now }
+        requires last { IsKnown (octets_of self.now.file) last.old }
         ensures passed { IfOk result (λ deep. Passes (octets_of self.now.file) object levels
             left.old deep left.new) }
         ensures refused { IfErr result (Refuses (octets_of self.now.file) object levels left.old) }
         ensures kept { OnOk result (AreStates (octets_of self.now.file)
             (object ∷ containers_of path.now) states.new.items) }
+        ensures last { OnOk result (IsKnown (octets_of self.now.file) last.new) }
     {
         match self.enter(&*states, path, object, levels, left)? {
             Object::Scalar(scalar) => {
@@ -207,12 +220,12 @@ impl<'a, 'r> Walker<'a, 'r> {
             }
             Object::List(items) => {
                 mark(states, self.file.count(), object, State::Open)?;
-                let deep = self.items(states, object, path, items, levels - 1, left)?;
+                let deep = self.items(states, last, object, path, items, levels - 1, left)?;
                 Ok(1 + deep)
             }
             Object::Table(keys, values) => {
                 mark(states, self.file.count(), object, State::Open)?;
-                let deep = self.pairs(states, object, path, keys, values, levels - 1, left)?;
+                let deep = self.pairs(states, last, object, path, keys, values, levels - 1, left)?;
                 Ok(1 + deep)
             }
         }
@@ -223,6 +236,7 @@ impl<'a, 'r> Walker<'a, 'r> {
     fn items(
         &self,
         states: &mut Vec<State>,
+        last: &mut Option<LastKeys<'a>>,
         container: u64,
         before: &Path,
         refs: Refs,
@@ -236,18 +250,20 @@ impl<'a, 'r> Walker<'a, 'r> {
             states.old.items }
         requires limits { IsWithinLimits left.old }
         requires ranked { AreRanks (octets_of self.now.file) self.now.ranks.now }
+        requires last { IsKnown (octets_of self.now.file) last.old }
         ensures passed { IfOk result (λ deep. PassesItems (octets_of self.now.file)
             (numbers_of refs.entry) levels left.old deep left.new) }
         ensures refused { IfErr result (RefusesItems (octets_of self.now.file)
             (numbers_of refs.entry) levels left.old) }
         ensures kept { OnOk result (AreStates (octets_of self.now.file)
             (container ∷ containers_of before.now) states.new.items) }
+        ensures last { OnOk result (IsKnown (octets_of self.now.file) last.new) }
     {
         let path = Path::In(container, &*before);
         let mut deepest = 0;
         for i in 0..refs.len() {
             let object = self.referred(container, refs.get(i))?;
-            let deep = self.pass(&mut *states, &path, object, levels, &mut *left)?;
+            let deep = self.pass(&mut *states, &mut *last, &path, object, levels, &mut *left)?;
             deepest = deeper(deepest, deep);
         }
         Ok(deepest)
@@ -259,9 +275,10 @@ impl<'a, 'r> Walker<'a, 'r> {
     fn pairs(
         &self,
         states: &mut Vec<State>,
+        last: &mut Option<LastKeys<'a>>,
         table: u64,
         before: &Path,
-        keys: Refs,
+        keys: Refs<'a>,
         values: Refs,
         levels: u64,
         left: &mut Budget,
@@ -274,19 +291,57 @@ impl<'a, 'r> Walker<'a, 'r> {
             states.old.items }
         requires limits { IsWithinLimits left.old }
         requires ranked { AreRanks (octets_of self.now.file) self.now.ranks.now }
+        requires last { IsKnown (octets_of self.now.file) last.old }
         ensures passed { IfOk result (λ deep. PassesPairs (octets_of self.now.file)
             (numbers_of keys.entry) (numbers_of values.entry) levels left.old deep left.new) }
         ensures refused { IfErr result (RefusesPairs (octets_of self.now.file)
             (numbers_of keys.entry) (numbers_of values.entry) levels left.old) }
         ensures kept { OnOk result (AreStates (octets_of self.now.file)
             (table ∷ containers_of before.now) states.new.items) }
+        ensures last { OnOk result (IsKnown (octets_of self.now.file) last.new) }
     {
-        let mut keys = self.keys(&*states, table, before, keys, levels, left)?;
+        self.keys_apart(&*states, last, table, before, keys, levels, left)?;
+        self.items(states, last, table, before, values, levels, left)
+    }
+
+    // Reads the keys of the table, of which no two are equal. Those of the last table are not read again.
+    fn keys_apart(
+        &self,
+        states: &Vec<State>,
+        last: &mut Option<LastKeys<'a>>,
+        table: u64,
+        before: &Path,
+        refs: Refs<'a>,
+        levels: u64,
+        left: &mut Budget,
+    ) -> Result<(), BinaryFault>
+        requires leads { Leads (octets_of self.now.file) (containers_of before.now) table }
+        requires keys { HasKeys (octets_of self.now.file) table (numbers_of refs) }
+        requires depth { length (containers_of before.now) + 1 + levels ≡ MAX_DEPTH }
+        requires states { AreStates (octets_of self.now.file) (table ∷ containers_of before.now)
+            states.now.items }
+        requires ranked { AreRanks (octets_of self.now.file) self.now.ranks.now }
+        requires last { IsKnown (octets_of self.now.file) last.old }
+        ensures read { OnOk result (ReadsApart (octets_of self.now.file) (numbers_of refs.entry)
+            levels left.old left.new) }
+        ensures refused { IfErr result (RefusesTable (octets_of self.now.file) table
+            (numbers_of refs.entry) levels left.old) }
+        ensures last { OnOk result (IsKnown (octets_of self.now.file) last.new) }
+    {
+        if let Some(rest) = recall_keys(&*last, &refs, levels, *left) {
+            *left = rest;
+            return Ok(());
+        }
+        let payload = left.payload;
+        let mut keys = self.keys(states, table, before, refs, levels, left)?;
         if !tables::sort(keys.as_mut_slice()) {
             return Err(BinaryFault::DuplicateKey { object: table });
         }
-        drop(keys);
-        self.items(states, table, before, values, levels, left)
+        *last = Some(LastKeys {
+            refs,
+            payload: payload - left.payload,
+        });
+        Ok(())
     }
 
     // The depth of an object that was passed before, and what is left after it, where it fits.

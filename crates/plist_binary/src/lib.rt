@@ -4,6 +4,7 @@
 mod building;
 pub mod fault;
 mod judging;
+mod last_keys;
 mod memos;
 mod path;
 mod reader;

@@ -1,5 +1,6 @@
 //! The references of a container.
-ghost use Rattle.std.specs.Prelude.{◌≡◌, ◌+◌, ◌*◌, ◌<◌, ◌≤◌, ◌==◌, length, slice_index, drop};
+ghost use Rattle.std.specs.Prelude.{◌≡◌, ◌+◌, ◌*◌, ◌<◌, ◌≤◌, ◌==◌, ◌↔◌};
+ghost use Rattle.std.specs.Prelude.{IsTrue, length, slice_index, drop};
 ghost use Rattle.byteorder.specs.Endian.{big_number};
 
 use byteorder::{BigEndian, ByteOrder};
@@ -45,6 +46,21 @@ impl<'a> Refs<'a> {
         ensures { result ≡ (length (numbers_of self.now) == 0) }
     {
         self.len() == 0
+    }
+
+    /// Whether they are the same numbers in the same order.
+    pub fn is_same(&self, other: &Refs) -> bool
+        ensures { IsTrue result ↔ (numbers_of self.now ≡ numbers_of other.now) }
+    {
+        if self.len() != other.len() {
+            return false;
+        }
+        for i in 0..self.len() {
+            if self.get(i) != other.get(i) {
+                return false;
+            }
+        }
+        true
     }
 
     /// The reference at the place `i`, which is below `len`.

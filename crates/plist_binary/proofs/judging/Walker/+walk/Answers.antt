@@ -1,7 +1,6 @@
 use Rattle.std.proofs.Common.{◌≡◌, ◌≤◌, ◌+◌, ◌-◌, ℕ, List, Ok, map, take, rules, subst, sym, ◌∙◌, arith}
 use Rattle.std.specs.Prelude.{Result, Err}
 use Rattle.std.specs.Result.{IfOk, IfErr}
-use Rattle.std.specs.List.{IsDistinct}
 use Rattle.std.specs.List.Sorted.{IsPermutation}
 use Rattle.std.proofs.lemmas.List.Sorted.{IsPermutation-map}
 use Rattle.plist_value.specs.declared.budget.Budget.{Budget}
@@ -14,18 +13,17 @@ use Rattle.plist_object.specs.Places.{what_holds}
 use Rattle.plist_object.specs.Views.{octets_of, numbers_of}
 use Rattle.plist_binary.specs.declared.fault.BinaryFault.TheVariants.{BadReference, TooMuchPayload}
 use Rattle.plist_binary.specs.declared.tables.Key.{Key}
-use Rattle.plist_binary.specs.Keys.{units_at, AreRanked}
+use Rattle.plist_binary.specs.Keys.{units_at}
 use Rattle.plist_binary.specs.Passing.{PassesItems, PassesPairs, IsWithinLimits}
 use Rattle.plist_binary.specs.Paths.{containers_of}
 use Rattle.plist_binary.specs.Readings.{Refuses, RefusesItems, RefusesPairs}
-use Rattle.plist_binary.proofs.Inserting.{same_key}
 use Rattle.plist_binary.proofs.KeySteps.{AllRefer-values, AllRefer-items}
 use Rattle.plist_binary.proofs.LoopSteps.{Contains-at, RefusesItems-next, RefusesItems-none}
 use Rattle.plist_binary.proofs.Making.{Refuses-payload, Refuses-list, Refuses-table}
 use Rattle.plist_binary.proofs.Marking.{AreStates-open, AreStates-passed, AreStates-wider}
 use Rattle.plist_binary.proofs.Paired.{length-values}
 use Rattle.plist_binary.proofs.PassSteps.{IsMemo-passed, Passes-scalar, Passes-list, Passes-table, PassesItems-next, PassesPairs-sorted}
-use Rattle.plist_binary.proofs.TableSteps.{RefusesPairs-keys, RefusesPairs-values, RefusesPairs-twice}
+use Rattle.plist_binary.proofs.TableSteps.{RefusesPairs-values}
 use Rattle.plist_binary.proofs.judging.Walker.+walk.Goals as goal
 
 one_less : (levels : ℕ) → 1 ≤ levels → 1 + (levels - 1) ≡ levels
@@ -77,7 +75,7 @@ content-items-requires t c =
     let refs = numbers_of c.in-List.items in
     let reads : what_holds f c.args.object ≡ Ok (holds_list refs) = rw c.in-List.is at c.in_ok-scalar.ensures.held in
     let some = c.in_ok-scalar.ensures.deep in
-    (search rules, (c.requires.leads, (AllRefer-items f c.args.object refs record { listed = c.requires.listed; reads = reads }, (omega arith, (AreStates-open f (containers_of c.args.path.now) c.args.states.now.items c.mark.new.states.items c.args.object c.in_ok-mark-in-List.ensures c.requires.states, (within_after c.args.left.now c.enter.new.left 1 0 c.requires.limits c.in_ok-scalar.ensures.spent, c.requires.ranked))))))
+    (search rules, (c.requires.leads, (AllRefer-items f c.args.object refs record { listed = c.requires.listed; reads = reads }, (omega arith, (AreStates-open f (containers_of c.args.path.now) c.args.states.now.items c.mark.new.states.items c.args.object c.in_ok-mark-in-List.ensures c.requires.states, (within_after c.args.left.now c.enter.new.left 1 0 c.requires.limits c.in_ok-scalar.ensures.spent, (c.requires.ranked, c.requires.last)))))))
 
 pub content-returns-in_err-deep-in-List-clause-refused : goal.content-returns-in_err-deep-in-List-clause-refused
 content-returns-in_err-deep-in-List-clause-refused t c =
@@ -101,7 +99,7 @@ content-pairs-requires t c =
     let values = numbers_of c.in-Table.values in
     let reads : what_holds f c.args.object ≡ Ok (holds_table keys values) = rw c.in-Table.is at c.in_ok-scalar.ensures.held in
     let some = c.in_ok-scalar.ensures.deep in
-    (search rules, (c.requires.leads, (record { listed = c.requires.listed; reads = reads }, (omega arith, (AreStates-open f (containers_of c.args.path.now) c.args.states.now.items c.mark-in-Table.new.states.items c.args.object c.in_ok-mark-in-Table.ensures c.requires.states, (within_after c.args.left.now c.enter.new.left 1 0 c.requires.limits c.in_ok-scalar.ensures.spent, c.requires.ranked))))))
+    (search rules, (c.requires.leads, (record { listed = c.requires.listed; reads = reads }, (omega arith, (AreStates-open f (containers_of c.args.path.now) c.args.states.now.items c.mark-in-Table.new.states.items c.args.object c.in_ok-mark-in-Table.ensures c.requires.states, (within_after c.args.left.now c.enter.new.left 1 0 c.requires.limits c.in_ok-scalar.ensures.spent, (c.requires.ranked, c.requires.last)))))))
 
 pub content-returns-in_err-deep-in-Table-clause-refused : goal.content-returns-in_err-deep-in-Table-clause-refused
 content-returns-in_err-deep-in-Table-clause-refused t c =
@@ -131,7 +129,7 @@ pub items-pass-requires : goal.items-pass-requires
 items-pass-requires t c =
     let refs = numbers_of c.args.refs in
     let refers = c.requires.refer c.in_ok-object.object (Contains-at refs c.loop-i.i c.in_ok-object.object (omega arith) (c.in_ok-object.ensures.same ∙ c.get.ensures)) in
-    (search rules, (c.in_ok-object.ensures.below, ((refers, c.requires.leads), (omega arith, (c.loop-i.invariant.states, (c.loop-i.invariant.within, c.requires.ranked))))))
+    (search rules, (c.in_ok-object.ensures.below, ((refers, c.requires.leads), (omega arith, (c.loop-i.invariant.states, (c.loop-i.invariant.within, (c.requires.ranked, c.loop-i.invariant.last)))))))
 
 pub items-returns-in_err-deep-clause-refused : goal.items-returns-in_err-deep-clause-refused
 items-returns-in_err-deep-clause-refused t c =
@@ -149,37 +147,20 @@ items-loop-i-preserved t c =
       passed = subst (λ (deepest : ℕ). PassesItems f (take (c.loop-i.i + 1) refs) c.args.levels c.args.left.now deepest c.pass.new.left) (sym c.deeper-deepest.ensures) passed;
       states = c.in_ok-deep.ensures.kept;
       within = within_after c.loop-i.left c.pass.new.left _ _ c.loop-i.invariant.within c.in_ok-deep.ensures.passed.reads.spent;
+      last = c.in_ok-deep.ensures.last;
     }
-
-pub pairs-sort-requires : goal.pairs-sort-requires
-pairs-sort-requires t c = subst AreRanked (sym c.as_mut_slice.ensures.value) c.in_ok-keys.ensures.ranked
 
 pub pairs-items-requires : goal.pairs-items-requires
 pairs-items-requires t c =
     let f = octets_of c.args.self.now.file in
-    (search rules, (c.requires.leads, (AllRefer-values f c.args.table (numbers_of c.args.keys) (numbers_of c.args.values) c.requires.holds, (c.requires.depth, (c.requires.states, (within_after c.args.left.now c.keys.new.left _ _ c.requires.limits c.in_ok-keys.ensures.read.spent, c.requires.ranked))))))
+    let spent = c.in_ok-keys_apart.ensures.read.reads.spent in
+    (search rules, (c.requires.leads, (AllRefer-values f c.args.table (numbers_of c.args.keys) (numbers_of c.args.values) c.requires.holds, (c.requires.depth, (c.requires.states, (within_after c.args.left.now c.keys_apart.new.left _ _ c.requires.limits spent, (c.requires.ranked, c.in_ok-keys_apart.ensures.last)))))))
 
-pub pairs-returns-in_err-keys-clause-refused : goal.pairs-returns-in_err-keys-clause-refused
-pairs-returns-in_err-keys-clause-refused t c =
-    let f = octets_of c.args.self.now.file in
-    let keys = numbers_of c.args.keys in
+pub pairs-returns-in_err-keys_apart-clause-refused : goal.pairs-returns-in_err-keys_apart-clause-refused
+pairs-returns-in_err-keys_apart-clause-refused t c =
     let values = numbers_of c.args.values in
-    let long = length-values f c.args.table keys values c.requires.holds in
-    let refused : RefusesPairs f keys values c.args.levels c.args.left.now c.in_err-keys.field-0.0 = RefusesPairs-keys f keys values c.args.levels c.args.left.now c.in_err-keys.field-0.0 long c.in_err-keys.ensures.refused in
+    let refused = c.in_err-keys_apart.ensures.refused.each values c.requires.holds in
     search rules
-
-pub pairs-returns-then-not-sort-clause-refused : goal.pairs-returns-then-not-sort-clause-refused
-pairs-returns-then-not-sort-clause-refused t c =
-    let f = octets_of c.args.self.now.file in
-    let keys = numbers_of c.args.keys in
-    let values = numbers_of c.args.values in
-    let long = length-values f c.args.table keys values c.requires.holds in
-    let us = map units_at c.in_ok-keys.keys.items in
-    let not_distinct : IsDistinct same_key us → ⊥ = λ distinct.
-    let told = c.sort.ensures.distinct.1 (subst (λ (xs : List Key). IsDistinct same_key (map units_at xs)) (sym c.as_mut_slice.ensures.value) distinct) in
-    let said = c.if-not-sort.true in
-    cc in
-    RefusesPairs-twice f (containers_of c.args.before.now) keys values c.args.table c.args.levels c.args.left.now c.keys.new.left us c.args.self.now.laid c.requires.leads c.requires.holds long c.in_ok-keys.ensures.read not_distinct
 
 pub pairs-returns-clause-refused : goal.pairs-returns-clause-refused
 pairs-returns-clause-refused t c =
@@ -187,9 +168,9 @@ pairs-returns-clause-refused t c =
     let keys = numbers_of c.args.keys in
     let values = numbers_of c.args.values in
     let long = length-values f c.args.table keys values c.requires.holds in
-    let us = map units_at c.in_ok-keys.keys.items in
-    IfErr_then c.items.result (RefusesItems f values c.args.levels c.keys.new.left) (RefusesPairs f keys values c.args.levels c.args.left.now)
-    (λ fault refused. RefusesPairs-values f keys values c.args.levels c.args.left.now c.keys.new.left us fault long c.in_ok-keys.ensures.read refused)
+    let read = c.in_ok-keys_apart.ensures.read in
+    IfErr_then c.items.result (RefusesItems f values c.args.levels c.keys_apart.new.left) (RefusesPairs f keys values c.args.levels c.args.left.now)
+    (λ fault refused. RefusesPairs-values f keys values c.args.levels c.args.left.now c.keys_apart.new.left read.keys fault long read.reads refused)
     c.items.ensures.refused
 
 pub pairs-returns-clause-passed : goal.pairs-returns-clause-passed
@@ -198,9 +179,9 @@ pairs-returns-clause-passed t c =
     let keys = numbers_of c.args.keys in
     let values = numbers_of c.args.values in
     let long = length-values f c.args.table keys values c.requires.holds in
-    let us = map units_at c.in_ok-keys.keys.items in
-    IfOk_then c.items.result (λ deep. PassesItems f values c.args.levels c.keys.new.left deep c.items.new.left) (λ deep. PassesPairs f keys values c.args.levels c.args.left.now deep c.items.new.left)
-    (λ deep passed. PassesPairs-sorted f keys values c.args.levels c.args.left.now c.keys.new.left c.items.new.left us (map units_at c.sort.new.keys) deep long c.in_ok-keys.ensures.read passed (sorted_keys c.in_ok-keys.keys.items c.as_mut_slice.result.now c.sort.new.keys c.as_mut_slice.ensures.value c.sort.ensures.moved) (c.sort.ensures.ascend.0 c.if-not-sort.false))
+    let read = c.in_ok-keys_apart.ensures.read in
+    IfOk_then c.items.result (λ deep. PassesItems f values c.args.levels c.keys_apart.new.left deep c.items.new.left) (λ deep. PassesPairs f keys values c.args.levels c.args.left.now deep c.items.new.left)
+    (λ deep passed. PassesPairs-sorted f keys values c.args.levels c.args.left.now c.keys_apart.new.left c.items.new.left read.keys read.apart.sorted deep long read.reads passed read.apart.moved read.apart.ascend)
     c.items.ensures.passed
 
 pub walk-returns-clause-kept : goal.walk-returns-clause-kept

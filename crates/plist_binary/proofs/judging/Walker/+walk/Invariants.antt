@@ -3,6 +3,7 @@ use Rattle.plist_object.specs.Views.{octets_of, numbers_of}
 use Rattle.plist_binary.specs.Memos.{AreStates}
 use Rattle.plist_binary.specs.Passing.{PassesItems, IsWithinLimits}
 use Rattle.plist_binary.specs.Paths.{containers_of}
+use Rattle.plist_binary.specs.Recalls.{IsKnown}
 use Rattle.plist_binary.proofs.judging.Walker.+walk.Given as goal
 
 -- by the levels, with what calls before what is called
@@ -27,4 +28,5 @@ invariant-items-loop-i l =
       passed : PassesItems (octets_of l.self.file) (take l.i (numbers_of l.refs)) l.levels l.initial.left l.deepest l.left;
       states : AreStates (octets_of l.self.file) (l.container ∷ containers_of l.before) l.states.items;
       within : IsWithinLimits l.left;
+      last : IsKnown (octets_of l.self.file) l.last;
     }

@@ -1,0 +1,49 @@
+use Rattle.std.proofs.Common.{rules, ◌≡◌, ◌-◌, List, map, refl, sym, subst}
+use Rattle.std.specs.List.{IsDistinct}
+use Rattle.std.specs.List.Sorted.{IsPermutation}
+use Rattle.std.proofs.lemmas.List.Sorted.{IsPermutation-map}
+use Rattle.plist_object.specs.Views.{numbers_of, octets_of}
+use Rattle.plist_binary.specs.declared.tables.Key.{Key}
+use Rattle.plist_binary.specs.Keys.{units_at}
+use Rattle.plist_binary.specs.Paths.{containers_of}
+use Rattle.plist_binary.specs.Recalls.{RefusesTable}
+use Rattle.plist_binary.proofs.Inserting.{same_key}
+use Rattle.plist_binary.proofs.Paired.{length-values}
+use Rattle.plist_binary.proofs.Recalling.{ReadsApart-sorted, SpellApart-read}
+use Rattle.plist_binary.proofs.TableSteps.{RefusesPairs-keys, RefusesPairs-twice}
+use Rattle.plist_binary.proofs.judging.Walker.keys_apart.Goals as goal
+
+-- the keys as they were sorted in place
+sorted_keys : (keys written sorted : List Key) → written ≡ keys → IsPermutation written sorted → IsPermutation (map units_at keys) (map units_at sorted)
+sorted_keys keys written sorted same moved =
+    IsPermutation-map units_at keys sorted (subst (λ (xs : List Key). IsPermutation xs sorted) same moved)
+
+pub returns-in_err-keys-clause-refused : goal.returns-in_err-keys-clause-refused
+returns-in_err-keys-clause-refused c =
+    let f = octets_of c.args.self.now.file in
+    let refs = numbers_of c.args.refs in
+    let refused : RefusesTable f c.args.table refs c.args.levels c.args.left.now c.in_err-keys.field-0.0 = record {
+      each = λ values holds. RefusesPairs-keys f refs values c.args.levels c.args.left.now c.in_err-keys.field-0.0 (length-values f c.args.table refs values holds) c.in_err-keys.ensures.refused;
+    } in
+    search rules
+
+pub returns-then-not-sort-clause-refused : goal.returns-then-not-sort-clause-refused
+returns-then-not-sort-clause-refused c =
+    let f = octets_of c.args.self.now.file in
+    let refs = numbers_of c.args.refs in
+    let us = map units_at c.in_ok-keys.keys.items in
+    let not_distinct : IsDistinct same_key us → ⊥ = λ distinct.
+    let told = c.sort.ensures.distinct.1 (subst (λ (xs : List Key). IsDistinct same_key (map units_at xs)) (sym c.as_mut_slice.ensures.value) distinct) in
+    let said = c.if-not-sort.true in
+    cc in
+    record {
+      each = λ values holds. RefusesPairs-twice f (containers_of c.args.before.now) refs values c.args.table c.args.levels c.args.left.now c.keys.new.left us c.args.self.now.laid c.requires.leads holds (length-values f c.args.table refs values holds) c.in_ok-keys.ensures.read not_distinct;
+    }
+
+pub returns-clause-read : goal.returns-clause-read
+returns-clause-read c =
+    ReadsApart-sorted (octets_of c.args.self.now.file) (numbers_of c.args.refs) c.args.levels c.args.left.now c.keys.new.left (map units_at c.in_ok-keys.keys.items) (map units_at c.sort.new.keys) c.in_ok-keys.ensures.read (sorted_keys c.in_ok-keys.keys.items c.as_mut_slice.result.now c.sort.new.keys c.as_mut_slice.ensures.value c.sort.ensures.moved) (c.sort.ensures.ascend.0 c.if-not-sort.false)
+
+pub returns-clause-last : goal.returns-clause-last
+returns-clause-last c =
+    SpellApart-read (octets_of c.args.self.now.file) (numbers_of c.args.refs) c.args.levels (c.args.left.now.payload - c.keys.new.left.payload) c.args.left.now c.keys.new.left (returns-clause-read c) refl

@@ -1,0 +1,43 @@
+-- What is known of the keys of the table that was judged last.
+use Rattle.std.specs.Prelude.{◌≡◌, ℕ, List, Option, IfSome}
+use Rattle.std.specs.Ordering.{nat_cmp}
+use Rattle.std.specs.Cmp.Lexicographic.{slice_cmp}
+use Rattle.std.specs.List.Sorted.{IsPermutation, IsStrictlySortedBy}
+use Rattle.plist_value.specs.Plist.{AreItems}
+use Rattle.plist_value.specs.Limits.{payload_of_items}
+use Rattle.plist_value.specs.declared.budget.Budget.{Budget}
+use Rattle.plist_object.specs.Objects.{holds_table}
+use Rattle.plist_object.specs.Places.{Holds}
+use Rattle.plist_object.specs.Spelled.{SpellItems}
+use Rattle.plist_object.specs.Views.{numbers_of}
+use Rattle.plist_binary.specs.declared.fault.BinaryFault.{BinaryFault}
+use Rattle.plist_binary.specs.declared.last_keys.LastKeys.{LastKeys}
+use Rattle.plist_binary.specs.Readings.{ReadsItems, RefusesPairs, texts}
+
+-- texts of which no two are equal: in their order each is below the next
+pub record AreApart (keys : List (List ℕ)) : Type 0 where
+  pub sorted : List (List ℕ)
+  pub moved : IsPermutation keys sorted
+  pub ascend : IsStrictlySortedBy (slice_cmp nat_cmp) sorted
+
+-- the references spell texts of just so much payload, of which no two are equal
+pub record SpellApart (f refs : List ℕ) (payload : ℕ) : Type 0 where
+  pub keys : List (List ℕ)
+  pub spell : SpellItems f refs (texts keys)
+  pub valid : AreItems (texts keys)
+  pub apart : AreApart keys
+  pub payload_is : payload_of_items (texts keys) ≡ payload
+
+-- what is known of the last keys, if anything is, is so
+abbrev pub IsKnown : List ℕ → Option LastKeys → Type 0
+IsKnown f last = IfSome last (λ keys. SpellApart f (numbers_of keys.refs) keys.payload)
+
+-- the references spell texts, of which no two are equal, and which took what is gone from the budget
+pub record ReadsApart (f refs : List ℕ) (levels : ℕ) (before after : Budget) : Type 0 where
+  pub keys : List (List ℕ)
+  pub reads : ReadsItems f refs levels before (texts keys) after
+  pub apart : AreApart keys
+
+-- With these references to keys the table, whatever its values are, spells no pairs, and the fault stands.
+pub record RefusesTable (f : List ℕ) (table : ℕ) (refs : List ℕ) (levels : ℕ) (left : Budget) (fault : BinaryFault) : Type 0 where
+  pub each : (values : List ℕ) → Holds f table (holds_table refs values) → RefusesPairs f refs values levels left fault
