@@ -1,5 +1,5 @@
 -- The rows of a table in the order of their texts.
-use Rattle.std.proofs.Common.{◌≡◌, ℕ, ◌+◌, ◌<◌, ◌≤◌, List, [], ◌∷◌, ◌++◌, length, get_or, map, take, false, refl, sym, ap, subst, ◌∙◌, arith, append_assoc, Ok, Err}
+use Rattle.std.proofs.Common.{◌≡◌, ℕ, ◌+◌, ◌<◌, ◌≤◌, List, [], ◌∷◌, ◌++◌, length, get_or, map, slice_index, take, false, refl, sym, ap, subst, ◌∙◌, arith, append_assoc, Ok, Err}
 use Rattle.std.specs.Prelude.{All, Result}
 use Rattle.std.specs.declared.cmp.Ordering.{Ordering}
 use Rattle.std.specs.declared.cmp.Ordering.TheVariants.{Less, Equal, Greater}
@@ -10,8 +10,8 @@ use Rattle.std.specs.List.{AllByRecursion, IsDistinct, zip}
 use Rattle.std.specs.List.Sorted.{IsPermutation, IsSorted, IsStrictlySortedBy}
 use Rattle.std.proofs.lemmas.Cmp.{nat_list_cmp_total, on_total, eq_by_cmp_equiv}
 use Rattle.std.proofs.lemmas.List.{get_or-map, length-map, map-append, take_more, take_all}
-use Rattle.std.proofs.lemmas.List.Elements.{All-from_recursion}
-use Rattle.std.proofs.lemmas.List.Sorted.{All-permutation, IsPermutation-sym, IsPermutation-trans}
+use Rattle.std.proofs.lemmas.List.Elements.{All-from_recursion, All-map}
+use Rattle.std.proofs.lemmas.List.Sorted.{All-permutation, IsPermutation-map, IsPermutation-sym, IsPermutation-trans}
 use Rattle.std.proofs.lemmas.Map.Keys.{sorted_from_all_adjacent, IsDistinct-from_sorted, IsDistinct-IsPermutation, apart_from_distinct}
 use Rattle.std.proofs.lemmas.Slice.Zip.{get_or-zip, length-zip}
 use Rattle.plist_value.specs.Plist.{text, Pairs, no_pairs, pair, ArePairs, IsKeyBelow}
@@ -22,7 +22,7 @@ use Rattle.plist_object.specs.Places.{Holds, what_holds}
 use Rattle.plist_object.specs.Spelled.{SpellPairs}
 use Rattle.plist_value.specs.Plist.{Scalar}
 use Rattle.plist_engine.specs.declared.order.Row.{Row}
-use Rattle.plist_engine.specs.Order.{HoldsKey, by_text, pair_of, units_at}
+use Rattle.plist_engine.specs.Order.{ArePlaced, HoldsKey, IsOrder, by_text, pair_at, place_of, units_at}
 use Rattle.plist_engine.specs.Spelling.{HoldsText, IsTable, SpellTable, in_turn}
 
 -- the units of the text that was read, and none where it is none
@@ -79,42 +79,42 @@ turned o Less is order apart = absurd (cc)
 turned o Equal is order apart = absurd (cc)
 turned o Greater is order apart = is
 
-module _ (f : List ℕ) (sorted : List Row) (held : All (HoldsKey f) sorted) (order : IsSorted by_text sorted) where
-  key_at : (k : ℕ) (d : ℕ × ℕ) (e : Row) → k < length sorted → key_of f (get_or (map pair_of sorted) k d) ≡ units_at (get_or sorted k e)
+module _ (f keys values : List ℕ) (sorted : List Row) (held : All (HoldsKey f keys) sorted) (order : IsSorted by_text sorted) where
+  key_at : (k : ℕ) (d : ℕ × ℕ) (e : Row) → k < length sorted → key_of f (get_or (map (pair_at keys values) sorted) k d) ≡ units_at (get_or sorted k e)
   key_at k d e h =
-      ap (key_of f) (get_or-map pair_of sorted k e d h) ∙ key_of-held f (pair_of (get_or sorted k e)) (units_at (get_or sorted k e)) (held k e h)
+      ap (key_of f) (get_or-map (pair_at keys values) sorted k e d h) ∙ key_of-held f (pair_at keys values (get_or sorted k e)) (units_at (get_or sorted k e)) (held k e h)
 
-  in_order : (e : Row) (d : ℕ × ℕ) (k : ℕ) → k + 1 < length sorted → is_lt (by_key f (get_or (map pair_of sorted) (k + 1) d) (get_or (map pair_of sorted) k d)) ≡ false
+  in_order : (e : Row) (d : ℕ × ℕ) (k : ℕ) → k + 1 < length sorted → is_lt (by_key f (get_or (map (pair_at keys values) sorted) (k + 1) d) (get_or (map (pair_at keys values) sorted) k d)) ≡ false
   unfolding by_key
   in_order e d k h =
       let lower = key_at k d e (omega arith) in
       let upper = key_at (k + 1) d e h in
-      ap (λ us. is_lt (slice_cmp nat_cmp us (key_of f (get_or (map pair_of sorted) k d)))) upper ∙ ap (λ us. is_lt (slice_cmp nat_cmp (units_at (get_or sorted (k + 1) e)) us)) lower ∙ order k e (omega arith) h
+      ap (λ us. is_lt (slice_cmp nat_cmp us (key_of f (get_or (map (pair_at keys values) sorted) k d)))) upper ∙ ap (λ us. is_lt (slice_cmp nat_cmp (units_at (get_or sorted (k + 1) e)) us)) lower ∙ order k e (omega arith) h
 
-  strictly : (e : Row) → IsDistinct (eq_by_cmp (by_key f)) (map pair_of sorted) → IsStrictlySortedBy (by_key f) (map pair_of sorted)
+  strictly : (e : Row) → IsDistinct (eq_by_cmp (by_key f)) (map (pair_at keys values) sorted) → IsStrictlySortedBy (by_key f) (map (pair_at keys values) sorted)
   strictly e distinct =
-      let pairs = map pair_of sorted in
+      let pairs = map (pair_at keys values) sorted in
       let d : ℕ × ℕ = (0, 0) in
-      let long = length-map sorted pair_of in
+      let long = length-map sorted (pair_at keys values) in
       sorted_from_all_adjacent (by_key_total f) pairs d (λ k h.
       let p = get_or pairs k d in
       let q = get_or pairs (k + 1) d in
       turned (by_key f p q) (by_key f q p) ((by_key_total f).antisymm p q) (in_order e d k (omega arith)) (apart_from_distinct (eq_by_cmp (by_key f)) pairs k (k + 1) d distinct (omega arith) h))
 
-strictly_sorted : (f : List ℕ) (sorted : List Row) → All (HoldsKey f) sorted → IsSorted by_text sorted → IsDistinct (eq_by_cmp (by_key f)) (map pair_of sorted) → IsStrictlySortedBy (by_key f) (map pair_of sorted)
+strictly_sorted : (f keys values : List ℕ) (sorted : List Row) → All (HoldsKey f keys) sorted → IsSorted by_text sorted → IsDistinct (eq_by_cmp (by_key f)) (map (pair_at keys values) sorted) → IsStrictlySortedBy (by_key f) (map (pair_at keys values) sorted)
 unfolding IsStrictlySortedBy
-strictly_sorted f [] held order distinct = tt
-strictly_sorted f (row ∷ sorted) held order distinct =
-    strictly f (row ∷ sorted) held order row distinct
+strictly_sorted f keys values [] held order distinct = tt
+strictly_sorted f keys values (row ∷ sorted) held order distinct =
+    strictly f keys values (row ∷ sorted) held order row distinct
 
 -- rows in the order of their texts are those that spell the pairs of the table
-pub rows_are : (f keys values : List ℕ) (sorted : List Row) (rows : List (ℕ × ℕ)) (ps : Pairs) → IsPermutation (zip keys values) (map pair_of sorted) → All (HoldsKey f) sorted → IsSorted by_text sorted → SpellTable f keys values rows ps → map pair_of sorted ≡ rows
+rows_are : (f keys values : List ℕ) (sorted : List Row) (rows : List (ℕ × ℕ)) (ps : Pairs) → IsPermutation (zip keys values) (map (pair_at keys values) sorted) → All (HoldsKey f keys) sorted → IsSorted by_text sorted → SpellTable f keys values rows ps → map (pair_at keys values) sorted ≡ rows
 rows_are f keys values sorted rows ps moved held order table =
-    let pairs = map pair_of sorted in
+    let pairs = map (pair_at keys values) sorted in
     let ascend = rows_ascend f rows ps table.spell table.valid in
     let between = IsPermutation-trans rows (zip keys values) pairs (IsPermutation-sym (zip keys values) rows table.moved) moved in
     let distinct = IsDistinct-IsPermutation (eq_by_cmp (by_key f)) (eq_by_cmp_equiv (by_key_total f)).symm rows pairs between (IsDistinct-from_sorted (by_key f) rows ascend) in
-    same_order (by_key_total f) (zip keys values) pairs rows moved table.moved (strictly_sorted f sorted held order distinct) ascend
+    same_order (by_key_total f) (zip keys values) pairs rows moved table.moved (strictly_sorted f keys values sorted held order distinct) ascend
 
 all_texts : (f : List ℕ) (rows : List (ℕ × ℕ)) (ps : Pairs) → SpellPairs f rows ps → AllByRecursion (λ row. HoldsText f row.0) rows
 all_texts f [] ps h = tt
@@ -133,30 +133,47 @@ text_at f keys values k i table h is =
     let at = get_or-zip keys values k (0, 0) h (omega arith) in
     subst (λ (n : ℕ). HoldsText f n) (ap (λ (p : ℕ × ℕ). p.0) at ∙ sym is) row
 
-pub pairs-next : (keys values : List ℕ) (rows pushed : List Row) (row : Row) (k : ℕ) → k < length keys → length keys ≡ length values → row.key ≡ get_or keys k 0 → row.value ≡ get_or values k 0 → pushed ≡ rows ++ (row ∷ []) → map pair_of rows ≡ take k (zip keys values) → map pair_of pushed ≡ take (k + 1) (zip keys values)
-pairs-next keys values rows pushed row k h as_many is_key is_value added so_far =
+pub pairs-next : (keys values : List ℕ) (rows pushed : List Row) (row : Row) (k : ℕ) → k < length keys → length keys ≡ length values → row.place ≡ k → pushed ≡ rows ++ (row ∷ []) → map (pair_at keys values) rows ≡ take k (zip keys values) → map (pair_at keys values) pushed ≡ take (k + 1) (zip keys values)
+pairs-next keys values rows pushed row k h as_many is_place added so_far =
     let long = length-zip keys values in
     let within : k < length (zip keys values) = rw long (omega arith) in
     let at : get_or (zip keys values) k (0, 0) ≡ (get_or keys k 0, get_or values k 0) = get_or-zip keys values k (0, 0) h (omega arith) in
-    let one : pair_of row ≡ get_or (zip keys values) k (0, 0) = ap (λ n. (n, row.value)) is_key ∙ ap (λ n. (get_or keys k 0, n)) is_value ∙ sym at in
-    ap (map pair_of) added ∙ map-append pair_of rows (row ∷ []) ∙ ap (λ xs. xs ++ (pair_of row ∷ [])) so_far ∙ ap (λ p. take k (zip keys values) ++ (p ∷ [])) one ∙ sym (take_more (zip keys values) k (0, 0) within)
+    let one : pair_at keys values row ≡ get_or (zip keys values) k (0, 0) = ap (λ n. (get_or keys n 0, get_or values n 0)) is_place ∙ sym at in
+    ap (map (pair_at keys values)) added ∙ map-append (pair_at keys values) rows (row ∷ []) ∙ ap (λ xs. xs ++ (pair_at keys values row ∷ [])) so_far ∙ ap (λ p. take k (zip keys values) ++ (p ∷ [])) one ∙ sym (take_more (zip keys values) k (0, 0) within)
 
-pub pairs-end : (keys values : List ℕ) (rows : List Row) (k : ℕ) → length keys ≤ k → length keys ≡ length values → map pair_of rows ≡ take k (zip keys values) → map pair_of rows ≡ zip keys values
+pub pairs-end : (keys values : List ℕ) (rows : List Row) (k : ℕ) → length keys ≤ k → length keys ≡ length values → map (pair_at keys values) rows ≡ take k (zip keys values) → map (pair_at keys values) rows ≡ zip keys values
 pairs-end keys values rows k past as_many so_far =
     let long = length-zip keys values in
     let within : length (zip keys values) ≤ k = rw long (omega arith) in
     so_far ∙ take_all k (zip keys values) within
 
-firsts : (rows : List Row) → map (λ (p : ℕ × ℕ). p.0) (map pair_of rows) ≡ map (λ (row : Row). row.key) rows
-firsts [] = refl
-firsts (row ∷ rows) = ap (λ xs. row.key ∷ xs) (firsts rows)
+-- the rows in another order
+pub placed-moved : (keys : List ℕ) (rows sorted : List Row) → IsPermutation rows sorted → All (λ row. place_of row < length keys) rows → ((values : List ℕ) → length keys ≡ length values → map (pair_at keys values) rows ≡ zip keys values) → ArePlaced keys sorted
+placed-moved keys rows sorted moved within pairs = record {
+  within = All-permutation (λ row. place_of row < length keys) rows sorted moved within;
+  moved = λ values as_many. subst (λ (ps : List (ℕ × ℕ)). IsPermutation ps (map (pair_at keys values) sorted)) (pairs values as_many) (IsPermutation-map (pair_at keys values) rows sorted moved);
+}
 
-seconds : (rows : List Row) → map (λ (p : ℕ × ℕ). p.1) (map pair_of rows) ≡ map (λ (row : Row). row.value) rows
-seconds [] = refl
-seconds (row ∷ rows) = ap (λ xs. row.value ∷ xs) (seconds rows)
+firsts : (keys values : List ℕ) (rows : List Row) → map (λ (p : ℕ × ℕ). p.0) (map (pair_at keys values) rows) ≡ map (slice_index keys) (map place_of rows)
+firsts keys values [] = refl
+firsts keys values (row ∷ rows) = ap (λ xs. slice_index keys row.place ∷ xs) (firsts keys values rows)
 
-pub in_turn-pairs : (rows : List Row) (old mid new : List ℕ) → mid ≡ old ++ map (λ row. row.key) rows → new ≡ mid ++ map (λ row. row.value) rows → new ≡ old ++ in_turn (map pair_of rows)
-in_turn-pairs rows old mid new first second =
-    let keys = map (λ (row : Row). row.key) rows in
-    let values = map (λ (row : Row). row.value) rows in
-    second ∙ ap (λ xs. xs ++ values) first ∙ append_assoc old keys values ∙ ap (λ xs. old ++ (xs ++ values)) (sym (firsts rows)) ∙ ap (λ xs. old ++ (map (λ (p : ℕ × ℕ). p.0) (map pair_of rows) ++ xs)) (sym (seconds rows))
+seconds : (keys values : List ℕ) (rows : List Row) → map (λ (p : ℕ × ℕ). p.1) (map (pair_at keys values) rows) ≡ map (slice_index values) (map place_of rows)
+seconds keys values [] = refl
+seconds keys values (row ∷ rows) = ap (λ xs. slice_index values row.place ∷ xs) (seconds keys values rows)
+
+-- the places are those of keys
+pub places_within : (f keys places : List ℕ) (n : ℕ) → length keys ≡ n → IsOrder f keys places → All (λ place. place < n) places
+places_within f keys places n long order =
+    subst (All (λ place. place < n)) (sym order.places_are) (All-map (λ place. place < n) place_of order.rows (subst (λ (m : ℕ). All (λ row. place_of row < m) order.rows) long order.placed.within))
+
+-- what stands at the places in turn, of the keys and then of the values, are the rows that spell the pairs of the table
+pub in_turn-places : (f keys values places : List ℕ) (rows : List (ℕ × ℕ)) (ps : Pairs) (old mid new : List ℕ) → length keys ≡ length values → IsOrder f keys places → SpellTable f keys values rows ps → mid ≡ old ++ map (slice_index keys) places → new ≡ mid ++ map (slice_index values) places → new ≡ old ++ in_turn rows
+in_turn-places f keys values places rows ps old mid new as_many order spell first second =
+    let sorted = order.rows in
+    let of_keys = map (slice_index keys) places in
+    let of_values = map (slice_index values) places in
+    let are = rows_are f keys values sorted rows ps (order.placed.moved values as_many) order.held order.sorted spell in
+    let keys_are : map (λ (p : ℕ × ℕ). p.0) rows ≡ of_keys = ap (map (λ (p : ℕ × ℕ). p.0)) (sym are) ∙ firsts keys values sorted ∙ ap (map (slice_index keys)) (sym order.places_are) in
+    let values_are : map (λ (p : ℕ × ℕ). p.1) rows ≡ of_values = ap (map (λ (p : ℕ × ℕ). p.1)) (sym are) ∙ seconds keys values sorted ∙ ap (map (slice_index values)) (sym order.places_are) in
+    second ∙ ap (λ xs. xs ++ of_values) first ∙ append_assoc old of_keys of_values ∙ ap (λ xs. old ++ (xs ++ of_values)) (sym keys_are) ∙ ap (λ xs. old ++ (map (λ (p : ℕ × ℕ). p.0) rows ++ xs)) (sym values_are)

@@ -1,26 +1,49 @@
 -- The rows of a table and their order.
-use Rattle.std.specs.Prelude.{ℕ}
+use Rattle.std.specs.Prelude.{ℕ, ◌≡◌, ◌<◌, List, All, IfSome, length, map, slice_index}
 use Rattle.std.specs.Ordering.{nat_cmp, on}
 use Rattle.std.specs.declared.cmp.Ordering.{Ordering}
 use Rattle.std.specs.Cmp.Lexicographic.{slice_cmp}
-use Rattle.std.specs.Prelude.{List}
+use Rattle.std.specs.List.{zip}
+use Rattle.std.specs.List.Sorted.{IsPermutation, IsSorted}
 use Rattle.plist_value.specs.Plist.{text}
 use Rattle.plist_value.specs.Texts.{units_of}
 use Rattle.plist_object.specs.Objects.{holds_scalar}
 use Rattle.plist_object.specs.Places.{Holds}
+use Rattle.plist_object.specs.Views.{numbers_of}
 use Rattle.plist_engine.specs.declared.order.Row.{Row}
+use Rattle.plist_engine.specs.declared.order.KeyOrder.{KeyOrder}
 
--- the references of the row, to the key and to the value
-abbrev pub pair_of : Row → ℕ × ℕ
-pair_of row = (row.key, row.value)
+abbrev pub place_of : Row → ℕ
+place_of row = row.place
+
+-- the references at the row's place, to the key and to the value
+abbrev pub pair_at : List ℕ → List ℕ → Row → ℕ × ℕ
+pair_at keys values row = (slice_index keys row.place, slice_index values row.place)
 
 abbrev pub units_at : Row → List ℕ
 units_at row = units_of row.text
 
--- the row's reference to the key names its text
-abbrev pub HoldsKey : List ℕ → Row → Type 0
-HoldsKey f row = Holds f row.key (holds_scalar (text (units_at row)))
+-- the reference at the row's place names its text
+abbrev pub HoldsKey : List ℕ → List ℕ → Row → Type 0
+HoldsKey f keys row = Holds f (slice_index keys row.place) (holds_scalar (text (units_at row)))
 
 -- by the units of the texts
 abbrev pub by_text : Row → Row → Ordering
 by_text = on units_at (slice_cmp nat_cmp)
+
+-- there is one row for each of the keys, whatever their values are
+pub record ArePlaced (keys : List ℕ) (rows : List Row) : Type 0 where
+  pub within : All (λ row. place_of row < length keys) rows
+  pub moved : (values : List ℕ) → length keys ≡ length values → IsPermutation (zip keys values) (map (pair_at keys values) rows)
+
+-- the places of the keys in the order of their texts
+pub record IsOrder (f keys places : List ℕ) : Type 0 where
+  pub rows : List Row
+  pub placed : ArePlaced keys rows
+  pub held : All (HoldsKey f keys) rows
+  pub sorted : IsSorted by_text rows
+  pub places_are : places ≡ map place_of rows
+
+-- what is kept of the last table's keys, if anything is, is their order
+abbrev pub IsOrdered : List ℕ → KeyOrder → Type 0
+IsOrdered f order = IfSome order.last (λ keys. IsOrder f (numbers_of keys) order.places.items)

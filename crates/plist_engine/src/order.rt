@@ -1,10 +1,12 @@
 //! The order of a table's keys.
-ghost use Rattle.std.specs.Prelude.{◌≡◌, ◌++◌, ℕ, List, All, IfOk, OnOk, length, map};
+ghost use Rattle.std.specs.Prelude.{◌≡◌, ◌++◌, ◌<◌, ℕ, List, All, IfOk, OnOk, length, map};
+ghost use Rattle.std.specs.Prelude.{slice_index};
 ghost use Rattle.std.specs.List.{zip};
-ghost use Rattle.std.specs.List.Sorted.{IsPermutation, IsSorted};
+ghost use Rattle.std.specs.List.Sorted.{IsSorted};
 ghost use Rattle.plist_value.specs.Plist.{Pairs};
 ghost use Rattle.plist_object.specs.Views.{numbers_of, octets_of};
-ghost use Rattle.plist_engine.specs.Order.{HoldsKey, by_text, pair_of};
+ghost use Rattle.plist_engine.specs.Order.{ArePlaced, HoldsKey, IsOrder, IsOrdered};
+ghost use Rattle.plist_engine.specs.Order.{by_text, pair_at, place_of};
 ghost use Rattle.plist_engine.specs.Spelling.{IsTable, SpellTable, in_turn};
 
 use crate::objects::text_of;
@@ -12,30 +14,79 @@ use plist_object::{BinFile, Refs};
 use plist_value::TextRef;
 use std::alloc::{AllocError, Global};
 
-// A key of a table, and its references to the key and to the value.
+// A key of a table, and its place among the table's references.
 #[derive(Clone, Copy)]
 struct Row<'a> {
     text: TextRef<'a>,
-    key: u64,
-    value: u64,
+    place: u64,
 }
 
-/// Puts the references to the keys in the order of their texts, and then those to their values in the same
-/// order, behind the references.
-pub(crate) fn push_sorted(
-    alloc: Global,
-    file: &BinFile,
-    keys: &Refs,
-    values: &Refs,
-    references: &mut Vec<u64>,
-) -> Result<(), AllocError>
-    requires { IsTable (octets_of file.now) (numbers_of keys.now) (numbers_of values.now) }
-    ensures { OnOk result ((rows : List (ℕ × ℕ)) (ps : Pairs)
-        → SpellTable (octets_of file.now) (numbers_of keys.now) (numbers_of values.now) rows ps
-        → references.new.items ≡ references.old.items ++ in_turn rows) }
-{
-    let rows = sorted_rows(alloc, file, keys, values)?;
-    push_rows(&rows, references)
+/// The references to the keys of the table that came last, and their places in the order of their texts. The
+/// next table often has the same keys.
+#[derive(Drop)]
+pub(crate) struct KeyOrder<'a> {
+    last: Option<Refs<'a>>,
+    places: Vec<u64>,
+}
+
+impl<'a> KeyOrder<'a> {
+    /// No table came yet.
+    pub(crate) fn none(alloc: Global) -> KeyOrder<'a>
+        ensures { (f : List ℕ) → IsOrdered f result }
+    {
+        KeyOrder {
+            last: None,
+            places: Vec::new(alloc),
+        }
+    }
+
+    /// Puts the references to the keys in the order of their texts, and then those to their values in the same
+    /// order, behind the references.
+    pub(crate) fn push_sorted(
+        &mut self,
+        alloc: Global,
+        file: &BinFile<'a>,
+        keys: &Refs<'a>,
+        values: &Refs,
+        references: &mut Vec<u64>,
+    ) -> Result<(), AllocError>
+        requires table { IsTable (octets_of file.now) (numbers_of keys.now)
+            (numbers_of values.now) }
+        requires ordered { IsOrdered (octets_of file.now) self.old }
+        ensures pushed { OnOk result ((rows : List (ℕ × ℕ)) (ps : Pairs)
+            → SpellTable (octets_of file.now) (numbers_of keys.now) (numbers_of values.now) rows ps
+            → references.new.items ≡ references.old.items ++ in_turn rows) }
+        ensures ordered { OnOk result (IsOrdered (octets_of file.now) self.new) }
+    {
+        self.order(alloc, file, keys, values)?;
+        push_at(keys, &self.places, references)?;
+        push_at(values, &self.places, references)
+    }
+
+    // Finds the order of the keys, if they are not those of the last table.
+    fn order(
+        &mut self,
+        alloc: Global,
+        file: &BinFile<'a>,
+        keys: &Refs<'a>,
+        values: &Refs,
+    ) -> Result<(), AllocError>
+        requires table { IsTable (octets_of file.now) (numbers_of keys.now)
+            (numbers_of values.now) }
+        requires ordered { IsOrdered (octets_of file.now) self.old }
+        ensures order { OnOk result (IsOrder (octets_of file.now) (numbers_of keys.now)
+            self.new.places.items) }
+        ensures ordered { OnOk result (IsOrdered (octets_of file.now) self.new) }
+    {
+        if let Some(last) = self.last
+            && last.is_same(keys)
+        {
+            return Ok(());
+        }
+        self.places = places_of(alloc, file, keys, values)?;
+        self.last = Some(*keys);
+        Ok(())
+    }
 }
 
 /// Puts the references of a list behind the references.
@@ -48,33 +99,41 @@ pub(crate) fn push_all(items: &Refs, references: &mut Vec<u64>) -> Result<(), Al
     Ok(())
 }
 
-// The references of the rows, in turn.
-fn push_rows(rows: &[Row], references: &mut Vec<u64>) -> Result<(), AllocError>
+// Puts the references at these places behind the others.
+fn push_at(refs: &Refs, places: &[u64], references: &mut Vec<u64>) -> Result<(), AllocError>
+    requires { All (λ place. place < length (numbers_of refs.now)) places.now }
     ensures { OnOk result (references.new.items
-        ≡ references.old.items ++ in_turn (map pair_of rows.now)) }
+        ≡ references.old.items ++ map (slice_index (numbers_of refs.now)) places.now) }
 {
-    push_keys(rows, references)?;
-    push_values(rows, references)
-}
-
-fn push_keys(rows: &[Row], references: &mut Vec<u64>) -> Result<(), AllocError>
-    ensures { OnOk result (references.new.items
-        ≡ references.old.items ++ map (λ row. row.key) rows.now) }
-{
-    for row in rows {
-        references.push(row.key)?;
+    for place in places {
+        references.push(refs.get(*place))?;
     }
     Ok(())
 }
 
-fn push_values(rows: &[Row], references: &mut Vec<u64>) -> Result<(), AllocError>
-    ensures { OnOk result (references.new.items
-        ≡ references.old.items ++ map (λ row. row.value) rows.now) }
+// The places of a table's keys in the order of their texts.
+fn places_of(
+    alloc: Global,
+    file: &BinFile,
+    keys: &Refs,
+    values: &Refs,
+) -> Result<Vec<u64>, AllocError>
+    requires { IsTable (octets_of file.now) (numbers_of keys.now) (numbers_of values.now) }
+    ensures { IfOk result (λ places. IsOrder (octets_of file.now) (numbers_of keys.now)
+        places.items) }
 {
+    let rows = sorted_rows(alloc, file, keys, values)?;
+    places_in_turn(alloc, &rows)
+}
+
+fn places_in_turn(alloc: Global, rows: &[Row]) -> Result<Vec<u64>, AllocError>
+    ensures { IfOk result (λ places. places.items ≡ map place_of rows.now) }
+{
+    let mut places = Vec::with_capacity(alloc, rows.len())?;
     for row in rows {
-        references.push(row.value)?;
+        places.push(row.place)?;
     }
-    Ok(())
+    Ok(places)
 }
 
 // The rows of a table in the order of their texts.
@@ -85,10 +144,9 @@ fn sorted_rows<'a>(
     values: &Refs,
 ) -> Result<Vec<Row<'a>>, AllocError>
     requires { IsTable (octets_of file.now) (numbers_of keys.now) (numbers_of values.now) }
-    ensures moved { IfOk result (λ rows.
-        IsPermutation (zip (numbers_of keys.now) (numbers_of values.now))
-        (map pair_of rows.items)) }
-    ensures held { IfOk result (λ rows. All (HoldsKey (octets_of file.now)) rows.items) }
+    ensures placed { IfOk result (λ rows. ArePlaced (numbers_of keys.now) rows.items) }
+    ensures held { IfOk result (λ rows. All (HoldsKey (octets_of file.now)
+        (numbers_of keys.now)) rows.items) }
     ensures sorted { IfOk result (λ rows. IsSorted by_text rows.items) }
 {
     let mut rows = rows_of(alloc, file, keys, values)?;
@@ -104,16 +162,19 @@ fn rows_of<'a>(
     values: &Refs,
 ) -> Result<Vec<Row<'a>>, AllocError>
     requires { IsTable (octets_of file.now) (numbers_of keys.now) (numbers_of values.now) }
-    ensures rows { IfOk result (λ rows.
-        map pair_of rows.items ≡ zip (numbers_of keys.now) (numbers_of values.now)) }
-    ensures held { IfOk result (λ rows. All (HoldsKey (octets_of file.now)) rows.items) }
+    ensures rows { IfOk result (λ rows. (others : List ℕ)
+        → length (numbers_of keys.now) ≡ length others
+        → map (pair_at (numbers_of keys.now) others) rows.items
+        ≡ zip (numbers_of keys.now) others) }
+    ensures within { IfOk result (λ rows. All (λ row. place_of row
+        < length (numbers_of keys.now)) rows.items) }
+    ensures held { IfOk result (λ rows. All (HoldsKey (octets_of file.now)
+        (numbers_of keys.now)) rows.items) }
 {
     let mut rows = Vec::with_capacity(alloc, keys.len() as usize)?;
-    for k in 0..keys.len() {
-        let key = keys.get(k);
-        let value = values.get(k);
-        let text = text_of(file, key);
-        rows.push(Row { text, key, value })?;
+    for place in 0..keys.len() {
+        let text = text_of(file, keys.get(place));
+        rows.push(Row { text, place })?;
     }
     Ok(rows)
 }

@@ -5,11 +5,12 @@ ghost use Rattle.plist_value.specs.Plist.{Pairs};
 ghost use Rattle.plist_object.specs.Objects.{holds_scalar};
 ghost use Rattle.plist_object.specs.Places.{Holds};
 ghost use Rattle.plist_object.specs.Views.{numbers_of, octets_of};
+ghost use Rattle.plist_engine.specs.Order.{IsOrdered};
 ghost use Rattle.plist_engine.specs.Spelling.{IsTable, SpellTable, in_turn};
 ghost use Rattle.plist_engine.specs.Plan.{Begins, IsEmptyPlan, NumbersScalar};
 ghost use Rattle.plist_engine.specs.Plan.{EntersScalar, IsRemembered, RemembersNumbers, remembered};
 
-use crate::order::{push_all, push_sorted};
+use crate::order::{KeyOrder, push_all};
 use indexmap::IndexSet;
 use plist_object::{BinFile, Refs};
 use plist_value::ScalarRef;
@@ -129,19 +130,23 @@ impl<'a> Plan<'a> {
     pub(crate) fn begin_table(
         &mut self,
         alloc: Global,
-        file: &BinFile,
+        file: &BinFile<'a>,
+        order: &mut KeyOrder<'a>,
         object: u64,
-        keys: &Refs,
+        keys: &Refs<'a>,
         values: &Refs,
     ) -> Result<u64, AllocError>
-        requires { IsTable (octets_of file.now) (numbers_of keys.now) (numbers_of values.now) }
-        ensures { IfOk result (λ number. (rows : List (ℕ × ℕ)) (ps : Pairs)
+        requires table { IsTable (octets_of file.now) (numbers_of keys.now)
+            (numbers_of values.now) }
+        requires ordered { IsOrdered (octets_of file.now) order.old }
+        ensures begins { IfOk result (λ number. (rows : List (ℕ × ℕ)) (ps : Pairs)
             → SpellTable (octets_of file.now) (numbers_of keys.now) (numbers_of values.now) rows ps
             → Begins object (in_turn rows) self.old self.new number) }
+        ensures ordered { OnOk result (IsOrdered (octets_of file.now) order.new) }
     {
         let number = self.originals.len() as u64;
         self.originals.push(object)?;
-        push_sorted(alloc, file, keys, values, &mut self.references)?;
+        order.push_sorted(alloc, file, keys, values, &mut self.references)?;
         Ok(number)
     }
 }

@@ -4,9 +4,11 @@ ghost use Rattle.plist_value.specs.Plist.{Plist};
 ghost use Rattle.plist_object.specs.Spelled.{IsBinary};
 ghost use Rattle.plist_object.specs.Views.{octets_of};
 ghost use Rattle.plist_engine.specs.Spelling.{SpellsWithin, SpellWithin};
+ghost use Rattle.plist_engine.specs.Order.{IsOrdered};
 ghost use Rattle.plist_engine.specs.Plan.{AreObjectsOf, AreWalked, IsWalked, RemembersNumbers};
 
 use crate::objects::object_of;
+use crate::order::KeyOrder;
 use crate::plan::{Objects, Plan};
 use plist_object::{BinFile, Object};
 use plist_value::MAX_DEPTH;
@@ -19,7 +21,8 @@ pub(crate) fn objects_of(alloc: Global, file: &BinFile) -> Result<Objects, Alloc
         → AreObjectsOf (octets_of file.now) v objects) }
 {
     let mut plan = Plan::new(alloc, file.count())?;
-    walk(alloc, file, &mut plan, file.top(), MAX_DEPTH)?;
+    let mut order = KeyOrder::none(alloc);
+    walk(alloc, file, &mut plan, &mut order, file.top(), MAX_DEPTH)?;
     Ok(plan.into_objects())
 }
 
@@ -29,13 +32,16 @@ fn walk<'a>(
     alloc: Global,
     file: &BinFile<'a>,
     plan: &mut Plan<'a>,
+    order: &mut KeyOrder<'a>,
     object: u64,
     levels: u64,
 ) -> Result<u64, AllocError>
     requires spells { SpellsWithin (octets_of file.now) object levels }
     requires memo { RemembersNumbers (octets_of file.now) plan.old }
+    requires ordered { IsOrdered (octets_of file.now) order.old }
     ensures walked { IfOk result (IsWalked (octets_of file.now) object plan.old plan.new) }
     ensures memo { OnOk result (RemembersNumbers (octets_of file.now) plan.new) }
+    ensures ordered { OnOk result (IsOrdered (octets_of file.now) order.new) }
 {
     if let Some(number) = plan.number_of(object) {
         return Ok(number);
@@ -45,13 +51,13 @@ fn walk<'a>(
         Object::List(items) => {
             let first = plan.references.len();
             let number = plan.begin_list(object, &items)?;
-            walk_children(alloc, file, plan, first, levels - 1)?;
+            walk_children(alloc, file, plan, order, first, levels - 1)?;
             Ok(number)
         }
         Object::Table(keys, values) => {
             let first = plan.references.len();
-            let number = plan.begin_table(alloc, file, object, &keys, &values)?;
-            walk_children(alloc, file, plan, first, levels - 1)?;
+            let number = plan.begin_table(alloc, file, order, object, &keys, &values)?;
+            walk_children(alloc, file, plan, order, first, levels - 1)?;
             Ok(number)
         }
     }
@@ -63,6 +69,7 @@ fn walk_children<'a>(
     alloc: Global,
     file: &BinFile<'a>,
     plan: &mut Plan<'a>,
+    order: &mut KeyOrder<'a>,
     first: usize,
     levels: u64,
 ) -> Result<(), AllocError>
@@ -70,12 +77,14 @@ fn walk_children<'a>(
     requires spell { SpellWithin (octets_of file.now)
         (drop first plan.old.references.items) levels }
     requires memo { RemembersNumbers (octets_of file.now) plan.old }
+    requires ordered { IsOrdered (octets_of file.now) order.old }
     ensures walked { OnOk result (AreWalked (octets_of file.now) first plan.old plan.new) }
     ensures memo { OnOk result (RemembersNumbers (octets_of file.now) plan.new) }
+    ensures ordered { OnOk result (IsOrdered (octets_of file.now) order.new) }
 {
     for i in first..plan.references.len() {
         let object = plan.references[i];
-        let number = walk(alloc, file, plan, object, levels)?;
+        let number = walk(alloc, file, plan, order, object, levels)?;
         plan.references[i] = number;
     }
     Ok(())

@@ -38,11 +38,13 @@ walk-walk_children-requires t c =
     let added = c.in_ok-number-in-List.ensures.references_added in
     let begun : drop first c.begin_list.new.self.references.items ≡ objects = ap (drop first) added ∙ drop_at old objects first (sym at_end) in
     let within = items_within f c.args.object c.args.levels objects c.requires.spells c.in-List.ensures.holds in
-    (omega (arith, c.decreases), (behind_old old objects c.begin_list.new.self.references.items first at_end added, (subst (λ (refs : List ℕ). SpellWithin f refs (c.args.levels - 1)) (sym begun) within, remembers-begun f c.args.object objects c.args.plan.now c.begin_list.new.self c.in_ok-number-in-List.number c.in_ok-number-in-List.ensures c.requires.memo)))
+    (omega (arith, c.decreases), (behind_old old objects c.begin_list.new.self.references.items first at_end added, (subst (λ (refs : List ℕ). SpellWithin f refs (c.args.levels - 1)) (sym begun) within, (remembers-begun f c.args.object objects c.args.plan.now c.begin_list.new.self c.in_ok-number-in-List.number c.in_ok-number-in-List.ensures c.requires.memo, c.requires.ordered))))
 
 pub walk-begin_table-requires : goal.walk-begin_table-requires
-walk-begin_table-requires t c =
-    is_table (octets_of c.args.file.now) c.args.object c.args.levels (numbers_of c.in-Table.keys) (numbers_of c.in-Table.values) c.requires.spells c.in-Table.ensures.holds c.in-Table.ensures.valid
+walk-begin_table-requires t c = record {
+  table = is_table (octets_of c.args.file.now) c.args.object c.args.levels (numbers_of c.in-Table.keys) (numbers_of c.in-Table.values) c.requires.spells c.in-Table.ensures.holds c.in-Table.ensures.valid;
+  ordered = c.requires.ordered;
+}
 
 pub walk-overflow_sub-levels-in-Table : goal.walk-overflow_sub-levels-in-Table
 walk-overflow_sub-levels-in-Table t c =
@@ -59,9 +61,9 @@ walk-walk_children-requires-in-Table t c =
     let at_end : first ≡ length old = search rules in
     let within = table_within f c.args.object c.args.levels keys values c.requires.spells c.in-Table.ensures.holds in
     let objects = in_turn within.rows in
-    let added = (c.in_ok-number-in-Table.ensures within.rows within.pairs within.spell).references_added in
+    let added = (c.in_ok-number-in-Table.ensures.begins within.rows within.pairs within.spell).references_added in
     let begun : drop first c.begin_table.new.self.references.items ≡ objects = ap (drop first) added ∙ drop_at old objects first (sym at_end) in
-    (omega (arith, c.decreases), (behind_old old objects c.begin_table.new.self.references.items first at_end added, (subst (λ (refs : List ℕ). SpellWithin f refs (c.args.levels - 1)) (sym begun) (flat_within f keys values (c.args.levels - 1) within), remembers-begun f c.args.object objects c.args.plan.now c.begin_table.new.self c.in_ok-number-in-Table.number (c.in_ok-number-in-Table.ensures within.rows within.pairs within.spell) c.requires.memo)))
+    (omega (arith, c.decreases), (behind_old old objects c.begin_table.new.self.references.items first at_end added, (subst (λ (refs : List ℕ). SpellWithin f refs (c.args.levels - 1)) (sym begun) (flat_within f keys values (c.args.levels - 1) within), (remembers-begun f c.args.object objects c.args.plan.now c.begin_table.new.self c.in_ok-number-in-Table.number (c.in_ok-number-in-Table.ensures.begins within.rows within.pairs within.spell) c.requires.memo, c.in_ok-number-in-Table.ensures.ordered))))
 
 pub walk-returns-in-Scalar-clause-walked : goal.walk-returns-in-Scalar-clause-walked
 walk-returns-in-Scalar-clause-walked t c =
@@ -85,7 +87,7 @@ walk-returns-in_ok-walk_children-in-Table-clause-walked t c =
     let values = numbers_of c.in-Table.values in
     let at_end : c.len-first-in-Table.result ≡ length c.args.plan.now.references.items = search rules in
     let within = table_within f c.args.object c.args.levels keys values c.requires.spells c.in-Table.ensures.holds in
-    walked-table f c.args.object keys values within.rows within.pairs c.args.plan.now c.begin_table.new.self c.walk_children-in-Table.new.plan c.in_ok-number-in-Table.number c.len-first-in-Table.result c.in-Table.ensures.valid within.spell at_end (c.in_ok-number-in-Table.ensures within.rows within.pairs within.spell) c.in_ok-walk_children-in-Table.ensures.walked c.in-Table.ensures.holds
+    walked-table f c.args.object keys values within.rows within.pairs c.args.plan.now c.begin_table.new.self c.walk_children-in-Table.new.plan c.in_ok-number-in-Table.number c.len-first-in-Table.result c.in-Table.ensures.valid within.spell at_end (c.in_ok-number-in-Table.ensures.begins within.rows within.pairs within.spell) c.in_ok-walk_children-in-Table.ensures.walked c.in-Table.ensures.holds
 
 pub walk-returns-in-Scalar-clause-memo : goal.walk-returns-in-Scalar-clause-memo
 walk-returns-in-Scalar-clause-memo t c =
@@ -99,6 +101,7 @@ walk_children-loop-i-init t c = record {
   filling = filling-start c.args.first c.args.plan.now.references.items c.requires.first;
   more = λ new numbers w. w;
   memo = c.requires.memo;
+  ordered = c.requires.ordered;
 }
 
 pub walk_children-walk-requires : goal.walk_children-walk-requires
@@ -116,7 +119,7 @@ walk_children-walk-requires t c =
     let far : first + (i - first) ≡ i = omega arith in
     let at : get_or (drop first start) (i - first) 0 ≡ get_or start i 0 = get_or-drop first start (i - first) 0 ∙ ap (λ k. get_or start k 0) far in
     let within = value_within f (drop first start) c.args.levels (i - first) c.requires.spell (omega arith) in
-    (omega (arith, c.decreases), (subst (λ (x : ℕ). SpellsWithin f x c.args.levels) (at ∙ sym stands ∙ sym object) within, c.loop-i.invariant.memo))
+    (omega (arith, c.decreases), (subst (λ (x : ℕ). SpellsWithin f x c.args.levels) (at ∙ sym stands ∙ sym object) within, (c.loop-i.invariant.memo, c.loop-i.invariant.ordered)))
 
 pub walk_children-index_mut-requires : goal.walk_children-index_mut-requires
 walk_children-index_mut-requires t c =
@@ -152,6 +155,7 @@ walk_children-loop-i-preserved t c =
           let all = c.loop-i.invariant.more new (n ∷ numbers) (walked-next f start i c.index-object.result.now c.loop-i.plan mid _ new n numbers below (object ∙ stands) long one refl refl refl (kept-behind i (length start) mid.references.items n below) w) in
           subst (λ (ns : List ℕ). ItemsWalked f (length start) (drop first start) c.args.plan.now new ns) (sym (append_assoc done (n ∷ []) numbers)) all;
       memo = remembers-same f mid _ refl refl refl c.in_ok-number.ensures.memo;
+      ordered = c.in_ok-number.ensures.ordered;
     }
 
 pub walk_children-returns-clause-walked : goal.walk_children-returns-clause-walked

@@ -1,6 +1,7 @@
 use Rattle.std.proofs.Common.{ℕ, ◌+◌, ◌*◌, List, ◌++◌, length, drop}
 use Rattle.plist_object.specs.Views.{octets_of}
 use Rattle.plist_engine.specs.declared.plan.Plan.{Plan}
+use Rattle.plist_engine.specs.Order.{IsOrdered}
 use Rattle.plist_engine.specs.Plan.{ItemsWalked, RemembersNumbers}
 use Rattle.plist_engine.proofs.Filling.{IsFilling}
 use Rattle.plist_engine.proofs.walk.+walk.Given as goal
@@ -20,4 +21,5 @@ invariant-walk_children-loop-i l =
       filling : IsFilling l.first l.i start l.plan.references.items done;
       more : (new : Plan) (numbers : List ℕ) → ItemsWalked (octets_of l.file) (length start) (drop l.i start) l.plan new numbers → ItemsWalked (octets_of l.file) (length start) (drop l.first start) l.fn.plan new (done ++ numbers);
       memo : RemembersNumbers (octets_of l.file) l.plan;
+      ordered : IsOrdered (octets_of l.file) l.order;
     }
