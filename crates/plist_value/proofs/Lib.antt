@@ -2,4 +2,5 @@ pub mod Keys
 pub mod WideUnits
 pub mod Pairs
 pub mod Hashes
+pub mod Orders
 pub mod Rows

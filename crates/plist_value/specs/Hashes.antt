@@ -1,5 +1,8 @@
 -- What a text feeds a hasher: its length, and then its units, four at a time.
-use Rattle.std.specs.Prelude.{ℕ, ◌+◌, ◌*◌, List, [], ◌∷◌, ◌++◌, length, slice_index}
+use Rattle.std.specs.Prelude.{ℕ, ◌+◌, ◌*◌, List, [], ◌∷◌, ◌++◌, length, slice_index, drop}
+use Rattle.std.specs.declared.cmp.Ordering.{Ordering}
+use Rattle.std.specs.Ordering.{nat_cmp}
+use Rattle.std.specs.Cmp.Lexicographic.{slice_cmp}
 use Rattle.std.specs.Hash as fed
 
 -- two units as one number, the first in the lower half
@@ -27,3 +30,7 @@ fed_units (a ∷ b ∷ c ∷ d ∷ rest) = fed.u64 (word a b c d) ++ fed_units r
 
 abbrev pub fed_text : List ℕ → List (List ℕ)
 fed_text units = fed.usize (length units) ++ fed_units units
+
+-- the order of two lists from a place on
+abbrev pub order_from : ℕ → List ℕ → List ℕ → Ordering
+order_from i units others = slice_cmp nat_cmp (drop i units) (drop i others)

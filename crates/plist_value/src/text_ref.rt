@@ -10,7 +10,7 @@ ghost use Rattle.plist_value.specs.Hashes.{fed_text, fed_units, pair_from, word_
 ghost use Rattle.std.proofs.Common.{rules};
 ghost use Rattle.plist_value.specs.Texts.{units_of, wide_units};
 
-use crate::words::{feed, feed_octets};
+use crate::words::{compare, feed, feed_octets};
 use std::cmp::Ordering;
 use std::hash::{Hash, Hasher};
 
@@ -178,7 +178,7 @@ impl<'a> Ord for TextRef<'a> {
 
     fn cmp(&self, other: &Self) -> Ordering {
         match (self.kept, other.kept) {
-            (Kept::Units(units), Kept::Units(others)) => units.cmp(others),
+            (Kept::Units(units), Kept::Units(others)) => compare(units, others),
             (Kept::Ascii(text), Kept::Ascii(other)) => text.cmp(other),
             _ => compare_units(self, other),
         }
