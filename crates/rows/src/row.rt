@@ -1,0 +1,104 @@
+//! A row: its name, what it asks, and its octets.
+use crate::octets::spelled;
+use plist_tests::files::{Draft, file};
+use std::alloc::{AllocError, Global};
+
+/// What is asked of octets.
+#[derive(Clone, Copy, Debug)]
+pub(crate) enum Question {
+    /// Which value they spell: its canonical file and its OpenStep text; of a binary file also whether it is
+    /// canonical.
+    Value,
+    /// What stands in a binary file: its trailer, and each of its objects.
+    Layout,
+    /// The tokens of a text.
+    Tokens,
+    /// How each front of them is refused.
+    Fronts,
+}
+
+impl Question {
+    fn of(word: &str) -> Option<Question> {
+        match word {
+            "value" => Some(Question::Value),
+            "layout" => Some(Question::Layout),
+            "tokens" => Some(Question::Tokens),
+            "fronts" => Some(Question::Fronts),
+            _ => None,
+        }
+    }
+}
+
+/// A line of the rows.
+#[derive(Drop)]
+pub(crate) struct Row<'a> {
+    pub(crate) name: &'a str,
+    pub(crate) question: Question,
+    pub(crate) octets: Vec<u8>,
+}
+
+impl<'a> Row<'a> {
+    /// The row of a line `NAME QUESTION FORM OCTETS`, if it is one. The forms:
+    ///
+    /// - `text OCTETS`: these octets;
+    /// - `file WIDTH OBJECT ..`: the binary file of these objects, with references of so many octets;
+    /// - `laid WIDTH OBJECTS ENTRIES`: the binary file of these octets of objects and these entries of the
+    ///   offset table, of one octet each.
+    pub(crate) fn read(alloc: Global, line: &'a str) -> Result<Option<Row<'a>>, AllocError> {
+        let Some((name, rest)) = line.split_once(' ') else {
+            return Ok(None);
+        };
+        let Some((word, rest)) = rest.split_once(' ') else {
+            return Ok(None);
+        };
+        let Some(question) = Question::of(word) else {
+            return Ok(None);
+        };
+        let Some(octets) = octets_of(alloc, rest)? else {
+            return Ok(None);
+        };
+        Ok(Some(Row {
+            name,
+            question,
+            octets,
+        }))
+    }
+}
+
+// The octets of a form and what stands behind it.
+fn octets_of(alloc: Global, text: &str) -> Result<Option<Vec<u8>>, AllocError> {
+    let (form, rest) = text.split_once(' ').unwrap_or((text, ""));
+    if form == "text" {
+        return Ok(Some(spelled(alloc, rest)?));
+    }
+    let Some((width, rest)) = rest.split_once(' ') else {
+        return Ok(None);
+    };
+    let Ok(width) = width.parse::<u8>() else {
+        return Ok(None);
+    };
+    match form {
+        "file" => Ok(Some(file_of(alloc, rest, width)?)),
+        "laid" => laid(alloc, rest, width),
+        _ => Ok(None),
+    }
+}
+
+// The file of the objects, with blanks between them.
+fn file_of(alloc: Global, objects: &str, width: u8) -> Result<Vec<u8>, AllocError> {
+    let mut draft = Draft::new(alloc)?;
+    for object in objects.split(' ') {
+        draft.put(spelled(alloc, object)?.as_slice())?;
+    }
+    draft.finish(1, width)
+}
+
+// The file of the octets of objects, a blank and the entries.
+fn laid(alloc: Global, text: &str, width: u8) -> Result<Option<Vec<u8>>, AllocError> {
+    let Some((objects, entries)) = text.split_once(' ') else {
+        return Ok(None);
+    };
+    let objects = spelled(alloc, objects)?;
+    let entries = spelled(alloc, entries)?;
+    Ok(Some(file(alloc, objects.as_slice(), entries.as_slice(), width)?))
+}

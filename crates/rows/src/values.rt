@@ -1,0 +1,82 @@
+//! The value that octets spell, told by its canonical file and its OpenStep text, and how others are refused.
+use crate::octets::shown;
+use ostep_write::write_text;
+use plist_canon::{Verdict, canonical, check};
+use plist_files::{
+    Fault, PairFault, begins_as_binary, canonicalise, judge_any, line, read_any, same_files,
+};
+use std::alloc::{AllocError, Global};
+use std::fmt::Write;
+
+/// The line of the value, or of the refusal. Where calls answer otherwise than one another, the line says so.
+pub(crate) fn answer_value(alloc: Global, name: &str, octets: &[u8]) -> Result<String, AllocError> {
+    let mut said = match read_any(alloc, octets) {
+        Ok(value) => {
+            let file = canonical(alloc, &value)?;
+            let mut said = format!(in alloc; "{name}: {}", shown(file.as_slice()))?;
+            match write_text(alloc, &value) {
+                Ok(text) => {
+                    write!(said, "; {}", shown(text.as_slice()))?;
+                    put_unless(
+                        &mut said,
+                        is_file_of(alloc, text.as_slice(), file.as_slice()),
+                    )?;
+                }
+                Err(fault) => write!(said, "; refused {fault} ({})", fault.code())?,
+            }
+            put_unless(&mut said, is_file_of(alloc, octets, file.as_slice()))?;
+            said
+        }
+        Err(fault) => {
+            let mut said = line(alloc, name, &fault)?;
+            write!(said, " ({}, status {})", fault.code(), fault.status())?;
+            put_unless(&mut said, is_refused(alloc, octets, fault))?;
+            said
+        }
+    };
+    if begins_as_binary(octets) {
+        put_verdict(&mut said, alloc, octets)?;
+    }
+    Ok(said)
+}
+
+fn put_unless(said: &mut String, agrees: bool) -> Result<(), AllocError> {
+    if agrees {
+        Ok(())
+    } else {
+        write!(said, "; other calls answer otherwise")
+    }
+}
+
+// Whether each call takes the octets as a spelling of the value of this canonical file.
+fn is_file_of(alloc: Global, octets: &[u8], file: &[u8]) -> bool {
+    let is_own = |octets: &[u8]| match canonicalise(alloc, octets) {
+        Ok(own) => own.as_slice() == file,
+        Err(_) => false,
+    };
+    judge_any(alloc, octets).is_ok()
+        && is_own(octets)
+        && is_own(file)
+        && same_files(alloc, octets, file) == Ok(true)
+        && same_files(alloc, octets, b"(rows)") == Ok(false)
+        && check(alloc, file) == Ok(Verdict::Canonical)
+}
+
+// Whether each call refuses the octets by this fault, as the first of two files and as the second.
+fn is_refused(alloc: Global, octets: &[u8], fault: Fault) -> bool {
+    judge_any(alloc, octets) == Err(fault)
+        && canonicalise(alloc, octets).err() == Some(fault)
+        && same_files(alloc, octets, b"bplist") == Err(PairFault::First(fault))
+        && same_files(alloc, b"{b=a;a=b;}", octets) == Err(PairFault::Second(fault))
+}
+
+// Puts whether the binary file is canonical.
+fn put_verdict(said: &mut String, alloc: Global, octets: &[u8]) -> Result<(), AllocError> {
+    match check(alloc, octets) {
+        Ok(Verdict::Canonical) => write!(said, "; canonical"),
+        Ok(Verdict::Broken { rule, object }) => {
+            write!(said, "; broken C{rule} at object {object}")
+        }
+        Err(fault) => write!(said, "; check refused {fault} ({})", fault.code()),
+    }
+}
