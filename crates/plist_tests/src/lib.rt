@@ -1,23 +1,18 @@
-//! Tests of the crates of the binary form, and the small binary files that they are shown on.
+//! Tests of the crates of the binary form, of what no row of `rows` spells: files that are made, devices that
+//! fail, want of memory. With them the small binary files that tests and rows are shown on.
 #![tactic(auto)]
 
 #[cfg(test)]
 mod canonical_tests;
-#[cfg(test)]
-mod check_tests;
 #[cfg(test)]
 mod engine;
 pub mod files;
 #[cfg(test)]
 mod judge_tests;
 #[cfg(test)]
-mod layout_tests;
-#[cfg(test)]
 mod limit_tests;
 #[cfg(test)]
 mod object_tests;
-#[cfg(test)]
-mod read_tests;
 #[cfg(test)]
 mod send_tests;
 #[cfg(test)]

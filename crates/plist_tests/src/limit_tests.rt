@@ -1,102 +1,63 @@
-//! The limits on depth, nodes and payload, as the reader and the check have them.
+//! The limits on depth, nodes and payload, as the judge, the reader and the check have them.
 use crate::files::{Draft, chain, fan, tower};
-use crate::values::items_of;
-use plist_binary::{BinaryFault, read};
-use plist_canon::{CheckFault, Verdict, check};
-use plist_value::{Value, same};
+use crate::values::made;
+use plist_binary::{BinaryFault, judge, read};
+use plist_canon::{Verdict, check};
 use std::alloc::{AllocError, Global};
 use std::test::Fail;
 
-const CANONICAL: Result<Verdict, CheckFault> = Ok(Verdict::Canonical);
-
-// The check's answer for a value that is not within the limits.
-const PAST_THE_LIMITS: Result<Verdict, CheckFault> = Ok(Verdict::Broken { rule: 0, object: 0 });
-
-#[test]
-fn the_deepest_chain(rt: HostRuntime) -> Result<(), Fail> {
-    let alloc = rt.alloc();
-    let deepest = chain(alloc, 512, b"\x09")?;
-    assert_eq!(rt; deepest.len(), 2598);
-    assert_eq!(rt; check(alloc, deepest.as_slice()), CANONICAL);
-    let mut value = read(alloc, deepest.as_slice())?;
-    for _ in 0..511 {
-        let mut items = items_of(value).ok_or("a list")?;
-        value = items.pop().ok_or("an item")?;
+// Thirty tables whose two keys each name the next one, a flag, and the keys a and b.
+fn tower_of_tables(alloc: Global) -> Result<Vec<u8>, AllocError> {
+    let mut draft = Draft::new(alloc)?;
+    for i in 1..31u8 {
+        draft.put(&[0xd2, 31, 32, i, i])?;
     }
-    assert!(rt; same(&value, &Value::Flag(true)));
-    Ok(())
+    for object in [b"\x09".as_slice(), b"Qa", b"Qb"] {
+        draft.put(object)?;
+    }
+    draft.finish(1, 1)
 }
 
-#[test]
-fn chains_that_are_too_deep(rt: HostRuntime) -> Result<(), Fail> {
-    let alloc = rt.alloc();
-    let deep = Some(BinaryFault::TooDeep { object: 512 });
-    for (count, last, size) in [(513, 0x09, 2603), (20_000, 0xa0, 100_038)] {
-        let octets = chain(alloc, count, &[last])?;
-        assert_eq!(rt; octets.len(), size);
-        assert_eq!(rt; read(alloc, octets.as_slice()).err(), deep);
-        assert_eq!(rt; check(alloc, octets.as_slice()), PAST_THE_LIMITS);
+// So many lists that each hold the next object, and a flag, with references of three octets.
+fn long_chain(alloc: Global, count: u32) -> Result<Vec<u8>, AllocError> {
+    let mut draft = Draft::new(alloc)?;
+    for i in 1..count {
+        let [_, high, middle, low] = i.to_be_bytes();
+        draft.put(&[0xa1, high, middle, low])?;
     }
-    Ok(())
+    draft.put(b"\x09")?;
+    draft.finish(4, 3)
 }
 
-#[test]
-fn fans_are_read(rt: HostRuntime) -> Result<(), Fail> {
-    let alloc = rt.alloc();
-    for count in [4_194_303, 4_194_304] {
-        let octets = fan(alloc, count, b"\x09")?;
-        assert_eq!(rt; octets.len(), count as usize + 55);
-        let items = items_of(read(alloc, octets.as_slice())?).ok_or("a list")?;
-        assert_eq!(rt; items.len(), count as usize);
+// A list of a chain of 300 levels, and of another of 300 lists that ends in the first.
+fn shared_chain(alloc: Global) -> Result<Vec<u8>, AllocError> {
+    let mut draft = Draft::new(alloc)?;
+    draft.put(b"\xa2\x00\x01\x01\x2d")?;
+    for i in 2..301u16 {
+        let [high, low] = i.to_be_bytes();
+        draft.put(&[0xa1, high, low])?;
     }
-    Ok(())
+    draft.put(b"\x09")?;
+    for i in 302..601u16 {
+        let [high, low] = i.to_be_bytes();
+        draft.put(&[0xa1, high, low])?;
+    }
+    draft.put(b"\xa1\x00\x01")?;
+    draft.finish(2, 2)
 }
 
-#[test]
-fn fans_are_checked(rt: HostRuntime) -> Result<(), Fail> {
-    let alloc = rt.alloc();
-    for (count, answer) in [(16_777_215, CANONICAL), (16_777_216, PAST_THE_LIMITS)] {
-        let octets = fan(alloc, count, b"\x09")?;
-        assert_eq!(rt; octets.len(), count as usize + 55);
-        assert_eq!(rt; check(alloc, octets.as_slice()), answer);
-    }
-    Ok(())
-}
-
-// Data of 1,048,576 octets, as an object.
-fn data(alloc: Global) -> Result<Vec<u8>, AllocError> {
-    let mut object = Vec::from_slice(alloc, &[0x4f, 0x12, 0x00, 0x10, 0x00, 0x00])?;
-    object.resize(6 + 1_048_576, 7)?;
-    Ok(object)
-}
-
-#[test]
-fn payload_is_read(rt: HostRuntime) -> Result<(), Fail> {
-    let alloc = rt.alloc();
-    let object = data(alloc)?;
-    for count in [256, 257] {
-        let octets = fan(alloc, count, object.as_slice())?;
-        let items = items_of(read(alloc, octets.as_slice())?).ok_or("a list")?;
-        assert_eq!(rt; items.len(), count as usize);
-    }
-    Ok(())
-}
-
-// Data, and texts of half as many octets.
-#[test]
-fn payload_is_checked(rt: HostRuntime) -> Result<(), Fail> {
-    let alloc = rt.alloc();
-    let mut text = Vec::from_slice(alloc, &[0x5f, 0x12, 0x00, 0x08, 0x00, 0x00])?;
-    text.resize(6 + 524_288, 0x61)?;
-    let data = data(alloc)?;
-    for (object, size) in [(data.as_slice(), 1_049_658), (text.as_slice(), 525_370)] {
-        let most = fan(alloc, 1024, object)?;
-        assert_eq!(rt; most.len(), size);
-        assert_eq!(rt; check(alloc, most.as_slice()), CANONICAL);
-        let over = fan(alloc, 1025, object)?;
-        assert_eq!(rt; check(alloc, over.as_slice()), PAST_THE_LIMITS);
-    }
-    Ok(())
+// A list of so many references to one scalar of this head and so many octets behind it.
+fn heavy_fan(
+    alloc: Global,
+    count: u32,
+    head: &[u8],
+    octets: usize,
+    octet: u8,
+) -> Result<Vec<u8>, AllocError> {
+    let mut object = Vec::from_slice(alloc, head)?;
+    let size = head.len().saturating_add(octets);
+    object.resize(size, octet)?;
+    fan(alloc, count, object.as_slice())
 }
 
 // A table of 1,025 keys: 1,024 times a text of 524,288 units, and the last.
@@ -114,33 +75,128 @@ fn heavy_keys(alloc: Global, last: u8) -> Result<Vec<u8>, AllocError> {
     draft.finish(4, 1)
 }
 
-// So much payload as a value may have, and then a key that is no text, or one text more.
-#[test]
-fn payload_of_keys(rt: HostRuntime) -> Result<(), Fail> {
-    let alloc = rt.alloc();
-    let rows = [
-        (2, BinaryFault::KeyNotText { object: 0 }),
-        (1, BinaryFault::TooMuchPayload { object: 1 }),
-    ];
-    for (last, fault) in rows {
-        let octets = heavy_keys(alloc, last)?;
-        assert_eq!(rt; read(alloc, octets.as_slice()).err(), Some(fault));
-    }
-    Ok(())
+/// A file that is made.
+#[derive(Clone, Copy, Debug)]
+enum Shape {
+    /// So many objects: lists that each hold the next one, and a last one of this octet.
+    Chain(u16, u8),
+    /// The same with references of three octets, and a flag at the end.
+    LongChain(u32),
+    /// Two chains, of which one ends in the other.
+    SharedChain,
+    /// Thirty lists that each hold the next object twice.
+    Tower,
+    /// Thirty tables that each hold the next object twice.
+    TowerOfTables,
+    /// A list that holds a flag so many times.
+    Flags(u32),
+    /// A list that holds data of 1,048,576 octets so many times.
+    Data(u32),
+    /// A list that holds a text of 524,288 units so many times.
+    Texts(u32),
+    /// A table whose keys have as much payload as a value may have, and one key more, this object.
+    HeavyKeys(u8),
 }
 
-// The check meets its container twice before it counts a node.
+impl Shape {
+    fn file(self, alloc: Global) -> Result<Vec<u8>, AllocError> {
+        match self {
+            Shape::Chain(count, last) => chain(alloc, count, &[last]),
+            Shape::LongChain(count) => long_chain(alloc, count),
+            Shape::SharedChain => shared_chain(alloc),
+            Shape::Tower => tower(alloc),
+            Shape::TowerOfTables => tower_of_tables(alloc),
+            Shape::Flags(count) => fan(alloc, count, b"\x09"),
+            Shape::Data(count) => heavy_fan(alloc, count, b"\x4f\x12\0\x10\0\0", 1_048_576, 7),
+            Shape::Texts(count) => heavy_fan(alloc, count, b"\x5f\x12\0\x08\0\0", 524_288, b'a'),
+            Shape::HeavyKeys(last) => heavy_keys(alloc, last),
+        }
+    }
+}
+
+/// What the judge and the reader answer.
+#[derive(Clone, Copy)]
+enum Answer {
+    /// Both refuse it so.
+    Refused(BinaryFault),
+    /// Both accept it, and it is the canonical file of the value that is read.
+    Read,
+    /// It is accepted. Its value is not read here, for want of memory.
+    Judged,
+}
+
+const DEEP: Answer = Answer::Refused(BinaryFault::TooDeep { object: 512 });
+
+const SHARED: Answer = Answer::Refused(BinaryFault::TooDeep { object: 212 });
+
+const TOWER: Answer = Answer::Refused(BinaryFault::TooManyNodes { object: 29 });
+
+const TABLES: Answer = Answer::Refused(BinaryFault::TooManyNodes { object: 32 });
+
+const WIDE: Answer = Answer::Refused(BinaryFault::TooManyNodes { object: 1 });
+
+const HEAVY: Answer = Answer::Refused(BinaryFault::TooMuchPayload { object: 1 });
+
+const NO_TEXT: Answer = Answer::Refused(BinaryFault::KeyNotText { object: 0 });
+
+// A shape, how many octets its file has, what is answered, and the rule that the check finds broken at which
+// object: 0 at 0 for a value past the limits. It meets the container of a tower twice before it counts a node.
+const ROWS: [(Shape, usize, Answer, Option<(u8, u64)>); 20] = [
+    (Shape::Chain(512, 0x09), 2598, Answer::Read, None),
+    (Shape::Chain(513, 0x09), 2603, DEEP, Some((0, 0))),
+    (Shape::Chain(20_000, 0xa0), 100_038, DEEP, Some((0, 0))),
+    (Shape::LongChain(513), 4141, DEEP, Some((2, 0))),
+    (Shape::LongChain(1_000_000), 8_000_037, DEEP, Some((2, 0))),
+    (Shape::SharedChain, 3045, SHARED, Some((7, 600))),
+    (Shape::Tower, 162, TOWER, Some((7, 29))),
+    (Shape::TowerOfTables, 228, TABLES, Some((7, 0))),
+    (Shape::Flags(4_194_303), 4_194_358, Answer::Read, None),
+    (Shape::Flags(4_194_304), 4_194_359, Answer::Read, None),
+    (Shape::Flags(16_777_215), 16_777_270, Answer::Judged, None),
+    (Shape::Flags(16_777_216), 16_777_271, WIDE, Some((0, 0))),
+    (Shape::Data(256), 1_048_890, Answer::Read, None),
+    (Shape::Data(257), 1_048_891, Answer::Read, None),
+    (Shape::Data(1024), 1_049_658, Answer::Judged, None),
+    (Shape::Data(1025), 1_049_659, HEAVY, Some((0, 0))),
+    (Shape::Texts(1024), 525_370, Answer::Judged, None),
+    (Shape::Texts(1025), 525_371, HEAVY, Some((0, 0))),
+    // A key that is no text, or one text more, behind so much payload as a value may have.
+    (Shape::HeavyKeys(2), 1_050_689, NO_TEXT, Some((0, 0))),
+    (Shape::HeavyKeys(1), 1_050_689, HEAVY, Some((5, 0))),
+];
+
+// What the check answers, if this rule is broken at this object.
+fn verdict(broken: Option<(u8, u64)>) -> Verdict {
+    match broken {
+        Some((rule, object)) => Verdict::Broken { rule, object },
+        None => Verdict::Canonical,
+    }
+}
+
 #[test]
-fn a_tower(rt: HostRuntime) -> Result<(), Fail> {
+fn files_at_the_limits(rt: HostRuntime) -> Result<(), Fail> {
     let alloc = rt.alloc();
-    let octets = tower(alloc)?;
-    assert_eq!(rt; octets.len(), 162);
-    let fault = BinaryFault::TooManyNodes { object: 29 };
-    assert_eq!(rt; read(alloc, octets.as_slice()).err(), Some(fault));
-    let broken = Ok(Verdict::Broken {
-        rule: 7,
-        object: 29,
-    });
-    assert_eq!(rt; check(alloc, octets.as_slice()), broken);
+    for (shape, size, answer, broken) in ROWS {
+        let octets = shape.file(alloc)?;
+        assert_eq!(rt; octets.len(), size, "{shape:?}");
+        assert_eq!(rt;
+            check(alloc, octets.as_slice()),
+            Ok(verdict(broken)),
+            "{shape:?}"
+        );
+        let fault = judge(alloc, octets.as_slice()).err();
+        match answer {
+            Answer::Refused(other) => {
+                assert_eq!(rt; fault, Some(other), "{shape:?}");
+                assert_eq!(rt; read(alloc, octets.as_slice()).err(), fault, "{shape:?}");
+            }
+            Answer::Read => {
+                assert_eq!(rt; fault, None, "{shape:?}");
+                let value = read(alloc, octets.as_slice())?;
+                assert!(rt; made(alloc, &value)? == octets, "{shape:?}");
+            }
+            Answer::Judged => assert_eq!(rt; fault, None, "{shape:?}"),
+        }
+    }
     Ok(())
 }

@@ -65,10 +65,3 @@ pub(crate) fn made(alloc: Global, value: &Value) -> Result<Vec<u8>, Fail> {
     }
     Ok(canonical(alloc, value)?)
 }
-
-pub(crate) fn items_of(value: Value) -> Option<Vec<Value>> {
-    match value {
-        Value::List(items) => Some(items),
-        _ => None,
-    }
-}
