@@ -6,7 +6,7 @@ usage: bench/refused.py PROGRAM [WORD..] [< INPUT]
 The program is run once with ample memory, and then once for each allocation, which is refused by a small
 library (bench/refuse.c, made with cc). Each run must end as the first did, with the same output, or say
 that memory was refused: status 5 for plistconv, AllocError for one of a crate's tests, as
-`crates/plist_write/out/plist_write_tests tests::small_files`. Printed is how many runs ended in which way.
+`crates/plist_tests/out/plist_tests_tests judge_tests::want_of_memory`. Printed is how many runs ended in which way.
 """
 import collections
 import os
