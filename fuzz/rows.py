@@ -1,0 +1,155 @@
+#!/usr/bin/env python3
+"""Holds what crates/rows must print against a second reading of the formats (oracle.py).
+
+    fuzz/rows.py [--print]
+
+Each row of crates/rows/stdin is answered by the second reading, and the answers are compared with
+crates/rows/stdout; the status is 1 where one differs. With --print they are printed, as the lines of new rows."""
+import os
+import sys
+
+import oracle
+from oracle import Refused
+
+ROWS = os.path.join(os.path.dirname(os.path.abspath(__file__)), '..', 'crates', 'rows')
+
+
+def shown(octets):
+    return ''.join(chr(octet) if 0x20 <= octet < 0x7f and octet != 0x25 else '%%%02X' % octet for octet in octets)
+
+
+def spelled(text):
+    first, *others = text.encode().split(b'%')
+    return first + b''.join(bytes([int(other[:2], 16)]) + other[2:] for other in others)
+
+
+def file(objects, places, width):
+    numbers = (len(places).to_bytes(8, 'big'), bytes(8), (8 + len(objects)).to_bytes(8, 'big'))
+    return b'bplist00' + objects + bytes(places) + bytes(6) + bytes([1, width]) + b''.join(numbers)
+
+
+def octets_of(form):
+    kind, _, rest = form.partition(' ')
+    if kind == 'text':
+        return spelled(rest)
+    width, *words = rest.split(' ')
+    words = [spelled(word) for word in words]
+    if kind == 'laid':
+        return file(words[0], words[1], int(width))
+    places = [8 + sum(map(len, words[:n])) for n in range(len(words))]
+    return file(b''.join(words), places, int(width))
+
+
+def overlapping(octets):
+    """Whether texts that tables name as keys are longer than what stands before the offset table, and the first
+    object that does not read or does not stand where the one before it ends: it is answered first."""
+    file, keys, end = oracle.File(octets), {}, 8
+    for n in range(file.count):
+        try:
+            content, behind = file.object(n)
+            if content[0] == 'table':
+                keys.update((key, len(file.object(key)[0][1][1])) for key in content[1])
+        except (Refused, IndexError, TypeError):
+            return None
+    if sum(keys.values()) <= file.table:
+        return None
+    for n in range(file.count):
+        if file.place(n) != end:
+            return 'broken C3 at object %d' % n
+        end = file.object(n)[1]
+    return None
+
+
+def verdict(octets):
+    try:
+        return overlapping(octets) or oracle.check(octets)
+    except Refused as fault:
+        return 'check refused %s (%d)' % (fault.text(), fault.code)
+
+
+def value(octets):
+    try:
+        found = oracle.read_any(octets)
+        said = shown(oracle.canonical(found))
+        try:
+            said += '; ' + shown(oracle.openstep(found))
+        except Refused as fault:
+            said += '; refused %s (%d)' % (fault.text(), fault.code)
+    except Refused as fault:
+        said = 'refused %s (%d, status 2)' % (fault.text(), fault.code)
+    return said + ('; ' + verdict(octets) if octets[:6] == b'bplist' else '')
+
+
+def layout(octets):
+    found = oracle.File(octets)
+    widths = [found.offset_width, found.reference_width]
+    said = '%d objects, top %d, table %d, widths %s, slack %s' % (
+        found.count, found.top, found.table, widths, shown(found.slack))
+    for n in range(found.count):
+        place = found.place(n)
+        try:
+            (kind, *held), behind = content, behind = found.object(n)
+        except Refused as fault:
+            said += '; %d refused %s (%d) %s' % (place, fault.text(), fault.code, fault.text())
+            continue
+        shortest = octets[place:behind] == oracle.canonical_object(found, content)
+        said += '; %d..%d %s %s' % (place, behind, 'shortest' if shortest else 'longer', kind)
+        if kind != 'scalar':
+            said += ' to'.join(''.join(' %d' % number for number in part) for part in held)
+    return said
+
+
+def tokens(octets):
+    found, _ = oracle.tokens(octets)
+    start = 3 if octets[:3] == b'\xef\xbb\xbf' else 2 if octets[:2] in (b'\xfe\xff', b'\xff\xfe') else 0
+    plain = lambda unit: chr(unit) if 0x21 <= unit <= 0x7e else '\\U%04x' % unit
+    texts = {'string': lambda units: '"%s"' % ''.join(map(plain, units)), 'data': lambda data: '<%s>' % shown(data)}
+    spans = ('; %d..%d %s' % (first, behind, texts[kind](content) if kind in texts else kind)
+             for kind, content, first, behind in found)
+    return 'from %d%s' % (start, ''.join(spans))
+
+
+def fronts(octets):
+    said, last = [], None
+    for length in range(len(octets) + 1):
+        try:
+            oracle.read_any(octets[:length])
+            answer = 'accepted'
+        except Refused as fault:
+            answer = 'refused ' + fault.text()
+        if answer != last:
+            said.append('%d %s;' % (length, answer))
+            last = answer
+    return ' '.join(said)
+
+
+def answer(line):
+    name, question, form = line.split(' ', 2)
+    ask = {'value': value, 'layout': layout, 'tokens': tokens, 'fronts': fronts}[question]
+    try:
+        return '%s: %s' % (name, ask(octets_of(form)))
+    except Refused as fault:
+        return '%s: refused %s (%d)' % (name, fault.text(), fault.code)
+
+
+def lines(name):
+    with open(os.path.join(ROWS, name), encoding='ascii') as held:
+        return held.read().splitlines()
+
+
+def main():
+    answers = [answer(line) for line in lines('stdin') if line and not line.startswith('#')]
+    if sys.argv[1:] == ['--print']:
+        print('\n'.join(answers))
+        return 0
+    told = lines('stdout')
+    differences = [pair for pair in zip(told, answers) if pair[0] != pair[1]]
+    for pair in differences:
+        print('stdout: %s\nsecond reading: %s' % pair)
+    if len(told) != len(answers):
+        print('stdout has %d lines for %d rows' % (len(told), len(answers)))
+    return 1 if differences or len(told) != len(answers) else 0
+
+
+if __name__ == '__main__':
+    sys.exit(main())
