@@ -1,21 +1,13 @@
-//! Tests of `plist_convert`, by its public calls.
+//! Tests of `plist_convert`, by its public calls, of what no row of `rows` spells.
 #![tactic(auto)]
 
 #[cfg(test)]
-mod canonical_tests;
-#[cfg(test)]
-mod check_tests;
-#[cfg(test)]
-mod container_tests;
-#[cfg(test)]
 mod help_tests;
+#[cfg(test)]
+mod loading_tests;
 #[cfg(test)]
 mod readme;
 #[cfg(test)]
 mod size_tests;
-#[cfg(test)]
-mod tests;
-#[cfg(test)]
-mod text_tests;
 #[cfg(test)]
 mod transfer_tests;

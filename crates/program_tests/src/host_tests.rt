@@ -1,5 +1,5 @@
 //! The words of the program, over the files of the host.
-use crate::worked_files::{REAL4, REAL8, TABLE, TABLE_TEXT, TRUE, TWICE, UNSORTED};
+use crate::worked_files::{REAL4, REAL8, TABLE, TABLE_TEXT, TRUE, TWICE, UNSORTED, VALUES_FIRST};
 use plist_program::run;
 use std::fs;
 use std::io::{self, Read, Write};
@@ -11,7 +11,7 @@ fn status_of(rt: &HostRuntime, words: &[&str], output: &mut Vec<u8>) -> u8 {
 }
 
 /// What stands at the paths of the worked rows.
-const FILES: [(&str, &[u8]); 7] = [
+const FILES: [(&str, &[u8]); 10] = [
     ("row2.txt", TABLE_TEXT),
     ("row2.bin", TABLE),
     ("unsorted.bin", UNSORTED),
@@ -19,6 +19,9 @@ const FILES: [(&str, &[u8]); 7] = [
     ("real4.bin", REAL4),
     ("real8.bin", REAL8),
     ("true.bin", TRUE),
+    ("values.bin", VALUES_FIRST),
+    ("short.bin", b"bplist00"),
+    ("old", b"old"),
 ];
 
 #[test]
@@ -54,6 +57,12 @@ fn answers_the_worked_rows(rt: HostRuntime) -> Result<(), Fail> {
         ),
         ("plistconv check row2.bin", "canonical\n", 0),
         ("plistconv check unsorted.bin", "broken C5 at object 0\n", 1),
+        ("plistconv check values.bin", "broken C7 at object 0\n", 1),
+        (
+            "plistconv check missing",
+            "missing: refused 50 ReadFailed\n",
+            4,
+        ),
         (
             "plistconv check row2.txt",
             "row2.txt: refused 1 TooShort\n",
@@ -80,6 +89,31 @@ fn answers_the_worked_rows(rt: HostRuntime) -> Result<(), Fail> {
             "twice.txt: refused 14 DuplicateKey at octet 3\n",
             2,
         ),
+        (
+            "plistconv convert binary1 short.bin old",
+            "short.bin: refused 1 TooShort\n",
+            2,
+        ),
+        (
+            "plistconv convert binary1 twice.txt old",
+            "twice.txt: refused 14 DuplicateKey at octet 3\n",
+            2,
+        ),
+        (
+            "plistconv convert binary1 missing new",
+            "missing: refused 50 ReadFailed\n",
+            4,
+        ),
+        (
+            "plistconv convert binary1 - new",
+            "-: refused 50 ReadFailed\n",
+            4,
+        ),
+        (
+            "plistconv convert binary1 . new",
+            ".: refused 50 ReadFailed\n",
+            4,
+        ),
         ("plistconv convert binary1 unsorted.bin unsorted.bin", "", 0),
         ("plistconv check unsorted.bin", "canonical\n", 0),
     ];
@@ -94,6 +128,8 @@ fn answers_the_worked_rows(rt: HostRuntime) -> Result<(), Fail> {
     assert_eq!(rt; written.as_slice(), TABLE);
     let written = fs::read(&rt, "text")?;
     assert_eq!(rt; written.as_slice(), b"{\na = b;\nb = a;\n}\n".as_slice());
+    let kept = fs::read(&rt, "old")?;
+    assert_eq!(rt; kept.as_slice(), b"old".as_slice());
     assert!(rt; !fs::exists(&rt, "new")?);
     for (path, _) in FILES {
         fs::remove_file(&rt, path)?;
@@ -116,6 +152,8 @@ fn answers_other_words(rt: HostRuntime) -> Result<(), Fail> {
         ("plistconv turn row2.txt", 3, "error: "),
         ("plistconv same row2.txt", 3, "error: "),
         ("plistconv lint", 3, "error: "),
+        ("plistconv check", 3, "error: "),
+        ("plistconv convert binary1 a", 3, "error: "),
         ("plistconv convert binary2 a b", 3, "error: "),
         ("plistconv --", 3, "error: "),
     ];
@@ -129,13 +167,20 @@ fn answers_other_words(rt: HostRuntime) -> Result<(), Fail> {
     Ok(())
 }
 
-/// Fails at each read.
+/// Gives two octets and then fails.
 #[derive(Drop)]
-struct Broken;
+struct Broken {
+    has_given: bool,
+}
 
 impl Read for Broken {
-    fn read(&mut self, _buf: &mut [u8]) -> io::Result<usize> {
-        Err(io::Error::from(io::ErrorKind::Other))
+    fn read(&mut self, buf: &mut [u8]) -> io::Result<usize> {
+        if self.has_given {
+            return Err(io::Error::from(io::ErrorKind::BrokenPipe));
+        }
+        self.has_given = true;
+        let mut two: &[u8] = b"ab";
+        two.read(buf)
     }
 }
 
@@ -159,13 +204,17 @@ impl Write for Narrow {
 
 #[test]
 fn filters_standard_input(rt: HostRuntime) -> Result<(), Fail> {
-    let mut input = UNSORTED;
+    let words: [&[&str]; 2] = [&["plistconv"], &[]];
+    for given in words {
+        for mut input in [UNSORTED, TABLE_TEXT] {
+            let mut output = Vec::new(rt.alloc());
+            assert_eq!(rt; run(&rt, rt.alloc(), given, &mut input, &mut output), 0);
+            assert_eq!(rt; output.as_slice(), TABLE);
+        }
+    }
+    let mut broken = Broken { has_given: false };
     let mut output = Vec::new(rt.alloc());
-    let status = run(&rt, rt.alloc(), &["plistconv"], &mut input, &mut output);
-    assert_eq!(rt; status, 0);
-    assert_eq!(rt; output.as_slice(), TABLE);
-    let mut output = Vec::new(rt.alloc());
-    assert_eq!(rt; run(&rt, rt.alloc(), &[], &mut Broken, &mut output), 4);
+    assert_eq!(rt; run(&rt, rt.alloc(), &[], &mut broken, &mut output), 4);
     assert_eq!(rt; output.as_slice(), b"-: refused 50 ReadFailed\n".as_slice());
     // The file breaks off, and the line of that cannot be printed either.
     let mut input = TABLE;

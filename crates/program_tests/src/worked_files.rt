@@ -11,6 +11,10 @@ pub(crate) const TABLE: &[u8] =
 pub(crate) const UNSORTED: &[u8] =
     b"bplist00\xd2\x01\x02\x02\x01\x51b\x51a\x08\x0d\x0f\0\0\0\0\0\0\x01\x01\0\0\0\0\0\0\0\x03\0\0\0\0\0\0\0\0\0\0\0\0\0\0\0\x11";
 
+/// The same table with its values' objects before those of its keys.
+pub(crate) const VALUES_FIRST: &[u8] =
+    b"bplist00\xd2\x02\x01\x01\x02\x51b\x51a\x08\x0d\x0f\0\0\0\0\0\0\x01\x01\0\0\0\0\0\0\0\x03\0\0\0\0\0\0\0\0\0\0\0\0\0\0\0\x11";
+
 /// A text that holds one key twice.
 pub(crate) const TWICE: &[u8] = b"{a;a=b;}";
 
