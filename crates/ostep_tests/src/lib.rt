@@ -1,11 +1,9 @@
-//! Tests of the crates of the text form, through their public calls.
+//! Tests of the crates of the text form, through their public calls, of what no row of `rows` spells.
 #![tactic(auto)]
 
 #[cfg(test)]
-mod faults_of_texts;
+mod depth;
 #[cfg(test)]
-mod reading;
+mod faults;
 #[cfg(test)]
 mod tokens;
-#[cfg(test)]
-mod writing;
