@@ -3,11 +3,10 @@ ghost use Rattle.std.specs.Prelude.{IfOk};
 ghost use Rattle.plist_value.specs.Plist.{Plist};
 ghost use Rattle.plist_object.specs.Spelled.{IsBinary};
 
-use crate::files::{file, file_of};
+use crate::files::file_of;
 use plist_binary::read;
-use plist_engine::{canonical_of, write_canonical_of};
+use plist_engine::canonical_of;
 use plist_object::BinFile;
-use plist_write::{ListSink, WriteFault};
 use std::alloc::{AllocError, Global};
 use std::test::Fail;
 
@@ -22,25 +21,11 @@ fn judge(alloc: Global, octets: &[u8]) -> Result<(), AllocError>
     Ok(())
 }
 
-// The canonical file of the value that the octets spell.
-fn canonical_file(alloc: Global, octets: &[u8]) -> Result<Vec<u8>, AllocError> {
+/// The canonical file of the value that the octets spell.
+pub(crate) fn canonical_file(alloc: Global, octets: &[u8]) -> Result<Vec<u8>, AllocError> {
     judge(alloc, octets)?;
     match BinFile::of(octets) {
         Ok(file) => canonical_of(alloc, &file),
-        Err(_) => Err(AllocError),
-    }
-}
-
-// What a sink of so much room answers to the canonical file of the value that the octets spell.
-fn sent_file(
-    alloc: Global,
-    octets: &[u8],
-    room: usize,
-) -> Result<Result<u64, WriteFault>, AllocError> {
-    judge(alloc, octets)?;
-    let mut sink = ListSink::new(alloc, room, 7)?;
-    match BinFile::of(octets) {
-        Ok(file) => Ok(write_canonical_of(alloc, &file, &mut sink)),
         Err(_) => Err(AllocError),
     }
 }
@@ -98,17 +83,5 @@ fn each_rotation_has_one_file(rt: HostRuntime) -> Result<(), Fail> {
         let canonical = canonical_file(rt.alloc(), source.as_slice())?;
         assert_eq!(rt; canonical.as_slice(), own.as_slice());
     }
-    Ok(())
-}
-
-#[test]
-fn a_sink_that_fails_took_what_is_told(rt: HostRuntime) -> Result<(), Fail> {
-    let source = file(rt.alloc(), b"\xa2\x01\x02Qa\x41a", &[8, 11, 13], 1)?;
-    for room in 0..50 {
-        let sent = sent_file(rt.alloc(), source.as_slice(), room)?;
-        assert_eq!(rt; sent, Err(WriteFault::WriteFailed { sent: room as u64 }));
-    }
-    let sent = sent_file(rt.alloc(), source.as_slice(), 50)?;
-    assert_eq!(rt; sent, Ok(50));
     Ok(())
 }

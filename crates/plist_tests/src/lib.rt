@@ -3,8 +3,6 @@
 #![tactic(auto)]
 
 #[cfg(test)]
-mod canonical_tests;
-#[cfg(test)]
 mod engine;
 pub mod files;
 #[cfg(test)]

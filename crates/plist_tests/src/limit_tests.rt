@@ -1,4 +1,6 @@
-//! The limits on depth, nodes and payload, as the judge, the reader and the check have them.
+//! Files that are made: the limits on depth, nodes and payload, as the judge, the reader and the check have them,
+//! and the widths of references and offsets.
+use crate::engine::canonical_file;
 use crate::files::{Draft, chain, fan, tower};
 use crate::values::made;
 use plist_binary::{BinaryFault, judge, read};
@@ -75,6 +77,32 @@ fn heavy_keys(alloc: Global, last: u8) -> Result<Vec<u8>, AllocError> {
     draft.finish(4, 1)
 }
 
+// The list of the texts of the numbers below the count, of three digits each, with references of this width.
+fn numbers(alloc: Global, count: u8, width: u8) -> Result<Vec<u8>, AllocError> {
+    let mut list = Vec::from_slice(alloc, &[0xaf, 0x10, count])?;
+    for number in 1..=u64::from(count) {
+        let skipped = 8 - usize::from(width.min(8));
+        list.extend_from_slice(&number.to_be_bytes()[skipped..])?;
+    }
+    let mut draft = Draft::new(alloc)?;
+    draft.put(list.as_slice())?;
+    for number in 0..count {
+        let digits = [number / 100, number / 10 % 10, number % 10];
+        draft.put(&[0x53, b'0' + digits[0], b'0' + digits[1], b'0' + digits[2]])?;
+    }
+    draft.finish(2, width)
+}
+
+// Data of so many zeros, with this head and offsets of this width.
+fn zeros(alloc: Global, head: &[u8], count: u8, width: u8) -> Result<Vec<u8>, AllocError> {
+    let mut object = Vec::from_slice(alloc, head)?;
+    let size = head.len().saturating_add(usize::from(count));
+    object.resize(size, 0)?;
+    let mut draft = Draft::new(alloc)?;
+    draft.put(object.as_slice())?;
+    draft.finish(width, 1)
+}
+
 /// A file that is made.
 #[derive(Clone, Copy, Debug)]
 enum Shape {
@@ -94,6 +122,10 @@ enum Shape {
     Data(u32),
     /// A list that holds a text of 524,288 units so many times.
     Texts(u32),
+    /// A list of so many texts of three digits, with references of so many octets.
+    Numbers(u8, u8),
+    /// Data of so many zeros behind a head, with an offset of so many octets.
+    Zeros(&'static [u8], u8, u8),
     /// A table whose keys have as much payload as a value may have, and one key more, this object.
     HeavyKeys(u8),
 }
@@ -109,6 +141,8 @@ impl Shape {
             Shape::Flags(count) => fan(alloc, count, b"\x09"),
             Shape::Data(count) => heavy_fan(alloc, count, b"\x4f\x12\0\x10\0\0", 1_048_576, 7),
             Shape::Texts(count) => heavy_fan(alloc, count, b"\x5f\x12\0\x08\0\0", 524_288, b'a'),
+            Shape::Numbers(count, width) => numbers(alloc, count, width),
+            Shape::Zeros(head, count, width) => zeros(alloc, head, count, width),
             Shape::HeavyKeys(last) => heavy_keys(alloc, last),
         }
     }
@@ -139,9 +173,17 @@ const HEAVY: Answer = Answer::Refused(BinaryFault::TooMuchPayload { object: 1 })
 
 const NO_TEXT: Answer = Answer::Refused(BinaryFault::KeyNotText { object: 0 });
 
+const NUMBERS_254: Shape = Shape::Numbers(254, 1);
+
+const NUMBERS_255: Shape = Shape::Numbers(255, 2);
+
+const ZEROS_244: Shape = Shape::Zeros(b"\x4f\x10\xf4", 244, 1);
+
+const ZEROS_245: Shape = Shape::Zeros(b"\x4f\x10\xf5", 245, 2);
+
 // A shape, how many octets its file has, what is answered, and the rule that the check finds broken at which
 // object: 0 at 0 for a value past the limits. It meets the container of a tower twice before it counts a node.
-const ROWS: [(Shape, usize, Answer, Option<(u8, u64)>); 20] = [
+const ROWS: [(Shape, usize, Answer, Option<(u8, u64)>); 24] = [
     (Shape::Chain(512, 0x09), 2598, Answer::Read, None),
     (Shape::Chain(513, 0x09), 2603, DEEP, Some((0, 0))),
     (Shape::Chain(20_000, 0xa0), 100_038, DEEP, Some((0, 0))),
@@ -160,6 +202,11 @@ const ROWS: [(Shape, usize, Answer, Option<(u8, u64)>); 20] = [
     (Shape::Data(1025), 1_049_659, HEAVY, Some((0, 0))),
     (Shape::Texts(1024), 525_370, Answer::Judged, None),
     (Shape::Texts(1025), 525_371, HEAVY, Some((0, 0))),
+    // Where a reference and an offset grow past one octet.
+    (NUMBERS_254, 1823, Answer::Read, None),
+    (NUMBERS_255, 2085, Answer::Read, None),
+    (ZEROS_244, 288, Answer::Read, None),
+    (ZEROS_245, 290, Answer::Read, None),
     // A key that is no text, or one text more, behind so much payload as a value may have.
     (Shape::HeavyKeys(2), 1_050_689, NO_TEXT, Some((0, 0))),
     (Shape::HeavyKeys(1), 1_050_689, HEAVY, Some((5, 0))),
@@ -194,9 +241,31 @@ fn files_at_the_limits(rt: HostRuntime) -> Result<(), Fail> {
                 assert_eq!(rt; fault, None, "{shape:?}");
                 let value = read(alloc, octets.as_slice())?;
                 assert!(rt; made(alloc, &value)? == octets, "{shape:?}");
+                let own = canonical_file(alloc, octets.as_slice())?;
+                assert!(rt; own == octets, "{shape:?}");
             }
             Answer::Judged => assert_eq!(rt; fault, None, "{shape:?}"),
         }
+    }
+    Ok(())
+}
+
+// Files whose widths are not the least, and their canonical files.
+const SOURCES: [(Shape, Shape); 6] = [
+    (Shape::Numbers(254, 2), NUMBERS_254),
+    (Shape::Numbers(254, 3), NUMBERS_254),
+    (Shape::Numbers(255, 1), NUMBERS_255),
+    (Shape::Numbers(255, 3), NUMBERS_255),
+    (Shape::Zeros(b"\x4f\x11\0\xf4", 244, 3), ZEROS_244),
+    (Shape::Zeros(b"\x4f\x11\0\xf5", 245, 2), ZEROS_245),
+];
+
+#[test]
+fn widths_are_the_least(rt: HostRuntime) -> Result<(), Fail> {
+    let alloc = rt.alloc();
+    for (source, own) in SOURCES {
+        let canonical = canonical_file(alloc, source.file(alloc)?.as_slice())?;
+        assert!(rt; canonical == own.file(alloc)?, "{source:?}");
     }
     Ok(())
 }

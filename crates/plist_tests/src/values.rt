@@ -17,13 +17,6 @@ pub(crate) fn data(alloc: Global, octets: &[u8]) -> Result<Value, AllocError> {
     Ok(Value::Bytes(Vec::from_slice(alloc, octets)?))
 }
 
-pub(crate) fn pair(alloc: Global, first: Value, second: Value) -> Result<Value, AllocError> {
-    let mut items = Vec::new(alloc);
-    items.push(first)?;
-    items.push(second)?;
-    Ok(Value::List(items))
-}
-
 pub(crate) fn empty_list(alloc: Global) -> Value {
     Value::List(Vec::new(alloc))
 }
@@ -55,8 +48,6 @@ pub(crate) fn numbers(alloc: Global, count: u32, powers: &[u32]) -> Result<Value
 }
 
 pub(crate) const THREE_DIGITS: [u32; 3] = [100, 10, 1];
-
-pub(crate) const FIVE_DIGITS: [u32; 5] = [10_000, 1000, 100, 10, 1];
 
 // The file of a value within the limits.
 pub(crate) fn made(alloc: Global, value: &Value) -> Result<Vec<u8>, Fail> {
