@@ -5,9 +5,19 @@ use std::fs;
 use std::io::{self, Read, Write};
 use std::test::Fail;
 
+// The status of a run with this input.
+fn status_with<R: Read>(
+    rt: &HostRuntime,
+    words: &[&str],
+    input: &mut R,
+    output: &mut Vec<u8>,
+) -> u8 {
+    run(rt, rt.alloc(), words, input, output)
+}
+
 fn status_of(rt: &HostRuntime, words: &[&str], output: &mut Vec<u8>) -> u8 {
     let mut input: &[u8] = b"";
-    run(rt, rt.alloc(), words, &mut input, output)
+    status_with(rt, words, &mut input, output)
 }
 
 /// What stands at the paths of the worked rows.
@@ -208,13 +218,13 @@ fn filters_standard_input(rt: HostRuntime) -> Result<(), Fail> {
     for given in words {
         for mut input in [UNSORTED, TABLE_TEXT] {
             let mut output = Vec::new(rt.alloc());
-            assert_eq!(rt; run(&rt, rt.alloc(), given, &mut input, &mut output), 0);
+            assert_eq!(rt; status_with(&rt, given, &mut input, &mut output), 0);
             assert_eq!(rt; output.as_slice(), TABLE);
         }
     }
     let mut broken = Broken { has_given: false };
     let mut output = Vec::new(rt.alloc());
-    assert_eq!(rt; run(&rt, rt.alloc(), &[], &mut broken, &mut output), 4);
+    assert_eq!(rt; status_with(&rt, &[], &mut broken, &mut output), 4);
     assert_eq!(rt; output.as_slice(), b"-: refused 50 ReadFailed\n".as_slice());
     // The file breaks off, and the line of that cannot be printed either.
     let mut input = TABLE;

@@ -6,6 +6,20 @@ use plist_program::run_on;
 use std::alloc::{AllocError, Global};
 use std::test::Fail;
 
+// The status of a run and its output, where the input gives these octets, and fails at the take of this number.
+fn ran(
+    alloc: Global,
+    disk: &mut MemoryDisk,
+    words: &[&str],
+    input: &[u8],
+    failing: Option<u64>,
+) -> Result<(u8, ListSink), AllocError> {
+    let mut input = ListSource::new(input, 3, failing);
+    let mut output = ListSink::new(alloc, 6000, 7)?;
+    let status = run_on(alloc, disk, words, &mut input, &mut output);
+    Ok((status, output))
+}
+
 #[test]
 fn runs_over_a_disk_in_memory(rt: HostRuntime) -> Result<(), Fail> {
     let alloc = rt.alloc();
@@ -28,9 +42,7 @@ fn runs_over_a_disk_in_memory(rt: HostRuntime) -> Result<(), Fail> {
     ];
     for (text, printed, want) in rows {
         let words: Vec<&str> = text.split(' ').collect(alloc)?;
-        let mut input = ListSource::new(b"", 1, None);
-        let mut output = ListSink::new(alloc, 100, 7)?;
-        let status = run_on(alloc, &mut disk, words.as_slice(), &mut input, &mut output);
+        let (status, output) = ran(alloc, &mut disk, words.as_slice(), b"", None)?;
         assert_eq!(rt; output.taken(), printed.as_bytes(), "at {text}");
         assert_eq!(rt; status, want, "at {text}");
     }
@@ -46,32 +58,13 @@ fn a_full_disk_takes_a_front(rt: HostRuntime) -> Result<(), Fail> {
     let mut disk = MemoryDisk::new(alloc, 10, 7);
     disk.put(alloc, "in", Vec::from_slice(alloc, UNSORTED)?)?;
     let words = ["plistconv", "convert", "binary1", "in", "out"];
-    let mut input = ListSource::new(b"", 1, None);
-    let mut output = ListSink::new(alloc, 100, 7)?;
-    let status = run_on(alloc, &mut disk, words.as_slice(), &mut input, &mut output);
+    let (status, output) = ran(alloc, &mut disk, words.as_slice(), b"", None)?;
     assert_eq!(rt; status, 4);
     assert_eq!(rt;
         output.taken(),
         b"out: refused 51 WriteFailed after 10 octets\n".as_slice()
     );
     assert_eq!(rt; disk.at("out"), Some(&TABLE[..10]));
-    Ok(())
-}
-
-#[test]
-fn filters_in_memory(rt: HostRuntime) -> Result<(), Fail> {
-    let alloc = rt.alloc();
-    let mut disk = MemoryDisk::new(alloc, 100, 7);
-    let mut input = ListSource::new(UNSORTED, 3, None);
-    let mut output = ListSink::new(alloc, 100, 7)?;
-    let status = run_on(alloc, &mut disk, &["plistconv"], &mut input, &mut output);
-    assert_eq!(rt; status, 0);
-    assert_eq!(rt; output.taken(), TABLE);
-    let mut input = ListSource::new(UNSORTED, 3, Some(2));
-    let mut output = ListSink::new(alloc, 100, 7)?;
-    let status = run_on(alloc, &mut disk, &["plistconv"], &mut input, &mut output);
-    assert_eq!(rt; status, 4);
-    assert_eq!(rt; output.taken(), b"-: refused 50 ReadFailed\n".as_slice());
     Ok(())
 }
 
@@ -87,19 +80,23 @@ fn long_data(alloc: Global, head: &[u8], table: u8) -> Result<Vec<u8>, AllocErro
     Ok(octets)
 }
 
-// Data of more than 4,096 octets goes out without a copy.
 #[test]
-fn filters_long_data(rt: HostRuntime) -> Result<(), Fail> {
+fn filters_in_memory(rt: HostRuntime) -> Result<(), Fail> {
     let alloc = rt.alloc();
+    let mut disk = MemoryDisk::new(alloc, 100, 7);
+    // Data of more than 4,096 octets goes out without a copy.
     let long = long_data(alloc, b"\x4f\x12\0\0\x13\x88", 0x96)?;
     let own = long_data(alloc, b"\x4f\x11\x13\x88", 0x94)?;
-    let mut disk = MemoryDisk::new(alloc, 100, 7);
-    for octets in [long.as_slice(), own.as_slice()] {
-        let mut input = ListSource::new(octets, 1000, None);
-        let mut output = ListSink::new(alloc, 6000, 999)?;
-        let status = run_on(alloc, &mut disk, &["plistconv"], &mut input, &mut output);
-        assert_eq!(rt; status, 0);
-        assert!(rt; output.taken() == own.as_slice());
+    let rows: [(&[u8], Option<u64>, &[u8], u8); 4] = [
+        (UNSORTED, None, TABLE, 0),
+        (UNSORTED, Some(2), b"-: refused 50 ReadFailed\n", 4),
+        (long.as_slice(), None, own.as_slice(), 0),
+        (own.as_slice(), None, own.as_slice(), 0),
+    ];
+    for (octets, failing, printed, want) in rows {
+        let (status, output) = ran(alloc, &mut disk, &["plistconv"], octets, failing)?;
+        assert!(rt; output.taken() == printed);
+        assert_eq!(rt; status, want);
     }
     Ok(())
 }
