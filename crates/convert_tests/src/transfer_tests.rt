@@ -17,46 +17,46 @@ fn table_file(alloc: Global) -> Result<Vec<u8>, AllocError> {
     file(alloc, &objects, &[8, 13, 15], 1)
 }
 
-#[test]
-fn converts_between_devices(rt: HostRuntime) -> Result<(), Fail> {
-    let alloc = rt.alloc();
-    let own = table_file(alloc)?;
-    let unsorted = [0xd2, 1, 2, 2, 1, 0x51, 0x62, 0x51, 0x61];
-    let unsorted = file(alloc, &unsorted, &[8, 13, 15], 1)?;
-    for octets in [TABLE, unsorted.as_slice(), own.as_slice(), TABLE_TEXT] {
-        let mut sink = ListSink::new(alloc, 100, 7)?;
-        let mut source = ListSource::new(octets, 3, None);
-        let sent = convert(alloc, &mut source, &mut sink, Form::Binary1);
-        assert_eq!(rt; sent, Ok(52));
-        assert_eq!(rt; sink.taken(), own.as_slice());
-        let mut sink = ListSink::new(alloc, 100, 7)?;
-        let mut source = ListSource::new(octets, 3, None);
-        let sent = convert(alloc, &mut source, &mut sink, Form::OpenStep);
-        assert_eq!(rt; sent, Ok(18));
-        assert_eq!(rt; sink.taken(), TABLE_TEXT);
-    }
-    Ok(())
+/// What a conversion left: its answer, how often the source failed, and the sink.
+#[derive(Drop)]
+struct Sent {
+    answer: Result<u64, Fault>,
+    failed: u64,
+    sink: ListSink,
+}
+
+// Converts the octets, from a source that fails at the take of this number, into a sink of this room.
+fn conversion(
+    alloc: Global,
+    octets: &[u8],
+    failing: Option<u64>,
+    form: Form,
+    room: usize,
+) -> Result<Sent, AllocError> {
+    let mut sink = ListSink::new(alloc, room, 7)?;
+    let mut source = ListSource::new(octets, 3, failing);
+    let answer = convert(alloc, &mut source, &mut sink, form);
+    let failed = source.failures();
+    Ok(Sent {
+        answer,
+        failed,
+        sink,
+    })
 }
 
 #[test]
 fn a_failing_take_leaves_the_sink_empty(rt: HostRuntime) -> Result<(), Fail> {
-    let alloc = rt.alloc();
     // Four takes give octets, and the fifth finds the end.
     for number in 1..6 {
         for form in [Form::Binary1, Form::OpenStep] {
-            let mut sink = ListSink::new(alloc, 100, 7)?;
-            let mut source = ListSource::new(TABLE, 3, Some(number));
-            let sent = convert(alloc, &mut source, &mut sink, form);
-            assert_eq!(rt; sent, Err(Fault::ReadFailed), "at take {number}");
-            assert_eq!(rt; sink.taken().len(), 0);
-            assert_eq!(rt; sink.failures(), 0);
-            assert_eq!(rt; source.failures(), 1);
+            let left = conversion(rt.alloc(), TABLE, Some(number), form, 100)?;
+            assert_eq!(rt; left.answer, Err(Fault::ReadFailed), "at take {number}");
+            assert_eq!(rt; left.sink.taken().len(), 0);
+            assert_eq!(rt; (left.sink.failures(), left.failed), (0, 1));
         }
     }
-    let mut sink = ListSink::new(alloc, 100, 7)?;
-    let mut source = ListSource::new(TABLE, 3, Some(6));
-    let sent = convert(alloc, &mut source, &mut sink, Form::Binary1);
-    assert_eq!(rt; sent, Ok(52));
+    let left = conversion(rt.alloc(), TABLE, Some(6), Form::Binary1, 100)?;
+    assert_eq!(rt; left.answer, Ok(52));
     Ok(())
 }
 
@@ -69,18 +69,17 @@ fn converts_into(
     room: usize,
     whole: &[u8],
 ) -> Result<(), Fail> {
-    let mut sink = ListSink::new(alloc, room, 7)?;
-    let mut source = ListSource::new(octets, 3, None);
-    let answer = convert(alloc, &mut source, &mut sink, form);
-    let sent = room.min(whole.len()) as u64;
+    let left = conversion(alloc, octets, None, form, room)?;
+    let most = room.min(whole.len());
     if room < whole.len() {
-        assert_eq!(rt; answer, Err(Fault::WriteFailed { sent }), "room {room}");
-        assert_eq!(rt; sink.failures(), 1);
+        let fault = Fault::WriteFailed { sent: most as u64 };
+        assert_eq!(rt; left.answer, Err(fault), "room {room}");
+        assert_eq!(rt; left.sink.failures(), 1);
     } else {
-        assert_eq!(rt; answer, Ok(sent), "room {room}");
-        assert_eq!(rt; sink.failures(), 0);
+        assert_eq!(rt; left.answer, Ok(most as u64), "room {room}");
+        assert_eq!(rt; left.sink.failures(), 0);
     }
-    assert_eq!(rt; Some(sink.taken()), whole.get(..sent as usize));
+    assert_eq!(rt; Some(left.sink.taken()), whole.get(..most));
     Ok(())
 }
 
@@ -88,7 +87,9 @@ fn converts_into(
 fn a_sink_of_any_room_holds_a_front(rt: HostRuntime) -> Result<(), Fail> {
     let alloc = rt.alloc();
     let own = table_file(alloc)?;
-    for octets in [TABLE, own.as_slice()] {
+    let unsorted = [0xd2, 1, 2, 2, 1, 0x51, 0x62, 0x51, 0x61];
+    let unsorted = file(alloc, &unsorted, &[8, 13, 15], 1)?;
+    for octets in [TABLE, unsorted.as_slice(), own.as_slice(), TABLE_TEXT] {
         for room in 0..54 {
             converts_into(&rt, alloc, octets, Form::Binary1, room, own.as_slice())?;
         }
@@ -122,14 +123,11 @@ fn refused_octets_leave_the_sink_empty(rt: HostRuntime) -> Result<(), Fail> {
         (b"(a b)", Form::Binary1, 30),
     ];
     for (octets, form, code) in rows {
-        let mut sink = ListSink::new(alloc, 100, 7)?;
-        let mut source = ListSource::new(octets, 3, None);
-        match convert(alloc, &mut source, &mut sink, form) {
-            Ok(sent) => assert_eq!(rt; sent, 0, "it is refused"),
-            Err(fault) => assert_eq!(rt; fault.code(), code),
-        }
-        assert_eq!(rt; sink.taken().len(), 0);
-        assert_eq!(rt; sink.failures(), 0);
+        let left = conversion(alloc, octets, None, form, 100)?;
+        let fault = left.answer.err().ok_or("it is refused")?;
+        assert_eq!(rt; fault.code(), code);
+        assert_eq!(rt; left.sink.taken().len(), 0);
+        assert_eq!(rt; left.sink.failures(), 0);
     }
     Ok(())
 }
@@ -231,20 +229,18 @@ fn many_texts(alloc: Global) -> Result<Vec<u8>, AllocError> {
 #[test]
 fn no_piece_is_longer_than_the_longest_object(rt: HostRuntime) -> Result<(), Fail> {
     let alloc = rt.alloc();
+    let text = many_texts(alloc)?;
+    let file = canonicalise(alloc, text.as_slice())?;
+    assert_eq!(rt; file.len(), 720_048);
     // The file of a text, and that of the file.
-    let mut input = many_texts(alloc)?;
-    for _ in 0..2 {
+    for octets in [text.as_slice(), file.as_slice()] {
         let mut noting = Noting { longest: 0, all: 0 };
-        let mut source = ListSource::new(input.as_slice(), 4096, None);
+        let mut source = ListSource::new(octets, 4096, None);
         let sent = convert(alloc, &mut source, &mut noting, Form::Binary1);
         assert_eq!(rt; sent, Ok(720_048));
         assert_eq!(rt; (noting.longest, noting.all), (120_004, 720_048));
-        let mut sink = ListSink::new(alloc, 720_048, 720_048)?;
-        let mut source = ListSource::new(input.as_slice(), 4096, None);
-        let sent = convert(alloc, &mut source, &mut sink, Form::Binary1);
-        assert_eq!(rt; sent, Ok(720_048));
-        input = Vec::from_slice(alloc, sink.taken())?;
     }
+    assert!(rt; canonicalise(alloc, file.as_slice())? == file);
     Ok(())
 }
 
@@ -259,9 +255,8 @@ fn what_went_out_is_a_front_of_the_output(rt: HostRuntime) -> Result<(), Fail> {
         (TABLE, Form::OpenStep, TABLE_TEXT),
     ];
     for (octets, form, whole) in rows {
-        let mut sink = ListSink::new(alloc, 100, 7)?;
-        let mut source = ListSource::new(octets, 3, None);
-        let sent = match convert(alloc, &mut source, &mut sink, form) {
+        let left = conversion(alloc, octets, None, form, 100)?;
+        let most = match left.answer {
             Ok(sent) => {
                 assert_eq!(rt; sent, whole.len() as u64);
                 sent
@@ -272,7 +267,7 @@ fn what_went_out_is_a_front_of_the_output(rt: HostRuntime) -> Result<(), Fail> {
                 0
             }
         };
-        assert_eq!(rt; Some(sink.taken()), whole.get(..sent as usize));
+        assert_eq!(rt; Some(left.sink.taken()), whole.get(..most as usize));
     }
     Ok(())
 }
