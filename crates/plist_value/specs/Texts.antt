@@ -1,5 +1,5 @@
 -- The units of a text, whichever way it is kept.
-use Rattle.std.specs.Prelude.{ℕ, ◌+◌, ◌*◌, List, [], ◌∷◌}
+use Rattle.std.specs.Prelude.{ℕ, ◌+◌, ◌*◌, Bool, true, false, List, [], ◌∷◌}
 use Rattle.plist_value.specs.declared.text_ref.Kept.{Kept}
 use Rattle.plist_value.specs.declared.text_ref.Kept.TheVariants.{Units, Ascii, Wide}
 use Rattle.plist_value.specs.declared.text_ref.TextRef.{TextRef}
@@ -17,3 +17,12 @@ units_kept (Wide octets) = wide_units octets.now
 
 abbrev pub units_of : TextRef → List ℕ
 units_of t = units_kept t.kept
+
+-- whether the units are kept as ASCII octets, one for each
+abbrev pub is_kept_as_octets : Kept → Bool
+is_kept_as_octets (Units units) = false
+is_kept_as_octets (Ascii text) = true
+is_kept_as_octets (Wide octets) = false
+
+abbrev pub is_ascii_kept : TextRef → Bool
+is_ascii_kept t = is_kept_as_octets t.kept

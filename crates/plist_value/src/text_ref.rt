@@ -1,6 +1,6 @@
 //! Texts that are borrowed.
 ghost use Rattle.std.specs.Prelude.{◌≡◌, ◌<◌, ◌≤◌, ◌+◌, ◌%◌, ◌↔◌, IsSome};
-ghost use Rattle.std.specs.Prelude.{IfSome, All, nat_eq, length, slice_index, fold};
+ghost use Rattle.std.specs.Prelude.{IfSome, All, true, false, nat_eq, length, slice_index, fold};
 ghost use Rattle.std.specs.Ordering.{nat_cmp, on, as_partial_cmp};
 ghost use Rattle.std.specs.Cmp.{partial_order_from_own_ties};
 ghost use Rattle.std.specs.Cmp.Lexicographic.{pointwise, slice_cmp, bytes_decides};
@@ -8,7 +8,7 @@ ghost use Rattle.std.specs.Cmp.Rules.{comparing};
 ghost use Rattle.std.specs.Hash.{on_Alike, same_Alike};
 ghost use Rattle.plist_value.specs.Hashes.{fed_text, fed_units, pair_from, word_from};
 ghost use Rattle.std.proofs.Common.{rules};
-ghost use Rattle.plist_value.specs.Texts.{units_of, wide_units};
+ghost use Rattle.plist_value.specs.Texts.{units_of, wide_units, is_ascii_kept};
 
 use crate::words::{compare, feed, feed_octets};
 use std::cmp::Ordering;
@@ -37,6 +37,7 @@ impl<'a> TextRef<'a> {
     pub fn of_units(units: &'a [u16]) -> TextRef<'a>
         ensures text { units_of result ≡ units.entry.now }
         ensures valid { AreUnits (units_of result) }
+        ensures kept { is_ascii_kept result ≡ false }
     {
         TextRef {
             kept: Kept::Units(units),
@@ -48,6 +49,7 @@ impl<'a> TextRef<'a> {
         ensures ascii { IsSome result ↔ All (λ octet. octet < 128) octets.entry.now }
         ensures text { IfSome result (λ t. units_of t ≡ octets.entry.now) }
         ensures valid { IfSome result (λ t. AreUnits (units_of t)) }
+        ensures kept { IfSome result (λ t. is_ascii_kept t ≡ true) }
     {
         if !octets.is_ascii() {
             return None;
@@ -64,6 +66,7 @@ impl<'a> TextRef<'a> {
         ensures even { IsSome result ↔ (length octets.entry.now % 2 ≡ 0) }
         ensures text { IfSome result (λ t. units_of t ≡ wide_units octets.entry.now) }
         ensures valid { IfSome result (λ t. AreUnits (units_of t)) }
+        ensures kept { IfSome result (λ t. is_ascii_kept t ≡ false) }
     {
         if octets.len() % 2 == 0 {
             Some(TextRef {
@@ -104,9 +107,11 @@ impl<'a> TextRef<'a> {
         }
     }
 
-    /// The octets of a text that is kept as ASCII octets: one for each unit.
+    /// The octets of a text that is kept as ASCII octets, one for each unit: exactly a text that
+    /// `of_ascii` made has some.
     pub fn octets(&self) -> Option<&'a [u8]>
-        ensures { IfSome result (λ octets. units_of self.now ≡ octets.now) }
+        ensures text { IfSome result (λ octets. units_of self.now ≡ octets.now) }
+        ensures kept { IsSome result ↔ (is_ascii_kept self.now ≡ true) }
     {
         match self.kept {
             Kept::Ascii(text) => Some(text.as_bytes()),

@@ -63,8 +63,7 @@ fn unit_word(units: &[u16], i: usize) -> u64
     word(units[i], units[i + 1], units[i + 2], units[i + 3])
 }
 
-// Behind the pair at the place `i` where it is equal: of two pairs that are not both equal, the place of
-// the first that is not.
+// Of the two pairs of units from the place `i` on, which are not both equal, where the first unequal one is.
 #[inline(always)]
 fn unequal_pair(units: &[u16], others: &[u16], i: usize) -> usize
     requires length { i + 4 ≤ length units.now }
@@ -81,8 +80,7 @@ fn unequal_pair(units: &[u16], others: &[u16], i: usize) -> usize
     }
 }
 
-// Behind the unit at the place `i` where it is equal: of two units that are not both equal, the place of
-// the first that is not.
+// Of the two units from the place `i` on, which are not both equal, where the first unequal one is.
 #[inline(always)]
 fn unequal_unit(units: &[u16], others: &[u16], i: usize) -> usize
     requires length { i + 2 ≤ length units.now }
