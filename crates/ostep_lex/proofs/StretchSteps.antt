@@ -32,7 +32,7 @@ not_true : (b : Bool) → not b ≡ true → b ≡ false
 not_true true e = sym e
 not_true false e = refl
 
-one_unit : (c : ℕ) → c < 0xD800 → encode_utf16 c ≡ c ∷ []
+pub one_unit : (c : ℕ) → c < 0xD800 → encode_utf16 c ≡ c ∷ []
 one_unit c h = let w : c < 0x1_0000 = omega arith in rw (lt-ltb c 0x1_0000 w) refl
 
 run_front : (front rest more end : List ℕ) → is_stretch 0xD800 Run front ≡ true → RunOf rest more end → RunOf (front ++ rest) (front ++ more) end

@@ -38,11 +38,16 @@ pub fn run(alloc: Global, cursor: Cursor<'_>) -> Result<(Vec<u16>, Cursor<'_>), 
 const LEAST_ROOM: usize = 16;
 
 /// Appends the units of the character.
+#[tactic(auto, using(crate::proofs::StretchSteps::one_unit))]
 fn push_character(units: &mut Vec<u16>, c: char) -> Result<(), AllocError>
     ensures { OnOk result (units.new.items ≡ units.old.items ++ encode_utf16 c) }
 {
     if units.len() == units.capacity() {
         units.reserve(LEAST_ROOM)?;
+    }
+    if u32::from(c) < 0xd800 {
+        units.push_reserved(c as u16);
+        return Ok(());
     }
     let mut buffer = [0; 2];
     units.extend_from_slice(c.encode_utf16(&mut buffer))

@@ -42,7 +42,7 @@ fn is_of(class: Class, c: char) -> bool
 fn is_in(class: Class, octet: u8) -> bool
     ensures { result ≡ (nat_lt octet 128 && belongs class octet) }
 {
-    octet < 0x80 && is_of(class, char::from(octet))
+    is_of(class, char::from(octet)) && octet < 0x80
 }
 
 /// Whether the unit is a character of the class, and below the surrogates.
