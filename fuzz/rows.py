@@ -95,7 +95,7 @@ def layout(octets):
         shortest = octets[place:behind] == oracle.canonical_object(found, content)
         said += '; %d..%d %s %s' % (place, behind, 'shortest' if shortest else 'longer', kind)
         if kind != 'scalar':
-            said += ' to'.join(''.join(' %d' % number for number in part) for part in held)
+            said += ' to'.join(''.join(' %d' % number for number in part) or ' none' for part in held)
     return said
 
 

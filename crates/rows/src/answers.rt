@@ -74,6 +74,9 @@ fn put_object(line: &mut String, file: &BinFile, number: u64) -> Result<(), Allo
 }
 
 fn put_references(line: &mut String, references: Refs) -> Result<(), AllocError> {
+    if references.is_empty() {
+        write!(line, " none")?;
+    }
     for i in 0..references.len() {
         write!(line, " {}", references.get(i))?;
     }
