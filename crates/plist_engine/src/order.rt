@@ -29,6 +29,9 @@ pub(crate) struct KeyOrder<'a> {
     places: Vec<u64>,
 }
 
+// An order of at most so many places is kept for the next table.
+const MOST_KEPT: usize = 4096;
+
 impl<'a> KeyOrder<'a> {
     /// No table came yet.
     pub(crate) fn none(alloc: Global) -> KeyOrder<'a>
@@ -60,7 +63,19 @@ impl<'a> KeyOrder<'a> {
     {
         self.order(alloc, file, keys, values)?;
         push_at(keys, &self.places, references)?;
-        push_at(values, &self.places, references)
+        push_at(values, &self.places, references)?;
+        self.forget_long(alloc);
+        Ok(())
+    }
+
+    // Gives up an order that takes much memory.
+    fn forget_long(&mut self, alloc: Global)
+        ensures { (f : List ℕ) → IsOrdered f self.old → IsOrdered f self.new }
+    {
+        if self.places.len() > MOST_KEPT {
+            self.last = None;
+            self.places = Vec::new(alloc);
+        }
     }
 
     // Finds the order of the keys, if they are not those of the last table.

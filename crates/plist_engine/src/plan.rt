@@ -39,7 +39,8 @@ pub(crate) struct Plan<'a> {
 }
 
 impl<'a> Plan<'a> {
-    /// Nothing was found of a file of so many objects.
+    /// Nothing was found of a file of so many objects. There is room for what most files take; where it is not
+    /// used it costs nothing.
     pub(crate) fn new(alloc: Global, count: u64) -> Result<Plan<'a>, AllocError>
         ensures empty { IfOk result IsEmptyPlan }
         ensures memo { IfOk result (λ plan. (i : ℕ) → remembered plan i ≡ NO_NUMBER) }
@@ -48,10 +49,10 @@ impl<'a> Plan<'a> {
         memo.resize(count as usize, NO_NUMBER)?;
         Ok(Plan {
             scalars: IndexSet::new(alloc),
-            numbers: Vec::new(alloc),
+            numbers: Vec::with_capacity(alloc, count as usize)?,
             memo,
-            originals: Vec::new(alloc),
-            references: Vec::new(alloc),
+            originals: Vec::with_capacity(alloc, count as usize)?,
+            references: Vec::with_capacity(alloc, (count as usize).saturating_mul(4))?,
         })
     }
 

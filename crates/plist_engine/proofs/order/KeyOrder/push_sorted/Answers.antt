@@ -1,5 +1,4 @@
 use Rattle.std.proofs.Common.{refl}
-use Rattle.std.proofs.lemmas.Result.{on_ok_weaker}
 use Rattle.plist_object.specs.Views.{octets_of, numbers_of}
 use Rattle.plist_engine.proofs.Ordering.{in_turn-places, places_within}
 use Rattle.plist_engine.proofs.order.KeyOrder.push_sorted.Goals as goal
@@ -18,6 +17,7 @@ returns-clause-pushed c =
     let keys = numbers_of c.args.keys.now in
     let values = numbers_of c.args.values.now in
     let places = c.order.new.self.places.items in
-    on_ok_weaker c.push_at-2.result
-    (λ added rows ps spell. in_turn-places f keys values places rows ps c.args.references.now.items c.push_at.new.references.items c.push_at-2.new.references.items c.requires.table.as_many c.in_ok-order.ensures.order spell (rw c.deref.ensures.value at c.in_ok-push_at.ensures) (rw c.deref-2.ensures.value at added))
-    c.push_at-2.ensures
+    λ rows ps spell. in_turn-places f keys values places rows ps c.args.references.now.items c.push_at.new.references.items c.push_at-2.new.references.items c.requires.table.as_many c.in_ok-order.ensures.order spell (rw c.deref.ensures.value at c.in_ok-push_at.ensures) (rw c.deref-2.ensures.value at c.in_ok-push_at-2.ensures)
+
+pub returns-clause-ordered : goal.returns-clause-ordered
+returns-clause-ordered c = c.forget_long.ensures (octets_of c.args.file.now) c.in_ok-order.ensures.ordered
