@@ -23,6 +23,7 @@ edits:
 	scripts/edits.sh $(CRATE)
 
 fuzz: plistconv
+	python3 fuzz/rows.py
 	python3 fuzz/fuzz.py ./plistconv --seconds $(SECONDS) --seed $(SEED)
 
 recipes: plistconv
