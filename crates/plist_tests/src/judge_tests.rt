@@ -56,15 +56,18 @@ fn keys_that_many_tables_share(rt: HostRuntime) -> Result<(), Fail> {
 // so that each allocation is one of the calls'. With the number of the refusal, 0 where there is none.
 const FILES: [(&[u8], u8); 3] = [
     (
-        b"bplist00\xa2\x01\x01\xa0\x08\x0b\0\0\0\0\0\0\x01\x01\0\0\0\0\0\0\0\x02\0\0\0\0\0\0\0\0\0\0\0\0\0\0\0\x0c",
+        b"bplist00\xa2\x01\x01\xa0\x08\x0b\0\0\0\0\0\0\x01\x01\0\0\0\0\0\0\0\x02\0\0\0\0\0\0\0\
+          \0\0\0\0\0\0\0\0\x0c",
         0,
     ),
     (
-        b"bplist00\xd2\x01\x02\x02\x01QbQa\x08\x0d\x0f\0\0\0\0\0\0\x01\x01\0\0\0\0\0\0\0\x03\0\0\0\0\0\0\0\0\0\0\0\0\0\0\0\x11",
+        b"bplist00\xd2\x01\x02\x02\x01QbQa\x08\x0d\x0f\0\0\0\0\0\0\x01\x01\0\0\0\0\0\0\0\x03\0\
+          \0\0\0\0\0\0\0\0\0\0\0\0\0\0\x11",
         0,
     ),
     (
-        b"bplist00\xa1\x00\x08\0\0\0\0\0\0\x01\x01\0\0\0\0\0\0\0\x01\0\0\0\0\0\0\0\0\0\0\0\0\0\0\0\x0a",
+        b"bplist00\xa1\x00\x08\0\0\0\0\0\0\x01\x01\0\0\0\0\0\0\0\x01\0\0\0\0\0\0\0\0\0\0\0\0\0\
+          \0\0\x0a",
         15,
     ),
 ];
