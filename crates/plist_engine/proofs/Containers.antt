@@ -22,8 +22,8 @@ pub record Filled (objects numbers behind : List ℕ) (old done : Plan) : Type 0
 module _ (v : Plist) (container : IsContainer v) (part : List Plist) (tree : preorder v ≡ v ∷ part) (all : List Plist) (k : ℕ) (stands : Stands all k (preorder v)) where
   below_ready : (i : ℕ) (objects : List ℕ) (old mid : Plan) (number : ℕ) → Begins i objects old mid number → IsReady all k old → IsReady all (suc k) mid
   below_ready i objects old mid number begins ready = record {
-    numbered = rw (begins.scalars_kept, begins.numbers_kept) ready.numbered;
-    known = λ q. rw (begins.scalars_kept, begins.numbers_kept) (ready.known q ∙ sym (known-still all k _ (no_scalar v container part tree all k stands _)));
+    numbered = rw begins.scalars_kept ready.numbered;
+    known = λ q. rw begins.scalars_kept (ready.known q ∙ sym (known-still all k _ (no_scalar v container part tree all k stands _)));
     counted = ap length begins.original_added ∙ length-append old.originals.items _ ∙ add-one _ ∙ ap suc ready.counted ∙ sym (count-kept all k v (here v container part tree all k stands).0 (here v container part tree all k stands).1 (own v container part tree all k stands));
   }
 

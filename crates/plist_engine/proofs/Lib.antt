@@ -1,3 +1,4 @@
+pub mod Numbers
 pub mod Growing
 pub mod Walking
 pub mod Flat

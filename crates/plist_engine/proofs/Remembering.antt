@@ -1,53 +1,20 @@
 -- The numbers that are remembered of objects.
-use Rattle.std.proofs.Common.{◌≡◌, ℕ, zero, suc, ◌<◌, eqb, replicate, take, cond, false, List, [], ◌∷◌, ◌++◌, length, get_or, set, Some, None, refl, sym, ap, subst, ◌∙◌, inl, inr, arith}
-use Rattle.std.proofs.lemmas.Bool.{cases_Bool, cases_order, eq-eqb, true≢false}
+use Rattle.std.proofs.Common.{◌≡◌, ℕ, zero, suc, ◌<◌, eqb, replicate, take, false, List, [], ◌∷◌, ◌++◌, length, get_or, set, Some, refl, sym, ap, subst, ◌∙◌, inl, inr, arith}
+use Rattle.std.proofs.lemmas.Bool.{cases_order, eq-eqb, true≢false}
 use Rattle.std.proofs.lemmas.List.{append-nil, get_or_default, take_all, get_or-set_same, get_or-set_other}
-use Rattle.std.specs.Ordering.{on}
-use Rattle.indexmap.specs.IndexSet.{insert_key}
 use Rattle.plist_value.specs.Plist.{Scalar, Plist, scalar, list, table, IsScalar, IsPlist}
-use Rattle.plist_value.specs.Equality.{scalar_eq}
-use Rattle.plist_value.specs.EqualityLaws.{scalar_eq-Decides}
 use Rattle.plist_value.specs.Scalars.{content_of}
 use Rattle.plist_value.specs.declared.scalar_ref.ScalarRef.{ScalarRef}
 use Rattle.plist_object.specs.Objects.{holds_scalar, holds_list, holds_table}
 use Rattle.plist_object.specs.Places.{Holds}
 use Rattle.plist_object.specs.Spelled.{Spells}
 use Rattle.plist_object.proofs.Uniqueness.{same_held}
-use Rattle.plist_write.proofs.Held.{insert_key-known, length-pushed, number-pushed}
-use Rattle.plist_write.proofs.Numbering.{is_scalar-same}
 use Rattle.plist_engine.specs.declared.plan.Plan.{Plan}
-use Rattle.plist_engine.specs.Plan.{IsNumbered, number_held, EntersScalar, IsRemembered, RemembersNumbers, NumbersScalar, no_number, remembered, IsWalked, Begins}
+use Rattle.plist_engine.specs.Numbered.{IsNumbered, number_held}
+use Rattle.plist_engine.specs.Plan.{EntersScalar, IsRemembered, RemembersNumbers, NumbersScalar, no_number, remembered, IsWalked, Begins}
 use Rattle.plist_engine.specs.Spelling.{SpellsWithin}
+use Rattle.plist_engine.proofs.Numbers.{enters-again}
 use Rattle.plist_engine.proofs.Walking.{Walks-known, Walks-lift}
-
-pub enters-known : (r : ScalarRef) (old new : Plan) (n : ℕ) → number_held old r ≡ Some n → new.scalars.keys ≡ insert_key (on content_of scalar_eq) old.scalars.keys r → new.numbers ≡ old.numbers → new.memo ≡ old.memo → EntersScalar r old new n
-enters-known r old new n held inserted same_numbers same_memo =
-    let same_keys : IsNumbered old → new.scalars.keys ≡ old.scalars.keys = λ numbered. inserted ∙ insert_key-known old.scalars.keys old.numbers.items r n numbered held in
-    record {
-      memo_kept = same_memo;
-      numbered = λ numbered. rw (same_numbers, same_keys numbered) numbered;
-      found = λ numbered. rw (same_numbers, same_keys numbered) held;
-      still = λ numbered s m was. rw (same_numbers, same_keys numbered) was;
-    }
-
--- equal scalars are found under one number
-same-number : (plan : Plan) (r q : ScalarRef) → content_of r ≡ content_of q → number_held plan q ≡ number_held plan r
-same-number plan r q same = rw same refl
-
-pub enters-new : (r : ScalarRef) (old new : Plan) (n : ℕ) → number_held old r ≡ None → new.scalars.keys ≡ insert_key (on content_of scalar_eq) old.scalars.keys r → new.numbers.items ≡ old.numbers.items ++ (n ∷ []) → new.memo ≡ old.memo → EntersScalar r old new n
-enters-new r old new n unknown inserted pushed same_memo =
-    let knows : IsNumbered old → (q : ScalarRef) → number_held new q ≡ cond (scalar_eq (content_of r) (content_of q)) (Some n) (number_held old q) =
-    λ numbered q. rw (inserted, pushed) (number-pushed old.scalars.keys old.numbers.items r n q numbered unknown) in
-    record {
-      memo_kept = same_memo;
-      numbered = λ numbered. rw (inserted, pushed) (length-pushed old.scalars.keys old.numbers.items r n numbered unknown);
-      found = λ numbered. knows numbered r ∙ rw (is_scalar-same (content_of r)) refl;
-      still = λ numbered q m was.
-          elim (cases_Bool (scalar_eq (content_of r) (content_of q))) [
-            | inl is ↦ (let e = (scalar_eq-Decides (content_of r) (content_of q)).0 is in let none : number_held old q ≡ None = same-number old r q e ∙ unknown in absurd (cc))
-            | inr apart ↦ knows numbered q ∙ rw apart was
-          ];
-    }
 
 -- the memo of a plan with more scalars
 pub remembers-entered : (f : List ℕ) (shown : ScalarRef) (old new : Plan) (n : ℕ) → EntersScalar shown old new n → RemembersNumbers f old → RemembersNumbers f new
@@ -64,45 +31,45 @@ remembers-entered f shown old new n enters was = record {
 }
 
 -- what is remembered of a plan is so of each with the same scalars
-pub remembers-same : (f : List ℕ) (old new : Plan) → new.scalars ≡ old.scalars → new.numbers ≡ old.numbers → new.memo ≡ old.memo → RemembersNumbers f old → RemembersNumbers f new
-remembers-same f old new same_scalars same_numbers same_memo was = record {
-  numbered = rw (same_numbers, same_scalars) was.numbered;
+pub remembers-same : (f : List ℕ) (old new : Plan) → new.scalars ≡ old.scalars → new.memo ≡ old.memo → RemembersNumbers f old → RemembersNumbers f new
+remembers-same f old new same_scalars same_memo was = record {
+  numbered = rw same_scalars was.numbered;
   each = λ i some.
       let same : remembered new i ≡ remembered old i = ap (λ (m : _). get_or m.items i no_number) same_memo in
       let one = was.each i (λ none. some (same ∙ none)) in
       record {
         shown = one.shown;
         holds = one.holds;
-        held = rw (same_numbers, same_scalars) (one.held ∙ ap Some (sym same));
+        held = rw same_scalars (one.held ∙ ap Some (sym same));
       };
 }
 
 pub remembers-begun : (f : List ℕ) (i : ℕ) (refs : List ℕ) (old new : Plan) (n : ℕ) → Begins i refs old new n → RemembersNumbers f old → RemembersNumbers f new
 remembers-begun f i refs old new n begins was =
-    remembers-same f old new begins.scalars_kept begins.numbers_kept begins.memo_kept was
+    remembers-same f old new begins.scalars_kept begins.memo_kept was
 
 -- one number more is remembered
-pub remembers-set : (f : List ℕ) (i : ℕ) (shown : ScalarRef) (mid new : Plan) (n : ℕ) → i < length mid.memo.items → new.scalars ≡ mid.scalars → new.numbers ≡ mid.numbers → new.memo.items ≡ set mid.memo.items i n → Holds f i (holds_scalar (content_of shown)) → number_held mid shown ≡ Some n → RemembersNumbers f mid → RemembersNumbers f new
-remembers-set f i shown mid new n within same_scalars same_numbers written holds held was = record {
-  numbered = rw (same_numbers, same_scalars) was.numbered;
+pub remembers-set : (f : List ℕ) (i : ℕ) (shown : ScalarRef) (mid new : Plan) (n : ℕ) → i < length mid.memo.items → new.scalars ≡ mid.scalars → new.memo.items ≡ set mid.memo.items i n → Holds f i (holds_scalar (content_of shown)) → number_held mid.scalars shown ≡ Some n → RemembersNumbers f mid → RemembersNumbers f new
+remembers-set f i shown mid new n within same_scalars written holds held was = record {
+  numbered = rw same_scalars was.numbered;
   each = λ j some. elim (cases_order j i) [
     | inl here ↦ (let is : remembered new j ≡ n = ap (λ ms. get_or ms j no_number) written ∙ ap (λ k. get_or (set mid.memo.items i n) k no_number) here ∙ get_or-set_same mid.memo.items i n no_number within in record {
       shown = shown;
       holds = subst (λ (k : ℕ). Holds f k (holds_scalar (content_of shown))) (sym here) holds;
-      held = rw (same_numbers, same_scalars) (held ∙ ap Some (sym is));
+      held = rw same_scalars (held ∙ ap Some (sym is));
     })
     | inr other ↦ (let apart : j ≡ i → ⊥ = λ (e : j ≡ i). elim other [ inl below ↦ omega arith | inr above ↦ omega arith ] in let same : remembered new j ≡ remembered mid j = ap (λ ms. get_or ms j no_number) written ∙ get_or-set_other mid.memo.items i j n no_number apart in let one = was.each j (λ none. some (same ∙ none)) in record {
       shown = one.shown;
       holds = one.holds;
-      held = rw (same_numbers, same_scalars) (one.held ∙ ap Some (sym same));
+      held = rw same_scalars (one.held ∙ ap Some (sym same));
     })
   ];
 }
 
 -- a plan with another memo
-pub scalar-set : (i : ℕ) (s : Scalar) (old mid new : Plan) (n : ℕ) → NumbersScalar i s old mid n → new.scalars ≡ mid.scalars → new.numbers ≡ mid.numbers → new.originals ≡ mid.originals → new.references ≡ mid.references → NumbersScalar i s old new n
-scalar-set i s old mid new n numbers same_scalars same_numbers same_originals same_references = record {
-  walks = λ f holds. Walks-lift f 0 (scalar s ∷ []) (λ k. k ∷ []) old mid new (n ∷ []) (numbers.walks f holds) (omega arith) same_scalars same_numbers same_originals (rw same_references refl);
+pub scalar-set : (i : ℕ) (s : Scalar) (old mid new : Plan) (n : ℕ) → NumbersScalar i s old mid n → new.scalars ≡ mid.scalars → new.originals ≡ mid.originals → new.references ≡ mid.references → NumbersScalar i s old new n
+scalar-set i s old mid new n numbers same_scalars same_originals same_references = record {
+  walks = λ f holds. Walks-lift f 0 (scalar s ∷ []) (λ k. k ∷ []) old mid new (n ∷ []) (numbers.walks f holds) (omega arith) same_scalars same_originals (rw same_references refl);
   references_kept = rw same_references numbers.references_kept;
 }
 
@@ -124,7 +91,7 @@ walked-again f i levels plan n within memo one =
       value = scalar (content_of r);
       valid = valid_at f i (content_of r) within.value within.valid within.spells one.holds;
       spells = one.holds;
-      walks = Walks-known f r plan plan n one.held (sym (insert_key-known plan.scalars.keys plan.numbers.items r n memo.numbered one.held)) refl refl refl;
+      walks = Walks-known f r plan plan n n (λ numbered. enters-again r n n plan.scalars numbered one.held) refl refl;
       references = [];
       references_added = sym (append-nil _);
     }
@@ -139,7 +106,7 @@ pub memo-none : (n m i : ℕ) (old new : List ℕ) → old ≡ [] → new ≡ ta
 memo-none n m i old new none filled =
     ap (λ xs. get_or xs i no_number) (filled ∙ ap (λ xs. take n xs ++ replicate m no_number) none ∙ ap (λ xs. xs ++ replicate m no_number) (take_all n [] (omega arith))) ∙ get_or-repeated m i no_number
 
-pub remembers-none : (f : List ℕ) (plan : Plan) → IsNumbered plan → ((i : ℕ) → remembered plan i ≡ no_number) → RemembersNumbers f plan
+pub remembers-none : (f : List ℕ) (plan : Plan) → IsNumbered plan.scalars → ((i : ℕ) → remembered plan i ≡ no_number) → RemembersNumbers f plan
 remembers-none f plan numbered none = record { numbered = numbered; each = λ i some. absurd (some (none i)) }
 
 -- a number that the memo has

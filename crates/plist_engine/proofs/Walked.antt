@@ -64,15 +64,15 @@ walked-table f i keys values rows ps old mid done number first as_many spell at_
     }
 
 -- one value more is walked
-pub walked-next : (f start : List ℕ) (i x : ℕ) (plan mid next new : Plan) (n : ℕ) (numbers : List ℕ) → i < length start → x ≡ get_or start i 0 → length start ≤ length plan.references.items → IsWalked f x plan mid n → next.scalars ≡ mid.scalars → next.numbers ≡ mid.numbers → next.originals ≡ mid.originals → drop (length start) next.references.items ≡ drop (length start) mid.references.items → ItemsWalked f (length start) (drop (i + 1) start) next new numbers → ItemsWalked f (length start) (drop i start) plan new (n ∷ numbers)
-walked-next f start i x plan mid next new n numbers h is within one same_scalars same_numbers same_originals same_references rest =
+pub walked-next : (f start : List ℕ) (i x : ℕ) (plan mid next new : Plan) (n : ℕ) (numbers : List ℕ) → i < length start → x ≡ get_or start i 0 → length start ≤ length plan.references.items → IsWalked f x plan mid n → next.scalars ≡ mid.scalars → next.originals ≡ mid.originals → drop (length start) next.references.items ≡ drop (length start) mid.references.items → ItemsWalked f (length start) (drop (i + 1) start) next new numbers → ItemsWalked f (length start) (drop i start) plan new (n ∷ numbers)
+walked-next f start i x plan mid next new n numbers h is within one same_scalars same_originals same_references rest =
     let v = one.value in
     let split : drop i start ≡ x ∷ drop (i + 1) start = drop_more start i 0 h ∙ ap (λ y. y ∷ drop (i + 1) start) (sym is) in
     record {
       items = item v rest.items;
       valid = (one.valid, rest.valid);
       spell = subst (λ (refs : List ℕ). SpellItems f refs (item v rest.items)) (sym split) (one.spells, rest.spell);
-      walks = Walks-item f (length start) v rest.items plan next new n numbers (Walks-lift f (length start) (preorder v) (λ k. k ∷ []) plan mid next (n ∷ []) one.walks within same_scalars same_numbers same_originals same_references) rest.walks;
+      walks = Walks-item f (length start) v rest.items plan next new n numbers (Walks-lift f (length start) (preorder v) (λ k. k ∷ []) plan mid next (n ∷ []) one.walks within same_scalars same_originals same_references) rest.walks;
     }
 
 -- none is left

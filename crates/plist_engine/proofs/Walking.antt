@@ -2,8 +2,6 @@
 use Rattle.std.proofs.Common.{◌≡◌, ℕ, suc, ◌+◌, ◌≤◌, List, [], ◌∷◌, ◌++◌, length, drop, Some, None, refl, sym, ap, subst, ◌∙◌, inl, inr, arith, cond, add-one, add-zero, length-append}
 use Rattle.std.proofs.lemmas.Bool.{true≢false, le-ltb, eq-eqb, ne_eqb, cases_Bool}
 use Rattle.std.proofs.lemmas.List.{map-append, append-nil}
-use Rattle.std.specs.Ordering.{on}
-use Rattle.indexmap.specs.IndexSet.{insert_key}
 use Rattle.plist_value.specs.Plist.{Plist, scalar, Items, item}
 use Rattle.plist_value.specs.Equality.{scalar_eq}
 use Rattle.plist_value.specs.EqualityLaws.{scalar_eq-Decides}
@@ -15,12 +13,13 @@ use Rattle.plist_write.specs.Tree.{preorder, preorder_items, item_places}
 use Rattle.plist_write.specs.Sharing.{least_place, kept_places, count_below}
 use Rattle.plist_write.specs.Plan.{number_in, found_in, number_known}
 use Rattle.plist_engine.specs.declared.plan.Plan.{Plan}
-use Rattle.plist_engine.specs.Plan.{number_held, IsReady, Grows, Adds, Walks, WalksTree, WalksScalar, WalksItems, IsEmptyPlan, StandFor}
+use Rattle.plist_engine.specs.Numbered.{number_held, IsNumbered, Enters}
+use Rattle.plist_engine.specs.Plan.{IsReady, Grows, Adds, Walks, WalksTree, WalksScalar, WalksItems, IsEmptyPlan, StandFor}
 use Rattle.plist_write.proofs.Numbering.{count_below-none}
-use Rattle.plist_write.proofs.Held.{insert_key-known, length-pushed, number-pushed}
 use Rattle.plist_write.proofs.Trees.{length-preorder, Stands-front, Stands-rest, Stands-all}
 use Rattle.plist_write.proofs.Counting.{count-kept, count-shared, known-still, known-now}
 use Rattle.plist_write.proofs.Walking.{found_in-append, here, number_is, same_scalar, known-before, unknown-first}
+use Rattle.plist_engine.proofs.Numbers.{entered-had, entered-kept, entered-unknown, entered-added}
 use Rattle.plist_engine.proofs.Growing.{Grows-none, Grows-append, Grows-lift, Grows-scalar}
 
 -- nothing to do
@@ -52,15 +51,15 @@ Walks-append f front xs ys p q r old mid new ms ns joined x y = record {
 }
 
 -- a plan with other references in front
-pub Walks-lift : (f : List ℕ) (front : ℕ) (part : List Plist) (places : ℕ → List ℕ) (old mid new : Plan) (ns : List ℕ) → Walks f 0 part places old mid ns → front ≤ length old.references.items → new.scalars ≡ mid.scalars → new.numbers ≡ mid.numbers → new.originals ≡ mid.originals → drop front new.references.items ≡ drop front mid.references.items → Walks f front part places old new ns
-Walks-lift f front part places old mid new ns x within same_scalars same_numbers same_originals same_references = record {
+pub Walks-lift : (f : List ℕ) (front : ℕ) (part : List Plist) (places : ℕ → List ℕ) (old mid new : Plan) (ns : List ℕ) → Walks f 0 part places old mid ns → front ≤ length old.references.items → new.scalars ≡ mid.scalars → new.originals ≡ mid.originals → drop front new.references.items ≡ drop front mid.references.items → Walks f front part places old new ns
+Walks-lift f front part places old mid new ns x within same_scalars same_originals same_references = record {
   numbered = x.numbered;
   adds = λ all k stands ready.
       let done = x.adds all k stands ready in
       record {
         ready = record {
-          numbered = rw (same_numbers, same_scalars) done.ready.numbered;
-          known = λ q. rw (same_numbers, same_scalars) (done.ready.known q);
+          numbered = rw same_scalars done.ready.numbered;
+          known = λ q. rw same_scalars (done.ready.known q);
           counted = rw same_originals done.ready.counted;
         };
         grows = Grows-lift f front old mid new (found_in all k part) done.grows within same_originals same_references;
@@ -68,19 +67,21 @@ Walks-lift f front part places old mid new ns x within same_scalars same_numbers
 }
 
 -- a scalar that is known
-pub Walks-known : (f : List ℕ) (r : ScalarRef) (old new : Plan) (n : ℕ) → number_held old r ≡ Some n → new.scalars.keys ≡ insert_key (on content_of scalar_eq) old.scalars.keys r → new.numbers ≡ old.numbers → new.originals ≡ old.originals → new.references ≡ old.references → WalksScalar f 0 (content_of r) old new n
-Walks-known f r old new n held inserted same_numbers same_originals same_references = record {
+pub Walks-known : (f : List ℕ) (r : ScalarRef) (old new : Plan) (n next : ℕ) → (IsNumbered old.scalars → Enters r next old.scalars new.scalars (Some n)) → new.originals ≡ old.originals → new.references ≡ old.references → WalksScalar f 0 (content_of r) old new n
+Walks-known f r old new n next entered same_originals same_references = record {
   numbered = λ all k stands ready.
+      let held = entered-had r next n old.scalars new.scalars (entered ready.numbered) in
       let known = known-before (content_of r) all k stands n (sym (ready.known r) ∙ held) in
       let is = number_is (content_of r) all k stands in
       let e : n ≡ number_in all k = known.1 ∙ sym is in
       ap (λ m. m ∷ []) e;
   adds = λ all k stands ready.
       let s = content_of r in
+      let enters = entered ready.numbered in
+      let held = entered-had r next n old.scalars new.scalars enters in
       let known = known-before s all k stands n (sym (ready.known r) ∙ held) in
       let at = here s all k stands in
       let below = known.0 in
-      let same_keys : new.scalars.keys ≡ old.scalars.keys = inserted ∙ insert_key-known old.scalars.keys old.numbers.items r n ready.numbered held in
       let apart : (q : ScalarRef) → least_place (content_of q) all ≡ k → ⊥ =
       λ q e. let same = same_scalar s all k stands (content_of q) e in let e2 : least_place s all ≡ k = rw same at e in omega arith in
       let later : least_place s all ≡ k → ⊥ = λ (e : least_place s all ≡ k). omega arith in
@@ -93,8 +94,8 @@ Walks-known f r old new n held inserted same_numbers same_originals same_referen
       } in
       record {
         ready = rw add-one (record {
-          numbered = rw (same_numbers, same_keys) ready.numbered;
-          known = λ q. rw (same_numbers, same_keys) (ready.known q ∙ sym (known-still all k (content_of q) (apart q)));
+          numbered = enters.numbered;
+          known = λ q. entered-kept r next n old.scalars new.scalars enters q ∙ (ready.known q ∙ sym (known-still all k (content_of q) (apart q)));
           counted = rw same_originals (ready.counted ∙ sym (count-shared all k (scalar s) at.0 at.1 below));
         });
         grows = rw (ne_eqb (least_place s all) k later) nothing;
@@ -102,30 +103,31 @@ Walks-known f r old new n held inserted same_numbers same_originals same_referen
 }
 
 -- one that is new, which is put last
-pub Walks-new : (f : List ℕ) (r : ScalarRef) (i : ℕ) (old new : Plan) (n : ℕ) → Holds f i (holds_scalar (content_of r)) → number_held old r ≡ None → n ≡ length old.originals.items → new.originals.items ≡ old.originals.items ++ (i ∷ []) → new.references ≡ old.references → new.scalars.keys ≡ insert_key (on content_of scalar_eq) old.scalars.keys r → new.numbers.items ≡ old.numbers.items ++ (n ∷ []) → WalksScalar f 0 (content_of r) old new n
-Walks-new f r i old new n holds unknown last added same_references inserted pushed =
+pub Walks-new : (f : List ℕ) (r : ScalarRef) (i : ℕ) (old new : Plan) (n : ℕ) → Holds f i (holds_scalar (content_of r)) → (IsNumbered old.scalars → Enters r n old.scalars new.scalars None) → n ≡ length old.originals.items → new.originals.items ≡ old.originals.items ++ (i ∷ []) → new.references ≡ old.references → WalksScalar f 0 (content_of r) old new n
+Walks-new f r i old new n holds entered last added same_references =
     let s = content_of r in
     let long : length new.originals.items ≡ suc (length old.originals.items) = ap length added ∙ length-append old.originals.items (i ∷ []) ∙ add-one _ in
     record {
       numbered = λ all k stands ready.
-          let first = unknown-first s all k stands (sym (ready.known r) ∙ unknown) in
+          let enters = entered ready.numbered in
+          let first = unknown-first s all k stands (sym (ready.known r) ∙ entered-unknown r n old.scalars new.scalars enters) in
           let is = number_is s all k stands in
           let e : n ≡ number_in all k = last ∙ ready.counted ∙ ap (λ m. count_below m (kept_places all)) (sym first) ∙ sym is in
           ap (λ m. m ∷ []) e;
       adds = λ all k stands ready.
-          let first = unknown-first s all k stands (sym (ready.known r) ∙ unknown) in
+          let enters = entered ready.numbered in
+          let first = unknown-first s all k stands (sym (ready.known r) ∙ entered-unknown r n old.scalars new.scalars enters) in
           let at = here s all k stands in
           let number : n ≡ count_below k (kept_places all) = last ∙ ready.counted in
-          let knows : (q : ScalarRef) → number_held new q ≡ cond (scalar_eq s (content_of q)) (Some n) (number_held old q) =
-          λ q. rw (inserted, pushed) (number-pushed old.scalars.keys old.numbers.items r n q ready.numbered unknown) in
-          let now : (q : ScalarRef) → number_held new q ≡ number_known all (suc k) (content_of q) =
+          let knows : (q : ScalarRef) → number_held new.scalars q ≡ cond (scalar_eq s (content_of q)) (Some n) (number_held old.scalars q) = entered-added r n old.scalars new.scalars enters in
+          let now : (q : ScalarRef) → number_held new.scalars q ≡ number_known all (suc k) (content_of q) =
           λ q. elim (cases_Bool (scalar_eq s (content_of q))) [
             | inl same ↦ (let e : s ≡ content_of q = (scalar_eq-Decides s (content_of q)).0 same in let firstq : least_place (content_of q) all ≡ k = ap (λ x. least_place x all) (sym e) ∙ first in knows q ∙ rw same (ap Some number) ∙ sym (known-now all k (content_of q) firstq))
             | inr other ↦ knows q ∙ rw other (ready.known q) ∙ sym (known-still all k (content_of q) (λ e. let same = same_scalar s all k stands (content_of q) e in let yes = (scalar_eq-Decides s (content_of q)).1 (sym same) in true≢false (sym yes ∙ other)))
           ] in
           record {
             ready = rw add-one (record {
-              numbered = rw (inserted, pushed) (length-pushed old.scalars.keys old.numbers.items r n ready.numbered unknown);
+              numbered = enters.numbered;
               known = now;
               counted = long ∙ ap suc ready.counted ∙ sym (count-kept all k (scalar s) at.0 at.1 first);
             });
@@ -142,8 +144,8 @@ pub Walks-whole : (f : List ℕ) (v : Plist) (empty done : Plan) (n : ℕ) → I
 Walks-whole f v empty done n nothing walks =
     let all = preorder v in
     let start : IsReady all 0 empty = record {
-      numbered = nothing.numbered;
-      known = λ q. nothing.unknown q ∙ rw (le-ltb (least_place (content_of q) all) 0 (omega arith)) refl;
+      numbered = nothing.scalars.numbered;
+      known = λ q. nothing.scalars.unknown q ∙ rw (le-ltb (least_place (content_of q) all) 0 (omega arith)) refl;
       counted = ap length nothing.none ∙ sym (count_below-none all all 0 0 (omega arith));
     } in
     let adds = walks.adds all 0 (Stands-all all) start in

@@ -1,4 +1,5 @@
 pub mod Spelling
+pub mod Numbered
 pub mod Plan
 pub mod Order
 pub mod Parts

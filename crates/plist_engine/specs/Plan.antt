@@ -1,9 +1,6 @@
 -- The walk that plans a canonical file over the objects of another file.
-use Rattle.std.specs.Prelude.{◌≡◌, ℕ, ◌+◌, ◌-◌, ◌^◌, List, [], ◌∷◌, ◌++◌, length, map, drop, take, slice_get, slice_index_or, Option, Some, None}
-use Rattle.std.specs.Ordering.{on}
-use Rattle.indexmap.specs.IndexSet.{insert_index}
+use Rattle.std.specs.Prelude.{◌≡◌, ℕ, ◌+◌, ◌-◌, ◌^◌, List, [], ◌∷◌, ◌++◌, length, map, drop, take, slice_index_or, Some}
 use Rattle.plist_value.specs.Plist.{Scalar, Plist, scalar, Items, IsPlist, AreItems}
-use Rattle.plist_value.specs.Equality.{scalar_eq}
 use Rattle.plist_value.specs.Scalars.{content_of}
 use Rattle.plist_value.specs.declared.scalar_ref.ScalarRef.{ScalarRef}
 use Rattle.plist_object.specs.Objects.{Held, holds_scalar, holds_list, holds_table}
@@ -13,6 +10,7 @@ use Rattle.plist_object.specs.Spelled.{Spells, SpellItems}
 use Rattle.plist_write.specs.Tree.{preorder, preorder_items, item_places}
 use Rattle.plist_write.specs.Sharing.{kept_places, count_below}
 use Rattle.plist_write.specs.Plan.{Stands, number_in, found_in, number_known}
+use Rattle.plist_engine.specs.Numbered.{number_held, IsNew, IsNumbered}
 use Rattle.plist_engine.specs.declared.plan.Objects.{Objects}
 use Rattle.plist_engine.specs.declared.plan.Plan.{Plan}
 
@@ -31,25 +29,16 @@ StandFor f (i ∷ originals) refs [] = ⊥
 StandFor f (i ∷ originals) refs (h ∷ hs) =
     IsLike f i h × ((behind : List ℕ) × ((refs ≡ references_of h ++ behind) × StandFor f originals behind hs))
 
--- the number under which a scalar is found, if it is: the one at its index in the set
-abbrev pub number_held : Plan → ScalarRef → Option ℕ
-number_held plan s = slice_get plan.numbers.items (insert_index (on content_of scalar_eq) plan.scalars s)
-
--- there is a number for each scalar of the set
-abbrev pub IsNumbered : Plan → Type 0
-IsNumbered plan = length plan.numbers.items ≡ length plan.scalars.keys
-
 -- nothing was found
 pub record IsEmptyPlan (plan : Plan) : Type 0 where
-  pub numbered : IsNumbered plan
-  pub unknown : (s : ScalarRef) → number_held plan s ≡ None
+  pub scalars : IsNew plan.scalars
   pub none : plan.originals.items ≡ []
   pub no_references : plan.references.items ≡ []
 
 -- the places below k are done: each scalar there is known by its number, and so many objects were found
 pub record IsReady (all : List Plist) (k : ℕ) (plan : Plan) : Type 0 where
-  pub numbered : IsNumbered plan
-  pub known : (s : ScalarRef) → number_held plan s ≡ number_known all k (content_of s)
+  pub numbered : IsNumbered plan.scalars
+  pub known : (s : ScalarRef) → number_held plan.scalars s ≡ number_known all k (content_of s)
   pub counted : length plan.originals.items ≡ count_below k (kept_places all)
 
 -- What these objects hold was added. Of the references only those behind the front are looked at.
@@ -86,7 +75,6 @@ WalksItems f front vs = Walks f front (preorder_items vs) (λ k. item_places k v
 pub record Begins (i : ℕ) (refs : List ℕ) (old new : Plan) (number : ℕ) : Type 0 where
   pub number_is : number ≡ length old.originals.items
   pub scalars_kept : new.scalars ≡ old.scalars
-  pub numbers_kept : new.numbers ≡ old.numbers
   pub original_added : new.originals.items ≡ old.originals.items ++ (i ∷ [])
   pub memo_kept : new.memo ≡ old.memo
   pub references_added : new.references.items ≡ old.references.items ++ refs
@@ -95,7 +83,7 @@ pub record Begins (i : ℕ) (refs : List ℕ) (old new : Plan) (number : ℕ) : 
 pub record IsRemembered (f : List ℕ) (plan : Plan) (i number : ℕ) : Type 0 where
   pub shown : ScalarRef
   pub holds : Holds f i (holds_scalar (content_of shown))
-  pub held : number_held plan shown ≡ Some number
+  pub held : number_held plan.scalars shown ≡ Some number
 
 -- stands for the number of an object that has none yet
 abbrev pub no_number : ℕ
@@ -107,15 +95,15 @@ remembered plan i = slice_index_or plan.memo.items i no_number
 
 -- each number of the memo is that of the scalar that the object holds
 pub record RemembersNumbers (f : List ℕ) (plan : Plan) : Type 0 where
-  pub numbered : IsNumbered plan
+  pub numbered : IsNumbered plan.scalars
   pub each : (i : ℕ) → (remembered plan i ≡ no_number → ⊥) → IsRemembered f plan i (remembered plan i)
 
 -- The scalar has the number now, and each that had one has it still.
 pub record EntersScalar (shown : ScalarRef) (old new : Plan) (number : ℕ) : Type 0 where
   pub memo_kept : new.memo ≡ old.memo
-  pub numbered : IsNumbered old → IsNumbered new
-  pub found : IsNumbered old → number_held new shown ≡ Some number
-  pub still : IsNumbered old → (s : ScalarRef) (n : ℕ) → number_held old s ≡ Some n → number_held new s ≡ Some n
+  pub numbered : IsNumbered old.scalars → IsNumbered new.scalars
+  pub found : IsNumbered old.scalars → number_held new.scalars shown ≡ Some number
+  pub still : IsNumbered old.scalars → (s : ScalarRef) (n : ℕ) → number_held old.scalars s ≡ Some n → number_held new.scalars s ≡ Some n
 
 -- A scalar was numbered that an object of a file holds.
 pub record NumbersScalar (i : ℕ) (s : Scalar) (old new : Plan) (number : ℕ) : Type 0 where

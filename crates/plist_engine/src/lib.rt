@@ -2,6 +2,7 @@
 #![tactic(auto)]
 
 mod making;
+mod numbered;
 mod objects;
 mod order;
 mod parts;

@@ -10,8 +10,8 @@ ghost use Rattle.plist_engine.specs.Spelling.{IsTable, SpellTable, in_turn};
 ghost use Rattle.plist_engine.specs.Plan.{Begins, IsEmptyPlan, NumbersScalar};
 ghost use Rattle.plist_engine.specs.Plan.{EntersScalar, IsRemembered, RemembersNumbers, remembered};
 
+use crate::numbered::Numbered;
 use crate::order::{KeyOrder, push_all};
-use indexmap::IndexSet;
 use plist_object::{BinFile, Refs};
 use plist_value::ScalarRef;
 use std::alloc::{AllocError, Global};
@@ -27,12 +27,11 @@ pub(crate) struct Objects {
 /// Stands for the number of an object that has none yet.
 const NO_NUMBER: u32 = u32::MAX;
 
-/// The objects so far, the scalars among them, and the numbers of these. Beside them stands a memo: for each
-/// object of the file that was met as a scalar its number.
+/// The objects so far, and the scalars among them with their numbers. Beside them stands a memo: for each object
+/// of the file that was met as a scalar its number.
 #[derive(Drop)]
 pub(crate) struct Plan<'a> {
-    scalars: IndexSet<ScalarRef<'a>>,
-    numbers: Vec<u32>,
+    scalars: Numbered<'a>,
     memo: Vec<u32>,
     originals: Vec<u64>,
     pub(crate) references: Vec<u64>,
@@ -48,8 +47,7 @@ impl<'a> Plan<'a> {
         let mut memo = Vec::new(alloc);
         memo.resize(count as usize, NO_NUMBER)?;
         Ok(Plan {
-            scalars: IndexSet::new(alloc),
-            numbers: Vec::with_capacity(alloc, count as usize)?,
+            scalars: Numbered::new(alloc, count as usize)?,
             memo,
             originals: Vec::with_capacity(alloc, count as usize)?,
             references: Vec::with_capacity(alloc, (count as usize).saturating_mul(4))?,
@@ -99,21 +97,18 @@ impl<'a> Plan<'a> {
         }
     }
 
-    // The number of the scalar that the object holds: that of an equal one, or a new one where the set did not
-    // have it.
+    // The number of the scalar that the object holds: that of an equal one, or a new one.
     fn enter(&mut self, object: u64, scalar: ScalarRef<'a>) -> Result<u32, AllocError>
         ensures numbers { IfOk result
             (NumbersScalar object (content_of scalar.entry) self.old self.new) }
         ensures enters { IfOk result (EntersScalar scalar.entry self.old self.new) }
     {
-        let (index, _) = self.scalars.insert_full(scalar)?;
-        if let Some(number) = self.numbers.get(index) {
-            return Ok(*number);
+        let next = short(self.originals.len())?;
+        if let Some(number) = self.scalars.enter(scalar, next)? {
+            return Ok(number);
         }
-        let number = short(self.originals.len())?;
-        self.numbers.push(number)?;
         self.originals.push(object)?;
-        Ok(number)
+        Ok(next)
     }
 
     /// The number of a list, whose references are put behind the references.

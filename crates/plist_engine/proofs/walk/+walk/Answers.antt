@@ -152,9 +152,9 @@ walk_children-loop-i-preserved t c =
       done = done ++ (n ∷ []);
       filling = filling-next first i start now done c.requires.first filling mid.references.items one.references n below one.references_added;
       more = λ new numbers w.
-          let all = c.loop-i.invariant.more new (n ∷ numbers) (walked-next f start i c.index-object.result.now c.loop-i.plan mid _ new n numbers below (object ∙ stands) long one refl refl refl (kept-behind i (length start) mid.references.items n below) w) in
+          let all = c.loop-i.invariant.more new (n ∷ numbers) (walked-next f start i c.index-object.result.now c.loop-i.plan mid _ new n numbers below (object ∙ stands) long one refl refl (kept-behind i (length start) mid.references.items n below) w) in
           subst (λ (ns : List ℕ). ItemsWalked f (length start) (drop first start) c.args.plan.now new ns) (sym (append_assoc done (n ∷ []) numbers)) all;
-      memo = remembers-same f mid _ refl refl refl c.in_ok-number.ensures.memo;
+      memo = remembers-same f mid _ refl refl c.in_ok-number.ensures.memo;
       ordered = c.in_ok-number.ensures.ordered;
     }
 

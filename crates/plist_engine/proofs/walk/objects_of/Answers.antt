@@ -31,7 +31,7 @@ returns c = λ v binary.
     }
 
 pub walk-requires-clause-memo : goal.walk-requires-clause-memo
-walk-requires-clause-memo c = remembers-none (octets_of c.args.file.now) c.in_ok-plan.plan c.in_ok-plan.ensures.empty.numbered c.in_ok-plan.ensures.memo
+walk-requires-clause-memo c = remembers-none (octets_of c.args.file.now) c.in_ok-plan.plan c.in_ok-plan.ensures.empty.scalars.numbered c.in_ok-plan.ensures.memo
 
 pub walk-requires-clause-ordered : goal.walk-requires-clause-ordered
 walk-requires-clause-ordered c = c.none-order.ensures (octets_of c.args.file.now)

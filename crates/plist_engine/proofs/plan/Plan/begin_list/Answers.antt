@@ -5,7 +5,6 @@ pub returns : goal.returns
 returns c = record {
   number_is = search rules;
   scalars_kept = refl;
-  numbers_kept = refl;
   memo_kept = refl;
   original_added = c.in_ok-push.ensures.items;
   references_added = c.in_ok-push_all.ensures;

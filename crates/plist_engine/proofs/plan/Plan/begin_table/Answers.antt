@@ -5,7 +5,6 @@ pub returns-clause-begins : goal.returns-clause-begins
 returns-clause-begins c = λ rows ps spell. record {
   number_is = search rules;
   scalars_kept = refl;
-  numbers_kept = refl;
   memo_kept = refl;
   original_added = c.in_ok-push.ensures.items;
   references_added = c.in_ok-push_sorted.ensures.pushed rows ps spell;

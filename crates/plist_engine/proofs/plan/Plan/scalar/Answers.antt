@@ -9,11 +9,11 @@ returns-then-place-len-clause-memo c = λ f holds memo.
 
 pub returns-clause-numbers : goal.returns-clause-numbers
 returns-clause-numbers c =
-    rw c.from-2.ensures (scalar-set c.args.object (content_of c.args.scalar) c.args.self.now c.enter.new.self _ c.in_ok-number.number c.in_ok-number.ensures.numbers refl refl refl refl)
+    rw c.from-2.ensures (scalar-set c.args.object (content_of c.args.scalar) c.args.self.now c.enter.new.self _ c.in_ok-number.number c.in_ok-number.ensures.numbers refl refl refl)
 
 pub returns-clause-memo : goal.returns-clause-memo
 returns-clause-memo c = λ f holds memo.
     let mid = c.enter.new.self in
     let enters = c.in_ok-number.ensures.enters in
     let within : c.args.object < length mid.memo.items = omega (arith, c.len.ensures, mid.memo.ok.0) in
-    remembers-set f c.args.object c.args.scalar mid _ c.in_ok-number.number within refl refl refl holds (enters.found memo.numbered) (remembers-entered f c.args.scalar c.args.self.now mid c.in_ok-number.number enters memo)
+    remembers-set f c.args.object c.args.scalar mid _ c.in_ok-number.number within refl refl holds (enters.found memo.numbered) (remembers-entered f c.args.scalar c.args.self.now mid c.in_ok-number.number enters memo)

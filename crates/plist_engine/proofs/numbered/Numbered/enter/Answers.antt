@@ -1,0 +1,13 @@
+use Rattle.std.proofs.Common.{◌≡◌, None, rules, refl, arith}
+use Rattle.plist_value.specs.Scalars.{content_of}
+use Rattle.plist_engine.specs.Numbered.{number_listed, IsLong, HasRoom}
+use Rattle.plist_engine.proofs.Numbers.{enters-pushed}
+use Rattle.plist_engine.proofs.numbered.Numbered.enter.Goals as goal
+
+pub returns : goal.returns
+returns c = λ numbered.
+    let known = c.args.self.now in
+    let long : IsLong c.args.scalar = search rules in
+    let room : HasRoom known = omega (arith, c.len.ensures) in
+    let missed : number_listed known.listed.items (content_of c.args.scalar) ≡ None = search rules in
+    enters-pushed c.args.scalar c.args.next known _ numbered long missed room refl refl c.in_ok-push.ensures.items
