@@ -31,13 +31,13 @@ pub(crate) struct Numbered<'a> {
 }
 
 impl<'a> Numbered<'a> {
-    /// No scalar has a number. There is room for as many numbers as given.
+    /// No scalar has a number. There is room for so many.
     pub(crate) fn new(alloc: Global, count: usize) -> Result<Numbered<'a>, AllocError>
         ensures { IfOk result IsNew }
     {
         Ok(Numbered {
             listed: Vec::new(alloc),
-            hashed: IndexSet::new(alloc),
+            hashed: IndexSet::with_capacity(alloc, count)?,
             numbers: Vec::with_capacity(alloc, count)?,
         })
     }

@@ -10,6 +10,7 @@ ghost use Rattle.plist_engine.specs.Order.{by_text, pair_at, place_of};
 ghost use Rattle.plist_engine.specs.Spelling.{IsTable, SpellTable, in_turn};
 
 use crate::objects::text_of;
+use crate::plan::short;
 use plist_object::{BinFile, Refs};
 use plist_value::TextRef;
 use std::alloc::{AllocError, Global};
@@ -51,7 +52,7 @@ impl<'a> KeyOrder<'a> {
         file: &BinFile<'a>,
         keys: &Refs<'a>,
         values: &Refs,
-        references: &mut Vec<u64>,
+        references: &mut Vec<u32>,
     ) -> Result<(), AllocError>
         requires table { IsTable (octets_of file.now) (numbers_of keys.now)
             (numbers_of values.now) }
@@ -105,23 +106,23 @@ impl<'a> KeyOrder<'a> {
 }
 
 /// Puts the references of a list behind the references.
-pub(crate) fn push_all(items: &Refs, references: &mut Vec<u64>) -> Result<(), AllocError>
+pub(crate) fn push_all(items: &Refs, references: &mut Vec<u32>) -> Result<(), AllocError>
     ensures { OnOk result (references.new.items ≡ references.old.items ++ numbers_of items.now) }
 {
     for i in 0..items.len() {
-        references.push(items.get(i))?;
+        references.push(short(items.get(i))?)?;
     }
     Ok(())
 }
 
 // Puts the references at these places behind the others.
-fn push_at(refs: &Refs, places: &[u64], references: &mut Vec<u64>) -> Result<(), AllocError>
+fn push_at(refs: &Refs, places: &[u64], references: &mut Vec<u32>) -> Result<(), AllocError>
     requires { All (λ place. place < length (numbers_of refs.now)) places.now }
     ensures { OnOk result (references.new.items
         ≡ references.old.items ++ map (slice_index (numbers_of refs.now)) places.now) }
 {
     for place in places {
-        references.push(refs.get(*place))?;
+        references.push(short(refs.get(*place))?)?;
     }
     Ok(())
 }

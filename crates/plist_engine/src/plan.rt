@@ -1,5 +1,5 @@
 //! The objects of the canonical file, in the order of their numbers, as they are found in a file.
-ghost use Rattle.std.specs.Prelude.{◌≡◌, ℕ, List, IfOk, IfSome, OnOk};
+ghost use Rattle.std.specs.Prelude.{◌≡◌, ℕ, List, length, IfOk, IfSome, OnOk};
 ghost use Rattle.plist_value.specs.Scalars.{content_of};
 ghost use Rattle.plist_value.specs.Plist.{Pairs};
 ghost use Rattle.plist_object.specs.Objects.{holds_scalar};
@@ -13,7 +13,7 @@ ghost use Rattle.plist_engine.specs.Plan.{EntersScalar, IsRemembered, RemembersN
 use crate::numbered::Numbered;
 use crate::order::{KeyOrder, push_all};
 use plist_object::{BinFile, Refs};
-use plist_value::ScalarRef;
+use plist_value::{MAX_NODES, ScalarRef};
 use std::alloc::{AllocError, Global};
 
 /// The objects of a canonical file: for each number the object of the file that holds what stands there, and
@@ -33,29 +33,31 @@ const NO_NUMBER: u32 = u32::MAX;
 pub(crate) struct Plan<'a> {
     scalars: Numbered<'a>,
     memo: Vec<u32>,
-    originals: Vec<u64>,
-    pub(crate) references: Vec<u64>,
+    originals: Vec<u32>,
+    pub(crate) references: Vec<u32>,
 }
 
 impl<'a> Plan<'a> {
-    /// Nothing was found of a file of so many objects. There is room for what most files take; where it is not
-    /// used it costs nothing.
+    /// Nothing was found of a file of so many objects. There is room for what most files take, and for no more
+    /// than a value within the limits has; where it is not used it costs nothing.
     pub(crate) fn new(alloc: Global, count: u64) -> Result<Plan<'a>, AllocError>
         ensures empty { IfOk result IsEmptyPlan }
         ensures memo { IfOk result (λ plan. (i : ℕ) → remembered plan i ≡ NO_NUMBER) }
     {
         let mut memo = Vec::new(alloc);
         memo.resize(count as usize, NO_NUMBER)?;
+        let objects = count.min(MAX_NODES);
+        let references = objects.saturating_mul(4).min(MAX_NODES);
         Ok(Plan {
-            scalars: Numbered::new(alloc, count as usize)?,
+            scalars: Numbered::new(alloc, objects as usize)?,
             memo,
-            originals: Vec::with_capacity(alloc, count as usize)?,
-            references: Vec::with_capacity(alloc, (count as usize).saturating_mul(4))?,
+            originals: Vec::with_capacity(alloc, objects as usize)?,
+            references: Vec::with_capacity(alloc, references as usize)?,
         })
     }
 
     /// The number of the scalar that the object holds, if it was met before.
-    pub(crate) fn number_of(&self, object: u64) -> Option<u64>
+    pub(crate) fn number_of(&self, object: u64) -> Option<u32>
         ensures { IfSome result (λ number. (f : List ℕ) → RemembersNumbers f self.now
             → IsRemembered f self.now object number) }
     {
@@ -67,11 +69,11 @@ impl<'a> Plan<'a> {
         if number == NO_NUMBER {
             return None;
         }
-        Some(u64::from(number))
+        Some(number)
     }
 
     /// The number of the scalar that the object holds, which is kept for the next time.
-    pub(crate) fn scalar(&mut self, object: u64, scalar: ScalarRef<'a>) -> Result<u64, AllocError>
+    pub(crate) fn scalar(&mut self, object: u64, scalar: ScalarRef<'a>) -> Result<u32, AllocError>
         ensures numbers { IfOk result
             (NumbersScalar object (content_of scalar.entry) self.old self.new) }
         ensures memo { OnOk result ((f : List ℕ)
@@ -81,20 +83,31 @@ impl<'a> Plan<'a> {
         let number = self.enter(object, scalar)?;
         let place = object as usize;
         if place >= self.memo.len() {
-            return Ok(u64::from(number));
+            return Ok(number);
         }
         self.memo[place] = number;
-        Ok(u64::from(number))
+        Ok(number)
     }
 
-    pub(crate) fn into_objects(self) -> Objects
-        ensures originals { result.originals ≡ self.entry.originals }
-        ensures references { result.references ≡ self.entry.references }
+    /// The objects alone; the scalars and the memo are given up first.
+    pub(crate) fn into_objects(self, alloc: Global) -> Result<Objects, AllocError>
+        ensures originals { IfOk result (λ objects. objects.originals.items
+            ≡ self.entry.originals.items) }
+        ensures references { IfOk result (λ objects. objects.references.items
+            ≡ self.entry.references.items) }
     {
-        Objects {
-            originals: self.originals,
-            references: self.references,
-        }
+        let Plan {
+            scalars,
+            memo,
+            originals,
+            references,
+        } = self;
+        drop(scalars);
+        drop(memo);
+        Ok(Objects {
+            originals: wide(alloc, originals)?,
+            references: wide(alloc, references)?,
+        })
     }
 
     // The number of the scalar that the object holds: that of an equal one, or a new one.
@@ -103,20 +116,29 @@ impl<'a> Plan<'a> {
             (NumbersScalar object (content_of scalar.entry) self.old self.new) }
         ensures enters { IfOk result (EntersScalar scalar.entry self.old self.new) }
     {
-        let next = short(self.originals.len())?;
+        let next = self.next_number()?;
         if let Some(number) = self.scalars.enter(scalar, next)? {
             return Ok(number);
         }
-        self.originals.push(object)?;
+        let original = short(object)?;
+        self.originals.push(original)?;
         Ok(next)
     }
 
+    // The number of the next object.
+    fn next_number(&self) -> Result<u32, AllocError>
+        ensures { IfOk result (λ number. number ≡ length self.now.originals.items) }
+    {
+        short(self.originals.len() as u64)
+    }
+
     /// The number of a list, whose references are put behind the references.
-    pub(crate) fn begin_list(&mut self, object: u64, items: &Refs) -> Result<u64, AllocError>
+    pub(crate) fn begin_list(&mut self, object: u64, items: &Refs) -> Result<u32, AllocError>
         ensures { IfOk result (Begins object (numbers_of items.now) self.old self.new) }
     {
-        let number = self.originals.len() as u64;
-        self.originals.push(object)?;
+        let number = self.next_number()?;
+        let original = short(object)?;
+        self.originals.push(original)?;
         push_all(items, &mut self.references)?;
         Ok(number)
     }
@@ -131,7 +153,7 @@ impl<'a> Plan<'a> {
         object: u64,
         keys: &Refs<'a>,
         values: &Refs,
-    ) -> Result<u64, AllocError>
+    ) -> Result<u32, AllocError>
         requires table { IsTable (octets_of file.now) (numbers_of keys.now)
             (numbers_of values.now) }
         requires ordered { IsOrdered (octets_of file.now) order.old }
@@ -140,16 +162,29 @@ impl<'a> Plan<'a> {
             → Begins object (in_turn rows) self.old self.new number) }
         ensures ordered { OnOk result (IsOrdered (octets_of file.now) order.new) }
     {
-        let number = self.originals.len() as u64;
-        self.originals.push(object)?;
+        let number = self.next_number()?;
+        let original = short(object)?;
+        self.originals.push(original)?;
         order.push_sorted(alloc, file, keys, values, &mut self.references)?;
         Ok(number)
     }
 }
 
-// The number in 32 bits, which a value within the limits never passes.
-fn short(number: usize) -> Result<u32, AllocError>
+/// The number in 32 bits. No number of a value within the limits passes them, nor that of an object of a file
+/// that is within the limit of input.
+pub(crate) fn short(number: u64) -> Result<u32, AllocError>
     ensures { IfOk result (λ short. short ≡ number) }
 {
     u32::try_from(number).map_err(|_| AllocError)
+}
+
+// The numbers in 64 bits.
+fn wide(alloc: Global, numbers: Vec<u32>) -> Result<Vec<u64>, AllocError>
+    ensures { IfOk result (λ wide. wide.items ≡ numbers.items) }
+{
+    let mut wide = Vec::with_capacity(alloc, numbers.len())?;
+    for number in &numbers {
+        wide.push(u64::from(*number))?;
+    }
+    Ok(wide)
 }

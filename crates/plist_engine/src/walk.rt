@@ -23,7 +23,8 @@ pub(crate) fn objects_of(alloc: Global, file: &BinFile) -> Result<Objects, Alloc
     let mut plan = Plan::new(alloc, file.count())?;
     let mut order = KeyOrder::none(alloc);
     walk(alloc, file, &mut plan, &mut order, file.top(), MAX_DEPTH)?;
-    Ok(plan.into_objects())
+    let objects = plan.into_objects(alloc)?;
+    Ok(objects)
 }
 
 // The number of the value that the object spells, whose objects are added.
@@ -35,7 +36,7 @@ fn walk<'a>(
     order: &mut KeyOrder<'a>,
     object: u64,
     levels: u64,
-) -> Result<u64, AllocError>
+) -> Result<u32, AllocError>
     requires spells { SpellsWithin (octets_of file.now) object levels }
     requires memo { RemembersNumbers (octets_of file.now) plan.old }
     requires ordered { IsOrdered (octets_of file.now) order.old }
@@ -84,7 +85,7 @@ fn walk_children<'a>(
 {
     for i in first..plan.references.len() {
         let object = plan.references[i];
-        let number = walk(alloc, file, plan, order, object, levels)?;
+        let number = walk(alloc, file, plan, order, u64::from(object), levels)?;
         plan.references[i] = number;
     }
     Ok(())

@@ -119,7 +119,7 @@ walk_children-walk-requires t c =
     let far : first + (i - first) ≡ i = omega arith in
     let at : get_or (drop first start) (i - first) 0 ≡ get_or start i 0 = get_or-drop first start (i - first) 0 ∙ ap (λ k. get_or start k 0) far in
     let within = value_within f (drop first start) c.args.levels (i - first) c.requires.spell (omega arith) in
-    (omega (arith, c.decreases), (subst (λ (x : ℕ). SpellsWithin f x c.args.levels) (at ∙ sym stands ∙ sym object) within, (c.loop-i.invariant.memo, c.loop-i.invariant.ordered)))
+    (omega (arith, c.decreases), (subst (λ (x : ℕ). SpellsWithin f x c.args.levels) (at ∙ sym stands ∙ sym object ∙ sym c.from.ensures) within, (c.loop-i.invariant.memo, c.loop-i.invariant.ordered)))
 
 pub walk_children-index_mut-requires : goal.walk_children-index_mut-requires
 walk_children-index_mut-requires t c =
@@ -152,7 +152,7 @@ walk_children-loop-i-preserved t c =
       done = done ++ (n ∷ []);
       filling = filling-next first i start now done c.requires.first filling mid.references.items one.references n below one.references_added;
       more = λ new numbers w.
-          let all = c.loop-i.invariant.more new (n ∷ numbers) (walked-next f start i c.index-object.result.now c.loop-i.plan mid _ new n numbers below (object ∙ stands) long one refl refl (kept-behind i (length start) mid.references.items n below) w) in
+          let all = c.loop-i.invariant.more new (n ∷ numbers) (walked-next f start i c.from.result c.loop-i.plan mid _ new n numbers below (c.from.ensures ∙ object ∙ stands) long one refl refl (kept-behind i (length start) mid.references.items n below) w) in
           subst (λ (ns : List ℕ). ItemsWalked f (length start) (drop first start) c.args.plan.now new ns) (sym (append_assoc done (n ∷ []) numbers)) all;
       memo = remembers-same f mid _ refl refl c.in_ok-number.ensures.memo;
       ordered = c.in_ok-number.ensures.ordered;

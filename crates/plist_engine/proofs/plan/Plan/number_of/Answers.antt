@@ -8,4 +8,4 @@ returns c =
     let x = c.index-number.result.now in
     let within : c.args.object < length items = omega (arith, c.len.ensures, c.args.self.now.memo.ok.0) in
     let is : x ≡ get_or items c.args.object x = search rules in
-    rw c.from.ensures (number-remembered c.args.self.now c.args.object x within is (search rules))
+    (number-remembered c.args.self.now c.args.object x within is (search rules))

@@ -9,7 +9,7 @@ returns-then-place-len-clause-memo c = λ f holds memo.
 
 pub returns-clause-numbers : goal.returns-clause-numbers
 returns-clause-numbers c =
-    rw c.from-2.ensures (scalar-set c.args.object (content_of c.args.scalar) c.args.self.now c.enter.new.self _ c.in_ok-number.number c.in_ok-number.ensures.numbers refl refl refl)
+    (scalar-set c.args.object (content_of c.args.scalar) c.args.self.now c.enter.new.self _ c.in_ok-number.number c.in_ok-number.ensures.numbers refl refl refl)
 
 pub returns-clause-memo : goal.returns-clause-memo
 returns-clause-memo c = λ f holds memo.
