@@ -4,6 +4,8 @@
 
 pub mod keys;
 pub mod ranks;
+pub mod sorted;
 
 pub use keys::Keys;
 pub use ranks::Ranks;
+pub use sorted::SortedKeys;
