@@ -23,3 +23,4 @@ pub mod PassSteps
 pub mod Recalling
 pub mod BuildSteps
 pub mod Ranking
+pub mod Sorting

@@ -11,7 +11,9 @@ use Rattle.plist_object.specs.Places.{Holds}
 use Rattle.plist_object.specs.Spelled.{SpellItems}
 use Rattle.plist_object.specs.Views.{numbers_of}
 use Rattle.plist_binary.specs.declared.fault.BinaryFault.{BinaryFault}
-use Rattle.plist_binary.specs.declared.last_keys.LastKeys.{LastKeys}
+use Rattle.plist_ranks.specs.Order.{AreSortedIfAny}
+use Rattle.plist_binary.specs.declared.known_keys.KnownKeys.{KnownKeys}
+use Rattle.plist_binary.specs.declared.known_keys.LastKeys.{LastKeys}
 use Rattle.plist_binary.specs.Readings.{ReadsItems, RefusesPairs, texts}
 
 -- texts of which no two are equal: in their order each is below the next
@@ -29,8 +31,13 @@ pub record SpellApart (f refs : List ℕ) (payload : ℕ) : Type 0 where
   pub payload_is : payload_of_items (texts keys) ≡ payload
 
 -- what is known of the last keys, if anything is, is so
-abbrev pub IsKnown : List ℕ → Option LastKeys → Type 0
-IsKnown f last = IfSome last (λ keys. SpellApart f (numbers_of keys.refs) keys.payload)
+abbrev pub IsKnownLast : List ℕ → Option LastKeys → Type 0
+IsKnownLast f last = IfSome last (λ keys. SpellApart f (numbers_of keys.refs) keys.payload)
+
+-- what is known of keys is so
+pub record IsKnown (f : List ℕ) (known : KnownKeys) : Type 0 where
+  pub last : IsKnownLast f known.last
+  pub sorted : AreSortedIfAny f known.sorted
 
 -- the references spell texts, of which no two are equal, and which took what is gone from the budget
 pub record ReadsApart (f refs : List ℕ) (levels : ℕ) (before after : Budget) : Type 0 where

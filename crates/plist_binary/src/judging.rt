@@ -7,22 +7,23 @@ ghost use Rattle.plist_object.specs.Objects.{holds_table};
 ghost use Rattle.plist_object.specs.Places.{Holds};
 ghost use Rattle.plist_object.specs.Spelled.{IsBinary};
 ghost use Rattle.plist_object.specs.Views.{numbers_of, octets_of};
+ghost use Rattle.plist_ranks.specs.Order.{AreSortedIfAny};
 ghost use Rattle.plist_ranks.specs.Ranks.{AreRanks};
 ghost use Rattle.plist_binary.specs.Faults.{Stands};
 ghost use Rattle.plist_binary.specs.Memos.{AreStates};
 ghost use Rattle.plist_binary.specs.Passing.{Passes, PassesItems, PassesPairs, PassesTop};
 ghost use Rattle.plist_binary.specs.Passing.{IsWithinLimits, limits};
-ghost use Rattle.plist_binary.specs.Paths.{AllRefer, HasKeys, Leads, containers_of};
+ghost use Rattle.plist_binary.specs.Paths.{AllRefer, Leads, containers_of};
 ghost use Rattle.plist_binary.specs.Readings.{Refuses, RefusesItems, RefusesPairs};
-ghost use Rattle.plist_binary.specs.Recalls.{IsKnown, ReadsApart, RefusesTable};
+ghost use Rattle.plist_binary.specs.Recalls.{IsKnown};
 
-use crate::last_keys::{LastKeys, recall_keys};
+use crate::BinaryFault;
+use crate::known_keys::KnownKeys;
 use crate::memos::{Memo, State, mark, state_at};
 use crate::path::Path;
 use crate::visiting::take_payload;
-use crate::{BinaryFault, tables};
 use plist_object::{BinFile, Object, Refs};
-use plist_ranks::{Keys, Ranks};
+use plist_ranks::{Keys, Ranks, SortedKeys};
 use plist_value::{Budget, MAX_DEPTH};
 use std::alloc::Global;
 
@@ -43,15 +44,38 @@ pub fn judge(alloc: Global, octets: &[u8]) -> Result<(), BinaryFault>
         IsBinary octets.now v → ⊥) }
     ensures stands { IfErr result (Stands octets.now) }
 {
+    match judge_keys(alloc, octets) {
+        Ok(_) => Ok(()),
+        Err(fault) => Err(fault),
+    }
+}
+
+/// The same as [`judge`], and of the longest table of more than 64 keys, if there is one, the keys in the order
+/// of their texts: whoever needs them need not sort them again.
+///
+/// # Errors
+///
+/// Those of [`judge`].
+pub fn judge_keys(alloc: Global, octets: &[u8]) -> Result<Option<SortedKeys<'_>>, BinaryFault>
+    ensures ok { OnOk result ((v : Plist) × IsBinary octets.entry.now v) }
+    ensures sorted { IfOk result (AreSortedIfAny octets.entry.now) }
+    ensures refused { IfErr result (λ fault. fault ≢ BinaryFault.OutOfMemory → (v : Plist) →
+        IsBinary octets.entry.now v → ⊥) }
+    ensures stands { IfErr result (Stands octets.entry.now) }
+{
     let file = BinFile::of(octets)?;
     judge_file(alloc, file)
 }
 
 // Whether the top object of the file spells a value within the limits. Where the value is far longer than the
 // file, the file shares texts, and its keys are ranked, so that no key is read again at each table.
-pub(crate) fn judge_file(alloc: Global, file: BinFile) -> Result<(), BinaryFault>
+pub(crate) fn judge_file<'a>(
+    alloc: Global,
+    file: BinFile<'a>,
+) -> Result<Option<SortedKeys<'a>>, BinaryFault>
     requires { IsLaid (octets_of file) }
     ensures passed { OnOk result (PassesTop (octets_of file.entry)) }
+    ensures sorted { IfOk result (AreSortedIfAny (octets_of file.entry)) }
     ensures refused { IfErr result (Refuses (octets_of file.entry)
         (trailer_of (octets_of file.entry)).top MAX_DEPTH limits) }
 {
@@ -59,7 +83,7 @@ pub(crate) fn judge_file(alloc: Global, file: BinFile) -> Result<(), BinaryFault
     let ranks = &none;
     let walker = Walker { alloc, file, ranks };
     match walker.short() {
-        Ok(()) => Ok(()),
+        Ok(sorted) => Ok(sorted),
         Err(BinaryFault::TooMuchPayload { .. }) => {
             let ranks = Keys::of_file(alloc, &file)?.ranks(alloc, &file)?;
             let ranks = &ranks;
@@ -80,9 +104,10 @@ pub(crate) struct Walker<'a, 'r> {
 impl<'a, 'r> Walker<'a, 'r> {
     // Whether the top object spells a value of not much more payload than the file has octets. What it refuses
     // may be a value.
-    fn short(&self) -> Result<(), BinaryFault>
+    fn short(&self) -> Result<Option<SortedKeys<'a>>, BinaryFault>
         requires { AreRanks (octets_of self.now.file) self.now.ranks.now }
-        ensures { OnOk result (PassesTop (octets_of self.now.file)) }
+        ensures passed { OnOk result (PassesTop (octets_of self.now.file)) }
+        ensures sorted { IfOk result (AreSortedIfAny (octets_of self.now.file)) }
     {
         let whole = Budget::whole();
         let short = Budget {
@@ -90,35 +115,39 @@ impl<'a, 'r> Walker<'a, 'r> {
             payload: whole.payload.min(self.file.table().saturating_mul(4)),
         };
         let mut left = short;
-        self.depth(&mut left)?;
-        Ok(())
+        let mut known = KnownKeys::none();
+        self.depth(&mut known, &mut left)?;
+        Ok(known.sorted)
     }
 
     // Whether the top object spells a value within the limits.
-    fn top(&self) -> Result<(), BinaryFault>
+    fn top(&self) -> Result<Option<SortedKeys<'a>>, BinaryFault>
         requires { AreRanks (octets_of self.now.file) self.now.ranks.now }
         ensures passed { OnOk result (PassesTop (octets_of self.now.file)) }
         ensures refused { IfErr result (Refuses (octets_of self.now.file)
             (trailer_of (octets_of self.now.file)).top MAX_DEPTH limits) }
+        ensures sorted { IfOk result (AreSortedIfAny (octets_of self.now.file)) }
     {
         let mut left = Budget::whole();
-        self.depth(&mut left)?;
-        Ok(())
+        let mut known = KnownKeys::none();
+        self.depth(&mut known, &mut left)?;
+        Ok(known.sorted)
     }
 
     // The depth of the value that the top object spells.
-    fn depth(&self, left: &mut Budget) -> Result<u64, BinaryFault>
+    fn depth(&self, known: &mut KnownKeys<'a>, left: &mut Budget) -> Result<u64, BinaryFault>
         requires limits { IsWithinLimits left.old }
         requires ranked { AreRanks (octets_of self.now.file) self.now.ranks.now }
+        requires known { IsKnown (octets_of self.now.file) known.old }
         ensures passed { IfOk result (λ deep. Passes (octets_of self.now.file)
             (trailer_of (octets_of self.now.file)).top MAX_DEPTH left.old deep left.new) }
         ensures refused { IfErr result (Refuses (octets_of self.now.file)
             (trailer_of (octets_of self.now.file)).top MAX_DEPTH left.old) }
+        ensures known { OnOk result (IsKnown (octets_of self.now.file) known.new) }
     {
         let mut states = Vec::new(self.alloc);
-        let mut last = None;
         let top = self.file.top();
-        self.pass(&mut states, &mut last, &Path::Above, top, MAX_DEPTH, left)
+        self.pass(&mut states, known, &Path::Above, top, MAX_DEPTH, left)
     }
 
     // The depth of the value that the object spells, to which the path leads, of at most so many levels.
@@ -126,7 +155,7 @@ impl<'a, 'r> Walker<'a, 'r> {
     fn pass(
         &self,
         states: &mut Vec<State>,
-        last: &mut Option<LastKeys<'a>>,
+        known: &mut KnownKeys<'a>,
         path: &Path,
         object: u64,
         levels: u64,
@@ -139,19 +168,19 @@ impl<'a, 'r> Walker<'a, 'r> {
             states.old.items }
         requires limits { IsWithinLimits left.old }
         requires ranked { AreRanks (octets_of self.now.file) self.now.ranks.now }
-        requires last { IsKnown (octets_of self.now.file) last.old }
+        requires known { IsKnown (octets_of self.now.file) known.old }
         ensures passed { IfOk result (λ deep. Passes (octets_of self.now.file) object levels
             left.old deep left.new) }
         ensures refused { IfErr result (Refuses (octets_of self.now.file) object levels left.old) }
         ensures kept { OnOk result (AreStates (octets_of self.now.file) (containers_of path.now)
             states.new.items) }
-        ensures last { OnOk result (IsKnown (octets_of self.now.file) last.new) }
+        ensures known { OnOk result (IsKnown (octets_of self.now.file) known.new) }
     {
         if let Some((deep, rest)) = self.recall(&*states, path, object, levels, *left) {
             *left = rest;
             return Ok(deep);
         }
-        self.walk(states, last, path, object, levels, left)
+        self.walk(states, known, path, object, levels, left)
     }
 
     // The same of an object that is not known to fit: what its value takes is kept.
@@ -159,7 +188,7 @@ impl<'a, 'r> Walker<'a, 'r> {
     fn walk(
         &self,
         states: &mut Vec<State>,
-        last: &mut Option<LastKeys<'a>>,
+        known: &mut KnownKeys<'a>,
         path: &Path,
         object: u64,
         levels: u64,
@@ -172,16 +201,16 @@ impl<'a, 'r> Walker<'a, 'r> {
             states.old.items }
         requires limits { IsWithinLimits left.old }
         requires ranked { AreRanks (octets_of self.now.file) self.now.ranks.now }
-        requires last { IsKnown (octets_of self.now.file) last.old }
+        requires known { IsKnown (octets_of self.now.file) known.old }
         ensures passed { IfOk result (λ deep. Passes (octets_of self.now.file) object levels
             left.old deep left.new) }
         ensures refused { IfErr result (Refuses (octets_of self.now.file) object levels left.old) }
         ensures kept { OnOk result (AreStates (octets_of self.now.file) (containers_of path.now)
             states.new.items) }
-        ensures last { OnOk result (IsKnown (octets_of self.now.file) last.new) }
+        ensures known { OnOk result (IsKnown (octets_of self.now.file) known.new) }
     {
         let before = *left;
-        let deep = self.content(states, last, path, object, levels, left)?;
+        let deep = self.content(states, known, path, object, levels, left)?;
         let memo = Memo::of(before, *left, deep);
         mark(states, self.file.count(), object, State::Passed(memo))?;
         Ok(deep)
@@ -192,7 +221,7 @@ impl<'a, 'r> Walker<'a, 'r> {
     fn content(
         &self,
         states: &mut Vec<State>,
-        last: &mut Option<LastKeys<'a>>,
+        known: &mut KnownKeys<'a>,
         path: &Path,
         object: u64,
         levels: u64,
@@ -205,13 +234,13 @@ impl<'a, 'r> Walker<'a, 'r> {
             states.old.items }
         requires limits { IsWithinLimits left.old }
         requires ranked { AreRanks (octets_of self.now.file) self.now.ranks.now }
-        requires last { IsKnown (octets_of self.now.file) last.old }
+        requires known { IsKnown (octets_of self.now.file) known.old }
         ensures passed { IfOk result (λ deep. Passes (octets_of self.now.file) object levels
             left.old deep left.new) }
         ensures refused { IfErr result (Refuses (octets_of self.now.file) object levels left.old) }
         ensures kept { OnOk result (AreStates (octets_of self.now.file)
             (object ∷ containers_of path.now) states.new.items) }
-        ensures last { OnOk result (IsKnown (octets_of self.now.file) last.new) }
+        ensures known { OnOk result (IsKnown (octets_of self.now.file) known.new) }
     {
         match self.enter(&*states, path, object, levels, left)? {
             Object::Scalar(scalar) => {
@@ -220,12 +249,12 @@ impl<'a, 'r> Walker<'a, 'r> {
             }
             Object::List(items) => {
                 mark(states, self.file.count(), object, State::Open)?;
-                let deep = self.items(states, last, object, path, items, levels - 1, left)?;
+                let deep = self.items(states, known, object, path, items, levels - 1, left)?;
                 Ok(1 + deep)
             }
             Object::Table(keys, values) => {
                 mark(states, self.file.count(), object, State::Open)?;
-                let deep = self.pairs(states, last, object, path, keys, values, levels - 1, left)?;
+                let deep = self.pairs(states, known, object, path, keys, values, levels - 1, left)?;
                 Ok(1 + deep)
             }
         }
@@ -236,7 +265,7 @@ impl<'a, 'r> Walker<'a, 'r> {
     fn items(
         &self,
         states: &mut Vec<State>,
-        last: &mut Option<LastKeys<'a>>,
+        known: &mut KnownKeys<'a>,
         container: u64,
         before: &Path,
         refs: Refs,
@@ -250,20 +279,20 @@ impl<'a, 'r> Walker<'a, 'r> {
             states.old.items }
         requires limits { IsWithinLimits left.old }
         requires ranked { AreRanks (octets_of self.now.file) self.now.ranks.now }
-        requires last { IsKnown (octets_of self.now.file) last.old }
+        requires known { IsKnown (octets_of self.now.file) known.old }
         ensures passed { IfOk result (λ deep. PassesItems (octets_of self.now.file)
             (numbers_of refs.entry) levels left.old deep left.new) }
         ensures refused { IfErr result (RefusesItems (octets_of self.now.file)
             (numbers_of refs.entry) levels left.old) }
         ensures kept { OnOk result (AreStates (octets_of self.now.file)
             (container ∷ containers_of before.now) states.new.items) }
-        ensures last { OnOk result (IsKnown (octets_of self.now.file) last.new) }
+        ensures known { OnOk result (IsKnown (octets_of self.now.file) known.new) }
     {
         let path = Path::In(container, &*before);
         let mut deepest = 0;
         for i in 0..refs.len() {
             let object = self.referred(container, refs.get(i))?;
-            let deep = self.pass(&mut *states, &mut *last, &path, object, levels, &mut *left)?;
+            let deep = self.pass(&mut *states, &mut *known, &path, object, levels, &mut *left)?;
             deepest = deeper(deepest, deep);
         }
         Ok(deepest)
@@ -275,7 +304,7 @@ impl<'a, 'r> Walker<'a, 'r> {
     fn pairs(
         &self,
         states: &mut Vec<State>,
-        last: &mut Option<LastKeys<'a>>,
+        known: &mut KnownKeys<'a>,
         table: u64,
         before: &Path,
         keys: Refs<'a>,
@@ -291,57 +320,17 @@ impl<'a, 'r> Walker<'a, 'r> {
             states.old.items }
         requires limits { IsWithinLimits left.old }
         requires ranked { AreRanks (octets_of self.now.file) self.now.ranks.now }
-        requires last { IsKnown (octets_of self.now.file) last.old }
+        requires known { IsKnown (octets_of self.now.file) known.old }
         ensures passed { IfOk result (λ deep. PassesPairs (octets_of self.now.file)
             (numbers_of keys.entry) (numbers_of values.entry) levels left.old deep left.new) }
         ensures refused { IfErr result (RefusesPairs (octets_of self.now.file)
             (numbers_of keys.entry) (numbers_of values.entry) levels left.old) }
         ensures kept { OnOk result (AreStates (octets_of self.now.file)
             (table ∷ containers_of before.now) states.new.items) }
-        ensures last { OnOk result (IsKnown (octets_of self.now.file) last.new) }
+        ensures known { OnOk result (IsKnown (octets_of self.now.file) known.new) }
     {
-        self.keys_apart(&*states, last, table, before, keys, levels, left)?;
-        self.items(states, last, table, before, values, levels, left)
-    }
-
-    // Reads the keys of the table, of which no two are equal. Those of the last table are not read again.
-    fn keys_apart(
-        &self,
-        states: &Vec<State>,
-        last: &mut Option<LastKeys<'a>>,
-        table: u64,
-        before: &Path,
-        refs: Refs<'a>,
-        levels: u64,
-        left: &mut Budget,
-    ) -> Result<(), BinaryFault>
-        requires leads { Leads (octets_of self.now.file) (containers_of before.now) table }
-        requires keys { HasKeys (octets_of self.now.file) table (numbers_of refs) }
-        requires depth { length (containers_of before.now) + 1 + levels ≡ MAX_DEPTH }
-        requires states { AreStates (octets_of self.now.file) (table ∷ containers_of before.now)
-            states.now.items }
-        requires ranked { AreRanks (octets_of self.now.file) self.now.ranks.now }
-        requires last { IsKnown (octets_of self.now.file) last.old }
-        ensures read { OnOk result (ReadsApart (octets_of self.now.file) (numbers_of refs.entry)
-            levels left.old left.new) }
-        ensures refused { IfErr result (RefusesTable (octets_of self.now.file) table
-            (numbers_of refs.entry) levels left.old) }
-        ensures last { OnOk result (IsKnown (octets_of self.now.file) last.new) }
-    {
-        if let Some(rest) = recall_keys(&*last, &refs, levels, *left) {
-            *left = rest;
-            return Ok(());
-        }
-        let payload = left.payload;
-        let mut keys = self.keys(states, table, before, refs, levels, left)?;
-        if !tables::sort(keys.as_mut_slice()) {
-            return Err(BinaryFault::DuplicateKey { object: table });
-        }
-        *last = Some(LastKeys {
-            refs,
-            payload: payload - left.payload,
-        });
-        Ok(())
+        self.keys_apart(&*states, known, table, before, keys, levels, left)?;
+        self.items(states, known, table, before, values, levels, left)
     }
 
     // The depth of an object that was passed before, and what is left after it, where it fits.

@@ -4,7 +4,7 @@
 mod building;
 pub mod fault;
 mod judging;
-mod last_keys;
+mod known_keys;
 mod memos;
 mod path;
 mod reader;
@@ -13,5 +13,5 @@ mod tables;
 mod visiting;
 
 pub use fault::BinaryFault;
-pub use judging::judge;
+pub use judging::{judge, judge_keys};
 pub use reader::read;

@@ -28,6 +28,6 @@ pub fn read(alloc: Global, octets: &[u8]) -> Result<Value, BinaryFault>
     ensures stands { IfErr result (Stands octets.now) }
 {
     let file = BinFile::of(octets)?;
-    judge_file(alloc, file)?;
+    drop(judge_file(alloc, file)?);
     Ok(Builder { alloc, file }.value(file.top(), MAX_DEPTH)?)
 }

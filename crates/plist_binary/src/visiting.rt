@@ -18,18 +18,61 @@ ghost use Rattle.plist_binary.specs.Memos.{AreStates};
 ghost use Rattle.plist_binary.specs.Paths.{HasKeys, IsKeyOf, Leads, containers_of};
 ghost use Rattle.plist_binary.specs.Readings.{Reads, Refuses, ReadsItems};
 ghost use Rattle.plist_binary.specs.Readings.{texts, RefusesKey, RefusesKeys};
+ghost use Rattle.plist_binary.specs.Recalls.{IsKnown, ReadsApart, RefusesTable};
 
-use crate::BinaryFault;
 use crate::judging::Walker;
+use crate::known_keys::{KnownKeys, LastKeys, recall_keys};
 use crate::memos::{State, state_at};
 use crate::path::Path;
 use crate::tables::Key;
+use crate::{BinaryFault, tables};
 use plist_object::{Object, ObjectFault, Refs};
 use plist_value::{Budget, ScalarRef, TextRef};
 
 impl<'a, 'r> Walker<'a, 'r> {
+    // Reads the keys of the table, of which no two are equal. Those of the last table are not read again.
+    pub(crate) fn keys_apart(
+        &self,
+        states: &Vec<State>,
+        known: &mut KnownKeys<'a>,
+        table: u64,
+        before: &Path,
+        refs: Refs<'a>,
+        levels: u64,
+        left: &mut Budget,
+    ) -> Result<(), BinaryFault>
+        requires leads { Leads (octets_of self.now.file) (containers_of before.now) table }
+        requires keys { HasKeys (octets_of self.now.file) table (numbers_of refs) }
+        requires depth { length (containers_of before.now) + 1 + levels ≡ MAX_DEPTH }
+        requires states { AreStates (octets_of self.now.file) (table ∷ containers_of before.now)
+            states.now.items }
+        requires ranked { AreRanks (octets_of self.now.file) self.now.ranks.now }
+        requires known { IsKnown (octets_of self.now.file) known.old }
+        ensures read { OnOk result (ReadsApart (octets_of self.now.file) (numbers_of refs.entry)
+            levels left.old left.new) }
+        ensures refused { IfErr result (RefusesTable (octets_of self.now.file) table
+            (numbers_of refs.entry) levels left.old) }
+        ensures known { OnOk result (IsKnown (octets_of self.now.file) known.new) }
+    {
+        if let Some(rest) = recall_keys(&known.last, &refs, levels, *left) {
+            *left = rest;
+            return Ok(());
+        }
+        let payload = left.payload;
+        let mut keys = self.keys(states, table, before, refs, levels, left)?;
+        if !tables::sort(keys.as_mut_slice()) {
+            return Err(BinaryFault::DuplicateKey { object: table });
+        }
+        known.last = Some(LastKeys {
+            refs,
+            payload: payload - left.payload,
+        });
+        known.keep_order(self.alloc, refs, keys.as_slice())?;
+        Ok(())
+    }
+
     // The texts that the references of the table spell, each at its place.
-    pub(crate) fn keys(
+    fn keys(
         &self,
         states: &Vec<State>,
         table: u64,

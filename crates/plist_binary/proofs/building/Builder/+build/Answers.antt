@@ -1,8 +1,7 @@
 use Rattle.std.proofs.Common.{◌≡◌, ◌≤◌, ◌+◌, ◌++◌, ℕ, List, Ok, map, take, drop, length, rules, refl, subst, sym, ap, ◌∙◌, arith}
 use Rattle.std.specs.Prelude.{Result, Err}
 use Rattle.std.specs.Result.{IfOk}
-use Rattle.std.proofs.lemmas.List.{length-map, take_at}
-use Rattle.std.proofs.lemmas.List.Sorted.{length_permutation}
+use Rattle.std.proofs.lemmas.List.{length-map}
 use Rattle.std.specs.List.{IsDistinct}
 use Rattle.std.specs.Ordering.{nat_cmp}
 use Rattle.std.specs.Cmp.Lexicographic.{slice_cmp}
@@ -25,6 +24,7 @@ use Rattle.plist_binary.proofs.Inserting.{same_key}
 use Rattle.plist_binary.proofs.Placed.{distinct_places_moved, places_within_moved, pairs_moved}
 use Rattle.plist_binary.proofs.Sequences.{push, view_items-push}
 use Rattle.plist_binary.proofs.Shown.{view-table}
+use Rattle.plist_binary.proofs.Sorting.{seen_sorted}
 use Rattle.plist_binary.proofs.TableSteps.{length-texts, length-items, PairsSpelled-entries}
 use Rattle.plist_binary.proofs.building.Builder.+build.Goals as goal
 
@@ -33,11 +33,6 @@ IfOk_both (Ok x) P Q R then p q = then x p q
 IfOk_both (Err e) P Q R then p q = tt
 
 -- a list that was sorted in place
-seen_sorted : (n : ℕ) (keys written sorted seen : List Key) → n ≡ length keys → written ≡ keys → IsPermutation written sorted → seen ≡ take n (sorted ++ drop (length sorted) keys) → seen ≡ sorted
-seen_sorted n keys written sorted seen all first moved last =
-    let long : length sorted ≡ length keys = length_permutation written sorted moved ∙ ap length first in
-    last ∙ take_at sorted (drop (length sorted) keys) n (omega arith)
-
 moved_between : (keys written sorted seen : List Key) → written ≡ keys → IsPermutation written sorted → seen ≡ sorted → IsPermutation keys seen
 moved_between keys written sorted seen first moved last =
     subst (λ (xs : List Key). IsPermutation xs seen) first (subst (λ (xs : List Key). IsPermutation written xs) (sym last) moved)

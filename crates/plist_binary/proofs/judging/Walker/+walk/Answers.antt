@@ -75,7 +75,7 @@ content-items-requires t c =
     let refs = numbers_of c.in-List.items in
     let reads : what_holds f c.args.object ≡ Ok (holds_list refs) = rw c.in-List.is at c.in_ok-scalar.ensures.held in
     let some = c.in_ok-scalar.ensures.deep in
-    (search rules, (c.requires.leads, (AllRefer-items f c.args.object refs record { listed = c.requires.listed; reads = reads }, (omega arith, (AreStates-open f (containers_of c.args.path.now) c.args.states.now.items c.mark.new.states.items c.args.object c.in_ok-mark-in-List.ensures c.requires.states, (within_after c.args.left.now c.enter.new.left 1 0 c.requires.limits c.in_ok-scalar.ensures.spent, (c.requires.ranked, c.requires.last)))))))
+    (search rules, (c.requires.leads, (AllRefer-items f c.args.object refs record { listed = c.requires.listed; reads = reads }, (omega arith, (AreStates-open f (containers_of c.args.path.now) c.args.states.now.items c.mark.new.states.items c.args.object c.in_ok-mark-in-List.ensures c.requires.states, (within_after c.args.left.now c.enter.new.left 1 0 c.requires.limits c.in_ok-scalar.ensures.spent, (c.requires.ranked, c.requires.known)))))))
 
 pub content-returns-in_err-deep-in-List-clause-refused : goal.content-returns-in_err-deep-in-List-clause-refused
 content-returns-in_err-deep-in-List-clause-refused t c =
@@ -99,7 +99,7 @@ content-pairs-requires t c =
     let values = numbers_of c.in-Table.values in
     let reads : what_holds f c.args.object ≡ Ok (holds_table keys values) = rw c.in-Table.is at c.in_ok-scalar.ensures.held in
     let some = c.in_ok-scalar.ensures.deep in
-    (search rules, (c.requires.leads, (record { listed = c.requires.listed; reads = reads }, (omega arith, (AreStates-open f (containers_of c.args.path.now) c.args.states.now.items c.mark-in-Table.new.states.items c.args.object c.in_ok-mark-in-Table.ensures c.requires.states, (within_after c.args.left.now c.enter.new.left 1 0 c.requires.limits c.in_ok-scalar.ensures.spent, (c.requires.ranked, c.requires.last)))))))
+    (search rules, (c.requires.leads, (record { listed = c.requires.listed; reads = reads }, (omega arith, (AreStates-open f (containers_of c.args.path.now) c.args.states.now.items c.mark-in-Table.new.states.items c.args.object c.in_ok-mark-in-Table.ensures c.requires.states, (within_after c.args.left.now c.enter.new.left 1 0 c.requires.limits c.in_ok-scalar.ensures.spent, (c.requires.ranked, c.requires.known)))))))
 
 pub content-returns-in_err-deep-in-Table-clause-refused : goal.content-returns-in_err-deep-in-Table-clause-refused
 content-returns-in_err-deep-in-Table-clause-refused t c =
@@ -129,7 +129,7 @@ pub items-pass-requires : goal.items-pass-requires
 items-pass-requires t c =
     let refs = numbers_of c.args.refs in
     let refers = c.requires.refer c.in_ok-object.object (Contains-at refs c.loop-i.i c.in_ok-object.object (omega arith) (c.in_ok-object.ensures.same ∙ c.get.ensures)) in
-    (search rules, (c.in_ok-object.ensures.below, ((refers, c.requires.leads), (omega arith, (c.loop-i.invariant.states, (c.loop-i.invariant.within, (c.requires.ranked, c.loop-i.invariant.last)))))))
+    (search rules, (c.in_ok-object.ensures.below, ((refers, c.requires.leads), (omega arith, (c.loop-i.invariant.states, (c.loop-i.invariant.within, (c.requires.ranked, c.loop-i.invariant.known)))))))
 
 pub items-returns-in_err-deep-clause-refused : goal.items-returns-in_err-deep-clause-refused
 items-returns-in_err-deep-clause-refused t c =
@@ -147,14 +147,14 @@ items-loop-i-preserved t c =
       passed = subst (λ (deepest : ℕ). PassesItems f (take (c.loop-i.i + 1) refs) c.args.levels c.args.left.now deepest c.pass.new.left) (sym c.deeper-deepest.ensures) passed;
       states = c.in_ok-deep.ensures.kept;
       within = within_after c.loop-i.left c.pass.new.left _ _ c.loop-i.invariant.within c.in_ok-deep.ensures.passed.reads.spent;
-      last = c.in_ok-deep.ensures.last;
+      known = c.in_ok-deep.ensures.known;
     }
 
 pub pairs-items-requires : goal.pairs-items-requires
 pairs-items-requires t c =
     let f = octets_of c.args.self.now.file in
     let spent = c.in_ok-keys_apart.ensures.read.reads.spent in
-    (search rules, (c.requires.leads, (AllRefer-values f c.args.table (numbers_of c.args.keys) (numbers_of c.args.values) c.requires.holds, (c.requires.depth, (c.requires.states, (within_after c.args.left.now c.keys_apart.new.left _ _ c.requires.limits spent, (c.requires.ranked, c.in_ok-keys_apart.ensures.last)))))))
+    (search rules, (c.requires.leads, (AllRefer-values f c.args.table (numbers_of c.args.keys) (numbers_of c.args.values) c.requires.holds, (c.requires.depth, (c.requires.states, (within_after c.args.left.now c.keys_apart.new.left _ _ c.requires.limits spent, (c.requires.ranked, c.in_ok-keys_apart.ensures.known)))))))
 
 pub pairs-returns-in_err-keys_apart-clause-refused : goal.pairs-returns-in_err-keys_apart-clause-refused
 pairs-returns-in_err-keys_apart-clause-refused t c =

@@ -28,5 +28,5 @@ invariant-items-loop-i l =
       passed : PassesItems (octets_of l.self.file) (take l.i (numbers_of l.refs)) l.levels l.initial.left l.deepest l.left;
       states : AreStates (octets_of l.self.file) (l.container ∷ containers_of l.before) l.states.items;
       within : IsWithinLimits l.left;
-      last : IsKnown (octets_of l.self.file) l.last;
+      known : IsKnown (octets_of l.self.file) l.known;
     }

@@ -1,15 +1,17 @@
-use Rattle.std.proofs.Common.{rules, ◌≡◌, ◌-◌, List, map, refl, sym, subst}
+use Rattle.std.proofs.Common.{rules, ◌≡◌, ◌-◌, ◌++◌, List, length, map, take, drop, refl, sym, subst, ◌∙◌, arith}
 use Rattle.std.specs.List.{IsDistinct}
 use Rattle.std.specs.List.Sorted.{IsPermutation}
 use Rattle.std.proofs.lemmas.List.Sorted.{IsPermutation-map}
 use Rattle.plist_object.specs.Views.{numbers_of, octets_of}
 use Rattle.plist_binary.specs.declared.tables.Key.{Key}
-use Rattle.plist_binary.specs.Keys.{units_at}
+use Rattle.plist_ranks.specs.Order.{IsOrder}
+use Rattle.plist_binary.specs.Keys.{units_at, place_of}
 use Rattle.plist_binary.specs.Paths.{containers_of}
 use Rattle.plist_binary.specs.Recalls.{RefusesTable}
 use Rattle.plist_binary.proofs.Inserting.{same_key}
 use Rattle.plist_binary.proofs.Paired.{length-values}
 use Rattle.plist_binary.proofs.Recalling.{ReadsApart-sorted, SpellApart-read}
+use Rattle.plist_binary.proofs.Sorting.{IsOrder-read, seen_sorted}
 use Rattle.plist_binary.proofs.TableSteps.{RefusesPairs-keys, RefusesPairs-twice}
 use Rattle.plist_binary.proofs.judging.Walker.keys_apart.Goals as goal
 
@@ -44,6 +46,16 @@ pub returns-clause-read : goal.returns-clause-read
 returns-clause-read c =
     ReadsApart-sorted (octets_of c.args.self.now.file) (numbers_of c.args.refs) c.args.levels c.args.left.now c.keys.new.left (map units_at c.in_ok-keys.keys.items) (map units_at c.sort.new.keys) c.in_ok-keys.ensures.read (sorted_keys c.in_ok-keys.keys.items c.as_mut_slice.result.now c.sort.new.keys c.as_mut_slice.ensures.value c.sort.ensures.moved) (c.sort.ensures.ascend.0 c.if-not-sort.false)
 
-pub returns-clause-last : goal.returns-clause-last
-returns-clause-last c =
-    SpellApart-read (octets_of c.args.self.now.file) (numbers_of c.args.refs) c.args.levels (c.args.left.now.payload - c.keys.new.left.payload) c.args.left.now c.keys.new.left (returns-clause-read c) refl
+pub returns-clause-known : goal.returns-clause-known
+returns-clause-known c =
+    let f = octets_of c.args.self.now.file in
+    let refs = numbers_of c.args.refs in
+    let keys = c.in_ok-keys.keys.items in
+    let sorted = c.sort.new.keys in
+    let moved = subst (λ (xs : List Key). IsPermutation xs sorted) c.as_mut_slice.ensures.value c.sort.ensures.moved in
+    let seen = seen_sorted c.in_ok-keys.keys.len keys c.as_mut_slice.result.now sorted (take c.in_ok-keys.keys.len (sorted ++ drop (length sorted) keys)) (omega (arith, c.in_ok-keys.keys.ok.0)) c.as_mut_slice.ensures.value c.sort.ensures.moved refl in
+    let order = IsOrder-read f refs keys sorted c.in_ok-keys.ensures.read.spell c.in_ok-keys.ensures.placed moved (c.sort.ensures.ascend.0 c.if-not-sort.false) in
+    c.in_ok-keep_order.ensures f record {
+      last = SpellApart-read f refs c.args.levels (c.args.left.now.payload - c.keys.new.left.payload) c.args.left.now c.keys.new.left (returns-clause-read c) refl;
+      sorted = c.requires.known.sorted;
+    } (subst (λ (xs : List Key). IsOrder f refs (map place_of xs)) (sym (c.as_slice.ensures.value ∙ seen)) order)

@@ -1,0 +1,79 @@
+-- The places of keys that were read and sorted.
+use Rattle.std.proofs.Common.{◌≡◌, ℕ, zero, suc, ◌+◌, ◌<◌, List, [], ◌∷◌, ◌++◌, Ok, length, get_or, map, take, drop, slice_index, refl, sym, ap, subst, ◌∙◌, arith}
+use Rattle.std.specs.Ordering.{nat_cmp}
+use Rattle.std.specs.Cmp.Lexicographic.{slice_cmp}
+use Rattle.std.specs.List.{AllByRecursion, zip}
+use Rattle.std.specs.List.Sorted.{IsPermutation, IsStrictlySortedBy}
+use Rattle.std.proofs.lemmas.List.{length-map, take_at}
+use Rattle.std.proofs.lemmas.List.Elements.{All-from_recursion}
+use Rattle.std.proofs.lemmas.List.Sorted.{IsPermutation-map, All-permutation, length_permutation}
+use Rattle.plist_value.specs.Plist.{text}
+use Rattle.plist_object.specs.Objects.{holds_scalar}
+use Rattle.plist_object.specs.Places.{what_holds}
+use Rattle.plist_object.specs.Spelled.{SpellItems}
+use Rattle.plist_ranks.specs.Order.{IsOrder, pair_of}
+use Rattle.plist_ranks.proofs.Orders.{IsOrder-rows}
+use Rattle.plist_binary.specs.declared.tables.Key.{Key}
+use Rattle.plist_binary.specs.Keys.{units_at, place_of, AreInPlace}
+use Rattle.plist_binary.specs.Readings.{texts}
+use Rattle.plist_binary.proofs.Placed.{places_within_moved}
+use Rattle.plist_binary.proofs.TableSteps.{length-texts}
+
+-- each key stands at its place, counted from n
+abbrev StandFrom : ℕ → List Key → Type 0
+StandFrom n keys = (k : ℕ) (d : Key) → k < length keys → place_of (get_or keys k d) ≡ n + k
+
+-- what stands from n on in the list
+abbrev IsBehind : ℕ → List ℕ → List ℕ → Type 0
+IsBehind n all refs = (k : ℕ) → get_or all (n + k) 0 ≡ get_or refs k 0
+
+stand_next : (n : ℕ) (key : Key) (keys : List Key) → StandFrom n (key ∷ keys) → StandFrom (suc n) keys
+stand_next n key keys placed k d h = let at = placed (suc k) d (omega arith) in omega arith
+
+behind_next : (n i : ℕ) (all refs : List ℕ) → IsBehind n all (i ∷ refs) → IsBehind (suc n) all refs
+behind_next n i all refs behind k =
+    let at : suc n + k ≡ n + suc k = omega arith in ap (λ p. get_or all p 0) at ∙ behind (suc k)
+
+first_at : (n i : ℕ) (key : Key) (keys : List Key) (all refs : List ℕ) → StandFrom n (key ∷ keys) → IsBehind n all (i ∷ refs) → slice_index all (place_of key) ≡ i
+first_at n i key keys all refs placed behind =
+    ap (λ p. get_or all p 0) (placed zero key (omega arith)) ∙ behind zero
+
+-- the reference at the key's place names its text
+abbrev HoldsKey : List ℕ → List ℕ → Key → Type 0
+HoldsKey f all key = what_holds f (slice_index all (place_of key)) ≡ Ok (holds_scalar (text (units_at key)))
+
+held_from : (n : ℕ) (keys : List Key) (f all refs : List ℕ) → SpellItems f refs (texts (map units_at keys)) → StandFrom n keys → IsBehind n all refs → AllByRecursion (HoldsKey f all) keys
+held_from n [] f all refs spell placed behind = tt
+held_from n (key ∷ keys) f all [] spell placed behind = absurd spell
+held_from n (key ∷ keys) f all (i ∷ refs) spell placed behind = (
+  ap (what_holds f) (first_at n i key keys all refs placed behind) ∙ spell.0.reads,
+  held_from (suc n) keys f all refs spell.1 (stand_next n key keys placed) (behind_next n i all refs behind),
+)
+
+zip_from : (n : ℕ) (keys : List Key) (all others refs values : List ℕ) → length keys ≡ length refs → length refs ≡ length values → StandFrom n keys → IsBehind n all refs → IsBehind n others values → zip refs values ≡ map (λ key. pair_of all others (place_of key)) keys
+zip_from n [] all others [] values many long placed behind beside = refl
+zip_from n [] all others (i ∷ refs) values many long placed behind beside = absurd (omega arith)
+zip_from n (key ∷ keys) all others [] values many long placed behind beside = absurd (omega arith)
+zip_from n (key ∷ keys) all others (i ∷ refs) [] many long placed behind beside = absurd (omega arith)
+zip_from n (key ∷ keys) all others (i ∷ refs) (j ∷ values) many long placed behind beside =
+    let first = first_at n i key keys all refs placed behind in
+    let second = first_at n j key keys others values placed beside in
+    let next = zip_from (suc n) keys all others refs values (omega arith) (omega arith) (stand_next n key keys placed) (behind_next n i all refs behind) (behind_next n j others values beside) in
+    cc
+
+-- the places of the keys once they ascend
+pub IsOrder-read : (f refs : List ℕ) (keys sorted : List Key) → SpellItems f refs (texts (map units_at keys)) → AreInPlace keys → IsPermutation keys sorted → IsStrictlySortedBy (slice_cmp nat_cmp) (map units_at sorted) → IsOrder f refs (map place_of sorted)
+IsOrder-read f refs keys sorted spell placed moved ascend =
+    let many = length-texts f refs (map units_at keys) spell in
+    let long = length-map keys units_at in
+    let as_many : length keys ≡ length refs = omega arith in
+    let stand : StandFrom 0 keys = λ k d h. let at = placed k d h in omega arith in
+    let whole : (xs : List ℕ) → IsBehind 0 xs xs = λ xs k. let at : 0 + k ≡ k = omega arith in ap (λ p. get_or xs p 0) at in
+    let held = All-from_recursion (HoldsKey f refs) keys (held_from 0 keys f refs refs spell stand (whole refs)) in
+    IsOrder-rows place_of units_at f refs sorted (places_within_moved keys sorted (length refs) as_many placed moved) (λ values equal. let pairs = IsPermutation-map (λ key. pair_of refs values (place_of key)) keys sorted moved in subst (λ (ps : List (ℕ × ℕ)). IsPermutation ps (map (λ key. pair_of refs values (place_of key)) sorted)) (sym (zip_from 0 keys refs values refs values as_many equal stand (whole refs) (whole values))) pairs) (All-permutation (HoldsKey f refs) keys sorted moved held) ascend
+
+-- a list that was sorted in place
+pub seen_sorted : (n : ℕ) (keys written sorted seen : List Key) → n ≡ length keys → written ≡ keys → IsPermutation written sorted → seen ≡ take n (sorted ++ drop (length sorted) keys) → seen ≡ sorted
+seen_sorted n keys written sorted seen all first moved last =
+    let long : length sorted ≡ length keys = length_permutation written sorted moved ∙ ap length first in
+    last ∙ take_at sorted (drop (length sorted) keys) n (omega arith)
