@@ -10,7 +10,7 @@ use Rattle.std.specs.List.{AllByRecursion, IsDistinct, zip}
 use Rattle.std.specs.List.Sorted.{IsPermutation, IsSorted, IsStrictlySortedBy}
 use Rattle.std.proofs.lemmas.Cmp.{nat_list_cmp_total, on_total, eq_by_cmp_equiv}
 use Rattle.std.proofs.lemmas.List.{get_or-map, length-map, map-append, take_more, take_all}
-use Rattle.std.proofs.lemmas.List.Elements.{All-from_recursion, All-map}
+use Rattle.std.proofs.lemmas.List.Elements.{All-from_recursion, recursion_from_All}
 use Rattle.std.proofs.lemmas.List.Sorted.{All-permutation, IsPermutation-map, IsPermutation-sym, IsPermutation-trans}
 use Rattle.std.proofs.lemmas.Map.Keys.{sorted_from_all_adjacent, IsDistinct-from_sorted, IsDistinct-IsPermutation, apart_from_distinct}
 use Rattle.std.proofs.lemmas.Slice.Zip.{get_or-zip, length-zip}
@@ -22,7 +22,9 @@ use Rattle.plist_object.specs.Places.{Holds, what_holds}
 use Rattle.plist_object.specs.Spelled.{SpellPairs}
 use Rattle.plist_value.specs.Plist.{Scalar}
 use Rattle.plist_engine.specs.declared.order.Row.{Row}
-use Rattle.plist_engine.specs.Order.{ArePlaced, HoldsKey, IsOrder, by_text, pair_at, place_of, units_at}
+use Rattle.plist_ranks.specs.Order.{IsOrder, pair_of}
+use Rattle.plist_ranks.proofs.Orders.{IsOrder-rows}
+use Rattle.plist_engine.specs.Order.{ArePlaced, HoldsKey, by_text, pair_at, place_of, units_at}
 use Rattle.plist_engine.specs.Spelling.{HoldsText, IsTable, SpellTable, in_turn}
 
 -- the units of the text that was read, and none where it is none
@@ -107,14 +109,65 @@ strictly_sorted f keys values [] held order distinct = tt
 strictly_sorted f keys values (row ∷ sorted) held order distinct =
     strictly f keys values (row ∷ sorted) held order row distinct
 
--- rows in the order of their texts are those that spell the pairs of the table
-rows_are : (f keys values : List ℕ) (sorted : List Row) (rows : List (ℕ × ℕ)) (ps : Pairs) → IsPermutation (zip keys values) (map (pair_at keys values) sorted) → All (HoldsKey f keys) sorted → IsSorted by_text sorted → SpellTable f keys values rows ps → map (pair_at keys values) sorted ≡ rows
-rows_are f keys values sorted rows ps moved held order table =
+all_seen : {X K : Type 0} (g : X → K) (P : K → Type 0) (xs : List X) → AllByRecursion (λ x. P (g x)) xs → AllByRecursion P (map g xs)
+all_seen g P [] all = tt
+all_seen g P (x ∷ xs) all = (all.0, all_seen g P xs all.1)
+
+all_from_seen : {X K : Type 0} (g : X → K) (P : K → Type 0) (xs : List X) → AllByRecursion P (map g xs) → AllByRecursion (λ x. P (g x)) xs
+all_from_seen g P [] all = tt
+all_from_seen g P (x ∷ xs) all = (all.0, all_from_seen g P xs all.1)
+
+-- by what is read of each, before and after
+ascend_seen : {X K : Type 0} (g : X → K) (R : K → K → Ordering) (xs : List X) → IsStrictlySortedBy (on g R) xs → IsStrictlySortedBy R (map g xs)
+unfolding IsStrictlySortedBy
+ascend_seen g R [] ascend = tt
+ascend_seen g R (x ∷ xs) ascend = (all_seen g (λ k. R (g x) k ≡ Less) xs ascend.0, ascend_seen g R xs ascend.1)
+
+ascend_from_seen : {X K : Type 0} (g : X → K) (R : K → K → Ordering) (xs : List X) → IsStrictlySortedBy R (map g xs) → IsStrictlySortedBy (on g R) xs
+unfolding IsStrictlySortedBy
+ascend_from_seen g R [] ascend = tt
+ascend_from_seen g R (x ∷ xs) ascend = (all_from_seen g (λ k. R (g x) k ≡ Less) xs ascend.0, ascend_from_seen g R xs ascend.1)
+
+keys_of_rows : (f keys values : List ℕ) (sorted : List Row) → AllByRecursion (HoldsKey f keys) sorted → map (key_of f) (map (pair_at keys values) sorted) ≡ map units_at sorted
+keys_of_rows f keys values [] held = refl
+keys_of_rows f keys values (row ∷ sorted) held =
+    let one = key_of-held f (pair_at keys values row) (units_at row) held.0 in
+    let others = keys_of_rows f keys values sorted held.1 in
+    cc
+
+-- rows of a table in the order of their texts
+pub order-sorted : (f keys values : List ℕ) (sorted : List Row) → IsTable f keys values → ArePlaced keys sorted → All (HoldsKey f keys) sorted → IsSorted by_text sorted → IsOrder f keys (map place_of sorted)
+unfolding by_key
+order-sorted f keys values sorted table placed held order =
+    let rows = table.rows in
     let pairs = map (pair_at keys values) sorted in
-    let ascend = rows_ascend f rows ps table.spell table.valid in
-    let between = IsPermutation-trans rows (zip keys values) pairs (IsPermutation-sym (zip keys values) rows table.moved) moved in
+    let ascend = rows_ascend f rows table.pairs table.spell.spell table.spell.valid in
+    let between = IsPermutation-trans rows (zip keys values) pairs (IsPermutation-sym (zip keys values) rows table.spell.moved) (placed.moved values table.as_many) in
     let distinct = IsDistinct-IsPermutation (eq_by_cmp (by_key f)) (eq_by_cmp_equiv (by_key_total f)).symm rows pairs between (IsDistinct-from_sorted (by_key f) rows ascend) in
-    same_order (by_key_total f) (zip keys values) pairs rows moved table.moved (strictly_sorted f keys values sorted held order distinct) ascend
+    let strictly : IsStrictlySortedBy (on (key_of f) (slice_cmp nat_cmp)) pairs = strictly_sorted f keys values sorted held order distinct in
+    let seen = ascend_seen (key_of f) (slice_cmp nat_cmp) pairs strictly in
+    let same = keys_of_rows f keys values sorted (recursion_from_All (HoldsKey f keys) sorted held) in
+    IsOrder-rows place_of units_at f keys sorted placed.within placed.moved (λ k d h. (held k d h).reads) (subst (λ (ts : List (List ℕ)). IsStrictlySortedBy (slice_cmp nat_cmp) ts) same seen)
+
+keys_read : (f keys values places : List ℕ) → map (key_of f) (map (pair_of keys values) places) ≡ map units_in (map (λ place. what_holds f (slice_index keys place)) places)
+unfolding key_of
+keys_read f keys values [] = refl
+keys_read f keys values (place ∷ places) =
+    ap (λ ts. units_in (what_holds f (slice_index keys place)) ∷ ts) (keys_read f keys values places)
+
+texts_read : (texts : List (List ℕ)) → map units_in (map (λ units. Ok (holds_scalar (text units))) texts) ≡ texts
+texts_read [] = refl
+texts_read (units ∷ texts) = ap (λ ts. units ∷ ts) (texts_read texts)
+
+-- rows in the order of their texts are those that spell the pairs of the table
+rows_are : (f keys values places : List ℕ) (rows : List (ℕ × ℕ)) (ps : Pairs) → length keys ≡ length values → IsOrder f keys places → SpellTable f keys values rows ps → map (pair_of keys values) places ≡ rows
+unfolding by_key
+rows_are f keys values places rows ps as_many order table =
+    let pairs = map (pair_of keys values) places in
+    let texts_are : map (key_of f) pairs ≡ order.texts = keys_read f keys values places ∙ ap (map units_in) order.held ∙ texts_read order.texts in
+    let seen = subst (λ (ts : List (List ℕ)). IsStrictlySortedBy (slice_cmp nat_cmp) ts) (sym texts_are) order.ascend in
+    let strictly : IsStrictlySortedBy (by_key f) pairs = ascend_from_seen (key_of f) (slice_cmp nat_cmp) pairs seen in
+    same_order (by_key_total f) (zip keys values) pairs rows (order.placed.moved values as_many) table.moved strictly (rows_ascend f rows ps table.spell table.valid)
 
 all_texts : (f : List ℕ) (rows : List (ℕ × ℕ)) (ps : Pairs) → SpellPairs f rows ps → AllByRecursion (λ row. HoldsText f row.0) rows
 all_texts f [] ps h = tt
@@ -154,26 +207,25 @@ placed-moved keys rows sorted moved within pairs = record {
   moved = λ values as_many. subst (λ (ps : List (ℕ × ℕ)). IsPermutation ps (map (pair_at keys values) sorted)) (pairs values as_many) (IsPermutation-map (pair_at keys values) rows sorted moved);
 }
 
-firsts : (keys values : List ℕ) (rows : List Row) → map (λ (p : ℕ × ℕ). p.0) (map (pair_at keys values) rows) ≡ map (slice_index keys) (map place_of rows)
+firsts : (keys values places : List ℕ) → map (λ (p : ℕ × ℕ). p.0) (map (pair_of keys values) places) ≡ map (slice_index keys) places
 firsts keys values [] = refl
-firsts keys values (row ∷ rows) = ap (λ xs. slice_index keys row.place ∷ xs) (firsts keys values rows)
+firsts keys values (place ∷ places) = ap (λ xs. slice_index keys place ∷ xs) (firsts keys values places)
 
-seconds : (keys values : List ℕ) (rows : List Row) → map (λ (p : ℕ × ℕ). p.1) (map (pair_at keys values) rows) ≡ map (slice_index values) (map place_of rows)
+seconds : (keys values places : List ℕ) → map (λ (p : ℕ × ℕ). p.1) (map (pair_of keys values) places) ≡ map (slice_index values) places
 seconds keys values [] = refl
-seconds keys values (row ∷ rows) = ap (λ xs. slice_index values row.place ∷ xs) (seconds keys values rows)
+seconds keys values (place ∷ places) = ap (λ xs. slice_index values place ∷ xs) (seconds keys values places)
 
 -- the places are those of keys
 pub places_within : (f keys places : List ℕ) (n : ℕ) → length keys ≡ n → IsOrder f keys places → All (λ place. place < n) places
 places_within f keys places n long order =
-    subst (All (λ place. place < n)) (sym order.places_are) (All-map (λ place. place < n) place_of order.rows (subst (λ (m : ℕ). All (λ row. place_of row < m) order.rows) long order.placed.within))
+    subst (λ (m : ℕ). All (λ place. place < m) places) long order.placed.within
 
 -- what stands at the places in turn, of the keys and then of the values, are the rows that spell the pairs of the table
 pub in_turn-places : (f keys values places : List ℕ) (rows : List (ℕ × ℕ)) (ps : Pairs) (old mid new : List ℕ) → length keys ≡ length values → IsOrder f keys places → SpellTable f keys values rows ps → mid ≡ old ++ map (slice_index keys) places → new ≡ mid ++ map (slice_index values) places → new ≡ old ++ in_turn rows
 in_turn-places f keys values places rows ps old mid new as_many order spell first second =
-    let sorted = order.rows in
     let of_keys = map (slice_index keys) places in
     let of_values = map (slice_index values) places in
-    let are = rows_are f keys values sorted rows ps (order.placed.moved values as_many) order.held order.sorted spell in
-    let keys_are : map (λ (p : ℕ × ℕ). p.0) rows ≡ of_keys = ap (map (λ (p : ℕ × ℕ). p.0)) (sym are) ∙ firsts keys values sorted ∙ ap (map (slice_index keys)) (sym order.places_are) in
-    let values_are : map (λ (p : ℕ × ℕ). p.1) rows ≡ of_values = ap (map (λ (p : ℕ × ℕ). p.1)) (sym are) ∙ seconds keys values sorted ∙ ap (map (slice_index values)) (sym order.places_are) in
+    let are = rows_are f keys values places rows ps as_many order spell in
+    let keys_are : map (λ (p : ℕ × ℕ). p.0) rows ≡ of_keys = ap (map (λ (p : ℕ × ℕ). p.0)) (sym are) ∙ firsts keys values places in
+    let values_are : map (λ (p : ℕ × ℕ). p.1) rows ≡ of_values = ap (map (λ (p : ℕ × ℕ). p.1)) (sym are) ∙ seconds keys values places in
     second ∙ ap (λ xs. xs ++ of_values) first ∙ append_assoc old of_keys of_values ∙ ap (λ xs. old ++ (xs ++ of_values)) (sym keys_are) ∙ ap (λ xs. old ++ (map (λ (p : ℕ × ℕ). p.0) rows ++ xs)) (sym values_are)

@@ -4,12 +4,13 @@ use Rattle.std.specs.Ordering.{nat_cmp, on}
 use Rattle.std.specs.declared.cmp.Ordering.{Ordering}
 use Rattle.std.specs.Cmp.Lexicographic.{slice_cmp}
 use Rattle.std.specs.List.{zip}
-use Rattle.std.specs.List.Sorted.{IsPermutation, IsSorted}
+use Rattle.std.specs.List.Sorted.{IsPermutation}
 use Rattle.plist_value.specs.Plist.{text}
 use Rattle.plist_value.specs.Texts.{units_of}
 use Rattle.plist_object.specs.Objects.{holds_scalar}
 use Rattle.plist_object.specs.Places.{Holds}
 use Rattle.plist_object.specs.Views.{numbers_of}
+use Rattle.plist_ranks.specs.Order.{AreSortedIfAny, IsOrder}
 use Rattle.plist_engine.specs.declared.order.Row.{Row}
 use Rattle.plist_engine.specs.declared.order.KeyOrder.{KeyOrder}
 
@@ -36,14 +37,7 @@ pub record ArePlaced (keys : List ℕ) (rows : List Row) : Type 0 where
   pub within : All (λ row. place_of row < length keys) rows
   pub moved : (values : List ℕ) → length keys ≡ length values → IsPermutation (zip keys values) (map (pair_at keys values) rows)
 
--- the places of the keys in the order of their texts
-pub record IsOrder (f keys places : List ℕ) : Type 0 where
-  pub rows : List Row
-  pub placed : ArePlaced keys rows
-  pub held : All (HoldsKey f keys) rows
-  pub sorted : IsSorted by_text rows
-  pub places_are : places ≡ map place_of rows
-
--- what is kept of the last table's keys, if anything is, is their order
-abbrev pub IsOrdered : List ℕ → KeyOrder → Type 0
-IsOrdered f order = IfSome order.last (λ keys. IsOrder f (numbers_of keys) order.places.items)
+-- what is kept of the last table's keys, if anything is, is their order, and so it is of keys that were sorted before
+pub record IsOrdered (f : List ℕ) (order : KeyOrder) : Type 0 where
+  pub last : IfSome order.last (λ keys. IsOrder f (numbers_of keys) order.places.items)
+  pub sorted : AreSortedIfAny f order.sorted

@@ -10,5 +10,5 @@ mod plan;
 pub mod sending;
 mod walk;
 
-pub use making::canonical_of;
-pub use sending::write_canonical_of;
+pub use making::{canonical_of, canonical_of_sorted};
+pub use sending::{write_canonical_of, write_canonical_of_sorted};

@@ -3,10 +3,12 @@ ghost use Rattle.std.specs.Prelude.{◌≡◌, IfOk};
 ghost use Rattle.plist_value.specs.Plist.{Plist};
 ghost use Rattle.plist_object.specs.Spelled.{IsBinary};
 ghost use Rattle.plist_object.specs.Views.{octets_of};
+ghost use Rattle.plist_ranks.specs.Order.{AreSortedIfAny};
 ghost use Rattle.plist_write.specs.Canonical.{canon};
 
-use crate::sending::write_canonical_of;
+use crate::sending::write_canonical_of_sorted;
 use plist_object::BinFile;
+use plist_ranks::SortedKeys;
 use plist_write::GrowingSink;
 use std::alloc::{AllocError, Global};
 
@@ -21,11 +23,30 @@ pub fn canonical_of(alloc: Global, file: &BinFile) -> Result<Vec<u8>, AllocError
     ensures { IfOk result (λ octets. (v : Plist) → IsBinary (octets_of file.now) v
         → octets.items ≡ canon v) }
 {
+    canonical_of_sorted(alloc, file, None)
+}
+
+/// The same as [`canonical_of`], of a file of which these keys were sorted: they are not sorted again where they
+/// are met first.
+///
+/// # Errors
+///
+/// Those of [`canonical_of`].
+pub fn canonical_of_sorted<'a>(
+    alloc: Global,
+    file: &BinFile<'a>,
+    sorted: Option<SortedKeys<'a>>,
+) -> Result<Vec<u8>, AllocError>
+    requires binary { (v : Plist) × IsBinary (octets_of file.now) v }
+    requires sorted { AreSortedIfAny (octets_of file.now) sorted }
+    ensures { IfOk result (λ octets. (v : Plist) → IsBinary (octets_of file.now) v
+        → octets.items ≡ canon v) }
+{
     let mut sink = GrowingSink {
         octets: Vec::new(alloc),
         failures: 0,
     };
-    match write_canonical_of(alloc, file, &mut sink) {
+    match write_canonical_of_sorted(alloc, file, sorted, &mut sink) {
         Ok(_) => Ok(sink.octets),
         Err(_) => Err(AllocError),
     }

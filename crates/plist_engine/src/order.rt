@@ -1,17 +1,19 @@
 //! The order of a table's keys.
-ghost use Rattle.std.specs.Prelude.{◌≡◌, ◌++◌, ◌<◌, ℕ, List, All, IfOk, OnOk, length, map};
+ghost use Rattle.std.specs.Prelude.{◌≡◌, ◌++◌, ◌<◌, ℕ, List, All, IfOk, IfSome, OnOk, length, map};
 ghost use Rattle.std.specs.Prelude.{slice_index};
 ghost use Rattle.std.specs.List.{zip};
 ghost use Rattle.std.specs.List.Sorted.{IsSorted};
 ghost use Rattle.plist_value.specs.Plist.{Pairs};
 ghost use Rattle.plist_object.specs.Views.{numbers_of, octets_of};
-ghost use Rattle.plist_engine.specs.Order.{ArePlaced, HoldsKey, IsOrder, IsOrdered};
+ghost use Rattle.plist_ranks.specs.Order.{AreSortedIfAny, IsOrder};
+ghost use Rattle.plist_engine.specs.Order.{ArePlaced, HoldsKey, IsOrdered};
 ghost use Rattle.plist_engine.specs.Order.{by_text, pair_at, place_of};
 ghost use Rattle.plist_engine.specs.Spelling.{IsTable, SpellTable, in_turn};
 
 use crate::objects::text_of;
 use crate::plan::short;
 use plist_object::{BinFile, Refs};
+use plist_ranks::SortedKeys;
 use plist_value::TextRef;
 use std::alloc::{AllocError, Global};
 
@@ -23,24 +25,26 @@ struct Row<'a> {
 }
 
 /// The references to the keys of the table that came last, and their places in the order of their texts. The
-/// next table often has the same keys.
+/// next table often has the same keys. Beside them stand the keys that were sorted before, if any were.
 #[derive(Drop)]
 pub(crate) struct KeyOrder<'a> {
     last: Option<Refs<'a>>,
     places: Vec<u64>,
+    sorted: Option<SortedKeys<'a>>,
 }
 
 // An order of at most so many places is kept for the next table.
 const MOST_KEPT: usize = 4096;
 
 impl<'a> KeyOrder<'a> {
-    /// No table came yet.
-    pub(crate) fn none(alloc: Global) -> KeyOrder<'a>
-        ensures { (f : List ℕ) → IsOrdered f result }
+    /// No table came yet, and these keys were sorted.
+    pub(crate) fn new(alloc: Global, sorted: Option<SortedKeys<'a>>) -> KeyOrder<'a>
+        ensures { (f : List ℕ) → AreSortedIfAny f sorted.entry → IsOrdered f result }
     {
         KeyOrder {
             last: None,
             places: Vec::new(alloc),
+            sorted,
         }
     }
 
@@ -99,9 +103,26 @@ impl<'a> KeyOrder<'a> {
         {
             return Ok(());
         }
-        self.places = places_of(alloc, file, keys, values)?;
+        self.places = match self.take_places(keys) {
+            Some(places) => places,
+            None => places_of(alloc, file, keys, values)?,
+        };
         self.last = Some(*keys);
         Ok(())
+    }
+
+    // The order of the keys, where they are those that were sorted before: it is given up.
+    fn take_places(&mut self, keys: &Refs) -> Option<Vec<u64>>
+        ensures order { IfSome result (λ places. (f : List ℕ) → IsOrdered f self.old
+            → IsOrder f (numbers_of keys.now) places.items) }
+        ensures ordered { (f : List ℕ) → IsOrdered f self.old → IsOrdered f self.new }
+    {
+        let sorted = self.sorted.take()?;
+        if sorted.refs.is_same(keys) {
+            return Some(sorted.places);
+        }
+        self.sorted = Some(sorted);
+        None
     }
 }
 

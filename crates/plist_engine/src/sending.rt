@@ -6,6 +6,7 @@ ghost use Rattle.plist_object.specs.Sizes.{IsWidth};
 ghost use Rattle.plist_object.specs.Spelled.{IsBinary};
 ghost use Rattle.plist_object.specs.Spelling.{least_width};
 ghost use Rattle.plist_object.specs.Views.{octets_of};
+ghost use Rattle.plist_ranks.specs.Order.{AreSortedIfAny};
 ghost use Rattle.plist_write.specs.Canonical.{canon, file_of, starts};
 ghost use Rattle.plist_write.specs.Pieces.{CanSpellAll};
 ghost use Rattle.plist_write.specs.Sending.{IsWritten, Sends};
@@ -16,6 +17,7 @@ use crate::parts::part_of;
 use crate::plan::Objects;
 use crate::walk::objects_of;
 use plist_object::{BinFile, HEADER, width_of};
+use plist_ranks::SortedKeys;
 use plist_write::{Pending, Sink, WriteFault, part_length, send_end, send_part};
 use std::alloc::Global;
 
@@ -39,7 +41,29 @@ pub fn write_canonical_of<W: Sink>(
         (W.failures out.old) (W.failures out.new) result }
     ensures same { W.device out.new ≡ W.device out.old }
 {
-    let Ok(objects) = objects_of(alloc, file) else {
+    write_canonical_of_sorted(alloc, file, None, out)
+}
+
+/// The same as [`write_canonical_of`], of a file of which these keys were sorted: they are not sorted again where
+/// they are met first.
+///
+/// # Errors
+///
+/// Those of [`write_canonical_of`].
+pub fn write_canonical_of_sorted<'a, W: Sink>(
+    alloc: Global,
+    file: &BinFile<'a>,
+    sorted: Option<SortedKeys<'a>>,
+    out: &mut W,
+) -> Result<u64, WriteFault>
+    requires binary { (v : Plist) × IsBinary (octets_of file.now) v }
+    requires sorted { AreSortedIfAny (octets_of file.now) sorted }
+    ensures written { (v : Plist) → IsBinary (octets_of file.now) v
+        → IsWritten (canon v) (W.taken out.old) (W.taken out.new)
+        (W.failures out.old) (W.failures out.new) result }
+    ensures same { W.device out.new ≡ W.device out.old }
+{
+    let Ok(objects) = objects_of(alloc, file, sorted) else {
         return Err(WriteFault::OutOfMemory { sent: 0 });
     };
     send_file(alloc, file, objects, out)

@@ -3,6 +3,7 @@ ghost use Rattle.std.specs.Prelude.{◌≡◌, ◌≤◌, length, drop, IfOk, On
 ghost use Rattle.plist_value.specs.Plist.{Plist};
 ghost use Rattle.plist_object.specs.Spelled.{IsBinary};
 ghost use Rattle.plist_object.specs.Views.{octets_of};
+ghost use Rattle.plist_ranks.specs.Order.{AreSortedIfAny};
 ghost use Rattle.plist_engine.specs.Spelling.{SpellsWithin, SpellWithin};
 ghost use Rattle.plist_engine.specs.Order.{IsOrdered};
 ghost use Rattle.plist_engine.specs.Plan.{AreObjectsOf, AreWalked, IsWalked, RemembersNumbers};
@@ -11,17 +12,23 @@ use crate::objects::object_of;
 use crate::order::KeyOrder;
 use crate::plan::{Objects, Plan};
 use plist_object::{BinFile, Object};
+use plist_ranks::SortedKeys;
 use plist_value::MAX_DEPTH;
 use std::alloc::{AllocError, Global};
 
 /// The objects of the canonical file of the value that the file spells.
-pub(crate) fn objects_of(alloc: Global, file: &BinFile) -> Result<Objects, AllocError>
-    requires { (v : Plist) × IsBinary (octets_of file.now) v }
+pub(crate) fn objects_of<'a>(
+    alloc: Global,
+    file: &BinFile<'a>,
+    sorted: Option<SortedKeys<'a>>,
+) -> Result<Objects, AllocError>
+    requires binary { (v : Plist) × IsBinary (octets_of file.now) v }
+    requires sorted { AreSortedIfAny (octets_of file.now) sorted }
     ensures { IfOk result (λ objects. (v : Plist) → IsBinary (octets_of file.now) v
         → AreObjectsOf (octets_of file.now) v objects) }
 {
     let mut plan = Plan::new(alloc, file.count())?;
-    let mut order = KeyOrder::none(alloc);
+    let mut order = KeyOrder::new(alloc, sorted);
     walk(alloc, file, &mut plan, &mut order, file.top(), MAX_DEPTH)?;
     let objects = plan.into_objects(alloc)?;
     Ok(objects)

@@ -10,11 +10,11 @@ use Rattle.plist_engine.proofs.walk.objects_of.Goals as goal
 
 pub walk-requires-clause-spells : goal.walk-requires-clause-spells
 walk-requires-clause-spells c =
-    let binary = c.requires.1 in
+    let binary = c.requires.binary.1 in
     record {
-      value = c.requires.0;
+      value = c.requires.binary.0;
       valid = binary.valid;
-      spells = subst (λ (i : ℕ). Spells (octets_of c.args.file.now) i c.requires.0) (sym c.top.ensures.value) binary.spells;
+      spells = subst (λ (i : ℕ). Spells (octets_of c.args.file.now) i c.requires.binary.0) (sym c.top.ensures.value) binary.spells;
       deep = binary.fits.depth_fits;
     }
 
@@ -34,4 +34,4 @@ pub walk-requires-clause-memo : goal.walk-requires-clause-memo
 walk-requires-clause-memo c = remembers-none (octets_of c.args.file.now) c.in_ok-plan.plan c.in_ok-plan.ensures.empty.scalars.numbered c.in_ok-plan.ensures.memo
 
 pub walk-requires-clause-ordered : goal.walk-requires-clause-ordered
-walk-requires-clause-ordered c = c.none-order.ensures (octets_of c.args.file.now)
+walk-requires-clause-ordered c = c.new-order.ensures (octets_of c.args.file.now) c.requires.sorted
