@@ -9,8 +9,8 @@ ghost use Rattle.plist_files.specs.Refusals.{IsRefused};
 
 use crate::{Fault, PairFault};
 use ostep_read::read_text;
-use plist_binary::{BinaryFault, judge};
-use plist_engine::canonical_of;
+use plist_binary::{BinaryFault, judge, judge_keys};
+use plist_engine::canonical_of_sorted;
 use plist_object::BinFile;
 use plist_value::Value;
 use std::alloc::Global;
@@ -83,8 +83,8 @@ fn canonicalise_binary(alloc: Global, octets: &[u8]) -> Result<Vec<u8>, Fault>
     ensures refused { IfErr result (IsRefused octets.now) }
 {
     let file = BinFile::of(octets).map_err(BinaryFault::from)?;
-    judge(alloc, octets)?;
-    Ok(canonical_of(alloc, &file)?)
+    let sorted = judge_keys(alloc, octets)?;
+    Ok(canonical_of_sorted(alloc, &file, sorted)?)
 }
 
 /// Whether the two octet lists spell equal values, which is whether their canonical files are equal. The

@@ -3,6 +3,7 @@ ghost use Rattle.std.specs.Prelude.{◌≡◌, ◌<◌, ◌↔◌, true, length,
 ghost use Rattle.plist_value.specs.Plist.{Plist};
 ghost use Rattle.plist_object.specs.Spelled.{IsBinary};
 ghost use Rattle.plist_object.specs.Views.{octets_of};
+ghost use Rattle.plist_ranks.specs.Order.{AreSortedIfAny};
 ghost use Rattle.plist_devices.specs.Count.{HasFailed, one_more};
 ghost use Rattle.plist_files.specs.Accepted.{begins_as_binary as begins};
 ghost use Rattle.plist_files.specs.Load.{Takes};
@@ -11,11 +12,12 @@ ghost use Rattle.plist_transfer.specs.Transfer.{IsBeforePut, IsTransfer, Writes}
 
 use crate::sending::send;
 use crate::texts::{text_of, value_of};
-use plist_binary::BinaryFault;
+use plist_binary::{BinaryFault, judge_keys};
 use plist_devices::{Sink, Source};
-use plist_engine::write_canonical_of;
-use plist_files::{Fault, Form, MAX_INPUT, begins_as_binary, judge_any, load};
+use plist_engine::write_canonical_of_sorted;
+use plist_files::{Fault, Form, MAX_INPUT, begins_as_binary, load};
 use plist_object::BinFile;
+use plist_ranks::SortedKeys;
 use plist_write::write_canonical;
 use std::alloc::Global;
 
@@ -108,20 +110,24 @@ fn write_file<W: Sink>(alloc: Global, octets: &[u8], to: &mut W) -> Result<u64, 
     ensures untouched { IfErr result (λ fault. IsBeforePut fault → to.new ≡ to.old) }
     ensures same { W.device to.new ≡ W.device to.old }
 {
-    let file = judged(alloc, octets)?;
-    Ok(write_canonical_of(alloc, &file, to)?)
+    let (file, sorted) = judged(alloc, octets)?;
+    Ok(write_canonical_of_sorted(alloc, &file, sorted, to)?)
 }
 
-// A binary file of a value within the limits.
-fn judged<'a>(alloc: Global, octets: &'a [u8]) -> Result<BinFile<'a>, Fault>
+// A binary file of a value within the limits, and the keys that were sorted while it was judged.
+fn judged<'a>(
+    alloc: Global,
+    octets: &'a [u8],
+) -> Result<(BinFile<'a>, Option<SortedKeys<'a>>), Fault>
     requires { begins octets.now ≡ true }
-    ensures octets { IfOk result (λ file. octets_of file ≡ octets.entry.now) }
+    ensures octets { IfOk result (λ judged. octets_of judged.0 ≡ octets.entry.now) }
+    ensures sorted { IfOk result (λ judged. AreSortedIfAny octets.entry.now judged.1) }
     ensures binary { OnOk result ((v : Plist) × IsBinary octets.entry.now v) }
     ensures refused { IfErr result (IsRefused octets.entry.now) }
 {
     let file = BinFile::of(octets).map_err(BinaryFault::from)?;
-    judge_any(alloc, octets)?;
-    Ok(file)
+    let sorted = judge_keys(alloc, octets)?;
+    Ok((file, sorted))
 }
 
 // The OpenStep text of what the octets spell.
