@@ -1,5 +1,5 @@
 -- A step of the lexer: a gap and a token.
-use Rattle.std.proofs.Common.{true, ℕ, ◌<◌, ◌≤◌, List, [], ◌∷◌, ◌++◌, length, map, ◌≡◌, sym, ap, subst, ◌∙◌, arith}
+use Rattle.std.proofs.Common.{true, ℕ, ◌<◌, ◌≤◌, List, [], ◌∷◌, ◌++◌, length, map, Some, ◌≡◌, sym, ap, subst, ◌∙◌, arith}
 use Rattle.std.proofs.lemmas.List.{map-append}
 use Rattle.ostep_lex.specs.declared.cursor.Cursor.{Cursor}
 use Rattle.ostep_lex.specs.declared.token.Token.{Token}
@@ -11,12 +11,14 @@ use Rattle.ostep_lex.specs.Quoted
 use Rattle.ostep_lex.specs.Quoted.{Run, Quoted}
 use Rattle.ostep_lex.specs.Octets.{Octets}
 use Rattle.ostep_lex.specs.Lexeme
-use Rattle.ostep_lex.specs.Lexeme.{Lexeme, IsToken, Placed, placed}
+use Rattle.ostep_lex.specs.Lexeme.{Lexeme, IsToken, Placed, placed, mark_token}
 use Rattle.ostep_lex.specs.Lexing.{LexesTo, here, HasTokens, HasNoTokens}
 use Rattle.ostep_lex.specs.Stands.{FaultBehind, HasFault, HasXml, White, begins_xml, Stands}
 use Rattle.ostep_lex.specs.Cursor.{ahead, places_in, place_at, SameInput, PassesGap, PassesToken, Opens, StandsBehind, UnlessMemory}
 use Rattle.ostep_lex.proofs.LexingLemmas.{LexesTo-more, LexesTo-all}
 use Rattle.ostep_lex.proofs.LawProofs.{stands_unless, HasFault-none}
+use Rattle.ostep_lex.proofs.WhiteSteps.{white_gap}
+use Rattle.ostep_lex.proofs.TokenSteps.{token_mark}
 use Rattle.ostep_lex.proofs.GapSteps.{line_shorter, block_shorter}
 use Rattle.ostep_lex.proofs.StringSteps.{piece_shorter}
 use Rattle.ostep_lex.proofs.OctetsSteps.{piece_shorter as octets_piece_shorter}
@@ -66,6 +68,18 @@ passes_placed lexeme old start end a b g t e f = record {
   start = e ∙ ap (λ p. place p (ahead start)) g.input;
   end = f ∙ ap (λ p. place p (ahead end)) (t.input ∙ g.input);
   input = t.input ∙ g.input;
+}
+
+-- white and a mark
+pub mark_placed : (c : ℕ) (lexeme : Lexeme) (old start end : Cursor) (a b : ℕ) → White (ahead old) (ahead start) → SameInput old start → ahead start ≡ c ∷ ahead end → SameInput start end
+    → mark_token c ≡ Some lexeme → a ≡ place_at start → b ≡ place_at end → PassesPlaced (record { lexeme = lexeme; start = a; end = b }) old end
+mark_placed c lexeme old start end a b w i t j m e f = record {
+  from = ahead start;
+  gap = white_gap w;
+  token_at = token_mark c lexeme (ahead start) (ahead end) t m;
+  start = e ∙ ap (λ p. place p (ahead start)) i;
+  end = f ∙ ap (λ p. place p (ahead end)) (j ∙ i);
+  input = j ∙ i;
 }
 
 pub placed_shorter : {token : Placed} {old new : Cursor} → PassesPlaced token old new → length (ahead new) < length (ahead old)

@@ -111,3 +111,12 @@ pub Leads-none : {source : Source} {order : ByteOrder} {octets : Bor (List ℕ)}
     → BeginsWithNone (encoding_by order) octets.now → characters_in source ≡ []
 Leads-none {source} {order} {octets} e w n = subst (λ s. IsWhole s → characters_in s ≡ []) (sym e)
     (λ v. WholeText-none {e = encoding_by order} (record { scalars = v.scalars; spelled = v.spelled }) n) w
+
+-- the units of octets, one after another
+pub units_in-first : (order : ByteOrder) (octets behind : List ℕ) (u : ℕ) → octets ≡ unit_octets order u ++ behind → units_in order octets ≡ u ∷ units_in order behind
+units_in-first order octets behind u e = ap (units_in order) e ∙ units_in-unit order u behind
+
+pub units_in-few : (order : ByteOrder) (octets : List ℕ) → length (units_in order octets) ≤ length octets / 2
+units_in-few order [] = omega arith
+units_in-few order (a ∷ []) = omega arith
+units_in-few order (a ∷ b ∷ rest) = omega (arith, units_in-few order rest)

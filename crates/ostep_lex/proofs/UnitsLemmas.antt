@@ -1,19 +1,20 @@
 -- Stretches in UTF-16 octets, and what stands behind them.
-use Rattle.std.proofs.Common.{ℕ, Bool, true, ◌<◌, ◌≤◌, ◌&&◌, List, [], ◌∷◌, ◌++◌, length, ◌≡◌, refl, sym, ap, subst, ◌∙◌, arith, append_assoc, append-nil, length-append, lt-ltb}
+use Rattle.std.proofs.Common.{ℕ, Bool, true, ◌<◌, ◌≤◌, ◌-◌, ◌&&◌, List, [], ◌∷◌, ◌++◌, length, take, ◌≡◌, refl, sym, ap, subst, ◌∙◌, arith, append_assoc, append-nil, length-append, lt-ltb}
 use Rattle.std.specs.Prelude.{nat_lt}
 use Rattle.std.specs.Char.{IsScalar}
 use Rattle.std.specs.Borrow.{Bor}
+use Rattle.std.proofs.Math.Seq.{take-append_seam}
 use Rattle.std.proofs.lemmas.Bool.Decides.{nat_tests}
 use Rattle.ostep_lex.specs.declared.stretch.Class.{Class}
 use Rattle.ostep_lex.specs.declared.source.ByteOrder.{ByteOrder}
 use Rattle.ostep_lex.specs.declared.source.Source.{Source}
 use Rattle.ostep_lex.specs.declared.source.Source.TheVariants.{Utf16}
 use Rattle.ostep_lex.specs.Encoding.{spelling, octets_of}
-use Rattle.ostep_lex.specs.Source.{encoding_by, unit_octets, utf16_characters, IsWhole}
-use Rattle.ostep_lex.specs.Stretch.{belongs, is_stretch, BeginsWithUnits, AppendsUnits, LeadsStretch}
+use Rattle.ostep_lex.specs.Source.{encoding_by, unit_octets, units_in, utf16_characters, IsWhole}
+use Rattle.ostep_lex.specs.Stretch.{belongs, is_stretch, BeginsWithUnits, LeadsStretch}
 use Rattle.ostep_lex.proofs.EncodingLemmas.{octets_of-append, and_left, and_right, WholeText, WholeText-behind}
 use Rattle.ostep_lex.proofs.StretchLemmas.{is_stretch-append}
-use Rattle.ostep_lex.proofs.SourceLemmas.{spelling_one, utf16_characters-spelling}
+use Rattle.ostep_lex.proofs.SourceLemmas.{spelling_one, utf16_characters-spelling, units_in-first}
 
 low : (c : ℕ) (b : Bool) → (nat_lt c 0xD800 && b) ≡ true → c < 0xD800
 low c b e = grind (arith, nat_tests, and_left (nat_lt c 0xD800) b e)
@@ -38,17 +39,22 @@ units_more {kind} {order} {octets} {rest} {behind} c a e t =
           ∙ ap (λ w. w ++ behind) (sym (octets_of-append (encoding_by order) a.front (c ∷ []) ∙ ap (λ w. octets_of (encoding_by order) a.front ++ w) (append-nil (spelling (encoding_by order) c))));
     }
 
-pub appends_none : (kind : Class) (order : ByteOrder) (units octets : List ℕ) → AppendsUnits kind order units units octets octets
-unfolding units_none
-appends_none kind order units octets = record { begins = units_none kind order octets; appended = sym (append-nil units) }
+-- the units of a stretch are its characters
+units_of_stretch : (kind : Class) (order : ByteOrder) (front : List ℕ) → is_stretch 0xD800 kind front ≡ true → units_in order (octets_of (encoding_by order) front) ≡ front
+units_of_stretch kind order [] s = refl
+units_of_stretch kind order (c ∷ cs) s =
+    let here : (nat_lt c 0xD800 && belongs kind c) ≡ true = and_left (nat_lt c 0xD800 && belongs kind c) (is_stretch 0xD800 kind cs) s in
+    let small : c < 0xD800 = low c (belongs kind c) here in
+    units_in-first order _ _ c (spelling_one order c (octets_of (encoding_by order) cs) (omega arith))
+    ∙ ap (λ us. c ∷ us) (units_of_stretch kind order cs (and_right (nat_lt c 0xD800 && belongs kind c) (is_stretch 0xD800 kind cs) s))
 
-pub appends_more : {kind : Class} {order : ByteOrder} {units found more octets rest behind : List ℕ} (c : ℕ) → AppendsUnits kind order units found octets rest
-    → rest ≡ unit_octets order c ++ behind → (nat_lt c 0xD800 && belongs kind c) ≡ true → more ≡ found ++ c ∷ [] → AppendsUnits kind order units more octets behind
-unfolding units_more
-appends_more {units = units} c a e t m = record {
-  begins = units_more c a.begins e t;
-  appended = m ∙ ap (λ w. w ++ c ∷ []) a.appended ∙ append_assoc units a.begins.front (c ∷ []);
-}
+pub units_of_front : {kind : Class} {order : ByteOrder} {octets behind : List ℕ} (b : BeginsWithUnits kind order octets behind)
+    → units_in order (take (length octets - length behind) octets) ≡ b.front
+units_of_front {kind} {order} {octets} {behind} b =
+    let front = octets_of (encoding_by order) b.front in
+    let at : length octets - length behind ≡ length front = omega (arith, length-append front behind, ap length b.split) in
+    ap (λ n. units_in order (take n octets)) at ∙ ap (λ os. units_in order (take (length front) os)) b.split
+    ∙ ap (units_in order) (take-append_seam front behind) ∙ units_of_stretch kind order b.front b.stretch
 
 -- of whole octets, a stretch and what is behind it
 record Behind (order : ByteOrder) (front octets behind : List ℕ) : Type 0 where

@@ -1,6 +1,6 @@
 -- Where each fault of a text stands. Each relation is between the text at a place and the fault that
 -- reading on from there meets.
-use Rattle.std.specs.Prelude.{◌≡◌, ℕ, ◌<◌, Bool, true, false, ◌||◌, ◌==◌, List, [], ◌∷◌, None, nat_eq, codes}
+use Rattle.std.specs.Prelude.{◌≡◌, ℕ, ◌<◌, Bool, true, false, ◌||◌, ◌==◌, List, [], ◌∷◌, Some, None, nat_eq, codes}
 use Rattle.std.specs.List.{starts_with}
 use Rattle.ostep_lex.specs.declared.fault.LexFault.{LexFault}
 use Rattle.ostep_lex.specs.declared.fault.LexFault.TheVariants.{BadUtf8, XmlForm, UnexpectedCharacter, UnclosedString, UnclosedComment, BadEscape, OctalRange, OddData, BadData, BadUtf16, OutOfMemory}
@@ -10,7 +10,7 @@ use Rattle.ostep_lex.specs.Digits.{begins_digit, octal_number}
 use Rattle.ostep_lex.specs.Gap.{Gap, NeverCloses}
 use Rattle.ostep_lex.specs.Quoted.{unit_letter, Piece}
 use Rattle.ostep_lex.specs.Octets.{OctetsPiece}
-use Rattle.ostep_lex.specs.Lexeme.{mark_token, Placed}
+use Rattle.ostep_lex.specs.Lexeme.{Lexeme, mark_token, Placed}
 use Rattle.ostep_lex.specs.Lexing.{BeginsWithTokens}
 
 -- an escape whose backslash stands first, in a string whose quote stands at the place start
@@ -62,6 +62,10 @@ pub data FaultBehind (p : Places) : List ℕ → LexFault → Type 0 where
 pub data White : List ℕ → List ℕ → Type 0 where
   none : {rest : List ℕ} → White rest rest
   more : {c : ℕ} {rest behind : List ℕ} → is_white c ≡ true → White rest behind → White (c ∷ rest) behind
+
+-- behind white the mark does not stand
+abbrev pub LacksMark : ℕ → List ℕ → Type 0
+LacksMark mark text = (lexeme : Lexeme) (behind : List ℕ) → mark_token mark ≡ Some lexeme → White text (mark ∷ behind) → ⊥
 
 -- whether an XML property list begins at the text
 abbrev pub begins_xml : List ℕ → Bool

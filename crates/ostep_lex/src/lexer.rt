@@ -1,14 +1,15 @@
 //! The tokens, one at a time or all of a text.
 ghost use Rattle.std.specs.Prelude.{◌≡◌, ℕ, ◌<◌, List, [], ◌∷◌, ◌++◌, false, length};
-ghost use Rattle.std.specs.Prelude.{option_map, map, MatchOption, IfSome, IfOk, IfErr};
+ghost use Rattle.std.specs.Prelude.{option_map, map, Some, MatchOption, IfSome, IfNone};
+ghost use Rattle.std.specs.Prelude.{IfOk, IfErr};
 ghost use Rattle.ostep_lex.specs.Gap.{begins_gap};
 ghost use Rattle.ostep_lex.specs.Lexeme.{lexeme_of, mark_token, Placed, placed};
 ghost use Rattle.ostep_lex.specs.Lexing.{HasTokens, HasNoTokens};
 ghost use Rattle.ostep_lex.specs.Spans.{HasSpans};
-ghost use Rattle.ostep_lex.specs.Stands.{FaultAt, Stands};
+ghost use Rattle.ostep_lex.specs.Stands.{FaultAt, LacksMark, Stands};
 ghost use Rattle.ostep_lex.specs.Cursor.{ahead, places_in, PassesToken, StandsBehind, UnlessMemory};
 
-use crate::character::{is_quote, is_run};
+use crate::character::{is_quote, is_run, is_white};
 use crate::cursor::Cursor;
 use crate::fault::LexFault;
 use crate::gap::gap;
@@ -101,6 +102,41 @@ pub fn next_token(
         ))),
         None => Ok(None),
     }
+}
+
+/// The token of the mark and the cursor behind it, where this is the next token and white alone
+/// stands before it. It takes less work than `next_token`.
+#[inline(always)]
+pub fn next_mark(cursor: Cursor<'_>, mark: char) -> Option<(Token, Cursor<'_>)>
+    // Where the cursor stands behind tokens of an input, this is one more.
+    ensures some { (octets : List ℕ) (tokens : List Placed)
+        → StandsBehind octets tokens cursor.entry
+        → IfSome result (λ token. StandsBehind octets (tokens ++ placed token.0 ∷ []) token.1) }
+    // It is that mark, and takes a character at least.
+    ensures kind { IfSome result (λ token.
+        mark_token mark ≡ Some (lexeme_of token.0.kind)) }
+    ensures shorter { IfSome result (λ token.
+        length (ahead token.1) < length (ahead cursor.entry)) }
+    // Behind white no such mark stands.
+    ensures none { IfNone result (LacksMark mark (ahead cursor.entry)) }
+{
+    let mut rest = cursor;
+    while let Some((c, behind)) = rest.first() {
+        if c == mark {
+            let kind = mark_token(mark)?;
+            let token = Token {
+                kind,
+                start: rest.place(),
+                end: behind.place(),
+            };
+            return Some((token, behind));
+        }
+        if !is_white(c) {
+            break;
+        }
+        rest = behind;
+    }
+    None
 }
 
 /// The tokens of a text, in turn. The places of each count octets of the input, its mark included.

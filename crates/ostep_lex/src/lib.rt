@@ -21,6 +21,6 @@ pub mod token;
 
 pub use cursor::Cursor;
 pub use fault::LexFault;
-pub use lexer::{next_token, tokens};
+pub use lexer::{next_mark, next_token, tokens};
 pub use opening::open;
 pub use token::{Token, TokenKind};

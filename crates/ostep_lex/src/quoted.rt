@@ -168,7 +168,9 @@ fn push_piece<'a>(
     Ok(behind)
 }
 
-/// Appends a stretch of characters that stand for themselves in a string with this quote.
+/// Appends a stretch of characters that stand for themselves in a string with this quote. Its code
+/// stands where it is called, so that it fills a vector that no other code can see.
+#[inline(always)]
 fn push_raw<'a>(
     units: &mut Vec<u16>,
     mark: char,

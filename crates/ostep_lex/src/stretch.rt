@@ -3,8 +3,9 @@
 ghost use Rattle.std.specs.Prelude.{◌≡◌, ◌++◌, ◌&&◌, nat_lt, true, chars, OnOk, IfOk, IsUtf8};
 ghost use Rattle.ostep_lex.specs.Stretch.{belongs, is_stretch, BeginsWithStretch};
 ghost use Rattle.ostep_lex.specs.Stretch.{BeginsWithUnits, AppendsUnits};
+ghost use Rattle.ostep_lex.specs.Source.{units_in};
 
-use crate::character::{is_line_end, is_run, is_white};
+use crate::character::{is_line_end, is_run, is_run_octet, is_white};
 use crate::source::{ByteOrder, front_unit};
 use std::alloc::AllocError;
 
@@ -42,7 +43,10 @@ fn is_of(class: Class, c: char) -> bool
 fn is_in(class: Class, octet: u8) -> bool
     ensures { result ≡ (nat_lt octet 128 && belongs class octet) }
 {
-    is_of(class, char::from(octet)) && octet < 0x80
+    match class {
+        Class::Run => is_run_octet(octet),
+        _ => is_of(class, char::from(octet)) && octet < 0x80,
+    }
 }
 
 /// Whether the unit is a character of the class, and below the surrogates.
@@ -61,14 +65,11 @@ fn is_unit_in(class: Class, unit: u16) -> bool
 fn behind_stretch(octets: &[u8], class: Class) -> &[u8]
     ensures { BeginsWithStretch class octets.now result.now }
 {
-    let mut rest = octets;
-    while let Some((octet, behind)) = rest.split_first() {
-        if !is_in(class, *octet) {
-            break;
-        }
-        rest = behind;
+    let mut count = 0;
+    while count < octets.len() && is_in(class, octets[count]) {
+        count += 1;
     }
-    rest
+    &octets[count..]
 }
 
 /// The longest stretch at the front of the text, and the text behind it.
@@ -112,9 +113,24 @@ pub fn behind_units(class: Class, order: ByteOrder, octets: &[u8]) -> &[u8]
     rest
 }
 
+/// Appends the units of the octets, of two octets each.
+#[inline(always)]
+fn push_all_units(units: &mut Vec<u16>, order: ByteOrder, octets: &[u8]) -> Result<(), AllocError>
+    ensures { OnOk result
+        (units.new.items ≡ units.old.items ++ units_in order octets.now) }
+{
+    units.reserve(octets.len() / 2)?;
+    let mut rest = octets;
+    while let Some((unit, behind)) = front_unit(order, rest) {
+        units.push_reserved(unit);
+        rest = behind;
+    }
+    Ok(())
+}
+
 /// Appends the units of the longest stretch at the front of UTF-16 octets, and answers the octets
 /// behind it.
-#[inline(never)]
+#[inline(always)]
 pub fn push_units<'a>(
     units: &mut Vec<u16>,
     class: Class,
@@ -124,13 +140,7 @@ pub fn push_units<'a>(
     ensures { IfOk result (λ behind.
         AppendsUnits class order units.old.items units.new.items octets.now behind.now) }
 {
-    let mut rest = octets;
-    while let Some((unit, behind)) = front_unit(order, rest) {
-        if !is_unit_in(class, unit) {
-            break;
-        }
-        units.push(unit)?;
-        rest = behind;
-    }
-    Ok(rest)
+    let behind = behind_units(class, order, octets);
+    push_all_units(units, order, &octets[..octets.len() - behind.len()])?;
+    Ok(behind)
 }

@@ -1,9 +1,12 @@
-use Rattle.std.proofs.Common.{length}
+use Rattle.std.proofs.Common.{◌-◌, ◌≤◌, length, drop}
 use Rattle.ostep_lex.specs.Stretch.{BeginsWithStretch}
 use Rattle.ostep_lex.proofs.stretch.behind_stretch.Given as goal
 
-abbrev pub invariant-loop-octet : goal.invariant-loop-octet
-invariant-loop-octet l = BeginsWithStretch l.class l.octets l.rest
+abbrev pub invariant-loop-count : goal.invariant-loop-count
+invariant-loop-count l = record {
+  within : l.count ≤ length l.octets;
+  begins : BeginsWithStretch l.class l.octets (drop l.count l.octets);
+}
 
-abbrev pub decreases-loop-octet : goal.decreases-loop-octet
-decreases-loop-octet l = length l.rest
+abbrev pub decreases-loop-count : goal.decreases-loop-count
+decreases-loop-count l = length l.octets - l.count
