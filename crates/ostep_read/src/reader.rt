@@ -11,7 +11,7 @@ ghost use Rattle.ostep_read.specs.Reading.{Front, AreBefore, HasRead, MayRefuse,
 ghost use Rattle.ostep_read.specs.Due.{IsOpen};
 
 use ostep_form::TextFault;
-use ostep_lex::{Cursor, Token, next_token};
+use ostep_lex::{Cursor, Token, next_mark, next_token};
 use plist_value::Budget;
 use std::alloc::Global;
 
@@ -62,6 +62,27 @@ impl<'a> Reader<'a> {
         match self.next()? {
             Some(token) => Ok(token),
             None => Err(TextFault::Expected { octet: end }),
+        }
+    }
+
+    // The next token, as `expect` has it, with less work where it is the mark.
+    #[inline(always)]
+    pub(crate) fn expect_mark(&mut self, mark: char) -> Result<Token, TextFault>
+        ensures read { (octets : List ℕ) (tokens : List Placed) → HasRead octets tokens self.old
+            → IfOk result (λ token. HasRead octets (tokens ++ placed token ∷ []) self.new) }
+        ensures left { self.new.left ≡ self.old.left }
+        ensures shorter { OnOk result
+            (length (ahead self.new.cursor) < length (ahead self.old.cursor)) }
+        ensures stands { (octets : List ℕ) (tokens : List Placed) (whole : Front)
+            → AreBefore tokens whole → HasRead octets tokens self.old → IsOpen whole
+            → IfErr result (Stands octets) }
+    {
+        match next_mark(self.cursor, mark) {
+            Some((token, behind)) => {
+                self.cursor = behind;
+                Ok(token)
+            }
+            None => self.expect(),
         }
     }
 

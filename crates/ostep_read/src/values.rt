@@ -95,7 +95,7 @@ impl<'a> Reader<'a> {
             }
             let item = self.value(first, levels)?;
             items.push(item)?;
-            let behind = self.expect()?;
+            let behind = self.expect_mark(',')?;
             match behind.kind {
                 TokenKind::ParenClose => return Ok(items),
                 TokenKind::Comma => {}
@@ -172,7 +172,7 @@ impl<'a> Reader<'a> {
         if known {
             return Err(self.refuse(TextFault::DuplicateKey { octet }));
         }
-        let behind = self.expect()?;
+        let behind = self.expect_mark('=')?;
         match behind.kind {
             TokenKind::Equals => self.row_value(levels),
             TokenKind::Semicolon => self.key_alone(key, octet, levels),
@@ -198,7 +198,7 @@ impl<'a> Reader<'a> {
     {
         let first = self.expect()?;
         let value = self.value(first, levels)?;
-        let behind = self.expect()?;
+        let behind = self.expect_mark(';')?;
         match behind.kind {
             TokenKind::Semicolon => Ok(value),
             _ => Err(self.refuse(TextFault::Expected {

@@ -91,7 +91,7 @@ items-returns-in-ParenClose-kind t c =
       read = λ octets tokens h.
           let r = c.loop-items.invariant.read octets tokens h in
           let v = c.in_ok-item.ensures.read octets r.reads.all (c.in_ok-first.ensures.read octets r.reads.all r.reads.has) in
-          subst (λ x. ReadsItems octets tokens (paren_close ∷ []) x c.expect-in-loop-items.new.self) (sym pushed)
+          subst (λ x. ReadsItems octets tokens (paren_close ∷ []) x c.expect_mark.new.self) (sym pushed)
           (last_item-read r v (placed c.in_ok-behind.behind) (ap lexeme_of c.in-ParenClose-kind.is) (c.in_ok-behind.ensures.read octets v.reads.all v.reads.has));
       stands = λ octets tokens whole b a f h d i. tt;
     }
@@ -124,7 +124,7 @@ items-loop-items-preserved t c =
       read = λ octets tokens h.
           let r = c.loop-items.invariant.read octets tokens h in
           let v = c.in_ok-item.ensures.read octets r.reads.all (c.in_ok-first.ensures.read octets r.reads.all r.reads.has) in
-          subst (λ x. ReadsItems octets tokens [] x c.expect-in-loop-items.new.self) (sym pushed)
+          subst (λ x. ReadsItems octets tokens [] x c.expect_mark.new.self) (sym pushed)
           (item-read r v (placed c.in_ok-behind.behind) (ap lexeme_of c.in-Comma.is) (c.in_ok-behind.ensures.read octets v.reads.all v.reads.has));
     }
 
@@ -153,7 +153,7 @@ row-returns-in-Equals-clause-taken t c =
     let key = c.args.key.now in
     let after = c.row_value.new.self.left in
     let spent : Spends c.args.self.now.left 1 (2 * length key) c.charge.new.self.left = spends-same c.in_ok-charge.ensures.spent c.text_payload.ensures.payload in
-    IfOk-weaker c.row_value.result (λ v. Takes c.expect.new.self.left c.args.levels (view v) after) (λ v. TakesRow c.args.self.now.left c.args.levels key (view v) after)
+    IfOk-weaker c.row_value.result (λ v. Takes c.expect_mark.new.self.left c.args.levels (view v) after) (λ v. TakesRow c.args.self.now.left c.args.levels key (view v) after)
     (λ v u. row-taken key (view v) spent c.in_ok-charge.ensures.deep (taken-same c.in_ok-behind.ensures.left refl u) c.text_payload.ensures.valid) c.row_value.ensures.taken
 
 pub row-returns-in-Equals-clause-once : goal.row-returns-in-Equals-clause-once
@@ -186,7 +186,7 @@ row-returns-in-Semicolon-clause-taken t c =
     let key = c.args.key.now in
     let after = c.key_alone.new.self.left in
     let spent : Spends c.args.self.now.left 1 (2 * length key) c.charge.new.self.left = spends-same c.in_ok-charge.ensures.spent c.text_payload.ensures.payload in
-    both_ok c.key_alone.result (λ v. view v ≡ scalar (text key)) (Spends c.expect.new.self.left 1 (2 * length key) after) (λ v. TakesRow c.args.self.now.left c.args.levels key (view v) after)
+    both_ok c.key_alone.result (λ v. view v ≡ scalar (text key)) (Spends c.expect_mark.new.self.left 1 (2 * length key) after) (λ v. TakesRow c.args.self.now.left c.args.levels key (view v) after)
     (λ v e u.
     let alone : Takes c.charge.new.self.left c.args.levels (scalar (text key)) after =
     taken-same c.in_ok-behind.ensures.left refl (scalar-taken (text key) u c.in_ok-charge.ensures.deep c.text_payload.ensures.valid) in
@@ -204,7 +204,7 @@ row-returns-in-Semicolon-clause-read t c octets tokens at l h =
     let has_behind = c.in_ok-behind.ensures.read octets (tokens ++ at ∷ []) has in
     let key = c.args.key.now in
     let after = c.key_alone.new.self in
-    let has_after : HasRead octets ((tokens ++ at ∷ []) ++ token ∷ []) after = same-read c.expect.new.self after has_behind c.key_alone.ensures.cursor c.key_alone.ensures.end in
+    let has_after : HasRead octets ((tokens ++ at ∷ []) ++ token ∷ []) after = same-read c.expect_mark.new.self after has_behind c.key_alone.ensures.cursor c.key_alone.ensures.end in
     IfOk-weaker c.key_alone.result (λ v. view v ≡ scalar (text key)) (λ v. ReadsRow octets tokens key (view v) after)
     (λ v e. subst (λ x. ReadsRow octets tokens key x after) (sym e) (alone-read tokens at token key l (ap lexeme_of c.in-Semicolon.is) has_after)) c.key_alone.ensures.value
 
@@ -216,9 +216,9 @@ row-returns-in-Semicolon-clause-stands t c octets tokens at whole b around befor
     let once : has_key c.args.key.now pairs ≡ false = k ∙ c.if-known.false in
     let key = c.args.key.now in
     let spent : Spends c.args.self.now.left 1 (2 * length key) c.charge.new.self.left = spends-same c.in_ok-charge.ensures.spent c.text_payload.ensures.payload in
-    let two : HasRead octets (tokens ++ at ∷ token ∷ []) c.expect.new.self = subst (λ ts. HasRead octets ts c.expect.new.self) (append_assoc tokens (at ∷ []) (token ∷ [])) has_behind in
+    let two : HasRead octets (tokens ++ at ∷ token ∷ []) c.expect_mark.new.self = subst (λ ts. HasRead octets ts c.expect_mark.new.self) (append_assoc tokens (at ∷ []) (token ∷ [])) has_behind in
     c.key_alone.ensures.stands octets ((tokens ++ at ∷ []) ++ token ∷ []) has_behind
-    (alone-refuses tokens at token c.args.octet key whole c.args.levels c.expect.new.self.left l s (ap lexeme_of c.in-Semicolon.is) f two d once
+    (alone-refuses tokens at token c.args.octet key whole c.args.levels c.expect_mark.new.self.left l s (ap lexeme_of c.in-Semicolon.is) f two d once
     (left-same c.in_ok-behind.ensures.left (key-left key i spent)))
 
 pub row-returns : goal.row-returns
