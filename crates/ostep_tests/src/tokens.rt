@@ -1,5 +1,5 @@
 //! Tokens a step at a time, and with memory refused.
-use ostep_lex::{LexFault, next_token, open, tokens};
+use ostep_lex::{LexFault, next_mark, next_token, open, tokens};
 use std::alloc::Global;
 use std::test::Fail;
 
@@ -30,6 +30,24 @@ fn a_step_at_a_time(rt: HostRuntime) -> Result<(), Fail> {
     assert_eq!(rt; count_of(rt.alloc(), TABLE)?, 6);
     assert_eq!(rt; open(TABLE)?.place(), 0);
     assert_eq!(rt; open(b"\xff\xfe")?.place(), 2);
+    Ok(())
+}
+
+// From where to where the mark stands, if it is read with white alone before it.
+fn mark_of(octets: &[u8], mark: char) -> Result<Option<(usize, usize)>, LexFault> {
+    match next_mark(open(octets)?, mark) {
+        Some((token, _)) => Ok(Some((token.start, token.end))),
+        None => Ok(None),
+    }
+}
+
+#[test]
+fn a_mark_behind_white_alone(rt: HostRuntime) -> Result<(), Fail> {
+    assert_eq!(rt; mark_of(b" \t= 1", '=')?, Some((2, 3)));
+    assert_eq!(rt; mark_of(b"\xff\xfe\x28\x20;\0", ';')?, Some((4, 6)));
+    assert_eq!(rt; mark_of(b"; =", '=')?, None);
+    assert_eq!(rt; mark_of(b"/**/=", '=')?, None);
+    assert_eq!(rt; mark_of(b"a", 'a')?, None);
     Ok(())
 }
 
