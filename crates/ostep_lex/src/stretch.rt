@@ -98,9 +98,9 @@ pub fn push_octets(units: &mut Vec<u16>, octets: &[u8]) -> Result<(), AllocError
     Ok(())
 }
 
-/// Behind the longest stretch at the front of UTF-16 octets.
-#[inline(never)]
-pub fn behind_units(class: Class, order: ByteOrder, octets: &[u8]) -> &[u8]
+/// Behind the longest stretch at the front of UTF-16 octets. Its code stands where it is called.
+#[inline(always)]
+fn behind_units_in_place(class: Class, order: ByteOrder, octets: &[u8]) -> &[u8]
     ensures { BeginsWithUnits class order octets.now result.now }
 {
     let mut rest = octets;
@@ -111,6 +111,18 @@ pub fn behind_units(class: Class, order: ByteOrder, octets: &[u8]) -> &[u8]
         rest = behind;
     }
     rest
+}
+
+/// Behind the longest stretch at the front of UTF-16 octets. What stands raw in a string has a loop
+/// of its own.
+#[inline(never)]
+pub fn behind_units(class: Class, order: ByteOrder, octets: &[u8]) -> &[u8]
+    ensures { BeginsWithUnits class order octets.now result.now }
+{
+    match class {
+        Class::Raw(mark) => behind_units_in_place(Class::Raw(mark), order, octets),
+        _ => behind_units_in_place(class, order, octets),
+    }
 }
 
 /// Appends the units of the octets, of two octets each.

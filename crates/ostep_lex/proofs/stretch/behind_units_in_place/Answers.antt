@@ -1,7 +1,7 @@
 use Rattle.std.proofs.Common.{◌≡◌, ◌&&◌, nat_lt, true}
 use Rattle.ostep_lex.specs.Stretch.{belongs}
 use Rattle.ostep_lex.proofs.UnitsLemmas.{units_none, units_more}
-use Rattle.ostep_lex.proofs.stretch.behind_units.Goals as goal
+use Rattle.ostep_lex.proofs.stretch.behind_units_in_place.Goals as goal
 
 pub loop-unit-init : goal.loop-unit-init
 loop-unit-init c = units_none _ _ _
