@@ -3,7 +3,7 @@ ghost use Rattle.std.specs.Prelude.{IfOk};
 ghost use Rattle.plist_value.specs.Plist.{Plist};
 ghost use Rattle.plist_object.specs.Spelled.{IsBinary};
 
-use crate::files::file_of;
+use crate::files::{Draft, file_of};
 use plist_binary::read;
 use plist_engine::canonical_of;
 use plist_object::BinFile;
@@ -81,6 +81,53 @@ fn each_rotation_has_one_file(rt: HostRuntime) -> Result<(), Fail> {
     for place in 0..6 {
         let source = rotated(rt.alloc(), place)?;
         let canonical = canonical_file(rt.alloc(), source.as_slice())?;
+        assert_eq!(rt; canonical.as_slice(), own.as_slice());
+    }
+    Ok(())
+}
+
+// Two long data, equal or apart in the last octet, and more of one length than are told apart without a hash,
+// with repeats: the list of a file and the last octets of its data, and then those of the canonical file.
+const LONG: [[&[u8]; 4]; 3] = [
+    [&[0xa2, 1, 2], &[7, 7], &[0xa2, 1, 1], &[7]],
+    [&[0xa2, 1, 2], &[7, 8], &[0xa2, 1, 2], &[7, 8]],
+    [
+        &[
+            0xaf, 0x10, 24, 1, 2, 3, 4, 5, 6, 7, 8, 9, 10, 11, 12, 13, 14, 15, 16, 17, 18, 19, 20,
+            21, 22, 23, 24,
+        ],
+        &[
+            1, 2, 3, 4, 5, 6, 7, 8, 9, 10, 11, 12, 13, 14, 15, 16, 17, 18, 19, 20, 1, 8, 9, 20,
+        ],
+        &[
+            0xaf, 0x10, 24, 1, 2, 3, 4, 5, 6, 7, 8, 9, 10, 11, 12, 13, 14, 15, 16, 17, 18, 19, 20,
+            1, 8, 9, 20,
+        ],
+        &[
+            1, 2, 3, 4, 5, 6, 7, 8, 9, 10, 11, 12, 13, 14, 15, 16, 17, 18, 19, 20,
+        ],
+    ],
+];
+
+// The file of a list and of data of 65,536 octets, all zero but the last.
+fn file_of_long(alloc: Global, list: &[u8], lasts: &[u8]) -> Result<Vec<u8>, AllocError> {
+    let mut draft = Draft::new(alloc)?;
+    draft.put(list)?;
+    for last in lasts {
+        let mut object = Vec::from_slice(alloc, &[0x4f, 0x12, 0, 1, 0, 0])?;
+        object.resize(5 + 65_536, 0)?;
+        object.push(*last)?;
+        draft.put(object.as_slice())?;
+    }
+    draft.finish(4, 1)
+}
+
+#[test]
+fn long_data_share_objects_where_all_octets_are_equal(rt: HostRuntime) -> Result<(), Fail> {
+    for [list, lasts, own_list, own_lasts] in LONG {
+        let source = file_of_long(rt.alloc(), list, lasts)?;
+        let canonical = canonical_file(rt.alloc(), source.as_slice())?;
+        let own = file_of_long(rt.alloc(), own_list, own_lasts)?;
         assert_eq!(rt; canonical.as_slice(), own.as_slice());
     }
     Ok(())
