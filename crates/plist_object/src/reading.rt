@@ -117,6 +117,7 @@ fn content(octets: &[u8], low: u8, unit: usize) -> Read<'_, Counted<'_>>
     ))
 }
 
+#[inline(always)]
 #[tactic(auto, unfolding(crate::specs::Objects::simple_object))]
 fn simple(octets: &[u8], low: u8) -> Read<'_, Object<'_>>
     ensures read { Gives (λ p. (held_of p.0, p.1.now)) result (simple_object low octets.entry.now) }
@@ -146,6 +147,7 @@ fn whole_in(octets: &[u8], n: usize) -> Result<Whole, ObjectFault>
     Whole::new(number).ok_or(ObjectFault::WideInteger)
 }
 
+#[inline(always)]
 #[tactic(auto, unfolding(crate::specs::Objects::whole_object))]
 fn whole(octets: &[u8], low: u8) -> Read<'_, Object<'_>>
     requires { low < 16 }
@@ -179,6 +181,7 @@ fn date<'a>(octets: [u8; 8]) -> Object<'a>
     Object::Scalar(ScalarRef::Moment(octets))
 }
 
+#[inline(always)]
 #[tactic(auto, unfolding(crate::specs::Objects::real_object))]
 fn real(octets: &[u8], low: u8) -> Read<'_, Object<'_>>
     ensures read { Gives (λ p. (held_of p.0, p.1.now)) result (real_object low octets.entry.now) }
@@ -197,6 +200,7 @@ fn real(octets: &[u8], low: u8) -> Read<'_, Object<'_>>
     }
 }
 
+#[inline(always)]
 #[tactic(auto, unfolding(crate::specs::Objects::moment_object))]
 fn moment(octets: &[u8], low: u8) -> Read<'_, Object<'_>>
     ensures read { Gives (λ p. (held_of p.0, p.1.now)) result (moment_object low octets.entry.now) }
@@ -209,6 +213,7 @@ fn moment(octets: &[u8], low: u8) -> Read<'_, Object<'_>>
     Ok((date(*moment), rest))
 }
 
+#[inline(always)]
 #[tactic(auto, unfolding(crate::specs::Objects::data_object))]
 fn data(octets: &[u8], low: u8) -> Read<'_, Object<'_>>
     ensures read { Gives (λ p. (held_of p.0, p.1.now)) result (data_object low octets.entry.now) }
@@ -218,6 +223,7 @@ fn data(octets: &[u8], low: u8) -> Read<'_, Object<'_>>
     Ok((Object::Scalar(ScalarRef::Bytes(data.octets)), rest))
 }
 
+#[inline(always)]
 #[tactic(auto, unfolding(crate::specs::Objects::ascii_object))]
 fn ascii(octets: &[u8], low: u8) -> Read<'_, Object<'_>>
     ensures read { Gives (λ p. (held_of p.0, p.1.now)) result (ascii_object low octets.entry.now) }
@@ -228,6 +234,7 @@ fn ascii(octets: &[u8], low: u8) -> Read<'_, Object<'_>>
     Ok((Object::Scalar(ScalarRef::Text(text)), rest))
 }
 
+#[inline(always)]
 #[tactic(auto, unfolding(crate::specs::Objects::list_object))]
 fn list(octets: &[u8], low: u8, width: u8) -> Read<'_, Object<'_>>
     requires width_least { 1 ≤ width }
@@ -241,6 +248,7 @@ fn list(octets: &[u8], low: u8, width: u8) -> Read<'_, Object<'_>>
     Ok((Object::List(refs), rest))
 }
 
+#[inline(always)]
 #[tactic(auto, unfolding(crate::specs::Objects::table_object))]
 fn table(octets: &[u8], low: u8, width: u8) -> Read<'_, Object<'_>>
     requires width_least { 1 ≤ width }
@@ -256,6 +264,7 @@ fn table(octets: &[u8], low: u8, width: u8) -> Read<'_, Object<'_>>
     Ok((Object::Table(keys, values), rest))
 }
 
+#[inline(always)]
 #[tactic(auto, unfolding(crate::specs::Objects::wide_object))]
 fn wide(octets: &[u8], low: u8) -> Read<'_, Object<'_>>
     ensures read { Gives (λ p. (held_of p.0, p.1.now)) result (wide_object low octets.entry.now) }

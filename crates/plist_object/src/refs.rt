@@ -9,7 +9,7 @@ use byteorder::{BigEndian, ByteOrder};
 #[derive(Clone, Copy, Debug)]
 pub struct Refs<'a> {
     octets: &'a [u8],
-    width: u8,
+    width: usize,
     count: u64,
     ghost width_least: { 1 ≤ width },
     ghost width_most: { width ≤ 8 },
@@ -29,7 +29,7 @@ impl<'a> Refs<'a> {
     {
         Refs {
             octets,
-            width,
+            width: usize::from(width),
             count,
         }
     }
@@ -55,6 +55,9 @@ impl<'a> Refs<'a> {
         if self.len() != other.len() {
             return false;
         }
+        if self.width == other.width && self.octets == other.octets {
+            return true;
+        }
         for i in 0..self.len() {
             if self.get(i) != other.get(i) {
                 return false;
@@ -68,7 +71,7 @@ impl<'a> Refs<'a> {
         requires { i < length (numbers_of self.now) }
         ensures { result ≡ slice_index (numbers_of self.now) i }
     {
-        number_at(self.octets, usize::from(self.width), i as usize)
+        number_at(self.octets, self.width, i as usize)
     }
 }
 

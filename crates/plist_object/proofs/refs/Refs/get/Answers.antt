@@ -6,10 +6,10 @@ pub number_at-requires-clause-within : goal.number_at-requires-clause-within
 number_at-requires-clause-within c =
     let refs = c.args.self.now in
     let inside : c.args.i < refs.count = omega (arith, length-numbers refs.width refs.count refs.octets.now) in
-    rw c.from.ensures (omega (arith, number_within refs.width refs.count c.args.i inside, refs.whole))
+    omega (arith, number_within refs.width refs.count c.args.i inside, refs.whole)
 
 pub returns : goal.returns
 returns c =
     let refs = c.args.self.now in
     let inside : c.args.i < refs.count = omega (arith, length-numbers refs.width refs.count refs.octets.now) in
-    rw (c.number_at.ensures, c.from.ensures) (sym (numbers-at refs.width refs.count c.args.i refs.octets.now inside))
+    rw c.number_at.ensures (sym (numbers-at refs.width refs.count c.args.i refs.octets.now inside))
