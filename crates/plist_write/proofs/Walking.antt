@@ -15,7 +15,7 @@ use Rattle.plist_write.specs.Sharing.{least_place, first_place, kept_from, kept_
 use Rattle.plist_write.specs.Plan.{Stands, held_at, held_in, held_by, number_in, found_in, number_known, number_held, IsReady, Adds, Walks, WalksTree, WalksScalar, WalksItems, WalksKeys, WalksValues, IsEmptyPlan}
 use Rattle.plist_write.specs.declared.plan.Plan.{Plan}
 use Rattle.plist_write.proofs.Numbering.{least_place-le, count_below-none}
-use Rattle.plist_write.proofs.Held.{insert_key-known, length-pushed, number-pushed}
+use Rattle.plist_write.proofs.Held.{insert_key-known, length-pushed, number-pushed, scalars-decide}
 use Rattle.plist_write.proofs.Trees.{length-preorder, Stands-front, Stands-rest, Stands-head, Stands-all}
 use Rattle.plist_write.proofs.Counting.{count-kept, count-shared, least_place-at, known-still, known-now}
 
@@ -107,7 +107,7 @@ Walks-known r old new n held inserted same_numbers same_slots = record {
       let known = known-before s all k stands n (sym (ready.known r) ∙ held) in
       let at = here s all k stands in
       let below = known.0 in
-      let same_keys : new.scalars.keys ≡ old.scalars.keys = inserted ∙ insert_key-known old.scalars.keys old.numbers.items r n ready.numbered held in
+      let same_keys : new.scalars.keys ≡ old.scalars.keys = inserted ∙ insert_key-known ScalarRef Scalar content_of (on content_of scalar_eq) scalars-decide old.scalars.keys old.numbers.items r n ready.numbered held in
       let apart : (q : ScalarRef) → least_place (content_of q) all ≡ k → ⊥ =
       λ q e. let same = same_scalar s all k stands (content_of q) e in let e2 : least_place s all ≡ k = rw same at e in omega arith in
       let later : least_place s all ≡ k → ⊥ = λ (e : least_place s all ≡ k). omega arith in
@@ -139,7 +139,7 @@ Walks-new r old new n unknown last added inserted pushed =
           let at = here s all k stands in
           let number : n ≡ count_below k (kept_places all) = last ∙ ready.counted in
           let knows : (q : ScalarRef) → number_held new q ≡ cond (scalar_eq s (content_of q)) (Some n) (number_held old q) =
-          λ q. rw (inserted, pushed) (number-pushed old.scalars.keys old.numbers.items r n q ready.numbered unknown) in
+          λ q. rw (inserted, pushed) (number-pushed ScalarRef Scalar content_of (on content_of scalar_eq) scalars-decide old.scalars.keys old.numbers.items r n q ready.numbered unknown) in
           let now : (q : ScalarRef) → number_held new q ≡ number_known all (suc k) (content_of q) =
           λ q. elim (cases_Bool (scalar_eq s (content_of q))) [
             | inl same ↦ (let e : s ≡ content_of q = (scalar_eq-Decides s (content_of q)).0 same in let firstq : least_place (content_of q) all ≡ k = ap (λ x. least_place x all) (sym e) ∙ first in knows q ∙ rw same (ap Some number) ∙ sym (known-now all k (content_of q) firstq))
@@ -147,7 +147,7 @@ Walks-new r old new n unknown last added inserted pushed =
           ] in
           record {
             ready = rw add-one (record {
-              numbered = rw (inserted, pushed) (length-pushed old.scalars.keys old.numbers.items r n ready.numbered unknown);
+              numbered = rw (inserted, pushed) (length-pushed ScalarRef Scalar content_of (on content_of scalar_eq) scalars-decide old.scalars.keys old.numbers.items r n ready.numbered unknown);
               known = now;
               counted = long ∙ ap suc ready.counted ∙ sym (count-kept all k (scalar s) at.0 at.1 first);
             });
