@@ -1,4 +1,6 @@
+pub mod Keys
 pub mod Numbers
+pub mod Storing
 pub mod Growing
 pub mod Walking
 pub mod Flat

@@ -1,55 +1,30 @@
--- The numbers of scalars, in the list and in the set.
+-- The numbers of scalars, in a list and in a set.
 use Rattle.std.proofs.Common.{◌≡◌, ℕ, Option, cond, true, false, List, [], ◌∷◌, ◌++◌, Some, None, refl, sym, ap, ◌∙◌, inl, inr}
 use Rattle.std.specs.Ordering.{on}
 use Rattle.std.specs.Option.{option_or}
 use Rattle.std.proofs.lemmas.Bool.{true≢false, cases_Bool}
-use Rattle.indexmap.specs.IndexSet.{insert_key}
 use Rattle.plist_value.specs.Plist.{Scalar}
 use Rattle.plist_value.specs.Equality.{scalar_eq}
 use Rattle.plist_value.specs.EqualityLaws.{scalar_eq-Decides}
 use Rattle.plist_value.specs.Scalars.{content_of}
 use Rattle.plist_value.specs.declared.scalar_ref.ScalarRef.{ScalarRef}
-use Rattle.plist_write.proofs.Held.{insert_key-known, length-pushed, number-pushed}
+use Rattle.plist_write.proofs.Held.{scalars-decide}
 use Rattle.plist_engine.specs.declared.numbered.Listed.{Listed}
 use Rattle.plist_engine.specs.declared.numbered.Numbered.{Numbered}
+use Rattle.plist_engine.specs.Hashed.{EntersKey}
 use Rattle.plist_engine.specs.Numbered.{is_long, number_listed, number_hashed, number_held, IsLong, IsShort, HasRoom, IsNumbered, IsUnlisted, Enters}
+use Rattle.plist_engine.proofs.Keys.{or_none, or_or, counted-after, number-after}
 
 -- the next number, where the scalar is this one
 abbrev next_of : ScalarRef → ℕ → ScalarRef → Option ℕ
 next_of shown next r = cond (scalar_eq (content_of shown) (content_of r)) (Some next) None
 
-or_none : (o : Option ℕ) → option_or o None ≡ o
-or_none None = refl
-or_none (Some n) = refl
-
-is_same : (r q : ScalarRef) → scalar_eq (content_of r) (content_of q) ≡ true → content_of r ≡ content_of q
+pub is_same : (r q : ScalarRef) → scalar_eq (content_of r) (content_of q) ≡ true → content_of r ≡ content_of q
 is_same r q e = (scalar_eq-Decides (content_of r) (content_of q)).0 e
 
 -- equal scalars are found under one number
-same-number : (known : Numbered) (r q : ScalarRef) → content_of r ≡ content_of q → number_held known q ≡ number_held known r
+pub same-number : (known : Numbered) (r q : ScalarRef) → content_of r ≡ content_of q → number_held known q ≡ number_held known r
 same-number known r q same = rw same refl
-
--- a scalar that has a number
-module _ (shown : ScalarRef) (next n : ℕ) (old new : Numbered) (enters : Enters shown next old new (Some n)) where
-  pub entered-had : number_held old shown ≡ Some n
-  entered-had = sym enters.had_is
-
-  pub entered-kept : (r : ScalarRef) → number_held new r ≡ number_held old r
-  entered-kept r = elim (cases_Bool (scalar_eq (content_of shown) (content_of r))) [
-    | inl same ↦ (let had : number_held old r ≡ Some n = same-number old shown r (is_same shown r same) ∙ entered-had in enters.each r ∙ rw had refl)
-    | inr apart ↦ enters.each r ∙ rw apart (or_none (number_held old r))
-  ]
-
--- one that has none
-module _ (shown : ScalarRef) (next : ℕ) (old new : Numbered) (enters : Enters shown next old new None) where
-  pub entered-unknown : number_held old shown ≡ None
-  entered-unknown = sym enters.had_is
-
-  pub entered-added : (r : ScalarRef) → number_held new r ≡ cond (scalar_eq (content_of shown) (content_of r)) (Some next) (number_held old r)
-  entered-added r = elim (cases_Bool (scalar_eq (content_of shown) (content_of r))) [
-    | inl same ↦ (let had : number_held old r ≡ None = same-number old shown r (is_same shown r same) ∙ entered-unknown in enters.each r ∙ rw (had, same) refl)
-    | inr apart ↦ enters.each r ∙ rw apart (or_none (number_held old r))
-  ]
 
 -- nothing changes where the scalar has a number
 pub enters-again : (shown : ScalarRef) (next n : ℕ) (known : Numbered) → IsNumbered known → number_held known shown ≡ Some n → Enters shown next known known (Some n)
@@ -84,12 +59,12 @@ long_short : (r q : ScalarRef) → IsLong r → IsShort q → scalar_eq (content
 long_short r q long short = differ r q (λ e. true≢false (sym long ∙ e ∙ short))
 
 -- long data are listed now
-module _ (shown : ScalarRef) (next : ℕ) (old new : Numbered) (numbered : IsNumbered old) (long : IsLong shown) (missed : number_listed old.listed.items (content_of shown) ≡ None) (room : HasRoom old) (same_hashed : new.hashed ≡ old.hashed) (same_numbers : new.numbers ≡ old.numbers) (pushed : new.listed.items ≡ old.listed.items ++ (record { scalar = shown; number = next } ∷ [])) where
+module _ (shown : ScalarRef) (next : ℕ) (old new : Numbered) (numbered : IsNumbered old) (long : IsLong shown) (missed : number_listed old.listed.items (content_of shown) ≡ None) (room : HasRoom old) (same_hashed : new.hashed ≡ old.hashed) (pushed : new.listed.items ≡ old.listed.items ++ (record { scalar = shown; number = next } ∷ [])) where
   listed_now : (r : ScalarRef) → number_listed new.listed.items (content_of r) ≡ option_or (number_listed old.listed.items (content_of r)) (next_of shown next r)
   listed_now r = rw pushed (listed-pushed old.listed.items (record { scalar = shown; number = next }) (content_of r))
 
   hashed_still : (r : ScalarRef) → number_hashed new r ≡ number_hashed old r
-  hashed_still r = rw (same_hashed, same_numbers) refl
+  hashed_still r = rw same_hashed refl
 
   none_hashed : number_hashed old shown ≡ None
   none_hashed = numbered.long_listed room shown long
@@ -100,7 +75,7 @@ module _ (shown : ScalarRef) (next : ℕ) (old new : Numbered) (numbered : IsNum
   pub enters-pushed : Enters shown next old new None
   enters-pushed = record {
     numbered = record {
-      counted = rw (same_hashed, same_numbers) numbered.counted;
+      counted = rw same_hashed numbered.counted;
       short_hashed = λ r short. listed_now r ∙ rw (numbered.short_hashed r short, long_short shown r long short) refl;
       long_listed = λ still r far. hashed_still r ∙ numbered.long_listed room r far;
     };
@@ -112,39 +87,22 @@ module _ (shown : ScalarRef) (next : ℕ) (old new : Numbered) (numbered : IsNum
   }
 
 -- the set is asked for one that is not listed
-module _ (shown : ScalarRef) (next : ℕ) (old new : Numbered) (unlisted : IsUnlisted old shown) (same_listed : new.listed ≡ old.listed) (inserted : new.hashed.keys ≡ insert_key (on content_of scalar_eq) old.hashed.keys shown) where
-  pub enters-known : (n : ℕ) → number_hashed old shown ≡ Some n → new.numbers ≡ old.numbers → Enters shown next old new (Some n)
-  enters-known n found same_numbers =
-      let numbered = unlisted.numbered in
-      let same_keys : new.hashed.keys ≡ old.hashed.keys = inserted ∙ insert_key-known old.hashed.keys old.numbers.items shown n numbered.counted found in
-      let had : number_held old shown ≡ Some n = rw unlisted.missed found in
-      let again = enters-again shown next n old numbered had in
-      record {
-        numbered = record {
-          counted = rw (same_numbers, same_keys) numbered.counted;
-          short_hashed = λ r short. rw same_listed (numbered.short_hashed r short);
-          long_listed = λ room r long. rw (same_numbers, same_keys) (numbered.long_listed (rw same_listed at room) r long);
-        };
-        had_is = sym had;
-        each = λ r. rw (same_numbers, same_keys, same_listed) (again.each r);
-      }
+module _ (shown : ScalarRef) (next : ℕ) (old new : Numbered) (had : Option ℕ) (unlisted : IsUnlisted old shown) (same_listed : new.listed ≡ old.listed) (enters : EntersKey (on content_of scalar_eq) shown next old.hashed new.hashed had) where
+  hashed_now : (r : ScalarRef) → number_hashed new r ≡ option_or (number_hashed old r) (next_of shown next r)
+  hashed_now = number-after ScalarRef Scalar content_of (on content_of scalar_eq) scalars-decide shown next old.hashed new.hashed unlisted.numbered.counted had enters
 
-  pub enters-new : number_hashed old shown ≡ None → new.numbers.items ≡ old.numbers.items ++ (next ∷ []) → Enters shown next old new None
-  enters-new missed pushed =
+  listed_still : (r : ScalarRef) → number_listed new.listed.items (content_of r) ≡ number_listed old.listed.items (content_of r)
+  listed_still r = rw same_listed refl
+
+  pub enters-hashed : Enters shown next old new had
+  enters-hashed =
       let numbered = unlisted.numbered in
-      let unknown : number_held old shown ≡ None = rw unlisted.missed missed in
-      let hashed_now : (r : ScalarRef) → number_hashed new r ≡ cond (scalar_eq (content_of shown) (content_of r)) (Some next) (number_hashed old r) =
-      λ r. rw (inserted, pushed) (number-pushed old.hashed.keys old.numbers.items shown next r numbered.counted missed) in
-      let listed_still : (r : ScalarRef) → number_listed new.listed.items (content_of r) ≡ number_listed old.listed.items (content_of r) = λ r. rw same_listed refl in
       record {
         numbered = record {
-          counted = rw (inserted, pushed) (length-pushed old.hashed.keys old.numbers.items shown next numbered.counted missed);
+          counted = counted-after ScalarRef Scalar content_of (on content_of scalar_eq) scalars-decide shown next old.hashed new.hashed numbered.counted had enters;
           short_hashed = λ r short. rw same_listed (numbered.short_hashed r short);
-          long_listed = λ room r long. hashed_now r ∙ rw (short_long shown r (unlisted.refused (rw same_listed at room)) long) (numbered.long_listed (rw same_listed at room) r long);
+          long_listed = λ room r long. hashed_now r ∙ rw (short_long shown r (unlisted.refused (rw same_listed at room)) long, or_none (number_hashed old r)) (numbered.long_listed (rw same_listed at room) r long);
         };
-        had_is = sym unknown;
-        each = λ r. elim (cases_Bool (scalar_eq (content_of shown) (content_of r))) [
-          | inl same ↦ (let not_listed : number_listed old.listed.items (content_of r) ≡ None = rw (is_same shown r same) at unlisted.missed in let not_hashed : number_hashed old r ≡ None = rw (is_same shown r same) at missed in rw (listed_still r, not_listed, hashed_now r, not_hashed, same) refl)
-          | inr apart ↦ rw (listed_still r, hashed_now r, apart, or_none (number_held old r)) refl
-        ];
+        had_is = rw unlisted.missed enters.had_is;
+        each = λ r. rw (listed_still r, hashed_now r) (or_or (number_listed old.listed.items (content_of r)) (number_hashed old r) (next_of shown next r));
       }

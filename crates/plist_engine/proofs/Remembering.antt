@@ -1,7 +1,7 @@
 -- The numbers that are remembered of objects.
-use Rattle.std.proofs.Common.{◌≡◌, ℕ, zero, suc, ◌<◌, eqb, replicate, take, false, List, [], ◌∷◌, ◌++◌, length, get_or, set, Some, refl, sym, ap, subst, ◌∙◌, inl, inr, arith}
-use Rattle.std.proofs.lemmas.Bool.{cases_order, eq-eqb, true≢false}
-use Rattle.std.proofs.lemmas.List.{append-nil, get_or_default, take_all, get_or-set_same, get_or-set_other}
+use Rattle.std.proofs.Common.{◌≡◌, ℕ, ◌<◌, eqb, false, List, [], ◌∷◌, length, get_or, Some, refl, sym, ap, subst, ◌∙◌, inl, inr, arith}
+use Rattle.std.proofs.lemmas.Bool.{eq-eqb, true≢false}
+use Rattle.std.proofs.lemmas.List.{append-nil, get_or_default}
 use Rattle.plist_value.specs.Plist.{Scalar, Plist, scalar, list, table, IsScalar, IsPlist}
 use Rattle.plist_value.specs.Scalars.{content_of}
 use Rattle.plist_value.specs.declared.scalar_ref.ScalarRef.{ScalarRef}
@@ -10,14 +10,14 @@ use Rattle.plist_object.specs.Places.{Holds}
 use Rattle.plist_object.specs.Spelled.{Spells}
 use Rattle.plist_object.proofs.Uniqueness.{same_held}
 use Rattle.plist_engine.specs.declared.plan.Plan.{Plan}
-use Rattle.plist_engine.specs.Numbered.{IsNumbered, number_held}
-use Rattle.plist_engine.specs.Plan.{EntersScalar, IsRemembered, RemembersNumbers, NumbersScalar, no_number, remembered, IsWalked, Begins}
+use Rattle.plist_engine.specs.Scalars.{AreNumbered, number_stored}
+use Rattle.plist_engine.specs.Plan.{KeepsNumber, KeepsScalar, IsRemembered, RemembersNumbers, NumbersScalar, no_number, remembered, IsWalked, Begins}
 use Rattle.plist_engine.specs.Spelling.{SpellsWithin}
-use Rattle.plist_engine.proofs.Numbers.{enters-again}
+use Rattle.plist_engine.proofs.Storing.{enters-again}
 use Rattle.plist_engine.proofs.Walking.{Walks-known, Walks-lift}
 
 -- the memo of a plan with more scalars
-pub remembers-entered : (f : List ℕ) (shown : ScalarRef) (old new : Plan) (n : ℕ) → EntersScalar shown old new n → RemembersNumbers f old → RemembersNumbers f new
+pub remembers-entered : (f : List ℕ) (shown : ScalarRef) (old new : Plan) (n : ℕ) → KeepsScalar shown old new n → RemembersNumbers f old → RemembersNumbers f new
 remembers-entered f shown old new n enters was = record {
   numbered = enters.numbered was.numbered;
   each = λ i some.
@@ -49,16 +49,16 @@ remembers-begun f i refs old new n begins was =
     remembers-same f old new begins.scalars_kept begins.memo_kept was
 
 -- one number more is remembered
-pub remembers-set : (f : List ℕ) (i : ℕ) (shown : ScalarRef) (mid new : Plan) (n : ℕ) → i < length mid.memo.items → new.scalars ≡ mid.scalars → new.memo.items ≡ set mid.memo.items i n → Holds f i (holds_scalar (content_of shown)) → number_held mid.scalars shown ≡ Some n → RemembersNumbers f mid → RemembersNumbers f new
-remembers-set f i shown mid new n within same_scalars written holds held was = record {
+pub remembers-kept : (f : List ℕ) (i : ℕ) (shown : ScalarRef) (mid new : Plan) (n : ℕ) → new.scalars ≡ mid.scalars → KeepsNumber i n mid.memo.items new.memo.items → Holds f i (holds_scalar (content_of shown)) → number_stored mid.scalars shown ≡ Some n → RemembersNumbers f mid → RemembersNumbers f new
+remembers-kept f i shown mid new n same_scalars kept holds held was = record {
   numbered = rw same_scalars was.numbered;
-  each = λ j some. elim (cases_order j i) [
-    | inl here ↦ (let is : remembered new j ≡ n = ap (λ ms. get_or ms j no_number) written ∙ ap (λ k. get_or (set mid.memo.items i n) k no_number) here ∙ get_or-set_same mid.memo.items i n no_number within in record {
+  each = λ j some. elim (kept j) [
+    | inr here ↦ record {
       shown = shown;
-      holds = subst (λ (k : ℕ). Holds f k (holds_scalar (content_of shown))) (sym here) holds;
-      held = rw same_scalars (held ∙ ap Some (sym is));
-    })
-    | inr other ↦ (let apart : j ≡ i → ⊥ = λ (e : j ≡ i). elim other [ inl below ↦ omega arith | inr above ↦ omega arith ] in let same : remembered new j ≡ remembered mid j = ap (λ ms. get_or ms j no_number) written ∙ get_or-set_other mid.memo.items i j n no_number apart in let one = was.each j (λ none. some (same ∙ none)) in record {
+      holds = subst (λ (k : ℕ). Holds f k (holds_scalar (content_of shown))) (sym here.0) holds;
+      held = rw same_scalars (held ∙ ap Some (sym here.1));
+    }
+    | inl same ↦ (let one = was.each j (λ none. some (same ∙ none)) in record {
       shown = one.shown;
       holds = one.holds;
       held = rw same_scalars (one.held ∙ ap Some (sym same));
@@ -96,17 +96,7 @@ walked-again f i levels plan n within memo one =
       references_added = sym (append-nil _);
     }
 
-get_or-repeated : (m i a : ℕ) → get_or (replicate m a) i a ≡ a
-get_or-repeated zero i a = refl
-get_or-repeated (suc m) zero a = refl
-get_or-repeated (suc m) (suc i) a = get_or-repeated m i a
-
--- a memo that was only made has no number
-pub memo-none : (n m i : ℕ) (old new : List ℕ) → old ≡ [] → new ≡ take n old ++ replicate m no_number → get_or new i no_number ≡ no_number
-memo-none n m i old new none filled =
-    ap (λ xs. get_or xs i no_number) (filled ∙ ap (λ xs. take n xs ++ replicate m no_number) none ∙ ap (λ xs. xs ++ replicate m no_number) (take_all n [] (omega arith))) ∙ get_or-repeated m i no_number
-
-pub remembers-none : (f : List ℕ) (plan : Plan) → IsNumbered plan.scalars → ((i : ℕ) → remembered plan i ≡ no_number) → RemembersNumbers f plan
+pub remembers-none : (f : List ℕ) (plan : Plan) → AreNumbered plan.scalars → ((i : ℕ) → remembered plan i ≡ no_number) → RemembersNumbers f plan
 remembers-none f plan numbered none = record { numbered = numbered; each = λ i some. absurd (some (none i)) }
 
 -- a number that the memo has

@@ -13,13 +13,13 @@ use Rattle.plist_write.specs.Tree.{preorder, preorder_items, item_places}
 use Rattle.plist_write.specs.Sharing.{least_place, kept_places, count_below}
 use Rattle.plist_write.specs.Plan.{number_in, found_in, number_known}
 use Rattle.plist_engine.specs.declared.plan.Plan.{Plan}
-use Rattle.plist_engine.specs.Numbered.{number_held, IsNumbered, Enters}
+use Rattle.plist_engine.specs.Scalars.{number_stored, AreNumbered, EntersScalar}
 use Rattle.plist_engine.specs.Plan.{IsReady, Grows, Adds, Walks, WalksTree, WalksScalar, WalksItems, IsEmptyPlan, StandFor}
 use Rattle.plist_write.proofs.Numbering.{count_below-none}
 use Rattle.plist_write.proofs.Trees.{length-preorder, Stands-front, Stands-rest, Stands-all}
 use Rattle.plist_write.proofs.Counting.{count-kept, count-shared, known-still, known-now}
 use Rattle.plist_write.proofs.Walking.{found_in-append, here, number_is, same_scalar, known-before, unknown-first}
-use Rattle.plist_engine.proofs.Numbers.{entered-had, entered-kept, entered-unknown, entered-added}
+use Rattle.plist_engine.proofs.Storing.{entered-had, entered-kept, entered-unknown, entered-added}
 use Rattle.plist_engine.proofs.Growing.{Grows-none, Grows-append, Grows-lift, Grows-scalar}
 
 -- nothing to do
@@ -67,7 +67,7 @@ Walks-lift f front part places old mid new ns x within same_scalars same_origina
 }
 
 -- a scalar that is known
-pub Walks-known : (f : List ℕ) (r : ScalarRef) (old new : Plan) (n next : ℕ) → (IsNumbered old.scalars → Enters r next old.scalars new.scalars (Some n)) → new.originals ≡ old.originals → new.references ≡ old.references → WalksScalar f 0 (content_of r) old new n
+pub Walks-known : (f : List ℕ) (r : ScalarRef) (old new : Plan) (n next : ℕ) → (AreNumbered old.scalars → EntersScalar r next old.scalars new.scalars (Some n)) → new.originals ≡ old.originals → new.references ≡ old.references → WalksScalar f 0 (content_of r) old new n
 Walks-known f r old new n next entered same_originals same_references = record {
   numbered = λ all k stands ready.
       let held = entered-had r next n old.scalars new.scalars (entered ready.numbered) in
@@ -103,7 +103,7 @@ Walks-known f r old new n next entered same_originals same_references = record {
 }
 
 -- one that is new, which is put last
-pub Walks-new : (f : List ℕ) (r : ScalarRef) (i : ℕ) (old new : Plan) (n : ℕ) → Holds f i (holds_scalar (content_of r)) → (IsNumbered old.scalars → Enters r n old.scalars new.scalars None) → n ≡ length old.originals.items → new.originals.items ≡ old.originals.items ++ (i ∷ []) → new.references ≡ old.references → WalksScalar f 0 (content_of r) old new n
+pub Walks-new : (f : List ℕ) (r : ScalarRef) (i : ℕ) (old new : Plan) (n : ℕ) → Holds f i (holds_scalar (content_of r)) → (AreNumbered old.scalars → EntersScalar r n old.scalars new.scalars None) → n ≡ length old.originals.items → new.originals.items ≡ old.originals.items ++ (i ∷ []) → new.references ≡ old.references → WalksScalar f 0 (content_of r) old new n
 Walks-new f r i old new n holds entered last added same_references =
     let s = content_of r in
     let long : length new.originals.items ≡ suc (length old.originals.items) = ap length added ∙ length-append old.originals.items (i ∷ []) ∙ add-one _ in
@@ -119,8 +119,8 @@ Walks-new f r i old new n holds entered last added same_references =
           let first = unknown-first s all k stands (sym (ready.known r) ∙ entered-unknown r n old.scalars new.scalars enters) in
           let at = here s all k stands in
           let number : n ≡ count_below k (kept_places all) = last ∙ ready.counted in
-          let knows : (q : ScalarRef) → number_held new.scalars q ≡ cond (scalar_eq s (content_of q)) (Some n) (number_held old.scalars q) = entered-added r n old.scalars new.scalars enters in
-          let now : (q : ScalarRef) → number_held new.scalars q ≡ number_known all (suc k) (content_of q) =
+          let knows : (q : ScalarRef) → number_stored new.scalars q ≡ cond (scalar_eq s (content_of q)) (Some n) (number_stored old.scalars q) = entered-added r n old.scalars new.scalars enters in
+          let now : (q : ScalarRef) → number_stored new.scalars q ≡ number_known all (suc k) (content_of q) =
           λ q. elim (cases_Bool (scalar_eq s (content_of q))) [
             | inl same ↦ (let e : s ≡ content_of q = (scalar_eq-Decides s (content_of q)).0 same in let firstq : least_place (content_of q) all ≡ k = ap (λ x. least_place x all) (sym e) ∙ first in knows q ∙ rw same (ap Some number) ∙ sym (known-now all k (content_of q) firstq))
             | inr other ↦ knows q ∙ rw other (ready.known q) ∙ sym (known-still all k (content_of q) (λ e. let same = same_scalar s all k stands (content_of q) e in let yes = (scalar_eq-Decides s (content_of q)).1 (sym same) in true≢false (sym yes ∙ other)))

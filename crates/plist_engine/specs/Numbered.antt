@@ -1,12 +1,12 @@
--- Scalars that have numbers: a few long data in a list, and all others in a set.
-use Rattle.std.specs.Prelude.{◌≡◌, ℕ, ◌<◌, nat_le, Bool, true, false, if◌then◌else◌, List, [], ◌∷◌, length, slice_get, Option, Some, None}
+-- Scalars that have numbers: a few long data in a list, and others in a set.
+use Rattle.std.specs.Prelude.{◌≡◌, ℕ, ◌<◌, nat_le, Bool, true, false, if◌then◌else◌, List, [], ◌∷◌, length, Option, Some, None}
 use Rattle.std.specs.Option.{option_or}
 use Rattle.std.specs.Ordering.{on}
-use Rattle.indexmap.specs.IndexSet.{insert_index}
 use Rattle.plist_value.specs.Plist.{Scalar, bytes}
 use Rattle.plist_value.specs.Equality.{scalar_eq}
 use Rattle.plist_value.specs.Scalars.{content_of}
 use Rattle.plist_value.specs.declared.scalar_ref.ScalarRef.{ScalarRef}
+use Rattle.plist_engine.specs.Hashed.{number_of_key}
 use Rattle.plist_engine.specs.declared.numbered.Listed.{Listed}
 use Rattle.plist_engine.specs.declared.numbered.Numbered.{Numbered}
 
@@ -18,7 +18,7 @@ number_listed (one ∷ others) s =
 
 -- the number at the index of the scalar in the set, if it has one
 abbrev pub number_hashed : Numbered → ScalarRef → Option ℕ
-number_hashed known r = slice_get known.numbers.items (insert_index (on content_of scalar_eq) known.hashed r)
+number_hashed known r = number_of_key (on content_of scalar_eq) known.hashed r
 
 -- the number under which a scalar is found, if it is: the one in the list, or else that of the set
 abbrev pub number_held : Numbered → ScalarRef → Option ℕ
@@ -41,7 +41,7 @@ HasRoom known = length known.listed.items < 8
 
 -- There is a number for each scalar of the set. Long data alone are listed, and none are in the set while the list has room.
 pub record IsNumbered (known : Numbered) : Type 0 where
-  pub counted : length known.numbers.items ≡ length known.hashed.keys
+  pub counted : length known.hashed.numbers.items ≡ length known.hashed.keys.keys
   pub short_hashed : (r : ScalarRef) → IsShort r → number_listed known.listed.items (content_of r) ≡ None
   pub long_listed : HasRoom known → (r : ScalarRef) → IsLong r → number_hashed known r ≡ None
 

@@ -1,5 +1,5 @@
 -- The walk that plans a canonical file over the objects of another file.
-use Rattle.std.specs.Prelude.{◌≡◌, ℕ, ◌+◌, ◌-◌, ◌^◌, List, [], ◌∷◌, ◌++◌, length, map, drop, take, slice_index_or, Some}
+use Rattle.std.specs.Prelude.{◌≡◌, ◌⊎◌, ℕ, ◌+◌, ◌-◌, ◌^◌, List, [], ◌∷◌, ◌++◌, length, map, drop, take, slice_index_or, Some}
 use Rattle.plist_value.specs.Plist.{Scalar, Plist, scalar, Items, IsPlist, AreItems}
 use Rattle.plist_value.specs.Scalars.{content_of}
 use Rattle.plist_value.specs.declared.scalar_ref.ScalarRef.{ScalarRef}
@@ -10,7 +10,7 @@ use Rattle.plist_object.specs.Spelled.{Spells, SpellItems}
 use Rattle.plist_write.specs.Tree.{preorder, preorder_items, item_places}
 use Rattle.plist_write.specs.Sharing.{kept_places, count_below}
 use Rattle.plist_write.specs.Plan.{Stands, number_in, found_in, number_known}
-use Rattle.plist_engine.specs.Numbered.{number_held, IsNew, IsNumbered}
+use Rattle.plist_engine.specs.Scalars.{number_stored, AreNew, AreNumbered}
 use Rattle.plist_engine.specs.declared.plan.Objects.{Objects}
 use Rattle.plist_engine.specs.declared.plan.Plan.{Plan}
 
@@ -31,14 +31,14 @@ StandFor f (i ∷ originals) refs (h ∷ hs) =
 
 -- nothing was found
 pub record IsEmptyPlan (plan : Plan) : Type 0 where
-  pub scalars : IsNew plan.scalars
+  pub scalars : AreNew plan.scalars
   pub none : plan.originals.items ≡ []
   pub no_references : plan.references.items ≡ []
 
 -- the places below k are done: each scalar there is known by its number, and so many objects were found
 pub record IsReady (all : List Plist) (k : ℕ) (plan : Plan) : Type 0 where
-  pub numbered : IsNumbered plan.scalars
-  pub known : (s : ScalarRef) → number_held plan.scalars s ≡ number_known all k (content_of s)
+  pub numbered : AreNumbered plan.scalars
+  pub known : (s : ScalarRef) → number_stored plan.scalars s ≡ number_known all k (content_of s)
   pub counted : length plan.originals.items ≡ count_below k (kept_places all)
 
 -- What these objects hold was added. Of the references only those behind the front are looked at.
@@ -83,7 +83,7 @@ pub record Begins (i : ℕ) (refs : List ℕ) (old new : Plan) (number : ℕ) : 
 pub record IsRemembered (f : List ℕ) (plan : Plan) (i number : ℕ) : Type 0 where
   pub shown : ScalarRef
   pub holds : Holds f i (holds_scalar (content_of shown))
-  pub held : number_held plan.scalars shown ≡ Some number
+  pub held : number_stored plan.scalars shown ≡ Some number
 
 -- stands for the number of an object that has none yet
 abbrev pub no_number : ℕ
@@ -93,17 +93,22 @@ no_number = 2 ^ 32 - 1
 abbrev pub remembered : Plan → ℕ → ℕ
 remembered plan i = slice_index_or plan.memo.items i no_number
 
+-- the number of the object may be this one now, and all others are as before
+abbrev pub KeepsNumber : ℕ → ℕ → List ℕ → List ℕ → Type 0
+KeepsNumber i number old new =
+    (j : ℕ) → (slice_index_or new j no_number ≡ slice_index_or old j no_number) ⊎ ((j ≡ i) × (slice_index_or new j no_number ≡ number))
+
 -- each number of the memo is that of the scalar that the object holds
 pub record RemembersNumbers (f : List ℕ) (plan : Plan) : Type 0 where
-  pub numbered : IsNumbered plan.scalars
+  pub numbered : AreNumbered plan.scalars
   pub each : (i : ℕ) → (remembered plan i ≡ no_number → ⊥) → IsRemembered f plan i (remembered plan i)
 
 -- The scalar has the number now, and each that had one has it still.
-pub record EntersScalar (shown : ScalarRef) (old new : Plan) (number : ℕ) : Type 0 where
+pub record KeepsScalar (shown : ScalarRef) (old new : Plan) (number : ℕ) : Type 0 where
   pub memo_kept : new.memo ≡ old.memo
-  pub numbered : IsNumbered old.scalars → IsNumbered new.scalars
-  pub found : IsNumbered old.scalars → number_held new.scalars shown ≡ Some number
-  pub still : IsNumbered old.scalars → (s : ScalarRef) (n : ℕ) → number_held old.scalars s ≡ Some n → number_held new.scalars s ≡ Some n
+  pub numbered : AreNumbered old.scalars → AreNumbered new.scalars
+  pub found : AreNumbered old.scalars → number_stored new.scalars shown ≡ Some number
+  pub still : AreNumbered old.scalars → (s : ScalarRef) (n : ℕ) → number_stored old.scalars s ≡ Some n → number_stored new.scalars s ≡ Some n
 
 -- A scalar was numbered that an object of a file holds.
 pub record NumbersScalar (i : ℕ) (s : Scalar) (old new : Plan) (number : ℕ) : Type 0 where

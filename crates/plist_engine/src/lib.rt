@@ -1,12 +1,14 @@
 //! The canonical file of the value that a binary file spells, made from that file without the value.
 #![tactic(auto)]
 
+mod hashed;
 mod making;
 mod numbered;
 mod objects;
 mod order;
 mod parts;
 mod plan;
+mod scalars;
 pub mod sending;
 mod walk;
 

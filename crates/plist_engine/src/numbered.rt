@@ -1,10 +1,10 @@
-//! Scalars that have numbers.
+//! Scalars that have numbers, a few of them in a list.
 ghost use Rattle.std.specs.Prelude.{◌≡◌, IfOk};
 ghost use Rattle.plist_value.specs.Scalars.{content_of};
 ghost use Rattle.plist_engine.specs.Numbered.{IsNew, IsUnlisted, IsNumbered, Enters};
 ghost use Rattle.plist_engine.specs.Numbered.{is_long, number_listed};
 
-use indexmap::IndexSet;
+use crate::hashed::Hashed;
 use plist_value::ScalarRef;
 use std::alloc::{AllocError, Global};
 
@@ -26,39 +26,39 @@ struct Listed<'a> {
 #[derive(Drop)]
 pub(crate) struct Numbered<'a> {
     listed: Vec<Listed<'a>>,
-    hashed: IndexSet<ScalarRef<'a>>,
-    numbers: Vec<u32>,
+    hashed: Hashed<ScalarRef<'a>>,
 }
 
 impl<'a> Numbered<'a> {
-    /// No scalar has a number. There is room for so many.
-    pub(crate) fn new(alloc: Global, count: usize) -> Result<Numbered<'a>, AllocError>
-        ensures { IfOk result IsNew }
+    /// No scalar has a number.
+    pub(crate) fn new(alloc: Global) -> Numbered<'a>
+        ensures { IsNew result }
     {
-        Ok(Numbered {
+        Numbered {
             listed: Vec::new(alloc),
-            hashed: IndexSet::with_capacity(alloc, count)?,
-            numbers: Vec::with_capacity(alloc, count)?,
-        })
+            hashed: Hashed::new(alloc),
+        }
     }
 
-    /// The number that the scalar has, if it has one. Else it has the next number from now on.
+    /// The number that the scalar has, if it has one. Else it has the next number from now on. There are at most
+    /// `most` scalars.
     pub(crate) fn enter(
         &mut self,
         scalar: ScalarRef<'a>,
         next: u32,
+        most: usize,
     ) -> Result<Option<u32>, AllocError>
         ensures { IfOk result (λ had. IsNumbered self.old
             → Enters scalar.entry next self.old self.new had) }
     {
         if !is_long_data(scalar) {
-            return self.enter_hashed(scalar, next);
+            return self.enter_hashed(scalar, next, most);
         }
         if let Some(number) = self.number_of_listed(scalar) {
             return Ok(Some(number));
         }
         if self.listed.len() >= MOST_LISTED {
-            return self.enter_hashed(scalar, next);
+            return self.enter_hashed(scalar, next, most);
         }
         self.listed.push(Listed {
             scalar,
@@ -80,16 +80,16 @@ impl<'a> Numbered<'a> {
     }
 
     // The same as `enter`, for a scalar that the list neither has nor takes.
-    fn enter_hashed(&mut self, scalar: ScalarRef<'a>, next: u32) -> Result<Option<u32>, AllocError>
+    fn enter_hashed(
+        &mut self,
+        scalar: ScalarRef<'a>,
+        next: u32,
+        most: usize,
+    ) -> Result<Option<u32>, AllocError>
         ensures { IfOk result (λ had. IsUnlisted self.old scalar.entry
             → Enters scalar.entry next self.old self.new had) }
     {
-        let (index, _) = self.hashed.insert_full(scalar)?;
-        if let Some(number) = self.numbers.get(index) {
-            return Ok(Some(*number));
-        }
-        self.numbers.push(next)?;
-        Ok(None)
+        self.hashed.enter(scalar, next, most)
     }
 }
 

@@ -8,10 +8,10 @@ ghost use Rattle.plist_object.specs.Views.{numbers_of, octets_of};
 ghost use Rattle.plist_engine.specs.Order.{IsOrdered};
 ghost use Rattle.plist_engine.specs.Spelling.{IsTable, SpellTable, in_turn};
 ghost use Rattle.plist_engine.specs.Plan.{Begins, IsEmptyPlan, NumbersScalar};
-ghost use Rattle.plist_engine.specs.Plan.{EntersScalar, IsRemembered, RemembersNumbers, remembered};
+ghost use Rattle.plist_engine.specs.Plan.{KeepsNumber, KeepsScalar, IsRemembered, RemembersNumbers, remembered};
 
-use crate::numbered::Numbered;
 use crate::order::{KeyOrder, push_all};
+use crate::scalars::Scalars;
 use plist_object::{BinFile, Refs};
 use plist_value::{MAX_NODES, ScalarRef};
 use std::alloc::{AllocError, Global};
@@ -27,11 +27,13 @@ pub(crate) struct Objects {
 /// Stands for the number of an object that has none yet.
 const NO_NUMBER: u32 = u32::MAX;
 
-/// The objects so far, and the scalars among them with their numbers. Beside them stands a memo: for each object
-/// of the file that was met as a scalar its number.
+/// The objects so far, and the scalars among them with their numbers. Beside them stands a memo: the number of each
+/// object of the file that was met as a scalar which had one. It is made when there is the first: most scalars are
+/// met once.
 #[derive(Drop)]
 pub(crate) struct Plan<'a> {
-    scalars: Numbered<'a>,
+    scalars: Scalars<'a>,
+    count: u64,
     memo: Vec<u32>,
     originals: Vec<u32>,
     pub(crate) references: Vec<u32>,
@@ -44,13 +46,12 @@ impl<'a> Plan<'a> {
         ensures empty { IfOk result IsEmptyPlan }
         ensures memo { IfOk result (λ plan. (i : ℕ) → remembered plan i ≡ NO_NUMBER) }
     {
-        let mut memo = Vec::new(alloc);
-        memo.resize(count as usize, NO_NUMBER)?;
         let objects = count.min(MAX_NODES);
         let references = objects.saturating_mul(4).min(MAX_NODES);
         Ok(Plan {
-            scalars: Numbered::new(alloc, objects as usize)?,
-            memo,
+            scalars: Scalars::new(alloc, objects as usize),
+            count,
+            memo: Vec::new(alloc),
             originals: Vec::with_capacity(alloc, objects as usize)?,
             references: Vec::with_capacity(alloc, references as usize)?,
         })
@@ -72,7 +73,7 @@ impl<'a> Plan<'a> {
         Some(number)
     }
 
-    /// The number of the scalar that the object holds, which is kept for the next time.
+    /// The number of the scalar that the object holds, which is kept for the next time if it is not new.
     pub(crate) fn scalar(&mut self, object: u64, scalar: ScalarRef<'a>) -> Result<u32, AllocError>
         ensures numbers { IfOk result
             (NumbersScalar object (content_of scalar.entry) self.old self.new) }
@@ -80,12 +81,12 @@ impl<'a> Plan<'a> {
             → Holds f object (holds_scalar (content_of scalar.entry))
             → RemembersNumbers f self.old → RemembersNumbers f self.new) }
     {
+        let found = self.originals.len();
         let number = self.enter(object, scalar)?;
-        let place = object as usize;
-        if place >= self.memo.len() {
+        if self.originals.len() > found {
             return Ok(number);
         }
-        self.memo[place] = number;
+        remember(&mut self.memo, self.count, object, number)?;
         Ok(number)
     }
 
@@ -101,6 +102,7 @@ impl<'a> Plan<'a> {
             memo,
             originals,
             references,
+            ..
         } = self;
         drop(scalars);
         drop(memo);
@@ -114,7 +116,7 @@ impl<'a> Plan<'a> {
     fn enter(&mut self, object: u64, scalar: ScalarRef<'a>) -> Result<u32, AllocError>
         ensures numbers { IfOk result
             (NumbersScalar object (content_of scalar.entry) self.old self.new) }
-        ensures enters { IfOk result (EntersScalar scalar.entry self.old self.new) }
+        ensures enters { IfOk result (KeepsScalar scalar.entry self.old self.new) }
     {
         let next = self.next_number()?;
         if let Some(number) = self.scalars.enter(scalar, next)? {
@@ -168,6 +170,20 @@ impl<'a> Plan<'a> {
         order.push_sorted(alloc, file, keys, values, &mut self.references)?;
         Ok(number)
     }
+}
+
+// Keeps the number of the object, which is one of so many.
+fn remember(memo: &mut Vec<u32>, count: u64, object: u64, number: u32) -> Result<(), AllocError>
+    ensures { OnOk result (KeepsNumber object number memo.old.items memo.new.items) }
+{
+    if memo.is_empty() {
+        memo.resize(count as usize, NO_NUMBER)?;
+    }
+    let place = object as usize;
+    if place < memo.len() {
+        memo[place] = number;
+    }
+    Ok(())
 }
 
 /// The number in 32 bits. No number of a value within the limits passes them, nor that of an object of a file

@@ -132,3 +132,40 @@ fn long_data_share_objects_where_all_octets_are_equal(rt: HostRuntime) -> Result
     }
     Ok(())
 }
+
+// The file of a list of 10,000 numbers, those below 5,000 twice, in so many objects: where there are more than
+// 5,000, these numbers are spelled once more, in four octets.
+fn file_of_numbers(alloc: Global, objects: u16) -> Result<Vec<u8>, AllocError> {
+    let mut list = Vec::from_slice(alloc, &[0xaf, 0x11, 0x27, 0x10])?;
+    for place in 0..10_000u16 {
+        let number = if place < objects {
+            place
+        } else {
+            place.saturating_sub(objects)
+        };
+        list.extend_from_slice(&number.saturating_add(1).to_be_bytes())?;
+    }
+    let mut draft = Draft::new(alloc)?;
+    draft.put(list.as_slice())?;
+    for object in 0..objects {
+        let [high, low] = object.to_be_bytes();
+        match object {
+            0..256 => draft.put(&[0x10, low])?,
+            256..5_000 => draft.put(&[0x11, high, low])?,
+            _ => {
+                let [high, low] = object.saturating_sub(5_000).to_be_bytes();
+                draft.put(&[0x12, 0, 0, high, low])?;
+            }
+        }
+    }
+    draft.finish(2, 2)
+}
+
+#[test]
+fn numbers_share_objects_however_they_are_spelled(rt: HostRuntime) -> Result<(), Fail> {
+    let source = file_of_numbers(rt.alloc(), 10_000)?;
+    let canonical = canonical_file(rt.alloc(), source.as_slice())?;
+    let own = file_of_numbers(rt.alloc(), 5_000)?;
+    assert_eq!(rt; canonical.as_slice(), own.as_slice());
+    Ok(())
+}

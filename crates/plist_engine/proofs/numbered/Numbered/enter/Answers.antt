@@ -10,4 +10,4 @@ returns c = λ numbered.
     let long : IsLong c.args.scalar = search rules in
     let room : HasRoom known = omega (arith, c.len.ensures) in
     let missed : number_listed known.listed.items (content_of c.args.scalar) ≡ None = search rules in
-    enters-pushed c.args.scalar c.args.next known _ numbered long missed room refl refl c.in_ok-push.ensures.items
+    enters-pushed c.args.scalar c.args.next known _ numbered long missed room refl c.in_ok-push.ensures.items

@@ -1,0 +1,127 @@
+-- The numbers of scalars, in the set of natural numbers and among all others.
+use Rattle.std.proofs.Common.{◌≡◌, ◌⊎◌, ℕ, pos, negsuc, Option, cond, false, Some, None, refl, sym, ap, ◌∙◌, inl, inr, nat_eq}
+use Rattle.std.specs.Option.{option_or}
+use Rattle.std.specs.Cmp.{unsigned_Decides}
+use Rattle.std.proofs.lemmas.Bool.{cases_Bool, true≢false}
+use Rattle.plist_value.specs.Plist.{Scalar, text, whole, flag, real4, real8, moment, bytes}
+use Rattle.plist_value.specs.Equality.{scalar_eq}
+use Rattle.plist_value.specs.EqualityLaws.{scalar_eq-Decides}
+use Rattle.plist_value.specs.Scalars.{content_of}
+use Rattle.plist_value.specs.declared.scalar_ref.ScalarRef.{ScalarRef}
+use Rattle.plist_engine.specs.declared.scalars.Scalars.{Scalars}
+use Rattle.plist_engine.specs.Hashed.{number_of_key, EntersKey}
+use Rattle.plist_engine.specs.Numbered.{number_held, Enters}
+use Rattle.plist_engine.specs.Scalars.{natural_in, number_by, number_stored, AreNumbered, EntersScalar}
+use Rattle.plist_engine.proofs.Keys.{or_none, counted-after, number-after}
+use Rattle.plist_engine.proofs.Numbers.{is_same, same-number}
+
+-- equal scalars are found under one number
+same-by : (known : Scalars) (r q : ScalarRef) (natural : Option ℕ) → content_of r ≡ content_of q → number_by known q natural ≡ number_by known r natural
+same-by known r q (Some n) same = refl
+same-by known r q None same = same-number known.others r q same
+
+same-stored : (known : Scalars) (r q : ScalarRef) → content_of r ≡ content_of q → number_stored known q ≡ number_stored known r
+same-stored known r q same =
+    ap (number_by known q) (ap natural_in (sym same)) ∙ same-by known r q (natural_in (content_of r)) same
+
+-- a scalar that has a number
+module _ (shown : ScalarRef) (next n : ℕ) (old new : Scalars) (enters : EntersScalar shown next old new (Some n)) where
+  pub entered-had : number_stored old shown ≡ Some n
+  entered-had = sym enters.had_is
+
+  pub entered-kept : (r : ScalarRef) → number_stored new r ≡ number_stored old r
+  entered-kept r = elim (cases_Bool (scalar_eq (content_of shown) (content_of r))) [
+    | inl same ↦ (let had : number_stored old r ≡ Some n = same-stored old shown r (is_same shown r same) ∙ entered-had in enters.each r ∙ rw had refl)
+    | inr apart ↦ enters.each r ∙ rw apart (or_none (number_stored old r))
+  ]
+
+-- one that has none
+module _ (shown : ScalarRef) (next : ℕ) (old new : Scalars) (enters : EntersScalar shown next old new None) where
+  pub entered-unknown : number_stored old shown ≡ None
+  entered-unknown = sym enters.had_is
+
+  pub entered-added : (r : ScalarRef) → number_stored new r ≡ cond (scalar_eq (content_of shown) (content_of r)) (Some next) (number_stored old r)
+  entered-added r = elim (cases_Bool (scalar_eq (content_of shown) (content_of r))) [
+    | inl same ↦ (let had : number_stored old r ≡ None = same-stored old shown r (is_same shown r same) ∙ entered-unknown in enters.each r ∙ rw (had, same) refl)
+    | inr apart ↦ enters.each r ∙ rw apart (or_none (number_stored old r))
+  ]
+
+-- nothing changes where the scalar has a number
+pub enters-again : (shown : ScalarRef) (next n : ℕ) (known : Scalars) → AreNumbered known → number_stored known shown ≡ Some n → EntersScalar shown next known known (Some n)
+enters-again shown next n known numbered had = record {
+  numbered = numbered;
+  had_is = sym had;
+  each = λ r. elim (cases_Bool (scalar_eq (content_of shown) (content_of r))) [
+    | inl same ↦ (let one : number_stored known r ≡ Some n = same-stored known shown r (is_same shown r same) ∙ had in rw one refl)
+    | inr apart ↦ rw apart (sym (or_none (number_stored known r)))
+  ];
+}
+
+-- the natural number in a scalar tells it
+natural-is : (s : Scalar) (n : ℕ) → natural_in s ≡ Some n → s ≡ whole (pos n)
+natural-is (whole (pos m)) n e = let same : m ≡ n = cc in ap (λ k. whole (pos k)) same
+natural-is (whole (negsuc m)) n e = absurd (cc)
+natural-is (text xs) n e = absurd (cc)
+natural-is (flag b) n e = absurd (cc)
+natural-is (real4 xs) n e = absurd (cc)
+natural-is (real8 xs) n e = absurd (cc)
+natural-is (moment xs) n e = absurd (cc)
+natural-is (bytes xs) n e = absurd (cc)
+
+-- a scalar and another of another kind
+differ : (r q : ScalarRef) → (natural_in (content_of r) ≡ natural_in (content_of q) → ⊥) → scalar_eq (content_of r) (content_of q) ≡ false
+differ r q other = elim (cases_Bool (scalar_eq (content_of r) (content_of q))) [
+  | inl same ↦ absurd (other (ap natural_in (is_same r q same)))
+  | inr apart ↦ apart
+]
+
+-- two natural numbers in scalars are the same where the scalars are
+naturals-same : (r q : ScalarRef) (m n : ℕ) → natural_in (content_of r) ≡ Some m → natural_in (content_of q) ≡ Some n → scalar_eq (content_of r) (content_of q) ≡ nat_eq m n
+naturals-same r q m n first second = elim (cases_Bool (nat_eq m n)) [
+  | inl is ↦ (let e : m ≡ n = (unsigned_Decides m n).0 is in (scalar_eq-Decides (content_of r) (content_of q)).1 (natural-is (content_of r) m first ∙ ap (λ k. whole (pos k)) e ∙ sym (natural-is (content_of q) n second)) ∙ sym is)
+  | inr apart ↦ differ r q (λ e. let same : m ≡ n = let t : Some m ≡ Some n = sym first ∙ e ∙ second in cc in true≢false (sym ((unsigned_Decides m n).1 same) ∙ apart)) ∙ sym apart
+]
+
+-- what stands for a scalar whose natural number is known to be this, or to be none
+by-natural : (known : Scalars) (r : ScalarRef) (n : ℕ) → natural_in (content_of r) ≡ Some n → number_stored known r ≡ number_of_key nat_eq known.naturals n
+by-natural known r n e = ap (number_by known r) e
+
+by-other : (known : Scalars) (r : ScalarRef) → natural_in (content_of r) ≡ None → number_stored known r ≡ number_held known.others r
+by-other known r e = ap (number_by known r) e
+
+cases-natural : (o : Option ℕ) → (o ≡ None) ⊎ ((n : ℕ) × (o ≡ Some n))
+cases-natural None = inl refl
+cases-natural (Some n) = inr (n, refl)
+
+-- a natural number was entered
+module _ (shown : ScalarRef) (n next : ℕ) (old new : Scalars) (had : Option ℕ) (natural : natural_in (content_of shown) ≡ Some n) (numbered : AreNumbered old) (same_others : new.others ≡ old.others) (enters : EntersKey nat_eq n next old.naturals new.naturals had) where
+  naturals_now : (m : ℕ) → number_of_key nat_eq new.naturals m ≡ option_or (number_of_key nat_eq old.naturals m) (cond (nat_eq n m) (Some next) None)
+  naturals_now = number-after ℕ ℕ (λ m. m) nat_eq unsigned_Decides n next old.naturals new.naturals numbered.counted had enters
+
+  pub enters-natural : EntersScalar shown next old new had
+  enters-natural = record {
+    numbered = record {
+      counted = counted-after ℕ ℕ (λ m. m) nat_eq unsigned_Decides n next old.naturals new.naturals numbered.counted had enters;
+      others = rw same_others numbered.others;
+    };
+    had_is = enters.had_is ∙ sym (by-natural old shown n natural);
+    each = λ r. elim (cases-natural (natural_in (content_of r))) [
+      | inl none ↦ (let apart : scalar_eq (content_of shown) (content_of r) ≡ false = differ shown r (λ e. let t : Some n ≡ None = sym natural ∙ e ∙ none in cc) in rw (by-other new r none, by-other old r none, same_others, apart) (sym (or_none (number_held old.others r))))
+      | inr some ↦ rw (by-natural new r some.0 some.1, by-natural old r some.0 some.1, naturals-same shown r n some.0 natural some.1) (naturals_now some.0)
+    ];
+  }
+
+-- another scalar was entered
+module _ (shown : ScalarRef) (next : ℕ) (old new : Scalars) (had : Option ℕ) (other : natural_in (content_of shown) ≡ None) (numbered : AreNumbered old) (same_naturals : new.naturals ≡ old.naturals) (enters : Enters shown next old.others new.others had) where
+  pub enters-other : EntersScalar shown next old new had
+  enters-other = record {
+    numbered = record {
+      counted = rw same_naturals numbered.counted;
+      others = enters.numbered;
+    };
+    had_is = enters.had_is ∙ sym (by-other old shown other);
+    each = λ r. elim (cases-natural (natural_in (content_of r))) [
+      | inl none ↦ rw (by-other new r none, by-other old r none) (enters.each r)
+      | inr some ↦ (let apart : scalar_eq (content_of shown) (content_of r) ≡ false = differ shown r (λ e. let t : None ≡ Some some.0 = sym other ∙ e ∙ some.1 in cc) in rw (by-natural new r some.0 some.1, by-natural old r some.0 some.1, same_naturals, apart) (sym (or_none (number_of_key nat_eq old.naturals some.0))))
+    ];
+  }

@@ -1,0 +1,50 @@
+//! Keys that have numbers.
+ghost use Rattle.std.specs.Prelude.{IfOk};
+ghost use Rattle.plist_engine.specs.Hashed.{EntersKey, IsEmptyHashed};
+
+use indexmap::IndexSet;
+use std::alloc::{AllocError, Global};
+use std::hash::Hash;
+
+// A set of so many keys is given all the room that it can need. One of fewer grows by itself.
+const MANY: usize = 4_096;
+
+/// Keys that have numbers: these stand in a list, each at the index of its key.
+#[derive(Drop)]
+pub(crate) struct Hashed<K: Eq + Hash> {
+    pub(crate) keys: IndexSet<K>,
+    pub(crate) numbers: Vec<u32>,
+}
+
+impl<K: Eq + Hash + Drop> Hashed<K> {
+    /// No key has a number.
+    pub(crate) fn new(alloc: Global) -> Hashed<K>
+        ensures { IsEmptyHashed result }
+    {
+        Hashed {
+            keys: IndexSet::new(alloc),
+            numbers: Vec::new(alloc),
+        }
+    }
+
+    /// The number that the key has, if it has one. Else it has the next number from now on. There are at most
+    /// `most` keys.
+    pub(crate) fn enter(
+        &mut self,
+        key: K,
+        next: u32,
+        most: usize,
+    ) -> Result<Option<u32>, AllocError>
+        ensures { IfOk result (EntersKey K.eq key next self.old self.new) }
+    {
+        if self.numbers.len() == MANY {
+            self.keys.reserve(most)?;
+        }
+        let (index, _) = self.keys.insert_full(key)?;
+        if let Some(number) = self.numbers.get(index) {
+            return Ok(Some(*number));
+        }
+        self.numbers.push(next)?;
+        Ok(None)
+    }
+}

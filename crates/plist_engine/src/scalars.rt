@@ -1,0 +1,56 @@
+//! Scalars that have numbers.
+ghost use Rattle.std.specs.Prelude.{◌≡◌, IfOk};
+ghost use Rattle.plist_value.specs.Scalars.{content_of};
+ghost use Rattle.plist_engine.specs.Scalars.{AreNew, AreNumbered, EntersScalar, natural_in};
+
+use crate::hashed::Hashed;
+use crate::numbered::Numbered;
+use plist_value::ScalarRef;
+use std::alloc::{AllocError, Global};
+
+/// The scalars that have numbers, and these. Whole numbers that are not below 0 have a set of their own, where
+/// they take a quarter of the room.
+#[derive(Drop)]
+pub(crate) struct Scalars<'a> {
+    naturals: Hashed<u64>,
+    others: Numbered<'a>,
+    most: usize,
+}
+
+impl<'a> Scalars<'a> {
+    /// No scalar has a number. There will be at most so many.
+    pub(crate) fn new(alloc: Global, most: usize) -> Scalars<'a>
+        ensures { AreNew result }
+    {
+        Scalars {
+            naturals: Hashed::new(alloc),
+            others: Numbered::new(alloc),
+            most,
+        }
+    }
+
+    /// The number that the scalar has, if it has one. Else it has the next number from now on.
+    pub(crate) fn enter(
+        &mut self,
+        scalar: ScalarRef<'a>,
+        next: u32,
+    ) -> Result<Option<u32>, AllocError>
+        ensures { IfOk result (λ had. AreNumbered self.old
+            → EntersScalar scalar.entry next self.old self.new had) }
+    {
+        match natural_in(scalar) {
+            Some(natural) => self.naturals.enter(natural, next, self.most),
+            None => self.others.enter(scalar, next, self.most),
+        }
+    }
+}
+
+// The number, where the scalar is a whole number that is not below 0.
+fn natural_in(scalar: ScalarRef) -> Option<u64>
+    ensures { result ≡ natural_in (content_of scalar.entry) }
+{
+    match scalar {
+        ScalarRef::Whole(whole) => u64::try_from(whole.get()).ok(),
+        _ => None,
+    }
+}
