@@ -24,3 +24,6 @@ pub mod Recalling
 pub mod BuildSteps
 pub mod Ranking
 pub mod Sorting
+pub mod Monotone
+pub mod HeadSteps
+pub mod WorkedHeads

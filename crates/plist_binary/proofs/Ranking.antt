@@ -19,7 +19,7 @@ use Rattle.plist_ranks.proofs.Ranked.{below_from_ranks, ranks_from_below, less_f
 use Rattle.plist_binary.specs.declared.tables.Key.{Key}
 use Rattle.plist_binary.specs.Keys.{units_at, IsRanked, AreRanked, AreRankedAlike, HasRank}
 
-two : (P : Key → Type 0) (a b : Key) → P a → P b → All P (a ∷ b ∷ [])
+pub two : (P : Key → Type 0) (a b : Key) → P a → P b → All P (a ∷ b ∷ [])
 two P a b first second zero d within = first
 two P a b first second (suc zero) d within = second
 two P a b first second (suc (suc n)) d within = absurd (omega arith)
@@ -58,7 +58,7 @@ some_of : (o : Option ℕ) → IsTrue (is_some o) → (rank : ℕ) × (o ≡ Som
 some_of (Some rank) some = (rank, refl)
 some_of None some = absurd (true≢false (sym some))
 
-not_true : (b : Bool) → (b ≡ true → ⊥) → b ≡ false
+pub not_true : (b : Bool) → (b ≡ true → ⊥) → b ≡ false
 not_true true apart = absurd (apart refl)
 not_true false apart = refl
 

@@ -8,6 +8,7 @@ pub mod Reach
 pub mod Faults
 pub mod Budgets
 pub mod Keys
+pub mod Heads
 pub mod Readings
 pub mod Memos
 pub mod Passing

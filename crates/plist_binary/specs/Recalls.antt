@@ -1,4 +1,4 @@
--- What is known of the keys of the table that was judged last.
+-- What is known of keys that were read and sorted: those of the table judged last, and the order of the longest table.
 use Rattle.std.specs.Prelude.{◌≡◌, ℕ, List, Option, IfSome}
 use Rattle.std.specs.Ordering.{nat_cmp}
 use Rattle.std.specs.Cmp.Lexicographic.{slice_cmp}

@@ -3,6 +3,7 @@
 
 mod building;
 pub mod fault;
+mod heads;
 mod judging;
 mod known_keys;
 mod memos;

@@ -7,25 +7,32 @@ ghost use Rattle.std.specs.List.Sorted.{IsPermutation, IsSorted, IsStrictlySorte
 ghost use Rattle.std.specs.Map.{keys_of};
 ghost use Rattle.plist_binary.specs.Keys.{units_at, place_of, pair_at};
 ghost use Rattle.plist_binary.specs.Keys.{AreRanked, AreRankedAlike, HasRank};
+ghost use Rattle.plist_binary.specs.Heads.{AreHeadless};
 
-use crate::scalars;
+use crate::{heads, scalars};
 use plist_value::{TextRef, Utf16, Value};
 use std::alloc::{AllocError, Global};
 use std::cmp::Ordering;
 use std::collections::BTreeMap;
 use std::mem;
 
-// A key of a table, its rank if it has one, and its place among the keys of the file.
+// The keys of a table of up to so many are sorted by their texts alone.
+const FEW_KEYS: usize = 12;
+
+// A key of a table, its rank if it has one, and its place among the keys of the file. The head is 0 but while
+// the keys are sorted.
 #[derive(Clone, Copy)]
 pub(crate) struct Key<'a> {
     pub(crate) text: TextRef<'a>,
     pub(crate) rank: Option<u64>,
     pub(crate) place: usize,
+    pub(crate) head: u64,
 }
 
 // Whether no two of the keys are equal, which then ascend.
 pub(crate) fn sort(keys: &mut [Key]) -> bool
-    requires { AreRanked keys.old }
+    requires ranked { AreRanked keys.old }
+    requires headless { AreHeadless keys.old }
     ensures moved { IsPermutation keys.old keys.new }
     ensures distinct { IsTrue result ↔ IsDistinct (eq_by_cmp (slice_cmp nat_cmp))
         (map units_at keys.old) }
@@ -35,8 +42,30 @@ pub(crate) fn sort(keys: &mut [Key]) -> bool
     if ascend(keys) {
         return true;
     }
+    if keys.len() > FEW_KEYS && !have_ranks(keys) {
+        return sort_by_heads(keys);
+    }
     order(keys);
     ascend(keys)
+}
+
+// Likewise: the texts are read again only where two heads are equal.
+fn sort_by_heads(keys: &mut [Key]) -> bool
+    requires some { 0 < length keys.old }
+    requires headless { AreHeadless keys.old }
+    ensures moved { IsPermutation keys.old keys.new }
+    ensures distinct { IsTrue result ↔ IsDistinct (eq_by_cmp (slice_cmp nat_cmp))
+        (map units_at keys.old) }
+    ensures ascend { IsTrue result ↔ IsStrictlySortedBy (slice_cmp nat_cmp)
+        (map units_at keys.new) }
+{
+    let first = keys[0].text;
+    let front = heads::shared(keys, &first);
+    heads::fill(keys, front);
+    keys.sort_unstable_by_key(|key| (key.head, key.text));
+    let distinct = heads::ascend(keys);
+    heads::clear(keys);
+    distinct
 }
 
 // Puts the keys in the order of their texts: by ranks where all have one.

@@ -14,6 +14,7 @@ ghost use Rattle.plist_object.specs.Views.{Gives, held_of, numbers_of, octets_of
 ghost use Rattle.plist_ranks.specs.Ranks.{AreRanks};
 ghost use Rattle.plist_binary.specs.Faults.{IsText};
 ghost use Rattle.plist_binary.specs.Keys.{units_at, AreInPlace, AreRanked};
+ghost use Rattle.plist_binary.specs.Heads.{AreHeadless};
 ghost use Rattle.plist_binary.specs.Memos.{AreStates};
 ghost use Rattle.plist_binary.specs.Paths.{HasKeys, IsKeyOf, Leads, containers_of};
 ghost use Rattle.plist_binary.specs.Readings.{Reads, Refuses, ReadsItems};
@@ -91,6 +92,7 @@ impl<'a, 'r> Walker<'a, 'r> {
             (numbers_of refs.entry) levels left.old (texts (map units_at keys.items)) left.new) }
         ensures placed { IfOk result (λ keys. AreInPlace keys.items) }
         ensures ranked { IfOk result (λ keys. AreRanked keys.items) }
+        ensures headless { IfOk result (λ keys. AreHeadless keys.items) }
         ensures refused { IfErr result (RefusesKeys (octets_of self.now.file)
             (numbers_of refs.entry) levels left.old) }
     {
@@ -100,7 +102,12 @@ impl<'a, 'r> Walker<'a, 'r> {
             let text = self.key(states, table, before, object, levels, &mut *left)?;
             let rank = self.ranks.get(object);
             let place = keys.len();
-            keys.push(Key { text, rank, place })?;
+            keys.push(Key {
+                text,
+                rank,
+                place,
+                head: 0,
+            })?;
         }
         Ok(keys)
     }

@@ -1,6 +1,6 @@
 //! The judge and the reader where no row of octets shows them: keys that many tables share, and want of memory.
 use crate::files::Draft;
-use plist_binary::{BinaryFault, judge, read};
+use plist_binary::{BinaryFault, judge, judge_keys, read};
 use plist_canon::{CheckFault, check};
 use std::alloc::{AllocError, Global};
 use std::test::Fail;
@@ -48,6 +48,59 @@ fn keys_that_many_tables_share(rt: HostRuntime) -> Result<(), Fail> {
     ] {
         let octets = tables_that_share_keys(alloc, second)?;
         assert_eq!(rt; judge(alloc, octets.as_slice()), answer);
+    }
+    Ok(())
+}
+
+// A text of so many units that all keys share, and one or two behind them: texts that ascend with the number. The
+// units rise from 88 to 107 in ASCII, and from 245 to 264.
+fn key(alloc: Global, front: u8, number: u8) -> Result<Vec<u8>, AllocError> {
+    let step = number / 2;
+    let ascii = step < 20;
+    let last = if ascii { 88 } else { 225 } + u16::from(step);
+    let count = front.saturating_add(1 + number % 2);
+    let mut key = Vec::from_slice(alloc, &[if ascii { 0x5f } else { 0x6f }, 0x10, count])?;
+    for i in 0..count {
+        let unit = if i < front { 0x61 } else { last };
+        let [high, low] = unit.to_be_bytes();
+        if !ascii {
+            key.push(high)?;
+        }
+        key.push(low)?;
+    }
+    Ok(key)
+}
+
+// One table of eighty keys that are not in order; the last but one is this number.
+fn long_table(alloc: Global, front: u8, last: u8) -> Result<Vec<u8>, AllocError> {
+    let mut table = Vec::from_slice(alloc, &[0xdf, 0x10, 80])?;
+    for i in 1..81u8 {
+        table.push(i)?;
+    }
+    table.resize(163, 81)?;
+    let mut draft = Draft::new(alloc)?;
+    draft.put(table.as_slice())?;
+    for i in 0..80u16 {
+        let number = if i == 78 { last } else { (i * 37 % 80) as u8 };
+        draft.put(key(alloc, front, number)?.as_slice())?;
+    }
+    draft.put(b"\x09")?;
+    draft.finish(2, 1)
+}
+
+#[test]
+fn keys_of_a_long_table(rt: HostRuntime) -> Result<(), Fail> {
+    let alloc = rt.alloc();
+    for front in [0, 1, 40, 62, 63, 64, 65, 90] {
+        let octets = long_table(alloc, front, 6)?;
+        let judged = judge_keys(alloc, octets.as_slice()).ok();
+        let sorted = judged.flatten().ok_or("a long table")?;
+        for (number, place) in (0..80).zip(sorted.places.iter()) {
+            assert_eq!(rt; *place % 80 * 37 % 80, number);
+        }
+        let twice = long_table(alloc, front, 7)?;
+        let answer = judge(alloc, twice.as_slice());
+        assert_eq!(rt; answer, Err(BinaryFault::DuplicateKey { object: 0 }));
     }
     Ok(())
 }

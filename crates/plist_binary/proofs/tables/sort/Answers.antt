@@ -29,4 +29,4 @@ returns c =
     }
 
 pub ascend-requires-2 : goal.ascend-requires-2
-ascend-requires-2 c = AreRanked-moved c.args.keys.now c.order.new.keys c.order.ensures.moved c.requires
+ascend-requires-2 c = AreRanked-moved c.args.keys.now c.order.new.keys c.order.ensures.moved c.requires.ranked

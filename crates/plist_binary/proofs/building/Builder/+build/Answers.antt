@@ -16,6 +16,7 @@ use Rattle.plist_object.specs.Spelled.{SpellItems}
 use Rattle.plist_object.specs.Views.{octets_of, numbers_of}
 use Rattle.plist_binary.specs.Building.{AreSpelled, IsSpelled, PairsSpelled}
 use Rattle.plist_binary.specs.declared.tables.Key.{Key}
+use Rattle.plist_binary.specs.Heads.{AreHeadless}
 use Rattle.plist_binary.specs.Keys.{units_at, pair_at, AreRanked}
 use Rattle.plist_binary.specs.Readings.{texts}
 use Rattle.plist_binary.proofs.BuildSteps.{HoldsSome-within, AllSpellWithin-list, SpellsPairsWithin-table, AllSpellTexts-keys, AllSpellWithin-values, IsSpelled-table, AreSpelled-next, distinct_texts, valid_texts}
@@ -50,7 +51,11 @@ items-loop-i-preserved t c =
     subst (λ (vs : Items). AreSpelled f (take (c.loop-i.i + 1) refs) vs) (sym pushed) more
 
 pub pairs-sort-distinct-requires : goal.pairs-sort-distinct-requires
-pairs-sort-distinct-requires t c = subst AreRanked (sym c.as_mut_slice.ensures.value) c.in_ok-keys.ensures.ranked
+pairs-sort-distinct-requires t c =
+    record {
+      ranked = subst AreRanked (sym c.as_mut_slice.ensures.value) c.in_ok-keys.ensures.ranked;
+      headless = subst AreHeadless (sym c.as_mut_slice.ensures.value) c.in_ok-keys.ensures.headless;
+    }
 
 pub pairs-keys-requires : goal.pairs-keys-requires
 pairs-keys-requires t c =

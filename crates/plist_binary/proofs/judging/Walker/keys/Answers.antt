@@ -1,4 +1,4 @@
-use Rattle.std.proofs.Common.{◌≡◌, ◌∷◌, ◌++◌, ◌+◌, [], ℕ, List, map, take, rules, subst, sym, ap, ◌∙◌, arith}
+use Rattle.std.proofs.Common.{◌≡◌, ◌∷◌, ◌++◌, ◌+◌, [], ℕ, List, map, take, rules, subst, sym, ap, ◌∙◌, arith, refl}
 use Rattle.std.specs.Prelude.{All}
 use Rattle.std.proofs.lemmas.List.{map-append}
 use Rattle.std.proofs.lemmas.List.Elements.{All-push}
@@ -8,6 +8,7 @@ use Rattle.plist_binary.specs.declared.fault.BinaryFault.TheVariants.{BadReferen
 use Rattle.plist_binary.specs.Paths.{containers_of}
 use Rattle.plist_ranks.specs.Ranks.{texts_of}
 use Rattle.plist_binary.specs.declared.tables.Key.{Key}
+use Rattle.plist_binary.specs.Heads.{AreHeadless}
 use Rattle.plist_binary.specs.Keys.{units_at, AreInPlace, IsRanked}
 use Rattle.plist_binary.specs.Readings.{ReadsItems, texts, RefusesKeys}
 use Rattle.plist_binary.proofs.LoopSteps.{ReadsKeys-next, RefusesKeys-next, RefusesKeys-none}
@@ -35,13 +36,14 @@ loop-i-preserved c =
     let refs = numbers_of c.args.refs in
     let ranks = c.args.self.now.ranks.now in
     let among = texts_of ranks in
-    let key : Key = record { text = c.in_ok-text.text; rank = c.get-rank.result; place = c.len-place.result } in
+    let key : Key = record { text = c.in_ok-text.text; rank = c.get-rank.result; place = c.len-place.result; head = 0 } in
     let read = ReadsKeys-next f refs c.loop-i.i c.in_ok-object.object c.args.levels c.args.left.now c.loop-i.left c.key.new.left (map units_at c.loop-i.keys.items) (units_of c.in_ok-text.text) (omega arith) (c.in_ok-object.ensures.same ∙ c.get.ensures) c.in_ok-object.ensures.below c.loop-i.invariant.read c.in_ok-text.ensures.read in
     let pushed : map units_at c.push.new.self.items ≡ map units_at c.loop-i.keys.items ++ units_of c.in_ok-text.text ∷ [] = ap (map units_at) c.in_ok-push.ensures.items ∙ map-append units_at c.loop-i.keys.items _ in
     record {
       read = subst (λ (keys : List (List ℕ)). ReadsItems f (take (c.loop-i.i + 1) refs) c.args.levels c.args.left.now (texts keys) c.key.new.left) (sym pushed) read;
       placed = subst AreInPlace (sym c.in_ok-push.ensures.items) (AreInPlace-push c.loop-i.keys.items _ (omega (arith, c.len-place.ensures, c.loop-i.keys.ok.0)) c.loop-i.invariant.placed);
       ranked = subst (λ (keys : List Key). All (IsRanked among) keys) (sym c.in_ok-push.ensures.items) (All-push (IsRanked among) c.loop-i.keys.items key c.loop-i.invariant.ranked (IsRanked-read f ranks c.in_ok-object.object key c.requires.ranked (c.get-rank.ensures) c.in_ok-text.ensures.read.spells));
+      headless = subst AreHeadless (sym c.in_ok-push.ensures.items) (All-push (λ (k : Key). k.head ≡ 0) c.loop-i.keys.items key c.loop-i.invariant.headless refl);
     }
 
 pub returns-clause-ranked : goal.returns-clause-ranked

@@ -2,6 +2,7 @@ use Rattle.std.proofs.Common.{take, map}
 use Rattle.std.specs.Prelude.{All}
 use Rattle.plist_object.specs.Views.{octets_of, numbers_of}
 use Rattle.plist_ranks.specs.Ranks.{texts_of}
+use Rattle.plist_binary.specs.Heads.{AreHeadless}
 use Rattle.plist_binary.specs.Keys.{units_at, AreInPlace, IsRanked}
 use Rattle.plist_binary.specs.Readings.{ReadsItems, texts}
 use Rattle.plist_binary.proofs.judging.Walker.keys.Given as goal
@@ -12,4 +13,5 @@ invariant-loop-i l =
       read : ReadsItems (octets_of l.self.file) (take l.i (numbers_of l.refs)) l.levels l.initial.left (texts (map units_at l.keys.items)) l.left;
       placed : AreInPlace l.keys.items;
       ranked : All (IsRanked (texts_of l.self.ranks.now)) l.keys.items;
+      headless : AreHeadless l.keys.items;
     }

@@ -1,0 +1,192 @@
+-- The heads of keys: how they are read, and that keys in their order are in the order of their texts.
+use Rattle.std.proofs.Common.{◌≡◌, ℕ, zero, suc, ◌+◌, ◌-◌, ◌*◌, ◌^◌, ◌<◌, ◌≤◌, List, [], ◌∷◌, ◌++◌, length, get_or, set, map, take, drop, sym, ap, ◌∙◌, subst, arith, inl, inr, refl, lt-ltb}
+use Rattle.std.proofs.Math.Nat.{pow-suc, mul-le-mul_left, one-le-pow}
+use Rattle.std.specs.Prelude.{All, true, false, ◌↔◌}
+use Rattle.std.specs.declared.cmp.Ordering.{Ordering}
+use Rattle.std.specs.declared.cmp.Ordering.TheVariants.{Less, Equal, Greater}
+use Rattle.std.specs.Ordering.{nat_cmp, on, is_lt, ordering_then, ordering_reverse}
+use Rattle.std.specs.Cmp.{nat_cmp_is}
+use Rattle.std.specs.Cmp.Lexicographic.{slice_cmp}
+use Rattle.std.specs.List.Sorted.{IsPermutation, IsSorted}
+use Rattle.std.proofs.lemmas.Bool.{cases_lt, true≢false}
+use Rattle.std.proofs.lemmas.Cmp.{nat_list_cmp_total}
+use Rattle.std.proofs.lemmas.List.{get_or-map, length-map, take-append-drop}
+use Rattle.std.proofs.lemmas.Map.Lookups.{exact_bytes}
+use Rattle.std.proofs.lemmas.List.Sorted.{IsPermutation-map, All-permutation}
+use Rattle.plist_ranks.proofs.Ranked.{less_from_lt}
+use Rattle.plist_binary.specs.declared.tables.Key.{Key}
+use Rattle.plist_binary.specs.Keys.{units_at}
+use Rattle.plist_binary.specs.Heads.{octet_of, behind, head_of, with_head, headless, IsHeaded, AreHeaded, AreHeadless}
+use Rattle.plist_binary.proofs.Monotone.{head_below, monotone, compared_behind}
+use Rattle.plist_binary.proofs.Ranking.{not_true, two}
+
+-- the keys up to i were changed, and now the next
+pub changed_more : (f : Key → Key) (i : ℕ) (before now : List Key) (next d : Key) → i < length before → now ≡ map f (take i before) ++ drop i before → next ≡ f (get_or now i d) → set now i next ≡ map f (take (i + 1) before) ++ drop (i + 1) before
+changed_more f i [] now next d within is next_is = absurd (omega arith)
+changed_more f zero (key ∷ before) now next d within is next_is =
+    let at : next ≡ f key = next_is ∙ ap (λ (ks : List Key). f (get_or ks 0 d)) is in
+    ap (λ (ks : List Key). set ks 0 next) is ∙ ap (λ (k : Key). k ∷ before) at
+changed_more f (suc i) (key ∷ before) now next d within is next_is =
+    let rest = map f (take i before) ++ drop i before in
+    let at : next ≡ f (get_or rest i d) = next_is ∙ ap (λ (ks : List Key). f (get_or ks (suc i) d)) is in
+    let more : set rest i next ≡ map f (take (i + 1) before) ++ drop (i + 1) before = changed_more f i before rest next d (omega arith) refl at in
+    let one : suc i + 1 ≡ suc (i + 1) = omega arith in
+    ap (λ (ks : List Key). set ks (suc i) next) is ∙ ap (λ (ks : List Key). f key ∷ ks) more ∙ ap (λ (n : ℕ). map f (take n (key ∷ before)) ++ drop n (key ∷ before)) (sym one)
+
+-- the key with another head
+pub with_head_is : (front : ℕ) (key : Key) (head : ℕ) → head ≡ head_of 8 (drop front (units_at key)) → record { text = key.text; rank = key.rank; place = key.place; head = head } ≡ with_head front key
+with_head_is front key head is =
+    ap (λ (n : ℕ). record { text = key.text; rank = key.rank; place = key.place; head = n }) is
+
+step_of : (a b c p h i whole : ℕ) → b ≡ c → i ≡ h → a * (p * 256) + (c * p + h) ≡ whole → (256 * a + b) * p + i ≡ whole
+step_of a b c p h i whole same other sum =
+    let e : (256 * a + b) * p ≡ a * (p * 256) + b * p = grind arith in
+    let f : b * p ≡ c * p = ap (λ n. n * p) same in
+    omega (arith, e, f, other, sum)
+
+-- an octet more of a head
+pub head_step : (left next octets octet head : ℕ) (units rest : List ℕ) → left ≡ suc next → octet ≡ octet_of units → rest ≡ behind units → octets * 256 ^ left + head_of left units ≡ head → (256 * octets + octet) * 256 ^ next + head_of next rest ≡ head
+head_step left next octets octet head units rest one is behind_is whole =
+    let p : 256 ^ suc next ≡ 256 ^ next * 256 = pow-suc 256 next in
+    let all : octets * 256 ^ suc next + head_of (suc next) units ≡ head = subst (λ (n : ℕ). octets * 256 ^ n + head_of n units ≡ head) one whole in
+    let first : octets * (256 ^ next * 256) + (octet_of units * 256 ^ next + head_of next (behind units)) ≡ head = ap (λ (n : ℕ). octets * n + head_of (suc next) units) (sym p) ∙ all in
+    step_of octets octet (octet_of units) (256 ^ next) (head_of next (behind units)) (head_of next rest) head is (ap (head_of next) behind_is) first
+
+-- the octet at a place, and what stands behind it
+pub octet_here : (octets : List ℕ) (place : ℕ) (d : ℕ) → place < length octets → get_or octets place d < 256 → (get_or octets place d ≡ octet_of (drop place octets)) × (drop (place + 1) octets ≡ behind (drop place octets))
+octet_here [] place d within small = absurd (omega arith)
+octet_here (octet ∷ octets) zero d within small = (rw (lt-ltb octet 256 small) refl, rw (lt-ltb octet 256 small) refl)
+octet_here (octet ∷ octets) (suc place) d within small =
+    let rest = octet_here octets place d (omega arith) small in
+    let one : suc place + 1 ≡ suc (place + 1) = omega arith in
+    (rest.0, ap (λ (n : ℕ). drop n (octet ∷ octets)) one ∙ rest.1)
+
+-- with one octet more the head still fits
+pub head_fits : (left next octets octet head : ℕ) (units : List ℕ) → left ≡ suc next → octet ≡ octet_of units → octets * 256 ^ left + head_of left units ≡ head → 256 * octets + octet ≤ head
+head_fits left next octets octet head units one is whole =
+    let one_at_least = one-le-pow next 256 (omega arith) in
+    let step = head_step left next octets octet head units (behind units) one is refl whole in
+    let m : (256 * octets + octet) * 1 ≤ (256 * octets + octet) * 256 ^ next = mul-le-mul_left (256 * octets + octet) one_at_least in
+    omega (arith, step, m)
+
+-- an octet more of the head of octets
+pub octets_step : (front i head octet : ℕ) (octets : List ℕ) → i < 8 → front + 8 ≤ length octets → get_or octets (front + i) 0 < 256 → octet ≡ get_or octets (front + i) 0 → head * 256 ^ (8 - i) + head_of (8 - i) (drop (front + i) octets) ≡ head_of 8 (drop front octets) → (256 * head + octet) * 256 ^ (8 - (i + 1)) + head_of (8 - (i + 1)) (drop (front + (i + 1)) octets) ≡ head_of 8 (drop front octets)
+octets_step front i head octet octets more within small is whole =
+    let here = octet_here octets (front + i) 0 (omega arith) small in
+    let next : front + (i + 1) ≡ front + i + 1 = omega arith in
+    head_step (8 - i) (8 - (i + 1)) head octet (head_of 8 (drop front octets)) (drop (front + i) octets) (drop (front + (i + 1)) octets) (omega arith) (is ∙ here.0) (ap (λ (n : ℕ). drop n octets) next ∙ here.1) whole
+
+pub octets_fit : (front i head octet : ℕ) (octets : List ℕ) → i < 8 → front + 8 ≤ length octets → get_or octets (front + i) 0 < 256 → octet ≡ get_or octets (front + i) 0 → head * 256 ^ (8 - i) + head_of (8 - i) (drop (front + i) octets) ≡ head_of 8 (drop front octets) → 256 * head + octet < 256 ^ 8
+octets_fit front i head octet octets more within small is whole =
+    let here = octet_here octets (front + i) 0 (omega arith) small in
+    let most = head_fits (8 - i) (8 - (i + 1)) head octet (head_of 8 (drop front octets)) (drop (front + i) octets) (omega arith) (is ∙ here.0) whole in
+    let below = head_below 8 (drop front octets) in
+    omega (arith, most, below)
+
+-- by heads, and by texts where two are equal
+abbrev by_head : Key → Key → Ordering
+by_head key next =
+    ordering_then (nat_cmp key.head next.head) (slice_cmp nat_cmp (units_at key) (units_at next))
+
+lower_head : (o p : Ordering) → o ≡ Less → is_lt (ordering_then o p) ≡ true
+lower_head o p less = ap (λ first. is_lt (ordering_then first p)) less
+
+level_head : (o p : Ordering) → o ≡ Equal → p ≡ Less → is_lt (ordering_then o p) ≡ true
+level_head o p equal less = ap (λ first. is_lt (ordering_then first p)) equal ∙ ap is_lt less
+
+-- what stands behind the shared units is compared
+compared : (front : ℕ) (first us vs : List ℕ) → take front us ≡ take front first → take front vs ≡ take front first → slice_cmp nat_cmp us vs ≡ slice_cmp nat_cmp (drop front us) (drop front vs)
+compared front first us vs shared_us shared_vs =
+    let whole_us : us ≡ take front first ++ drop front us = sym (take-append-drop front us) ∙ ap (λ (ws : List ℕ). ws ++ drop front us) shared_us in
+    let whole_vs : vs ≡ take front first ++ drop front vs = sym (take-append-drop front vs) ∙ ap (λ (ws : List ℕ). ws ++ drop front vs) shared_vs in
+    ap (λ (ws : List ℕ). slice_cmp nat_cmp ws vs) whole_us ∙ ap (λ (ws : List ℕ). slice_cmp nat_cmp (take front first ++ drop front us) ws) whole_vs ∙ compared_behind (take front first) (drop front us) (drop front vs)
+
+-- of two texts the lower has no higher head
+no_higher : (front : ℕ) (first : List ℕ) (key next : Key) → IsHeaded front first key → IsHeaded front first next → slice_cmp nat_cmp (units_at key) (units_at next) ≡ Less → key.head ≤ next.head
+no_higher front first key next is is_next less =
+    let rest = sym (compared front first (units_at key) (units_at next) is.0 is_next.0) ∙ less in
+    let most = monotone 8 (drop front (units_at key)) (drop front (units_at next)) rest in
+    omega (arith, most, is.1, is_next.1)
+
+-- a text that is lower goes first by its head too
+lower_first : (front : ℕ) (first : List ℕ) (key next : Key) → IsHeaded front first key → IsHeaded front first next → slice_cmp nat_cmp (units_at key) (units_at next) ≡ Less → is_lt (by_head key next) ≡ true
+lower_first front first key next is is_next less =
+    let most = no_higher front first key next is is_next less in
+    let p = slice_cmp nat_cmp (units_at key) (units_at next) in
+    elim (cases_lt key.head next.head) [
+      | inl below ↦ lower_head (nat_cmp key.head next.head) p (sym (nat_cmp_is key.head next.head Less below))
+      | inr above ↦ (
+          let same : key.head ≡ next.head = omega (arith, above, most) in
+          level_head (nat_cmp key.head next.head) p (sym (nat_cmp_is key.head next.head Equal same)) less)
+    ]
+
+are_headed : (front : ℕ) (first : List ℕ) (keys : List Key) → All (λ key. take front (units_at key) ≡ take front first) keys → All (IsHeaded front first) (map (with_head front) keys)
+are_headed front first keys shared k d within =
+    let h : k < length keys = omega (arith, within, length-map keys (with_head front)) in
+    subst (IsHeaded front first) (sym (get_or-map (with_head front) keys k d d h)) (shared k d h, refl)
+
+-- keys in the order of their heads are in the order of their texts
+pub sorted_from_heads : (front : ℕ) (first : List ℕ) (before after : List Key) → All (λ key. take front (units_at key) ≡ take front first) before → IsPermutation (map (with_head front) before) after → IsSorted by_head after → IsSorted (on units_at (slice_cmp nat_cmp)) (map headless after)
+sorted_from_heads front first before after shared moved sorted k d low high =
+    let within : k + 1 < length after = omega (arith, high, length-map after headless) in
+    let headed = All-permutation (IsHeaded front first) (map (with_head front) before) after moved (are_headed front first before shared) in
+    let key = get_or after k d in
+    let next = get_or after (k + 1) d in
+    let here : get_or (map headless after) k d ≡ headless key = get_or-map headless after k d d (omega arith) in
+    let there : get_or (map headless after) (k + 1) d ≡ headless next = get_or-map headless after (k + 1) d d within in
+    let order : is_lt (slice_cmp nat_cmp (units_at next) (units_at key)) ≡ false = not_true (is_lt (slice_cmp nat_cmp (units_at next) (units_at key))) (λ lower.
+    let wrong = lower_first front first next key (headed (k + 1) d within) (headed k d (omega arith)) (less_from_lt (slice_cmp nat_cmp (units_at next) (units_at key)) lower) in
+    true≢false (sym wrong ∙ sorted k d low within)) in
+    ap (λ (key : Key). is_lt (slice_cmp nat_cmp (units_at key) (units_at (get_or (map headless after) k d)))) there ∙ ap (λ (key : Key). is_lt (slice_cmp nat_cmp (units_at next) (units_at key))) here ∙ order
+
+headless_again : (front : ℕ) (keys : List Key) → AreHeadless keys → map headless (map (with_head front) keys) ≡ keys
+headless_again front [] none = refl
+headless_again front (key ∷ keys) none =
+    let first : headless (with_head front key) ≡ key = ap (λ (n : ℕ). record { text = key.text; rank = key.rank; place = key.place; head = n }) (sym (none 0 key (omega arith))) in
+    ap (λ (k : Key). k ∷ map headless (map (with_head front) keys)) first ∙ ap (λ (ks : List Key). key ∷ ks) (headless_again front keys (λ k d within. none (suc k) d (omega arith)))
+
+-- the keys have moved, and nothing else
+pub moved_by_heads : (front : ℕ) (before after : List Key) → AreHeadless before → IsPermutation (map (with_head front) before) after → IsPermutation before (map headless after)
+moved_by_heads front before after none moved =
+    subst (λ (ks : List Key). IsPermutation ks (map headless after)) (headless_again front before none) (IsPermutation-map headless (map (with_head front) before) after moved)
+
+-- the heads of keys in another order
+pub headed_moved : (front : ℕ) (first : List ℕ) (before after : List Key) → All (λ key. take front (units_at key) ≡ take front first) before → IsPermutation (map (with_head front) before) after → AreHeaded after
+headed_moved front first before after shared moved = record {
+  front = front;
+  first = first;
+  each = All-permutation (IsHeaded front first) (map (with_head front) before) after moved (are_headed front first before shared);
+}
+
+-- two of the keys
+pub headed_two : (keys : List Key) (i j : ℕ) (d e : Key) → i < length keys → j < length keys → AreHeaded keys → AreHeaded (get_or keys i d ∷ get_or keys j e ∷ [])
+headed_two keys i j d e first second are = record {
+  front = are.front;
+  first = are.first;
+  each = two (IsHeaded are.front are.first) (get_or keys i d) (get_or keys j e) (are.each i d first) (are.each j e second);
+}
+
+-- the texts are those of the keys without heads
+pub units_headless : (keys : List Key) → map units_at (map headless keys) ≡ map units_at keys
+units_headless [] = refl
+units_headless (key ∷ keys) = ap (λ (us : List (List ℕ)). units_at key ∷ us) (units_headless keys)
+
+-- of two texts in whichever order the lower has no higher head
+not_lower : (front : ℕ) (first : List ℕ) (key next : Key) (o : Ordering) → IsHeaded front first key → IsHeaded front first next → slice_cmp nat_cmp (units_at key) (units_at next) ≡ o → key.head < next.head → o ≡ Less
+not_lower front first key next Less is is_next order below = refl
+not_lower front first key next Equal is is_next order below =
+    absurd (let same = exact_bytes (units_at key) (units_at next) order in let heads : head_of 8 (drop front (units_at key)) ≡ head_of 8 (drop front (units_at next)) = ap (λ (us : List ℕ). head_of 8 (drop front us)) same in omega (arith, below, heads, is.1, is_next.1))
+not_lower front first key next Greater is is_next order below =
+    absurd (let less : slice_cmp nat_cmp (units_at next) (units_at key) ≡ Less = nat_list_cmp_total.antisymm (units_at next) (units_at key) ∙ ap ordering_reverse order in let most = no_higher front first next key is_next is less in omega (arith, below, most))
+
+-- two keys of different heads compare by these
+pub below_by_heads : (key next : Key) → AreHeaded (key ∷ next ∷ []) → (key.head ≡ next.head → ⊥) → (key.head < next.head) ↔ (slice_cmp nat_cmp (units_at key) (units_at next) ≡ Less)
+below_by_heads key next are apart =
+    let is = are.each 0 key (omega arith) in
+    let is_next = are.each 1 key (omega arith) in (
+      λ below. not_lower are.front are.first key next (slice_cmp nat_cmp (units_at key) (units_at next)) is is_next refl below,
+      λ less. elim (cases_lt key.head next.head) [
+        | inl below ↦ below
+        | inr above ↦ (let most = no_higher are.front are.first key next is is_next less in absurd (apart (omega (arith, above, most))))
+      ],
+    )

@@ -1,0 +1,25 @@
+use Rattle.std.proofs.Common.{◌+◌, ◌-◌, ◌*◌, ◌^◌, ◌<◌, drop, arith}
+use Rattle.plist_value.specs.Texts.{units_of}
+use Rattle.plist_binary.specs.Heads.{head_of}
+use Rattle.plist_binary.proofs.HeadSteps.{head_step, head_fits}
+use Rattle.plist_binary.proofs.Monotone.{head_below}
+use Rattle.plist_binary.proofs.heads.units_head.Goals as goal
+
+pub loop-read-preserved : goal.loop-read-preserved
+loop-read-preserved c =
+    head_step (8 - c.loop-read.read) (8 - (c.loop-read.read + 1)) c.loop-read.head c.octet_at-octet.result.0 (head_of 8 (drop c.args.front (units_of c.args.text.now))) (drop c.loop-read.place (units_of c.args.text.now)) (drop c.octet_at-octet.result.1 (units_of c.args.text.now)) (omega arith) c.octet_at-octet.ensures.octet c.octet_at-octet.ensures.next c.loop-read.invariant
+
+-- what was read, with an octet more, is below 2^64
+fits : (c : goal.After-octet_at-octet) → 256 * c.loop-read.head + c.octet_at-octet.result.0 < 256 ^ 8
+fits c =
+    let units = units_of c.args.text.now in
+    let whole = head_of 8 (drop c.args.front units) in
+    let most = head_fits (8 - c.loop-read.read) (8 - (c.loop-read.read + 1)) c.loop-read.head c.octet_at-octet.result.0 whole (drop c.loop-read.place units) (omega arith) c.octet_at-octet.ensures.octet c.loop-read.invariant in
+    let below = head_below 8 (drop c.args.front units) in
+    omega (arith, most, below)
+
+pub overflow_mul-head : goal.overflow_mul-head
+overflow_mul-head c = let below = fits c in omega (arith, below)
+
+pub overflow_add-head : goal.overflow_add-head
+overflow_add-head c = let below = fits c in omega (arith, below)
