@@ -1,4 +1,4 @@
-use Rattle.std.proofs.Common.{◌≡◌, [], ◌∷◌, ◌++◌, nat_cmp, sym, ap, ◌∙◌, subst, append_assoc}
+use Rattle.std.proofs.Common.{◌≡◌, [], ◌∷◌, ◌++◌, nat_cmp, refl, sym, ap, ◌∙◌, subst, append_assoc}
 use Rattle.std.specs.Cmp.Lexicographic.{slice_cmp}
 use Rattle.std.specs.List.Sorted.{IsStrictlySortedBy}
 use Rattle.std.specs.Map.{keys_of}
@@ -19,3 +19,6 @@ copy_pairs-loop-key-preserved t c =
       all ∙ sym (append_assoc done (e ∷ []) left),
       ap view_pairs c.in_ok-insert.ensures.entries ∙ view_pairs-insert_entry l.copies.entries c.in_ok-key.key c.in_ok-copy.field-0 ∙ rw (key, c.in_ok-copy.ensures, l.invariant.2) last,
     )
+
+pub copy-returns-in-Moment : goal.copy-returns-in-Moment
+copy-returns-in-Moment t c = rw c.in-Moment.is refl

@@ -1,0 +1,5 @@
+use Rattle.std.proofs.Common.{refl}
+use Rattle.plist_devices.proofs.writer_sink.WriterSink.new.Goals as goal
+
+pub returns-clause-failures : goal.returns-clause-failures
+returns-clause-failures g c = refl
