@@ -21,7 +21,7 @@ import tempfile
 import time
 
 import refused
-from hostile import joined
+from hostile import head, joined, number as octets_of
 
 MOST = 2_000
 BEFORE = b"as it was"
@@ -41,6 +41,13 @@ INPUTS = {
     "cycle.bin": joined([b"\xa1\x00"], 1),
     "same-keys.bin": joined([b"\xd2\x01\x02\x03\x03", b"Qa", b"Qa", b"\x09"], 1),
     "short.bin": b"bplist00",
+    # More keys than are sorted by their texts alone, and of which the order is kept; more numbers than a set has
+    # without more room, of which some stand twice; long data.
+    "seventy.bin": joined([head(0xD0, 70) + bytes([*range(70, 0, -1)]) + bytes([71]) * 70,
+                           *(b"\x54k%03d" % key for key in range(70)), b"\x09"], 1),
+    "numbers.bin": joined([head(0xA0, 6_000) + b"".join(octets_of(1 + place % 5_000, 2) for place in range(6_000)),
+                           *(b"\x11" + octets_of(place, 2) for place in range(5_000))], 2),
+    "long.bin": joined([b"\xa2\x01\x02", *[head(0x40, 80_000) + bytes(80_000)] * 2], 1),
 }
 
 WORDS = [["convert", "binary1", "IN", "out"], ["convert", "openstep", "IN", "out"], ["lint", "IN"], ["check", "IN"],
@@ -70,7 +77,9 @@ class Refusing:
 def is_wanting(ending, ample, path):
     """Whether the run ended for want of memory, having sent as many octets of the ample output as it says."""
     status, output, written = ending
-    line = re.search(rb"(?:(?P<path>[^\n]*): )?refused 60 OutOfMemory(?: after (?P<sent>\d+) octets)?\n$", output)
+    # (the octets that went out before the line need not end with a newline)
+    named = rb"[^\n]*" if path is None else re.escape(path)
+    line = re.search(rb"(?:" + named + rb": )?refused 60 OutOfMemory(?: after (?P<sent>\d+) octets)?\n$", output)
     if status != 5 or line is None:
         return False
     sent = int(line["sent"] or 0)
@@ -103,7 +112,9 @@ def refuse_in_program(program, refusing):
             endings[kind][told] += 1
             if told == "otherwise":
                 wrong += 1
-                print(f"{words[1:]}, {octets!r}, allocation {number}: {ending}, {complaint[-200:]!r}", flush=True)
+                status, *outputs = ending
+                print(f"{words[1:]}, {octets[:80]!r}, allocation {number}: {status}, {[it[-200:] for it in outputs]}, "
+                      f"{complaint[-200:]!r}", flush=True)
     for kind, counts in endings.items():
         print(f"{kind}: " + ", ".join(f"{runs} runs ended {told}" for told, runs in sorted(counts.items())), flush=True)
     return wrong
