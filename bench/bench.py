@@ -119,9 +119,12 @@ class Targets:
             self.line(f"{name}: memory of the input's", found[OURS][1] / octets, most)
 
     def growth(self, name):
+        """How many times as long 16 times the octets take. A file of 16 times as many items may have more octets
+        than that, since its references and offsets are wider."""
         if (name, 1 / 16) in self.figures and (name, 1) in self.figures:
-            small, whole = (self.figures[name, scale][1][OURS][0] for scale in (1 / 16, 1))
-            self.line(f"{name}: time of that of a sixteenth", whole / max(small, 1e-6), 18)
+            small, whole = (self.figures[name, scale] for scale in (1 / 16, 1))
+            longer = whole[1][OURS][0] / max(small[1][OURS][0], 1e-6)
+            self.line(f"{name}: time of that of a sixteenth of the octets", longer * 16 * small[0] / whole[0], 18)
 
 
 def targets(figures):
