@@ -18,8 +18,10 @@ use plist_engine::write_canonical_of_sorted;
 use plist_files::{Fault, Form, MAX_INPUT, begins_as_binary, load};
 use plist_object::BinFile;
 use plist_ranks::SortedKeys;
+use plist_value::Value;
 use plist_write::write_canonical;
 use std::alloc::Global;
+use std::mem::forget;
 
 /// Loads a property list from the source, in either form, and sends its value to the sink: as the canonical
 /// file, or as the OpenStep text. Answers how many octets were sent.
@@ -82,24 +84,73 @@ pub fn convert_octets<W: Sink>(
     ensures untouched { IfErr result (λ fault. IsBeforePut fault → to.new ≡ to.old) }
     ensures same { W.device to.new ≡ W.device to.old }
 {
-    match form {
-        Form::Binary1 => write_binary1(alloc, octets, to),
-        Form::OpenStep => write_openstep(alloc, octets, to),
-    }
+    let (_value, sent) = write_octets(alloc, octets, to, form);
+    sent
 }
 
-// The canonical file of what the octets spell. They are given up where they are a text.
-fn write_binary1<W: Sink>(alloc: Global, octets: Vec<u8>, to: &mut W) -> Result<u64, Fault>
-    ensures writes { Writes Form.Binary1 octets.items (W.taken to.old) (W.taken to.new)
+/// [`convert_octets`] for a program that ends next: the value that was read of a text whose canonical file was
+/// asked for is not given back, and its memory stays taken until the program ends, when all of it is given back
+/// at once. A program that goes on calls [`convert_octets`].
+///
+/// # Errors
+///
+/// Those of [`convert_octets`].
+pub fn convert_octets_at_end<W: Sink>(
+    alloc: Global,
+    octets: Vec<u8>,
+    to: &mut W,
+    form: Form,
+) -> Result<u64, Fault>
+    ensures writes { Writes form octets.items (W.taken to.old) (W.taken to.new)
         (W.failures to.old) (W.failures to.new) result }
     ensures untouched { IfErr result (λ fault. IsBeforePut fault → to.new ≡ to.old) }
     ensures same { W.device to.new ≡ W.device to.old }
 {
-    if begins_as_binary(octets.as_slice()) {
-        return write_file(alloc, octets.as_slice(), to);
+    let (value, sent) = write_octets(alloc, octets, to, form);
+    forget(value);
+    sent
+}
+
+// What is answered for the octets, beside the value that was read of a text whose canonical file was asked for.
+fn write_octets<W: Sink>(
+    alloc: Global,
+    octets: Vec<u8>,
+    to: &mut W,
+    form: Form,
+) -> (Option<Value>, Result<u64, Fault>)
+    ensures writes { Writes form octets.items (W.taken to.old) (W.taken to.new)
+        (W.failures to.old) (W.failures to.new) result.1 }
+    ensures untouched { IfErr result.1 (λ fault. IsBeforePut fault → to.new ≡ to.old) }
+    ensures same { W.device to.new ≡ W.device to.old }
+{
+    match form {
+        Form::Binary1 => write_binary1(alloc, octets, to),
+        Form::OpenStep => (None, write_openstep(alloc, octets, to)),
     }
-    let value = value_of(alloc, octets)?;
-    Ok(write_canonical(alloc, &value, to)?)
+}
+
+// The canonical file of what the octets spell, beside the value that was read. They are given up where they are
+// a text.
+fn write_binary1<W: Sink>(
+    alloc: Global,
+    octets: Vec<u8>,
+    to: &mut W,
+) -> (Option<Value>, Result<u64, Fault>)
+    ensures writes { Writes Form.Binary1 octets.items (W.taken to.old) (W.taken to.new)
+        (W.failures to.old) (W.failures to.new) result.1 }
+    ensures untouched { IfErr result.1 (λ fault. IsBeforePut fault → to.new ≡ to.old) }
+    ensures same { W.device to.new ≡ W.device to.old }
+{
+    if begins_as_binary(octets.as_slice()) {
+        return (None, write_file(alloc, octets.as_slice(), to));
+    }
+    match value_of(alloc, octets) {
+        Ok(value) => {
+            let sent = write_canonical(alloc, &value, to).map_err(Fault::from);
+            (Some(value), sent)
+        }
+        Err(fault) => (None, Err(fault)),
+    }
 }
 
 // The canonical file of what a binary file spells.

@@ -6,4 +6,4 @@ mod converting;
 mod sending;
 mod texts;
 
-pub use converting::{convert, convert_octets};
+pub use converting::{convert, convert_octets, convert_octets_at_end};
