@@ -1,5 +1,5 @@
 -- What storing a file leaves.
-use Rattle.std.proofs.Common.{ap, arith, refl, sym, Err, List, None, Ok, Option, Result, Some, [], ◌∷◌, ℕ, inl, inr, ◌∙◌, ◌≡◌, ◌⊎◌}
+use Rattle.std.proofs.Common.{ap, arith, sym, Err, List, Ok, Option, Result, Some, [], ◌∷◌, ℕ, inl, inr, ◌∙◌, ◌≡◌, ◌⊎◌}
 use Rattle.std.specs.Prelude.{◌≢◌, ◌≤◌, MatchResult, cond, false, length, option_map, take, true}
 use Rattle.std.specs.Bool.{◌==◌}
 use Rattle.std.specs.Result.{is_ok}

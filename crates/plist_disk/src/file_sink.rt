@@ -1,51 +1,62 @@
-//! A file of the host as a sink, which is not touched before its first octet.
-ghost use Rattle.std.specs.Prelude.{◌≡◌, ◌<◌, ◌≤◌, IfOk, length};
+//! A file of the host as a sink.
+ghost use Rattle.std.specs.Prelude.{◌≡◌};
 
+use crate::host_file::HostFile;
 use plist_devices::{DeviceFault, Sink};
-use std::fs;
-use std::io::Write;
+use plist_files::Fault;
+use std::alloc::Global;
+use std::io::{BufWriter, Write};
 use std::rt::Files;
 
-/// The file at a path, which is created or emptied at the first put. Where it cannot be, or a write fails or
-/// takes nothing, the put fails.
+/// So many octets are gathered before they are written: a write of 4,096 octets costs several times as much for
+/// each of them.
+const GATHERED: usize = 262_144;
+
+/// The file at a path, to which the pieces go in long writes. A put fails where the write that it makes room by
+/// does, or takes nothing.
 #[derive(Drop)]
 pub(crate) struct FileSink<'a, R: Files> {
-    rt: &'a R,
-    path: &'a str,
-    device: Option<R::File>,
+    writer: BufWriter<HostFile<'a, R>>,
     failures: u64,
 }
 
 impl<'a, R: Files> FileSink<'a, R> {
-    ghost use Rattle.plist_disk.specs.FileSink.{failures_of};
+    ghost use Rattle.plist_disk.specs.FileSink.{failures_of, Finishes};
 
-    /// The file at the path, as yet untouched.
-    pub(crate) fn new(rt: &'a R, path: &'a str) -> FileSink<'a, R>
+    /// The file at the path, as yet untouched. Where there is no memory to gather octets, each piece is a write.
+    pub(crate) fn new(rt: &'a R, alloc: Global, path: &'a str) -> FileSink<'a, R>
         ensures { failures_of result ≡ 0 }
     {
+        let writer = match BufWriter::with_capacity(alloc, GATHERED, HostFile::new(rt, path)) {
+            Ok(writer) => writer,
+            Err(_) => BufWriter::with_capacity(alloc, 0, HostFile::new(rt, path)).unwrap(),
+        };
         FileSink {
-            rt,
-            path,
-            device: None,
+            writer,
             failures: 0,
         }
     }
 
-    /// Some of the piece, to the file, which is created or emptied where this is its first.
-    fn write(&mut self, piece: &[u8]) -> Result<usize, DeviceFault>
-        ensures within { IfOk result (λ taken. taken ≤ length piece.now) }
-        ensures some { IfOk result (λ taken. 0 < length piece.now → 0 < taken) }
-        ensures failures { failures_of self.new ≡ failures_of self.old }
+    /// What is answered after this was, when so much was put: all that was gathered is written. Where that
+    /// fails, or a put did, the answer tells how many octets stand in the file.
+    pub(crate) fn finish(self, sent: Result<u64, Fault>) -> Result<u64, Fault>
+        ensures { Finishes sent result }
     {
-        if self.device.is_none() {
-            self.device = fs::create(self.rt, self.path).ok();
-        }
-        let Some(device) = &mut self.device else {
-            return Err(DeviceFault);
+        let mut writer = self.writer;
+        let flushed = match sent {
+            Ok(_) => writer.flush().is_ok(),
+            Err(_) => false,
         };
-        match device.write(piece) {
-            Ok(taken) if taken > 0 || piece.is_empty() => Ok(taken),
-            _ => Err(DeviceFault),
+        let (file, _) = writer.into_parts();
+        match sent {
+            Ok(count) if flushed => Ok(count),
+            Ok(count) | Err(Fault::WriteFailed { sent: count }) => Err(Fault::WriteFailed {
+                sent: file.written.min(count),
+            }),
+            Err(Fault::OutOfMemory { sent: count }) => Err(Fault::OutOfMemory {
+                sent: file.written.min(count),
+            }),
+            Err(fault) => Err(fault),
         }
     }
 }
@@ -64,11 +75,13 @@ impl<R: Files> Sink for FileSink<'_, R> {
         if self.failures == u64::MAX {
             return Err(DeviceFault);
         }
-        let taken = self.write(piece);
-        if taken.is_err() {
-            self.failures += 1;
+        match self.writer.write(piece) {
+            Ok(taken) if taken > 0 || piece.is_empty() => Ok(taken),
+            _ => {
+                self.failures += 1;
+                Err(DeviceFault)
+            }
         }
-        taken
     }
 
     fn failures(&self) -> u64 {

@@ -97,9 +97,11 @@ impl<R: Files> Disk for HostDisk<'_, R> {
         octets: Vec<u8>,
         form: Form,
     ) -> Result<u64, Fault> {
-        let sent = self.convert(alloc, octets, &mut FileSink::new(self.rt, path), form);
-        self.failures = failures_after(self.failures, &sent);
-        sent
+        let mut sink = FileSink::new(self.rt, alloc, path);
+        let sent = self.convert(alloc, octets, &mut sink, form);
+        let stored = sink.finish(sent);
+        self.failures = failures_after(self.failures, &stored);
+        stored
     }
 
     fn failures(&self) -> u64 {

@@ -4,6 +4,7 @@
 pub mod disks;
 mod file_sink;
 pub mod host_disk;
+mod host_file;
 pub mod memory_disk;
 
 pub use disks::Disk;
