@@ -44,6 +44,29 @@ pub fn run<R: Files, I: Read, O: Write>(
     )
 }
 
+/// [`run`] for a program that ends next: the value that a conversion reads of a text is not given back, and its
+/// memory stays taken until the program ends, when all of it is given back at once. It is what `main` calls; a
+/// program that goes on calls [`run`].
+pub fn run_to_end<R: Files, I: Read, O: Write>(
+    rt: &R,
+    alloc: Global,
+    words: &[&str],
+    input: &mut I,
+    output: &mut O,
+) -> u8
+    // It is a run over a disk that tells nothing, whose devices and streams failed so many times.
+    ensures { (disk_failed : ℕ) × (print_failed : ℕ) × (rest : Input)
+        × IsRun (map (λ word. word.now) words.now)
+        (input_of (I.remaining input.old) 0) rest
+        (state None 0 (O.contents output.old) 0)
+        (state None disk_failed (O.contents output.new) print_failed) result }
+{
+    let mut disk = HostDisk::at_end(rt);
+    let mut source = ReaderSource::new(input);
+    let mut sink = Stream::new(output);
+    run_on(alloc, &mut disk, words, &mut source, &mut sink)
+}
+
 /// The whole program over any disk and streams, as [`run`] over the files of the host.
 pub fn run_on<D: Disk, S: Source, W: Sink>(
     alloc: Global,

@@ -9,4 +9,4 @@ mod printing;
 mod verdicts;
 mod words;
 
-pub use entry::{run, run_on};
+pub use entry::{run, run_on, run_to_end};
