@@ -5,6 +5,7 @@ use Rattle.plist_object.specs.Objects.{Held, holds_scalar, holds_list, holds_tab
 use Rattle.plist_object.specs.Places.{what_holds}
 use Rattle.plist_object.specs.Shortest.{spelling_of}
 use Rattle.plist_engine.specs.Spelling.{IsRead}
+use Rattle.plist_engine.specs.declared.plan.Objects.{Objects}
 
 -- what was read, an empty list where it does not read
 abbrev pub held_or_none : Result Held ObjectFault → Held
@@ -42,3 +43,7 @@ AreSound f (i ∷ originals) refs =
 -- the octets of each object
 abbrev pub octets_for : ℕ → List ℕ → List ℕ → List ℕ → List (List ℕ)
 octets_for width f originals refs = map (spelling_of width) (helds_of f originals refs)
+
+-- the octets of each of these objects
+abbrev pub octets_planned : ℕ → List ℕ → Objects → List (List ℕ)
+octets_planned width f objects = octets_for width f objects.originals.items objects.references.items

@@ -14,8 +14,8 @@ use plist_write::Part;
 pub(crate) fn part_of<'a, 'b>(
     file: &BinFile<'a>,
     object: u64,
-    numbers: &'b [u64],
-) -> (Part<'a, 'b>, &'b [u64])
+    numbers: &'b [u32],
+) -> (Part<'a, 'b>, &'b [u32])
     requires read { IsRead (octets_of file.now) object }
     requires numbers { reference_count (held_at (octets_of file.now) object)
         ≤ length numbers.now }

@@ -14,14 +14,15 @@ use crate::order::{KeyOrder, push_all};
 use crate::scalars::Scalars;
 use plist_object::{BinFile, Refs};
 use plist_value::{MAX_NODES, ScalarRef};
+use plist_write::short;
 use std::alloc::{AllocError, Global};
 
 /// The objects of a canonical file: for each number the object of the file that holds what stands there, and
 /// the references of all containers, container after container.
 #[derive(Drop)]
 pub(crate) struct Objects {
-    pub(crate) originals: Vec<u64>,
-    pub(crate) references: Vec<u64>,
+    pub(crate) originals: Vec<u32>,
+    pub(crate) references: Vec<u32>,
 }
 
 /// Stands for the number of an object that has none yet.
@@ -90,26 +91,15 @@ impl<'a> Plan<'a> {
         Ok(number)
     }
 
-    /// The objects alone; the scalars and the memo are given up first.
-    pub(crate) fn into_objects(self, alloc: Global) -> Result<Objects, AllocError>
-        ensures originals { IfOk result (λ objects. objects.originals.items
-            ≡ self.entry.originals.items) }
-        ensures references { IfOk result (λ objects. objects.references.items
-            ≡ self.entry.references.items) }
+    /// The objects alone; the scalars and the memo are given up.
+    pub(crate) fn into_objects(self) -> Objects
+        ensures originals { result.originals ≡ self.entry.originals }
+        ensures references { result.references ≡ self.entry.references }
     {
-        let Plan {
-            scalars,
-            memo,
-            originals,
-            references,
-            ..
-        } = self;
-        drop(scalars);
-        drop(memo);
-        Ok(Objects {
-            originals: wide(alloc, originals)?,
-            references: wide(alloc, references)?,
-        })
+        Objects {
+            originals: self.originals,
+            references: self.references,
+        }
     }
 
     // The number of the scalar that the object holds: that of an equal one, or a new one.
@@ -184,23 +174,4 @@ fn remember(memo: &mut Vec<u32>, count: u64, object: u64, number: u32) -> Result
         memo[place] = number;
     }
     Ok(())
-}
-
-/// The number in 32 bits. No number of a value within the limits passes them, nor that of an object of a file
-/// that is within the limit of input.
-pub(crate) fn short(number: u64) -> Result<u32, AllocError>
-    ensures { IfOk result (λ short. short ≡ number) }
-{
-    u32::try_from(number).map_err(|_| AllocError)
-}
-
-// The numbers in 64 bits.
-fn wide(alloc: Global, numbers: Vec<u32>) -> Result<Vec<u64>, AllocError>
-    ensures { IfOk result (λ wide. wide.items ≡ numbers.items) }
-{
-    let mut wide = Vec::with_capacity(alloc, numbers.len())?;
-    for number in &numbers {
-        wide.push(u64::from(*number))?;
-    }
-    Ok(wide)
 }

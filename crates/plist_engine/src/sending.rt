@@ -1,5 +1,5 @@
 //! The canonical file of the value that a file spells, sent in pieces.
-ghost use Rattle.std.specs.Prelude.{◌≡◌, ◌+◌, ◌<◌, ◌-◌, ◌^◌, [], length, All, OnOk};
+ghost use Rattle.std.specs.Prelude.{◌≡◌, ◌+◌, ◌<◌, ◌-◌, ◌^◌, [], length, IfOk};
 ghost use Rattle.std.specs.List.{concat};
 ghost use Rattle.plist_value.specs.Plist.{Plist};
 ghost use Rattle.plist_object.specs.Sizes.{IsWidth};
@@ -10,7 +10,7 @@ ghost use Rattle.plist_ranks.specs.Order.{AreSortedIfAny};
 ghost use Rattle.plist_write.specs.Canonical.{canon, file_of, starts};
 ghost use Rattle.plist_write.specs.Pieces.{CanSpellAll};
 ghost use Rattle.plist_write.specs.Sending.{IsWritten, Sends};
-ghost use Rattle.plist_engine.specs.Parts.{AreSound, helds_of, octets_for};
+ghost use Rattle.plist_engine.specs.Parts.{AreSound, helds_of, octets_planned};
 ghost use Rattle.plist_write.specs.Pending.{Goes};
 
 use crate::parts::part_of;
@@ -81,62 +81,59 @@ fn send_file<W: Sink>(
         objects.originals.items objects.references.items }
     requires spellable { CanSpellAll (least_width (length objects.originals.items))
         (helds_of (octets_of file.now) objects.originals.items objects.references.items) }
-    requires short { length (file_of (octets_for (least_width (length objects.originals.items))
-        (octets_of file.now) objects.originals.items objects.references.items)) < 2 ^ 64 }
-    ensures sends { Sends (file_of (octets_for (least_width (length objects.originals.items))
-        (octets_of file.now) objects.originals.items objects.references.items))
+    requires short { length (file_of (octets_planned (least_width (length objects.originals.items))
+        (octets_of file.now) objects)) < 2 ^ 64 }
+    ensures sends { Sends (file_of (octets_planned (least_width (length objects.originals.items))
+        (octets_of file.now) objects))
         0 (W.taken out.old) (W.taken out.new)
         (W.failures out.old) (W.failures out.new) result }
     ensures same { W.device out.new ≡ W.device out.old }
 {
-    let Objects {
-        originals,
-        references,
-    } = objects;
-    let mut places = originals;
     let Ok(octets) = Vec::from_slice(alloc, &HEADER) else {
         return Err(WriteFault::OutOfMemory { sent: 0 });
     };
     let mut pending = Pending { octets, sent: 0 };
-    let width = width_of(places.len() as u64);
-    send_objects(file, width, &mut places, &references, &mut pending, out)?;
+    let width = width_of(objects.originals.len() as u64);
+    let places = send_objects(alloc, file, width, &objects, &mut pending, out)?;
+    drop(objects);
     send_end(&places, &mut pending, out)
 }
 
-// The objects one after another, of which each gives way to its place in the file.
+// The objects one after another, and their places in the file.
 fn send_objects<W: Sink>(
+    alloc: Global,
     file: &BinFile,
     width: u8,
-    originals: &mut Vec<u64>,
-    references: &[u64],
+    objects: &Objects,
     pending: &mut Pending,
     out: &mut W,
-) -> Result<(), WriteFault>
+) -> Result<Vec<u64>, WriteFault>
     requires width { IsWidth width }
-    requires sound { AreSound (octets_of file.now) originals.old.items references.now }
+    requires sound { AreSound (octets_of file.now)
+        objects.now.originals.items objects.now.references.items }
     requires spellable { CanSpellAll width
-        (helds_of (octets_of file.now) originals.old.items references.now) }
+        (helds_of (octets_of file.now) objects.now.originals.items objects.now.references.items) }
     requires room { pending.old.sent + (length pending.old.octets.items
-        + length (concat
-        (octets_for width (octets_of file.now) originals.old.items references.now)))
-        < 2 ^ 64 - 8 }
-    ensures goes { Goes
-        (concat (octets_for width (octets_of file.now) originals.old.items references.now))
+        + length (concat (octets_planned width (octets_of file.now) objects.now))) < 2 ^ 64 - 8 }
+    ensures goes { Goes (concat (octets_planned width (octets_of file.now) objects.now))
         pending.old pending.new (W.taken out.old) (W.taken out.new)
         (W.failures out.old) (W.failures out.new) result }
-    ensures places { OnOk result (originals.new.items
-        ≡ starts 8 (octets_for width (octets_of file.now) originals.old.items references.now)) }
+    ensures places { IfOk result (λ places. places.items
+        ≡ starts 8 (octets_planned width (octets_of file.now) objects.now)) }
     ensures same { W.device out.new ≡ W.device out.old }
 {
-    let mut numbers = references;
+    let Ok(mut places) = Vec::with_capacity(alloc, objects.originals.len()) else {
+        return Err(WriteFault::OutOfMemory { sent: pending.sent });
+    };
+    let mut numbers = objects.references.as_slice();
     let mut place = 8;
-    for i in 0..originals.len() {
-        let (part, behind) = part_of(file, originals[i], numbers);
+    for original in &objects.originals {
+        let (part, behind) = part_of(file, u64::from(*original), numbers);
         let size = part_length(width, &part);
+        places.push_reserved(place);
         send_part(width, &part, size, pending, out)?;
-        originals[i] = place;
         place += size;
         numbers = behind;
     }
-    Ok(())
+    Ok(places)
 }

@@ -30,8 +30,7 @@ pub(crate) fn objects_of<'a>(
     let mut plan = Plan::new(alloc, file.count())?;
     let mut order = KeyOrder::new(alloc, sorted);
     walk(alloc, file, &mut plan, &mut order, file.top(), MAX_DEPTH)?;
-    let objects = plan.into_objects(alloc)?;
-    Ok(objects)
+    Ok(plan.into_objects())
 }
 
 // The number of the value that the object spells, whose objects are added.

@@ -43,9 +43,9 @@ pub fn put_scalar(out: &mut Vec<u8>, scalar: &ScalarRef) -> Result<(), AllocErro
 }
 
 /// Puts a list, its references in so many octets each, behind the octets of `out`, which stay as they are
-/// where there is no memory. The width is 1, 2, 4 or 8; there are below 2^32 references, and each fits the
-/// width.
-pub fn put_list(out: &mut Vec<u8>, width: u8, refs: &[u64]) -> Result<(), AllocError>
+/// where there is no memory. The width is 1, 2, 4 or 8; there are below 2^32 references, and each is below
+/// 2^32 and fits the width.
+pub fn put_list(out: &mut Vec<u8>, width: u8, refs: &[u32]) -> Result<(), AllocError>
     requires width { IsWidth width }
     requires count { length refs.now < 2 ^ 32 }
     requires fit { All (λ reference. reference < 256 ^ width) refs.now }
@@ -61,12 +61,12 @@ pub fn put_list(out: &mut Vec<u8>, width: u8, refs: &[u64]) -> Result<(), AllocE
 
 /// Puts a table, its references to keys and then those to values in so many octets each, behind the
 /// octets of `out`, which stay as they are where there is no memory. The width is 1, 2, 4 or 8; there are
-/// below 2^32 keys and as many values, and each reference fits the width.
+/// below 2^32 keys and as many values, and each reference is below 2^32 and fits the width.
 pub fn put_table(
     out: &mut Vec<u8>,
     width: u8,
-    keys: &[u64],
-    values: &[u64],
+    keys: &[u32],
+    values: &[u32],
 ) -> Result<(), AllocError>
     requires width { IsWidth width }
     requires count { length keys.now < 2 ^ 32 }
@@ -85,7 +85,7 @@ pub fn put_table(
     Ok(())
 }
 
-fn push_references(out: &mut Vec<u8>, width: u8, refs: &[u64])
+fn push_references(out: &mut Vec<u8>, width: u8, refs: &[u32])
     requires width_least { 1 ≤ width }
     requires width_most { width ≤ 8 }
     requires fit { All (λ reference. reference < 256 ^ width) refs.now }
@@ -93,7 +93,7 @@ fn push_references(out: &mut Vec<u8>, width: u8, refs: &[u64])
     ensures { Appends out.old out.new (references width refs.now) }
 {
     for reference in refs {
-        push_number(out, *reference, width);
+        push_number(out, u64::from(*reference), width);
     }
 }
 

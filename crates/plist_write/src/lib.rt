@@ -12,5 +12,5 @@ mod walk;
 pub use making::{GrowingSink, canonical};
 pub use pending::{Pending, send_end, send_part};
 pub use plist_devices::{DeviceFault, ListSink, Sink};
-pub use putting::{Part, part_length};
+pub use putting::{Part, part_length, short};
 pub use sending::{WriteFault, write_canonical};

@@ -5,7 +5,7 @@ ghost use Rattle.plist_value.specs.Scalars.{content_of};
 ghost use Rattle.plist_write.specs.Plan.{WalksScalar, Begins, Finishes, IsEmptyPlan, held_in};
 ghost use Rattle.plist_write.specs.Pieces.{held_in_part};
 
-use crate::putting::Part;
+use crate::putting::{Part, short};
 use indexmap::IndexSet;
 use plist_value::ScalarRef;
 use std::alloc::{AllocError, Global};
@@ -14,8 +14,8 @@ use std::alloc::{AllocError, Global};
 #[derive(Debug, Drop)]
 pub(crate) enum Slot<'a> {
     Scalar(ScalarRef<'a>),
-    List(Vec<u64>),
-    Table(Vec<u64>, Vec<u64>),
+    List(Vec<u32>),
+    Table(Vec<u32>, Vec<u32>),
 }
 
 impl<'a> Slot<'a> {
@@ -35,7 +35,7 @@ impl<'a> Slot<'a> {
 #[derive(Drop)]
 pub(crate) struct Plan<'a> {
     scalars: IndexSet<ScalarRef<'a>>,
-    numbers: Vec<u64>,
+    numbers: Vec<u32>,
     slots: Vec<Slot<'a>>,
 }
 
@@ -57,33 +57,33 @@ impl<'a> Plan<'a> {
     }
 
     /// The number of a scalar: that of an equal one, or a new one where the set did not have it.
-    pub(crate) fn scalar(&mut self, scalar: ScalarRef<'a>) -> Result<u64, AllocError>
+    pub(crate) fn scalar(&mut self, scalar: ScalarRef<'a>) -> Result<u32, AllocError>
         ensures { IfOk result (WalksScalar (content_of scalar.entry) self.old self.new) }
     {
         let (index, _) = self.scalars.insert_full(scalar)?;
         if let Some(number) = self.numbers.get(index) {
             return Ok(*number);
         }
-        let number = self.slots.len() as u64;
+        let number = short(self.slots.len() as u64)?;
         self.numbers.push(number)?;
         self.slots.push(Slot::Scalar(scalar))?;
         Ok(number)
     }
 
     /// The number of a container, whose children are numbered next.
-    pub(crate) fn begin(&mut self, alloc: Global) -> Result<usize, AllocError>
+    pub(crate) fn begin(&mut self, alloc: Global) -> Result<u32, AllocError>
         ensures { IfOk result (Begins self.old self.new) }
     {
-        let number = self.slots.len();
+        let number = short(self.slots.len() as u64)?;
         self.slots.push(Slot::List(Vec::new(alloc)))?;
         Ok(number)
     }
 
     /// What the container of this number holds.
-    pub(crate) fn finish(&mut self, number: usize, slot: Slot<'a>)
+    pub(crate) fn finish(&mut self, number: u32, slot: Slot<'a>)
         requires { number < length self.old.slots.items }
         ensures { Finishes number slot.entry self.old self.new }
     {
-        self.slots[number] = slot;
+        self.slots[number as usize] = slot;
     }
 }

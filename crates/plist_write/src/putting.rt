@@ -1,5 +1,5 @@
 //! The parts of a file, measured and put behind octets.
-ghost use Rattle.std.specs.Prelude.{◌≡◌, ◌+◌, ◌*◌, ◌<◌, ◌≤◌, ◌^◌, ◌++◌, length, OnOk};
+ghost use Rattle.std.specs.Prelude.{◌≡◌, ◌+◌, ◌*◌, ◌<◌, ◌≤◌, ◌^◌, ◌++◌, ◌↔◌, length, IfOk, IsOk, OnOk};
 ghost use Rattle.byteorder.specs.Endian.{big_bytes};
 ghost use Rattle.plist_value.specs.Limits.{payload_of_scalar};
 ghost use Rattle.plist_value.specs.Scalars.{content_of};
@@ -20,8 +20,21 @@ use std::alloc::AllocError;
 #[derive(Clone, Copy)]
 pub enum Part<'a, 'b> {
     Scalar(ScalarRef<'a>),
-    List(&'b [u64]),
-    Table(&'b [u64], &'b [u64]),
+    List(&'b [u32]),
+    Table(&'b [u32], &'b [u32]),
+}
+
+/// The number in 32 bits. No number of a value within the limits passes them, nor that of an object of a file
+/// that is within the limit of input.
+///
+/// # Errors
+///
+/// Where the number is 2^32 or above: there is no memory for so many objects.
+pub fn short(number: u64) -> Result<u32, AllocError>
+    ensures value { IfOk result (λ short. short ≡ number) }
+    ensures fits { IsOk result ↔ number < 2 ^ 32 }
+{
+    u32::try_from(number).map_err(|_| AllocError)
 }
 
 /// How many octets the object has, where its references have so many octets each.
@@ -137,13 +150,13 @@ pub(crate) fn weigh(width: u8, part: &Part)
     }
 }
 
-fn weigh_list(width: u8, refs: &[u64])
+fn weigh_list(width: u8, refs: &[u32])
     requires narrow { width ≤ 4 }
     requires few { length refs.now < 2 ^ 32 }
     ensures { length (list_spelling width refs.now) ≤ 17 + 4 * length refs.now }
 {}
 
-fn weigh_table(width: u8, keys: &[u64], values: &[u64])
+fn weigh_table(width: u8, keys: &[u32], values: &[u32])
     requires narrow { width ≤ 4 }
     requires few { length keys.now < 2 ^ 32 }
     requires pairs { length keys.now ≡ length values.now }

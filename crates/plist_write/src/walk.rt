@@ -23,7 +23,7 @@ pub(crate) fn slots_of<'a>(alloc: Global, value: &'a Value) -> Result<Vec<Slot<'
 
 // The number of the value, whose objects are added.
 #[cycle(walk)]
-fn walk<'a>(alloc: Global, plan: &mut Plan<'a>, value: &'a Value) -> Result<u64, AllocError>
+fn walk<'a>(alloc: Global, plan: &mut Plan<'a>, value: &'a Value) -> Result<u32, AllocError>
     ensures { IfOk result (WalksTree (view value.now) plan.old plan.new) }
 {
     match value {
@@ -38,13 +38,13 @@ fn walk_list<'a>(
     alloc: Global,
     plan: &mut Plan<'a>,
     items: &'a Vec<Value>,
-) -> Result<u64, AllocError>
+) -> Result<u32, AllocError>
     ensures { IfOk result (WalksTree (list (view_items items.now.items)) plan.old plan.new) }
 {
     let number = plan.begin(alloc)?;
     let refs = walk_items(alloc, plan, items)?;
     plan.finish(number, Slot::List(refs));
-    Ok(number as u64)
+    Ok(number)
 }
 
 #[cycle(walk)]
@@ -52,14 +52,14 @@ fn walk_table<'a>(
     alloc: Global,
     plan: &mut Plan<'a>,
     pairs: &'a BTreeMap<Utf16, Value>,
-) -> Result<u64, AllocError>
+) -> Result<u32, AllocError>
     ensures { IfOk result (WalksTree (table (view_pairs pairs.now.entries)) plan.old plan.new) }
 {
     let number = plan.begin(alloc)?;
     let keys = number_keys(alloc, plan, pairs)?;
     let values = walk_values(alloc, plan, pairs)?;
     plan.finish(number, Slot::Table(keys, values));
-    Ok(number as u64)
+    Ok(number)
 }
 
 // The numbers of the items.
@@ -68,7 +68,7 @@ fn walk_items<'a>(
     alloc: Global,
     plan: &mut Plan<'a>,
     items: &'a Vec<Value>,
-) -> Result<Vec<u64>, AllocError>
+) -> Result<Vec<u32>, AllocError>
     ensures { IfOk result
         (λ refs. WalksItems (view_items items.now.items) plan.old plan.new refs.items) }
 {
@@ -85,7 +85,7 @@ fn walk_values<'a>(
     alloc: Global,
     plan: &mut Plan<'a>,
     pairs: &'a BTreeMap<Utf16, Value>,
-) -> Result<Vec<u64>, AllocError>
+) -> Result<Vec<u32>, AllocError>
     ensures { IfOk result
         (λ refs. WalksValues (view_pairs pairs.now.entries) plan.old plan.new refs.items) }
 {
@@ -101,7 +101,7 @@ fn number_keys<'a>(
     alloc: Global,
     plan: &mut Plan<'a>,
     pairs: &'a BTreeMap<Utf16, Value>,
-) -> Result<Vec<u64>, AllocError>
+) -> Result<Vec<u32>, AllocError>
     ensures { IfOk result
         (λ refs. WalksKeys (view_pairs pairs.now.entries) plan.old plan.new refs.items) }
 {

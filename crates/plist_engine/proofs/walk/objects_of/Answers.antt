@@ -27,7 +27,7 @@ returns c = λ v binary.
     let same : walked.value ≡ v = same_value f top walked.value v walked.valid binary.valid walked.spells spells in
     let walks = subst (λ (u : Plist). WalksTree f 0 u c.in_ok-plan.plan c.walk.new.plan c.in_ok-walk.field-0) same walked.walks in
     record {
-      stand_for = rw (c.in_ok-objects.ensures.originals, c.in_ok-objects.ensures.references) (Walks-whole f v c.in_ok-plan.plan c.walk.new.plan c.in_ok-walk.field-0 c.in_ok-plan.ensures.empty walks);
+      stand_for = rw (c.into_objects.ensures.originals, c.into_objects.ensures.references) (Walks-whole f v c.in_ok-plan.plan c.walk.new.plan c.in_ok-walk.field-0 c.in_ok-plan.ensures.empty walks);
     }
 
 pub walk-requires-clause-memo : goal.walk-requires-clause-memo

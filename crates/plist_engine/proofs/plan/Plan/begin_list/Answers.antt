@@ -6,6 +6,6 @@ returns c = record {
   number_is = search rules;
   scalars_kept = refl;
   memo_kept = refl;
-  original_added = rw c.in_ok-original.ensures at c.in_ok-push.ensures.items;
+  original_added = rw c.in_ok-original.ensures.value at c.in_ok-push.ensures.items;
   references_added = c.in_ok-push_all.ensures;
 }

@@ -10,6 +10,6 @@ returns-in-Some-clause-numbers c = record {
 
 pub returns-clause-numbers : goal.returns-clause-numbers
 returns-clause-numbers c = record {
-  walks = λ f holds. Walks-new f c.args.scalar c.args.object c.args.self.now _ c.in_ok-next.next holds (λ numbered. rw c.in_default.is at (c.in_ok-number.ensures numbered)) c.in_ok-next.ensures (rw c.in_ok-original.ensures at c.in_ok-push.ensures.items) refl;
+  walks = λ f holds. Walks-new f c.args.scalar c.args.object c.args.self.now _ c.in_ok-next.next holds (λ numbered. rw c.in_default.is at (c.in_ok-number.ensures numbered)) c.in_ok-next.ensures (rw c.in_ok-original.ensures.value at c.in_ok-push.ensures.items) refl;
   references_kept = refl;
 }

@@ -18,6 +18,6 @@ returns c =
     let numbers = c.deref.result.now in
     let index = c.in_ok-index.index in
     let missed : slice_get numbers index ≡ None = slice_get_past numbers index (search rules) in
-    Walks-new c.args.scalar c.args.self.now _ c.len-number.result (rw (c.deref.ensures.value, c.in_ok-index.ensures.index) at missed) (search rules)
+    Walks-new c.args.scalar c.args.self.now _ c.in_ok-number.number (rw (c.deref.ensures.value, c.in_ok-index.ensures.index) at missed) (search rules)
     (ap (map held_in) c.in_ok-push-2.ensures.items ∙ map-append held_in c.args.self.now.slots.items _)
     c.in_ok-index.ensures.keys c.in_ok-push.ensures.items
