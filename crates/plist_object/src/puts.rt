@@ -12,7 +12,7 @@ ghost use Rattle.plist_object.specs.Spelling.{head, least_integer, list_spelling
 ghost use Rattle.plist_object.specs.Spelling.{references, table_spelling, scalar_spelling};
 ghost use Rattle.plist_object.specs.Spelling.{text_spelling, whole_spelling};
 
-use crate::lengths::{is_ascii, list_length, scalar_length, table_length, width_of};
+use crate::lengths::{head_length, is_ascii, list_length, table_length, width_of};
 use crate::markers::{
     ASCII, DATA, FALSE, LIST, MOMENT_8, REAL_4, REAL_8, TABLE, TRUE, WHOLE_1, WHOLE_2, WHOLE_4,
     WHOLE_8, WHOLE_16, WIDE,
@@ -29,16 +29,68 @@ pub fn put_scalar(out: &mut Vec<u8>, scalar: &ScalarRef) -> Result<(), AllocErro
         (out.new.items ≡ out.old.items ++ scalar_spelling (content_of scalar.now)) }
     ensures err { OnErr result (out.new.items ≡ out.old.items) }
 {
-    out.reserve(scalar_length(scalar) as usize)?;
     match scalar {
-        ScalarRef::Text(text) => push_text(out, text),
-        ScalarRef::Whole(whole) => push_whole(out, whole.get()),
-        ScalarRef::Flag(flag) => push_octet(out, if *flag { TRUE } else { FALSE }),
-        ScalarRef::Real4(octets) => push_marked(out, REAL_4, octets),
-        ScalarRef::Real8(octets) => push_marked(out, REAL_8, octets),
-        ScalarRef::Moment(octets) => push_marked(out, MOMENT_8, octets),
-        ScalarRef::Bytes(octets) => push_data(out, octets),
+        ScalarRef::Text(text) => put_text(out, text),
+        ScalarRef::Whole(whole) => put_whole(out, whole.get()),
+        ScalarRef::Flag(flag) => put_marked(out, if *flag { TRUE } else { FALSE }, &[]),
+        ScalarRef::Real4(octets) => put_marked(out, REAL_4, octets),
+        ScalarRef::Real8(octets) => put_marked(out, REAL_8, octets),
+        ScalarRef::Moment(octets) => put_marked(out, MOMENT_8, octets),
+        ScalarRef::Bytes(octets) => put_data(out, octets),
     }
+}
+
+// The units are tested once, and room is taken for what they turn out to be.
+fn put_text(out: &mut Vec<u8>, text: &TextRef) -> Result<(), AllocError>
+    requires { length (units_of text.now) < 2 ^ 32 }
+    ensures ok { OnOk result
+        (out.new.items ≡ out.old.items ++ text_spelling (units_of text.now)) }
+    ensures err { OnErr result (out.new.items ≡ out.old.items) }
+{
+    let count = text.len() as u64;
+    if is_ascii(text) {
+        out.reserve((head_length(count) + count) as usize)?;
+        push_head(out, ASCII, count);
+        push_ascii(out, text);
+    } else {
+        out.reserve((head_length(count) + 2 * count) as usize)?;
+        push_head(out, WIDE, count);
+        push_wide(out, text);
+    }
+    Ok(())
+}
+
+// At most 17 octets.
+fn put_whole(out: &mut Vec<u8>, number: i128) -> Result<(), AllocError>
+    requires range { IsWhole number }
+    ensures ok { OnOk result (out.new.items ≡ out.old.items ++ whole_spelling number) }
+    ensures err { OnErr result (out.new.items ≡ out.old.items) }
+{
+    out.reserve(17)?;
+    push_whole(out, number);
+    Ok(())
+}
+
+fn put_marked(out: &mut Vec<u8>, marker: u8, octets: &[u8]) -> Result<(), AllocError>
+    requires { length octets.now < 2 ^ 32 }
+    ensures ok { OnOk result (out.new.items ≡ out.old.items ++ (marker ∷ octets.now)) }
+    ensures err { OnErr result (out.new.items ≡ out.old.items) }
+{
+    out.reserve(1 + octets.len())?;
+    push_marked(out, marker, octets);
+    Ok(())
+}
+
+fn put_data(out: &mut Vec<u8>, octets: &[u8]) -> Result<(), AllocError>
+    requires { length octets.now < 2 ^ 32 }
+    ensures ok { OnOk result
+        (out.new.items ≡ out.old.items ++ (head 4 (length octets.now) ++ octets.now)) }
+    ensures err { OnErr result (out.new.items ≡ out.old.items) }
+{
+    let count = octets.len() as u64;
+    out.reserve((head_length(count) + count) as usize)?;
+    push_head(out, DATA, count);
+    push_octets(out, octets);
     Ok(())
 }
 
@@ -194,14 +246,6 @@ fn push_head(out: &mut Vec<u8>, kind: u8, count: u64)
     }
 }
 
-fn push_data(out: &mut Vec<u8>, octets: &[u8])
-    requires { HasRoom out.old (length (head 4 (length octets.now)) + length octets.now) }
-    ensures { Appends out.old out.new (head 4 (length octets.now) ++ octets.now) }
-{
-    push_head(out, DATA, octets.len() as u64);
-    push_octets(out, octets);
-}
-
 fn push_whole(out: &mut Vec<u8>, number: i128)
     requires range { IsWhole number }
     requires room { HasRoom out.old (length (whole_spelling number)) }
@@ -224,20 +268,6 @@ fn push_long_whole(out: &mut Vec<u8>, n: u64)
 {
     push_marked(out, WHOLE_16, &[0; 8]);
     push_number(out, n, 8);
-}
-
-fn push_text(out: &mut Vec<u8>, text: &TextRef)
-    requires { HasRoom out.old (length (text_spelling (units_of text.now))) }
-    ensures { Appends out.old out.new (text_spelling (units_of text.now)) }
-{
-    let count = text.len() as u64;
-    if is_ascii(text) {
-        push_head(out, ASCII, count);
-        push_ascii(out, text);
-    } else {
-        push_head(out, WIDE, count);
-        push_wide(out, text);
-    }
 }
 
 // Each unit in one octet.
