@@ -95,6 +95,11 @@ fn answers_the_worked_rows(rt: HostRuntime) -> Result<(), Fail> {
             4,
         ),
         (
+            "plistconv convert binary1 row2.txt /dev/full",
+            "/dev/full: refused 51 WriteFailed after 0 octets\n",
+            4,
+        ),
+        (
             "plistconv convert binary1 twice.txt new",
             "twice.txt: refused 14 DuplicateKey at octet 3\n",
             2,
@@ -146,6 +151,30 @@ fn answers_the_worked_rows(rt: HostRuntime) -> Result<(), Fail> {
     }
     fs::remove_file(&rt, "converted")?;
     fs::remove_file(&rt, "text")?;
+    Ok(())
+}
+
+/// A file of more octets than are gathered before they are written, of objects of a few octets each.
+#[test]
+fn writes_a_long_file(rt: HostRuntime) -> Result<(), Fail> {
+    let mut text = Vec::from_slice(rt.alloc(), b"(")?;
+    for number in 0..50_000_u32 {
+        write!(text, "k{number},")?;
+    }
+    text.push(b')')?;
+    fs::write(&rt, "long.txt", text.as_slice())?;
+    let rows = [
+        ("plistconv convert binary1 long.txt long", ""),
+        ("plistconv check long", "canonical\n"),
+        ("plistconv same long.txt long", "equal\n"),
+    ];
+    for (text, printed) in rows {
+        let words: Vec<&str> = text.split(' ').collect(rt.alloc())?;
+        let mut output = Vec::new(rt.alloc());
+        let status = status_of(&rt, words.as_slice(), &mut output);
+        assert_eq!(rt; output.as_slice(), printed.as_bytes(), "at {text}");
+        assert_eq!(rt; status, 0, "at {text}");
+    }
     Ok(())
 }
 
