@@ -9,5 +9,5 @@ pub use plist_devices::{
 pub use plist_files::{
     Fault, Form, MAX_INPUT, PairFault, Status, canonicalise, laws, line, load, read_any, same_files,
 };
-pub use plist_program::run;
+pub use plist_program::{run, run_to_end};
 pub use plist_transfer::convert;
