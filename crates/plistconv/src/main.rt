@@ -1,8 +1,8 @@
-//! The program `plistconv`: `plist_convert::run` over the words of the command line, standard input and
+//! The program `plistconv`: `plist_convert::run_to_end` over the words of the command line, standard input and
 //! standard output.
 #![tactic(auto)]
 
-use plist_convert::{Status, run};
+use plist_convert::{Status, run_to_end};
 use std::io::ErrorKind;
 use std::process::ExitCode;
 use std::{env, io};
@@ -23,7 +23,7 @@ fn answer(rt: &HostRuntime) -> io::Result<u8> {
     let alloc = rt.alloc();
     let owned: Vec<String> = env::args(rt)?.collect(alloc)?;
     let words: Vec<&str> = owned.iter().map(|word| word.as_str()).collect(alloc)?;
-    let status = run(
+    let status = run_to_end(
         rt,
         alloc,
         words.as_slice(),

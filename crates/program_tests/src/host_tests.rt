@@ -1,6 +1,6 @@
 //! The words of the program, over the files of the host.
 use crate::worked_files::{REAL4, REAL8, TABLE, TABLE_TEXT, TRUE, TWICE, UNSORTED, VALUES_FIRST};
-use plist_program::run;
+use plist_program::{run, run_to_end};
 use std::fs;
 use std::io::{self, Read, Write};
 use std::test::Fail;
@@ -174,6 +174,55 @@ fn writes_a_long_file(rt: HostRuntime) -> Result<(), Fail> {
         let status = status_of(&rt, words.as_slice(), &mut output);
         assert_eq!(rt; output.as_slice(), printed.as_bytes(), "at {text}");
         assert_eq!(rt; status, 0, "at {text}");
+    }
+    Ok(())
+}
+
+#[test]
+fn a_program_that_ends_answers_the_same(rt: HostRuntime) -> Result<(), Fail> {
+    for (path, octets) in FILES {
+        fs::write(&rt, path, octets)?;
+    }
+    let text = b"{\na = b;\nb = a;\n}\n".as_slice();
+    let rows = [
+        ("plistconv convert binary1 row2.txt old", TABLE, 0),
+        ("plistconv convert binary1 unsorted.bin old", TABLE, 0),
+        ("plistconv convert openstep row2.bin old", text, 0),
+        ("plistconv convert openstep row2.txt old", text, 0),
+        (
+            "plistconv convert binary1 twice.txt old",
+            b"old".as_slice(),
+            2,
+        ),
+        (
+            "plistconv convert openstep true.bin old",
+            b"old".as_slice(),
+            2,
+        ),
+        (
+            "plistconv convert binary1 missing old",
+            b"old".as_slice(),
+            4,
+        ),
+    ];
+    for (words, stands, want) in rows {
+        let words: Vec<&str> = words.split(' ').collect(rt.alloc())?;
+        for ends in [false, true] {
+            fs::write(&rt, "old", b"old")?;
+            let mut input: &[u8] = b"";
+            let mut output = Vec::new(rt.alloc());
+            let status = if ends {
+                run_to_end(&rt, rt.alloc(), words.as_slice(), &mut input, &mut output)
+            } else {
+                run(&rt, rt.alloc(), words.as_slice(), &mut input, &mut output)
+            };
+            assert_eq!(rt; status, want);
+            let left = fs::read(&rt, "old")?;
+            assert_eq!(rt; left.as_slice(), stands);
+        }
+    }
+    for (path, _) in FILES {
+        fs::remove_file(&rt, path)?;
     }
     Ok(())
 }
