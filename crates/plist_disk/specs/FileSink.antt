@@ -12,8 +12,8 @@ failures_of sink = sink.failures
 abbrev pub FailsWithin : ℕ → Result ℕ Fault → Type 0
 FailsWithin most result = (written : ℕ) × (written ≤ most) × (result ≡ Err (WriteFailed written))
 
--- What is answered in place of what was, when all that was gathered was to be written: the same; or no more octets
--- were written than were put.
+-- What is answered in place of what the conversion answered, once the rest that was gathered was to be written: the
+-- same, or a failure, of which no more octets are told than were put.
 abbrev pub Finishes : Result ℕ Fault → Result ℕ Fault → Type 0
 Finishes (Ok sent) result = (result ≡ Ok sent) ⊎ FailsWithin sent result
 Finishes (Err (WriteFailed sent)) result = FailsWithin sent result

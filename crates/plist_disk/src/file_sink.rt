@@ -37,8 +37,8 @@ impl<'a, R: Files> FileSink<'a, R> {
         }
     }
 
-    /// What is answered after this was, when so much was put: all that was gathered is written. Where that
-    /// fails, or a put did, the answer tells how many octets stand in the file.
+    /// Writes all that was gathered, and answers in place of `sent`, which the conversion answered: the same, or,
+    /// where a put or this last write failed, how many octets the host took.
     pub(crate) fn finish(self, sent: Result<u64, Fault>) -> Result<u64, Fault>
         ensures { Finishes sent result }
     {
