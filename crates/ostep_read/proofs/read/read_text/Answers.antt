@@ -22,10 +22,20 @@ use Rattle.ostep_read.proofs.TokenKinds.{front-begun, none-begins}
 use Rattle.ostep_read.proofs.BareSteps.{empty-text, whole-left, whole-fits, front-due, refused-by}
 use Rattle.ostep_read.proofs.read.read_text.Goals as goal
 
+pub returns-in_err-open-clause-stands : goal.returns-in_err-open-clause-stands
+returns-in_err-open-clause-stands c =
+    passed_on (Stands c.args.octets.now) (of_tokens c.in_err-open.field-0.0) c.from_residual.result c.from_residual.ensures.1 (tokens-stand c.args.octets.now c.in_err-open.field-0.0 c.in_err-open.ensures.stands)
+
 pub returns-in_err-open-clause-refused : goal.returns-in_err-open-clause-refused
 returns-in_err-open-clause-refused c =
     refused-by c.args.octets.now c.faulty_is_no_text.ensures c.from_residual.result
     (passed_on (Stands c.args.octets.now) (of_tokens c.in_err-open.field-0.0) c.from_residual.result c.from_residual.ensures.1 (tokens-stand c.args.octets.now c.in_err-open.field-0.0 c.in_err-open.ensures.stands))
+
+pub returns-in_err-first-clause-stands : goal.returns-in_err-first-clause-stands
+returns-in_err-first-clause-stands c =
+    let octets = c.args.octets.now in
+    passed_on (Stands octets) c.in_err-first.field-0.0 c.from_residual-in_err-first.result c.from_residual-in_err-first.ensures.1
+    (c.in_err-first.ensures.stands octets [] (record { behind = c.in_ok-open.ensures.ok; ends = refl }))
 
 pub returns-in_err-first-clause-refused : goal.returns-in_err-first-clause-refused
 returns-in_err-first-clause-refused c =
@@ -40,6 +50,24 @@ returns-in_default-clause-read c =
     let all : HasTokens octets [] = rw c.in_default.is at (c.in_ok-first.ensures.read octets [] (record { behind = c.in_ok-open.ensures.ok; ends = refl })) in
     let none : view_pairs c.new.result.entries ≡ no_pairs = rw c.new.ensures.empty refl in
     subst (λ x. IsText octets x) (sym (view-table c.new.result ∙ ap table none)) (empty-text all)
+
+pub returns-in-Text-clause-read : goal.returns-in-Text-clause-read
+returns-in-Text-clause-read c =
+    let octets = c.args.octets.now in
+    let first = placed c.in-Some.first in
+    let one : HasRead octets (first ∷ []) c.next.new.self =
+    rw c.in-Some.is at (c.in_ok-first.ensures.read octets [] (record { behind = c.in_ok-open.ensures.ok; ends = refl })) in
+    let left : IsLeft c.next.new.self.left MAX_DEPTH nothing = left-same c.in_ok-first.ensures.left (whole-left c.whole.result c.whole.ensures.nodes c.whole.ensures.payload) in
+    c.string_first.ensures.read octets first (rw c.in-Text.is refl) refl one left
+
+pub returns-in-Text-clause-stands : goal.returns-in-Text-clause-stands
+returns-in-Text-clause-stands c =
+    let octets = c.args.octets.now in
+    let first = placed c.in-Some.first in
+    let one : HasRead octets (first ∷ []) c.next.new.self =
+    rw c.in-Some.is at (c.in_ok-first.ensures.read octets [] (record { behind = c.in_ok-open.ensures.ok; ends = refl })) in
+    let left : IsLeft c.next.new.self.left MAX_DEPTH nothing = left-same c.in_ok-first.ensures.left (whole-left c.whole.result c.whole.ensures.nodes c.whole.ensures.payload) in
+    c.string_first.ensures.stands octets first (rw c.in-Text.is refl) refl one left
 
 pub returns-in-Text-clause-refused : goal.returns-in-Text-clause-refused
 returns-in-Text-clause-refused c =
