@@ -1,10 +1,19 @@
-use Rattle.std.proofs.Common.{ℕ, rules, subst}
+use Rattle.std.proofs.Common.{◌≡◌, ℕ, List, rules, subst}
 use Rattle.plist_value.specs.View.{view}
 use Rattle.plist_value.specs.Limits.{Fits}
+use Rattle.plist_value.specs.declared.TheConstants.{MAX_DEPTH}
+use Rattle.plist_object.specs.Layout.{trailer_of}
 use Rattle.plist_object.specs.Views.{octets_of}
-use Rattle.plist_binary.specs.Building.{IsSpelled}
-use Rattle.plist_binary.proofs.BuildSteps.{Fits-top}
+use Rattle.plist_binary.specs.Building.{IsSpelled, SpellsWithin}
+use Rattle.plist_binary.specs.Passing.{PassesTop}
+use Rattle.plist_binary.proofs.BuildSteps.{Fits-top, SpellsWithin-top}
 use Rattle.plist_binary.proofs.reader.read.Goals as goal
+
+at_top : (f : List ℕ) (i : ℕ) → (trailer_of f).top ≡ i → PassesTop f → SpellsWithin f i MAX_DEPTH
+at_top f i same passed = subst (λ (top : ℕ). SpellsWithin f top MAX_DEPTH) same (SpellsWithin-top f passed)
+
+pub value-requires : goal.value-requires
+value-requires c = at_top (octets_of c.in_ok-file.file) _ (cc) c.in_ok-judge_file.ensures.passed
 
 pub returns-clause-read : goal.returns-clause-read
 returns-clause-read c =
