@@ -189,3 +189,12 @@ walk-returns-clause-kept t c =
     let f = octets_of c.args.self.now.file in
     let known = IsMemo-passed f c.args.object c.args.levels c.args.left.now c.content.new.left c.in_ok-deep.deep c.of-memo.result c.in_ok-deep.ensures.passed c.of-memo.ensures.nodes c.of-memo.ensures.payload c.of-memo.ensures.depth in
     AreStates-passed f (containers_of c.args.path.now) c.content.new.states.items c.mark.new.states.items c.args.object c.of-memo.result c.in_ok-mark.ensures known c.in_ok-deep.ensures.kept
+
+pub walk-of-memo-requires-clause-nodes_left : goal.walk-of-memo-requires-clause-nodes_left
+walk-of-memo-requires-clause-nodes_left t c = omega (arith, c.in_ok-deep.ensures.passed.reads.spent.nodes_left)
+
+pub walk-of-memo-requires-clause-payload_left : goal.walk-of-memo-requires-clause-payload_left
+walk-of-memo-requires-clause-payload_left t c = omega (arith, c.in_ok-deep.ensures.passed.reads.spent.payload_left)
+
+pub walk-returns-clause-passed : goal.walk-returns-clause-passed
+walk-returns-clause-passed t c = c.in_ok-deep.ensures.passed
