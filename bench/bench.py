@@ -11,11 +11,13 @@ installed is skipped, with a line that names its Debian package. What each wrote
 is not so of ours, or where a target at the end is missed.
 
 Each file is made at a sixteenth, a quarter and the whole of its size, so that growth shows; with --small the whole
-is left out. --plot writes a picture of time and memory against size. --instructions counts ours by callgrind
+is left out. What is said of growth is measured by itself: in each turn the sixteenth is converted sixteen times and
+the whole once. --plot writes a picture of time and memory against size. --instructions counts ours by callgrind
 (Debian's valgrind) too, which other work on the machine does not change. Files are made by a process of their own.
 """
 import argparse
 import os
+import statistics
 import subprocess
 import sys
 import tempfile
@@ -101,8 +103,8 @@ def one(measure, program, programs, made, name, scale, count):
 class Targets:
     """What the figures should be, said beside what they are."""
 
-    def __init__(self, figures):
-        self.figures, self.missed = figures, 0
+    def __init__(self, figures, growths):
+        self.figures, self.growths, self.missed = figures, growths, 0
 
     def line(self, text, number, most):
         self.missed += number > most
@@ -119,17 +121,26 @@ class Targets:
             self.line(f"{name}: memory of the input's", found[OURS][1] / octets, most)
 
     def growth(self, name):
-        """How many times as long 16 times the octets take. A file of 16 times as many items may have more octets
-        than that, since its references and offsets are wider."""
-        if (name, 1 / 16) in self.figures and (name, 1) in self.figures:
-            small, whole = (self.figures[name, scale] for scale in (1 / 16, 1))
-            longer = whole[1][OURS][0] / max(small[1][OURS][0], 1e-6)
-            self.line(f"{name}: time of that of a sixteenth of the octets", longer * 16 * small[0] / whole[0], 18)
+        if name in self.growths:
+            self.line(f"{name}: time of that of a sixteenth of the octets", self.growths[name], 18)
 
 
-def targets(figures):
+def growth(measure, words, made, name, turns):
+    """How many times as long 16 times the octets take, the median of the turns. In each turn a sixteenth of the file
+    is converted sixteen times and the whole once, so that other work on the machine counts for both alike. A file of
+    16 times as many items may have more than 16 times the octets, since its references and offsets are wider."""
+    small, whole = (made.path(name, scale) for scale in (1 / 16, 1))
+
+    def seconds(path):
+        return measure.run([*words, path, path + " out"], subprocess.DEVNULL).processor
+
+    ratios = [16 * seconds(whole) / sum(seconds(small) for _ in range(16)) for _ in range(turns)]
+    return statistics.median(ratios) * 16 * os.path.getsize(small) / os.path.getsize(whole)
+
+
+def targets(figures, growths):
     """Prints each target; how many are missed."""
-    said = Targets(figures)
+    said = Targets(figures, growths)
     for name, time, memory in (("mixed", .12, 3.5), ("keys", .35, 4), ("numbers", .25, 4)):
         said.time(name, CRATE, time)
         said.memory(name, memory)
@@ -159,7 +170,7 @@ def main():
     program = os.path.abspath(words.program)
     names = [*files.BINARY, *files.TEXTS]
     names = [name for name in names if not words.only or name in words.only.split(",")]
-    figures, wrong = {}, []
+    figures, growths, wrong = {}, {}, []
     with tempfile.TemporaryDirectory() as folder:
         measure, made = Measure(folder), Files(folder)
         ours = {OURS: [program, "convert", "binary1"]}
@@ -172,6 +183,8 @@ def main():
                 programs = of_binary if name in files.BINARY else of_text
                 *found, more = one(measure, program, programs, made, name, scale, words.runs)
                 figures[name, scale], wrong = found, wrong + more
+            if not words.small:
+                growths[name] = growth(measure, ours[OURS], made, name, words.runs)
         if words.instructions:
             counted(program, made, figures)
     print()
@@ -180,7 +193,7 @@ def main():
     if words.plot:
         with open(words.plot, "w", encoding="utf-8") as picture:
             picture.write(plot.picture(figures))
-    missed = targets(figures)
+    missed = targets(figures, growths)
     return 1 if missed or any(program in (OURS, BACK) for program, _ in wrong) else 0
 
 
