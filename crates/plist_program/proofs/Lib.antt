@@ -1,3 +1,4 @@
+pub mod Begun
 pub mod Blame
 pub mod Conversions
 pub mod Disks
