@@ -1,6 +1,6 @@
 use Rattle.std.proofs.Common.{inl, inr}
 use Rattle.std.proofs.lemmas.Result.{IfOk-weaker}
-use Rattle.plist_program.specs.Answer.{IsLintAnswer, Says, accepted_said, refusal, said_of}
+use Rattle.plist_program.specs.Answer.{IsLintAnswer, Says, accepted_said, said_of}
 use Rattle.plist_program.specs.declared.answers.Answer.{Answer}
 use Rattle.plist_program.proofs.answers.lint_answer.Goals as goal
 
@@ -15,5 +15,5 @@ pub returns-in-Err : goal.returns-in-Err
 returns-in-Err c =
     let path = c.args.path.now in
     let octets = c.args.octets.now in
-    IfOk-weaker c.refused.result (λ (a : Answer). Says (said_of a) (refusal path c.in-Err.fault)) (λ (a : Answer). IsLintAnswer path octets (said_of a))
-    (λ a says. inr (record { fault = c.in-Err.fault; refused = c.in-Err.ensures.refused; says = says })) c.refused.ensures
+    IfOk-weaker c.refused.result _ (λ (a : Answer). IsLintAnswer path octets (said_of a))
+    (λ a says. inr (record { fault = _; refused = c.in-Err.ensures.refused; says = says })) c.refused.ensures
