@@ -14,18 +14,20 @@ OnOk_then (Err e) P Q then p = tt
 -- what a file spells that passes
 spelled : (f : List ℕ) → AreOctets f → IsLaid f → PassesTop f → (v : Plist) × IsBinary f v
 spelled f octets laid passed =
-    let reads = passed.passes.reads in
-    (passed.passes.value, record {
-      octets = octets;
-      laid = laid;
-      spells = reads.spells;
-      valid = reads.valid;
-      fits = record {
-        nodes_fit = omega (arith, reads.spent.nodes_left);
-        depth_fits = reads.deep;
-        payload_fits = omega (arith, reads.spent.payload_left);
-      };
-    })
+    let reads = passed.passes.reads in (
+      passed.passes.value,
+      record {
+        octets = octets;
+        laid = laid;
+        spells = reads.spells;
+        valid = reads.valid;
+        fits = record {
+          nodes_fit = omega (arith, reads.spent.nodes_left);
+          depth_fits = reads.deep;
+          payload_fits = omega (arith, reads.spent.payload_left);
+        };
+      },
+    )
 
 pub returns-clause-ok : goal.returns-clause-ok
 returns-clause-ok c =
