@@ -3,12 +3,12 @@ ghost use Rattle.std.specs.Prelude.{IfOk};
 ghost use Rattle.plist_value.specs.Plist.{Plist};
 ghost use Rattle.plist_object.specs.Spelled.{IsBinary};
 
-use crate::files::{Draft, file_of};
 use plist_binary::read;
 use plist_engine::canonical_of;
 use plist_object::BinFile;
 use std::alloc::{AllocError, Global};
 use std::test::Fail;
+use test_files::{Draft, file_of};
 
 // Whether the octets spell a value.
 fn judge(alloc: Global, octets: &[u8]) -> Result<(), AllocError>
@@ -42,7 +42,7 @@ const GRAPH: [(&[u8], &[u8], &[u8]); 6] = [
 
 // The file of the objects, of which the first stands at the place.
 fn rotated(alloc: Global, place: u8) -> Result<Vec<u8>, AllocError> {
-    let mut objects = Vec::new(alloc);
+    let mut draft = Draft::new(alloc)?;
     for position in 0..6 {
         let index = (position + 6 - usize::from(place % 6)) % 6;
         let (before, references, behind) = GRAPH[index];
@@ -51,13 +51,9 @@ fn rotated(alloc: Global, place: u8) -> Result<Vec<u8>, AllocError> {
             object.push((*reference % 6 + place % 6) % 6)?;
         }
         object.extend_from_slice(behind)?;
-        objects.push(object)?;
+        draft.put(object.as_slice())?;
     }
-    let parts: Vec<&[u8]> = objects
-        .iter()
-        .map(|object| object.as_slice())
-        .collect(alloc)?;
-    let mut file = file_of(alloc, parts.as_slice(), 1)?;
+    let mut file = draft.finish(1, 1)?;
     // The last octet of the number of the top object.
     let top = file.len().saturating_sub(9);
     if let Some(octet) = file.get_mut(top) {
@@ -66,23 +62,33 @@ fn rotated(alloc: Global, place: u8) -> Result<Vec<u8>, AllocError> {
     Ok(file)
 }
 
+// The objects of the canonical file of each rotation.
+const OWN: [&[u8]; 7] = [
+    &[0xd2, 1, 2, 3, 6],
+    b"Qa",
+    b"Qb",
+    &[0xa1, 4],
+    &[0xa2, 5, 1],
+    &[0x10, 5],
+    &[0xa2, 5, 1],
+];
+
+// The first rotation that has another canonical file.
+fn wrong_rotation(alloc: Global) -> Result<Option<u8>, AllocError> {
+    let own = file_of(alloc, &OWN, 1)?;
+    for place in 0..6 {
+        let source = rotated(alloc, place)?;
+        let canonical = canonical_file(alloc, source.as_slice())?;
+        if canonical.as_slice() != own.as_slice() {
+            return Ok(Some(place));
+        }
+    }
+    Ok(None)
+}
+
 #[test]
 fn each_rotation_has_one_file(rt: HostRuntime) -> Result<(), Fail> {
-    let own: [&[u8]; 7] = [
-        &[0xd2, 1, 2, 3, 6],
-        b"Qa",
-        b"Qb",
-        &[0xa1, 4],
-        &[0xa2, 5, 1],
-        &[0x10, 5],
-        &[0xa2, 5, 1],
-    ];
-    let own = file_of(rt.alloc(), &own, 1)?;
-    for place in 0..6 {
-        let source = rotated(rt.alloc(), place)?;
-        let canonical = canonical_file(rt.alloc(), source.as_slice())?;
-        assert_eq!(rt; canonical.as_slice(), own.as_slice());
-    }
+    assert_eq!(rt; wrong_rotation(rt.alloc())?, None);
     Ok(())
 }
 
@@ -122,14 +128,22 @@ fn file_of_long(alloc: Global, list: &[u8], lasts: &[u8]) -> Result<Vec<u8>, All
     draft.finish(4, 1)
 }
 
+// The place of the first row of long data whose canonical file is another.
+fn wrong_data(alloc: Global) -> Result<Option<usize>, AllocError> {
+    for (place, [list, lasts, own_list, own_lasts]) in LONG.iter().enumerate() {
+        let source = file_of_long(alloc, list, lasts)?;
+        let canonical = canonical_file(alloc, source.as_slice())?;
+        let own = file_of_long(alloc, own_list, own_lasts)?;
+        if canonical.as_slice() != own.as_slice() {
+            return Ok(Some(place));
+        }
+    }
+    Ok(None)
+}
+
 #[test]
 fn long_data_share_objects_where_all_octets_are_equal(rt: HostRuntime) -> Result<(), Fail> {
-    for [list, lasts, own_list, own_lasts] in LONG {
-        let source = file_of_long(rt.alloc(), list, lasts)?;
-        let canonical = canonical_file(rt.alloc(), source.as_slice())?;
-        let own = file_of_long(rt.alloc(), own_list, own_lasts)?;
-        assert_eq!(rt; canonical.as_slice(), own.as_slice());
-    }
+    assert_eq!(rt; wrong_data(rt.alloc())?, None);
     Ok(())
 }
 

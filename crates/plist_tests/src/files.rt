@@ -1,141 +1,154 @@
-//! Small binary files, made octet by octet and not by the code that is tested.
+//! Binary files, accepted and refused, canonical and not.
 use std::alloc::{AllocError, Global};
+use test_files::{Draft, file, file_of, one};
 
-/// A binary file that is made object after object. Its top object is the first.
-#[derive(Drop)]
-pub struct Draft {
-    octets: Vec<u8>,
-    places: Vec<u64>,
-}
+// Objects that stand alone in a file.
+const ALONE: [&[u8]; 35] = [
+    b"\xd0",
+    b"\x10\xff",
+    b"\x11\x01\x00",
+    b"\x12\xff\xff\xff\xff",
+    b"\x13\x00\x00\x00\x01\x00\x00\x00\x00",
+    b"\x13\xff\xff\xff\xff\xff\xff\xff\xff",
+    b"\x13\x80\0\0\0\0\0\0\0",
+    b"\x14\0\0\0\0\0\0\0\0\x80\0\0\0\0\0\0\0",
+    b"\x13\0\0\0\0\0\0\0\x05",
+    b"\x10\x05",
+    b"\x61\x00a",
+    b"\x5f\x10\x01a",
+    b"Qa",
+    b"\xa0",
+    b"\xa1\x00",
+    b"\x00",
+    b"\x80\x05",
+    b"\xc0",
+    b"T\x7fS4A",
+    b"\x40",
+    b"Vbplist",
+    b"Sa.b",
+    b"\x22\x3f\x80\0\0",
+    b"\x23\x3f\xf0\0\0\0\0\0\0",
+    b"\x14\0\0\0\0\0\0\0\x01\0\0\0\0\0\0\0\0",
+    b"Q\x80",
+    b"Ra",
+    b"\x5f\x13\xff\xff\xff\xff\xff\xff\xff\xffa",
+    b"\xa1\x01",
+    b"\x70",
+    b"\x15",
+    b"\x5f\x09a",
+    b"\x09",
+    b"\x61\xd8\x00",
+    b"\x62\xd8\x3d\xde\x00",
+];
 
-impl Draft {
-    /// A file with its header alone.
-    pub fn new(alloc: Global) -> Result<Draft, AllocError> {
-        Ok(Draft {
-            octets: Vec::from_slice(alloc, b"bplist00")?,
-            places: Vec::new(alloc),
-        })
+// Objects that stand in a file one behind the other, and the width of a reference.
+const TOGETHER: [(&[&[u8]], u8); 17] = [
+    (&[b"\xd2\x01\x02\x02\x01", b"Qa", b"Qb"], 1),
+    (&[b"\xd2\x01\x02\x02\x01", b"Qb", b"Qa"], 1),
+    (&[b"\xd2\x02\x01\x01\x02", b"Qb", b"Qa"], 1),
+    (&[b"\xa2\x01\x02", b"Qa", b"\x41a"], 1),
+    (&[b"\xa2\x01\x01", b"\xa0"], 1),
+    (&[b"\xa2\x01\x02", b"\xa0", b"\xa0"], 1),
+    (
+        &[
+            b"\xd2\x01\x02\x03\x04",
+            b"\x62\xd8\x00\xdc\x00",
+            b"\x61\xff\x61",
+            b"Qb",
+            b"Qa",
+        ],
+        1,
+    ),
+    (&[b"\xa3\x01\x02\x03", b"X/usr/bin", b"Ta//b", b"Qd"], 1),
+    (&[b"\xd1\x01\x01", b"Qa"], 1),
+    (&[b"\xa1\x01", b"\x09"], 1),
+    (
+        &[
+            b"\xa2\x01\x02",
+            b"\x23\x41\0\0\0\0\0\0\0",
+            b"\x33\x41\0\0\0\0\0\0\0",
+        ],
+        1,
+    ),
+    (&[b"\xd1\x01\x01", b"\x09"], 1),
+    (&[b"\xd2\x01\x02\x03\x03", b"Qa", b"Qa", b"\x09"], 1),
+    (&[b"\xa1\x00\x00\x01", b"\x09"], 3),
+    (&[b"\xa2\x01\x02", b"RQa", b"Qa"], 1),
+    (
+        &[
+            b"\xd2\x01\x02\x03\x04",
+            b"^archiveVersion",
+            b"Wclasses",
+            b"Q1",
+            b"\xd0",
+        ],
+        1,
+    ),
+    (&[b"\xa1\x01", b"\xa0"], 1),
+];
+
+// The canonical file of a table, but for an octet in its trailer.
+fn marked(alloc: Global) -> Result<Vec<u8>, AllocError> {
+    let mut file = file_of(alloc, &[b"\xd2\x01\x02\x02\x01", b"Qa", b"Qb"], 1)?;
+    if let Some(slack) = file.get_mut(20) {
+        *slack = 1;
     }
-
-    /// Appends an object.
-    pub fn put(&mut self, object: &[u8]) -> Result<(), AllocError> {
-        self.places.push(self.octets.len() as u64)?;
-        self.octets.extend_from_slice(object)
-    }
-
-    /// The file, with offsets and references of so many octets.
-    pub fn finish(self, offset_width: u8, reference_width: u8) -> Result<Vec<u8>, AllocError> {
-        let Draft { mut octets, places } = self;
-        let table = octets.len() as u64;
-        for place in places.as_slice() {
-            let skipped = 8 - usize::from(offset_width.min(8));
-            octets.extend_from_slice(&place.to_be_bytes()[skipped..])?;
-        }
-        let widths = [offset_width, reference_width];
-        put_trailer(&mut octets, widths, places.len() as u64, table)?;
-        Ok(octets)
-    }
-}
-
-/// The binary file of this object alone.
-pub fn one(alloc: Global, object: &[u8]) -> Result<Vec<u8>, AllocError> {
-    file(alloc, object, &[8], 1)
-}
-
-/// The binary file of these octets of objects, with these entries of the offset table, of one octet each, and
-/// this width of a reference.
-pub fn file(
-    alloc: Global,
-    objects: &[u8],
-    entries: &[u8],
-    width: u8,
-) -> Result<Vec<u8>, AllocError> {
-    let mut file = Vec::from_slice(alloc, b"bplist00")?;
-    file.extend_from_slice(objects)?;
-    end(&mut file, entries, [1, width], entries.len() as u64)?;
     Ok(file)
 }
 
-/// The binary file of these objects, one behind the other, with offsets of one octet and this width of a
-/// reference.
-pub fn file_of(
-    alloc: Global,
-    objects: &[&[u8]],
-    reference_width: u8,
-) -> Result<Vec<u8>, AllocError> {
-    let mut draft = Draft::new(alloc)?;
-    for object in objects {
-        draft.put(object)?;
+/// Files of at most 80 octets.
+pub(crate) fn small_files(alloc: Global) -> Result<Vec<Vec<u8>>, AllocError> {
+    let mut files = Vec::new(alloc);
+    for object in ALONE {
+        files.push(one(alloc, object)?)?;
     }
-    draft.finish(1, reference_width)
-}
-
-/// Ends a file with this offset table, these widths of an offset and of a reference, and this count of
-/// objects.
-pub fn end(
-    file: &mut Vec<u8>,
-    table: &[u8],
-    widths: [u8; 2],
-    count: u64,
-) -> Result<(), AllocError> {
-    let place = file.len() as u64;
-    file.extend_from_slice(table)?;
-    put_trailer(file, widths, count, place)
-}
-
-/// Appends a trailer with these widths of an offset and of a reference, this count of objects and this place
-/// of the offset table.
-pub fn put_trailer(
-    file: &mut Vec<u8>,
-    widths: [u8; 2],
-    count: u64,
-    table: u64,
-) -> Result<(), AllocError> {
-    file.extend_from_slice(&[0; 6])?;
-    file.extend_from_slice(&widths)?;
-    file.extend_from_slice(&count.to_be_bytes())?;
-    file.extend_from_slice(&0u64.to_be_bytes())?;
-    file.extend_from_slice(&table.to_be_bytes())
-}
-
-/// Lists that each hold the next object, and one last object, so many in all, with widths of two octets.
-pub fn chain(alloc: Global, count: u16, last: &[u8]) -> Result<Vec<u8>, AllocError> {
-    let mut draft = Draft::new(alloc)?;
-    for i in 1..count {
-        let [high, low] = i.to_be_bytes();
-        draft.put(&[0xa1, high, low])?;
+    for (objects, width) in TOGETHER {
+        files.push(file_of(alloc, objects, width)?)?;
     }
-    draft.put(last)?;
-    draft.finish(2, 2)
+    // Two texts of which one lies in the other, an object in the header, and a trailer that does not begin
+    // with zeros.
+    files.push(file(alloc, b"\xa2\x01\x02RQa", &[8, 11, 12], 1)?)?;
+    files.push(file(alloc, b"\x09", &[7], 1)?)?;
+    files.push(marked(alloc)?)?;
+    Ok(files)
 }
 
-/// A list of so many references, at least 256, to one other object, with offsets of four octets.
-pub fn fan(alloc: Global, count: u32, object: &[u8]) -> Result<Vec<u8>, AllocError> {
-    let mut list = Vec::from_slice(alloc, &[0xaf])?;
-    match u16::try_from(count) {
-        Ok(count) => {
-            list.push(0x11)?;
-            list.extend_from_slice(&count.to_be_bytes())?;
+// The canonical file of the list of the texts of the numbers below the count, of three digits each.
+fn numbers(alloc: Global, count: u8, width: u8) -> Result<Vec<u8>, AllocError> {
+    let mut list = Vec::from_slice(alloc, &[0xaf, 0x10, count])?;
+    for number in 0..u16::from(count) {
+        let [high, low] = (number + 1).to_be_bytes();
+        if width == 2 {
+            list.push(high)?;
         }
-        Err(_) => {
-            list.push(0x12)?;
-            list.extend_from_slice(&count.to_be_bytes())?;
-        }
+        list.push(low)?;
     }
-    let size = list.len().saturating_add(count as usize);
-    list.resize(size, 1)?;
     let mut draft = Draft::new(alloc)?;
     draft.put(list.as_slice())?;
-    draft.put(object)?;
-    draft.finish(4, 1)
+    for number in 0..count {
+        let digits = [number / 100, number / 10 % 10, number % 10];
+        draft.put(&[0x53, b'0' + digits[0], b'0' + digits[1], b'0' + digits[2]])?;
+    }
+    draft.finish(2, width)
 }
 
-/// Thirty lists that each hold the next object twice, and an empty one: 2^31 - 1 nodes in 31 objects.
-pub fn tower(alloc: Global) -> Result<Vec<u8>, AllocError> {
+// Data of so many zeros.
+fn zeros(alloc: Global, count: u8, offset_width: u8) -> Result<Vec<u8>, AllocError> {
+    let mut object = Vec::from_slice(alloc, &[0x4f, 0x10, count])?;
+    object.resize(3 + usize::from(count), 0)?;
     let mut draft = Draft::new(alloc)?;
-    for i in 1..31u8 {
-        draft.put(&[0xa2, i, i])?;
-    }
-    draft.put(b"\xa0")?;
-    draft.finish(1, 1)
+    draft.put(object.as_slice())?;
+    draft.finish(offset_width, 1)
+}
+
+/// Canonical files of 288 to 2,598 octets: of 255 and 256 objects, of data just below and at the place 256,
+/// and of lists 512 deep.
+pub(crate) fn long_files(alloc: Global) -> Result<Vec<Vec<u8>>, AllocError> {
+    let mut files = Vec::new(alloc);
+    files.push(numbers(alloc, 254, 1)?)?;
+    files.push(numbers(alloc, 255, 2)?)?;
+    files.push(zeros(alloc, 244, 1)?)?;
+    files.push(zeros(alloc, 245, 2)?)?;
+    files.push(test_files::chain(alloc, 512, b"Qa")?)?;
+    Ok(files)
 }

@@ -1,9 +1,12 @@
 //! The judge and the reader where no row of octets shows them: keys that many tables share, and want of memory.
-use crate::files::Draft;
 use plist_binary::{BinaryFault, judge, judge_keys, read};
 use plist_canon::{CheckFault, check};
 use std::alloc::{AllocError, Global};
 use std::test::Fail;
+use test_files::Draft;
+
+// A flag, and the three objects that no table names.
+const LAST_OBJECTS: [&[u8]; 4] = [b"\x09", b"\xd2\x1b\x1c\x19\x19", b"\x00", b"Q\xff"];
 
 // A list of twenty tables, all with two keys of forty units: objects 21 and this one. Objects 22 and 23 differ
 // from 21 in their last unit, and 24 does not. No table names the three objects after it, two of which do not
@@ -19,36 +22,41 @@ fn tables_that_share_keys(alloc: Global, second: u8) -> Result<Vec<u8>, AllocErr
         draft.put(&[0xd2, 21, 22, 25, 25])?;
     }
     draft.put(&[0xd2, 21, second, 25, 25])?;
-    for last in [b'm', b'k', b'z', b'm'] {
+    for last in b"mkzm" {
         let mut key = Vec::from_slice(alloc, &[0x5f, 0x10, 40])?;
         key.resize(42, b'a')?;
-        key.push(last)?;
+        key.push(*last)?;
         draft.put(key.as_slice())?;
     }
-    for object in [
-        b"\x09".as_slice(),
-        b"\xd2\x1b\x1c\x19\x19",
-        b"\x00",
-        b"Q\xff",
-    ] {
+    for object in &LAST_OBJECTS {
         draft.put(object)?;
     }
     draft.finish(2, 1)
 }
 
+// The second key of the last table, and what is answered.
+const SECOND_KEYS: [(u8, Result<(), BinaryFault>); 5] = [
+    (22, Ok(())),
+    (23, Ok(())),
+    (24, Err(BinaryFault::DuplicateKey { object: 20 })),
+    (21, Err(BinaryFault::DuplicateKey { object: 20 })),
+    (25, Err(BinaryFault::KeyNotText { object: 20 })),
+];
+
+// The first second key that is answered otherwise.
+fn wrong_key(alloc: Global) -> Result<Option<u8>, AllocError> {
+    for (second, answer) in &SECOND_KEYS {
+        let octets = tables_that_share_keys(alloc, *second)?;
+        if judge(alloc, octets.as_slice()) != *answer {
+            return Ok(Some(*second));
+        }
+    }
+    Ok(None)
+}
+
 #[test]
 fn keys_that_many_tables_share(rt: HostRuntime) -> Result<(), Fail> {
-    let alloc = rt.alloc();
-    for (second, answer) in [
-        (22, Ok(())),
-        (23, Ok(())),
-        (24, Err(BinaryFault::DuplicateKey { object: 20 })),
-        (21, Err(BinaryFault::DuplicateKey { object: 20 })),
-        (25, Err(BinaryFault::KeyNotText { object: 20 })),
-    ] {
-        let octets = tables_that_share_keys(alloc, second)?;
-        assert_eq!(rt; judge(alloc, octets.as_slice()), answer);
-    }
+    assert_eq!(rt; wrong_key(rt.alloc())?, None);
     Ok(())
 }
 
@@ -88,20 +96,42 @@ fn long_table(alloc: Global, front: u8, last: u8) -> Result<Vec<u8>, AllocError>
     draft.finish(2, 1)
 }
 
+// Whether the keys of a long table with this front are put in their order.
+fn is_in_order(alloc: Global, front: u8) -> Result<bool, AllocError> {
+    let octets = long_table(alloc, front, 6)?;
+    let Ok(Some(sorted)) = judge_keys(alloc, octets.as_slice()) else {
+        return Ok(false);
+    };
+    for (number, place) in (0..80).zip(sorted.places.iter()) {
+        if *place % 80 * 37 % 80 != number {
+            return Ok(false);
+        }
+    }
+    Ok(true)
+}
+
+// Whether a long table with this front that has one key twice is refused.
+fn is_refused(alloc: Global, front: u8) -> Result<bool, AllocError> {
+    let twice = long_table(alloc, front, 7)?;
+    let answer = judge(alloc, twice.as_slice());
+    Ok(answer == Err(BinaryFault::DuplicateKey { object: 0 }))
+}
+
+const FRONTS: [u8; 8] = [0, 1, 40, 62, 63, 64, 65, 90];
+
+// The first front of which a table is answered otherwise.
+fn wrong_front(alloc: Global) -> Result<Option<u8>, AllocError> {
+    for front in &FRONTS {
+        if !is_in_order(alloc, *front)? || !is_refused(alloc, *front)? {
+            return Ok(Some(*front));
+        }
+    }
+    Ok(None)
+}
+
 #[test]
 fn keys_of_a_long_table(rt: HostRuntime) -> Result<(), Fail> {
-    let alloc = rt.alloc();
-    for front in [0, 1, 40, 62, 63, 64, 65, 90] {
-        let octets = long_table(alloc, front, 6)?;
-        let judged = judge_keys(alloc, octets.as_slice()).ok();
-        let sorted = judged.flatten().ok_or("a long table")?;
-        for (number, place) in (0..80).zip(sorted.places.iter()) {
-            assert_eq!(rt; *place % 80 * 37 % 80, number);
-        }
-        let twice = long_table(alloc, front, 7)?;
-        let answer = judge(alloc, twice.as_slice());
-        assert_eq!(rt; answer, Err(BinaryFault::DuplicateKey { object: 0 }));
-    }
+    assert_eq!(rt; wrong_front(rt.alloc())?, None);
     Ok(())
 }
 
@@ -125,19 +155,39 @@ const FILES: [(&[u8], u8); 3] = [
     ),
 ];
 
+// The number of the refusal, 0 where there is none.
+fn code_of(fault: Option<BinaryFault>) -> u8 {
+    match fault {
+        Some(fault) => fault.code(),
+        None => 0,
+    }
+}
+
+// Whether the judge and the reader answer this number, and the check no fault, or that there is
+// no memory.
+fn is_answered(alloc: Global, octets: &[u8], code: u8) -> bool {
+    let judged = code_of(judge(alloc, octets).err());
+    let value = code_of(read(alloc, octets).err());
+    let checked = check(alloc, octets).err();
+    (judged == code || judged == 60)
+        && (value == code || value == 60)
+        && (checked.is_none() || checked == Some(CheckFault::OutOfMemory))
+}
+
+// The place of the first file that is answered otherwise.
+fn wrong_file(alloc: Global) -> Option<usize> {
+    for (place, (octets, code)) in FILES.iter().enumerate() {
+        if !is_answered(alloc, octets, *code) {
+            return Some(place);
+        }
+    }
+    None
+}
+
 // To refuse memory: `rt try --test --fail-alloc N -- judge_tests::want_of_memory`, N from 1 to 40.
 #[test]
 fn want_of_memory(rt: HostRuntime) -> Result<(), Fail> {
-    for (octets, code) in FILES {
-        let judged = judge(rt.alloc(), octets).err();
-        let value = read(rt.alloc(), octets).err();
-        for fault in [judged, value] {
-            let answer = fault.map_or(0, |fault| fault.code());
-            assert!(rt; answer == code || answer == 60, "{answer}");
-        }
-        let checked = check(rt.alloc(), octets).err();
-        assert!(rt; checked.is_none() || checked == Some(CheckFault::OutOfMemory));
-    }
+    assert_eq!(rt; wrong_file(rt.alloc()), None);
     assert_eq!(rt; CheckFault::OutOfMemory.code(), 60);
     let printed = format!(in rt.alloc(); "{}", CheckFault::OutOfMemory)?;
     assert_eq!(rt; printed.as_str(), "60 OutOfMemory");

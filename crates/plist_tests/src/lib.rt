@@ -1,19 +1,55 @@
-//! Tests of the crates of the binary form, of what no row of `rows` spells: files that are made, devices that
-//! fail, want of memory. With them the small binary files that tests and rows are shown on.
+//! All tests of what no row of `rows` spells: files that are made, devices that fail, each prefix of small files
+//! and texts, deep texts, want of memory, and the program over the files of the host and over a disk in memory.
+//! They stand in one crate, since a crate of tests loads the proofs of all that is below it.
 #![tactic(auto)]
 
 #[cfg(test)]
+mod deepest;
+#[cfg(test)]
+mod depth;
+#[cfg(test)]
 mod engine;
-pub mod files;
+#[cfg(test)]
+mod faults;
+#[cfg(test)]
+mod files;
+#[cfg(test)]
+mod growths;
+#[cfg(test)]
+mod help_tests;
+#[cfg(test)]
+mod host_tests;
 #[cfg(test)]
 mod judge_tests;
 #[cfg(test)]
 mod limit_tests;
 #[cfg(test)]
+mod loading_tests;
+#[cfg(test)]
+mod memory_tests;
+#[cfg(test)]
 mod object_tests;
 #[cfg(test)]
+mod prefixes;
+#[cfg(test)]
+mod readme;
+#[cfg(test)]
 mod send_tests;
+#[cfg(test)]
+mod sink_tests;
+#[cfg(test)]
+mod size_tests;
+#[cfg(test)]
+mod texts;
+#[cfg(test)]
+mod tokens;
+#[cfg(test)]
+mod transfer_tests;
 #[cfg(test)]
 mod value_tests;
 #[cfg(test)]
 mod values;
+#[cfg(test)]
+mod words;
+#[cfg(test)]
+mod worked_files;

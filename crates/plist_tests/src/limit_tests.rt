@@ -1,12 +1,12 @@
 //! Files that are made: the limits on depth, nodes and payload, as the judge, the reader and the check have them,
 //! and the widths of references and offsets.
 use crate::engine::canonical_file;
-use crate::files::{Draft, chain, fan, tower};
 use crate::values::made;
 use plist_binary::{BinaryFault, judge, read};
 use plist_canon::{Verdict, check};
 use std::alloc::{AllocError, Global};
 use std::test::Fail;
+use test_files::{Draft, chain, fan, tower};
 
 // Thirty tables whose two keys each name the next one, a flag, and the keys a and b.
 fn tower_of_tables(alloc: Global) -> Result<Vec<u8>, AllocError> {
@@ -104,7 +104,7 @@ fn zeros(alloc: Global, head: &[u8], count: u8, width: u8) -> Result<Vec<u8>, Al
 }
 
 /// A file that is made.
-#[derive(Clone, Copy, Debug)]
+#[derive(Clone, Copy)]
 enum Shape {
     /// So many objects: lists that each hold the next one, and a last one of this octet.
     Chain(u16, u8),
@@ -181,9 +181,13 @@ const ZEROS_244: Shape = Shape::Zeros(b"\x4f\x10\xf4", 244, 1);
 
 const ZEROS_245: Shape = Shape::Zeros(b"\x4f\x10\xf5", 245, 2);
 
-// A shape, how many octets its file has, what is answered, and the rule that the check finds broken at which
-// object: 0 at 0 for a value past the limits. It meets the container of a tower twice before it counts a node.
-const ROWS: [(Shape, usize, Answer, Option<(u8, u64)>); 24] = [
+/// A shape, how many octets its file has, what is answered, and the rule that the check finds
+/// broken at which object.
+type Row = (Shape, usize, Answer, Option<(u8, u64)>);
+
+// The check finds 0 broken at 0 for a value past the limits. It meets the container of a tower
+// twice before it counts a node.
+const ROWS: [Row; 24] = [
     (Shape::Chain(512, 0x09), 2598, Answer::Read, None),
     (Shape::Chain(513, 0x09), 2603, DEEP, Some((0, 0))),
     (Shape::Chain(20_000, 0xa0), 100_038, DEEP, Some((0, 0))),
@@ -220,33 +224,43 @@ fn verdict(broken: Option<(u8, u64)>) -> Verdict {
     }
 }
 
-#[test]
-fn files_at_the_limits(rt: HostRuntime) -> Result<(), Fail> {
-    let alloc = rt.alloc();
-    for (shape, size, answer, broken) in ROWS {
+// Whether the octets are the canonical file of the value that is read of them.
+fn is_own(alloc: Global, octets: &[u8]) -> Result<bool, Fail> {
+    let value = read(alloc, octets)?;
+    let made = made(alloc, &value)?;
+    let own = canonical_file(alloc, octets)?;
+    Ok(made.as_slice() == octets && own.as_slice() == octets)
+}
+
+// Whether the judge and the reader answer so.
+fn is_answered(alloc: Global, octets: &[u8], answer: Answer) -> Result<bool, Fail> {
+    let fault = judge(alloc, octets).err();
+    match answer {
+        Answer::Refused(other) => {
+            Ok(fault == Some(other) && read(alloc, octets).err() == Some(other))
+        }
+        Answer::Read => Ok(fault.is_none() && is_own(alloc, octets)?),
+        Answer::Judged => Ok(fault.is_none()),
+    }
+}
+
+// The place of the first row that is answered otherwise.
+fn wrong_row(alloc: Global) -> Result<Option<usize>, Fail> {
+    for (place, (shape, size, answer, broken)) in ROWS.iter().enumerate() {
         let octets = shape.file(alloc)?;
-        assert_eq!(rt; octets.len(), size, "{shape:?}");
-        assert_eq!(rt;
-            check(alloc, octets.as_slice()),
-            Ok(verdict(broken)),
-            "{shape:?}"
-        );
-        let fault = judge(alloc, octets.as_slice()).err();
-        match answer {
-            Answer::Refused(other) => {
-                assert_eq!(rt; fault, Some(other), "{shape:?}");
-                assert_eq!(rt; read(alloc, octets.as_slice()).err(), fault, "{shape:?}");
-            }
-            Answer::Read => {
-                assert_eq!(rt; fault, None, "{shape:?}");
-                let value = read(alloc, octets.as_slice())?;
-                assert!(rt; made(alloc, &value)? == octets, "{shape:?}");
-                let own = canonical_file(alloc, octets.as_slice())?;
-                assert!(rt; own == octets, "{shape:?}");
-            }
-            Answer::Judged => assert_eq!(rt; fault, None, "{shape:?}"),
+        let octets = octets.as_slice();
+        let checked = check(alloc, octets);
+        let is_right = octets.len() == *size && checked == Ok(verdict(*broken));
+        if !is_right || !is_answered(alloc, octets, *answer)? {
+            return Ok(Some(place));
         }
     }
+    Ok(None)
+}
+
+#[test]
+fn files_at_the_limits(rt: HostRuntime) -> Result<(), Fail> {
+    assert_eq!(rt; wrong_row(rt.alloc())?, None);
     Ok(())
 }
 
@@ -260,12 +274,19 @@ const SOURCES: [(Shape, Shape); 6] = [
     (Shape::Zeros(b"\x4f\x11\0\xf5", 245, 2), ZEROS_245),
 ];
 
+// The place of the first source that has another canonical file.
+fn wrong_source(alloc: Global) -> Result<Option<usize>, AllocError> {
+    for (place, (source, own)) in SOURCES.iter().enumerate() {
+        let canonical = canonical_file(alloc, source.file(alloc)?.as_slice())?;
+        if canonical.as_slice() != own.file(alloc)?.as_slice() {
+            return Ok(Some(place));
+        }
+    }
+    Ok(None)
+}
+
 #[test]
 fn widths_are_the_least(rt: HostRuntime) -> Result<(), Fail> {
-    let alloc = rt.alloc();
-    for (source, own) in SOURCES {
-        let canonical = canonical_file(alloc, source.file(alloc)?.as_slice())?;
-        assert!(rt; canonical == own.file(alloc)?, "{source:?}");
-    }
+    assert_eq!(rt; wrong_source(rt.alloc())?, None);
     Ok(())
 }

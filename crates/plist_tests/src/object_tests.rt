@@ -3,44 +3,78 @@ use plist_object::{
     list_length, put_list, put_scalar, put_table, scalar_length, table_length, width_of,
 };
 use plist_value::{ScalarRef, TextRef};
-use std::alloc::AllocError;
+use std::alloc::{AllocError, Global};
 use std::test::Fail;
+
+// Numbers, and how many octets each takes.
+const WIDTHS: [(u64, u8); 5] = [(0, 1), (255, 1), (256, 2), (65_536, 4), (1 << 32, 8)];
+
+// The first number that takes another count of octets.
+fn wrong_width() -> Option<u64> {
+    for (number, width) in &WIDTHS {
+        if width_of(*number) != *width {
+            return Some(*number);
+        }
+    }
+    None
+}
+
+const LETTERS: [u8; 300] = [0x61; 300];
+
+// Whether the text of so many letters takes so many octets.
+fn is_long(count: usize, length: u64) -> bool {
+    match LETTERS.get(..count).and_then(TextRef::of_ascii) {
+        Some(text) => scalar_length(&ScalarRef::Text(text)) == length,
+        None => false,
+    }
+}
 
 #[test]
 fn widths_and_lengths(rt: HostRuntime) -> Result<(), Fail> {
-    for (n, width) in [(0, 1), (255, 1), (256, 2), (65_536, 4), (1 << 32, 8)] {
-        assert_eq!(rt; width_of(n), width);
-    }
-    let letters = [0x61; 300];
-    for (count, length) in [(15, 18), (300, 304)] {
-        let text = TextRef::of_ascii(&letters[..count]).ok_or("ascii")?;
-        assert_eq!(rt; scalar_length(&ScalarRef::Text(text)), length);
-    }
-    assert_eq!(rt; list_length(254, 1), 257);
-    assert_eq!(rt; table_length(2, 1), 5);
+    assert_eq!(rt; wrong_width(), None);
+    assert!(rt; is_long(15, 18));
+    assert!(rt; is_long(300, 304));
+    assert!(rt; list_length(254, 1) == 257);
+    assert!(rt; table_length(2, 1) == 5);
     Ok(())
 }
 
-// What has to stand in a list that held aa: that and what was put, or where there was no memory aa alone.
-fn is_put<'a>(put: &Result<(), AllocError>, octets: &'a [u8]) -> &'a [u8] {
-    if put.is_ok() { octets } else { &[0xaa] }
+// Whether these octets stand in a list that held aa before the put. A refused put is an error, if the list holds
+// aa alone.
+fn is_put(put: Result<(), AllocError>, out: &[u8], octets: &[u8]) -> Result<bool, AllocError> {
+    match put {
+        Ok(()) => Ok(out == octets),
+        Err(_) if out != b"\xaa".as_slice() => Ok(false),
+        Err(error) => Err(error),
+    }
+}
+
+fn is_scalar_put(alloc: Global) -> Result<bool, AllocError> {
+    let Some(wide) = TextRef::of_wide(b"\x00a") else {
+        return Ok(false);
+    };
+    let mut out = Vec::from_slice(alloc, b"\xaa")?;
+    let put = put_scalar(&mut out, &ScalarRef::Text(wide));
+    is_put(put, out.as_slice(), b"\xaa\x51\x61")
+}
+
+fn is_list_put(alloc: Global) -> Result<bool, AllocError> {
+    let mut out = Vec::from_slice(alloc, b"\xaa")?;
+    let put = put_list(&mut out, 2, &[1]);
+    is_put(put, out.as_slice(), b"\xaa\xa1\x00\x01")
+}
+
+fn is_table_put(alloc: Global) -> Result<bool, AllocError> {
+    let mut out = Vec::from_slice(alloc, b"\xaa")?;
+    let put = put_table(&mut out, 1, &[1, 2], &[2, 1]);
+    is_put(put, out.as_slice(), b"\xaa\xd2\x01\x02\x02\x01")
 }
 
 // Also where memory is refused from outside.
 #[test]
 fn a_refused_put_leaves_the_list(rt: HostRuntime) -> Result<(), Fail> {
-    let wide = TextRef::of_wide(&[0, 0x61]).ok_or("even")?;
-    let mut out = Vec::from_slice(rt.alloc(), &[0xaa])?;
-    let put = put_scalar(&mut out, &ScalarRef::Text(wide));
-    assert_eq!(rt; out.as_slice(), is_put(&put, &[0xaa, 0x51, 0x61]));
-    put?;
-    let mut out = Vec::from_slice(rt.alloc(), &[0xaa])?;
-    let put = put_list(&mut out, 2, &[1]);
-    assert_eq!(rt; out.as_slice(), is_put(&put, &[0xaa, 0xa1, 0, 1]));
-    put?;
-    let mut out = Vec::from_slice(rt.alloc(), &[0xaa])?;
-    let put = put_table(&mut out, 1, &[1, 2], &[2, 1]);
-    assert_eq!(rt; out.as_slice(), is_put(&put, &[0xaa, 0xd2, 1, 2, 2, 1]));
-    put?;
+    assert!(rt; is_scalar_put(rt.alloc())?);
+    assert!(rt; is_list_put(rt.alloc())?);
+    assert!(rt; is_table_put(rt.alloc())?);
     Ok(())
 }

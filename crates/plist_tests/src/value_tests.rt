@@ -22,94 +22,181 @@ fn swapped(alloc: Global) -> Result<Value, AllocError> {
     Ok(Value::Table(pairs))
 }
 
+const LEAST: i128 = -(1 << 63);
+
+const MOST: i128 = (1 << 64) - 1;
+
+const NUMBERS: [i128; 9] = [LEAST, -1, 0, 5, 255, 256, 1 << 32, 1 << 63, MOST];
+
+// Whether the number is kept as it is, equal to itself and with one hash.
+fn is_kept(number: i128) -> bool {
+    match Whole::new(number) {
+        Some(whole) => {
+            whole.get() == number && whole == whole && hash_of(&whole) == hash_of(&whole)
+        }
+        None => false,
+    }
+}
+
+// The first number of the range that is not kept.
+fn wrong_number() -> Option<i128> {
+    for number in &NUMBERS {
+        if !is_kept(*number) {
+            return Some(*number);
+        }
+    }
+    None
+}
+
 #[test]
 fn whole_numbers_in_their_range(rt: HostRuntime) -> Result<(), Fail> {
-    let (least, most) = (-(1_i128 << 63), (1_i128 << 64) - 1);
-    assert!(rt; Whole::new(least - 1).is_none());
-    assert!(rt; Whole::new(most + 1).is_none());
-    for number in [least, -1, 0, 5, 255, 256, 1 << 32, 1 << 63, most] {
-        let whole = Whole::new(number).ok_or("in the range")?;
-        assert_eq!(rt; whole.get(), number);
-        assert!(rt; whole == whole);
-        assert_eq!(rt; hash_of(&whole), hash_of(&whole));
-    }
+    assert!(rt; Whole::new(LEAST - 1).is_none());
+    assert!(rt; Whole::new(MOST + 1).is_none());
+    assert_eq!(rt; wrong_number(), None);
     Ok(())
+}
+
+const LETTERS: [u16; 2] = [0x61, 0x62];
+
+// The text ab in two spellings.
+fn spellings() -> Option<(TextRef<'static>, TextRef<'static>)> {
+    let ascii = TextRef::of_ascii(b"ab")?;
+    let wide = TextRef::of_wide(b"\x00a\x00b")?;
+    Some((ascii, wide))
+}
+
+// Whether the two texts are equal, in their order and by their hashes too.
+fn are_equal(text: TextRef, other: TextRef) -> bool {
+    text == other && text.cmp(&other) == Ordering::Equal && hash_of(&text) == hash_of(&other)
+}
+
+// Whether the text has the two letters, and is equal to each of these.
+fn is_like(text: TextRef, others: &[TextRef]) -> bool {
+    if text.len() != 2 || text.is_empty() || text.unit(1) != 0x62 {
+        return false;
+    }
+    for other in others {
+        if !are_equal(text, *other) {
+            return false;
+        }
+    }
+    true
+}
+
+// Whether all spellings are one text.
+fn are_one_text(texts: &[TextRef]) -> bool {
+    for text in texts {
+        if !is_like(*text, texts) {
+            return false;
+        }
+    }
+    true
+}
+
+// A surrogate may stand alone.
+fn is_alone() -> bool {
+    match TextRef::of_wide(b"\xd8\x00") {
+        Some(alone) => alone == TextRef::of_units(&[0xd800]),
+        None => false,
+    }
+}
+
+// A surrogate pair stands below U+FF61.
+fn is_pair_below() -> bool {
+    match TextRef::of_wide(b"\xd8\x00\xdc\x00") {
+        Some(pair) => pair < TextRef::of_units(&[0xff61]),
+        None => false,
+    }
 }
 
 #[test]
 fn texts_by_their_units(rt: HostRuntime) -> Result<(), Fail> {
     assert!(rt; TextRef::of_ascii(b"\x80").is_none());
     assert!(rt; TextRef::of_wide(b"\x00").is_none());
-    let ascii = TextRef::of_ascii(b"ab").ok_or("all below 80")?;
-    let wide = TextRef::of_wide(b"\x00a\x00b").ok_or("an even length")?;
-    let plain = TextRef::of_units(&[0x61, 0x62]);
-    for text in [ascii, wide, plain] {
-        assert_eq!(rt; text.len(), 2);
-        assert!(rt; !text.is_empty());
-        assert_eq!(rt; text.unit(1), 0x62);
-        for other in [ascii, wide, plain] {
-            assert!(rt; text == other);
-            assert_eq!(rt; text.cmp(&other), Ordering::Equal);
-            assert_eq!(rt; hash_of(&text), hash_of(&other));
-        }
-    }
-    // A surrogate may stand alone.
-    let alone = TextRef::of_wide(b"\xd8\x00").ok_or("an even length")?;
-    assert!(rt; alone == TextRef::of_units(&[0xd800]));
-    // A surrogate pair stands below U+FF61, and a prefix first.
-    let pair = TextRef::of_wide(b"\xd8\x00\xdc\x00").ok_or("an even length")?;
-    let high = TextRef::of_units(&[0xff61]);
-    assert!(rt; pair < high);
+    let (ascii, wide) = spellings().ok_or("all below 80, an even length")?;
+    assert!(rt; are_one_text(&[ascii, wide, TextRef::of_units(&LETTERS)]));
+    assert!(rt; is_alone());
+    assert!(rt; is_pair_below());
+    // A prefix stands first.
     assert!(rt; TextRef::of_units(&[0x61]) < wide);
     Ok(())
 }
 
 #[test]
 fn texts_that_are_owned(rt: HostRuntime) -> Result<(), Fail> {
-    let text = units(rt.alloc(), &[0x61, 0x62])?;
+    let text = units(rt.alloc(), &LETTERS)?;
     let copy = text.copy(rt.alloc())?;
-    assert_eq!(rt; copy.units(), [0x61, 0x62].as_slice());
+    assert!(rt; copy.units() == LETTERS.as_slice());
     assert!(rt; copy == text);
     assert!(rt; units(rt.alloc(), &[0x61])? < text);
-    assert_eq!(rt; hash_of(&text), hash_of(&TextRef::of_units(text.units())));
+    assert!(rt; hash_of(&text) == hash_of(&TextRef::of_units(text.units())));
     Ok(())
+}
+
+// Whether a copy of the value is the same.
+fn is_copied(alloc: Global, value: &Value) -> Result<bool, AllocError> {
+    let copied = copy(alloc, value)?;
+    Ok(same(&copied, value))
+}
+
+// Whether the table is the one of b under a, and of a under b, put in the other order.
+fn is_swapped(alloc: Global, pairs: &Value) -> Result<bool, AllocError> {
+    let other = table(alloc, &[0x61], &[0x62])?;
+    Ok(same(&other, pairs))
+}
+
+// Whether a table with nothing is its copy, and neither a list with nothing nor this table.
+fn is_empty_apart(alloc: Global, pairs: &Value) -> Result<bool, AllocError> {
+    let empty = empty_table(alloc);
+    let list = empty_list(alloc);
+    Ok(is_copied(alloc, &empty)? && !same(&list, &empty) && !same(&empty, pairs))
 }
 
 #[test]
 fn copies_of_tables(rt: HostRuntime) -> Result<(), Fail> {
     let alloc = rt.alloc();
     let pairs = swapped(alloc)?;
-    let copied = copy(alloc, &pairs)?;
-    assert!(rt; same(&copied, &pairs));
-    assert!(rt; same(&table(alloc, &[0x61], &[0x62])?, &pairs));
-    assert!(rt; fits(&copied));
-    let empty = empty_table(alloc);
-    assert!(rt; same(&copy(alloc, &empty)?, &empty));
-    assert!(rt; !same(&empty_list(alloc), &empty));
-    assert!(rt; !same(&empty, &pairs));
+    assert!(rt; is_copied(alloc, &pairs)?);
+    assert!(rt; is_swapped(alloc, &pairs)?);
+    assert!(rt; fits(&copy(alloc, &pairs)?));
+    assert!(rt; is_empty_apart(alloc, &pairs)?);
     Ok(())
+}
+
+// A scalar of each kind.
+fn scalars(alloc: Global, five: Whole) -> Result<Vec<Value>, AllocError> {
+    let mut scalars = Vec::new(alloc);
+    scalars.push(text(alloc, &[0xd800])?)?;
+    scalars.push(Value::Whole(five))?;
+    scalars.push(Value::Flag(true))?;
+    scalars.push(Value::Real4([0; 4]))?;
+    scalars.push(Value::Real8([0; 8]))?;
+    scalars.push(Value::Moment([0; 8]))?;
+    scalars.push(data(alloc, b"a")?)?;
+    Ok(scalars)
+}
+
+// The places of the first two values of which the first's copy is the other and should not be,
+// or is not and should be.
+fn wrong_pair(alloc: Global, values: &[Value]) -> Result<Option<(usize, usize)>, AllocError> {
+    for (i, value) in values.iter().enumerate() {
+        let again = copy(alloc, value)?;
+        for (k, other) in values.iter().enumerate() {
+            if same(&again, other) != (i == k) {
+                return Ok(Some((i, k)));
+            }
+        }
+    }
+    Ok(None)
 }
 
 #[test]
 fn copies_of_scalars(rt: HostRuntime) -> Result<(), Fail> {
     let alloc = rt.alloc();
-    let scalars = vec![in alloc;
-        text(alloc, &[0xd800])?,
-        Value::Whole(Whole::new(5).ok_or("in the range")?),
-        Value::Flag(true),
-        Value::Real4([0; 4]),
-        Value::Real8([0; 8]),
-        Value::Moment([0; 8]),
-        data(alloc, b"a")?,
-    ]?;
-    for (i, scalar) in scalars.iter().enumerate() {
-        let again = copy(alloc, scalar)?;
-        for (k, other) in scalars.iter().enumerate() {
-            assert_eq!(rt; same(&again, other), i == k, "{i} and {k}");
-        }
-    }
-    let list = Value::List(scalars);
-    assert!(rt; same(&copy(alloc, &list)?, &list));
+    let five = Whole::new(5).ok_or("in the range")?;
+    let scalars = scalars(alloc, five)?;
+    assert_eq!(rt; wrong_pair(alloc, scalars.as_slice())?, None);
+    assert!(rt; is_copied(alloc, &Value::List(scalars))?);
     Ok(())
 }
 
@@ -129,19 +216,30 @@ fn finds<'a>(
     ))
 }
 
+// The text a in two spellings.
+fn letters() -> Option<(ScalarRef<'static>, ScalarRef<'static>)> {
+    let ascii = TextRef::of_ascii(b"a")?;
+    let wide = TextRef::of_wide(b"\x00a")?;
+    Some((ScalarRef::Text(ascii), ScalarRef::Text(wide)))
+}
+
+// Whether both maps that hold the letter find its other spelling, and neither the data of the
+// same octet.
+fn is_found(alloc: Global, held: ScalarRef, other: ScalarRef) -> Result<bool, AllocError> {
+    let found = finds(alloc, held, other)?;
+    let data = finds(alloc, held, ScalarRef::Bytes(b"a"))?;
+    Ok(found == (true, true) && data == (false, false))
+}
+
 #[test]
 fn scalars_as_keys(rt: HostRuntime) -> Result<(), Fail> {
     let alloc = rt.alloc();
     let letter = text(alloc, &[0x61])?;
     let owned = ScalarRef::of(&letter).ok_or("a scalar")?;
     assert!(rt; ScalarRef::of(&swapped(alloc)?).is_none());
-    let ascii = ScalarRef::Text(TextRef::of_ascii(b"a").ok_or("all below 80")?);
-    let wide = ScalarRef::Text(TextRef::of_wide(b"\x00a").ok_or("an even length")?);
-    let bytes = ScalarRef::Bytes(b"a");
+    let (ascii, wide) = letters().ok_or("all below 80, an even length")?;
     assert!(rt; ascii == wide);
-    assert_eq!(rt; finds(alloc, owned, wide)?, (true, true));
-    assert_eq!(rt; finds(alloc, owned, bytes)?, (false, false));
-    assert_eq!(rt; finds(alloc, ascii, wide)?, (true, true));
-    assert_eq!(rt; finds(alloc, ascii, bytes)?, (false, false));
+    assert!(rt; is_found(alloc, owned, wide)?);
+    assert!(rt; is_found(alloc, ascii, wide)?);
     Ok(())
 }

@@ -1,7 +1,7 @@
 //! A row: its name, what it asks, and its octets.
 use crate::octets::spelled;
-use plist_tests::files::{Draft, file};
 use std::alloc::{AllocError, Global};
+use test_files::{Draft, file};
 
 /// What is asked of octets.
 #[derive(Clone, Copy, Debug)]

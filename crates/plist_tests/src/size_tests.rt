@@ -1,8 +1,8 @@
 //! The canonical file of data that is used often.
 use plist_convert::canonicalise;
-use plist_tests::files::end;
 use std::alloc::{AllocError, Global};
 use std::test::Fail;
+use test_files::end;
 
 // Puts the last octets of the number, so many of them after the first.
 fn put_number(out: &mut Vec<u8>, number: u64, width: u8) -> Result<(), AllocError> {

@@ -1,4 +1,5 @@
 //! The whole program over a disk, an input and an output in memory.
+use crate::words::words_of;
 use crate::worked_files::{TABLE, UNSORTED};
 use plist_devices::{ListSink, ListSource};
 use plist_disk::{Disk, MemoryDisk};
@@ -39,7 +40,7 @@ const RUNS: [(&str, &str, u8); 8] = [
 // The words of the first run that is answered otherwise.
 fn wrong(alloc: Global, disk: &mut MemoryDisk) -> Result<Option<&'static str>, AllocError> {
     for (text, printed, want) in &RUNS {
-        let words: Vec<&str> = text.split(' ').collect(alloc)?;
+        let words = words_of(alloc, text)?;
         let (status, output) = ran(alloc, disk, words.as_slice(), b"", None)?;
         if output.taken() != printed.as_bytes() || status != *want {
             return Ok(Some(text));
@@ -77,14 +78,16 @@ fn a_full_disk_takes_a_front(rt: HostRuntime) -> Result<(), Fail> {
     Ok(())
 }
 
-// The file of 5,000 octets of data, with this head of the object, and its offset table at the place whose last
+/// What follows the data, but for the last octet: the offset table and the trailer.
+const LONG_END: &[u8] = b"\0\x08\0\0\0\0\0\0\x02\x01\0\0\0\0\0\0\0\x01\
+      \0\0\0\0\0\0\0\0\0\0\0\0\0\0\x13";
+
+// The file of 5,000 octets of data, with this front, and its offset table at the place whose last
 // octet this is.
-fn long_data(alloc: Global, head: &[u8], table: u8) -> Result<Vec<u8>, AllocError> {
-    let mut octets = Vec::from_slice(alloc, b"bplist00")?;
-    octets.extend_from_slice(head)?;
+fn long_data(alloc: Global, front: &[u8], table: u8) -> Result<Vec<u8>, AllocError> {
+    let mut octets = Vec::from_slice(alloc, front)?;
     octets.extend_from_slice(&[7; 5000])?;
-    octets.extend_from_slice(b"\0\x08\0\0\0\0\0\0\x02\x01\0\0\0\0\0\0\0\x01")?;
-    octets.extend_from_slice(b"\0\0\0\0\0\0\0\0\0\0\0\0\0\0\x13")?;
+    octets.extend_from_slice(LONG_END)?;
     octets.push(table)?;
     Ok(octets)
 }
@@ -94,8 +97,8 @@ fn filters_in_memory(rt: HostRuntime) -> Result<(), Fail> {
     let alloc = rt.alloc();
     let mut disk = MemoryDisk::new(alloc, 100, 7);
     // Data of more than 4,096 octets goes out without a copy.
-    let long = long_data(alloc, b"\x4f\x12\0\0\x13\x88", 0x96)?;
-    let own = long_data(alloc, b"\x4f\x11\x13\x88", 0x94)?;
+    let long = long_data(alloc, b"bplist00\x4f\x12\0\0\x13\x88", 0x96)?;
+    let own = long_data(alloc, b"bplist00\x4f\x11\x13\x88", 0x94)?;
     let rows: [(&[u8], Option<u64>, &[u8], u8); 4] = [
         (UNSORTED, None, TABLE, 0),
         (UNSORTED, Some(2), b"-: refused 50 ReadFailed\n", 4),

@@ -35,34 +35,52 @@ impl Write for Broken {
     }
 }
 
+/// What is put, and what is answered.
+type Put = (&'static [u8], Result<usize, DeviceFault>);
+
+// The octets of the first put that is answered otherwise.
+fn wrong_put<S: Sink>(sink: &mut S, puts: &[Put]) -> Option<&'static [u8]> {
+    for (octets, answer) in puts {
+        if sink.put(octets) != *answer {
+            return Some(octets);
+        }
+    }
+    None
+}
+
+/// The puts that a writer with room takes.
+const TAKEN: [Put; 2] = [(b"abc", Ok(3)), (b"", Ok(0))];
+
+/// The puts on a writer with room for one octet.
+const NARROW: [Put; 3] = [(b"abc", Ok(1)), (b"bc", Err(DeviceFault)), (b"", Ok(0))];
+
+/// The puts on a writer that fails.
+const BROKEN: [Put; 2] = [(b"abc", Err(DeviceFault)), (b"", Err(DeviceFault))];
+
 #[test]
 fn a_writer_takes_what_is_put(rt: HostRuntime) -> Result<(), Fail> {
     let mut written = Vec::new(rt.alloc());
     let mut sink = WriterSink::new(&mut written);
-    assert_eq!(rt; sink.put(b"abc"), Ok(3));
-    assert_eq!(rt; sink.put(b""), Ok(0));
-    assert_eq!(rt; sink.failures(), 0);
+    assert!(rt; wrong_put(&mut sink, &TAKEN).is_none());
+    assert!(rt; sink.failures() == 0);
     let mut stream = Stream::new(&mut written);
-    assert_eq!(rt; stream.put(b"de"), Ok(2));
-    assert_eq!(rt; stream.failures(), 0);
-    assert_eq!(rt; written.as_slice(), b"abcde".as_slice());
+    assert!(rt; stream.put(b"de") == Ok(2));
+    assert!(rt; stream.failures() == 0);
+    assert!(rt; written.as_slice() == b"abcde".as_slice());
     Ok(())
 }
 
 #[test]
 fn a_write_that_fails_or_takes_nothing_is_counted(rt: HostRuntime) -> Result<(), Fail> {
     let mut sink = WriterSink::new(Narrow { room: 1 });
-    assert_eq!(rt; sink.put(b"abc"), Ok(1));
-    assert_eq!(rt; sink.put(b"bc"), Err(DeviceFault));
-    assert_eq!(rt; sink.put(b""), Ok(0));
-    assert_eq!(rt; sink.failures(), 1);
+    assert!(rt; wrong_put(&mut sink, &NARROW).is_none());
+    assert!(rt; sink.failures() == 1);
     let mut sink = WriterSink::new(Broken);
-    assert_eq!(rt; sink.put(b"abc"), Err(DeviceFault));
-    assert_eq!(rt; sink.put(b""), Err(DeviceFault));
-    assert_eq!(rt; sink.failures(), 2);
+    assert!(rt; wrong_put(&mut sink, &BROKEN).is_none());
+    assert!(rt; sink.failures() == 2);
     let mut broken = Broken;
     let mut stream = Stream::new(&mut broken);
-    assert_eq!(rt; stream.put(b"abc"), Err(DeviceFault));
-    assert_eq!(rt; stream.failures(), 1);
+    assert!(rt; stream.put(b"abc") == Err(DeviceFault));
+    assert!(rt; stream.failures() == 1);
     Ok(())
 }

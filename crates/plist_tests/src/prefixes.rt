@@ -72,11 +72,19 @@ fn prefixes_of_files(rt: HostRuntime) -> Result<(), Fail> {
     Ok(())
 }
 
+// The first of the texts of which a prefix is answered otherwise, and the length of that prefix.
+fn first_wrong(alloc: Global, texts: &[&[u8]]) -> Option<(usize, usize)> {
+    for (place, octets) in texts.iter().enumerate() {
+        if let Some(length) = first_other(alloc, octets) {
+            return Some((place, length));
+        }
+    }
+    None
+}
+
 #[test]
 fn prefixes_of_texts(rt: HostRuntime) -> Result<(), Fail> {
-    for octets in SMALL_TEXTS {
-        assert_eq!(rt; first_other(rt.alloc(), octets), None, "{octets:?}");
-    }
+    assert_eq!(rt; first_wrong(rt.alloc(), &SMALL_TEXTS), None);
     for count in [511, 512] {
         let octets = nested(rt.alloc(), b"(", b"a", b")", count)?;
         assert_eq!(rt; first_other(rt.alloc(), octets.as_slice()), None);

@@ -1,8 +1,8 @@
 //! The deepest list that a text may spell.
 use crate::texts::nested;
 use plist_files::canonicalise;
-use plist_tests::files::chain;
 use std::test::Fail;
+use test_files::chain;
 
 #[test]
 fn the_deepest_list_has_its_file(rt: HostRuntime) -> Result<(), Fail> {

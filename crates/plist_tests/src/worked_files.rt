@@ -3,6 +3,9 @@
 /// The text of a table with the keys b and a.
 pub(crate) const TABLE_TEXT: &[u8] = b"{b=a;a=b;}";
 
+/// The text that is written for it.
+pub(crate) const WRITTEN_TEXT: &[u8] = b"{\na = b;\nb = a;\n}\n";
+
 /// Its canonical file.
 pub(crate) const TABLE: &[u8] =
     b"bplist00\xd2\x01\x02\x02\x01\x51a\x51b\x08\x0d\x0f\0\0\0\0\0\0\x01\x01\0\0\0\0\0\0\0\x03\

@@ -2,11 +2,11 @@
 use plist_convert::{
     DeviceFault, Fault, Form, ListSink, ListSource, Sink, Source, canonicalise, convert,
 };
-use plist_tests::files::{file, one};
 use plist_transfer::convert_octets_at_end;
 use std::alloc::{AllocError, Global};
-use std::process::Abort;
+use std::ops::Range;
 use std::test::Fail;
+use test_files::{file, one};
 
 const TABLE: &[u8] = b"{b=a;a=b;}";
 
@@ -61,27 +61,43 @@ fn a_failing_take_leaves_the_sink_empty(rt: HostRuntime) -> Result<(), Fail> {
     Ok(())
 }
 
-// Converts with this room in the sink, and asks for what has to have gone out.
-fn converts_into(
-    rt: &impl Abort,
+// Whether a conversion into a sink of this room sends all, or as much as there is room for and a refusal.
+fn sends_a_front(
     alloc: Global,
     octets: &[u8],
     form: Form,
     room: usize,
     whole: &[u8],
-) -> Result<(), Fail> {
+) -> Result<bool, AllocError> {
     let left = conversion(alloc, octets, None, form, room)?;
     let most = room.min(whole.len());
-    if room < whole.len() {
-        let fault = Fault::WriteFailed { sent: most as u64 };
-        assert_eq!(rt; left.answer, Err(fault), "room {room}");
-        assert_eq!(rt; left.sink.failures(), 1);
+    let (answer, failures) = if room < whole.len() {
+        let sent = most as u64;
+        (Err(Fault::WriteFailed { sent }), 1)
     } else {
-        assert_eq!(rt; left.answer, Ok(most as u64), "room {room}");
-        assert_eq!(rt; left.sink.failures(), 0);
+        (Ok(most as u64), 0)
+    };
+    Ok(
+        left.answer == answer
+            && left.sink.failures() == failures
+            && whole.get(..most) == Some(left.sink.taken()),
+    )
+}
+
+// The first room of these of which that is not so.
+fn wrong_room(
+    alloc: Global,
+    octets: &[u8],
+    form: Form,
+    rooms: Range<usize>,
+    whole: &[u8],
+) -> Result<Option<usize>, AllocError> {
+    for room in rooms {
+        if !sends_a_front(alloc, octets, form, room, whole)? {
+            return Ok(Some(room));
+        }
     }
-    assert_eq!(rt; Some(left.sink.taken()), whole.get(..most));
-    Ok(())
+    Ok(None)
 }
 
 #[test]
@@ -91,44 +107,56 @@ fn a_sink_of_any_room_holds_a_front(rt: HostRuntime) -> Result<(), Fail> {
     let unsorted = [0xd2, 1, 2, 2, 1, 0x51, 0x62, 0x51, 0x61];
     let unsorted = file(alloc, &unsorted, &[8, 13, 15], 1)?;
     for octets in [TABLE, unsorted.as_slice(), own.as_slice(), TABLE_TEXT] {
-        for room in 0..54 {
-            converts_into(&rt, alloc, octets, Form::Binary1, room, own.as_slice())?;
-        }
-        for room in 0..20 {
-            converts_into(&rt, alloc, octets, Form::OpenStep, room, TABLE_TEXT)?;
-        }
+        let wrong = wrong_room(alloc, octets, Form::Binary1, 0..54, own.as_slice())?;
+        assert_eq!(rt; wrong, None);
+        let wrong = wrong_room(alloc, octets, Form::OpenStep, 0..20, TABLE_TEXT)?;
+        assert_eq!(rt; wrong, None);
     }
-    // Data past the greatest offset of one octet.
+    Ok(())
+}
+
+// Data past the greatest offset of one octet.
+#[test]
+fn a_sink_of_any_room_holds_a_front_of_data(rt: HostRuntime) -> Result<(), Fail> {
+    let alloc = rt.alloc();
     let mut data = Vec::from_slice(alloc, &[0x4f, 0x11, 0, 245])?;
     data.extend_from_slice(&[7; 245])?;
     let source = one(alloc, data.as_slice())?;
     let whole = canonicalise(alloc, source.as_slice())?;
     assert_eq!(rt; whole.len(), 290);
+    let (octets, whole) = (source.as_slice(), whole.as_slice());
     for room in [289, 290, 300] {
-        let octets = source.as_slice();
-        converts_into(&rt, alloc, octets, Form::Binary1, room, whole.as_slice())?;
+        assert!(rt; sends_a_front(alloc, octets, Form::Binary1, room, whole)?);
     }
     Ok(())
 }
 
+// The number of the refusal, where the sink was left as it was.
+fn refused(alloc: Global, octets: &[u8], form: Form) -> Result<Option<u8>, AllocError> {
+    let left = conversion(alloc, octets, None, form, 100)?;
+    let is_untouched = left.sink.taken().is_empty() && left.sink.failures() == 0;
+    match left.answer {
+        Err(fault) if is_untouched => Ok(Some(fault.code())),
+        _ => Ok(None),
+    }
+}
+
+/// Octets, the form that is asked for, and the number of the refusal.
+const REFUSED: [(&[u8], Form, u8); 5] = [
+    (b"{a;a=b;}", Form::Binary1, 14),
+    (b"{a;a=b;}", Form::OpenStep, 14),
+    (b"bplist00", Form::Binary1, 1),
+    (b"bplist00", Form::OpenStep, 1),
+    (b"(a b)", Form::Binary1, 30),
+];
+
 #[test]
 fn refused_octets_leave_the_sink_empty(rt: HostRuntime) -> Result<(), Fail> {
-    let alloc = rt.alloc();
-    let flag = one(alloc, &[9])?;
-    let rows = [
-        (flag.as_slice(), Form::OpenStep, 40),
-        (b"{a;a=b;}", Form::Binary1, 14),
-        (b"{a;a=b;}", Form::OpenStep, 14),
-        (b"bplist00", Form::Binary1, 1),
-        (b"bplist00", Form::OpenStep, 1),
-        (b"(a b)", Form::Binary1, 30),
-    ];
-    for (octets, form, code) in rows {
-        let left = conversion(alloc, octets, None, form, 100)?;
-        let fault = left.answer.err().ok_or("it is refused")?;
-        assert_eq!(rt; fault.code(), code);
-        assert_eq!(rt; left.sink.taken().len(), 0);
-        assert_eq!(rt; left.sink.failures(), 0);
+    let flag = one(rt.alloc(), &[9])?;
+    let code = refused(rt.alloc(), flag.as_slice(), Form::OpenStep)?;
+    assert_eq!(rt; code, Some(40));
+    for (octets, form, code) in REFUSED {
+        assert_eq!(rt; refused(rt.alloc(), octets, form)?, Some(code));
     }
     Ok(())
 }

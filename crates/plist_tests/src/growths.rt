@@ -8,10 +8,10 @@ use plist_binary::{BinaryFault, read};
 use plist_canon::{CheckFault, ListSink, Verdict, WriteFault, canonical, check, write_canonical};
 use plist_devices::ListSource;
 use plist_files::{Fault, PairFault, canonicalise, line, load, read_any, same_files};
-use plist_tests::files::file;
 use plist_value::{Utf16, Value, copy, fits, same};
 use std::alloc::{AllocError, Global};
 use std::test::Fail;
+use test_files::file;
 
 // The table of b under a and a under b, with its keys not in order.
 const SWAPPED: &[u8] = b"{b=a;a=b;}";
@@ -109,16 +109,23 @@ fn checked(
     Ok(check(alloc, octets.as_slice()))
 }
 
+/// Objects, the first octet behind their places, and what the check says of the file.
+const CHECKED: [(&[u8], u8, Verdict); 4] = [
+    (b"\xd2\x01\x02\x02\x01QaQb", 0, Verdict::Canonical),
+    (b"\xd2\x02\x01\x01\x02QbQa", 0, BROKEN_7),
+    (b"\xd2\x01\x02\x02\x01QbQa", 0, BROKEN_5),
+    (b"\xd2\x01\x02\x02\x01QaQb", 1, BROKEN_1),
+];
+
+const BROKEN_1: Verdict = Verdict::Broken { rule: 1, object: 0 };
+
+const BROKEN_5: Verdict = Verdict::Broken { rule: 5, object: 0 };
+
+const BROKEN_7: Verdict = Verdict::Broken { rule: 7, object: 0 };
+
 #[test]
 fn files_are_checked(rt: HostRuntime) -> Result<(), Fail> {
-    let broken = |rule| Verdict::Broken { rule, object: 0 };
-    let rows: [(&[u8], u8, Verdict); 4] = [
-        (b"\xd2\x01\x02\x02\x01QaQb", 0, Verdict::Canonical),
-        (b"\xd2\x02\x01\x01\x02QbQa", 0, broken(7)),
-        (b"\xd2\x01\x02\x02\x01QbQa", 0, broken(5)),
-        (b"\xd2\x01\x02\x02\x01QaQb", 1, broken(1)),
-    ];
-    for (objects, slack, verdict) in rows {
+    for (objects, slack, verdict) in CHECKED {
         let answer = checked(rt.alloc(), objects, slack)?;
         assert!(rt; answer == Ok(verdict) || answer == Err(CheckFault::OutOfMemory));
     }

@@ -1,0 +1,143 @@
+//! Small binary files, made octet by octet and not by the code that is tested.
+#![tactic(auto)]
+
+use std::alloc::{AllocError, Global};
+
+/// A binary file that is made object after object. Its top object is the first.
+#[derive(Drop)]
+pub struct Draft {
+    octets: Vec<u8>,
+    places: Vec<u64>,
+}
+
+impl Draft {
+    /// A file with its header alone.
+    pub fn new(alloc: Global) -> Result<Draft, AllocError> {
+        Ok(Draft {
+            octets: Vec::from_slice(alloc, b"bplist00")?,
+            places: Vec::new(alloc),
+        })
+    }
+
+    /// Appends an object.
+    pub fn put(&mut self, object: &[u8]) -> Result<(), AllocError> {
+        self.places.push(self.octets.len() as u64)?;
+        self.octets.extend_from_slice(object)
+    }
+
+    /// The file, with offsets and references of so many octets.
+    pub fn finish(self, offset_width: u8, reference_width: u8) -> Result<Vec<u8>, AllocError> {
+        let Draft { mut octets, places } = self;
+        let table = octets.len() as u64;
+        for place in places.as_slice() {
+            let skipped = 8 - usize::from(offset_width.min(8));
+            octets.extend_from_slice(&place.to_be_bytes()[skipped..])?;
+        }
+        let widths = [offset_width, reference_width];
+        put_trailer(&mut octets, widths, places.len() as u64, table)?;
+        Ok(octets)
+    }
+}
+
+/// The binary file of this object alone.
+pub fn one(alloc: Global, object: &[u8]) -> Result<Vec<u8>, AllocError> {
+    file(alloc, object, &[8], 1)
+}
+
+/// The binary file of these octets of objects, with these entries of the offset table, of one octet each, and
+/// this width of a reference.
+pub fn file(
+    alloc: Global,
+    objects: &[u8],
+    entries: &[u8],
+    width: u8,
+) -> Result<Vec<u8>, AllocError> {
+    let mut file = Vec::from_slice(alloc, b"bplist00")?;
+    file.extend_from_slice(objects)?;
+    end(&mut file, entries, [1, width], entries.len() as u64)?;
+    Ok(file)
+}
+
+/// The binary file of these objects, one behind the other, with offsets of one octet and this width of a
+/// reference.
+pub fn file_of(
+    alloc: Global,
+    objects: &[&[u8]],
+    reference_width: u8,
+) -> Result<Vec<u8>, AllocError> {
+    let mut draft = Draft::new(alloc)?;
+    for object in objects {
+        draft.put(object)?;
+    }
+    draft.finish(1, reference_width)
+}
+
+/// Ends a file with this offset table, these widths of an offset and of a reference, and this count of
+/// objects.
+pub fn end(
+    file: &mut Vec<u8>,
+    table: &[u8],
+    widths: [u8; 2],
+    count: u64,
+) -> Result<(), AllocError> {
+    let place = file.len() as u64;
+    file.extend_from_slice(table)?;
+    put_trailer(file, widths, count, place)
+}
+
+/// Appends a trailer with these widths of an offset and of a reference, this count of objects and this place
+/// of the offset table.
+pub fn put_trailer(
+    file: &mut Vec<u8>,
+    widths: [u8; 2],
+    count: u64,
+    table: u64,
+) -> Result<(), AllocError> {
+    file.extend_from_slice(&[0; 6])?;
+    file.extend_from_slice(&widths)?;
+    file.extend_from_slice(&count.to_be_bytes())?;
+    file.extend_from_slice(&0u64.to_be_bytes())?;
+    file.extend_from_slice(&table.to_be_bytes())
+}
+
+/// Lists that each hold the next object, and one last object, so many in all, with widths of two octets.
+pub fn chain(alloc: Global, count: u16, last: &[u8]) -> Result<Vec<u8>, AllocError> {
+    let mut draft = Draft::new(alloc)?;
+    for i in 1..count {
+        let [high, low] = i.to_be_bytes();
+        draft.put(&[0xa1, high, low])?;
+    }
+    draft.put(last)?;
+    draft.finish(2, 2)
+}
+
+/// A list of so many references, at least 256, to one other object, with offsets of four octets.
+pub fn fan(alloc: Global, count: u32, object: &[u8]) -> Result<Vec<u8>, AllocError> {
+    let mut list = Vec::from_slice(alloc, &[0xaf])?;
+    match u16::try_from(count) {
+        Ok(count) => {
+            list.push(0x11)?;
+            list.extend_from_slice(&count.to_be_bytes())?;
+        }
+        Err(_) => {
+            list.push(0x12)?;
+            list.extend_from_slice(&count.to_be_bytes())?;
+        }
+    }
+    let size = list.len().saturating_add(count as usize);
+    list.resize(size, 1)?;
+    let mut draft = Draft::new(alloc)?;
+    draft.put(list.as_slice())?;
+    draft.put(object)?;
+    draft.finish(4, 1)
+}
+
+/// Thirty lists that each hold the next object twice, and an empty one: 2^31 - 1 nodes in 31 objects.
+pub fn tower(alloc: Global) -> Result<Vec<u8>, AllocError> {
+    let mut draft = Draft::new(alloc)?;
+    for i in 1..31u8 {
+        draft.put(&[0xa2, i, i])?;
+    }
+    draft.put(b"\xa0")?;
+    draft.finish(1, 1)
+}
