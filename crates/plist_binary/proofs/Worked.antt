@@ -9,7 +9,7 @@ use Rattle.plist_value.specs.Limits.{Fits}
 use Rattle.plist_value.specs.Rows.{a, b, swapped}
 use Rattle.plist_object.specs.Layout.{header, Trailer, trailer_of, IsTrailer, IsLaid}
 use Rattle.plist_object.specs.Objects.{holds_scalar, holds_table, marked_object, content, count_of_content, ascii_object, table_object}
-use Rattle.plist_object.specs.Places.{Holds, what_holds, object_at, octets_at}
+use Rattle.plist_object.specs.Places.{Holds, marker_at, what_holds, object_at, octets_at}
 use Rattle.plist_object.specs.Spelled.{Spells, SpellPairs, IsBinary}
 
 pub all_under : (bound : ℕ) (xs : List ℕ) → 0 < bound → list_all (λ x. nat_lt x bound) xs ≡ true → AllUnder bound xs
@@ -77,6 +77,11 @@ sorted-a = record { listed = lit< tt; reads = refl }
 sorted-b : Holds sorted 2 (holds_scalar (text b))
 unfolding sorted end_of what_holds object_at octets_at marked_object ascii_object content count_of_content
 sorted-b = record { listed = lit< tt; reads = refl }
+
+-- the markers of the table and of its first key: d2 and 51
+sorted-markers : (marker_at sorted 0 ≡ 210) × (marker_at sorted 1 ≡ 81)
+unfolding sorted end_of
+sorted-markers = (refl, refl)
 
 sorted-spells : Spells sorted 0 swapped
 sorted-spells =

@@ -1,6 +1,7 @@
 //! The canonical file of the value that a binary file spells, made from that file without the value.
 #![tactic(auto)]
 
+mod ahead;
 mod hashed;
 mod making;
 mod numbered;

@@ -13,6 +13,7 @@ ghost use Rattle.plist_write.specs.Sending.{IsWritten, Sends};
 ghost use Rattle.plist_engine.specs.Parts.{AreSound, helds_of, octets_planned};
 ghost use Rattle.plist_write.specs.Pending.{Goes};
 
+use crate::ahead::Ahead;
 use crate::parts::part_of;
 use crate::plan::Objects;
 use crate::walk::objects_of;
@@ -127,7 +128,9 @@ fn send_objects<W: Sink>(
     };
     let mut numbers = objects.references.as_slice();
     let mut place = 8;
+    let mut ahead = Ahead::new();
     for original in &objects.originals {
+        ahead.look(file, objects.originals.as_slice(), places.len());
         let (part, behind) = part_of(file, u64::from(*original), numbers);
         let size = part_length(width, &part);
         places.push_reserved(place);

@@ -8,6 +8,7 @@ ghost use Rattle.plist_engine.specs.Spelling.{SpellsWithin, SpellWithin};
 ghost use Rattle.plist_engine.specs.Order.{IsOrdered};
 ghost use Rattle.plist_engine.specs.Plan.{AreObjectsOf, AreWalked, IsWalked, RemembersNumbers};
 
+use crate::ahead::Ahead;
 use crate::objects::object_of;
 use crate::order::KeyOrder;
 use crate::plan::{Objects, Plan};
@@ -29,7 +30,16 @@ pub(crate) fn objects_of<'a>(
 {
     let mut plan = Plan::new(alloc, file.count())?;
     let mut order = KeyOrder::new(alloc, sorted);
-    walk(alloc, file, &mut plan, &mut order, file.top(), MAX_DEPTH)?;
+    let mut ahead = Ahead::new();
+    walk(
+        alloc,
+        file,
+        &mut plan,
+        &mut order,
+        &mut ahead,
+        file.top(),
+        MAX_DEPTH,
+    )?;
     Ok(plan.into_objects())
 }
 
@@ -40,6 +50,7 @@ fn walk<'a>(
     file: &BinFile<'a>,
     plan: &mut Plan<'a>,
     order: &mut KeyOrder<'a>,
+    ahead: &mut Ahead,
     object: u64,
     levels: u64,
 ) -> Result<u32, AllocError>
@@ -58,13 +69,13 @@ fn walk<'a>(
         Object::List(items) => {
             let first = plan.references.len();
             let number = plan.begin_list(object, &items)?;
-            walk_children(alloc, file, plan, order, first, levels - 1)?;
+            walk_children(alloc, file, plan, order, ahead, first, levels - 1)?;
             Ok(number)
         }
         Object::Table(keys, values) => {
             let first = plan.references.len();
             let number = plan.begin_table(alloc, file, order, object, &keys, &values)?;
-            walk_children(alloc, file, plan, order, first, levels - 1)?;
+            walk_children(alloc, file, plan, order, ahead, first, levels - 1)?;
             Ok(number)
         }
     }
@@ -77,6 +88,7 @@ fn walk_children<'a>(
     file: &BinFile<'a>,
     plan: &mut Plan<'a>,
     order: &mut KeyOrder<'a>,
+    ahead: &mut Ahead,
     first: usize,
     levels: u64,
 ) -> Result<(), AllocError>
@@ -90,8 +102,9 @@ fn walk_children<'a>(
     ensures ordered { OnOk result (IsOrdered (octets_of file.now) order.new) }
 {
     for i in first..plan.references.len() {
+        ahead.look(file, plan.references.as_slice(), i);
         let object = plan.references[i];
-        let number = walk(alloc, file, plan, order, u64::from(object), levels)?;
+        let number = walk(alloc, file, plan, order, ahead, u64::from(object), levels)?;
         plan.references[i] = number;
     }
     Ok(())

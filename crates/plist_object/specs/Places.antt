@@ -1,5 +1,5 @@
 -- Where the objects of a laid file stand, and what they hold.
-use Rattle.std.specs.Prelude.{◌≡◌, ℕ, ◌+◌, ◌-◌, ◌*◌, ◌<◌, nat_lt, nat_le, ◌&&◌, if◌then◌else◌, List, length, take, drop, Result, Ok, Err}
+use Rattle.std.specs.Prelude.{◌≡◌, ℕ, ◌+◌, ◌-◌, ◌*◌, ◌<◌, nat_lt, nat_le, ◌&&◌, if◌then◌else◌, List, length, take, drop, slice_index_or, Result, Ok, Err}
 use Rattle.byteorder.specs.Endian.{big_number}
 use Rattle.plist_object.specs.Layout.{trailer_of}
 use Rattle.plist_object.specs.Objects.{Held, object_in, ◌>>=◌}
@@ -17,6 +17,10 @@ octets_at f i =
     let place = place_of f i in
     let table = (trailer_of f).table in
     if nat_le 8 place && nat_lt place table then Ok (drop place (take table f)) else Err BadOffset
+
+-- the octet at the place of the object i, where that is before the offset table
+abbrev pub marker_at : List ℕ → ℕ → ℕ
+marker_at f i = let place = place_of f i in if nat_lt place (trailer_of f).table then slice_index_or f place 0 else 0
 
 -- what the object i holds and the octets behind it up to the offset table, or its first fault
 unfoldable pub object_at : List ℕ → ℕ → Result (Held × List ℕ) ObjectFault

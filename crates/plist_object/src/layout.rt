@@ -121,7 +121,7 @@ impl Trailer {
 
 impl<'a> BinFile<'a> {
     ghost use Rattle.plist_object.specs.Objects.{IsHeld};
-    ghost use Rattle.plist_object.specs.Places.{place_of, octets_at, object_at};
+    ghost use Rattle.plist_object.specs.Places.{marker_at, octets_at, object_at, place_of};
     ghost use Rattle.plist_object.specs.Places.{span_of, what_holds};
     ghost use Rattle.plist_object.specs.Shortest.{IsShortest};
     ghost use Rattle.plist_object.specs.Views.{Gives, held_of, octets_of};
@@ -205,6 +205,20 @@ impl<'a> BinFile<'a> {
     {
         let table = &self.octets[self.trailer.table as usize..];
         number_at(table, usize::from(self.trailer.offset_width), n as usize)
+    }
+
+    /// The octet at the place of the object `n`, which is below `count`; or 0 where that is behind the objects. Of an
+    /// object that reads it is the marker.
+    pub fn marker(&self, n: u64) -> u8
+        requires { n < (trailer_of (octets_of self.now)).count }
+        ensures { result ≡ marker_at (octets_of self.now) n }
+    {
+        let place = self.place(n);
+        if place < self.trailer.table {
+            self.octets[place as usize]
+        } else {
+            0
+        }
     }
 
     /// What the object `n`, which is below `count`, holds, or its first fault.

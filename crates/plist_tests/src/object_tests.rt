@@ -1,6 +1,6 @@
 //! Single objects: how they are measured, and that a refused one leaves the list.
 use plist_object::{
-    list_length, put_list, put_scalar, put_table, scalar_length, table_length, width_of,
+    BinFile, list_length, put_list, put_scalar, put_table, scalar_length, table_length, width_of,
 };
 use plist_value::{ScalarRef, TextRef};
 use std::alloc::{AllocError, Global};
@@ -36,6 +36,30 @@ fn widths_and_lengths(rt: HostRuntime) -> Result<(), Fail> {
     assert!(rt; is_long(300, 304));
     assert!(rt; list_length(254, 1) == 257);
     assert!(rt; table_length(2, 1) == 5);
+    Ok(())
+}
+
+// A list that names one empty list twice. The second offset is that of the offset table in the second file.
+const LISTS: &[u8] = b"bplist00\xa2\x01\x01\xa0\x08\x0b\0\0\0\0\0\0\x01\x01\0\0\0\0\0\0\0\x02\
+                       \0\0\0\0\0\0\0\0\0\0\0\0\0\0\0\x0c";
+
+const ASTRAY: &[u8] = b"bplist00\xa2\x01\x01\xa0\x08\x0c\0\0\0\0\0\0\x01\x01\0\0\0\0\0\0\0\x02\
+                        \0\0\0\0\0\0\0\0\0\0\0\0\0\0\0\x0c";
+
+fn marker_of(octets: &[u8], object: u64) -> Option<u8> {
+    let file = BinFile::of(octets).ok()?;
+    if object < file.count() {
+        Some(file.marker(object))
+    } else {
+        None
+    }
+}
+
+#[test]
+fn markers_of_objects(rt: HostRuntime) -> Result<(), Fail> {
+    assert_eq!(rt; marker_of(LISTS, 0), Some(0xa2));
+    assert_eq!(rt; marker_of(LISTS, 1), Some(0xa0));
+    assert_eq!(rt; marker_of(ASTRAY, 1), Some(0));
     Ok(())
 }
 
