@@ -172,7 +172,7 @@ units_headless [] = refl
 units_headless (key ∷ keys) = ap (λ (us : List (List ℕ)). units_at key ∷ us) (units_headless keys)
 
 -- of two texts in whichever order the lower has no higher head
-not_lower : (front : ℕ) (first : List ℕ) (key next : Key) (o : Ordering) → IsHeaded front first key → IsHeaded front first next → slice_cmp nat_cmp (units_at key) (units_at next) ≡ o → key.head < next.head → o ≡ Less
+pub not_lower : (front : ℕ) (first : List ℕ) (key next : Key) (o : Ordering) → IsHeaded front first key → IsHeaded front first next → slice_cmp nat_cmp (units_at key) (units_at next) ≡ o → key.head < next.head → o ≡ Less
 not_lower front first key next Less is is_next order below = refl
 not_lower front first key next Equal is is_next order below =
     absurd (let same = exact_bytes (units_at key) (units_at next) order in let heads : head_of 8 (drop front (units_at key)) ≡ head_of 8 (drop front (units_at next)) = ap (λ (us : List ℕ). head_of 8 (drop front us)) same in omega (arith, below, heads, is.1, is_next.1))

@@ -26,4 +26,5 @@ pub mod Ranking
 pub mod Sorting
 pub mod Monotone
 pub mod HeadSteps
+pub mod RowSteps
 pub mod WorkedHeads

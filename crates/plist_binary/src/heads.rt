@@ -110,7 +110,7 @@ fn is_below(key: &Key, next: &Key) -> bool
 }
 
 // The head of the text behind so many units at its front.
-fn head(text: &TextRef, front: usize) -> u64
+pub(crate) fn head(text: &TextRef, front: usize) -> u64
     ensures { result ≡ head_of 8 (drop front (units_of text.now)) }
 {
     if let Some(octets) = text.octets() {

@@ -49,16 +49,30 @@ impl<'a> KnownKeys<'a> {
         ensures { OnOk result ((f : List ℕ) → IsKnown f self.old
             → IsOrder f (numbers_of refs.entry) (map place_of keys.now) → IsKnown f self.new) }
     {
-        let most = match &self.sorted {
-            Some(sorted) => sorted.places.len(),
-            None => FEW,
-        };
-        if keys.len() <= most {
+        if keys.len() <= self.most() {
             return Ok(());
         }
         let places = places_in_turn(alloc, keys)?;
         self.sorted = Some(SortedKeys { refs, places });
         Ok(())
+    }
+
+    // Keeps the places of keys in their order, if they are more than those that are kept.
+    pub(crate) fn keep_places(&mut self, refs: Refs<'a>, places: Vec<u64>)
+        ensures { (f : List ℕ) → IsKnown f self.old
+            → IsOrder f (numbers_of refs.entry) places.items → IsKnown f self.new }
+    {
+        if places.len() > self.most() {
+            self.sorted = Some(SortedKeys { refs, places });
+        }
+    }
+
+    // An order of no more than so many keys is not kept.
+    fn most(&self) -> usize {
+        match &self.sorted {
+            Some(sorted) => sorted.places.len(),
+            None => FEW,
+        }
     }
 }
 

@@ -9,6 +9,7 @@ mod known_keys;
 mod memos;
 mod path;
 mod reader;
+mod row_order;
 mod scalars;
 mod tables;
 mod visiting;

@@ -81,7 +81,7 @@ fn order(keys: &mut [Key])
     keys.sort_unstable_by_key(|key| key.text);
 }
 
-fn have_ranks(keys: &[Key]) -> bool
+pub(crate) fn have_ranks(keys: &[Key]) -> bool
     ensures { IsTrue result → All HasRank keys.now }
 {
     keys.iter().all(|key| key.rank.is_some())

@@ -26,7 +26,7 @@ use crate::known_keys::{KnownKeys, LastKeys, recall_keys};
 use crate::memos::{State, state_at};
 use crate::path::Path;
 use crate::tables::Key;
-use crate::{BinaryFault, tables};
+use crate::{BinaryFault, row_order, tables};
 use plist_object::{Object, ObjectFault, Refs};
 use plist_value::{Budget, ScalarRef, TextRef};
 
@@ -61,13 +61,16 @@ impl<'a, 'r> Walker<'a, 'r> {
         }
         let payload = left.payload;
         let mut keys = self.keys(states, table, before, refs, levels, left)?;
+        let payload = payload - left.payload;
+        if let Some(places) = row_order::places_by_heads(self.alloc, keys.as_slice())? {
+            known.last = Some(LastKeys { refs, payload });
+            known.keep_places(refs, places);
+            return Ok(());
+        }
         if !tables::sort(keys.as_mut_slice()) {
             return Err(BinaryFault::DuplicateKey { object: table });
         }
-        known.last = Some(LastKeys {
-            refs,
-            payload: payload - left.payload,
-        });
+        known.last = Some(LastKeys { refs, payload });
         known.keep_order(self.alloc, refs, keys.as_slice())?;
         Ok(())
     }

@@ -1,4 +1,5 @@
 use Rattle.std.proofs.Common.{rules, ◌≡◌, ◌-◌, ◌++◌, List, length, map, take, drop, refl, sym, subst, ◌∙◌, arith}
+use Rattle.std.specs.Prelude.{IfSome}
 use Rattle.std.specs.List.{IsDistinct}
 use Rattle.std.specs.List.Sorted.{IsPermutation}
 use Rattle.std.proofs.lemmas.List.Sorted.{IsPermutation-map}
@@ -8,6 +9,7 @@ use Rattle.plist_ranks.specs.Order.{IsOrder}
 use Rattle.plist_binary.specs.Keys.{units_at, place_of}
 use Rattle.plist_binary.specs.Paths.{containers_of}
 use Rattle.plist_binary.specs.Recalls.{RefusesTable}
+use Rattle.plist_binary.specs.RowOrder.{AreOrdered}
 use Rattle.plist_binary.proofs.Inserting.{same_key}
 use Rattle.plist_binary.proofs.Paired.{length-values}
 use Rattle.plist_binary.proofs.Recalling.{ReadsApart-sorted, SpellApart-read}
@@ -58,4 +60,22 @@ returns-clause-known c =
     c.in_ok-keep_order.ensures f record {
       last = SpellApart-read f refs c.args.levels (c.args.left.now.payload - c.keys.new.left.payload) c.args.left.now c.keys.new.left (returns-clause-read c) refl;
       sorted = c.requires.known.sorted;
-    } (subst (λ (xs : List Key). IsOrder f refs (map place_of xs)) (sym (c.as_slice.ensures.value ∙ seen)) order)
+    } (subst (λ (xs : List Key). IsOrder f refs (map place_of xs)) (sym (c.as_slice-2.ensures.value ∙ seen)) order)
+
+pub returns-in-Some-2-clause-read : goal.returns-in-Some-2-clause-read
+returns-in-Some-2-clause-read c =
+    let keys = c.in_ok-keys.keys.items in
+    let ordered : AreOrdered keys c.in-Some-2.places.items = subst (λ (xs : List Key). AreOrdered xs c.in-Some-2.places.items) c.as_slice.ensures.value (subst (λ told. IfSome told (λ places. AreOrdered c.as_slice.result.now places.items)) c.in-Some-2.is c.in_ok-places.ensures) in
+    ReadsApart-sorted (octets_of c.args.self.now.file) (numbers_of c.args.refs) c.args.levels c.args.left.now c.keys.new.left (map units_at keys) (map units_at ordered.sorted) c.in_ok-keys.ensures.read (IsPermutation-map units_at keys ordered.sorted ordered.moved) ordered.ascend
+
+pub returns-in-Some-2-clause-known : goal.returns-in-Some-2-clause-known
+returns-in-Some-2-clause-known c =
+    let f = octets_of c.args.self.now.file in
+    let refs = numbers_of c.args.refs in
+    let keys = c.in_ok-keys.keys.items in
+    let ordered : AreOrdered keys c.in-Some-2.places.items = subst (λ (xs : List Key). AreOrdered xs c.in-Some-2.places.items) c.as_slice.ensures.value (subst (λ told. IfSome told (λ places. AreOrdered c.as_slice.result.now places.items)) c.in-Some-2.is c.in_ok-places.ensures) in
+    let order = IsOrder-read f refs keys ordered.sorted c.in_ok-keys.ensures.read.spell c.in_ok-keys.ensures.placed ordered.moved ordered.ascend in
+    c.keep_places.ensures f record {
+      last = SpellApart-read f refs c.args.levels (c.args.left.now.payload - c.keys.new.left.payload) c.args.left.now c.keys.new.left (returns-in-Some-2-clause-read c) refl;
+      sorted = c.requires.known.sorted;
+    } (subst (IsOrder f refs) ordered.placed order)
