@@ -11,14 +11,14 @@ CRATES := $(shell sed -n 's/^\([a-z_]*\).*:.*/\1/p' crates.txt)
 below = $(filter $(CRATES),$(shell sed -n 's/^$(1)\( staticlib\)*: *//p' crates.txt))
 files = $(shell find $(wildcard $(addprefix crates/$(1)/,src specs proofs)))
 
-define CRATE
+define PROVING
 out/$(1).proved: $(call files,$(1)) $(patsubst %,out/%.proved,$(call below,$(1))) | announce
 	@mkdir -p out
 	@echo "proving $(1)"
 	@RT=$(RT) scripts/prove.sh $(1) > out/$(1).log 2>&1 || { cat out/$(1).log >&2; exit 1; }
 	@touch $$@
 endef
-$(foreach name,$(CRATES),$(eval $(call CRATE,$(name))))
+$(foreach name,$(CRATES),$(eval $(call PROVING,$(name))))
 
 .PHONY: announce
 announce:
