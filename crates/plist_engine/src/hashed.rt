@@ -6,7 +6,7 @@ use indexmap::IndexSet;
 use std::alloc::{AllocError, Global};
 use std::hash::Hash;
 
-// A set of so many keys is given all the room that it can need. One of fewer grows by itself.
+// A set of so many keys is given the room that it is likely to need. One of fewer grows by itself.
 const MANY: usize = 4_096;
 
 /// Keys that have numbers: these stand in a list, each at the index of its key.
@@ -38,7 +38,7 @@ impl<K: Eq + Hash + Drop> Hashed<K> {
         ensures { IfOk result (EntersKey K.eq key next self.old self.new) }
     {
         if self.numbers.len() == MANY {
-            self.keys.reserve(most)?;
+            self.keys.reserve(likely(next, most))?;
         }
         let (index, _) = self.keys.insert_full(key)?;
         if let Some(number) = self.numbers.get(index) {
@@ -47,4 +47,10 @@ impl<K: Eq + Hash + Drop> Hashed<K> {
         self.numbers.push(next)?;
         Ok(None)
     }
+}
+
+// How many of at most so many numbers keys will have, if they have as many of the others as of those so far, of which
+// `MANY` are theirs. More room than that is slower to search, and where it does not suffice the set grows.
+fn likely(so_far: u32, most: usize) -> usize {
+    most.saturating_mul(MANY) / (so_far as usize).max(MANY)
 }
