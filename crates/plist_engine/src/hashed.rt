@@ -49,8 +49,8 @@ impl<K: Eq + Hash + Drop> Hashed<K> {
     }
 }
 
-// How many of at most so many numbers keys will have, if they have as many of the others as of those so far, of which
-// `MANY` are theirs. More room than that is slower to search, and where it does not suffice the set grows.
+// How many keys there are likely to be: `MANY` stand among the first so many numbers, of which there will be at most
+// `most`. More room than that is slower to search, and a set for which it does not suffice grows.
 fn likely(so_far: u32, most: usize) -> usize {
     most.saturating_mul(MANY) / (so_far as usize).max(MANY)
 }
