@@ -11,19 +11,17 @@ CRATES := $(shell sed -n 's/^\([a-z_]*\).*:.*/\1/p' crates.txt)
 below = $(filter $(CRATES),$(shell sed -n 's/^$(1)\( staticlib\)*: *//p' crates.txt))
 files = $(shell find $(wildcard $(addprefix crates/$(1)/,src specs proofs)))
 
+# (expanded once, when the first crate is about to be proved)
+FIRST = $(eval FIRST :=)$(if $(shell command -v $(RT) 2> /dev/null),,$(error \
+  There is no $(RT) on the path: README.md, Set-up, says what it is))$(if $(wildcard out/plist_files.proved),,$(info \
+  The toolchain builds only what it has proved. The first build proves every crate below the program: some 30)$(info \
+  processor minutes, on $(JOBS) processors. Broken off, it goes on where it was.))
+
 define PROVING
-out/$(1).proved: $(call files,$(1)) $(patsubst %,out/%.proved,$(call below,$(1))) | announce
-	@mkdir -p out
+out/$(1).proved: $(call files,$(1)) $(patsubst %,out/%.proved,$(call below,$(1)))
+	@$$(FIRST)mkdir -p out
 	@echo "proving $(1)"
 	@RT=$(RT) scripts/prove.sh $(1) > out/$(1).log 2>&1 || { cat out/$(1).log >&2; exit 1; }
 	@touch $$@
 endef
 $(foreach name,$(CRATES),$(eval $(call PROVING,$(name))))
-
-.PHONY: announce
-announce:
-	@command -v $(RT) > /dev/null || { echo 'There is no $(RT) on the path: README.md, Set-up, says what it is.' >&2; exit 1; }
-	@mkdir -p out
-	@[ -e out/plist_files.proved ] || printf '%s\n' \
-	  'The toolchain builds only what it has proved. The first build proves every crate below the program:' \
-	  'some 30 processor minutes, on $(JOBS) processors. Broken off, it goes on where it was.'

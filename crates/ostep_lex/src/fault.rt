@@ -1,14 +1,15 @@
 //! Why a text has no tokens.
 ghost use Rattle.std.specs.Prelude.{◌≡◌, Some};
-ghost use Rattle.ostep_lex.specs.Fault.{code_of, text_of_fault};
+ghost use Rattle.ostep_lex.specs.Fault.{code_of, report_of, text_of_fault};
 ghost use Rattle.ostep_lex.specs.declared.fault.LexFault.TheVariants.{OutOfMemory};
 
+use plist_value::{Place, Refusal, Report};
 use std::alloc::{AllocError, AllocFailed};
-use std::error::Error;
 use std::fmt;
+use thiserror::Error;
 
 /// Why a text has no tokens. Each place counts octets from the input's first, its mark included.
-#[derive(Clone, Copy, Debug, PartialEq, Eq)]
+#[derive(Clone, Copy, Debug, PartialEq, Eq, Error)]
 pub enum LexFault {
     /// No UTF-8 character begins at this octet, and whole characters stand before it. Comes before
     /// all other faults of a text with no UTF-16 mark.
@@ -41,18 +42,31 @@ impl LexFault {
     pub fn code(&self) -> u8
         ensures { result ≡ code_of self.now }
     {
-        match self {
-            LexFault::BadUtf8 { .. } => 20,
-            LexFault::XmlForm { .. } => 21,
-            LexFault::UnexpectedCharacter { .. } => 23,
-            LexFault::UnclosedString { .. } => 24,
-            LexFault::UnclosedComment { .. } => 25,
-            LexFault::BadEscape { .. } => 26,
-            LexFault::OctalRange { .. } => 27,
-            LexFault::OddData { .. } => 28,
-            LexFault::BadData { .. } => 29,
-            LexFault::BadUtf16 { .. } => 32,
-            LexFault::OutOfMemory => 60,
+        self.report().0.number()
+    }
+
+    // What is printed of it.
+    fn report(&self) -> Report
+        ensures { result ≡ report_of self.now }
+    {
+        match *self {
+            LexFault::BadUtf8 { octet } => Report(Refusal::BadUtf8, Place::Octet(octet)),
+            LexFault::XmlForm { octet } => Report(Refusal::XmlForm, Place::Octet(octet)),
+            LexFault::UnexpectedCharacter { octet } => {
+                Report(Refusal::UnexpectedCharacter, Place::Octet(octet))
+            }
+            LexFault::UnclosedString { octet } => {
+                Report(Refusal::UnclosedString, Place::Octet(octet))
+            }
+            LexFault::UnclosedComment { octet } => {
+                Report(Refusal::UnclosedComment, Place::Octet(octet))
+            }
+            LexFault::BadEscape { octet } => Report(Refusal::BadEscape, Place::Octet(octet)),
+            LexFault::OctalRange { octet } => Report(Refusal::OctalRange, Place::Octet(octet)),
+            LexFault::OddData { octet } => Report(Refusal::OddData, Place::Octet(octet)),
+            LexFault::BadData { octet } => Report(Refusal::BadData, Place::Octet(octet)),
+            LexFault::BadUtf16 { octet } => Report(Refusal::BadUtf16, Place::Octet(octet)),
+            LexFault::OutOfMemory => Report(Refusal::OutOfMemory, Place::Nowhere),
         }
     }
 }
@@ -62,25 +76,10 @@ impl fmt::Display for LexFault {
     ghost output = { λ fault. Some (text_of_fault fault) };
 
     fn fmt<W: fmt::Write>(&self, f: &mut fmt::Formatter<W>) -> fmt::Result {
-        match *self {
-            LexFault::BadUtf8 { octet } => write!(f, "20 BadUtf8 at octet {octet}"),
-            LexFault::XmlForm { octet } => write!(f, "21 XmlForm at octet {octet}"),
-            LexFault::UnexpectedCharacter { octet } => {
-                write!(f, "23 UnexpectedCharacter at octet {octet}")
-            }
-            LexFault::UnclosedString { octet } => write!(f, "24 UnclosedString at octet {octet}"),
-            LexFault::UnclosedComment { octet } => write!(f, "25 UnclosedComment at octet {octet}"),
-            LexFault::BadEscape { octet } => write!(f, "26 BadEscape at octet {octet}"),
-            LexFault::OctalRange { octet } => write!(f, "27 OctalRange at octet {octet}"),
-            LexFault::OddData { octet } => write!(f, "28 OddData at octet {octet}"),
-            LexFault::BadData { octet } => write!(f, "29 BadData at octet {octet}"),
-            LexFault::BadUtf16 { octet } => write!(f, "32 BadUtf16 at octet {octet}"),
-            LexFault::OutOfMemory => write!(f, "60 OutOfMemory"),
-        }
+        let report = self.report();
+        write!(f, "{report}")
     }
 }
-
-impl Error for LexFault {}
 
 impl From<AllocError> for LexFault {
     ghost from_gives = { λ _ fault. fault ≡ OutOfMemory };

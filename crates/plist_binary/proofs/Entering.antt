@@ -4,18 +4,21 @@ use Rattle.plist_value.specs.Plist.{Plist, scalar, list, table, IsPlist}
 use Rattle.plist_value.specs.Limits.{nodes, depth}
 use Rattle.plist_value.specs.declared.TheConstants.{MAX_DEPTH}
 use Rattle.plist_object.specs.declared.object.ObjectFault.{ObjectFault}
+use Rattle.plist_object.specs.declared.object.ObjectFault.TheVariants as object
 use Rattle.plist_object.specs.Layout.{IsLaid, trailer_of}
 use Rattle.plist_object.specs.Places.{what_holds}
 use Rattle.plist_object.specs.Spelled.{Spells}
 use Rattle.plist_object.proofs.Ascending.{Among, Contains-among}
 use Rattle.plist_object.proofs.Uniqueness.{same_value}
 use Rattle.plist_value.specs.declared.budget.Budget.{Budget}
-use Rattle.plist_binary.specs.declared.fault.BinaryFault.TheVariants.{Object, Cycle, TooDeep, TooManyNodes}
+use Rattle.plist_binary.specs.declared.fault.BinaryFault.TheVariants.{Cycle, TooDeep, TooManyNodes}
+use Rattle.plist_binary.specs.Codes.{of_object}
+use Rattle.plist_binary.specs.Begins.{Begins, IsBegun}
+use Rattle.plist_binary.specs.Faults.{IsFaulty, StandsWithin}
 use Rattle.plist_binary.specs.Paths.{Leads}
 use Rattle.plist_binary.specs.Readings.{Refuses}
 use Rattle.plist_binary.proofs.Descents.{descends, SpellsBelow}
 use Rattle.plist_binary.proofs.Held.{Spells-held}
-use Rattle.plist_binary.proofs.Reaching.{reach-next}
 
 pub some_node : (v : Plist) → 1 ≤ nodes v
 some_node (scalar s) = omega arith
@@ -49,8 +52,8 @@ cycle_spells_none f containers i v leads among valid spells =
     let fewer : nodes v ≤ nodes v - 1 = subst (λ (w : Plist). nodes w ≤ nodes v - 1) (sym same) below.few in
     omega arith
 
-pub Refuses-cycle : (f before : List ℕ) (container i levels : ℕ) (left : Budget) → IsLaid f → Leads f (container ∷ before) i → Among i (container ∷ before) → Refuses f i levels left (Cycle container)
-Refuses-cycle f before container i levels left laid leads among =
+pub Refuses-cycle : (f : List ℕ) (whole : Budget) (before : List ℕ) (container i levels : ℕ) (left : Budget) → IsLaid f → Leads f (container ∷ before) i → Among i (container ∷ before) → Refuses f whole i levels left (Cycle container)
+Refuses-cycle f whole before container i levels left laid leads among =
     record {
       stands = record {
         ends = record {
@@ -65,22 +68,23 @@ Refuses-cycle f before container i levels left laid leads among =
       none = λ _ v valid spells deep affords. cycle_spells_none f (container ∷ before) i v leads among valid spells;
     }
 
-pub Refuses-nodes : (f before : List ℕ) (i levels : ℕ) (left : Budget) → IsLaid f → Leads f before i → left.nodes ≡ 0 → Refuses f i levels left (TooManyNodes i)
-Refuses-nodes f before i levels left laid leads none_left =
+pub Refuses-nodes : (f : List ℕ) (whole : Budget) (before : List ℕ) (i levels : ℕ) (left : Budget) → IsLaid f → i < (trailer_of f).count → IsBegun f before i whole left → left.nodes ≡ 0 → Refuses f whole i levels left (TooManyNodes i)
+Refuses-nodes f whole before i levels left laid listed begun none_left =
+    let all : begun.nodes ≡ whole.nodes = omega (arith, begun.spent.nodes_left) in
     record {
       stands = record {
-        ends = record {
-          laid = laid;
-          before = before;
-          leads = leads;
-        };
-        above = rw (reach-next (λ _. 1) f levels i) (omega arith);
+        laid = laid;
+        listed = listed;
+        before = before;
+        payload = begun.payload;
+        begins = subst (λ (n : ℕ). Begins f before i n begun.payload) all begun.begins;
+        within = omega (arith, begun.spent.payload_left);
       };
       none = λ _ v valid spells deep affords. omega (arith, some_node v, affords.nodes_there);
     }
 
-pub Refuses-depth : (f before : List ℕ) (i levels : ℕ) (left : Budget) → IsLaid f → Leads f before i → length before + levels ≡ MAX_DEPTH → levels ≡ 0 → Refuses f i levels left (TooDeep i)
-Refuses-depth f before i levels left laid leads depth_left none_left =
+pub Refuses-depth : (f : List ℕ) (whole : Budget) (before : List ℕ) (i levels : ℕ) (left : Budget) → IsLaid f → Leads f before i → length before + levels ≡ MAX_DEPTH → levels ≡ 0 → Refuses f whole i levels left (TooDeep i)
+Refuses-depth f whole before i levels left laid leads depth_left none_left =
     record {
       stands = record {
         ends = record {
@@ -100,10 +104,21 @@ faulty_spells_none f i e v fails spells =
     let reads = held.1.reads in
     cc
 
-pub Refuses-object : (f before : List ℕ) (i levels : ℕ) (left : Budget) (e : ObjectFault) → IsLaid f → i < (trailer_of f).count → Leads f before i → what_holds f i ≡ Err e → Refuses f i levels left (Object i e)
-Refuses-object f before i levels left e laid listed leads fails =
+-- a fault of an object stands where the object has it
+stands-of_object : (f : List ℕ) (i nodes payload : ℕ) (e : ObjectFault) → IsFaulty f i e → StandsWithin f nodes payload (of_object i e)
+stands-of_object f i nodes payload object.BadOffset faulty = faulty
+stands-of_object f i nodes payload object.CutObject faulty = faulty
+stands-of_object f i nodes payload object.BadMarker faulty = faulty
+stands-of_object f i nodes payload object.NullObject faulty = faulty
+stands-of_object f i nodes payload object.UidObject faulty = faulty
+stands-of_object f i nodes payload object.SetObject faulty = faulty
+stands-of_object f i nodes payload object.NotAscii faulty = faulty
+stands-of_object f i nodes payload object.WideInteger faulty = faulty
+
+pub Refuses-object : (f : List ℕ) (whole : Budget) (before : List ℕ) (i levels : ℕ) (left : Budget) (e : ObjectFault) → IsLaid f → i < (trailer_of f).count → Leads f before i → what_holds f i ≡ Err e → Refuses f whole i levels left (of_object i e)
+Refuses-object f whole before i levels left e laid listed leads fails =
     record {
-      stands = record {
+      stands = stands-of_object f i _ _ e (record {
         ends = record {
           laid = laid;
           before = before;
@@ -111,6 +126,6 @@ Refuses-object f before i levels left e laid listed leads fails =
         };
         listed = listed;
         fails = fails;
-      };
+      });
       none = λ _ v valid spells deep affords. faulty_spells_none f i e v fails spells;
     }

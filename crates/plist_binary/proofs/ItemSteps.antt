@@ -3,7 +3,6 @@ use Rattle.std.proofs.Common.{◌≡◌, ℕ, ◌+◌, ◌<◌, ◌≤◌, List,
 use Rattle.plist_value.specs.Plist.{Plist, Items, no_items, item, IsPlist, AreItems}
 use Rattle.plist_value.specs.Limits.{nodes, depth, payload, nodes_of_items, depth_of_items, payload_of_items}
 use Rattle.plist_object.specs.Layout.{IsLaid, trailer_of}
-use Rattle.plist_object.specs.Places.{what_holds}
 use Rattle.plist_object.specs.Spelled.{Spells, SpellItems}
 use Rattle.plist_object.proofs.Uniqueness.{same_items}
 use Rattle.plist_value.specs.declared.budget.Budget.{Budget}
@@ -11,10 +10,8 @@ use Rattle.plist_binary.specs.declared.fault.BinaryFault.{BinaryFault}
 use Rattle.plist_binary.specs.declared.fault.BinaryFault.TheVariants.{BadReference, OutOfMemory}
 use Rattle.plist_value.specs.Budget.{Affords}
 use Rattle.plist_binary.specs.Paths.{Refers, Leads}
-use Rattle.plist_binary.specs.Reach.{payload_read, nodes_reached, payload_reached, nodes_from, payload_from}
 use Rattle.plist_binary.specs.Readings.{Reads, Refuses, ReadsItems, RefusesItems}
 use Rattle.plist_binary.proofs.Held.{Spells-held}
-use Rattle.plist_binary.proofs.Reaching.{reach_from-push, reach_from-middle, widen}
 use Rattle.plist_binary.proofs.Sequences.{push, SpellItems-push, AreItems-push, nodes-push, payload-push, depth-push, take_apart}
 
 pub ReadsItems-none : (f : List ℕ) (levels : ℕ) (left : Budget) → ReadsItems f [] levels left no_items left
@@ -23,15 +20,12 @@ ReadsItems-none f levels left = record {
   valid = tt;
   deep = omega arith;
   spent = record { nodes_left = omega arith; payload_left = omega arith };
-  met = record { nodes_met = omega arith; payload_met = omega arith };
 }
 
 pub ReadsItems-push : (f refs : List ℕ) (i levels : ℕ) (before left after : Budget) (vs : Items) (v : Plist) → i < (trailer_of f).count → ReadsItems f refs levels before vs left → Reads f i levels left v after → ReadsItems f (refs ++ i ∷ []) levels before (push vs v) after
 ReadsItems-push f refs i levels before left after vs v listed items one =
     let nodes_sum = nodes-push vs v in
     let payload_sum = payload-push vs v in
-    let nodes_more = reach_from-push (λ _. 1) f (1 + levels) i refs listed in
-    let payload_more = reach_from-push (λ i. payload_read (what_holds f i)) f (1 + levels) i refs listed in
     record {
       spell = SpellItems-push f refs vs i v items.spell one.spells;
       valid = AreItems-push vs v items.valid one.valid;
@@ -39,10 +33,6 @@ ReadsItems-push f refs i levels before left after vs v listed items one =
       spent = record {
         nodes_left = omega (arith, nodes_sum, items.spent.nodes_left, one.spent.nodes_left);
         payload_left = omega (arith, payload_sum, items.spent.payload_left, one.spent.payload_left);
-      };
-      met = record {
-        nodes_met = omega (arith, nodes_more, items.met.nodes_met, one.met.nodes_met);
-        payload_met = omega (arith, payload_more, items.met.payload_met, one.met.payload_met);
       };
     }
 
@@ -69,14 +59,10 @@ refused_at f refs i rest levels before left vs ws items valid spell deep affords
     }
 
 -- one reference that spells nothing within what is left: none of the items are spelled
-pub RefusesItems-at : (f refs : List ℕ) (i : ℕ) (rest : List ℕ) (levels : ℕ) (before left : Budget) (vs : Items) (fault : BinaryFault) → i < (trailer_of f).count → ReadsItems f refs levels before vs left → Refuses f i levels left fault → RefusesItems f (refs ++ i ∷ rest) levels before fault
-RefusesItems-at f refs i rest levels before left vs fault listed items one =
-    let nodes_more = reach_from-middle (λ _. 1) f (1 + levels) i refs rest listed in
-    let payload_more = reach_from-middle (λ i. payload_read (what_holds f i)) f (1 + levels) i refs rest listed in
-    let nodes_met = items.met.nodes_met in
-    let payload_met = items.met.payload_met in
+pub RefusesItems-at : (f : List ℕ) (whole : Budget) (refs : List ℕ) (i : ℕ) (rest : List ℕ) (levels : ℕ) (before left : Budget) (vs : Items) (fault : BinaryFault) → i < (trailer_of f).count → ReadsItems f refs levels before vs left → Refuses f whole i levels left fault → RefusesItems f whole (refs ++ i ∷ rest) levels before fault
+RefusesItems-at f whole refs i rest levels before left vs fault listed items one =
     record {
-      stands = widen f left.nodes left.payload (nodes_reached f (1 + levels) i) (payload_reached f (1 + levels) i) before.nodes before.payload (nodes_from f (1 + levels) (refs ++ i ∷ rest)) (payload_from f (1 + levels) (refs ++ i ∷ rest)) fault (λ h. omega arith) (λ h. omega arith) one.stands;
+      stands = one.stands;
       none = λ unless ws valid spell deep affords. refused_at f refs i rest levels before left vs ws items valid spell deep affords (one.none unless);
     }
 
@@ -87,8 +73,8 @@ first_nowhere f i rest (item w ws) above spell =
     omega (arith, held.1.listed)
 
 -- a reference to no object
-pub RefusesItems-nowhere : (f before refs : List ℕ) (container i : ℕ) (rest : List ℕ) (levels : ℕ) (left : Budget) → IsLaid f → Leads f before container → Refers f container i → (trailer_of f).count ≤ i → RefusesItems f (refs ++ i ∷ rest) levels left (BadReference container)
-RefusesItems-nowhere f before refs container i rest levels left laid leads refers above = record {
+pub RefusesItems-nowhere : (f : List ℕ) (whole : Budget) (before refs : List ℕ) (container i : ℕ) (rest : List ℕ) (levels : ℕ) (left : Budget) → IsLaid f → Leads f before container → Refers f container i → (trailer_of f).count ≤ i → RefusesItems f whole (refs ++ i ∷ rest) levels left (BadReference container)
+RefusesItems-nowhere f whole before refs container i rest levels left laid leads refers above = record {
   stands = record {
     ends = record { laid = laid; before = before; leads = leads };
     reference = i;
@@ -100,8 +86,8 @@ RefusesItems-nowhere f before refs container i rest levels left laid leads refer
       first_nowhere f i rest parts.back above parts.spell_back;
 }
 
-pub RefusesItems-memory : (f refs : List ℕ) (levels : ℕ) (left : Budget) → RefusesItems f refs levels left OutOfMemory
-RefusesItems-memory f refs levels left = record {
+pub RefusesItems-memory : (f : List ℕ) (whole : Budget) (refs : List ℕ) (levels : ℕ) (left : Budget) → RefusesItems f whole refs levels left OutOfMemory
+RefusesItems-memory f whole refs levels left = record {
   stands = tt;
   none = λ unless. absurd (unless refl);
 }

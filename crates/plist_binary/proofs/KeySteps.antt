@@ -3,8 +3,8 @@ use Rattle.std.proofs.Common.{◌≡◌, ℕ, ◌+◌, ◌*◌, ◌<◌, ◌≤�
 use Rattle.plist_value.specs.Plist.{text, scalar, Items, item, IsPlist, AreItems}
 use Rattle.plist_value.specs.Limits.{nodes_of_items, depth_of_items, payload_of_items}
 use Rattle.plist_object.specs.Layout.{IsLaid, trailer_of}
-use Rattle.plist_object.specs.Objects.{Held, holds_scalar, holds_list, holds_table}
-use Rattle.plist_object.specs.Places.{Holds, what_holds}
+use Rattle.plist_object.specs.Objects.{Held, holds_scalar, holds_table}
+use Rattle.plist_object.specs.Places.{what_holds}
 use Rattle.plist_object.specs.Spelled.{Spells, SpellItems}
 use Rattle.plist_object.proofs.Ascending.{Among, Among-contains, Contains-among}
 use Rattle.plist_object.proofs.Uniqueness.{same_held, same_items}
@@ -13,19 +13,17 @@ use Rattle.plist_binary.specs.declared.fault.BinaryFault.{BinaryFault}
 use Rattle.plist_binary.specs.declared.fault.BinaryFault.TheVariants.{KeyNotText}
 use Rattle.plist_value.specs.Budget.{Affords}
 use Rattle.plist_binary.specs.Faults.{IsText}
-use Rattle.plist_binary.specs.Paths.{Refers, AllRefer, IsKeyOf, Leads}
-use Rattle.plist_binary.specs.Reach.{payload_read, nodes_reached, payload_reached, nodes_from, payload_from}
+use Rattle.plist_binary.specs.Paths.{Refers, IsKeyOf, Leads}
 use Rattle.plist_binary.specs.Readings.{Reads, Refuses, ReadsItems, RefusesItems, texts, RefusesKey, RefusesKeys}
-use Rattle.plist_binary.proofs.Reaching.{reach_from-middle, widen}
 use Rattle.plist_binary.proofs.Sequences.{push, take_apart}
 use Rattle.plist_binary.proofs.ItemSteps.{ReadsItems-push}
 
-among_left : (i : ℕ) (xs ys : List ℕ) → Among i xs → Among i (xs ++ ys)
+pub among_left : (i : ℕ) (xs ys : List ℕ) → Among i xs → Among i (xs ++ ys)
 among_left i [] ys among = absurd among
 among_left i (x ∷ xs) ys among =
     ⊎_elim (λ (same : i ≡ x). inl same) (λ (later : Among i xs). inr (among_left i xs ys later)) among
 
-among_right : (i : ℕ) (xs ys : List ℕ) → Among i ys → Among i (xs ++ ys)
+pub among_right : (i : ℕ) (xs ys : List ℕ) → Among i ys → Among i (xs ++ ys)
 among_right i [] ys among = among
 among_right i (x ∷ xs) ys among = inr (among_right i xs ys among)
 
@@ -36,29 +34,15 @@ Refers-key f j i key = record {
   among = Contains-among i (key.keys ++ key.table.values) (among_left i key.keys key.table.values (Among-contains i key.keys key.among));
 }
 
-pub AllRefer-values : (f : List ℕ) (j : ℕ) (keys values : List ℕ) → Holds f j (holds_table keys values) → AllRefer f j values
-AllRefer-values f j keys values holds i among = record {
-  held = holds_table keys values;
-  holds = holds;
-  among = Contains-among i (keys ++ values) (among_right i keys values (Among-contains i values among));
-}
-
-pub AllRefer-items : (f : List ℕ) (j : ℕ) (refs : List ℕ) → Holds f j (holds_list refs) → AllRefer f j refs
-AllRefer-items f j refs holds i among = record {
-  held = holds_list refs;
-  holds = holds;
-  among = among;
-}
-
 -- what refuses each value refuses each text
-pub RefusesKey-value : (f : List ℕ) (i levels : ℕ) (left : Budget) (fault : BinaryFault) → Refuses f i levels left fault → RefusesKey f i levels left fault
-RefusesKey-value f i levels left fault refused = record {
+pub RefusesKey-value : (f : List ℕ) (whole : Budget) (i levels : ℕ) (left : Budget) (fault : BinaryFault) → Refuses f whole i levels left fault → RefusesKey f whole i levels left fault
+RefusesKey-value f whole i levels left fault refused = record {
   stands = refused.stands;
   none = λ unless units valid spells deep affords. refused.none unless (scalar (text units)) valid spells deep affords;
 }
 
-pub RefusesKey-other : (f before : List ℕ) (table i levels : ℕ) (left : Budget) (held : Held) → IsLaid f → Leads f before table → IsKeyOf f table i → i < (trailer_of f).count → what_holds f i ≡ Ok held → (¬ IsText held) → RefusesKey f i levels left (KeyNotText table)
-RefusesKey-other f before table i levels left held laid leads key listed reads no_text = record {
+pub RefusesKey-other : (f : List ℕ) (whole : Budget) (before : List ℕ) (table i levels : ℕ) (left : Budget) (held : Held) → IsLaid f → Leads f before table → IsKeyOf f table i → i < (trailer_of f).count → what_holds f i ≡ Ok held → (¬ IsText held) → RefusesKey f whole i levels left (KeyNotText table)
+RefusesKey-other f whole before table i levels left held laid leads key listed reads no_text = record {
   stands = record {
     ends = record { laid = laid; before = before; leads = leads };
     keys = key.keys;
@@ -117,20 +101,16 @@ refused_at f refs i rest levels before left vs keys items valid spell deep affor
       payload_there = omega (arith, affords.payload_there, items.spent.payload_left);
     }
 
-pub RefusesKeys-at : (f refs : List ℕ) (i : ℕ) (rest : List ℕ) (levels : ℕ) (before left : Budget) (vs : Items) (fault : BinaryFault) → i < (trailer_of f).count → ReadsItems f refs levels before vs left → RefusesKey f i levels left fault → RefusesKeys f (refs ++ i ∷ rest) levels before fault
-RefusesKeys-at f refs i rest levels before left vs fault listed items one =
-    let nodes_more = reach_from-middle (λ _. 1) f (1 + levels) i refs rest listed in
-    let payload_more = reach_from-middle (λ i. payload_read (what_holds f i)) f (1 + levels) i refs rest listed in
-    let nodes_met = items.met.nodes_met in
-    let payload_met = items.met.payload_met in
+pub RefusesKeys-at : (f : List ℕ) (whole : Budget) (refs : List ℕ) (i : ℕ) (rest : List ℕ) (levels : ℕ) (before left : Budget) (vs : Items) (fault : BinaryFault) → i < (trailer_of f).count → ReadsItems f refs levels before vs left → RefusesKey f whole i levels left fault → RefusesKeys f whole (refs ++ i ∷ rest) levels before fault
+RefusesKeys-at f whole refs i rest levels before left vs fault listed items one =
     record {
-      stands = widen f left.nodes left.payload (nodes_reached f (1 + levels) i) (payload_reached f (1 + levels) i) before.nodes before.payload (nodes_from f (1 + levels) (refs ++ i ∷ rest)) (payload_from f (1 + levels) (refs ++ i ∷ rest)) fault (λ h. omega arith) (λ h. omega arith) one.stands;
+      stands = one.stands;
       none = λ unless keys valid spell deep affords. refused_at f refs i rest levels before left vs keys items valid spell deep affords (one.none unless);
     }
 
 -- what refuses all items refuses texts
-pub RefusesKeys-items : (f refs : List ℕ) (levels : ℕ) (left : Budget) (fault : BinaryFault) → RefusesItems f refs levels left fault → RefusesKeys f refs levels left fault
-RefusesKeys-items f refs levels left fault refused = record {
+pub RefusesKeys-items : (f : List ℕ) (whole : Budget) (refs : List ℕ) (levels : ℕ) (left : Budget) (fault : BinaryFault) → RefusesItems f whole refs levels left fault → RefusesKeys f whole refs levels left fault
+RefusesKeys-items f whole refs levels left fault refused = record {
   stands = refused.stands;
   none = λ unless keys. refused.none unless (texts keys);
 }

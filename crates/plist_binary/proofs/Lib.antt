@@ -1,4 +1,5 @@
 pub mod Ascents
+pub mod Beginning
 pub mod Descents
 pub mod Entering
 pub mod Held
@@ -9,16 +10,15 @@ pub mod LoopSteps
 pub mod Making
 pub mod Paired
 pub mod Placed
-pub mod Reaching
 pub mod Rows
 pub mod Sequences
 pub mod Shown
 pub mod TableSteps
 pub mod Worked
 pub mod WorkedFaults
+pub mod WorkedPlaces
 pub mod WorkedShared
 pub mod Marking
-pub mod Covering
 pub mod PassSteps
 pub mod Recalling
 pub mod BuildSteps

@@ -1,13 +1,11 @@
 -- What an object spells, from what its content, its items or its pairs took of the budget.
-use Rattle.std.proofs.Common.{◌≡◌, ℕ, ◌+◌, ◌<◌, ◌≤◌, List, ◌++◌, Ok, refl, sym, ap, ◌∙◌, subst, arith}
-use Rattle.std.specs.Prelude.{Result}
+use Rattle.std.proofs.Common.{◌≡◌, ℕ, ◌+◌, ◌<◌, ◌≤◌, List, Ok, refl, ap, subst, arith}
 use Rattle.std.specs.List.{zip}
 use Rattle.std.specs.List.Sorted.{IsPermutation}
 use Rattle.plist_value.specs.Plist.{Scalar, Plist, scalar, list, table, Items, Pairs, IsScalar, IsPlist}
 use Rattle.plist_value.specs.Limits.{nodes, depth, payload, payload_of_scalar}
-use Rattle.plist_object.specs.declared.object.ObjectFault.{ObjectFault}
 use Rattle.plist_object.specs.Layout.{IsLaid, trailer_of}
-use Rattle.plist_object.specs.Objects.{Held, holds_scalar, holds_list, holds_table}
+use Rattle.plist_object.specs.Objects.{holds_scalar, holds_list, holds_table}
 use Rattle.plist_object.specs.Places.{Holds, what_holds}
 use Rattle.plist_object.specs.Spelled.{Spells, SpellItems}
 use Rattle.plist_object.proofs.Uniqueness.{same_held}
@@ -15,25 +13,11 @@ use Rattle.plist_value.specs.declared.budget.Budget.{Budget}
 use Rattle.plist_binary.specs.declared.fault.BinaryFault.{BinaryFault}
 use Rattle.plist_binary.specs.declared.fault.BinaryFault.TheVariants.{TooMuchPayload, OutOfMemory}
 use Rattle.plist_value.specs.Budget.{Spends, Affords}
-use Rattle.plist_binary.specs.Paths.{Leads}
-use Rattle.plist_binary.specs.Reach.{payload_read, references_read, nodes_reached, payload_reached, nodes_from, payload_from}
+use Rattle.plist_binary.specs.Begins.{payload_read, IsBegun}
 use Rattle.plist_binary.specs.Readings.{Reads, Refuses, ReadsItems, RefusesItems, ReadsPairs, RefusesPairs}
-use Rattle.plist_binary.proofs.Reaching.{reach-next, reach_from-append, widen}
-
--- what is reached from an object that reads so
-pub nodes_next : (f : List ℕ) (i levels : ℕ) (held : Held) → what_holds f i ≡ Ok held → nodes_reached f (1 + levels) i ≡ 1 + nodes_from f levels (references_read (Ok held))
-nodes_next f i levels held reads =
-    reach-next (λ _. 1) f levels i ∙ ap (λ (r : Result Held ObjectFault). 1 + nodes_from f levels (references_read r)) reads
-
-pub payload_next : (f : List ℕ) (i levels : ℕ) (held : Held) → what_holds f i ≡ Ok held → payload_reached f (1 + levels) i ≡ payload_read (Ok held) + payload_from f levels (references_read (Ok held))
-payload_next f i levels held reads =
-    reach-next (λ i. payload_read (what_holds f i)) f levels i
-    ∙ ap (λ (r : Result Held ObjectFault). payload_read r + payload_from f levels (references_read r)) reads
 
 pub Reads-scalar : (f : List ℕ) (i levels : ℕ) (before left after : Budget) (s : Scalar) → i < (trailer_of f).count → what_holds f i ≡ Ok (holds_scalar s) → IsScalar s → 1 ≤ levels → Spends before 1 0 left → Spends left 0 (payload_of_scalar s) after → Reads f i levels before (scalar s) after
 Reads-scalar f i levels before left after s listed reads valid deep node spent =
-    let nodes_met = nodes_next f i levels (holds_scalar s) reads in
-    let payload_met = payload_next f i levels (holds_scalar s) reads in
     record {
       spells = record { listed = listed; reads = reads };
       valid = valid;
@@ -42,14 +26,10 @@ Reads-scalar f i levels before left after s listed reads valid deep node spent =
         nodes_left = omega (arith, node.nodes_left, spent.nodes_left);
         payload_left = omega (arith, node.payload_left, spent.payload_left);
       };
-      met = record {
-        nodes_met = omega (arith, node.nodes_left, spent.nodes_left, nodes_met);
-        payload_met = omega (arith, node.payload_left, spent.payload_left, payload_met);
-      };
     }
 
-pub Refuses-memory : (f : List ℕ) (i levels : ℕ) (left : Budget) → Refuses f i levels left OutOfMemory
-Refuses-memory f i levels left = record {
+pub Refuses-memory : (f : List ℕ) (whole : Budget) (i levels : ℕ) (left : Budget) → Refuses f whole i levels left OutOfMemory
+Refuses-memory f whole i levels left = record {
   stands = tt;
   none = λ unless. absurd (unless refl);
 }
@@ -65,13 +45,19 @@ scalar_refused f i levels before left s (list ws) holds node over spells affords
 scalar_refused f i levels before left s (table ps) holds node over spells affords =
     let held = same_held f i (holds_scalar s) (holds_table spells.0 spells.1.0) holds spells.1.1.1.0 in cc
 
-pub Refuses-payload : (f containers : List ℕ) (i levels : ℕ) (before left : Budget) (s : Scalar) → IsLaid f → Leads f containers i → i < (trailer_of f).count → what_holds f i ≡ Ok (holds_scalar s) → Spends before 1 0 left → left.payload < payload_of_scalar s → Refuses f i levels before (TooMuchPayload i)
-Refuses-payload f containers i levels before left s laid leads listed reads node over =
-    let payload_met = payload_next f i levels (holds_scalar s) reads in
+pub Refuses-payload : (f : List ℕ) (whole : Budget) (containers : List ℕ) (i levels : ℕ) (before left : Budget) (s : Scalar) → IsLaid f → IsBegun f containers i whole before → i < (trailer_of f).count → what_holds f i ≡ Ok (holds_scalar s) → Spends before 1 0 left → left.payload < payload_of_scalar s → Refuses f whole i levels before (TooMuchPayload i)
+Refuses-payload f whole containers i levels before left s laid begun listed reads node over =
+    let payload_is : payload_read (what_holds f i) ≡ payload_of_scalar s = ap payload_read reads in
     record {
       stands = record {
-        ends = record { laid = laid; before = containers; leads = leads };
-        above = omega (arith, node.payload_left, payload_met);
+        laid = laid;
+        before = containers;
+        nodes = begun.nodes;
+        payload = begun.payload;
+        begins = begun.begins;
+        fewer = omega (arith, begun.spent.nodes_left, node.nodes_left);
+        within = omega (arith, begun.spent.payload_left);
+        above = omega (arith, begun.spent.payload_left, node.payload_left, payload_is);
       };
       none = λ _ v valid spells deep affords. scalar_refused f i levels before left s v record { listed = listed; reads = reads } node over spells affords;
     }
@@ -79,10 +65,6 @@ Refuses-payload f containers i levels before left s laid leads listed reads node
 -- a list, whose items are so many levels below
 pub Reads-list : (f refs : List ℕ) (i levels below : ℕ) (before left after : Budget) (vs : Items) → 1 + below ≡ levels → i < (trailer_of f).count → what_holds f i ≡ Ok (holds_list refs) → Spends before 1 0 left → ReadsItems f refs below left vs after → Reads f i levels before (list vs) after
 Reads-list f refs i levels below before left after vs levels_is listed reads node items =
-    let nodes_met = nodes_next f i levels (holds_list refs) reads in
-    let payload_met = payload_next f i levels (holds_list refs) reads in
-    let nodes_below : nodes_from f (1 + below) refs ≡ nodes_from f levels refs = ap (λ (n : ℕ). nodes_from f n refs) levels_is in
-    let payload_below : payload_from f (1 + below) refs ≡ payload_from f levels refs = ap (λ (n : ℕ). payload_from f n refs) levels_is in
     record {
       spells = (refs, (record { listed = listed; reads = reads }, items.spell));
       valid = items.valid;
@@ -91,16 +73,12 @@ Reads-list f refs i levels below before left after vs levels_is listed reads nod
         nodes_left = omega (arith, node.nodes_left, items.spent.nodes_left);
         payload_left = omega (arith, node.payload_left, items.spent.payload_left);
       };
-      met = record {
-        nodes_met = omega (arith, node.nodes_left, items.met.nodes_met, nodes_met, nodes_below);
-        payload_met = omega (arith, node.payload_left, items.met.payload_met, payload_met, payload_below);
-      };
     }
 
-list_refused : (f refs : List ℕ) (i levels below : ℕ) (before left : Budget) (fault : BinaryFault) (v : Plist) → 1 + below ≡ levels → Holds f i (holds_list refs) → Spends before 1 0 left → RefusesItems f refs below left fault → (fault ≡ OutOfMemory → ⊥) → IsPlist v → Spells f i v → depth v ≤ levels → Affords before (nodes v) (payload v) → ⊥
-list_refused f refs i levels below before left fault (scalar s) levels_is holds node refused unless valid spells deep affords =
+list_refused : (f : List ℕ) (whole : Budget) (refs : List ℕ) (i levels below : ℕ) (before left : Budget) (fault : BinaryFault) (v : Plist) → 1 + below ≡ levels → Holds f i (holds_list refs) → Spends before 1 0 left → RefusesItems f whole refs below left fault → (fault ≡ OutOfMemory → ⊥) → IsPlist v → Spells f i v → depth v ≤ levels → Affords before (nodes v) (payload v) → ⊥
+list_refused f whole refs i levels below before left fault (scalar s) levels_is holds node refused unless valid spells deep affords =
     let held = same_held f i (holds_list refs) (holds_scalar s) holds spells in cc
-list_refused f refs i levels below before left fault (list ws) levels_is holds node refused unless valid spells deep affords =
+list_refused f whole refs i levels below before left fault (list ws) levels_is holds node refused unless valid spells deep affords =
     let held = same_held f i (holds_list refs) (holds_list spells.0) holds spells.1.0 in
     let same : spells.0 ≡ refs = cc in
     refused.none unless ws valid (subst (λ (r : List ℕ). SpellItems f r ws) same spells.1.1) (omega arith)
@@ -108,29 +86,19 @@ list_refused f refs i levels below before left fault (list ws) levels_is holds n
       nodes_there = omega (arith, node.nodes_left, affords.nodes_there);
       payload_there = omega (arith, node.payload_left, affords.payload_there);
     }
-list_refused f refs i levels below before left fault (table ps) levels_is holds node refused unless valid spells deep affords =
+list_refused f whole refs i levels below before left fault (table ps) levels_is holds node refused unless valid spells deep affords =
     let held = same_held f i (holds_list refs) (holds_table spells.0 spells.1.0) holds spells.1.1.1.0 in cc
 
-pub Refuses-list : (f refs : List ℕ) (i levels below : ℕ) (before left : Budget) (fault : BinaryFault) → 1 + below ≡ levels → i < (trailer_of f).count → what_holds f i ≡ Ok (holds_list refs) → Spends before 1 0 left → RefusesItems f refs below left fault → Refuses f i levels before fault
-Refuses-list f refs i levels below before left fault levels_is listed reads node refused =
-    let nodes_met = nodes_next f i levels (holds_list refs) reads in
-    let payload_met = payload_next f i levels (holds_list refs) reads in
-    let nodes_below : nodes_from f (1 + below) refs ≡ nodes_from f levels refs = ap (λ (n : ℕ). nodes_from f n refs) levels_is in
-    let payload_below : payload_from f (1 + below) refs ≡ payload_from f levels refs = ap (λ (n : ℕ). payload_from f n refs) levels_is in
-    let nodes_node = node.nodes_left in
-    let payload_node = node.payload_left in
+pub Refuses-list : (f : List ℕ) (whole : Budget) (refs : List ℕ) (i levels below : ℕ) (before left : Budget) (fault : BinaryFault) → 1 + below ≡ levels → i < (trailer_of f).count → what_holds f i ≡ Ok (holds_list refs) → Spends before 1 0 left → RefusesItems f whole refs below left fault → Refuses f whole i levels before fault
+Refuses-list f whole refs i levels below before left fault levels_is listed reads node refused =
     record {
-      stands = widen f left.nodes left.payload (nodes_from f (1 + below) refs) (payload_from f (1 + below) refs) before.nodes before.payload (nodes_reached f (1 + levels) i) (payload_reached f (1 + levels) i) fault (λ h. omega arith) (λ h. omega arith) refused.stands;
-      none = λ unless v valid spells deep affords. list_refused f refs i levels below before left fault v levels_is record { listed = listed; reads = reads } node refused unless valid spells deep affords;
+      stands = refused.stands;
+      none = λ unless v valid spells deep affords. list_refused f whole refs i levels below before left fault v levels_is record { listed = listed; reads = reads } node refused unless valid spells deep affords;
     }
 
 -- a table, whose pairs are so many levels below
 pub Reads-table : (f keys values : List ℕ) (i levels below : ℕ) (before left after : Budget) (ps : Pairs) → 1 + below ≡ levels → i < (trailer_of f).count → what_holds f i ≡ Ok (holds_table keys values) → Spends before 1 0 left → ReadsPairs f keys values below left ps after → Reads f i levels before (table ps) after
 Reads-table f keys values i levels below before left after ps levels_is listed reads node pairs =
-    let nodes_met = nodes_next f i levels (holds_table keys values) reads in
-    let payload_met = payload_next f i levels (holds_table keys values) reads in
-    let nodes_both : nodes_from f levels (keys ++ values) ≡ nodes_from f (1 + below) keys + nodes_from f (1 + below) values = subst (λ (n : ℕ). nodes_from f levels (keys ++ values) ≡ nodes_from f n keys + nodes_from f n values) (sym levels_is) (reach_from-append (λ _. 1) f levels keys values) in
-    let payload_both : payload_from f levels (keys ++ values) ≡ payload_from f (1 + below) keys + payload_from f (1 + below) values = subst (λ (n : ℕ). payload_from f levels (keys ++ values) ≡ payload_from f n keys + payload_from f n values) (sym levels_is) (reach_from-append (λ i. payload_read (what_holds f i)) f levels keys values) in
     record {
       spells = (keys, (values, (pairs.rows, (record { listed = listed; reads = reads }, (pairs.moved, pairs.spell)))));
       valid = pairs.valid;
@@ -139,18 +107,14 @@ Reads-table f keys values i levels below before left after ps levels_is listed r
         nodes_left = omega (arith, node.nodes_left, pairs.spent.nodes_left);
         payload_left = omega (arith, node.payload_left, pairs.spent.payload_left);
       };
-      met = record {
-        nodes_met = omega (arith, node.nodes_left, pairs.met.nodes_met, nodes_met, nodes_both);
-        payload_met = omega (arith, node.payload_left, pairs.met.payload_met, payload_met, payload_both);
-      };
     }
 
-table_refused : (f keys values : List ℕ) (i levels below : ℕ) (before left : Budget) (fault : BinaryFault) (v : Plist) → 1 + below ≡ levels → Holds f i (holds_table keys values) → Spends before 1 0 left → RefusesPairs f keys values below left fault → (fault ≡ OutOfMemory → ⊥) → IsPlist v → Spells f i v → depth v ≤ levels → Affords before (nodes v) (payload v) → ⊥
-table_refused f keys values i levels below before left fault (scalar s) levels_is holds node refused unless valid spells deep affords =
+table_refused : (f : List ℕ) (whole : Budget) (keys values : List ℕ) (i levels below : ℕ) (before left : Budget) (fault : BinaryFault) (v : Plist) → 1 + below ≡ levels → Holds f i (holds_table keys values) → Spends before 1 0 left → RefusesPairs f whole keys values below left fault → (fault ≡ OutOfMemory → ⊥) → IsPlist v → Spells f i v → depth v ≤ levels → Affords before (nodes v) (payload v) → ⊥
+table_refused f whole keys values i levels below before left fault (scalar s) levels_is holds node refused unless valid spells deep affords =
     let held = same_held f i (holds_table keys values) (holds_scalar s) holds spells in cc
-table_refused f keys values i levels below before left fault (list ws) levels_is holds node refused unless valid spells deep affords =
+table_refused f whole keys values i levels below before left fault (list ws) levels_is holds node refused unless valid spells deep affords =
     let held = same_held f i (holds_table keys values) (holds_list spells.0) holds spells.1.0 in cc
-table_refused f keys values i levels below before left fault (table ps) levels_is holds node refused unless valid spells deep affords =
+table_refused f whole keys values i levels below before left fault (table ps) levels_is holds node refused unless valid spells deep affords =
     let held = same_held f i (holds_table keys values) (holds_table spells.0 spells.1.0) holds spells.1.1.1.0 in
     let same : zip spells.0 spells.1.0 ≡ zip keys values = cc in
     refused.none unless spells.1.1.0 ps (subst (λ (rows : List (ℕ × ℕ)). IsPermutation rows spells.1.1.0) same spells.1.1.1.1.0) spells.1.1.1.1.1 valid (omega arith)
@@ -159,15 +123,9 @@ table_refused f keys values i levels below before left fault (table ps) levels_i
       payload_there = omega (arith, node.payload_left, affords.payload_there);
     }
 
-pub Refuses-table : (f keys values : List ℕ) (i levels below : ℕ) (before left : Budget) (fault : BinaryFault) → 1 + below ≡ levels → i < (trailer_of f).count → what_holds f i ≡ Ok (holds_table keys values) → Spends before 1 0 left → RefusesPairs f keys values below left fault → Refuses f i levels before fault
-Refuses-table f keys values i levels below before left fault levels_is listed reads node refused =
-    let nodes_met = nodes_next f i levels (holds_table keys values) reads in
-    let payload_met = payload_next f i levels (holds_table keys values) reads in
-    let nodes_both : nodes_from f levels (keys ++ values) ≡ nodes_from f (1 + below) keys + nodes_from f (1 + below) values = subst (λ (n : ℕ). nodes_from f levels (keys ++ values) ≡ nodes_from f n keys + nodes_from f n values) (sym levels_is) (reach_from-append (λ _. 1) f levels keys values) in
-    let payload_both : payload_from f levels (keys ++ values) ≡ payload_from f (1 + below) keys + payload_from f (1 + below) values = subst (λ (n : ℕ). payload_from f levels (keys ++ values) ≡ payload_from f n keys + payload_from f n values) (sym levels_is) (reach_from-append (λ i. payload_read (what_holds f i)) f levels keys values) in
-    let nodes_node = node.nodes_left in
-    let payload_node = node.payload_left in
+pub Refuses-table : (f : List ℕ) (whole : Budget) (keys values : List ℕ) (i levels below : ℕ) (before left : Budget) (fault : BinaryFault) → 1 + below ≡ levels → i < (trailer_of f).count → what_holds f i ≡ Ok (holds_table keys values) → Spends before 1 0 left → RefusesPairs f whole keys values below left fault → Refuses f whole i levels before fault
+Refuses-table f whole keys values i levels below before left fault levels_is listed reads node refused =
     record {
-      stands = widen f left.nodes left.payload (nodes_from f (1 + below) keys + nodes_from f (1 + below) values) (payload_from f (1 + below) keys + payload_from f (1 + below) values) before.nodes before.payload (nodes_reached f (1 + levels) i) (payload_reached f (1 + levels) i) fault (λ h. omega arith) (λ h. omega arith) refused.stands;
-      none = λ unless v valid spells deep affords. table_refused f keys values i levels below before left fault v levels_is record { listed = listed; reads = reads } node refused unless valid spells deep affords;
+      stands = refused.stands;
+      none = λ unless v valid spells deep affords. table_refused f whole keys values i levels below before left fault v levels_is record { listed = listed; reads = reads } node refused unless valid spells deep affords;
     }

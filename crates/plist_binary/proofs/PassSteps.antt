@@ -8,7 +8,7 @@ use Rattle.plist_value.specs.declared.budget.Budget.{Budget}
 use Rattle.plist_value.specs.Budget.{Spends}
 use Rattle.plist_value.specs.declared.TheConstants.{MAX_NODES, MAX_PAYLOAD, MAX_DEPTH}
 use Rattle.plist_value.specs.Plist.{Scalar, Plist, scalar, list, table, Items, IsScalar}
-use Rattle.plist_value.specs.Limits.{depth, payload_of_scalar}
+use Rattle.plist_value.specs.Limits.{payload_of_scalar}
 use Rattle.plist_value.specs.View.{items_of, pairs_of}
 use Rattle.plist_object.specs.Layout.{trailer_of}
 use Rattle.plist_object.specs.Objects.{holds_scalar, holds_list, holds_table}
@@ -17,7 +17,6 @@ use Rattle.plist_binary.specs.declared.memos.Memo.{Memo}
 use Rattle.plist_binary.specs.Memos.{IsMemo}
 use Rattle.plist_binary.specs.Passing.{Passes, PassesItems, PassesPairs, PassesTop, limits}
 use Rattle.plist_binary.specs.Readings.{ReadsItems, texts}
-use Rattle.plist_binary.proofs.Covering.{covers}
 use Rattle.plist_binary.proofs.Inserting.{zip-firsts}
 use Rattle.plist_binary.proofs.LoopSteps.{ReadsItems-next}
 use Rattle.plist_binary.proofs.Making.{Reads-scalar, Reads-list, Reads-table}
@@ -28,8 +27,6 @@ use Rattle.plist_binary.proofs.TableSteps.{ReadsPairs-sorted, pairs_sorted, dept
 -- a value that is known, and fits into what is left
 pub Passes-memo : (f : List ℕ) (i levels : ℕ) (before after : Budget) (memo : Memo) → IsMemo f i memo → memo.depth ≤ levels → Spends before memo.nodes memo.payload after → Passes f i levels before memo.depth after
 Passes-memo f i levels before after memo is fits spent =
-    let deep : depth is.value ≤ 1 + levels = omega (arith, is.deep) in
-    let cover = covers f i levels is.value is.spells deep in
     record {
       value = is.value;
       reads = record {
@@ -39,10 +36,6 @@ Passes-memo f i levels before after memo is fits spent =
         spent = record {
           nodes_left = omega (arith, spent.nodes_left, is.nodes_are);
           payload_left = omega (arith, spent.payload_left, is.payload_is);
-        };
-        met = record {
-          nodes_met = omega (arith, spent.nodes_left, is.nodes_are, cover.nodes_covered);
-          payload_met = omega (arith, spent.payload_left, is.payload_is, cover.payload_covered);
         };
       };
       depth_is = is.deep;

@@ -1,5 +1,5 @@
 -- The keys of the table that was judged last, as they are kept and as they are recalled.
-use Rattle.std.proofs.Common.{◌≡◌, ℕ, ◌+◌, ◌-◌, ◌≤◌, List, [], ◌∷◌, length, refl, arith}
+use Rattle.std.proofs.Common.{◌≡◌, ℕ, ◌-◌, ◌≤◌, List, [], ◌∷◌, length, refl, arith}
 use Rattle.std.specs.Ordering.{nat_cmp}
 use Rattle.std.specs.Cmp.Lexicographic.{slice_cmp}
 use Rattle.std.specs.List.Sorted.{IsPermutation, IsStrictlySortedBy}
@@ -8,7 +8,6 @@ use Rattle.plist_value.specs.declared.budget.Budget.{Budget}
 use Rattle.plist_value.specs.Budget.{Spends}
 use Rattle.plist_binary.specs.Readings.{ReadsItems, texts}
 use Rattle.plist_binary.specs.Recalls.{SpellApart, ReadsApart}
-use Rattle.plist_binary.proofs.Covering.{covers_items}
 use Rattle.plist_binary.proofs.TableSteps.{length-texts}
 
 nodes-texts : (keys : List (List ℕ)) → nodes_of_items (texts keys) ≡ length keys
@@ -25,7 +24,6 @@ ReadsApart-known f refs levels payload before after known some spent =
     let one = depth-one known.keys in
     let many = nodes-texts known.keys in
     let long = length-texts f refs known.keys known.spell in
-    let cover = covers_items f (1 + levels) refs (texts known.keys) known.spell (omega arith) in
     record {
       keys = known.keys;
       reads = record {
@@ -35,10 +33,6 @@ ReadsApart-known f refs levels payload before after known some spent =
         spent = record {
           nodes_left = omega (arith, spent.nodes_left);
           payload_left = omega (arith, spent.payload_left, known.payload_is);
-        };
-        met = record {
-          nodes_met = omega (arith, spent.nodes_left, cover.nodes_covered);
-          payload_met = omega (arith, spent.payload_left, known.payload_is, cover.payload_covered);
         };
       };
       apart = known.apart;

@@ -45,6 +45,31 @@ depth-push no_items v levels deep one = omega arith
 depth-push (item w vs) v levels deep one =
     omega (arith, depth-push vs v levels (omega arith) one)
 
+-- the items, and others behind them
+abbrev pub join : Items → Items → Items
+join no_items ws = ws
+join (item v vs) ws = item v (join vs ws)
+
+pub SpellItems-join : (f xs ys : List ℕ) (vs ws : Items) → SpellItems f xs vs → SpellItems f ys ws → SpellItems f (xs ++ ys) (join vs ws)
+SpellItems-join f [] ys no_items ws spell others = others
+SpellItems-join f (x ∷ xs) ys no_items ws spell others =
+    absurd (let none : x ∷ xs ≡ [] = spell in cc)
+SpellItems-join f [] ys (item v vs) ws spell others = absurd spell
+SpellItems-join f (x ∷ xs) ys (item v vs) ws spell others =
+    (spell.0, SpellItems-join f xs ys vs ws spell.1 others)
+
+pub AreItems-join : (vs ws : Items) → AreItems vs → AreItems ws → AreItems (join vs ws)
+AreItems-join no_items ws valid others = others
+AreItems-join (item v vs) ws valid others = (valid.0, AreItems-join vs ws valid.1 others)
+
+pub nodes-join : (vs ws : Items) → nodes_of_items (join vs ws) ≡ nodes_of_items vs + nodes_of_items ws
+nodes-join no_items ws = omega arith
+nodes-join (item v vs) ws = omega (arith, nodes-join vs ws)
+
+pub payload-join : (vs ws : Items) → payload_of_items (join vs ws) ≡ payload_of_items vs + payload_of_items ws
+payload-join no_items ws = omega arith
+payload-join (item v vs) ws = omega (arith, payload-join vs ws)
+
 -- the items that the references of two lists spell, taken apart
 pub record Parts (f xs ys : List ℕ) (ws : Items) : Type 0 where
   pub front : Items

@@ -23,13 +23,11 @@ use Rattle.plist_value.specs.declared.budget.Budget.{Budget}
 use Rattle.plist_binary.specs.declared.fault.BinaryFault.{BinaryFault}
 use Rattle.plist_binary.specs.declared.fault.BinaryFault.TheVariants.{DuplicateKey, OutOfMemory}
 use Rattle.plist_binary.specs.Paths.{Leads}
-use Rattle.plist_binary.specs.Reach.{nodes_from, payload_from}
 use Rattle.plist_binary.specs.Readings.{ReadsItems, RefusesItems, texts, RefusesKeys, ReadsPairs, RefusesPairs}
 use Rattle.plist_binary.specs.Building.{PairsSpelled}
 use Rattle.plist_binary.proofs.Ascents.{distinct_moved}
 use Rattle.plist_binary.proofs.Entering.{some_level}
 use Rattle.plist_binary.proofs.Inserting.{same_key, zip-firsts, zip-seconds}
-use Rattle.plist_binary.proofs.Reaching.{widen}
 use Rattle.plist_binary.proofs.Rows.{pull, Row, AreRows-moved, listed, nodes_of_pair, payload_of_pair, length-listed, AreRows-listed, nodes-listed, payload-listed, keys_distinct, row_keys, row_values, key_refs, value_refs, SpellItems-keys, SpellItems-values, nodes-rows, payload-rows, AreRows-items, SpellPairs-rows, ArePairs-rows, nodes-pairs_of, payload-pairs_of}
 
 -- the keys and the values of pairs, in the order of the file
@@ -75,16 +73,16 @@ unsort f keys values levels rows ps long moved spell valid deep =
       distinct = distinct_moved (λ (p : List ℕ × Plist). p.0) (listed ps) (map shown rs) pairs_moved (keys_distinct ps valid);
     }
 
-pub RefusesPairs-memory : (f keys values : List ℕ) (levels : ℕ) (left : Budget) → RefusesPairs f keys values levels left OutOfMemory
-RefusesPairs-memory f keys values levels left = record {
+pub RefusesPairs-memory : (f : List ℕ) (whole : Budget) (keys values : List ℕ) (levels : ℕ) (left : Budget) → RefusesPairs f whole keys values levels left OutOfMemory
+RefusesPairs-memory f whole keys values levels left = record {
   stands = tt;
   none = λ unless. absurd (unless refl);
 }
 
 -- the keys are refused
-pub RefusesPairs-keys : (f keys values : List ℕ) (levels : ℕ) (left : Budget) (fault : BinaryFault) → length keys ≡ length values → RefusesKeys f keys levels left fault → RefusesPairs f keys values levels left fault
-RefusesPairs-keys f keys values levels left fault long refused = record {
-  stands = widen f left.nodes left.payload (nodes_from f (1 + levels) keys) (payload_from f (1 + levels) keys) left.nodes left.payload (nodes_from f (1 + levels) keys + nodes_from f (1 + levels) values) (payload_from f (1 + levels) keys + payload_from f (1 + levels) values) fault (λ h. omega arith) (λ h. omega arith) refused.stands;
+pub RefusesPairs-keys : (f : List ℕ) (whole : Budget) (keys values : List ℕ) (levels : ℕ) (left : Budget) (fault : BinaryFault) → length keys ≡ length values → RefusesKeys f whole keys levels left fault → RefusesPairs f whole keys values levels left fault
+RefusesPairs-keys f whole keys values levels left fault long refused = record {
+  stands = refused.stands;
   none = λ unless rows ps moved spell valid deep affords.
       let apart = unsort f keys values levels rows ps long moved spell valid deep in
       refused.none unless apart.us apart.valid_keys apart.spell_keys apart.deep_keys record {
@@ -94,12 +92,10 @@ RefusesPairs-keys f keys values levels left fault long refused = record {
 }
 
 -- the values are refused, behind keys that were read
-pub RefusesPairs-values : (f keys values : List ℕ) (levels : ℕ) (before left : Budget) (us : List (List ℕ)) (fault : BinaryFault) → length keys ≡ length values → ReadsItems f keys levels before (texts us) left → RefusesItems f values levels left fault → RefusesPairs f keys values levels before fault
-RefusesPairs-values f keys values levels before left us fault long read refused =
-    let nodes_met = read.met.nodes_met in
-    let payload_met = read.met.payload_met in
+pub RefusesPairs-values : (f : List ℕ) (whole : Budget) (keys values : List ℕ) (levels : ℕ) (before left : Budget) (us : List (List ℕ)) (fault : BinaryFault) → length keys ≡ length values → ReadsItems f keys levels before (texts us) left → RefusesItems f whole values levels left fault → RefusesPairs f whole keys values levels before fault
+RefusesPairs-values f whole keys values levels before left us fault long read refused =
     record {
-      stands = widen f left.nodes left.payload (nodes_from f (1 + levels) values) (payload_from f (1 + levels) values) before.nodes before.payload (nodes_from f (1 + levels) keys + nodes_from f (1 + levels) values) (payload_from f (1 + levels) keys + payload_from f (1 + levels) values) fault (λ h. omega arith) (λ h. omega arith) refused.stands;
+      stands = refused.stands;
       none = λ unless rows ps moved spell valid deep affords.
           let apart = unsort f keys values levels rows ps long moved spell valid deep in
           let same = same_items f keys (texts apart.us) (texts us) apart.valid_keys read.valid apart.spell_keys read.spell in
@@ -193,8 +189,8 @@ texts_same (u ∷ us) (w ∷ ws) same =
     let first : u ≡ w = cc in
     cc
 
-pub RefusesPairs-twice : (f containers keys values : List ℕ) (table levels : ℕ) (before left : Budget) (us : List (List ℕ)) → IsLaid f → Leads f containers table → Holds f table (holds_table keys values) → length keys ≡ length values → ReadsItems f keys levels before (texts us) left → (IsDistinct same_key us → ⊥) → RefusesPairs f keys values levels before (DuplicateKey table)
-RefusesPairs-twice f containers keys values table levels before left us laid leads holds long read not_distinct =
+pub RefusesPairs-twice : (f : List ℕ) (whole : Budget) (containers keys values : List ℕ) (table levels : ℕ) (before left : Budget) (us : List (List ℕ)) → IsLaid f → Leads f containers table → Holds f table (holds_table keys values) → length keys ≡ length values → ReadsItems f keys levels before (texts us) left → (IsDistinct same_key us → ⊥) → RefusesPairs f whole keys values levels before (DuplicateKey table)
+RefusesPairs-twice f whole containers keys values table levels before left us laid leads holds long read not_distinct =
     let found = twice us not_distinct in
     record {
       stands = record {
@@ -266,10 +262,6 @@ ReadsPairs-sorted f keys values levels before left after us vs ps long read_keys
       spent = record {
         nodes_left = omega (arith, nodes_all, read_keys.spent.nodes_left, read_values.spent.nodes_left);
         payload_left = omega (arith, payload_all, read_keys.spent.payload_left, read_values.spent.payload_left);
-      };
-      met = record {
-        nodes_met = omega (arith, read_keys.met.nodes_met, read_values.met.nodes_met);
-        payload_met = omega (arith, read_keys.met.payload_met, read_values.met.payload_met);
       };
     }
 

@@ -62,19 +62,19 @@ laid f count place is some behind ends long headed = record {
 }
 
 -- the first file spells the value
-sorted-laid : IsLaid sorted
+pub sorted-laid : IsLaid sorted
 unfolding sorted end_of trailer
 sorted-laid = laid sorted 3 17 refl (lit≤ tt) (lit≤ tt) refl (lit≤ tt) refl
 
-sorted-table : Holds sorted 0 (holds_table (1 ∷ 2 ∷ []) (2 ∷ 1 ∷ []))
+pub sorted-table : Holds sorted 0 (holds_table (1 ∷ 2 ∷ []) (2 ∷ 1 ∷ []))
 unfolding sorted end_of what_holds object_at octets_at marked_object table_object content count_of_content
 sorted-table = record { listed = lit< tt; reads = refl }
 
-sorted-a : Holds sorted 1 (holds_scalar (text a))
+pub sorted-a : Holds sorted 1 (holds_scalar (text a))
 unfolding sorted end_of what_holds object_at octets_at marked_object ascii_object content count_of_content
 sorted-a = record { listed = lit< tt; reads = refl }
 
-sorted-b : Holds sorted 2 (holds_scalar (text b))
+pub sorted-b : Holds sorted 2 (holds_scalar (text b))
 unfolding sorted end_of what_holds object_at octets_at marked_object ascii_object content count_of_content
 sorted-b = record { listed = lit< tt; reads = refl }
 

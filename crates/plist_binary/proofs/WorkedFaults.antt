@@ -5,20 +5,18 @@ use Rattle.plist_value.specs.Rows.{a}
 use Rattle.plist_object.specs.Layout.{header, IsLaid}
 use Rattle.plist_object.specs.Objects.{holds_scalar, holds_list, holds_table, marked_object, content, count_of_content, simple_object, ascii_object, list_object, table_object}
 use Rattle.plist_object.specs.Places.{Holds, what_holds, object_at, octets_at}
-use Rattle.plist_object.specs.declared.layout.LayoutFault.TheVariants.{TooShort, BadTrailer}
-use Rattle.plist_object.specs.declared.object.ObjectFault.TheVariants.{NullObject}
-use Rattle.plist_binary.specs.declared.fault.BinaryFault.TheVariants.{Layout, Object, BadReference, KeyNotText, DuplicateKey, Cycle}
+use Rattle.plist_binary.specs.declared.fault.BinaryFault.TheVariants.{TooShort, BadTrailer, NullObject, BadReference, KeyNotText, DuplicateKey, Cycle}
 use Rattle.plist_binary.specs.Faults.{Stands}
 use Rattle.plist_binary.specs.Paths.{Refers}
 use Rattle.plist_binary.proofs.Worked.{end_of, trailer, laid, sorted}
 
 -- fewer than 42 octets of a file
-short : Stands (take 41 sorted) (Layout TooShort)
+short : Stands (take 41 sorted) TooShort
 unfolding sorted end_of
 short = lit< tt
 
 -- all octets but the last
-unended : Stands (take 51 sorted) (Layout BadTrailer)
+unended : Stands (take 51 sorted) BadTrailer
 unfolding sorted end_of
 unended = (lit≤ tt, refl, λ fits. not-suc-le-zero fits.offset_width_least)
 
@@ -109,7 +107,7 @@ null-laid : IsLaid null
 unfolding null end_of trailer
 null-laid = laid null 1 9 refl (lit≤ tt) (lit≤ tt) refl (lit≤ tt) refl
 
-null-object : Stands null (Object 0 NullObject)
+null-object : Stands null (NullObject 0)
 unfolding null end_of what_holds object_at octets_at marked_object simple_object
 null-object = record {
   ends = record { laid = null-laid; before = []; leads = refl };

@@ -15,18 +15,18 @@ use Rattle.plist_binary.specs.Paths.{Leads, Refers}
 use Rattle.plist_binary.proofs.Worked.{all_under, end_of, trailer, laid}
 
 -- a list that holds one empty list twice
-shared : List ℕ
+unfoldable pub shared : List ℕ
 shared = header ++ (162 ∷ 1 ∷ 1 ∷ 160 ∷ 8 ∷ 11 ∷ end_of 2 12)
 
-shared-laid : IsLaid shared
+pub shared-laid : IsLaid shared
 unfolding shared end_of trailer
 shared-laid = laid shared 2 12 refl (lit≤ tt) (lit≤ tt) refl (lit≤ tt) refl
 
-shared-first : Holds shared 0 (holds_list (1 ∷ 1 ∷ []))
+pub shared-first : Holds shared 0 (holds_list (1 ∷ 1 ∷ []))
 unfolding shared end_of what_holds object_at octets_at marked_object list_object content count_of_content
 shared-first = record { listed = lit< tt; reads = refl }
 
-shared-second : Holds shared 1 (holds_list [])
+pub shared-second : Holds shared 1 (holds_list [])
 unfolding shared end_of what_holds object_at octets_at marked_object list_object content count_of_content
 shared-second = record { listed = lit< tt; reads = refl }
 
@@ -41,7 +41,7 @@ shared-binary = record {
 }
 
 -- the only references of that file
-shared-refers : (i j : ℕ) → Refers shared i j → (i ≡ 0) × (j ≡ 1)
+pub shared-refers : (i j : ℕ) → Refers shared i j → (i ≡ 0) × (j ≡ 1)
 unfolding shared end_of
 shared-refers zero j refers =
     let held = same_held shared 0 refers.held (holds_list (1 ∷ 1 ∷ [])) refers.holds shared-first in

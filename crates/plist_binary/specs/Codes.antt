@@ -1,35 +1,57 @@
--- The numbers of the refusals, and how they are printed.
-use Rattle.std.specs.Prelude.{ℕ, List, ◌++◌, codes}
-use Rattle.std.specs.Fmt.{decimal}
-use Rattle.plist_object.specs.Codes.{layout_code, layout_text, object_code, object_text}
+-- Which refusal each fault is, its number, and what is printed of it.
+use Rattle.std.specs.Prelude.{ℕ, List}
+use Rattle.plist_value.specs.Refusals.{number_of, reports, report_text}
+use Rattle.plist_value.specs.declared.refusals.Place.TheVariants as place
+use Rattle.plist_value.specs.declared.refusals.Refusal.TheVariants as refusal
+use Rattle.plist_value.specs.declared.refusals.Report.{Report}
+use Rattle.plist_object.specs.declared.layout.LayoutFault.{LayoutFault}
+use Rattle.plist_object.specs.declared.layout.LayoutFault.TheVariants as layout
+use Rattle.plist_object.specs.declared.object.ObjectFault.{ObjectFault}
+use Rattle.plist_object.specs.declared.object.ObjectFault.TheVariants as object
 use Rattle.plist_binary.specs.declared.fault.BinaryFault.{BinaryFault}
-use Rattle.plist_binary.specs.declared.fault.BinaryFault.TheVariants.{Layout, Object, BadReference, KeyNotText, DuplicateKey, Cycle, TooDeep, TooManyNodes, TooMuchPayload, OutOfMemory}
+use Rattle.plist_binary.specs.declared.fault.BinaryFault.TheVariants.{TooShort, BadHeader, BadTrailer, BadOffset, BadReference, CutObject, BadMarker, NullObject, UidObject, SetObject, NotAscii, WideInteger, KeyNotText, DuplicateKey, Cycle, TooDeep, TooManyNodes, TooMuchPayload, OutOfMemory}
+
+-- the fault of a layout, as one of the file
+abbrev pub of_layout : LayoutFault → BinaryFault
+of_layout layout.TooShort = TooShort
+of_layout layout.BadHeader = BadHeader
+of_layout layout.BadTrailer = BadTrailer
+
+-- the fault of the object i, as one of the file
+abbrev pub of_object : ℕ → ObjectFault → BinaryFault
+of_object i object.BadOffset = BadOffset i
+of_object i object.CutObject = CutObject i
+of_object i object.BadMarker = BadMarker i
+of_object i object.NullObject = NullObject i
+of_object i object.UidObject = UidObject i
+of_object i object.SetObject = SetObject i
+of_object i object.NotAscii = NotAscii i
+of_object i object.WideInteger = WideInteger i
+
+-- the refusal, and the object that it names
+abbrev pub fault_report : BinaryFault → Report
+fault_report TooShort = reports refusal.TooShort place.Nowhere
+fault_report BadHeader = reports refusal.BadHeader place.Nowhere
+fault_report BadTrailer = reports refusal.BadTrailer place.Nowhere
+fault_report (BadOffset i) = reports refusal.BadOffset (place.Object i)
+fault_report (BadReference i) = reports refusal.BadReference (place.Object i)
+fault_report (CutObject i) = reports refusal.CutObject (place.Object i)
+fault_report (BadMarker i) = reports refusal.BadMarker (place.Object i)
+fault_report (NullObject i) = reports refusal.NullObject (place.Object i)
+fault_report (UidObject i) = reports refusal.UidObject (place.Object i)
+fault_report (SetObject i) = reports refusal.SetObject (place.Object i)
+fault_report (NotAscii i) = reports refusal.NotAscii (place.Object i)
+fault_report (WideInteger i) = reports refusal.WideInteger (place.Object i)
+fault_report (KeyNotText i) = reports refusal.KeyNotText (place.Object i)
+fault_report (DuplicateKey i) = reports refusal.DuplicateKey (place.Object i)
+fault_report (Cycle i) = reports refusal.Cycle (place.Object i)
+fault_report (TooDeep i) = reports refusal.TooDeep (place.Object i)
+fault_report (TooManyNodes i) = reports refusal.TooManyNodes (place.Object i)
+fault_report (TooMuchPayload i) = reports refusal.TooMuchPayload (place.Object i)
+fault_report OutOfMemory = reports refusal.OutOfMemory place.Nowhere
 
 abbrev pub fault_code : BinaryFault → ℕ
-fault_code (Layout fault) = layout_code fault
-fault_code (Object i fault) = object_code fault
-fault_code (BadReference i) = 5
-fault_code (KeyNotText i) = 13
-fault_code (DuplicateKey i) = 14
-fault_code (Cycle i) = 15
-fault_code (TooDeep i) = 16
-fault_code (TooManyNodes i) = 17
-fault_code (TooMuchPayload i) = 18
-fault_code OutOfMemory = 60
+fault_code fault = number_of (fault_report fault).0
 
--- the words for the place
-abbrev pub at_object : ℕ → List ℕ
-at_object i = codes " at object " ++ decimal i
-
--- what is printed: the number, the name and the place
 abbrev pub fault_text : BinaryFault → List ℕ
-fault_text (Layout fault) = layout_text fault
-fault_text (Object i fault) = object_text fault ++ at_object i
-fault_text (BadReference i) = codes "5 BadReference" ++ at_object i
-fault_text (KeyNotText i) = codes "13 KeyNotText" ++ at_object i
-fault_text (DuplicateKey i) = codes "14 DuplicateKey" ++ at_object i
-fault_text (Cycle i) = codes "15 Cycle" ++ at_object i
-fault_text (TooDeep i) = codes "16 TooDeep" ++ at_object i
-fault_text (TooManyNodes i) = codes "17 TooManyNodes" ++ at_object i
-fault_text (TooMuchPayload i) = codes "18 TooMuchPayload" ++ at_object i
-fault_text OutOfMemory = codes "60 OutOfMemory"
+fault_text fault = report_text (fault_report fault)

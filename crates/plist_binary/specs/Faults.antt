@@ -3,14 +3,16 @@ use Rattle.std.specs.Prelude.{◌≡◌, ℕ, ◌+◌, ◌<◌, ◌≤◌, List,
 use Rattle.std.specs.List.{Contains}
 use Rattle.plist_value.specs.Plist.{text, whole, flag, real4, real8, moment, bytes}
 use Rattle.plist_value.specs.declared.TheConstants.{MAX_NODES, MAX_DEPTH, MAX_PAYLOAD}
+use Rattle.plist_object.specs.declared.layout.LayoutFault.TheVariants as layout
 use Rattle.plist_object.specs.declared.object.ObjectFault.{ObjectFault}
-use Rattle.plist_object.specs.Layout.{trailer_of, IsLayoutFault}
+use Rattle.plist_object.specs.declared.object.ObjectFault.TheVariants as object
+use Rattle.plist_object.specs.Layout.{trailer_of, IsLaid, IsLayoutFault}
 use Rattle.plist_object.specs.Objects.{Held, holds_scalar, holds_list, holds_table}
 use Rattle.plist_object.specs.Places.{Holds, what_holds}
 use Rattle.plist_binary.specs.declared.fault.BinaryFault.{BinaryFault}
-use Rattle.plist_binary.specs.declared.fault.BinaryFault.TheVariants.{Layout, Object, BadReference, KeyNotText, DuplicateKey, Cycle, TooDeep, TooManyNodes, TooMuchPayload, OutOfMemory}
+use Rattle.plist_binary.specs.declared.fault.BinaryFault.TheVariants.{TooShort, BadHeader, BadTrailer, BadOffset, BadReference, CutObject, BadMarker, NullObject, UidObject, SetObject, NotAscii, WideInteger, KeyNotText, DuplicateKey, Cycle, TooDeep, TooManyNodes, TooMuchPayload, OutOfMemory}
 use Rattle.plist_binary.specs.Paths.{Refers, EndsPath}
-use Rattle.plist_binary.specs.Reach.{nodes_reached, payload_reached}
+use Rattle.plist_binary.specs.Begins.{payload_read, Begins}
 
 -- i ends a path, and has the fault of its own
 pub record IsFaulty (f : List ℕ) (i : ℕ) (fault : ObjectFault) : Type 0 where
@@ -75,27 +77,48 @@ pub record IsTooDeep (f : List ℕ) (i : ℕ) : Type 0 where
   pub ends : EndsPath f i
   pub long : length ends.before ≡ MAX_DEPTH
 
--- i ends a path, and so much is above the limit
-pub record IsBeyond (f : List ℕ) (i limit reached : ℕ) : Type 0 where
-  pub ends : EndsPath f i
-  pub above : limit < reached
+-- before i come as many nodes as may be, and no more payload than may be
+pub record HasNodesBefore (f : List ℕ) (i nodes most : ℕ) : Type 0 where
+  pub laid : IsLaid f
+  pub listed : i < (trailer_of f).count
+  pub before : List ℕ
+  pub payload : ℕ
+  pub begins : Begins f before i nodes payload
+  pub within : payload ≤ most
 
--- the fault stands at its place, where so many nodes and so much payload may be, and are reached
-abbrev pub StandsWithin : List ℕ → ℕ → ℕ → ℕ → ℕ → BinaryFault → Type 0
-StandsWithin f nodes payload met_nodes met_payload (Layout fault) = IsLayoutFault fault f
-StandsWithin f nodes payload met_nodes met_payload (Object i fault) = IsFaulty f i fault
-StandsWithin f nodes payload met_nodes met_payload (BadReference i) = RefersNowhere f i
-StandsWithin f nodes payload met_nodes met_payload (KeyNotText i) = HasOtherKey f i
-StandsWithin f nodes payload met_nodes met_payload (DuplicateKey i) = HasKeyTwice f i
-StandsWithin f nodes payload met_nodes met_payload (Cycle i) = ClosesCycle f i
-StandsWithin f nodes payload met_nodes met_payload (TooDeep i) = IsTooDeep f i
-StandsWithin f nodes payload met_nodes met_payload (TooManyNodes i) = IsBeyond f i nodes met_nodes
-StandsWithin f nodes payload met_nodes met_payload (TooMuchPayload i) = IsBeyond f i payload met_payload
-StandsWithin f nodes payload met_nodes met_payload OutOfMemory = ⊤
+-- before i come fewer nodes than may be, and no more payload than may be, which with that of i is more
+pub record HasPayloadAbove (f : List ℕ) (i few most : ℕ) : Type 0 where
+  pub laid : IsLaid f
+  pub before : List ℕ
+  pub nodes : ℕ
+  pub payload : ℕ
+  pub begins : Begins f before i nodes payload
+  pub fewer : nodes < few
+  pub within : payload ≤ most
+  pub above : most < payload + payload_read (what_holds f i)
 
--- The fault stands at its place, in octets that are read from the top. One level more than a value may have
--- is reached, since the nodes are counted first.
+-- the fault stands at its place, where so many nodes and so much payload may be
+abbrev pub StandsWithin : List ℕ → ℕ → ℕ → BinaryFault → Type 0
+StandsWithin f nodes payload TooShort = IsLayoutFault layout.TooShort f
+StandsWithin f nodes payload BadHeader = IsLayoutFault layout.BadHeader f
+StandsWithin f nodes payload BadTrailer = IsLayoutFault layout.BadTrailer f
+StandsWithin f nodes payload (BadOffset i) = IsFaulty f i object.BadOffset
+StandsWithin f nodes payload (CutObject i) = IsFaulty f i object.CutObject
+StandsWithin f nodes payload (BadMarker i) = IsFaulty f i object.BadMarker
+StandsWithin f nodes payload (NullObject i) = IsFaulty f i object.NullObject
+StandsWithin f nodes payload (UidObject i) = IsFaulty f i object.UidObject
+StandsWithin f nodes payload (SetObject i) = IsFaulty f i object.SetObject
+StandsWithin f nodes payload (NotAscii i) = IsFaulty f i object.NotAscii
+StandsWithin f nodes payload (WideInteger i) = IsFaulty f i object.WideInteger
+StandsWithin f nodes payload (BadReference i) = RefersNowhere f i
+StandsWithin f nodes payload (KeyNotText i) = HasOtherKey f i
+StandsWithin f nodes payload (DuplicateKey i) = HasKeyTwice f i
+StandsWithin f nodes payload (Cycle i) = ClosesCycle f i
+StandsWithin f nodes payload (TooDeep i) = IsTooDeep f i
+StandsWithin f nodes payload (TooManyNodes i) = HasNodesBefore f i nodes payload
+StandsWithin f nodes payload (TooMuchPayload i) = HasPayloadAbove f i nodes payload
+StandsWithin f nodes payload OutOfMemory = ⊤
+
+-- the fault stands at its place
 abbrev pub Stands : List ℕ → BinaryFault → Type 0
-Stands f fault =
-    let top = (trailer_of f).top in
-    StandsWithin f MAX_NODES MAX_PAYLOAD (nodes_reached f (1 + MAX_DEPTH) top) (payload_reached f (1 + MAX_DEPTH) top) fault
+Stands f fault = StandsWithin f MAX_NODES MAX_PAYLOAD fault

@@ -4,7 +4,7 @@ pub use Rattle.plist_object.specs.Layout
 pub use Rattle.plist_object.specs.Spelled
 pub mod Codes
 pub mod Paths
-pub mod Reach
+pub mod Begins
 pub mod Faults
 pub mod Budgets
 pub mod Keys

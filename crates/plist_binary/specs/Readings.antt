@@ -1,5 +1,5 @@
 -- What a file spells within a budget, and what it cannot.
-use Rattle.std.specs.Prelude.{ℕ, ◌+◌, ◌*◌, ◌≤◌, List, [], ◌∷◌, length}
+use Rattle.std.specs.Prelude.{ℕ, ◌*◌, ◌≤◌, List, [], ◌∷◌, length}
 use Rattle.std.specs.List.{zip}
 use Rattle.std.specs.List.Sorted.{IsPermutation}
 use Rattle.plist_value.specs.Plist.{text, Plist, scalar, Items, no_items, item, Pairs, IsPlist, AreItems, ArePairs}
@@ -8,9 +8,8 @@ use Rattle.plist_object.specs.Spelled.{Spells, SpellItems, SpellPairs}
 use Rattle.plist_value.specs.declared.budget.Budget.{Budget}
 use Rattle.plist_binary.specs.declared.fault.BinaryFault.{BinaryFault}
 use Rattle.plist_value.specs.Budget.{Spends, Affords}
-use Rattle.plist_binary.specs.Budgets.{WithinReach, UnlessMemory}
+use Rattle.plist_binary.specs.Budgets.{UnlessMemory}
 use Rattle.plist_binary.specs.Faults.{StandsWithin}
-use Rattle.plist_binary.specs.Reach.{nodes_reached, payload_reached, nodes_from, payload_from}
 
 -- the object spells the value, of at most so many levels, which took what is gone from the budget
 pub record Reads (f : List ℕ) (i levels : ℕ) (before : Budget) (v : Plist) (after : Budget) : Type 0 where
@@ -18,11 +17,10 @@ pub record Reads (f : List ℕ) (i levels : ℕ) (before : Budget) (v : Plist) (
   pub valid : IsPlist v
   pub deep : depth v ≤ levels
   pub spent : Spends before (nodes v) (payload v) after
-  pub met : WithinReach before (nodes_reached f (1 + levels) i) (payload_reached f (1 + levels) i) after
 
--- the fault stands, and the object spells no value of at most so many levels within the budget
-pub record Refuses (f : List ℕ) (i levels : ℕ) (left : Budget) (fault : BinaryFault) : Type 0 where
-  pub stands : StandsWithin f left.nodes left.payload (nodes_reached f (1 + levels) i) (payload_reached f (1 + levels) i) fault
+-- the fault stands in the whole budget, and the object spells no value of at most so many levels within the budget
+pub record Refuses (f : List ℕ) (whole : Budget) (i levels : ℕ) (left : Budget) (fault : BinaryFault) : Type 0 where
+  pub stands : StandsWithin f whole.nodes whole.payload fault
   pub none : UnlessMemory fault ((v : Plist) → IsPlist v → Spells f i v → depth v ≤ levels → Affords left (nodes v) (payload v) → ⊥)
 
 -- the references spell the items in turn
@@ -31,10 +29,9 @@ pub record ReadsItems (f refs : List ℕ) (levels : ℕ) (before : Budget) (vs :
   pub valid : AreItems vs
   pub deep : depth_of_items vs ≤ levels
   pub spent : Spends before (nodes_of_items vs) (payload_of_items vs) after
-  pub met : WithinReach before (nodes_from f (1 + levels) refs) (payload_from f (1 + levels) refs) after
 
-pub record RefusesItems (f refs : List ℕ) (levels : ℕ) (left : Budget) (fault : BinaryFault) : Type 0 where
-  pub stands : StandsWithin f left.nodes left.payload (nodes_from f (1 + levels) refs) (payload_from f (1 + levels) refs) fault
+pub record RefusesItems (f : List ℕ) (whole : Budget) (refs : List ℕ) (levels : ℕ) (left : Budget) (fault : BinaryFault) : Type 0 where
+  pub stands : StandsWithin f whole.nodes whole.payload fault
   pub none : UnlessMemory fault ((vs : Items) → AreItems vs → SpellItems f refs vs → depth_of_items vs ≤ levels → Affords left (nodes_of_items vs) (payload_of_items vs) → ⊥)
 
 -- texts, as items
@@ -43,13 +40,13 @@ texts [] = no_items
 texts (units ∷ keys) = item (scalar (text units)) (texts keys)
 
 -- the fault stands, and the object is no text within the budget
-pub record RefusesKey (f : List ℕ) (i levels : ℕ) (left : Budget) (fault : BinaryFault) : Type 0 where
-  pub stands : StandsWithin f left.nodes left.payload (nodes_reached f (1 + levels) i) (payload_reached f (1 + levels) i) fault
+pub record RefusesKey (f : List ℕ) (whole : Budget) (i levels : ℕ) (left : Budget) (fault : BinaryFault) : Type 0 where
+  pub stands : StandsWithin f whole.nodes whole.payload fault
   pub none : UnlessMemory fault ((units : List ℕ) → IsPlist (scalar (text units)) → Spells f i (scalar (text units)) → 1 ≤ levels → Affords left 1 (2 * length units) → ⊥)
 
 -- the fault stands, and the references are to no texts within the budget
-pub record RefusesKeys (f refs : List ℕ) (levels : ℕ) (left : Budget) (fault : BinaryFault) : Type 0 where
-  pub stands : StandsWithin f left.nodes left.payload (nodes_from f (1 + levels) refs) (payload_from f (1 + levels) refs) fault
+pub record RefusesKeys (f : List ℕ) (whole : Budget) (refs : List ℕ) (levels : ℕ) (left : Budget) (fault : BinaryFault) : Type 0 where
+  pub stands : StandsWithin f whole.nodes whole.payload fault
   pub none : UnlessMemory fault ((keys : List (List ℕ)) → AreItems (texts keys) → SpellItems f refs (texts keys) → depth_of_items (texts keys) ≤ levels → Affords left (nodes_of_items (texts keys)) (payload_of_items (texts keys)) → ⊥)
 
 -- the references to keys and to values spell the pairs, in the order of the keys
@@ -60,8 +57,7 @@ pub record ReadsPairs (f refs others : List ℕ) (levels : ℕ) (before : Budget
   pub valid : ArePairs ps
   pub deep : depth_of_pairs ps ≤ levels
   pub spent : Spends before (nodes_of_pairs ps) (payload_of_pairs ps) after
-  pub met : WithinReach before (nodes_from f (1 + levels) refs + nodes_from f (1 + levels) others) (payload_from f (1 + levels) refs + payload_from f (1 + levels) others) after
 
-pub record RefusesPairs (f refs others : List ℕ) (levels : ℕ) (left : Budget) (fault : BinaryFault) : Type 0 where
-  pub stands : StandsWithin f left.nodes left.payload (nodes_from f (1 + levels) refs + nodes_from f (1 + levels) others) (payload_from f (1 + levels) refs + payload_from f (1 + levels) others) fault
+pub record RefusesPairs (f : List ℕ) (whole : Budget) (refs others : List ℕ) (levels : ℕ) (left : Budget) (fault : BinaryFault) : Type 0 where
+  pub stands : StandsWithin f whole.nodes whole.payload fault
   pub none : UnlessMemory fault ((rows : List (ℕ × ℕ)) (ps : Pairs) → IsPermutation (zip refs others) rows → SpellPairs f rows ps → ArePairs ps → depth_of_pairs ps ≤ levels → Affords left (nodes_of_pairs ps) (payload_of_pairs ps) → ⊥)

@@ -3,36 +3,74 @@ ghost use Rattle.std.specs.Prelude.{◌≡◌};
 ghost use Rattle.plist_binary.specs.declared.fault.BinaryFault.TheVariants.{OutOfMemory};
 
 use plist_object::{LayoutFault, ObjectFault};
+use plist_value::{Place, Refusal, Report};
 use std::alloc::{AllocError, AllocFailed};
-use std::error::Error;
 use std::fmt;
+use thiserror::Error;
 
 /// Why octets are not read as a binary property list (CFBinaryPList.c; which faults there are, and their
 /// order, is our profile). A place is the number of an object.
-#[derive(Clone, Copy, Debug, PartialEq, Eq)]
+#[derive(Clone, Copy, Debug, PartialEq, Eq, Error)]
 pub enum BinaryFault {
-    /// 1 to 3: the octets do not have the layout.
-    Layout(LayoutFault),
-    /// 4 and 6 to 12: the object does not read.
-    Object {
+    /// 1: there are fewer than 42 octets.
+    TooShort,
+    /// 2: the first eight octets are not `bplist00`.
+    BadHeader,
+    /// 3: the trailer does not fit the file.
+    BadTrailer,
+    /// 4: the place of the object is in the header, or not before the offset table.
+    BadOffset {
         /// The object.
         object: u64,
-        /// Why it does not read.
-        fault: ObjectFault,
     },
     /// 5: a reference is not below the number of objects.
     BadReference {
         /// The object that holds the reference.
         object: u64,
     },
-    /// 13: a key is no text.
-    KeyNotText {
-        /// The table.
+    /// 6: the object's count or content reaches into the offset table.
+    CutObject {
+        /// The object.
         object: u64,
     },
-    /// 14: two keys of a table are equal.
+    /// 7: the object's marker, or that of its count, is none of the format.
+    BadMarker {
+        /// The object.
+        object: u64,
+    },
+    /// 8: the object is a null, which is no property list here.
+    NullObject {
+        /// The object.
+        object: u64,
+    },
+    /// 9: the object is a UID, which is no property list here.
+    UidObject {
+        /// The object.
+        object: u64,
+    },
+    /// 10: the object is a set, which is no property list here.
+    SetObject {
+        /// The object.
+        object: u64,
+    },
+    /// 11: the object is an ASCII string with an octet above 7f.
+    NotAscii {
+        /// The object.
+        object: u64,
+    },
+    /// 12: the object is a whole number of sixteen octets whose first eight are not all zero.
+    WideInteger {
+        /// The object.
+        object: u64,
+    },
+    /// 13: a key is no string.
+    KeyNotText {
+        /// The dictionary.
+        object: u64,
+    },
+    /// 14: two keys of a dictionary are equal.
     DuplicateKey {
-        /// The table.
+        /// The dictionary.
         object: u64,
     },
     /// 15: a reference leads back to a container on the path to it.
@@ -55,34 +93,79 @@ pub enum BinaryFault {
         /// The object referred to.
         object: u64,
     },
-    /// 60: there is no memory for the value.
+    /// 60: there is no memory for the value. May come in place of any other fault.
     OutOfMemory,
 }
 
 impl BinaryFault {
-    ghost use Rattle.plist_binary.specs.Codes.{fault_code};
+    ghost use Rattle.plist_binary.specs.Codes.{fault_code, fault_report, of_object};
 
-    /// The number of the refusal.
+    /// The number of the refusal: 1 to 18, or 60.
     pub fn code(&self) -> u8
         ensures { result ≡ fault_code self.now }
     {
-        match self {
-            BinaryFault::Layout(fault) => fault.code(),
-            BinaryFault::Object { fault, .. } => fault.code(),
-            BinaryFault::BadReference { .. } => 5,
-            BinaryFault::KeyNotText { .. } => 13,
-            BinaryFault::DuplicateKey { .. } => 14,
-            BinaryFault::Cycle { .. } => 15,
-            BinaryFault::TooDeep { .. } => 16,
-            BinaryFault::TooManyNodes { .. } => 17,
-            BinaryFault::TooMuchPayload { .. } => 18,
-            BinaryFault::OutOfMemory => 60,
+        self.report().0.number()
+    }
+
+    /// The object does not read.
+    pub fn of_object(object: u64, fault: ObjectFault) -> BinaryFault
+        ensures { result ≡ of_object object fault }
+    {
+        match fault {
+            ObjectFault::BadOffset => BinaryFault::BadOffset { object },
+            ObjectFault::CutObject => BinaryFault::CutObject { object },
+            ObjectFault::BadMarker => BinaryFault::BadMarker { object },
+            ObjectFault::NullObject => BinaryFault::NullObject { object },
+            ObjectFault::UidObject => BinaryFault::UidObject { object },
+            ObjectFault::SetObject => BinaryFault::SetObject { object },
+            ObjectFault::NotAscii => BinaryFault::NotAscii { object },
+            ObjectFault::WideInteger => BinaryFault::WideInteger { object },
+        }
+    }
+
+    /// Which refusal it is, and what it names.
+    pub fn report(&self) -> Report
+        ensures { result ≡ fault_report self.now }
+    {
+        match *self {
+            BinaryFault::TooShort => Report(Refusal::TooShort, Place::Nowhere),
+            BinaryFault::BadHeader => Report(Refusal::BadHeader, Place::Nowhere),
+            BinaryFault::BadTrailer => Report(Refusal::BadTrailer, Place::Nowhere),
+            BinaryFault::BadOffset { object } => Report(Refusal::BadOffset, Place::Object(object)),
+            BinaryFault::BadReference { object } => {
+                Report(Refusal::BadReference, Place::Object(object))
+            }
+            BinaryFault::CutObject { object } => Report(Refusal::CutObject, Place::Object(object)),
+            BinaryFault::BadMarker { object } => Report(Refusal::BadMarker, Place::Object(object)),
+            BinaryFault::NullObject { object } => {
+                Report(Refusal::NullObject, Place::Object(object))
+            }
+            BinaryFault::UidObject { object } => Report(Refusal::UidObject, Place::Object(object)),
+            BinaryFault::SetObject { object } => Report(Refusal::SetObject, Place::Object(object)),
+            BinaryFault::NotAscii { object } => Report(Refusal::NotAscii, Place::Object(object)),
+            BinaryFault::WideInteger { object } => {
+                Report(Refusal::WideInteger, Place::Object(object))
+            }
+            BinaryFault::KeyNotText { object } => {
+                Report(Refusal::KeyNotText, Place::Object(object))
+            }
+            BinaryFault::DuplicateKey { object } => {
+                Report(Refusal::DuplicateKey, Place::Object(object))
+            }
+            BinaryFault::Cycle { object } => Report(Refusal::Cycle, Place::Object(object)),
+            BinaryFault::TooDeep { object } => Report(Refusal::TooDeep, Place::Object(object)),
+            BinaryFault::TooManyNodes { object } => {
+                Report(Refusal::TooManyNodes, Place::Object(object))
+            }
+            BinaryFault::TooMuchPayload { object } => {
+                Report(Refusal::TooMuchPayload, Place::Object(object))
+            }
+            BinaryFault::OutOfMemory => Report(Refusal::OutOfMemory, Place::Nowhere),
         }
     }
 }
 
-impl Error for BinaryFault {}
-
+/// The number, the name and the object of the refusal, as `14 DuplicateKey at object 0`.
 impl fmt::Display for BinaryFault {
     ghost use Rattle.std.specs.Prelude.{Some};
     ghost use Rattle.plist_binary.specs.Codes.{fault_text};
@@ -90,30 +173,22 @@ impl fmt::Display for BinaryFault {
     ghost output = { λ fault. Some (fault_text fault) };
 
     fn fmt<W: fmt::Write>(&self, f: &mut fmt::Formatter<W>) -> fmt::Result {
-        match self {
-            BinaryFault::Layout(fault) => write!(f, "{fault}"),
-            BinaryFault::Object { object, fault } => write!(f, "{fault} at object {object}"),
-            BinaryFault::BadReference { object } => write!(f, "5 BadReference at object {object}"),
-            BinaryFault::KeyNotText { object } => write!(f, "13 KeyNotText at object {object}"),
-            BinaryFault::DuplicateKey { object } => write!(f, "14 DuplicateKey at object {object}"),
-            BinaryFault::Cycle { object } => write!(f, "15 Cycle at object {object}"),
-            BinaryFault::TooDeep { object } => write!(f, "16 TooDeep at object {object}"),
-            BinaryFault::TooManyNodes { object } => write!(f, "17 TooManyNodes at object {object}"),
-            BinaryFault::TooMuchPayload { object } => {
-                write!(f, "18 TooMuchPayload at object {object}")
-            }
-            BinaryFault::OutOfMemory => write!(f, "60 OutOfMemory"),
-        }
+        let report = self.report();
+        write!(f, "{report}")
     }
 }
 
 impl From<LayoutFault> for BinaryFault {
-    ghost use Rattle.plist_binary.specs.declared.fault.BinaryFault.TheVariants.{Layout};
+    ghost use Rattle.plist_binary.specs.Codes.{of_layout};
 
-    ghost from_gives = { λ fault e. e ≡ Layout fault };
+    ghost from_gives = { λ fault e. e ≡ of_layout fault };
 
     fn from(fault: LayoutFault) -> Self {
-        BinaryFault::Layout(fault)
+        match fault {
+            LayoutFault::TooShort => BinaryFault::TooShort,
+            LayoutFault::BadHeader => BinaryFault::BadHeader,
+            LayoutFault::BadTrailer => BinaryFault::BadTrailer,
+        }
     }
 }
 

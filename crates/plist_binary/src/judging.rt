@@ -9,11 +9,12 @@ ghost use Rattle.plist_object.specs.Spelled.{IsBinary};
 ghost use Rattle.plist_object.specs.Views.{numbers_of, octets_of};
 ghost use Rattle.plist_ranks.specs.Order.{AreSortedIfAny};
 ghost use Rattle.plist_ranks.specs.Ranks.{AreRanks};
+ghost use Rattle.plist_binary.specs.Begins.{AreNext, IsBegun, IsEntered};
 ghost use Rattle.plist_binary.specs.Faults.{Stands};
 ghost use Rattle.plist_binary.specs.Memos.{AreStates};
 ghost use Rattle.plist_binary.specs.Passing.{Passes, PassesItems, PassesPairs, PassesTop};
 ghost use Rattle.plist_binary.specs.Passing.{IsWithinLimits, limits};
-ghost use Rattle.plist_binary.specs.Paths.{AllRefer, Leads, containers_of};
+ghost use Rattle.plist_binary.specs.Paths.{containers_of};
 ghost use Rattle.plist_binary.specs.Readings.{Refuses, RefusesItems, RefusesPairs};
 ghost use Rattle.plist_binary.specs.Recalls.{IsKnown};
 
@@ -76,18 +77,30 @@ pub(crate) fn judge_file<'a>(
     requires { IsLaid (octets_of file) }
     ensures passed { OnOk result (PassesTop (octets_of file.entry)) }
     ensures sorted { IfOk result (AreSortedIfAny (octets_of file.entry)) }
-    ensures refused { IfErr result (Refuses (octets_of file.entry)
+    ensures refused { IfErr result (Refuses (octets_of file.entry) limits
         (trailer_of (octets_of file.entry)).top MAX_DEPTH limits) }
 {
     let none = Ranks::none(alloc);
     let ranks = &none;
-    let walker = Walker { alloc, file, ranks };
+    let whole = Budget::whole();
+    let walker = Walker {
+        alloc,
+        file,
+        ranks,
+        whole,
+    };
     match walker.short() {
         Ok(sorted) => Ok(sorted),
         Err(BinaryFault::TooMuchPayload { .. }) => {
             let ranks = Keys::of_file(alloc, &file)?.ranks(alloc, &file)?;
             let ranks = &ranks;
-            Walker { alloc, file, ranks }.top()
+            Walker {
+                alloc,
+                file,
+                ranks,
+                whole,
+            }
+            .top()
         }
         Err(_) => walker.top(),
     }
@@ -98,6 +111,8 @@ pub(crate) struct Walker<'a, 'r> {
     pub(crate) alloc: Global,
     pub(crate) file: BinFile<'a>,
     pub(crate) ranks: &'r Ranks<'a>,
+    // What a value may take in all.
+    pub(crate) whole: Budget,
     ghost laid: { IsLaid (octets_of file) },
 }
 
@@ -105,30 +120,37 @@ impl<'a, 'r> Walker<'a, 'r> {
     // Whether the top object spells a value of not much more payload than the file has octets. What it refuses
     // may be a value.
     fn short(&self) -> Result<Option<SortedKeys<'a>>, BinaryFault>
-        requires { AreRanks (octets_of self.now.file) self.now.ranks.now }
+        requires whole { self.now.whole ≡ limits }
+        requires ranked { AreRanks (octets_of self.now.file) self.now.ranks.now }
         ensures passed { OnOk result (PassesTop (octets_of self.now.file)) }
         ensures sorted { IfOk result (AreSortedIfAny (octets_of self.now.file)) }
     {
-        let whole = Budget::whole();
         let short = Budget {
-            nodes: whole.nodes,
-            payload: whole.payload.min(self.file.table().saturating_mul(4)),
+            nodes: self.whole.nodes,
+            payload: self.whole.payload.min(self.file.table().saturating_mul(4)),
+        };
+        let walker = Walker {
+            alloc: self.alloc,
+            file: self.file,
+            ranks: self.ranks,
+            whole: short,
         };
         let mut left = short;
         let mut known = KnownKeys::none();
-        self.depth(&mut known, &mut left)?;
+        walker.depth(&mut known, &mut left)?;
         Ok(known.sorted)
     }
 
     // Whether the top object spells a value within the limits.
     fn top(&self) -> Result<Option<SortedKeys<'a>>, BinaryFault>
-        requires { AreRanks (octets_of self.now.file) self.now.ranks.now }
+        requires whole { self.now.whole ≡ limits }
+        requires ranked { AreRanks (octets_of self.now.file) self.now.ranks.now }
         ensures passed { OnOk result (PassesTop (octets_of self.now.file)) }
-        ensures refused { IfErr result (Refuses (octets_of self.now.file)
+        ensures refused { IfErr result (Refuses (octets_of self.now.file) limits
             (trailer_of (octets_of self.now.file)).top MAX_DEPTH limits) }
         ensures sorted { IfOk result (AreSortedIfAny (octets_of self.now.file)) }
     {
-        let mut left = Budget::whole();
+        let mut left = self.whole;
         let mut known = KnownKeys::none();
         self.depth(&mut known, &mut left)?;
         Ok(known.sorted)
@@ -136,12 +158,13 @@ impl<'a, 'r> Walker<'a, 'r> {
 
     // The depth of the value that the top object spells.
     fn depth(&self, known: &mut KnownKeys<'a>, left: &mut Budget) -> Result<u64, BinaryFault>
+        requires whole { self.now.whole ≡ left.old }
         requires limits { IsWithinLimits left.old }
         requires ranked { AreRanks (octets_of self.now.file) self.now.ranks.now }
         requires known { IsKnown (octets_of self.now.file) known.old }
         ensures passed { IfOk result (λ deep. Passes (octets_of self.now.file)
             (trailer_of (octets_of self.now.file)).top MAX_DEPTH left.old deep left.new) }
-        ensures refused { IfErr result (Refuses (octets_of self.now.file)
+        ensures refused { IfErr result (Refuses (octets_of self.now.file) self.now.whole
             (trailer_of (octets_of self.now.file)).top MAX_DEPTH left.old) }
         ensures known { OnOk result (IsKnown (octets_of self.now.file) known.new) }
     {
@@ -162,7 +185,8 @@ impl<'a, 'r> Walker<'a, 'r> {
         left: &mut Budget,
     ) -> Result<u64, BinaryFault>
         requires listed { object < (trailer_of (octets_of self.now.file)).count }
-        requires leads { Leads (octets_of self.now.file) (containers_of path.now) object }
+        requires begun { IsBegun (octets_of self.now.file) (containers_of path.now) object
+            self.now.whole left.old }
         requires depth { length (containers_of path.now) + levels ≡ MAX_DEPTH }
         requires states { AreStates (octets_of self.now.file) (containers_of path.now)
             states.old.items }
@@ -171,7 +195,8 @@ impl<'a, 'r> Walker<'a, 'r> {
         requires known { IsKnown (octets_of self.now.file) known.old }
         ensures passed { IfOk result (λ deep. Passes (octets_of self.now.file) object levels
             left.old deep left.new) }
-        ensures refused { IfErr result (Refuses (octets_of self.now.file) object levels left.old) }
+        ensures refused { IfErr result (Refuses (octets_of self.now.file) self.now.whole object
+            levels left.old) }
         ensures kept { OnOk result (AreStates (octets_of self.now.file) (containers_of path.now)
             states.new.items) }
         ensures known { OnOk result (IsKnown (octets_of self.now.file) known.new) }
@@ -195,7 +220,8 @@ impl<'a, 'r> Walker<'a, 'r> {
         left: &mut Budget,
     ) -> Result<u64, BinaryFault>
         requires listed { object < (trailer_of (octets_of self.now.file)).count }
-        requires leads { Leads (octets_of self.now.file) (containers_of path.now) object }
+        requires begun { IsBegun (octets_of self.now.file) (containers_of path.now) object
+            self.now.whole left.old }
         requires depth { length (containers_of path.now) + levels ≡ MAX_DEPTH }
         requires states { AreStates (octets_of self.now.file) (containers_of path.now)
             states.old.items }
@@ -204,7 +230,8 @@ impl<'a, 'r> Walker<'a, 'r> {
         requires known { IsKnown (octets_of self.now.file) known.old }
         ensures passed { IfOk result (λ deep. Passes (octets_of self.now.file) object levels
             left.old deep left.new) }
-        ensures refused { IfErr result (Refuses (octets_of self.now.file) object levels left.old) }
+        ensures refused { IfErr result (Refuses (octets_of self.now.file) self.now.whole object
+            levels left.old) }
         ensures kept { OnOk result (AreStates (octets_of self.now.file) (containers_of path.now)
             states.new.items) }
         ensures known { OnOk result (IsKnown (octets_of self.now.file) known.new) }
@@ -228,7 +255,8 @@ impl<'a, 'r> Walker<'a, 'r> {
         left: &mut Budget,
     ) -> Result<u64, BinaryFault>
         requires listed { object < (trailer_of (octets_of self.now.file)).count }
-        requires leads { Leads (octets_of self.now.file) (containers_of path.now) object }
+        requires begun { IsBegun (octets_of self.now.file) (containers_of path.now) object
+            self.now.whole left.old }
         requires depth { length (containers_of path.now) + levels ≡ MAX_DEPTH }
         requires states { AreStates (octets_of self.now.file) (containers_of path.now)
             states.old.items }
@@ -237,7 +265,8 @@ impl<'a, 'r> Walker<'a, 'r> {
         requires known { IsKnown (octets_of self.now.file) known.old }
         ensures passed { IfOk result (λ deep. Passes (octets_of self.now.file) object levels
             left.old deep left.new) }
-        ensures refused { IfErr result (Refuses (octets_of self.now.file) object levels left.old) }
+        ensures refused { IfErr result (Refuses (octets_of self.now.file) self.now.whole object
+            levels left.old) }
         ensures kept { OnOk result (AreStates (octets_of self.now.file)
             (object ∷ containers_of path.now) states.new.items) }
         ensures known { OnOk result (IsKnown (octets_of self.now.file) known.new) }
@@ -272,8 +301,8 @@ impl<'a, 'r> Walker<'a, 'r> {
         levels: u64,
         left: &mut Budget,
     ) -> Result<u64, BinaryFault>
-        requires leads { Leads (octets_of self.now.file) (containers_of before.now) container }
-        requires refer { AllRefer (octets_of self.now.file) container (numbers_of refs) }
+        requires next { AreNext (octets_of self.now.file) (containers_of before.now) container
+            (numbers_of refs) self.now.whole left.old }
         requires depth { length (containers_of before.now) + 1 + levels ≡ MAX_DEPTH }
         requires states { AreStates (octets_of self.now.file) (container ∷ containers_of before.now)
             states.old.items }
@@ -282,7 +311,7 @@ impl<'a, 'r> Walker<'a, 'r> {
         requires known { IsKnown (octets_of self.now.file) known.old }
         ensures passed { IfOk result (λ deep. PassesItems (octets_of self.now.file)
             (numbers_of refs.entry) levels left.old deep left.new) }
-        ensures refused { IfErr result (RefusesItems (octets_of self.now.file)
+        ensures refused { IfErr result (RefusesItems (octets_of self.now.file) self.now.whole
             (numbers_of refs.entry) levels left.old) }
         ensures kept { OnOk result (AreStates (octets_of self.now.file)
             (container ∷ containers_of before.now) states.new.items) }
@@ -312,7 +341,8 @@ impl<'a, 'r> Walker<'a, 'r> {
         levels: u64,
         left: &mut Budget,
     ) -> Result<u64, BinaryFault>
-        requires leads { Leads (octets_of self.now.file) (containers_of before.now) table }
+        requires entered { IsEntered (octets_of self.now.file) (containers_of before.now) table
+            self.now.whole left.old }
         requires holds { Holds (octets_of self.now.file) table
             (holds_table (numbers_of keys) (numbers_of values)) }
         requires depth { length (containers_of before.now) + 1 + levels ≡ MAX_DEPTH }
@@ -323,7 +353,7 @@ impl<'a, 'r> Walker<'a, 'r> {
         requires known { IsKnown (octets_of self.now.file) known.old }
         ensures passed { IfOk result (λ deep. PassesPairs (octets_of self.now.file)
             (numbers_of keys.entry) (numbers_of values.entry) levels left.old deep left.new) }
-        ensures refused { IfErr result (RefusesPairs (octets_of self.now.file)
+        ensures refused { IfErr result (RefusesPairs (octets_of self.now.file) self.now.whole
             (numbers_of keys.entry) (numbers_of values.entry) levels left.old) }
         ensures kept { OnOk result (AreStates (octets_of self.now.file)
             (table ∷ containers_of before.now) states.new.items) }

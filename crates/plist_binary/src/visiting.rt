@@ -12,11 +12,12 @@ ghost use Rattle.plist_object.specs.Objects.{IsHeld, holds_scalar};
 ghost use Rattle.plist_object.specs.Places.{what_holds};
 ghost use Rattle.plist_object.specs.Views.{Gives, held_of, numbers_of, octets_of};
 ghost use Rattle.plist_ranks.specs.Ranks.{AreRanks};
+ghost use Rattle.plist_binary.specs.Begins.{IsBegun, IsEntered};
 ghost use Rattle.plist_binary.specs.Faults.{IsText};
 ghost use Rattle.plist_binary.specs.Keys.{units_at, AreInPlace, AreRanked};
 ghost use Rattle.plist_binary.specs.Heads.{AreHeadless};
 ghost use Rattle.plist_binary.specs.Memos.{AreStates};
-ghost use Rattle.plist_binary.specs.Paths.{HasKeys, IsKeyOf, Leads, containers_of};
+ghost use Rattle.plist_binary.specs.Paths.{HasKeys, IsKeyOf, containers_of};
 ghost use Rattle.plist_binary.specs.Readings.{Reads, Refuses, ReadsItems};
 ghost use Rattle.plist_binary.specs.Readings.{texts, RefusesKey, RefusesKeys};
 ghost use Rattle.plist_binary.specs.Recalls.{IsKnown, ReadsApart, RefusesTable};
@@ -42,7 +43,8 @@ impl<'a, 'r> Walker<'a, 'r> {
         levels: u64,
         left: &mut Budget,
     ) -> Result<(), BinaryFault>
-        requires leads { Leads (octets_of self.now.file) (containers_of before.now) table }
+        requires entered { IsEntered (octets_of self.now.file) (containers_of before.now) table
+            self.now.whole left.old }
         requires keys { HasKeys (octets_of self.now.file) table (numbers_of refs) }
         requires depth { length (containers_of before.now) + 1 + levels ≡ MAX_DEPTH }
         requires states { AreStates (octets_of self.now.file) (table ∷ containers_of before.now)
@@ -51,8 +53,8 @@ impl<'a, 'r> Walker<'a, 'r> {
         requires known { IsKnown (octets_of self.now.file) known.old }
         ensures read { OnOk result (ReadsApart (octets_of self.now.file) (numbers_of refs.entry)
             levels left.old left.new) }
-        ensures refused { IfErr result (RefusesTable (octets_of self.now.file) table
-            (numbers_of refs.entry) levels left.old) }
+        ensures refused { IfErr result (RefusesTable (octets_of self.now.file) self.now.whole
+            table (numbers_of refs.entry) levels left.old) }
         ensures known { OnOk result (IsKnown (octets_of self.now.file) known.new) }
     {
         if let Some(rest) = recall_keys(&known.last, &refs, levels, *left) {
@@ -85,7 +87,8 @@ impl<'a, 'r> Walker<'a, 'r> {
         levels: u64,
         left: &mut Budget,
     ) -> Result<Vec<Key<'a>>, BinaryFault>
-        requires leads { Leads (octets_of self.now.file) (containers_of before.now) table }
+        requires entered { IsEntered (octets_of self.now.file) (containers_of before.now) table
+            self.now.whole left.old }
         requires keys { HasKeys (octets_of self.now.file) table (numbers_of refs) }
         requires depth { length (containers_of before.now) + 1 + levels ≡ MAX_DEPTH }
         requires states { AreStates (octets_of self.now.file) (table ∷ containers_of before.now)
@@ -96,7 +99,7 @@ impl<'a, 'r> Walker<'a, 'r> {
         ensures placed { IfOk result (λ keys. AreInPlace keys.items) }
         ensures ranked { IfOk result (λ keys. AreRanked keys.items) }
         ensures headless { IfOk result (λ keys. AreHeadless keys.items) }
-        ensures refused { IfErr result (RefusesKeys (octets_of self.now.file)
+        ensures refused { IfErr result (RefusesKeys (octets_of self.now.file) self.now.whole
             (numbers_of refs.entry) levels left.old) }
     {
         let mut keys = Vec::with_capacity(self.alloc, refs.len() as usize)?;
@@ -126,7 +129,8 @@ impl<'a, 'r> Walker<'a, 'r> {
         left: &mut Budget,
     ) -> Result<TextRef<'a>, BinaryFault>
         requires listed { object < (trailer_of (octets_of self.now.file)).count }
-        requires leads { Leads (octets_of self.now.file) (containers_of before.now) table }
+        requires begun { IsBegun (octets_of self.now.file) (table ∷ containers_of before.now) object
+            self.now.whole left.old }
         requires key { IsKeyOf (octets_of self.now.file) table object }
         requires depth { length (containers_of before.now) + 1 + levels ≡ MAX_DEPTH }
         requires states { AreStates (octets_of self.now.file) (table ∷ containers_of before.now)
@@ -134,8 +138,8 @@ impl<'a, 'r> Walker<'a, 'r> {
         requires ranked { AreRanks (octets_of self.now.file) self.now.ranks.now }
         ensures read { IfOk result (λ key. Reads (octets_of self.now.file) object levels left.old
             (scalar_value (text (units_of key))) left.new) }
-        ensures refused { IfErr result (RefusesKey (octets_of self.now.file) object levels
-            left.old) }
+        ensures refused { IfErr result (RefusesKey (octets_of self.now.file) self.now.whole object
+            levels left.old) }
     {
         let path = Path::In(table, &*before);
         let Some(key) = text_in(self.enter(states, &path, object, levels, left)?) else {
@@ -170,7 +174,8 @@ impl<'a, 'r> Walker<'a, 'r> {
         left: &mut Budget,
     ) -> Result<Object<'a>, BinaryFault>
         requires listed { object < (trailer_of (octets_of self.now.file)).count }
-        requires leads { Leads (octets_of self.now.file) (containers_of path.now) object }
+        requires begun { IsBegun (octets_of self.now.file) (containers_of path.now) object
+            self.now.whole left.old }
         requires depth { length (containers_of path.now) + levels ≡ MAX_DEPTH }
         requires states { AreStates (octets_of self.now.file) (containers_of path.now)
             states.now.items }
@@ -180,7 +185,8 @@ impl<'a, 'r> Walker<'a, 'r> {
         ensures valid { IfOk result (λ held. IsHeld (held_of held)) }
         ensures deep { OnOk result (1 ≤ levels) }
         ensures spent { OnOk result (Spends left.old 1 0 left.new) }
-        ensures refused { IfErr result (Refuses (octets_of self.now.file) object levels left.old) }
+        ensures refused { IfErr result (Refuses (octets_of self.now.file) self.now.whole object
+            levels left.old) }
     {
         if let Path::In(container, _) = path
             && let State::Open = state_at(states, object)
@@ -193,7 +199,7 @@ impl<'a, 'r> Walker<'a, 'r> {
         }
         match self.object(object) {
             Ok(held) => Ok(held),
-            Err(fault) => Err(BinaryFault::Object { object, fault }),
+            Err(fault) => Err(BinaryFault::of_object(object, fault)),
         }
     }
 

@@ -165,7 +165,7 @@ Adjoins-follows f (suc i) follows last = record {
 met_later : (f : List ℕ) (i : ℕ) (s : Scalar) → IsHeldBefore f i s → IsHeldBefore f (suc i) s
 met_later f i s before = (before.0, (omega (arith, before.1.0), before.1.1))
 
-pub HasMet-scalar : (f : List ℕ) (i : ℕ) (s : ScalarRef) (old new : Repeats) (first : Bool) → Holds f i (holds_scalar (content_of s)) → HasMet f i old → Meets s old new first → HasMet f (suc i) new
+pub HasMet-scalar : {S H : Type 0} → (f : List ℕ) (i : ℕ) (s : ScalarRef) (old new : Repeats S H) (first : Bool) → Holds f i (holds_scalar (content_of s)) → HasMet f i old → Meets s old new first → HasMet f (suc i) new
 HasMet-scalar f i s old new first holds met meets q = (
   λ now. elim (meets.other q now) [
     | inl same ↦ (i, (omega arith, subst (λ (t : Scalar). what_holds f i ≡ Ok (holds_scalar t)) same holds.reads))
@@ -183,7 +183,7 @@ HasMet-scalar f i s old new first holds met meets q = (
   ],
 )
 
-pub HasMet-container : (f : List ℕ) (i : ℕ) (held : Held) (repeats : Repeats) → Holds f i held → ((s : Scalar) → held ≢ holds_scalar s) → HasMet f i repeats → HasMet f (suc i) repeats
+pub HasMet-container : {S H : Type 0} → (f : List ℕ) (i : ℕ) (held : Held) (repeats : Repeats S H) → Holds f i held → ((s : Scalar) → held ≢ holds_scalar s) → HasMet f i repeats → HasMet f (suc i) repeats
 HasMet-container f i held repeats holds other met q = (
   λ now. met_later f i (content_of q) ((met q).0 now),
   λ before. elim (cases_lt before.0 i) [
@@ -201,7 +201,7 @@ pub IsNoRepeat-container : (f : List ℕ) (i : ℕ) (held : Held) → Holds f i 
 IsNoRepeat-container f i held holds other s reads earlier below again =
     other s (let here = holds.reads in cc)
 
-pub IsNoRepeat-new : (f : List ℕ) (i : ℕ) (s : ScalarRef) (repeats : Repeats) → Holds f i (holds_scalar (content_of s)) → HasMet f i repeats → was_met repeats s ≡ false → IsNoRepeat f i
+pub IsNoRepeat-new : {S H : Type 0} → (f : List ℕ) (i : ℕ) (s : ScalarRef) (repeats : Repeats S H) → Holds f i (holds_scalar (content_of s)) → HasMet f i repeats → was_met repeats s ≡ false → IsNoRepeat f i
 IsNoRepeat-new f i s repeats holds met unknown t reads earlier below again =
     let here = holds.reads in
     let same : holds_scalar (content_of s) ≡ holds_scalar t = cc in
@@ -209,7 +209,7 @@ IsNoRepeat-new f i s repeats holds met unknown t reads earlier below again =
     let reads_it : what_holds f earlier ≡ Ok (holds_scalar (content_of s)) = subst (λ (u : Scalar). what_holds f earlier ≡ Ok (holds_scalar u)) is again in
     true≢false (sym ((met s).1 (earlier, (below, reads_it))) ∙ unknown)
 
-pub not-IsNoRepeat : (f : List ℕ) (i : ℕ) (s : ScalarRef) (repeats : Repeats) → Holds f i (holds_scalar (content_of s)) → HasMet f i repeats → was_met repeats s ≡ true → ¬ IsNoRepeat f i
+pub not-IsNoRepeat : {S H : Type 0} → (f : List ℕ) (i : ℕ) (s : ScalarRef) (repeats : Repeats S H) → Holds f i (holds_scalar (content_of s)) → HasMet f i repeats → was_met repeats s ≡ true → ¬ IsNoRepeat f i
 not-IsNoRepeat f i s repeats holds met known single =
     let before = (met s).0 known in
     single (content_of s) holds.reads before.0 before.1.0 before.1.1

@@ -4,7 +4,8 @@ use Rattle.std.specs.Prelude.{slice_index}
 use Rattle.std.specs.List.{AllByRecursion}
 use Rattle.std.proofs.lemmas.List.{drop_more, drop_all}
 use Rattle.plist_canon.specs.declared.weights.Weight.{Weight}
-use Rattle.plist_canon.specs.Preorders.{IsKnown, LeadsTo}
+use Rattle.plist_canon.specs.Rules.{Reference, held_by}
+use Rattle.plist_canon.specs.Preorders.{IsKnown, LeadsTo, LeadsOn}
 use Rattle.plist_canon.proofs.Every.{every_append}
 
 pub LeadsTo-start : (weights : List Weight) (refs : List ℕ) → LeadsTo weights refs refs
@@ -33,17 +34,36 @@ pub LeadsTo-end : (weights : List Weight) (refs xs : List ℕ) (k : ℕ) → len
 LeadsTo-end weights refs xs k past leads =
     subst (λ (ys : List ℕ). LeadsTo weights refs ys) (drop_all k xs past) leads
 
+pub LeadsOn-start : (weights : List Weight) (refs : List Reference) → LeadsOn weights refs refs
+LeadsOn-start weights refs = record { passed = []; known = tt; split = refl }
+
+pub held_by-append : (holder : ℕ) (refs others : List ℕ) → held_by holder (refs ++ others) ≡ held_by holder refs ++ held_by holder others
+held_by-append holder [] others = refl
+held_by-append holder (i ∷ refs) others = ap (λ xs. record { holder = holder; number = i } ∷ xs) (held_by-append holder refs others)
+
+held-known : (weights : List Weight) (holder : ℕ) (refs : List ℕ) → AllByRecursion (IsKnown weights) refs → AllByRecursion (λ reference. IsKnown weights reference.number) (held_by holder refs)
+held-known weights holder [] known = tt
+held-known weights holder (i ∷ refs) known = (known.0, held-known weights holder refs known.1)
+
+-- the references of one object, with their holder
+pub LeadsTo-held : (weights : List Weight) (holder : ℕ) (refs left : List ℕ) → LeadsTo weights refs left → LeadsOn weights (held_by holder refs) (held_by holder left)
+LeadsTo-held weights holder refs left leads = record {
+  passed = held_by holder leads.passed;
+  known = held-known weights holder leads.passed leads.known;
+  split = ap (held_by holder) leads.split ∙ held_by-append holder leads.passed left;
+}
+
 -- what leads to the end of one part leads on to the next
-pub LeadsTo-append : (weights : List Weight) (refs left others : List ℕ) → LeadsTo weights refs left → LeadsTo weights (refs ++ others) (left ++ others)
-LeadsTo-append weights refs left others leads = record {
+pub LeadsOn-append : (weights : List Weight) (refs left others : List Reference) → LeadsOn weights refs left → LeadsOn weights (refs ++ others) (left ++ others)
+LeadsOn-append weights refs left others leads = record {
   passed = leads.passed;
   known = leads.known;
   split = ap (λ xs. xs ++ others) leads.split ∙ append_assoc leads.passed left others;
 }
 
-pub LeadsTo-trans : (weights : List Weight) (refs mid left : List ℕ) → LeadsTo weights refs mid → LeadsTo weights mid left → LeadsTo weights refs left
-LeadsTo-trans weights refs mid left first second = record {
+pub LeadsOn-trans : (weights : List Weight) (refs mid left : List Reference) → LeadsOn weights refs mid → LeadsOn weights mid left → LeadsOn weights refs left
+LeadsOn-trans weights refs mid left first second = record {
   passed = first.passed ++ second.passed;
-  known = every_append (IsKnown weights) first.passed second.passed first.known second.known;
+  known = every_append (λ reference. IsKnown weights reference.number) first.passed second.passed first.known second.known;
   split = first.split ∙ ap (λ xs. first.passed ++ xs) second.split ∙ sym (append_assoc first.passed second.passed left);
 }

@@ -14,7 +14,7 @@ use Rattle.plist_object.specs.Shortest.{spelling_of, IsShortest}
 use Rattle.plist_object.proofs.Uniqueness.{same_held}
 use Rattle.plist_write.specs.Canonical.{canon}
 use Rattle.plist_object.specs.References.{references_of}
-use Rattle.plist_canon.specs.Rules.{ReadsWithinLimits, FollowsRules, HasPlainTrailer, HasLeastWidths, Adjoins, IsSpelledCanonically, HasAscendingKeys, IsNoRepeat, Walk, visit, Walks, end, step, MeetsInOrder, IsNumberedInPreorder}
+use Rattle.plist_canon.specs.Rules.{ReadsWithinLimits, FollowsRules, HasPlainTrailer, HasLeastWidths, Adjoins, IsSpelledCanonically, HasAscendingKeys, IsNoRepeat, Walk, visit, Walks, end, step, MeetsInOrder, IsNumberedInPreorder, held_by, begins, TurnsAt}
 use Rattle.plist_canon.proofs.Followed.{canonical_follows_rules}
 
 -- The end of a file of fewer than 256 octets: the first octet of the slack, the width of a reference, how many objects
@@ -196,3 +196,17 @@ breaks-c7 h =
     let walks = subst (λ (held : Held). Walks unordered_file (references_of held) x.1.0) held x.1.1.2 in
     let begin = walks_begin unordered_file (2 ∷ 1 ∷ []) x.1.0 walks in
     not_in_order begin.0 (subst (λ (es : List ℕ). MeetsInOrder unordered_file 0 es 3) (x.1.1.0 ∙ ap (λ es. 0 ∷ es) begin.1) h.order)
+
+-- the walk comes to object 2 where object 1 is next, and object 0 holds that reference
+turns-c7 : TurnsAt unordered_file 0
+unfolding what_holds object_at octets_at marked_object list_object content count_of_content
+turns-c7 =
+    let top : Holds unordered_file 0 (holds_list (2 ∷ 1 ∷ [])) = record { listed = omega arith; reads = refl } in
+    record {
+      met = 1;
+      number = 2;
+      left = held_by 0 (1 ∷ []);
+      comes = begins (holds_list (2 ∷ 1 ∷ [])) top;
+      other = λ next. (let is = next.0 in omega arith);
+      known = λ below. absurd (omega arith);
+    }

@@ -8,11 +8,11 @@ use Rattle.plist_object.specs.Objects.{Held, holds_scalar}
 use Rattle.plist_object.specs.Places.{Holds}
 use Rattle.plist_object.proofs.Uniqueness.{same_held}
 use Rattle.plist_object.specs.References.{references_of}
-use Rattle.plist_canon.specs.Rules.{HoldsScalar, Walk, Walks, visit, end, step, MeetsInOrder, IsNumberedInPreorder}
+use Rattle.plist_canon.specs.Rules.{HoldsScalar, Walk, Walks, visit, end, step, MeetsInOrder, IsNumberedInPreorder, Reference, ComesTo, passes}
 use Rattle.plist_canon.specs.declared.weights.Weight.{Weight}
 use Rattle.plist_canon.specs.Weights.{AreWeights}
 use Rattle.plist_canon.proofs.Weighing.{Weighs-scalar}
-use Rattle.plist_canon.specs.Preorders.{CanFinish, IsKnown, LeadsTo}
+use Rattle.plist_canon.specs.Preorders.{CanFinish, numbers, IsKnown, LeadsOn}
 
 -- a walk from an object, taken apart
 record Entered (f : List ℕ) (i : ℕ) (entries : List ℕ) : Type 0 where
@@ -185,16 +185,28 @@ CanFinish-over f i refs known can =
     ]
 
 -- past known references
-pub CanFinish-passed : (f passed left : List ℕ) (weights : List Weight) → AreWeights f weights → AllByRecursion (IsKnown weights) passed → CanFinish f (passed ++ left) (length weights) ↔ CanFinish f left (length weights)
+pub CanFinish-passed : (f : List ℕ) (passed left : List Reference) (weights : List Weight) → AreWeights f weights → AllByRecursion (λ reference. IsKnown weights reference.number) passed → CanFinish f (numbers (passed ++ left)) (length weights) ↔ CanFinish f (numbers left) (length weights)
 CanFinish-passed f [] left weights weighed known = (λ can. can, λ can. can)
-CanFinish-passed f (i ∷ passed) left weights weighed known =
-    let first = CanFinish-known f i (passed ++ left) (length weights) known.0.0 (Weighs-scalar f i _ (weighed i known.0.0) known.0.1) in
+CanFinish-passed f (reference ∷ passed) left weights weighed known =
+    let i = reference.number in
+    let first = CanFinish-known f i (numbers (passed ++ left)) (length weights) known.0.0 (Weighs-scalar f i _ (weighed i known.0.0) known.0.1) in
     let rest = CanFinish-passed f passed left weights weighed known.1 in
     (λ can. rest.0 (first.0 can), λ can. first.1 (rest.1 can))
 
-pub CanFinish-leads : (f refs left : List ℕ) (weights : List Weight) → AreWeights f weights → LeadsTo weights refs left → CanFinish f refs (length weights) ↔ CanFinish f left (length weights)
+pub CanFinish-leads : (f : List ℕ) (refs left : List Reference) (weights : List Weight) → AreWeights f weights → LeadsOn weights refs left → CanFinish f (numbers refs) (length weights) ↔ CanFinish f (numbers left) (length weights)
 CanFinish-leads f refs left weights weighed leads =
-    subst (λ (rs : List ℕ). CanFinish f rs (length weights) ↔ CanFinish f left (length weights)) (sym leads.split) (CanFinish-passed f leads.passed left weights weighed leads.known)
+    subst (λ (rs : List Reference). CanFinish f (numbers rs) (length weights) ↔ CanFinish f (numbers left) (length weights)) (sym leads.split) (CanFinish-passed f leads.passed left weights weighed leads.known)
+
+ComesTo-passed : (f : List ℕ) (passed left : List Reference) (weights : List Weight) → AreWeights f weights → AllByRecursion (λ reference. IsKnown weights reference.number) passed → ComesTo f (length weights) (passed ++ left) → ComesTo f (length weights) left
+ComesTo-passed f [] left weights weighed known comes = comes
+ComesTo-passed f (reference ∷ passed) left weights weighed known comes =
+    let i = reference.number in
+    ComesTo-passed f passed left weights weighed known.1
+    (passes (length weights) reference.holder i (passed ++ left) comes known.0.0 (Weighs-scalar f i _ (weighed i known.0.0) known.0.1))
+
+pub ComesTo-leads : (f : List ℕ) (refs left : List Reference) (weights : List Weight) → AreWeights f weights → LeadsOn weights refs left → ComesTo f (length weights) refs → ComesTo f (length weights) left
+ComesTo-leads f refs left weights weighed leads comes =
+    ComesTo-passed f leads.passed left weights weighed leads.known (subst (λ (rs : List Reference). ComesTo f (length weights) rs) leads.split comes)
 
 -- at the start object 0 is to be visited
 pub CanFinish-all : (f : List ℕ) → IsNumberedInPreorder f ↔ CanFinish f (0 ∷ []) 0

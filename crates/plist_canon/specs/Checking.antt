@@ -11,6 +11,7 @@ use Rattle.plist_value.specs.Scalars.{content_of}
 use Rattle.plist_value.specs.declared.scalar_ref.ScalarRef.{ScalarRef}
 use Rattle.plist_object.specs.Layout.{trailer_of, IsLayoutFault}
 use Rattle.plist_object.specs.Objects.{Held, holds_scalar}
+use Rattle.plist_object.specs.declared.layout.LayoutFault.TheVariants as layout
 use Rattle.plist_object.specs.Places.{Holds, what_holds, span_of}
 use Rattle.plist_object.specs.References.{references_of}
 use Rattle.plist_canon.specs.Rules.{keys_of, HoldsText, IsWellRead, IsSpelledCanonically, HasAscendingKeys, IsNoRepeat, FollowsRules, IsBroken}
@@ -24,7 +25,9 @@ use Rattle.plist_canon.specs.declared.repeats.Repeats.{Repeats}
 
 -- a fault but want of memory is the layout's
 abbrev pub IsCheckFault : List ℕ → CheckFault → Type 0
-IsCheckFault f (fault.Layout layout) = IsLayoutFault layout f
+IsCheckFault f fault.TooShort = IsLayoutFault layout.TooShort f
+IsCheckFault f fault.BadHeader = IsLayoutFault layout.BadHeader f
+IsCheckFault f fault.BadTrailer = IsLayoutFault layout.BadTrailer f
 IsCheckFault f fault.OutOfMemory = ⊤
 
 -- the rules hold, or the rule that is told is broken at the object
@@ -83,11 +86,11 @@ pub record IsJudged (f : List ℕ) (i : ℕ) : Type 0 where
   pub single : IsNoRepeat f i
 
 -- whether an equal scalar was met
-abbrev pub was_met : Repeats → ScalarRef → Bool
+abbrev pub was_met : {S H : Type 0} → Repeats S H → ScalarRef → Bool
 was_met repeats s = contains (on content_of scalar_eq) repeats.met s
 
 -- one scalar more was met, for the first time or not
-pub record Meets (s : ScalarRef) (old new : Repeats) (first : Bool) : Type 0 where
+pub record Meets {S H : Type 0} (s : ScalarRef) (old new : Repeats S H) (first : Bool) : Type 0 where
   pub answer : first ≡ not (was_met old s)
   pub same : (q : ScalarRef) → content_of s ≡ content_of q → was_met new q ≡ true
   pub other : (q : ScalarRef) → was_met new q ≡ true → (content_of s ≡ content_of q) ⊎ (was_met old q ≡ true)
@@ -98,5 +101,5 @@ abbrev pub IsHeldBefore : List ℕ → ℕ → Scalar → Type 0
 IsHeldBefore f i s = (earlier : ℕ) × ((earlier < i) × (what_holds f earlier ≡ Ok (holds_scalar s)))
 
 -- the scalars were met that the objects before i hold
-abbrev pub HasMet : List ℕ → ℕ → Repeats → Type 0
+abbrev pub HasMet : {S H : Type 0} → List ℕ → ℕ → Repeats S H → Type 0
 HasMet f i repeats = (q : ScalarRef) → (was_met repeats q ≡ true) ↔ IsHeldBefore f i (content_of q)

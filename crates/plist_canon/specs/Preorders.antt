@@ -7,7 +7,7 @@ use Rattle.plist_object.specs.Objects.{Held, holds_scalar, holds_list, holds_tab
 use Rattle.plist_object.specs.Places.{what_holds}
 use Rattle.plist_object.specs.Views.{numbers_of}
 use Rattle.plist_object.specs.declared.refs.Refs.{Refs}
-use Rattle.plist_canon.specs.Rules.{Walks, MeetsInOrder, IsNumberedInPreorder}
+use Rattle.plist_canon.specs.Rules.{Walks, MeetsInOrder, IsNumberedInPreorder, Reference, held_by, ComesTo}
 use Rattle.plist_canon.specs.Weights.{is_scalar_weight, AreWeights}
 use Rattle.plist_canon.specs.declared.weights.Weight.{Weight}
 use Rattle.plist_canon.specs.declared.weights.Weight.TheVariants.{Container}
@@ -31,12 +31,17 @@ abbrev pub part_read : Bool → Result Held ObjectFault → List ℕ
 part_read values (Ok held) = part_of values held
 part_read values (Err e) = []
 
+-- the numbers of references
+abbrev pub numbers : List Reference → List ℕ
+numbers [] = []
+numbers (reference ∷ references) = reference.number ∷ numbers references
+
 -- the references that are still to be visited
-abbrev pub frame_left : Frame → List ℕ
-frame_left frame = drop frame.done (numbers_of frame.refs)
+abbrev pub frame_left : Frame → List Reference
+frame_left frame = held_by frame.owner (drop frame.done (numbers_of frame.refs))
 
 -- the references of a path that are still to be visited, the last ones first
-abbrev pub path_left : List Frame → List ℕ
+abbrev pub path_left : List Frame → List Reference
 path_left [] = []
 path_left (frame ∷ frames) = path_left frames ++ frame_left frame
 
@@ -54,20 +59,31 @@ pub record LeadsTo (weights : List Weight) (refs left : List ℕ) : Type 0 where
   pub known : AllByRecursion (IsKnown weights) passed
   pub split : refs ≡ passed ++ left
 
+-- the same of references with their holders
+pub record LeadsOn (weights : List Weight) (refs left : List Reference) : Type 0 where
+  pub passed : List Reference
+  pub known : AllByRecursion (λ reference. IsKnown weights reference.number) passed
+  pub split : refs ≡ passed ++ left
+
+-- the reference that is visited
+abbrev pub visited : Visit → Reference
+visited visit = record { holder = visit.owner; number = visit.reference }
+
 -- the references of the path lead to one that is not known, or to the end
 abbrev pub Visits : List Weight → List Frame → List Frame → Option Visit → Type 0
 Visits weights old new (Some visit) =
-    LeadsTo weights (path_left old) (visit.reference ∷ path_left new) × (¬ IsKnown weights visit.reference)
-Visits weights old new None = LeadsTo weights (path_left old) []
+    LeadsOn weights (path_left old) (visited visit ∷ path_left new) × (¬ IsKnown weights visit.reference)
+Visits weights old new None = LeadsOn weights (path_left old) []
 
 -- The object was met: its weight is told, and its references are next.
 pub record Enters (f : List ℕ) (number : ℕ) (old new : List Frame) (weights told : List Weight) : Type 0 where
   pub weighed : AreWeights f told
   pub counted : length told ≡ suc number
-  pub left : path_left new ≡ part_read false (what_holds f number) ++ (part_read true (what_holds f number) ++ path_left old)
+  pub left : path_left new ≡ held_by number (part_read false (what_holds f number)) ++ (held_by number (part_read true (what_holds f number)) ++ path_left old)
 
 -- The objects below the number were met in order, and the walk goes on along the path.
 pub record IsWalking (f : List ℕ) (number : ℕ) (path : List Frame) (weights : List Weight) : Type 0 where
   pub weighed : AreWeights f weights
   pub counted : length weights ≡ number
-  pub finishes : IsNumberedInPreorder f ↔ CanFinish f (path_left path) number
+  pub comes : ComesTo f number (path_left path)
+  pub finishes : IsNumberedInPreorder f ↔ CanFinish f (numbers (path_left path)) number

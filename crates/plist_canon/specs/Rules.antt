@@ -108,13 +108,50 @@ pub record FollowsRules (f : List ℕ) : Type 0 where
   pub no_repeat : (i : ℕ) → i < (trailer_of f).count → IsNoRepeat f i
   pub numbered_in_preorder : IsNumberedInPreorder f
 
--- The rule of this number is false of the file: C1 and C2 at object 0, those from C3 to C6 at the object.
+-- A reference on the way of the walk, with the object that holds it.
+pub record Reference : Type 0 where
+  pub holder : ℕ
+  pub number : ℕ
+
+-- the references that an object holds
+abbrev pub held_by : ℕ → List ℕ → List Reference
+held_by holder [] = []
+held_by holder (i ∷ refs) = record { holder = holder; number = i } ∷ held_by holder refs
+
+-- The walk from object 0 in preorder, as long as each reference is the next number not yet met, or the number of a
+-- scalar already met: it comes to where the objects below `met` were met and no other, and these references are left,
+-- the next one first.
+pub data ComesTo (f : List ℕ) : ℕ → List Reference → Type 0 where
+  begins : (held : Held) → Holds f 0 held → ComesTo f 1 (held_by 0 (references_of held))
+  meets : (met holder : ℕ) (held : Held) (left : List Reference) → ComesTo f met (record { holder = holder; number = met } ∷ left) → Holds f met held → ComesTo f (suc met) (held_by met (references_of held) ++ left)
+  passes : (met holder i : ℕ) (left : List Reference) → ComesTo f met (record { holder = holder; number = i } ∷ left) → i < met → HoldsScalar f i → ComesTo f met left
+
+-- the walk comes to a reference that is neither, and this object holds it
+pub record TurnsAt (f : List ℕ) (holder : ℕ) : Type 0 where
+  pub met : ℕ
+  pub number : ℕ
+  pub left : List Reference
+  pub comes : ComesTo f met (record { holder = holder; number = number } ∷ left)
+  pub other : ¬ ((number ≡ met) × (met < (trailer_of f).count))
+  pub known : number < met → ¬ HoldsScalar f number
+
+-- the walk ends, and an object was not met
+pub record LeavesOver (f : List ℕ) : Type 0 where
+  pub met : ℕ
+  pub comes : ComesTo f met []
+  pub over : met < (trailer_of f).count
+
+-- The rule of this number is false of the file, at this object. C0: the object is not well read; or all are, and the
+-- value is not within the limits, at object 0. C1 and C2 at object 0, those from C3 to C6 at the object. C7 at the
+-- object that holds the first bad reference of the walk, or at 0 where an object is left over.
 pub data IsBroken (f : List ℕ) : ℕ → ℕ → Type 0 where
-  breaks_c0 : (i : ℕ) → ¬ ReadsWithinLimits f → IsBroken f 0 i
+  breaks_c0 : (i : ℕ) → i < (trailer_of f).count → ¬ IsWellRead f i → IsBroken f 0 i
+  breaks_limits : (v : Plist) → IsPlist v → Spells f 0 v → ¬ Fits v → IsBroken f 0 0
   breaks_c1 : ¬ HasPlainTrailer f → IsBroken f 1 0
   breaks_c2 : ¬ HasLeastWidths f → IsBroken f 2 0
   breaks_c3 : (i : ℕ) → i < (trailer_of f).count → ¬ Adjoins f i → IsBroken f 3 i
   breaks_c4 : (i : ℕ) → i < (trailer_of f).count → ¬ IsSpelledCanonically f i → IsBroken f 4 i
   breaks_c5 : (i : ℕ) → i < (trailer_of f).count → ¬ HasAscendingKeys f i → IsBroken f 5 i
   breaks_c6 : (i : ℕ) → i < (trailer_of f).count → ¬ IsNoRepeat f i → IsBroken f 6 i
-  breaks_c7 : (i : ℕ) → ¬ IsNumberedInPreorder f → IsBroken f 7 i
+  breaks_c7 : (holder : ℕ) → ¬ IsNumberedInPreorder f → TurnsAt f holder → IsBroken f 7 holder
+  leaves_over : ¬ IsNumberedInPreorder f → LeavesOver f → IsBroken f 7 0

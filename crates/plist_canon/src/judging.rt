@@ -15,6 +15,7 @@ use crate::repeats::Repeats;
 use plist_object::{BinFile, Object, width_of};
 use plist_ranks::{Keys, Ranks};
 use std::alloc::{AllocError, AllocFailed, Global};
+use std::hash::BuildHasher;
 
 /// A broken rule and the object at which it is, or want of memory.
 #[derive(Clone, Copy)]
@@ -83,7 +84,11 @@ fn has_least_widths(file: &BinFile) -> bool
 }
 
 /// Rules 0, 3, 4, 5 and 6 of each object in turn, but for the limits; then the place of the offset table.
-pub(crate) fn judge_objects(alloc: Global, file: &BinFile) -> Result<(), Flaw>
+pub(crate) fn judge_objects<S: BuildHasher + Copy>(
+    alloc: Global,
+    hasher: S,
+    file: &BinFile,
+) -> Result<(), Flaw>
     ensures judged { OnOk result
         ((i : ℕ) → i < (trailer_of (octets_of file.now)).count → IsJudged (octets_of file.now) i) }
     ensures adjoin { OnOk result
@@ -92,7 +97,7 @@ pub(crate) fn judge_objects(alloc: Global, file: &BinFile) -> Result<(), Flaw>
 {
     let placed = judge_places(file);
     let ranks = rank_keys(alloc, file, placed)?;
-    let mut repeats = Repeats::new(alloc);
+    let mut repeats = Repeats::new(alloc, hasher);
     for i in 0..placed.objects {
         judge_object(file, i, &ranks, &mut repeats)?;
     }
@@ -180,11 +185,11 @@ fn judge_places(file: &BinFile) -> Placed
 }
 
 // The rules of the object, which begins where the one before it ends.
-fn judge_object<'a>(
+fn judge_object<'a, S: BuildHasher>(
     file: &BinFile<'a>,
     i: u64,
     ranks: &Ranks,
-    repeats: &mut Repeats<'a>,
+    repeats: &mut Repeats<'a, S>,
 ) -> Result<(), Flaw>
     requires listed { i < (trailer_of (octets_of file.now)).count }
     requires follows { Follows (octets_of file.now) i }
@@ -264,11 +269,11 @@ fn judge_keys(file: &BinFile, ranks: &Ranks, i: u64, object: &Object) -> Result<
 }
 
 // Rule 6 of the object.
-fn judge_repeat<'a>(
+fn judge_repeat<'a, S: BuildHasher>(
     file: &BinFile<'a>,
     i: u64,
     object: &Object<'a>,
-    repeats: &mut Repeats<'a>,
+    repeats: &mut Repeats<'a, S>,
 ) -> Result<(), Flaw>
     requires holds { Holds (octets_of file.now) i (held_of object.now) }
     requires met { HasMet (octets_of file.now) i repeats.old }

@@ -11,5 +11,8 @@ mod references;
 mod repeats;
 mod weights;
 
-pub use checking::{CheckFault, Verdict, check};
-pub use plist_write::{DeviceFault, ListSink, Sink, WriteFault, canonical, write_canonical};
+pub use checking::{CheckFault, Verdict, check, check_with_hasher};
+pub use plist_write::{
+    DeviceFault, ListSink, Sink, WriteFault, canonical, canonical_with_hasher, write_canonical,
+    write_canonical_with_hasher,
+};

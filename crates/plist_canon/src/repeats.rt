@@ -5,21 +5,22 @@ ghost use Rattle.plist_value.specs.declared.scalar_ref.ScalarRef.{ScalarRef};
 use indexmap::IndexSet;
 use plist_value::ScalarRef;
 use std::alloc::{AllocError, Global};
+use std::hash::BuildHasher;
 
 /// The scalars that were met, borrowed from the file.
 #[derive(Drop)]
-pub(crate) struct Repeats<'a> {
-    met: IndexSet<ScalarRef<'a>>,
+pub(crate) struct Repeats<'a, S: BuildHasher> {
+    met: IndexSet<ScalarRef<'a>, S>,
 }
 
-impl<'a> Repeats<'a> {
+impl<'a, S: BuildHasher> Repeats<'a, S> {
     ghost use Rattle.plist_canon.specs.Checking.{was_met, Meets};
 
-    pub(crate) fn new(alloc: Global) -> Repeats<'a>
+    pub(crate) fn new(alloc: Global, hasher: S) -> Repeats<'a, S>
         ensures { (q : ScalarRef) → was_met result q ≡ false }
     {
         Repeats {
-            met: IndexSet::new(alloc),
+            met: IndexSet::with_hasher(alloc, hasher),
         }
     }
 

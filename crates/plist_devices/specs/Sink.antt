@@ -1,5 +1,5 @@
 -- What a sink does: it has octets taken, where it tells them, and a count of failures.
-use Rattle.std.specs.Prelude.{ℕ, ◌<◌, ◌≤◌, List, length, Option, Result, IfOk}
+use Rattle.std.specs.Prelude.{◌≡◌, ◌⊎◌, ℕ, ◌<◌, ◌≤◌, List, length, Ok, Option, Result, IfOk, IsErr, OnErr}
 use Rattle.std.specs.Io.KnownBytes.{WriteAppends}
 use Rattle.plist_devices.specs.Count.{Counts}
 
@@ -11,3 +11,18 @@ pub record IsPut {E : Type 0} (taken after_taken : Option (List ℕ)) (before af
   -- the front of the piece goes behind the octets taken; a put that fails takes none
   pub octets : WriteAppends taken after_taken result piece
   pub count : Counts before after result
+
+-- What a put answers of a write of the piece: how many octets that took, or a failure, where that failed or took none
+-- of a piece that is not empty.
+pub record IsAnswerOf {E : Type 0} (written : Result ℕ E) (piece : List ℕ) (result : Result ℕ E) : Type 0 where
+  pub taken : IfOk result (λ n. written ≡ Ok n)
+  pub failed : OnErr result (IsErr written ⊎ ((written ≡ Ok 0) × (0 < length piece)))
+
+-- A put is one write of the device: the device before and after it, the piece, and its result.
+abbrev pub IsOneWrite : {D E : Type 0} → (D → D → List ℕ → Result ℕ E → Type 0) → D → D → List ℕ → Result ℕ E → Type 0
+IsOneWrite {E = E} gives before after piece result =
+    (written : Result ℕ E) × gives before after piece written × IsAnswerOf written piece result
+
+-- With a piece of this length, the greatest length of a piece becomes no more than it was or than this.
+abbrev pub IsLongest : ℕ → ℕ → ℕ → Type 0
+IsLongest longest now_longest length = (most : ℕ) → longest ≤ most → length ≤ most → now_longest ≤ most

@@ -2,9 +2,13 @@
 use Rattle.std.specs.Prelude.{ℕ, List, Option}
 use Rattle.plist_devices.specs.declared.writer_sink.WriterSink.{WriterSink}
 
--- the octets that the writer tells
+-- the device that is written
+abbrev pub device_of : {W : Type 0} → WriterSink W → W
+device_of sink = sink.device
+
+-- the octets that the device tells
 abbrev pub octets_taken : {W : Type 0} → (W → Option (List ℕ)) → WriterSink W → Option (List ℕ)
-octets_taken contents sink = contents sink.device
+octets_taken contents sink = contents (device_of sink)
 
 -- how many puts failed, up to the greatest count
 abbrev pub failures_of : {W : Type 0} → WriterSink W → ℕ

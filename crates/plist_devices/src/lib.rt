@@ -11,6 +11,7 @@ pub mod sinks;
 pub mod sources;
 pub mod stream;
 pub mod writer_sink;
+pub mod writers;
 
 pub use faults::DeviceFault;
 pub use list_sink::ListSink;
@@ -21,3 +22,4 @@ pub use sinks::Sink;
 pub use sources::Source;
 pub use stream::Stream;
 pub use writer_sink::WriterSink;
+pub use writers::WriteDevice;

@@ -16,6 +16,7 @@ pub struct ListSink {
     ghost forward: { 0 < step },
     ghost within: { vec_len octets ≤ room },
     ghost reserved: { room ≤ vec_capacity octets },
+    ghost full: { 0 < failures → vec_len octets ≡ room },
 }
 
 impl ListSink {

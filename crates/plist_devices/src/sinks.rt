@@ -1,7 +1,7 @@
 //! What takes octets.
-ghost use Rattle.std.specs.Prelude.{◌≡◌, ℕ, List, Option};
+ghost use Rattle.std.specs.Prelude.{◌≡◌, ℕ, List, Option, length};
 ghost use Rattle.std.specs.Borrow.{GName};
-ghost use Rattle.plist_devices.specs.Sink.{IsPut};
+ghost use Rattle.plist_devices.specs.Sink.{IsPut, IsLongest};
 
 use crate::DeviceFault;
 
@@ -19,13 +19,17 @@ pub trait Sink {
     // The device that is borrowed, where one is.
     ghost device: { Self → Option GName };
 
+    // The greatest length of a piece that it was given, where the device tells it.
+    ghost longest: { Self → ℕ } = { λ _. 0 };
+
     /// Takes some of the octets at the front of the piece and answers how many: none only of an empty piece.
     /// A put that fails takes none and counts one failure more; where the count stands at `u64::MAX` every
     /// put fails.
     fn put(&mut self, piece: &[u8]) -> Result<usize, DeviceFault>
         ensures put { IsPut (taken self.old) (taken self.new)
             (failures self.old) (failures self.new) result piece.now }
-        ensures same { device self.new ≡ device self.old };
+        ensures same { device self.new ≡ device self.old }
+        ensures longest { IsLongest (longest self.old) (longest self.new) (length piece.now) };
 
     /// How many puts failed so far. The count stays at `u64::MAX`.
     fn failures(&self) -> u64

@@ -1,8 +1,10 @@
 //! A writer of the library that is borrowed, as a sink.
-ghost use Rattle.std.specs.Prelude.{◌≡◌, Some};
+ghost use Rattle.std.specs.Prelude.{◌≡◌, ◌<◌, Some};
+ghost use Rattle.plist_devices.specs.Count.{count_limit};
+ghost use Rattle.plist_devices.specs.Sink.{IsOneWrite, IsPut};
 
 use crate::writer_sink::put_on;
-use crate::{DeviceFault, Sink};
+use crate::{DeviceFault, Sink, WriteDevice};
 use std::io::Write;
 
 /// A writer of the library that is borrowed to print on. A write that fails, or takes none of a piece that
@@ -31,16 +33,25 @@ impl<'a, O: Write> Stream<'a, O> {
     }
 }
 
-impl<O: Write> Sink for Stream<'_, O> {
-    ghost use Rattle.plist_devices.specs.Stream.{device_of, octets_taken, failures_of};
+impl<D: WriteDevice> Sink for Stream<'_, D> {
+    ghost use Rattle.plist_devices.specs.Stream.{device_now, device_of, octets_taken, failures_of};
 
-    ghost taken = { octets_taken O.contents };
+    ghost taken = { octets_taken D.contents };
 
     ghost failures = { failures_of };
 
     ghost device = { device_of };
 
-    fn put(&mut self, piece: &[u8]) -> Result<usize, DeviceFault> {
+    fn put(&mut self, piece: &[u8]) -> Result<usize, DeviceFault>
+        ensures put { IsPut (octets_taken D.contents self.old) (octets_taken D.contents self.new)
+            (failures_of self.old) (failures_of self.new) result piece.now }
+        ensures same { device_of self.new ≡ device_of self.old }
+        // It is one write of the device, and fails where that write does, or where the count stands at the
+        // greatest.
+        ensures write { failures_of self.old < count_limit
+            → IsOneWrite D.write_gives (device_now self.old) (device_now self.new)
+            piece.now result }
+    {
         put_on(self.device, &mut self.failures, piece)
     }
 

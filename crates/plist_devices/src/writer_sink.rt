@@ -1,8 +1,9 @@
 //! A writer of the library as a sink.
-ghost use Rattle.std.specs.Prelude.{◌≡◌};
-ghost use Rattle.plist_devices.specs.Sink.{IsPut};
+ghost use Rattle.std.specs.Prelude.{◌≡◌, ◌<◌};
+ghost use Rattle.plist_devices.specs.Count.{count_limit};
+ghost use Rattle.plist_devices.specs.Sink.{IsOneWrite, IsPut};
 
-use crate::{DeviceFault, Sink};
+use crate::{DeviceFault, Sink, WriteDevice};
 use std::io::Write;
 
 /// A writer of the library as a sink. A write that fails, or takes none of a piece that is not empty, is a
@@ -30,17 +31,24 @@ impl<W: Write> WriterSink<W> {
     }
 }
 
-impl<W: Write> Sink for WriterSink<W> {
+impl<D: WriteDevice> Sink for WriterSink<D> {
     ghost use Rattle.std.specs.Prelude.{None};
-    ghost use Rattle.plist_devices.specs.WriterSink.{octets_taken, failures_of};
+    ghost use Rattle.plist_devices.specs.WriterSink.{device_of, octets_taken, failures_of};
 
-    ghost taken = { octets_taken W.contents };
+    ghost taken = { octets_taken D.contents };
 
     ghost failures = { failures_of };
 
     ghost device = { λ _. None };
 
-    fn put(&mut self, piece: &[u8]) -> Result<usize, DeviceFault> {
+    fn put(&mut self, piece: &[u8]) -> Result<usize, DeviceFault>
+        ensures put { IsPut (octets_taken D.contents self.old) (octets_taken D.contents self.new)
+            (failures_of self.old) (failures_of self.new) result piece.now }
+        // It is one write of the device, and fails where that write does, or where the count stands at the
+        // greatest.
+        ensures write { failures_of self.old < count_limit
+            → IsOneWrite D.write_gives (device_of self.old) (device_of self.new) piece.now result }
+    {
         put_on(&mut self.device, &mut self.failures, piece)
     }
 
@@ -50,18 +58,20 @@ impl<W: Write> Sink for WriterSink<W> {
 }
 
 /// One write to the device, which is counted where it fails.
-pub(crate) fn put_on<W: Write>(
-    device: &mut W,
+pub(crate) fn put_on<D: WriteDevice>(
+    device: &mut D,
     failures: &mut u64,
     piece: &[u8],
 ) -> Result<usize, DeviceFault>
-    ensures { IsPut (W.contents device.old) (W.contents device.new)
+    ensures put { IsPut (D.contents device.old) (D.contents device.new)
         failures.old failures.new result piece.now }
+    ensures write { failures.old < count_limit
+        → IsOneWrite D.write_gives device.old device.new piece.now result }
 {
     if *failures == u64::MAX {
         return Err(DeviceFault);
     }
-    match device.write(piece) {
+    match device.write_once(piece) {
         Ok(taken) if taken > 0 || piece.is_empty() => Ok(taken),
         _ => {
             *failures += 1;

@@ -1,2 +1,4 @@
 pub mod Stored
-pub mod Finished
+pub mod Delivered
+pub mod Handed
+pub mod Rooms

@@ -14,6 +14,7 @@ use Rattle.plist_files.specs.declared.forms.Form.{Form}
 use Rattle.plist_write.specs.declared.sending.WriteFault.{WriteFault}
 use Rattle.plist_write.specs.declared.sending.WriteFault.TheVariants as write
 use Rattle.plist_write.specs.Sending.{IsBlamed, IsWritten, sent_of}
+use Rattle.plist_write.proofs.Sends.{IsShort-within}
 use Rattle.plist_transfer.specs.Output.{IsOutputFault}
 use Rattle.plist_transfer.specs.Transfer.{Writes, answer_of}
 use Rattle.plist_disk.specs.Files.{CountsFailure, FileName, Files, IsStored, SameFiles, Stores}
@@ -91,6 +92,7 @@ stored_taken form octets old new before after failures path taken result (inr go
   of = goes.of;
   sent = goes.sent;
   is = goes.is;
+  memory = goes.memory;
   stored = stored old new before after failures path goes.output taken goes.sent goes.written stands others (sent_count goes.sent before after (rw goes.is at counts));
 })
 
@@ -109,7 +111,7 @@ unsent_stored old new before after failures path octets (Err fault) err written 
   count = tt;
   whole = tt;
   within = written.within;
-  front = (inl (none_sent octets (sent_of fault) written.within written.front.0, same path), counted);
+  front = (inl (none_sent octets (sent_of fault) (IsShort-within fault _ _ written.within) written.front.0, same path), counted);
 }
 
 pub stored_none : (form : Form) (octets : List ℕ) (old new : Files) (before after failures : ℕ) (path : FileName) (taken : List ℕ)
@@ -123,6 +125,7 @@ stored_none form octets old new before after failures path taken result (inr goe
   of = goes.of;
   sent = goes.sent;
   is = goes.is;
+  memory = goes.memory;
   stored = unsent_stored old new before after failures path goes.output goes.sent (rw goes.is at err) (rw none at goes.written) same
       (sent_count goes.sent before after (rw goes.is at counts));
 })

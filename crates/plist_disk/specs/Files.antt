@@ -1,14 +1,14 @@
 -- Which path holds which octets, and what loading and storing do to that.
-use Rattle.std.specs.Prelude.{◌≡◌, ◌≢◌, ◌⊎◌, ⊤, ℕ, ◌<◌, ◌≤◌, List, length, take, None, Option, Some, Result, Err, IfErr, IfOk, IfSome}
-use Rattle.plist_devices.specs.Count.{HasFailed}
+use Rattle.std.specs.Prelude.{◌≡◌, ◌≢◌, ◌⊎◌, ⊤, ℕ, ◌<◌, List, length, take, None, Option, Some, Result, Err, IfErr, IfOk, IfSome}
+use Rattle.plist_devices.specs.Count.{one_more}
 use Rattle.plist_files.specs.declared.faults.Fault.{Fault}
 use Rattle.plist_files.specs.declared.faults.Fault.TheVariants.{ReadFailed, WriteFailed, InputTooLarge, OutOfMemory}
 use Rattle.plist_files.specs.declared.forms.Form.{Form}
 use Rattle.plist_files.specs.declared.loading.TheConstants.{MAX_INPUT}
 use Rattle.plist_write.specs.declared.sending.WriteFault.{WriteFault}
-use Rattle.plist_write.specs.Sending.{IsBlamed, sent_of}
+use Rattle.plist_write.specs.Sending.{IsBlamed, IsShort, sent_of}
 use Rattle.plist_transfer.specs.Output.{IsOutput, IsOutputFault}
-use Rattle.plist_transfer.specs.Transfer.{answer_of}
+use Rattle.plist_transfer.specs.Transfer.{NeedsNoMemory, answer_of}
 
 -- a path, as its octets
 abbrev pub FileName : Type 0
@@ -43,7 +43,7 @@ SameBeside path before after = Turns before after (λ old new. (other : FileName
 -- Why a file was not loaded: a device failed, and there is none where the disk tells; or it is too large; or there was
 -- no memory.
 abbrev pub IsUnloaded : Option Files → FileName → ℕ → ℕ → Fault → Type 0
-IsUnloaded files path before after ReadFailed = Lacks files path × HasFailed before after
+IsUnloaded files path before after ReadFailed = Lacks files path × (after ≡ one_more before)
 IsUnloaded files path before after InputTooLarge =
     IfSome files (λ at. (octets : List ℕ) × ((at path ≡ Some octets) × (MAX_INPUT < length octets))) × (after ≡ before)
 IsUnloaded files path before after (OutOfMemory sent) = (sent ≡ 0) × (after ≡ before)
@@ -60,12 +60,12 @@ pub record IsStored (files rest : Option Files) (before after : ℕ) (path : Fil
   pub others : SameBeside path files rest
   pub count : IfOk result (λ sent. (sent ≡ length octets) × (after ≡ before))
   pub whole : IfOk result (λ _. Turns files rest (λ old new. new path ≡ Some octets))
-  pub within : IfErr result (λ fault. sent_of fault ≤ length octets)
+  pub within : IfErr result (λ fault. IsShort fault (sent_of fault) (length octets))
   pub front : IfErr result (λ fault. HoldsFront files rest path octets (sent_of fault) × IsBlamed fault before after)
 
 -- The count of failures after a file was sent so: one more where the device failed.
 abbrev pub CountsFailure : ℕ → ℕ → Result ℕ Fault → Type 0
-CountsFailure before after (Err (WriteFailed sent)) = HasFailed before after
+CountsFailure before after (Err (WriteFailed sent)) = after ≡ one_more before
 CountsFailure before after _ = after ≡ before
 
 -- Nothing is stored, for this cause: no file changes, and no device fails.
@@ -82,6 +82,7 @@ pub record IsOutputStored (form : Form) (octets : List ℕ) (files rest : Option
   pub of : IsOutput form octets output
   pub sent : Result ℕ WriteFault
   pub is : result ≡ answer_of sent
+  pub memory : NeedsNoMemory form sent
   pub stored : IsStored files rest before after path output sent
 
 -- what is done to store the value that the octets spell, in a form

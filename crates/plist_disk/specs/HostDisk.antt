@@ -3,5 +3,5 @@ use Rattle.std.specs.Prelude.{ℕ}
 use Rattle.plist_disk.specs.declared.host_disk.HostDisk.{HostDisk}
 
 -- how many devices failed, up to the greatest count
-abbrev pub failures_of : {R : Type 0} → HostDisk R → ℕ
+abbrev pub failures_of : {R H : Type 0} → HostDisk R H → ℕ
 failures_of disk = disk.failures

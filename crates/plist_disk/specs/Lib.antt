@@ -1,4 +1,4 @@
+pub mod Delivery
 pub mod Files
 pub mod HostDisk
 pub mod MemoryDisk
-pub mod FileSink

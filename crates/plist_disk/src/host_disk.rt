@@ -1,22 +1,31 @@
 //! The files of the host.
 ghost use Rattle.std.specs.Prelude.{◌≡◌, IfErr};
 ghost use Rattle.plist_files.specs.Load.{IsLoadFault};
-ghost use Rattle.plist_transfer.specs.Transfer.{Writes};
 
 use crate::Disk;
+use crate::delivery::deliver;
 use crate::disks::failures_after;
-use crate::file_sink::FileSink;
-use plist_devices::{ReaderSource, Sink};
+use crate::host_file::HostFile;
+use plist_devices::ReaderSource;
 use plist_files::{Fault, Form, load};
-use plist_transfer::{convert_octets, convert_octets_at_end};
+use plist_value::FixedHasher;
 use std::alloc::Global;
 use std::fs;
+use std::hash::BuildHasher;
+use std::io::BufWriter;
 use std::rt::Files;
 
+/// So many octets are gathered before they are written: a write of 4,096 octets costs several times as much for
+/// each of them.
+const GATHERED: usize = 262_144;
+
 /// The files of the host, by their paths. It tells nothing of what they hold.
+///
+/// What it stores is converted, and scalars are hashed by what the builder makes.
 #[derive(Drop)]
-pub struct HostDisk<'a, R> {
+pub struct HostDisk<'a, R, H = FixedHasher> {
     rt: &'a R,
+    hasher: H,
     failures: u64,
     at_end: bool,
 }
@@ -28,20 +37,43 @@ impl<'a, R: Files> HostDisk<'a, R> {
     pub fn new(rt: &'a R) -> HostDisk<'a, R>
         ensures { failures_of result ≡ 0 }
     {
+        HostDisk::with_hasher(rt, FixedHasher::new())
+    }
+
+    /// The files that this runtime reaches, for a program that ends with this run: the value that a conversion
+    /// reads of a text is not given back, as
+    /// [`convert_octets_at_end`](plist_transfer::convert_octets_at_end) says. Any other program calls
+    /// [`new`](HostDisk::new).
+    pub fn at_end(rt: &'a R) -> HostDisk<'a, R>
+        ensures { failures_of result ≡ 0 }
+    {
+        HostDisk::at_end_with_hasher(rt, FixedHasher::new())
+    }
+}
+
+impl<'a, R: Files, H: BuildHasher + Copy> HostDisk<'a, R, H> {
+    ghost use Rattle.plist_disk.specs.HostDisk.{failures_of};
+
+    /// The same as [`new`](HostDisk::new), where scalars are hashed by what the builder makes. Where somebody else
+    /// picks what is converted, hand it a [`RandomState`](std::hash::RandomState): scalars that were picked to
+    /// collide under [`FixedHasher`] cost no more than others then.
+    pub fn with_hasher(rt: &'a R, hasher: H) -> HostDisk<'a, R, H>
+        ensures { failures_of result ≡ 0 }
+    {
         HostDisk {
             rt,
+            hasher,
             failures: 0,
             at_end: false,
         }
     }
 
-    /// The files that this runtime reaches, for a program that ends with this run: the value that a conversion
-    /// reads of a text is not given back, as [`convert_octets_at_end`] says. Any other program calls
-    /// [`new`](HostDisk::new).
-    pub fn at_end(rt: &'a R) -> HostDisk<'a, R>
+    /// The same as [`at_end`](HostDisk::at_end), where scalars are hashed by what the builder makes, as
+    /// [`with_hasher`](HostDisk::with_hasher) says.
+    pub fn at_end_with_hasher(rt: &'a R, hasher: H) -> HostDisk<'a, R, H>
         ensures { failures_of result ≡ 0 }
     {
-        let mut disk = HostDisk::new(rt);
+        let mut disk = HostDisk::with_hasher(rt, hasher);
         disk.at_end = true;
         disk
     }
@@ -54,27 +86,9 @@ impl<'a, R: Files> HostDisk<'a, R> {
             Err(_) => Err(Fault::ReadFailed),
         }
     }
-
-    // Sends what is asked for, and gives back the value of a text where the program goes on.
-    fn convert<W: Sink>(
-        &self,
-        alloc: Global,
-        octets: Vec<u8>,
-        to: &mut W,
-        form: Form,
-    ) -> Result<u64, Fault>
-        ensures { Writes form octets.items (W.taken to.old) (W.taken to.new)
-            (W.failures to.old) (W.failures to.new) result }
-    {
-        if self.at_end {
-            convert_octets_at_end(alloc, octets, to, form)
-        } else {
-            convert_octets(alloc, octets, to, form)
-        }
-    }
 }
 
-impl<R: Files> Disk for HostDisk<'_, R> {
+impl<R: Files, H: BuildHasher + Copy> Disk for HostDisk<'_, R, H> {
     ghost use Rattle.std.specs.Prelude.{None};
     ghost use Rattle.plist_disk.specs.HostDisk.{failures_of};
 
@@ -97,14 +111,27 @@ impl<R: Files> Disk for HostDisk<'_, R> {
         octets: Vec<u8>,
         form: Form,
     ) -> Result<u64, Fault> {
-        let mut sink = FileSink::new(self.rt, alloc, path);
-        let sent = self.convert(alloc, octets, &mut sink, form);
-        let stored = sink.finish(sent);
+        let (_, stored) = deliver(
+            alloc,
+            self.hasher,
+            file_at(self.rt, alloc, path),
+            octets,
+            form,
+            self.at_end,
+        );
         self.failures = failures_after(self.failures, &stored);
         stored
     }
 
     fn failures(&self) -> u64 {
         self.failures
+    }
+}
+
+// The file at the path, as yet untouched. Where there is no memory to gather octets, each piece is a write.
+fn file_at<'a, R: Files>(rt: &'a R, alloc: Global, path: &'a str) -> BufWriter<HostFile<'a, R>> {
+    match BufWriter::with_capacity(alloc, GATHERED, HostFile::new(rt, path)) {
+        Ok(writer) => writer,
+        Err(_) => BufWriter::with_capacity(alloc, 0, HostFile::new(rt, path)).unwrap(),
     }
 }

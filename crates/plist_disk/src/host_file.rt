@@ -4,13 +4,12 @@ use std::io::Write;
 use std::rt::Files;
 use std::{fs, io};
 
-/// The file at a path, which is created or emptied at the first write, and how many octets were written to it.
+/// The file at a path, which is created or emptied at the first write.
 #[derive(Drop)]
 pub(crate) struct HostFile<'a, R: Files> {
     rt: &'a R,
     path: &'a str,
     device: Option<R::File>,
-    pub(crate) written: u64,
 }
 
 impl<'a, R: Files> HostFile<'a, R> {
@@ -20,7 +19,6 @@ impl<'a, R: Files> HostFile<'a, R> {
             rt,
             path,
             device: None,
-            written: 0,
         }
     }
 }
@@ -37,9 +35,7 @@ impl<R: Files> Write for HostFile<'_, R> {
         let Some(device) = &mut self.device else {
             return Ok(0);
         };
-        let taken = device.write(piece)?;
-        self.written = self.written.saturating_add(taken as u64);
-        Ok(taken)
+        device.write(piece)
     }
 
     fn flush(&mut self) -> io::Result<()> {

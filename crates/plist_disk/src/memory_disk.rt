@@ -1,17 +1,20 @@
 //! A disk in memory.
-ghost use Rattle.std.specs.Prelude.{◌≡◌, ◌≤◌, ◌<◌, IfOk, OnErr, None, Some, option_map};
-ghost use Rattle.plist_disk.specs.Files.{FileName, SameBeside};
+ghost use Rattle.std.specs.Prelude.{◌≡◌, ◌≤◌, ◌<◌, IfErr, IfOk, OnErr, OnOk, None, Some};
+ghost use Rattle.std.specs.Prelude.{option_map};
+ghost use Rattle.plist_disk.specs.Files.{FileName, Holds, IsUnloaded, SameBeside};
+ghost use Rattle.plist_disk.specs.Files.{SameFiles, Stores};
 
 use crate::Disk;
 use crate::disks::failures_after;
-use plist_devices::ListSink;
+use crate::memory_file::fill;
 use plist_files::{Fault, Form, MAX_INPUT};
-use plist_transfer::convert_octets;
 use std::alloc::{AllocError, Global};
 use std::collections::BTreeMap;
+use std::marker::Brand;
 
 /// A disk in memory, for tests and for whoever builds on it: it tells what stands at each path. Each file
-/// has room for so many octets, and takes at most `step` of them per put.
+/// has room for so many octets, and takes at most `step` of them per put. 51 comes only where an output is
+/// longer than the room.
 #[derive(Drop)]
 pub struct MemoryDisk {
     files: BTreeMap<String, Vec<u8>>,
@@ -62,13 +65,21 @@ impl MemoryDisk {
 }
 
 impl Disk for MemoryDisk {
-    ghost use Rattle.plist_disk.specs.MemoryDisk.{failures_of, files_of, room_of};
+    ghost use Rattle.plist_disk.specs.MemoryDisk.{failures_of, files_of, IsFullAt, room_of};
 
     ghost files = { λ disk. Some (files_of disk) };
 
     ghost failures = { failures_of };
 
-    fn load(&mut self, alloc: Global, path: &str) -> Result<Vec<u8>, Fault> {
+    fn load(&mut self, alloc: Global, path: &str) -> Result<Vec<u8>, Fault>
+        ensures kept { SameFiles (Some (files_of self.old)) (Some (files_of self.new)) }
+        ensures found { IfOk result (λ octets.
+            Holds (Some (files_of self.old)) path.now octets.items) }
+        ensures unfailed { OnOk result (failures_of self.new ≡ failures_of self.old) }
+        ensures refused { IfErr result (IsUnloaded (Some (files_of self.old)) path.now
+            (failures_of self.old) (failures_of self.new)) }
+        ensures room { room_of self.new ≡ room_of self.old }
+    {
         let Some(octets) = self.at(path) else {
             self.failures = self.failures.saturating_add(1);
             return Err(Fault::ReadFailed);
@@ -85,9 +96,18 @@ impl Disk for MemoryDisk {
         path: &str,
         octets: Vec<u8>,
         form: Form,
-    ) -> Result<u64, Fault> {
-        let mut sink = ListSink::new(alloc, self.room, self.step)?;
-        let sent = convert_octets(alloc, octets, &mut sink, form);
+    ) -> Result<u64, Fault>
+        ensures stores { Stores form octets.items
+            (Some (files_of self.old)) (Some (files_of self.new))
+            (failures_of self.old) (failures_of self.new) path.now result }
+        ensures room { room_of self.new ≡ room_of self.old }
+
+        // A file takes no more than its room, and the device fails only where that does not suffice.
+        ensures fits { IfOk result (λ count. count ≤ room_of self.old) }
+        ensures full { IfErr result (IsFullAt form octets.items (room_of self.old)) }
+    {
+        let filled = fill::<Brand>(alloc, self.room, self.step, octets, form)?;
+        let (sink, sent) = filled;
         if sent.is_ok() || !sink.taken().is_empty() {
             let file = Vec::from_slice(alloc, sink.taken())?;
             self.put(alloc, path, file)?;

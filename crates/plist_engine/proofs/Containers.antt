@@ -15,19 +15,19 @@ use Rattle.plist_engine.specs.Plan.{IsLike, IsReady, Grows, Adds, WalksTree, Wal
 use Rattle.plist_engine.proofs.Flat.{flat, preorder-flat, places-flat}
 
 -- what the references became, and those behind them
-pub record Filled (objects numbers behind : List ℕ) (old done : Plan) : Type 0 where
+pub record Filled {S H : Type 0} (objects numbers behind : List ℕ) (old done : Plan S H) : Type 0 where
   pub as_many : length numbers ≡ length objects
   pub filled : done.references.items ≡ old.references.items ++ (numbers ++ behind)
 
 module _ (v : Plist) (container : IsContainer v) (part : List Plist) (tree : preorder v ≡ v ∷ part) (all : List Plist) (k : ℕ) (stands : Stands all k (preorder v)) where
-  below_ready : (i : ℕ) (objects : List ℕ) (old mid : Plan) (number : ℕ) → Begins i objects old mid number → IsReady all k old → IsReady all (suc k) mid
+  below_ready : {S H : Type 0} → (i : ℕ) (objects : List ℕ) (old mid : Plan S H) (number : ℕ) → Begins i objects old mid number → IsReady all k old → IsReady all (suc k) mid
   below_ready i objects old mid number begins ready = record {
     numbered = rw begins.scalars_kept ready.numbered;
     known = λ q. rw begins.scalars_kept (ready.known q ∙ sym (known-still all k _ (no_scalar v container part tree all k stands _)));
     counted = ap length begins.original_added ∙ length-append old.originals.items _ ∙ add-one _ ∙ ap suc ready.counted ∙ sym (count-kept all k v (here v container part tree all k stands).0 (here v container part tree all k stands).1 (own v container part tree all k stands));
   }
 
-  grown : (f : List ℕ) (i : ℕ) (objects numbers behind : List ℕ) (old mid done : Plan) (number : ℕ) → Begins i objects old mid number → Filled objects numbers behind old done → Grows f (length mid.references.items) mid done (found_in all (suc k) part) → IsLike f i (held_at (number_in all) k v) → references_of (held_at (number_in all) k v) ≡ numbers → Grows f 0 old done (found_in all k (v ∷ part))
+  grown : {S H : Type 0} → (f : List ℕ) (i : ℕ) (objects numbers behind : List ℕ) (old mid done : Plan S H) (number : ℕ) → Begins i objects old mid number → Filled objects numbers behind old done → Grows f (length mid.references.items) mid done (found_in all (suc k) part) → IsLike f i (held_at (number_in all) k v) → references_of (held_at (number_in all) k v) ≡ numbers → Grows f 0 old done (found_in all k (v ∷ part))
   grown f i objects numbers behind old mid done number begins filled g like refers =
       let front = length mid.references.items in
       let size : length (old.references.items ++ numbers) ≡ front = length-append old.references.items numbers ∙ ap (λ n. length old.references.items + n) filled.as_many ∙ sym (length-append old.references.items objects) ∙ ap length (sym begins.references_added) in
@@ -42,7 +42,7 @@ module _ (v : Plist) (container : IsContainer v) (part : List Plist) (tree : pre
         stand_for = (like, (g.references, (ap (λ rs. rs ++ behind) (sym refers) ∙ ap (λ rs. references_of (held_at (number_in all) k v) ++ rs) same, g.stand_for)));
       })
 
-pub Walks-container : (f : List ℕ) (v : Plist) → IsContainer v → (part : List Plist) → preorder v ≡ v ∷ part → (i : ℕ) (objects numbers behind : List ℕ) (old mid done : Plan) (number : ℕ) → Begins i objects old mid number → Filled objects numbers behind old done → ((all : List Plist) (k : ℕ) → Stands all k part → IsReady all k mid → Adds f (length mid.references.items) all k part mid done) → ((all : List Plist) (k : ℕ) → Stands all (suc k) part → IsReady all (suc k) mid → IsLike f i (held_at (number_in all) k v) × (references_of (held_at (number_in all) k v) ≡ numbers)) → WalksTree f 0 v old done number
+pub Walks-container : {S H : Type 0} → (f : List ℕ) (v : Plist) → IsContainer v → (part : List Plist) → preorder v ≡ v ∷ part → (i : ℕ) (objects numbers behind : List ℕ) (old mid done : Plan S H) (number : ℕ) → Begins i objects old mid number → Filled objects numbers behind old done → ((all : List Plist) (k : ℕ) → Stands all k part → IsReady all k mid → Adds f (length mid.references.items) all k part mid done) → ((all : List Plist) (k : ℕ) → Stands all (suc k) part → IsReady all (suc k) mid → IsLike f i (held_at (number_in all) k v) × (references_of (held_at (number_in all) k v) ≡ numbers)) → WalksTree f 0 v old done number
 Walks-container f v container part tree i objects numbers behind old mid done number begins filled adds holds = record {
   numbered = λ all k stands ready.
       let e : number ≡ number_in all k = begins.number_is ∙ ready.counted ∙ sym (number_is v container part tree all k stands) in
@@ -59,12 +59,12 @@ Walks-container f v container part tree i objects numbers behind old mid done nu
       });
 }
 
-pub Walks-list : (f : List ℕ) (vs : Items) (i : ℕ) (objects numbers behind : List ℕ) (old mid done : Plan) (number : ℕ) → Holds f i (holds_list objects) → Begins i objects old mid number → Filled objects numbers behind old done → WalksItems f (length mid.references.items) vs mid done numbers → WalksTree f 0 (list vs) old done number
+pub Walks-list : {S H : Type 0} → (f : List ℕ) (vs : Items) (i : ℕ) (objects numbers behind : List ℕ) (old mid done : Plan S H) (number : ℕ) → Holds f i (holds_list objects) → Begins i objects old mid number → Filled objects numbers behind old done → WalksItems f (length mid.references.items) vs mid done numbers → WalksTree f 0 (list vs) old done number
 Walks-list f vs i objects numbers behind old mid done number holds begins filled walks =
     Walks-container f (list vs) tt (preorder_items vs) refl i objects numbers behind old mid done number begins filled walks.adds
     (λ all k stands ready. let is = walks.numbered all (suc k) stands ready in ((objects, (holds, ap length (sym is) ∙ filled.as_many)), sym is))
 
-pub Walks-table : (f : List ℕ) (ps : Pairs) (i : ℕ) (keys values objects numbers behind : List ℕ) (old mid done : Plan) (number : ℕ) → Holds f i (holds_table keys values) → length (key_texts ps) ≡ length keys → Begins i objects old mid number → Filled objects numbers behind old done → WalksItems f (length mid.references.items) (flat ps) mid done numbers → WalksTree f 0 (table ps) old done number
+pub Walks-table : {S H : Type 0} → (f : List ℕ) (ps : Pairs) (i : ℕ) (keys values objects numbers behind : List ℕ) (old mid done : Plan S H) (number : ℕ) → Holds f i (holds_table keys values) → length (key_texts ps) ≡ length keys → Begins i objects old mid number → Filled objects numbers behind old done → WalksItems f (length mid.references.items) (flat ps) mid done numbers → WalksTree f 0 (table ps) old done number
 Walks-table f ps i keys values objects numbers behind old mid done number holds long begins filled walks =
     let same = preorder-flat ps in
     Walks-container f (table ps) tt (key_texts ps ++ preorder_values ps) refl i objects numbers behind old mid done number begins filled

@@ -6,7 +6,7 @@ use Rattle.plist_object.specs.Spelled.{IsBinary}
 use Rattle.plist_object.specs.Spelling.{least_width}
 use Rattle.plist_write.specs.Tree.{preorder}
 use Rattle.plist_write.specs.Sharing.{first_place, kept_places, value_at}
-use Rattle.plist_write.specs.Canonical.{file_of, canon}
+use Rattle.plist_write.specs.Canonical.{file_of, objects_of, canon}
 use Rattle.plist_write.specs.Plan.{number_in, found_in}
 use Rattle.plist_write.specs.Pieces.{CanSpellAll}
 use Rattle.plist_write.proofs.Binary.{canon-length}
@@ -50,9 +50,13 @@ module _ (f : List ℕ) (v : Plist) (binary : IsBinary f v) (objects : Objects) 
       let modest : IsModest v = record { nodes_fit = binary.fits.nodes_fit; payload_fits = binary.fits.payload_fits } in
       rw (long, helds) (spellable_all all (number_in all) (least_width (length (kept_places all))) below 0 all (modest_tree v modest))
 
+  pub are-objects : octets_for (least_width (length objects.originals.items)) f objects.originals.items objects.references.items ≡ objects_of (preorder v)
+  are-objects =
+      rw (long, helds) (octets-all (number_in (preorder v)) (least_width (length (kept_places (preorder v)))) (kept_places (preorder v)))
+
   pub is-canon : file_of (octets_for (least_width (length objects.originals.items)) f objects.originals.items objects.references.items) ≡ canon v
   unfolding canon
-  is-canon = rw (long, helds) (ap file_of (octets-all (number_in (preorder v)) (least_width (length (kept_places (preorder v)))) (kept_places (preorder v))))
+  is-canon = ap file_of are-objects
 
   pub short-objects : length (file_of (octets_for (least_width (length objects.originals.items)) f objects.originals.items objects.references.items)) < 2 ^ 64
   short-objects =

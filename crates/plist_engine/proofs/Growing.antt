@@ -16,7 +16,7 @@ StandFor-append f (x ∷ xs) ys refs behind (h ∷ hs) gs a b =
     let rest = a.1.0 in
     (a.0, (rest ++ behind, (ap (λ rs. rs ++ behind) a.1.1.0 ∙ append_assoc (references_of h) rest behind, StandFor-append f xs ys rest behind hs gs a.1.1.1 b)))
 
-pub Grows-none : (f : List ℕ) (front : ℕ) (plan : Plan) → Grows f front plan plan []
+pub Grows-none : {S H : Type 0} → (f : List ℕ) (front : ℕ) (plan : Plan S H) → Grows f front plan plan []
 Grows-none f front plan = record {
   originals = [];
   references = [];
@@ -25,7 +25,7 @@ Grows-none f front plan = record {
   stand_for = refl;
 }
 
-pub Grows-append : (f : List ℕ) (front : ℕ) (old mid new : Plan) (hs gs : List Held) → Grows f front old mid hs → Grows f front mid new gs → Grows f front old new (hs ++ gs)
+pub Grows-append : {S H : Type 0} → (f : List ℕ) (front : ℕ) (old mid new : Plan S H) (hs gs : List Held) → Grows f front old mid hs → Grows f front mid new gs → Grows f front old new (hs ++ gs)
 Grows-append f front old mid new hs gs x y = record {
   originals = x.originals ++ y.originals;
   references = x.references ++ y.references;
@@ -35,7 +35,7 @@ Grows-append f front old mid new hs gs x y = record {
 }
 
 -- of fewer references less is looked at
-pub Grows-lift : (f : List ℕ) (front : ℕ) (old mid new : Plan) (hs : List Held) → Grows f 0 old mid hs → front ≤ length old.references.items → new.originals ≡ mid.originals → drop front new.references.items ≡ drop front mid.references.items → Grows f front old new hs
+pub Grows-lift : {S H : Type 0} → (f : List ℕ) (front : ℕ) (old mid new : Plan S H) (hs : List Held) → Grows f 0 old mid hs → front ≤ length old.references.items → new.originals ≡ mid.originals → drop front new.references.items ≡ drop front mid.references.items → Grows f front old new hs
 Grows-lift f front old mid new hs x within same_originals same_references = record {
   originals = x.originals;
   references = x.references;
@@ -45,7 +45,7 @@ Grows-lift f front old mid new hs x within same_originals same_references = reco
 }
 
 -- one scalar more
-pub Grows-scalar : (f : List ℕ) (front i : ℕ) (old new : Plan) (s : Scalar) → Holds f i (holds_scalar s) → new.originals.items ≡ old.originals.items ++ (i ∷ []) → new.references.items ≡ old.references.items → Grows f front old new (holds_scalar s ∷ [])
+pub Grows-scalar : {S H : Type 0} → (f : List ℕ) (front i : ℕ) (old new : Plan S H) (s : Scalar) → Holds f i (holds_scalar s) → new.originals.items ≡ old.originals.items ++ (i ∷ []) → new.references.items ≡ old.references.items → Grows f front old new (holds_scalar s ∷ [])
 Grows-scalar f front i old new s holds added kept = record {
   originals = i ∷ [];
   references = [];

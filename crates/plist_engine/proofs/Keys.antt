@@ -31,14 +31,14 @@ module _ (K C : Type 0) (content : K → C) (same : K → K → Bool) (decides :
   alike-place [] r q e = refl
   alike-place (k ∷ ks) r q e = rw (alike-same r q k e, alike-place ks r q e) refl
 
-  alike-number : (known : Hashed K) (r q : K) → content r ≡ content q → number_of_key same known r ≡ number_of_key same known q
+  alike-number : {S H : Type 0} (known : Hashed K S H) (r q : K) → content r ≡ content q → number_of_key same known r ≡ number_of_key same known q
   alike-number known r q e = ap (slice_get known.numbers.items) (alike-place known.keys.keys r q e)
 
   -- the next number, where the key is this one
   abbrev next_of : K → ℕ → K → Option ℕ
   next_of k next q = cond (same k q) (Some next) None
 
-  module _ (k : K) (next : ℕ) (old new : Hashed K) (counted : length old.numbers.items ≡ length old.keys.keys) where
+  module _ {S H : Type 0} (k : K) (next : ℕ) (old new : Hashed K S H) (counted : length old.numbers.items ≡ length old.keys.keys) where
     pub counted-after : (had : Option ℕ) → EntersKey same k next old new had → length new.numbers.items ≡ length new.keys.keys
     counted-after (Some n) enters =
         let same_keys = enters.keys_now ∙ insert_key-known K C content same decides old.keys.keys old.numbers.items k n counted (sym enters.had_is) in

@@ -23,11 +23,11 @@ pub is_same : (r q : ScalarRef) → scalar_eq (content_of r) (content_of q) ≡ 
 is_same r q e = (scalar_eq-Decides (content_of r) (content_of q)).0 e
 
 -- equal scalars are found under one number
-pub same-number : (known : Numbered) (r q : ScalarRef) → content_of r ≡ content_of q → number_held known q ≡ number_held known r
+pub same-number : {S H : Type 0} → (known : Numbered S H) (r q : ScalarRef) → content_of r ≡ content_of q → number_held known q ≡ number_held known r
 same-number known r q same = rw same refl
 
 -- nothing changes where the scalar has a number
-pub enters-again : (shown : ScalarRef) (next n : ℕ) (known : Numbered) → IsNumbered known → number_held known shown ≡ Some n → Enters shown next known known (Some n)
+pub enters-again : {S H : Type 0} → (shown : ScalarRef) (next n : ℕ) (known : Numbered S H) → IsNumbered known → number_held known shown ≡ Some n → Enters shown next known known (Some n)
 enters-again shown next n known numbered had = record {
   numbered = numbered;
   had_is = sym had;
@@ -59,7 +59,7 @@ long_short : (r q : ScalarRef) → IsLong r → IsShort q → scalar_eq (content
 long_short r q long short = differ r q (λ e. true≢false (sym long ∙ e ∙ short))
 
 -- long data are listed now
-module _ (shown : ScalarRef) (next : ℕ) (old new : Numbered) (numbered : IsNumbered old) (long : IsLong shown) (missed : number_listed old.listed.items (content_of shown) ≡ None) (room : HasRoom old) (same_hashed : new.hashed ≡ old.hashed) (pushed : new.listed.items ≡ old.listed.items ++ (record { scalar = shown; number = next } ∷ [])) where
+module _ {S H : Type 0} (shown : ScalarRef) (next : ℕ) (old new : Numbered S H) (numbered : IsNumbered old) (long : IsLong shown) (missed : number_listed old.listed.items (content_of shown) ≡ None) (room : HasRoom old) (same_hashed : new.hashed ≡ old.hashed) (pushed : new.listed.items ≡ old.listed.items ++ (record { scalar = shown; number = next } ∷ [])) where
   listed_now : (r : ScalarRef) → number_listed new.listed.items (content_of r) ≡ option_or (number_listed old.listed.items (content_of r)) (next_of shown next r)
   listed_now r = rw pushed (listed-pushed old.listed.items (record { scalar = shown; number = next }) (content_of r))
 
@@ -87,7 +87,7 @@ module _ (shown : ScalarRef) (next : ℕ) (old new : Numbered) (numbered : IsNum
   }
 
 -- the set is asked for one that is not listed
-module _ (shown : ScalarRef) (next : ℕ) (old new : Numbered) (had : Option ℕ) (unlisted : IsUnlisted old shown) (same_listed : new.listed ≡ old.listed) (enters : EntersKey (on content_of scalar_eq) shown next old.hashed new.hashed had) where
+module _ {S H : Type 0} (shown : ScalarRef) (next : ℕ) (old new : Numbered S H) (had : Option ℕ) (unlisted : IsUnlisted old shown) (same_listed : new.listed ≡ old.listed) (enters : EntersKey (on content_of scalar_eq) shown next old.hashed new.hashed had) where
   hashed_now : (r : ScalarRef) → number_hashed new r ≡ option_or (number_hashed old r) (next_of shown next r)
   hashed_now = number-after ScalarRef Scalar content_of (on content_of scalar_eq) scalars-decide shown next old.hashed new.hashed unlisted.numbered.counted had enters
 

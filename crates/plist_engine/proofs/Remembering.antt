@@ -17,7 +17,7 @@ use Rattle.plist_engine.proofs.Storing.{enters-again}
 use Rattle.plist_engine.proofs.Walking.{Walks-known, Walks-lift}
 
 -- the memo of a plan with more scalars
-pub remembers-entered : (f : List ℕ) (shown : ScalarRef) (old new : Plan) (n : ℕ) → KeepsScalar shown old new n → RemembersNumbers f old → RemembersNumbers f new
+pub remembers-entered : {S H : Type 0} → (f : List ℕ) (shown : ScalarRef) (old new : Plan S H) (n : ℕ) → KeepsScalar shown old new n → RemembersNumbers f old → RemembersNumbers f new
 remembers-entered f shown old new n enters was = record {
   numbered = enters.numbered was.numbered;
   each = λ i some.
@@ -31,7 +31,7 @@ remembers-entered f shown old new n enters was = record {
 }
 
 -- what is remembered of a plan is so of each with the same scalars
-pub remembers-same : (f : List ℕ) (old new : Plan) → new.scalars ≡ old.scalars → new.memo ≡ old.memo → RemembersNumbers f old → RemembersNumbers f new
+pub remembers-same : {S H : Type 0} → (f : List ℕ) (old new : Plan S H) → new.scalars ≡ old.scalars → new.memo ≡ old.memo → RemembersNumbers f old → RemembersNumbers f new
 remembers-same f old new same_scalars same_memo was = record {
   numbered = rw same_scalars was.numbered;
   each = λ i some.
@@ -44,12 +44,12 @@ remembers-same f old new same_scalars same_memo was = record {
       };
 }
 
-pub remembers-begun : (f : List ℕ) (i : ℕ) (refs : List ℕ) (old new : Plan) (n : ℕ) → Begins i refs old new n → RemembersNumbers f old → RemembersNumbers f new
+pub remembers-begun : {S H : Type 0} → (f : List ℕ) (i : ℕ) (refs : List ℕ) (old new : Plan S H) (n : ℕ) → Begins i refs old new n → RemembersNumbers f old → RemembersNumbers f new
 remembers-begun f i refs old new n begins was =
     remembers-same f old new begins.scalars_kept begins.memo_kept was
 
 -- one number more is remembered
-pub remembers-kept : (f : List ℕ) (i : ℕ) (shown : ScalarRef) (mid new : Plan) (n : ℕ) → new.scalars ≡ mid.scalars → KeepsNumber i n mid.memo.items new.memo.items → Holds f i (holds_scalar (content_of shown)) → number_stored mid.scalars shown ≡ Some n → RemembersNumbers f mid → RemembersNumbers f new
+pub remembers-kept : {S H : Type 0} → (f : List ℕ) (i : ℕ) (shown : ScalarRef) (mid new : Plan S H) (n : ℕ) → new.scalars ≡ mid.scalars → KeepsNumber i n mid.memo.items new.memo.items → Holds f i (holds_scalar (content_of shown)) → number_stored mid.scalars shown ≡ Some n → RemembersNumbers f mid → RemembersNumbers f new
 remembers-kept f i shown mid new n same_scalars kept holds held was = record {
   numbered = rw same_scalars was.numbered;
   each = λ j some. elim (kept j) [
@@ -67,7 +67,7 @@ remembers-kept f i shown mid new n same_scalars kept holds held was = record {
 }
 
 -- a plan with another memo
-pub scalar-set : (i : ℕ) (s : Scalar) (old mid new : Plan) (n : ℕ) → NumbersScalar i s old mid n → new.scalars ≡ mid.scalars → new.originals ≡ mid.originals → new.references ≡ mid.references → NumbersScalar i s old new n
+pub scalar-set : {S H : Type 0} → (i : ℕ) (s : Scalar) (old mid new : Plan S H) (n : ℕ) → NumbersScalar i s old mid n → new.scalars ≡ mid.scalars → new.originals ≡ mid.originals → new.references ≡ mid.references → NumbersScalar i s old new n
 scalar-set i s old mid new n numbers same_scalars same_originals same_references = record {
   walks = λ f holds. Walks-lift f 0 (scalar s ∷ []) (λ k. k ∷ []) old mid new (n ∷ []) (numbers.walks f holds) (omega arith) same_scalars same_originals (rw same_references refl);
   references_kept = rw same_references numbers.references_kept;
@@ -84,7 +84,7 @@ valid_at f i s (table ps) valid spells holds =
     absurd (let held = same_held f i (holds_table spells.0 spells.1.0) (holds_scalar s) spells.1.1.1.0 holds in cc)
 
 -- an object that is remembered is walked
-pub walked-again : (f : List ℕ) (i levels : ℕ) (plan : Plan) (n : ℕ) → SpellsWithin f i levels → RemembersNumbers f plan → IsRemembered f plan i n → IsWalked f i plan plan n
+pub walked-again : {S H : Type 0} → (f : List ℕ) (i levels : ℕ) (plan : Plan S H) (n : ℕ) → SpellsWithin f i levels → RemembersNumbers f plan → IsRemembered f plan i n → IsWalked f i plan plan n
 walked-again f i levels plan n within memo one =
     let r = one.shown in
     record {
@@ -96,11 +96,11 @@ walked-again f i levels plan n within memo one =
       references_added = sym (append-nil _);
     }
 
-pub remembers-none : (f : List ℕ) (plan : Plan) → AreNumbered plan.scalars → ((i : ℕ) → remembered plan i ≡ no_number) → RemembersNumbers f plan
+pub remembers-none : {S H : Type 0} → (f : List ℕ) (plan : Plan S H) → AreNumbered plan.scalars → ((i : ℕ) → remembered plan i ≡ no_number) → RemembersNumbers f plan
 remembers-none f plan numbered none = record { numbered = numbered; each = λ i some. absurd (some (none i)) }
 
 -- a number that the memo has
-pub number-remembered : (plan : Plan) (i x : ℕ) → i < length plan.memo.items → x ≡ get_or plan.memo.items i x → eqb x no_number ≡ false → (f : List ℕ) → RemembersNumbers f plan → IsRemembered f plan i x
+pub number-remembered : {S H : Type 0} → (plan : Plan S H) (i x : ℕ) → i < length plan.memo.items → x ≡ get_or plan.memo.items i x → eqb x no_number ≡ false → (f : List ℕ) → RemembersNumbers f plan → IsRemembered f plan i x
 number-remembered plan i x within is apart f memo =
     let same : remembered plan i ≡ x = sym (is ∙ get_or_default plan.memo.items i x no_number within) in
     let some : remembered plan i ≡ no_number → ⊥ = λ (none : remembered plan i ≡ no_number). true≢false (sym (eq-eqb x no_number (sym same ∙ none)) ∙ apart) in

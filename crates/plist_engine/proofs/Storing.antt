@@ -16,16 +16,16 @@ use Rattle.plist_engine.proofs.Keys.{or_none, counted-after, number-after}
 use Rattle.plist_engine.proofs.Numbers.{is_same, same-number}
 
 -- equal scalars are found under one number
-same-by : (known : Scalars) (r q : ScalarRef) (natural : Option ℕ) → content_of r ≡ content_of q → number_by known q natural ≡ number_by known r natural
+same-by : {S H : Type 0} → (known : Scalars S H) (r q : ScalarRef) (natural : Option ℕ) → content_of r ≡ content_of q → number_by known q natural ≡ number_by known r natural
 same-by known r q (Some n) same = refl
 same-by known r q None same = same-number known.others r q same
 
-same-stored : (known : Scalars) (r q : ScalarRef) → content_of r ≡ content_of q → number_stored known q ≡ number_stored known r
+same-stored : {S H : Type 0} → (known : Scalars S H) (r q : ScalarRef) → content_of r ≡ content_of q → number_stored known q ≡ number_stored known r
 same-stored known r q same =
     ap (number_by known q) (ap natural_in (sym same)) ∙ same-by known r q (natural_in (content_of r)) same
 
 -- a scalar that has a number
-module _ (shown : ScalarRef) (next n : ℕ) (old new : Scalars) (enters : EntersScalar shown next old new (Some n)) where
+module _ {S H : Type 0} (shown : ScalarRef) (next n : ℕ) (old new : Scalars S H) (enters : EntersScalar shown next old new (Some n)) where
   pub entered-had : number_stored old shown ≡ Some n
   entered-had = sym enters.had_is
 
@@ -36,7 +36,7 @@ module _ (shown : ScalarRef) (next n : ℕ) (old new : Scalars) (enters : Enters
   ]
 
 -- one that has none
-module _ (shown : ScalarRef) (next : ℕ) (old new : Scalars) (enters : EntersScalar shown next old new None) where
+module _ {S H : Type 0} (shown : ScalarRef) (next : ℕ) (old new : Scalars S H) (enters : EntersScalar shown next old new None) where
   pub entered-unknown : number_stored old shown ≡ None
   entered-unknown = sym enters.had_is
 
@@ -47,7 +47,7 @@ module _ (shown : ScalarRef) (next : ℕ) (old new : Scalars) (enters : EntersSc
   ]
 
 -- nothing changes where the scalar has a number
-pub enters-again : (shown : ScalarRef) (next n : ℕ) (known : Scalars) → AreNumbered known → number_stored known shown ≡ Some n → EntersScalar shown next known known (Some n)
+pub enters-again : {S H : Type 0} → (shown : ScalarRef) (next n : ℕ) (known : Scalars S H) → AreNumbered known → number_stored known shown ≡ Some n → EntersScalar shown next known known (Some n)
 enters-again shown next n known numbered had = record {
   numbered = numbered;
   had_is = sym had;
@@ -83,10 +83,10 @@ naturals-same r q m n first second = elim (cases_Bool (nat_eq m n)) [
 ]
 
 -- what stands for a scalar whose natural number is known to be this, or to be none
-by-natural : (known : Scalars) (r : ScalarRef) (n : ℕ) → natural_in (content_of r) ≡ Some n → number_stored known r ≡ number_of_key nat_eq known.naturals n
+by-natural : {S H : Type 0} → (known : Scalars S H) (r : ScalarRef) (n : ℕ) → natural_in (content_of r) ≡ Some n → number_stored known r ≡ number_of_key nat_eq known.naturals n
 by-natural known r n e = ap (number_by known r) e
 
-by-other : (known : Scalars) (r : ScalarRef) → natural_in (content_of r) ≡ None → number_stored known r ≡ number_held known.others r
+by-other : {S H : Type 0} → (known : Scalars S H) (r : ScalarRef) → natural_in (content_of r) ≡ None → number_stored known r ≡ number_held known.others r
 by-other known r e = ap (number_by known r) e
 
 cases-natural : (o : Option ℕ) → (o ≡ None) ⊎ ((n : ℕ) × (o ≡ Some n))
@@ -94,7 +94,7 @@ cases-natural None = inl refl
 cases-natural (Some n) = inr (n, refl)
 
 -- a natural number was entered
-module _ (shown : ScalarRef) (n next : ℕ) (old new : Scalars) (had : Option ℕ) (natural : natural_in (content_of shown) ≡ Some n) (numbered : AreNumbered old) (same_others : new.others ≡ old.others) (enters : EntersKey nat_eq n next old.naturals new.naturals had) where
+module _ {S H : Type 0} (shown : ScalarRef) (n next : ℕ) (old new : Scalars S H) (had : Option ℕ) (natural : natural_in (content_of shown) ≡ Some n) (numbered : AreNumbered old) (same_others : new.others ≡ old.others) (enters : EntersKey nat_eq n next old.naturals new.naturals had) where
   naturals_now : (m : ℕ) → number_of_key nat_eq new.naturals m ≡ option_or (number_of_key nat_eq old.naturals m) (cond (nat_eq n m) (Some next) None)
   naturals_now = number-after ℕ ℕ (λ m. m) nat_eq unsigned_Decides n next old.naturals new.naturals numbered.counted had enters
 
@@ -112,7 +112,7 @@ module _ (shown : ScalarRef) (n next : ℕ) (old new : Scalars) (had : Option �
   }
 
 -- another scalar was entered
-module _ (shown : ScalarRef) (next : ℕ) (old new : Scalars) (had : Option ℕ) (other : natural_in (content_of shown) ≡ None) (numbered : AreNumbered old) (same_naturals : new.naturals ≡ old.naturals) (enters : Enters shown next old.others new.others had) where
+module _ {S H : Type 0} (shown : ScalarRef) (next : ℕ) (old new : Scalars S H) (had : Option ℕ) (other : natural_in (content_of shown) ≡ None) (numbered : AreNumbered old) (same_naturals : new.naturals ≡ old.naturals) (enters : Enters shown next old.others new.others had) where
   pub enters-other : EntersScalar shown next old new had
   enters-other = record {
     numbered = record {

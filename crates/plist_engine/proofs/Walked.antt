@@ -14,7 +14,7 @@ use Rattle.plist_engine.proofs.Walking.{Walks-none, Walks-item, Walks-lift}
 use Rattle.plist_engine.proofs.Containers.{Filled, Walks-list, Walks-table}
 use Rattle.plist_engine.proofs.Flat.{flat, spell-flat, valid-flat, length-keys}
 
-pub walked-scalar : (f : List ℕ) (i : ℕ) (s : Scalar) (old new : Plan) (number : ℕ) → Holds f i (holds_scalar s) → IsScalar s → NumbersScalar i s old new number → IsWalked f i old new number
+pub walked-scalar : {S H : Type 0} → (f : List ℕ) (i : ℕ) (s : Scalar) (old new : Plan S H) (number : ℕ) → Holds f i (holds_scalar s) → IsScalar s → NumbersScalar i s old new number → IsWalked f i old new number
 walked-scalar f i s old new number holds valid numbers = record {
   value = scalar s;
   valid = valid;
@@ -24,7 +24,7 @@ walked-scalar f i s old new number holds valid numbers = record {
   references_added = numbers.references_kept ∙ sym (append-nil _);
 }
 
-module _ (f : List ℕ) (i : ℕ) (objects : List ℕ) (old mid done : Plan) (number first : ℕ) (at_end : first ≡ length old.references.items) (begins : Begins i objects old mid number) (walked : AreWalked f first mid done) where
+module _ {S H : Type 0} (f : List ℕ) (i : ℕ) (objects : List ℕ) (old mid done : Plan S H) (number first : ℕ) (at_end : first ≡ length old.references.items) (begins : Begins i objects old mid number) (walked : AreWalked f first mid done) where
   pub objects-begun : drop first mid.references.items ≡ objects
   objects-begun =
       ap (drop first) begins.references_added ∙ drop_at old.references.items objects first (sym at_end)
@@ -47,7 +47,7 @@ module _ (f : List ℕ) (i : ℕ) (objects : List ℕ) (old mid done : Plan) (nu
         references_added = filled.filled;
       }
 
-pub walked-table : (f : List ℕ) (i : ℕ) (keys values : List ℕ) (rows : List (ℕ × ℕ)) (ps : Pairs) (old mid done : Plan) (number first : ℕ) → length keys ≡ length values → SpellTable f keys values rows ps → first ≡ length old.references.items → Begins i (in_turn rows) old mid number → AreWalked f first mid done → Holds f i (holds_table keys values) → IsWalked f i old done number
+pub walked-table : {S H : Type 0} → (f : List ℕ) (i : ℕ) (keys values : List ℕ) (rows : List (ℕ × ℕ)) (ps : Pairs) (old mid done : Plan S H) (number first : ℕ) → length keys ≡ length values → SpellTable f keys values rows ps → first ≡ length old.references.items → Begins i (in_turn rows) old mid number → AreWalked f first mid done → Holds f i (holds_table keys values) → IsWalked f i old done number
 walked-table f i keys values rows ps old mid done number first as_many spell at_end begins walked holds =
     let objects = in_turn rows in
     let children = walked.walked in
@@ -64,7 +64,7 @@ walked-table f i keys values rows ps old mid done number first as_many spell at_
     }
 
 -- one value more is walked
-pub walked-next : (f start : List ℕ) (i x : ℕ) (plan mid next new : Plan) (n : ℕ) (numbers : List ℕ) → i < length start → x ≡ get_or start i 0 → length start ≤ length plan.references.items → IsWalked f x plan mid n → next.scalars ≡ mid.scalars → next.originals ≡ mid.originals → drop (length start) next.references.items ≡ drop (length start) mid.references.items → ItemsWalked f (length start) (drop (i + 1) start) next new numbers → ItemsWalked f (length start) (drop i start) plan new (n ∷ numbers)
+pub walked-next : {S H : Type 0} → (f start : List ℕ) (i x : ℕ) (plan mid next new : Plan S H) (n : ℕ) (numbers : List ℕ) → i < length start → x ≡ get_or start i 0 → length start ≤ length plan.references.items → IsWalked f x plan mid n → next.scalars ≡ mid.scalars → next.originals ≡ mid.originals → drop (length start) next.references.items ≡ drop (length start) mid.references.items → ItemsWalked f (length start) (drop (i + 1) start) next new numbers → ItemsWalked f (length start) (drop i start) plan new (n ∷ numbers)
 walked-next f start i x plan mid next new n numbers h is within one same_scalars same_originals same_references rest =
     let v = one.value in
     let split : drop i start ≡ x ∷ drop (i + 1) start = drop_more start i 0 h ∙ ap (λ y. y ∷ drop (i + 1) start) (sym is) in
@@ -76,7 +76,7 @@ walked-next f start i x plan mid next new n numbers h is within one same_scalars
     }
 
 -- none is left
-pub walked-none : (f start : List ℕ) (i : ℕ) (plan : Plan) → length start ≤ i → ItemsWalked f (length start) (drop i start) plan plan []
+pub walked-none : {S H : Type 0} → (f start : List ℕ) (i : ℕ) (plan : Plan S H) → length start ≤ i → ItemsWalked f (length start) (drop i start) plan plan []
 walked-none f start i plan past = record {
   items = no_items;
   valid = tt;

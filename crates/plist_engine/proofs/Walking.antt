@@ -23,14 +23,14 @@ use Rattle.plist_engine.proofs.Storing.{entered-had, entered-kept, entered-unkno
 use Rattle.plist_engine.proofs.Growing.{Grows-none, Grows-append, Grows-lift, Grows-scalar}
 
 -- nothing to do
-pub Walks-none : (f : List ℕ) (front : ℕ) (plan : Plan) → Walks f front [] (λ k. []) plan plan []
+pub Walks-none : {S H : Type 0} → (f : List ℕ) (front : ℕ) (plan : Plan S H) → Walks f front [] (λ k. []) plan plan []
 Walks-none f front plan = record {
   numbered = λ all k stands ready. refl;
   adds = λ all k stands ready. record { ready = rw add-zero ready; grows = Grows-none f front plan };
 }
 
 -- one part, and then another
-pub Adds-append : (f : List ℕ) (front : ℕ) (all : List Plist) (k : ℕ) (old mid new : Plan) (xs ys : List Plist) → Adds f front all k xs old mid → Adds f front all (k + length xs) ys mid new → Adds f front all k (xs ++ ys) old new
+pub Adds-append : {S H : Type 0} → (f : List ℕ) (front : ℕ) (all : List Plist) (k : ℕ) (old mid new : Plan S H) (xs ys : List Plist) → Adds f front all k xs old mid → Adds f front all (k + length xs) ys mid new → Adds f front all k (xs ++ ys) old new
 Adds-append f front all k old mid new xs ys x y =
     let far : k + length xs + length ys ≡ k + length (xs ++ ys) = rw length-append (omega arith) in
     record {
@@ -38,7 +38,7 @@ Adds-append f front all k old mid new xs ys x y =
       grows = rw found_in-append (Grows-append f front old mid new (found_in all k xs) (found_in all (k + length xs) ys) x.grows y.grows);
     }
 
-pub Walks-append : (f : List ℕ) (front : ℕ) (xs ys : List Plist) (p q r : ℕ → List ℕ) (old mid new : Plan) (ms ns : List ℕ) → ((k : ℕ) → r k ≡ p k ++ q (k + length xs)) → Walks f front xs p old mid ms → Walks f front ys q mid new ns → Walks f front (xs ++ ys) r old new (ms ++ ns)
+pub Walks-append : {S H : Type 0} → (f : List ℕ) (front : ℕ) (xs ys : List Plist) (p q r : ℕ → List ℕ) (old mid new : Plan S H) (ms ns : List ℕ) → ((k : ℕ) → r k ≡ p k ++ q (k + length xs)) → Walks f front xs p old mid ms → Walks f front ys q mid new ns → Walks f front (xs ++ ys) r old new (ms ++ ns)
 Walks-append f front xs ys p q r old mid new ms ns joined x y = record {
   numbered = λ all k stands ready.
       let first = Stands-front xs ys stands in
@@ -51,7 +51,7 @@ Walks-append f front xs ys p q r old mid new ms ns joined x y = record {
 }
 
 -- a plan with other references in front
-pub Walks-lift : (f : List ℕ) (front : ℕ) (part : List Plist) (places : ℕ → List ℕ) (old mid new : Plan) (ns : List ℕ) → Walks f 0 part places old mid ns → front ≤ length old.references.items → new.scalars ≡ mid.scalars → new.originals ≡ mid.originals → drop front new.references.items ≡ drop front mid.references.items → Walks f front part places old new ns
+pub Walks-lift : {S H : Type 0} → (f : List ℕ) (front : ℕ) (part : List Plist) (places : ℕ → List ℕ) (old mid new : Plan S H) (ns : List ℕ) → Walks f 0 part places old mid ns → front ≤ length old.references.items → new.scalars ≡ mid.scalars → new.originals ≡ mid.originals → drop front new.references.items ≡ drop front mid.references.items → Walks f front part places old new ns
 Walks-lift f front part places old mid new ns x within same_scalars same_originals same_references = record {
   numbered = x.numbered;
   adds = λ all k stands ready.
@@ -67,7 +67,7 @@ Walks-lift f front part places old mid new ns x within same_scalars same_origina
 }
 
 -- a scalar that is known
-pub Walks-known : (f : List ℕ) (r : ScalarRef) (old new : Plan) (n next : ℕ) → (AreNumbered old.scalars → EntersScalar r next old.scalars new.scalars (Some n)) → new.originals ≡ old.originals → new.references ≡ old.references → WalksScalar f 0 (content_of r) old new n
+pub Walks-known : {S H : Type 0} → (f : List ℕ) (r : ScalarRef) (old new : Plan S H) (n next : ℕ) → (AreNumbered old.scalars → EntersScalar r next old.scalars new.scalars (Some n)) → new.originals ≡ old.originals → new.references ≡ old.references → WalksScalar f 0 (content_of r) old new n
 Walks-known f r old new n next entered same_originals same_references = record {
   numbered = λ all k stands ready.
       let held = entered-had r next n old.scalars new.scalars (entered ready.numbered) in
@@ -103,7 +103,7 @@ Walks-known f r old new n next entered same_originals same_references = record {
 }
 
 -- one that is new, which is put last
-pub Walks-new : (f : List ℕ) (r : ScalarRef) (i : ℕ) (old new : Plan) (n : ℕ) → Holds f i (holds_scalar (content_of r)) → (AreNumbered old.scalars → EntersScalar r n old.scalars new.scalars None) → n ≡ length old.originals.items → new.originals.items ≡ old.originals.items ++ (i ∷ []) → new.references ≡ old.references → WalksScalar f 0 (content_of r) old new n
+pub Walks-new : {S H : Type 0} → (f : List ℕ) (r : ScalarRef) (i : ℕ) (old new : Plan S H) (n : ℕ) → Holds f i (holds_scalar (content_of r)) → (AreNumbered old.scalars → EntersScalar r n old.scalars new.scalars None) → n ≡ length old.originals.items → new.originals.items ≡ old.originals.items ++ (i ∷ []) → new.references ≡ old.references → WalksScalar f 0 (content_of r) old new n
 Walks-new f r i old new n holds entered last added same_references =
     let s = content_of r in
     let long : length new.originals.items ≡ suc (length old.originals.items) = ap length added ∙ length-append old.originals.items (i ∷ []) ∙ add-one _ in
@@ -135,12 +135,12 @@ Walks-new f r i old new n holds entered last added same_references =
           };
     }
 
-pub Walks-item : (f : List ℕ) (front : ℕ) (v : Plist) (vs : Items) (old mid new : Plan) (n : ℕ) (ns : List ℕ) → WalksTree f front v old mid n → WalksItems f front vs mid new ns → WalksItems f front (item v vs) old new (n ∷ ns)
+pub Walks-item : {S H : Type 0} → (f : List ℕ) (front : ℕ) (v : Plist) (vs : Items) (old mid new : Plan S H) (n : ℕ) (ns : List ℕ) → WalksTree f front v old mid n → WalksItems f front vs mid new ns → WalksItems f front (item v vs) old new (n ∷ ns)
 Walks-item f front v vs old mid new n ns x y =
     Walks-append f front (preorder v) (preorder_items vs) (λ k. k ∷ []) (λ k. item_places k vs) (λ k. item_places k (item v vs)) old mid new (n ∷ []) ns (λ k. ap (λ m. k ∷ item_places (k + m) vs) (sym (length-preorder v))) x y
 
 -- a walk that begins with nothing finds the objects of the whole tree
-pub Walks-whole : (f : List ℕ) (v : Plist) (empty done : Plan) (n : ℕ) → IsEmptyPlan empty → WalksTree f 0 v empty done n → StandFor f done.originals.items done.references.items (found_in (preorder v) 0 (preorder v))
+pub Walks-whole : {S H : Type 0} → (f : List ℕ) (v : Plist) (empty done : Plan S H) (n : ℕ) → IsEmptyPlan empty → WalksTree f 0 v empty done n → StandFor f done.originals.items done.references.items (found_in (preorder v) 0 (preorder v))
 Walks-whole f v empty done n nothing walks =
     let all = preorder v in
     let start : IsReady all 0 empty = record {

@@ -8,19 +8,19 @@ abbrev pub with_next : ℕ → List ℕ → Option ℕ → List ℕ
 with_next next numbers (Some n) = numbers
 with_next next numbers None = numbers ++ (next ∷ [])
 
-module _ {K : Type 0} where
+module _ {K S H : Type 0} where
   -- no key has a number
-  pub record IsEmptyHashed (known : Hashed K) : Type 0 where
+  pub record IsEmptyHashed (known : Hashed K S H) : Type 0 where
     pub no_keys : known.keys.keys ≡ []
     pub no_numbers : known.numbers.items ≡ []
 
   module _ (eq : K → K → Bool) where
     -- the number at the index of the key, if it has one
-    abbrev pub number_of_key : Hashed K → K → Option ℕ
+    abbrev pub number_of_key : Hashed K S H → K → Option ℕ
     number_of_key known k = slice_get known.numbers.items (insert_index eq known.keys k)
 
     -- the key is in the set, and has the number that it had, or else the next one
-    pub record EntersKey (k : K) (next : ℕ) (old new : Hashed K) (had : Option ℕ) : Type 0 where
+    pub record EntersKey (k : K) (next : ℕ) (old new : Hashed K S H) (had : Option ℕ) : Type 0 where
       pub had_is : had ≡ number_of_key old k
       pub keys_now : new.keys.keys ≡ insert_key eq old.keys.keys k
       pub numbers_now : new.numbers.items ≡ with_next next old.numbers.items had

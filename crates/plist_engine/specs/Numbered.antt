@@ -17,11 +17,11 @@ number_listed (one ∷ others) s =
     if scalar_eq (content_of one.scalar) s then Some one.number else number_listed others s
 
 -- the number at the index of the scalar in the set, if it has one
-abbrev pub number_hashed : Numbered → ScalarRef → Option ℕ
+abbrev pub number_hashed : {S H : Type 0} → Numbered S H → ScalarRef → Option ℕ
 number_hashed known r = number_of_key (on content_of scalar_eq) known.hashed r
 
 -- the number under which a scalar is found, if it is: the one in the list, or else that of the set
-abbrev pub number_held : Numbered → ScalarRef → Option ℕ
+abbrev pub number_held : {S H : Type 0} → Numbered S H → ScalarRef → Option ℕ
 number_held known r = option_or (number_listed known.listed.items (content_of r)) (number_hashed known r)
 
 -- data of so many octets
@@ -36,28 +36,28 @@ abbrev pub IsShort : ScalarRef → Type 0
 IsShort r = is_long (content_of r) ≡ false
 
 -- the list takes one more
-abbrev pub HasRoom : Numbered → Type 0
+abbrev pub HasRoom : {S H : Type 0} → Numbered S H → Type 0
 HasRoom known = length known.listed.items < 8
 
 -- There is a number for each scalar of the set. Long data alone are listed, and none are in the set while the list has room.
-pub record IsNumbered (known : Numbered) : Type 0 where
+pub record IsNumbered {S H : Type 0} (known : Numbered S H) : Type 0 where
   pub counted : length known.hashed.numbers.items ≡ length known.hashed.keys.keys
   pub short_hashed : (r : ScalarRef) → IsShort r → number_listed known.listed.items (content_of r) ≡ None
   pub long_listed : HasRoom known → (r : ScalarRef) → IsLong r → number_hashed known r ≡ None
 
 -- no scalar has a number
-pub record IsNew (known : Numbered) : Type 0 where
+pub record IsNew {S H : Type 0} (known : Numbered S H) : Type 0 where
   pub numbered : IsNumbered known
   pub unknown : (r : ScalarRef) → number_held known r ≡ None
 
 -- the list neither has the scalar nor takes it
-pub record IsUnlisted (known : Numbered) (r : ScalarRef) : Type 0 where
+pub record IsUnlisted {S H : Type 0} (known : Numbered S H) (r : ScalarRef) : Type 0 where
   pub numbered : IsNumbered known
   pub missed : number_listed known.listed.items (content_of r) ≡ None
   pub refused : HasRoom known → IsShort r
 
 -- The scalar is found under the number that it had, and under the next one where it had none. All others are found as before.
-pub record Enters (shown : ScalarRef) (next : ℕ) (old new : Numbered) (had : Option ℕ) : Type 0 where
+pub record Enters {S H : Type 0} (shown : ScalarRef) (next : ℕ) (old new : Numbered S H) (had : Option ℕ) : Type 0 where
   pub numbered : IsNumbered new
   pub had_is : had ≡ number_held old shown
   pub each : (r : ScalarRef) → number_held new r ≡ option_or (number_held old r) (if scalar_eq (content_of shown) (content_of r) then Some next else None)

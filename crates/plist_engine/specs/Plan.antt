@@ -30,19 +30,19 @@ StandFor f (i ∷ originals) refs (h ∷ hs) =
     IsLike f i h × ((behind : List ℕ) × ((refs ≡ references_of h ++ behind) × StandFor f originals behind hs))
 
 -- nothing was found
-pub record IsEmptyPlan (plan : Plan) : Type 0 where
+pub record IsEmptyPlan {S H : Type 0} (plan : Plan S H) : Type 0 where
   pub scalars : AreNew plan.scalars
   pub none : plan.originals.items ≡ []
   pub no_references : plan.references.items ≡ []
 
 -- the places below k are done: each scalar there is known by its number, and so many objects were found
-pub record IsReady (all : List Plist) (k : ℕ) (plan : Plan) : Type 0 where
+pub record IsReady {S H : Type 0} (all : List Plist) (k : ℕ) (plan : Plan S H) : Type 0 where
   pub numbered : AreNumbered plan.scalars
   pub known : (s : ScalarRef) → number_stored plan.scalars s ≡ number_known all k (content_of s)
   pub counted : length plan.originals.items ≡ count_below k (kept_places all)
 
 -- What these objects hold was added. Of the references only those behind the front are looked at.
-pub record Grows (f : List ℕ) (front : ℕ) (old new : Plan) (helds : List Held) : Type 0 where
+pub record Grows {S H : Type 0} (f : List ℕ) (front : ℕ) (old new : Plan S H) (helds : List Held) : Type 0 where
   pub originals : List ℕ
   pub references : List ℕ
   pub originals_added : new.originals.items ≡ old.originals.items ++ originals
@@ -50,29 +50,29 @@ pub record Grows (f : List ℕ) (front : ℕ) (old new : Plan) (helds : List Hel
   pub stand_for : StandFor f originals references helds
 
 -- the list `part`, which stands at the place k, was done
-pub record Adds (f : List ℕ) (front : ℕ) (all : List Plist) (k : ℕ) (part : List Plist) (old new : Plan) : Type 0 where
+pub record Adds {S H : Type 0} (f : List ℕ) (front : ℕ) (all : List Plist) (k : ℕ) (part : List Plist) (old new : Plan S H) : Type 0 where
   pub ready : IsReady all (k + length part) new
   pub grows : Grows f front old new (found_in all k part)
 
 -- The list `part` was done, wherever it stands, and these are the numbers of the places, which are counted from its own.
-pub record Walks (f : List ℕ) (front : ℕ) (part : List Plist) (places : ℕ → List ℕ) (old new : Plan) (numbers : List ℕ) : Type 0 where
+pub record Walks {S H : Type 0} (f : List ℕ) (front : ℕ) (part : List Plist) (places : ℕ → List ℕ) (old new : Plan S H) (numbers : List ℕ) : Type 0 where
   pub numbered : (all : List Plist) (k : ℕ) → Stands all k part → IsReady all k old → numbers ≡ map (number_in all) (places k)
   pub adds : (all : List Plist) (k : ℕ) → Stands all k part → IsReady all k old → Adds f front all k part old new
 
-abbrev pub WalksOne : List ℕ → ℕ → List Plist → Plan → Plan → ℕ → Type 0
+abbrev pub WalksOne : {S H : Type 0} → List ℕ → ℕ → List Plist → Plan S H → Plan S H → ℕ → Type 0
 WalksOne f front part old new number = Walks f front part (λ k. k ∷ []) old new (number ∷ [])
 
-abbrev pub WalksTree : List ℕ → ℕ → Plist → Plan → Plan → ℕ → Type 0
+abbrev pub WalksTree : {S H : Type 0} → List ℕ → ℕ → Plist → Plan S H → Plan S H → ℕ → Type 0
 WalksTree f front v = WalksOne f front (preorder v)
 
-abbrev pub WalksScalar : List ℕ → ℕ → Scalar → Plan → Plan → ℕ → Type 0
+abbrev pub WalksScalar : {S H : Type 0} → List ℕ → ℕ → Scalar → Plan S H → Plan S H → ℕ → Type 0
 WalksScalar f front s = WalksOne f front (scalar s ∷ [])
 
-abbrev pub WalksItems : List ℕ → ℕ → Items → Plan → Plan → List ℕ → Type 0
+abbrev pub WalksItems : {S H : Type 0} → List ℕ → ℕ → Items → Plan S H → Plan S H → List ℕ → Type 0
 WalksItems f front vs = Walks f front (preorder_items vs) (λ k. item_places k vs)
 
 -- One more object, of the number, and its references. What they become comes later.
-pub record Begins (i : ℕ) (refs : List ℕ) (old new : Plan) (number : ℕ) : Type 0 where
+pub record Begins {S H : Type 0} (i : ℕ) (refs : List ℕ) (old new : Plan S H) (number : ℕ) : Type 0 where
   pub number_is : number ≡ length old.originals.items
   pub scalars_kept : new.scalars ≡ old.scalars
   pub original_added : new.originals.items ≡ old.originals.items ++ (i ∷ [])
@@ -80,7 +80,7 @@ pub record Begins (i : ℕ) (refs : List ℕ) (old new : Plan) (number : ℕ) : 
   pub references_added : new.references.items ≡ old.references.items ++ refs
 
 -- the object holds a scalar that has the number
-pub record IsRemembered (f : List ℕ) (plan : Plan) (i number : ℕ) : Type 0 where
+pub record IsRemembered {S H : Type 0} (f : List ℕ) (plan : Plan S H) (i number : ℕ) : Type 0 where
   pub shown : ScalarRef
   pub holds : Holds f i (holds_scalar (content_of shown))
   pub held : number_stored plan.scalars shown ≡ Some number
@@ -90,7 +90,7 @@ abbrev pub no_number : ℕ
 no_number = 2 ^ 32 - 1
 
 -- what the memo has of an object
-abbrev pub remembered : Plan → ℕ → ℕ
+abbrev pub remembered : {S H : Type 0} → Plan S H → ℕ → ℕ
 remembered plan i = slice_index_or plan.memo.items i no_number
 
 -- the number of the object may be this one now, and all others are as before
@@ -99,24 +99,24 @@ KeepsNumber i number old new =
     (j : ℕ) → (slice_index_or new j no_number ≡ slice_index_or old j no_number) ⊎ ((j ≡ i) × (slice_index_or new j no_number ≡ number))
 
 -- each number of the memo is that of the scalar that the object holds
-pub record RemembersNumbers (f : List ℕ) (plan : Plan) : Type 0 where
+pub record RemembersNumbers {S H : Type 0} (f : List ℕ) (plan : Plan S H) : Type 0 where
   pub numbered : AreNumbered plan.scalars
   pub each : (i : ℕ) → (remembered plan i ≡ no_number → ⊥) → IsRemembered f plan i (remembered plan i)
 
 -- The scalar has the number now, and each that had one has it still.
-pub record KeepsScalar (shown : ScalarRef) (old new : Plan) (number : ℕ) : Type 0 where
+pub record KeepsScalar {S H : Type 0} (shown : ScalarRef) (old new : Plan S H) (number : ℕ) : Type 0 where
   pub memo_kept : new.memo ≡ old.memo
   pub numbered : AreNumbered old.scalars → AreNumbered new.scalars
   pub found : AreNumbered old.scalars → number_stored new.scalars shown ≡ Some number
   pub still : AreNumbered old.scalars → (s : ScalarRef) (n : ℕ) → number_stored old.scalars s ≡ Some n → number_stored new.scalars s ≡ Some n
 
 -- A scalar was numbered that an object of a file holds.
-pub record NumbersScalar (i : ℕ) (s : Scalar) (old new : Plan) (number : ℕ) : Type 0 where
+pub record NumbersScalar {S H : Type 0} (i : ℕ) (s : Scalar) (old new : Plan S H) (number : ℕ) : Type 0 where
   pub walks : (f : List ℕ) → Holds f i (holds_scalar s) → WalksScalar f 0 s old new number
   pub references_kept : new.references.items ≡ old.references.items
 
 -- the value that the object spells was walked, and references were only added
-pub record IsWalked (f : List ℕ) (i : ℕ) (old new : Plan) (number : ℕ) : Type 0 where
+pub record IsWalked {S H : Type 0} (f : List ℕ) (i : ℕ) (old new : Plan S H) (number : ℕ) : Type 0 where
   pub value : Plist
   pub valid : IsPlist value
   pub spells : Spells f i value
@@ -125,14 +125,14 @@ pub record IsWalked (f : List ℕ) (i : ℕ) (old new : Plan) (number : ℕ) : T
   pub references_added : new.references.items ≡ old.references.items ++ references
 
 -- the items that the objects spell were walked, in turn, and these are their numbers
-pub record ItemsWalked (f : List ℕ) (front : ℕ) (refs : List ℕ) (old new : Plan) (numbers : List ℕ) : Type 0 where
+pub record ItemsWalked {S H : Type 0} (f : List ℕ) (front : ℕ) (refs : List ℕ) (old new : Plan S H) (numbers : List ℕ) : Type 0 where
   pub items : Items
   pub valid : AreItems items
   pub spell : SpellItems f refs items
   pub walks : WalksItems f front items old new numbers
 
 -- The objects from the first place on were walked: they gave way to their numbers, and references were added behind.
-pub record AreWalked (f : List ℕ) (first : ℕ) (old new : Plan) : Type 0 where
+pub record AreWalked {S H : Type 0} (f : List ℕ) (first : ℕ) (old new : Plan S H) : Type 0 where
   pub numbers : List ℕ
   pub behind : List ℕ
   pub walked : ItemsWalked f (length old.references.items) (drop first old.references.items) old new numbers

@@ -4,25 +4,25 @@ ghost use Rattle.plist_engine.specs.Hashed.{EntersKey, IsEmptyHashed};
 
 use indexmap::IndexSet;
 use std::alloc::{AllocError, Global};
-use std::hash::Hash;
+use std::hash::{BuildHasher, Hash};
 
 // A set of so many keys is given the room that it is likely to need. One of fewer grows by itself.
 const MANY: usize = 4_096;
 
 /// Keys that have numbers: these stand in a list, each at the index of its key.
 #[derive(Drop)]
-pub(crate) struct Hashed<K: Eq + Hash> {
-    pub(crate) keys: IndexSet<K>,
+pub(crate) struct Hashed<K: Eq + Hash, S: BuildHasher> {
+    pub(crate) keys: IndexSet<K, S>,
     pub(crate) numbers: Vec<u32>,
 }
 
-impl<K: Eq + Hash + Drop> Hashed<K> {
-    /// No key has a number.
-    pub(crate) fn new(alloc: Global) -> Hashed<K>
+impl<K: Eq + Hash + Drop, S: BuildHasher> Hashed<K, S> {
+    /// No key has a number. Keys will be hashed by what the builder makes.
+    pub(crate) fn new(alloc: Global, hasher: S) -> Hashed<K, S>
         ensures { IsEmptyHashed result }
     {
         Hashed {
-            keys: IndexSet::new(alloc),
+            keys: IndexSet::with_hasher(alloc, hasher),
             numbers: Vec::new(alloc),
         }
     }

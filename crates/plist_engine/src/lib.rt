@@ -5,13 +5,13 @@ mod ahead;
 mod hashed;
 mod making;
 mod numbered;
-mod objects;
-mod order;
+pub mod objects;
+pub mod order;
 mod parts;
 mod plan;
 mod scalars;
 pub mod sending;
 mod walk;
 
-pub use making::{canonical_of, canonical_of_sorted};
-pub use sending::{write_canonical_of, write_canonical_of_sorted};
+pub use making::{canonical_of, canonical_of_sorted, canonical_of_with_hasher};
+pub use sending::{write_canonical_of, write_canonical_of_sorted, write_canonical_of_with_hasher};

@@ -6,11 +6,13 @@ ghost use Rattle.plist_object.specs.Views.{octets_of};
 ghost use Rattle.plist_ranks.specs.Order.{AreSortedIfAny};
 ghost use Rattle.plist_write.specs.Canonical.{canon};
 
-use crate::sending::write_canonical_of_sorted;
+use crate::sending::write_canonical_of_with_hasher;
 use plist_object::BinFile;
 use plist_ranks::SortedKeys;
+use plist_value::FixedHasher;
 use plist_write::GrowingSink;
 use std::alloc::{AllocError, Global};
+use std::hash::BuildHasher;
 
 /// The canonical file of the value that the file spells, as one list. It goes over the objects that the value
 /// names, makes no value, and goes over the objects of the canonical file once more.
@@ -42,11 +44,31 @@ pub fn canonical_of_sorted<'a>(
     ensures { IfOk result (λ octets. (v : Plist) → IsBinary (octets_of file.now) v
         → octets.items ≡ canon v) }
 {
+    canonical_of_with_hasher(alloc, FixedHasher::new(), file, sorted)
+}
+
+/// The same as [`canonical_of_sorted`], whose scalars are hashed by what the builder makes, as
+/// [`write_canonical_of_with_hasher`] says.
+///
+/// # Errors
+///
+/// Those of [`canonical_of`].
+pub fn canonical_of_with_hasher<'a, S: BuildHasher + Copy>(
+    alloc: Global,
+    hasher: S,
+    file: &BinFile<'a>,
+    sorted: Option<SortedKeys<'a>>,
+) -> Result<Vec<u8>, AllocError>
+    requires binary { (v : Plist) × IsBinary (octets_of file.now) v }
+    requires sorted { AreSortedIfAny (octets_of file.now) sorted }
+    ensures { IfOk result (λ octets. (v : Plist) → IsBinary (octets_of file.now) v
+        → octets.items ≡ canon v) }
+{
     let mut sink = GrowingSink {
         octets: Vec::new(alloc),
         failures: 0,
     };
-    match write_canonical_of_sorted(alloc, file, sorted, &mut sink) {
+    match write_canonical_of_with_hasher(alloc, hasher, file, sorted, &mut sink) {
         Ok(_) => Ok(sink.octets),
         Err(_) => Err(AllocError),
     }

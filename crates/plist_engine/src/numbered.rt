@@ -7,6 +7,7 @@ ghost use Rattle.plist_engine.specs.Numbered.{is_long, number_listed};
 use crate::hashed::Hashed;
 use plist_value::ScalarRef;
 use std::alloc::{AllocError, Global};
+use std::hash::BuildHasher;
 
 // Data of so many octets are long.
 const LONG: usize = 65_536;
@@ -24,19 +25,19 @@ struct Listed<'a> {
 /// The scalars that have numbers, and these. The first long data are listed, and are told by comparison, which
 /// ends at the first difference: a hash would read each of them whole. All others stand in a set.
 #[derive(Drop)]
-pub(crate) struct Numbered<'a> {
+pub(crate) struct Numbered<'a, S: BuildHasher> {
     listed: Vec<Listed<'a>>,
-    hashed: Hashed<ScalarRef<'a>>,
+    hashed: Hashed<ScalarRef<'a>, S>,
 }
 
-impl<'a> Numbered<'a> {
+impl<'a, S: BuildHasher> Numbered<'a, S> {
     /// No scalar has a number.
-    pub(crate) fn new(alloc: Global) -> Numbered<'a>
+    pub(crate) fn new(alloc: Global, hasher: S) -> Numbered<'a, S>
         ensures { IsNew result }
     {
         Numbered {
             listed: Vec::new(alloc),
-            hashed: Hashed::new(alloc),
+            hashed: Hashed::new(alloc, hasher),
         }
     }
 

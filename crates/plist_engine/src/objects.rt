@@ -10,7 +10,7 @@ use plist_object::{BinFile, Object};
 use plist_value::{ScalarRef, TextRef};
 
 /// What an object that reads holds.
-pub(crate) fn object_of<'a>(file: &BinFile<'a>, n: u64) -> Object<'a>
+pub fn object_of<'a>(file: &BinFile<'a>, n: u64) -> Object<'a>
     requires { IsRead (octets_of file.now) n }
     ensures holds { Holds (octets_of file.now) n (held_of result) }
     ensures valid { IsHeld (held_of result) }
@@ -19,7 +19,7 @@ pub(crate) fn object_of<'a>(file: &BinFile<'a>, n: u64) -> Object<'a>
 }
 
 /// The text that an object holds.
-pub(crate) fn text_of<'a>(file: &BinFile<'a>, n: u64) -> TextRef<'a>
+pub fn text_of<'a>(file: &BinFile<'a>, n: u64) -> TextRef<'a>
     requires { HoldsText (octets_of file.now) n }
     ensures { Holds (octets_of file.now) n (holds_scalar (text (units_of result))) }
 {

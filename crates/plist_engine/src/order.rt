@@ -27,7 +27,7 @@ struct Row<'a> {
 /// The references to the keys of the table that came last, and their places in the order of their texts. The
 /// next table often has the same keys. Beside them stand the keys that were sorted before, if any were.
 #[derive(Drop)]
-pub(crate) struct KeyOrder<'a> {
+pub struct KeyOrder<'a> {
     last: Option<Refs<'a>>,
     places: Vec<u64>,
     sorted: Option<SortedKeys<'a>>,
@@ -38,7 +38,7 @@ const MOST_KEPT: usize = 4096;
 
 impl<'a> KeyOrder<'a> {
     /// No table came yet, and these keys were sorted.
-    pub(crate) fn new(alloc: Global, sorted: Option<SortedKeys<'a>>) -> KeyOrder<'a>
+    pub fn new(alloc: Global, sorted: Option<SortedKeys<'a>>) -> KeyOrder<'a>
         ensures { (f : List ℕ) → AreSortedIfAny f sorted.entry → IsOrdered f result }
     {
         KeyOrder {
@@ -50,7 +50,11 @@ impl<'a> KeyOrder<'a> {
 
     /// Puts the references to the keys in the order of their texts, and then those to their values in the same
     /// order, behind the references.
-    pub(crate) fn push_sorted(
+    ///
+    /// # Errors
+    ///
+    /// [`AllocError`] where there is no memory for the order or for the references.
+    pub fn push_sorted(
         &mut self,
         alloc: Global,
         file: &BinFile<'a>,

@@ -16,6 +16,7 @@ use plist_object::{BinFile, Refs};
 use plist_value::{MAX_NODES, ScalarRef};
 use plist_write::short;
 use std::alloc::{AllocError, Global};
+use std::hash::BuildHasher;
 
 /// The objects of a canonical file: for each number the object of the file that holds what stands there, and
 /// the references of all containers, container after container.
@@ -32,25 +33,25 @@ const NO_NUMBER: u32 = u32::MAX;
 /// object of the file that was met as a scalar which had one. It is made when there is the first: most scalars are
 /// met once.
 #[derive(Drop)]
-pub(crate) struct Plan<'a> {
-    scalars: Scalars<'a>,
+pub(crate) struct Plan<'a, S: BuildHasher> {
+    scalars: Scalars<'a, S>,
     count: u64,
     memo: Vec<u32>,
     originals: Vec<u32>,
     pub(crate) references: Vec<u32>,
 }
 
-impl<'a> Plan<'a> {
+impl<'a, S: BuildHasher + Copy> Plan<'a, S> {
     /// Nothing was found of a file of so many objects. There is room for what most files take, and for no more
     /// than a value within the limits has; where it is not used it costs nothing.
-    pub(crate) fn new(alloc: Global, count: u64) -> Result<Plan<'a>, AllocError>
+    pub(crate) fn new(alloc: Global, hasher: S, count: u64) -> Result<Plan<'a, S>, AllocError>
         ensures empty { IfOk result IsEmptyPlan }
         ensures memo { IfOk result (λ plan. (i : ℕ) → remembered plan i ≡ NO_NUMBER) }
     {
         let objects = count.min(MAX_NODES);
         let references = objects.saturating_mul(4).min(MAX_NODES);
         Ok(Plan {
-            scalars: Scalars::new(alloc, objects as usize),
+            scalars: Scalars::new(alloc, hasher, objects as usize),
             count,
             memo: Vec::new(alloc),
             originals: Vec::with_capacity(alloc, objects as usize)?,

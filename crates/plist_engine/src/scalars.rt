@@ -7,24 +7,25 @@ use crate::hashed::Hashed;
 use crate::numbered::Numbered;
 use plist_value::ScalarRef;
 use std::alloc::{AllocError, Global};
+use std::hash::BuildHasher;
 
 /// The scalars that have numbers, and these. Whole numbers that are not below 0 have a set of their own, where
 /// they take a quarter of the room.
 #[derive(Drop)]
-pub(crate) struct Scalars<'a> {
-    naturals: Hashed<u64>,
-    others: Numbered<'a>,
+pub(crate) struct Scalars<'a, S: BuildHasher> {
+    naturals: Hashed<u64, S>,
+    others: Numbered<'a, S>,
     most: usize,
 }
 
-impl<'a> Scalars<'a> {
+impl<'a, S: BuildHasher + Copy> Scalars<'a, S> {
     /// No scalar has a number. There will be at most so many.
-    pub(crate) fn new(alloc: Global, most: usize) -> Scalars<'a>
+    pub(crate) fn new(alloc: Global, hasher: S, most: usize) -> Scalars<'a, S>
         ensures { AreNew result }
     {
         Scalars {
-            naturals: Hashed::new(alloc),
-            others: Numbered::new(alloc),
+            naturals: Hashed::new(alloc, hasher),
+            others: Numbered::new(alloc, hasher),
             most,
         }
     }

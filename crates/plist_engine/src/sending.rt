@@ -7,11 +7,12 @@ ghost use Rattle.plist_object.specs.Spelled.{IsBinary};
 ghost use Rattle.plist_object.specs.Spelling.{least_width};
 ghost use Rattle.plist_object.specs.Views.{octets_of};
 ghost use Rattle.plist_ranks.specs.Order.{AreSortedIfAny};
-ghost use Rattle.plist_write.specs.Canonical.{canon, file_of, starts};
+ghost use Rattle.plist_write.specs.Canonical.{canon, file_of, objects_of, starts};
 ghost use Rattle.plist_write.specs.Pieces.{CanSpellAll};
-ghost use Rattle.plist_write.specs.Sending.{IsWritten, Sends};
+ghost use Rattle.plist_write.specs.Sending.{ArePieces, IsWritten, Sends};
+ghost use Rattle.plist_write.specs.Tree.{preorder};
 ghost use Rattle.plist_engine.specs.Parts.{AreSound, helds_of, octets_planned};
-ghost use Rattle.plist_write.specs.Pending.{Goes};
+ghost use Rattle.plist_write.specs.Pending.{Goes, KeepsShort};
 
 use crate::ahead::Ahead;
 use crate::parts::part_of;
@@ -19,8 +20,10 @@ use crate::plan::Objects;
 use crate::walk::objects_of;
 use plist_object::{BinFile, HEADER, width_of};
 use plist_ranks::SortedKeys;
+use plist_value::FixedHasher;
 use plist_write::{Pending, Sink, WriteFault, part_length, send_end, send_part};
 use std::alloc::Global;
+use std::hash::BuildHasher;
 
 /// Sends the canonical file of the value that the file spells, object after object, and answers how many
 /// octets it has. Neither that value nor its canonical file is in memory: no piece is longer than the longest
@@ -41,6 +44,8 @@ pub fn write_canonical_of<W: Sink>(
         → IsWritten (canon v) (W.taken out.old) (W.taken out.new)
         (W.failures out.old) (W.failures out.new) result }
     ensures same { W.device out.new ≡ W.device out.old }
+    ensures pieces { (v : Plist) → IsBinary (octets_of file.now) v
+        → ArePieces (objects_of (preorder v)) (W.longest out.old) (W.longest out.new) }
 {
     write_canonical_of_sorted(alloc, file, None, out)
 }
@@ -63,8 +68,36 @@ pub fn write_canonical_of_sorted<'a, W: Sink>(
         → IsWritten (canon v) (W.taken out.old) (W.taken out.new)
         (W.failures out.old) (W.failures out.new) result }
     ensures same { W.device out.new ≡ W.device out.old }
+    ensures pieces { (v : Plist) → IsBinary (octets_of file.now) v
+        → ArePieces (objects_of (preorder v)) (W.longest out.old) (W.longest out.new) }
 {
-    let Ok(objects) = objects_of(alloc, file, sorted) else {
+    write_canonical_of_with_hasher(alloc, FixedHasher::new(), file, sorted, out)
+}
+
+/// The same as [`write_canonical_of_sorted`], whose scalars are hashed by what the builder makes. Where somebody
+/// else picks the files, hand it a [`RandomState`](std::hash::RandomState): scalars that were picked to collide
+/// under [`FixedHasher`] cost no more than others then.
+///
+/// # Errors
+///
+/// Those of [`write_canonical_of`].
+pub fn write_canonical_of_with_hasher<'a, S: BuildHasher + Copy, W: Sink>(
+    alloc: Global,
+    hasher: S,
+    file: &BinFile<'a>,
+    sorted: Option<SortedKeys<'a>>,
+    out: &mut W,
+) -> Result<u64, WriteFault>
+    requires binary { (v : Plist) × IsBinary (octets_of file.now) v }
+    requires sorted { AreSortedIfAny (octets_of file.now) sorted }
+    ensures written { (v : Plist) → IsBinary (octets_of file.now) v
+        → IsWritten (canon v) (W.taken out.old) (W.taken out.new)
+        (W.failures out.old) (W.failures out.new) result }
+    ensures same { W.device out.new ≡ W.device out.old }
+    ensures pieces { (v : Plist) → IsBinary (octets_of file.now) v
+        → ArePieces (objects_of (preorder v)) (W.longest out.old) (W.longest out.new) }
+{
+    let Ok(objects) = objects_of(alloc, hasher, file, sorted) else {
         return Err(WriteFault::OutOfMemory { sent: 0 });
     };
     send_file(alloc, file, objects, out)
@@ -89,6 +122,8 @@ fn send_file<W: Sink>(
         0 (W.taken out.old) (W.taken out.new)
         (W.failures out.old) (W.failures out.new) result }
     ensures same { W.device out.new ≡ W.device out.old }
+    ensures pieces { ArePieces (octets_planned (least_width (length objects.originals.items))
+        (octets_of file.now) objects) (W.longest out.old) (W.longest out.new) }
 {
     let Ok(octets) = Vec::from_slice(alloc, &HEADER) else {
         return Err(WriteFault::OutOfMemory { sent: 0 });
@@ -122,6 +157,8 @@ fn send_objects<W: Sink>(
     ensures places { IfOk result (λ places. places.items
         ≡ starts 8 (octets_planned width (octets_of file.now) objects.now)) }
     ensures same { W.device out.new ≡ W.device out.old }
+    ensures pieces { KeepsShort (octets_planned width (octets_of file.now) objects.now) 0
+        pending.old pending.new (W.longest out.old) (W.longest out.new) result }
 {
     let Ok(mut places) = Vec::with_capacity(alloc, objects.originals.len()) else {
         return Err(WriteFault::OutOfMemory { sent: pending.sent });

@@ -16,10 +16,12 @@ use plist_object::{BinFile, Object};
 use plist_ranks::SortedKeys;
 use plist_value::MAX_DEPTH;
 use std::alloc::{AllocError, Global};
+use std::hash::BuildHasher;
 
 /// The objects of the canonical file of the value that the file spells.
-pub(crate) fn objects_of<'a>(
+pub(crate) fn objects_of<'a, S: BuildHasher + Copy>(
     alloc: Global,
+    hasher: S,
     file: &BinFile<'a>,
     sorted: Option<SortedKeys<'a>>,
 ) -> Result<Objects, AllocError>
@@ -28,7 +30,7 @@ pub(crate) fn objects_of<'a>(
     ensures { IfOk result (λ objects. (v : Plist) → IsBinary (octets_of file.now) v
         → AreObjectsOf (octets_of file.now) v objects) }
 {
-    let mut plan = Plan::new(alloc, file.count())?;
+    let mut plan = Plan::new(alloc, hasher, file.count())?;
     let mut order = KeyOrder::new(alloc, sorted);
     let mut ahead = Ahead::new();
     walk(
@@ -45,10 +47,10 @@ pub(crate) fn objects_of<'a>(
 
 // The number of the value that the object spells, whose objects are added.
 #[cycle(walk)]
-fn walk<'a>(
+fn walk<'a, S: BuildHasher + Copy>(
     alloc: Global,
     file: &BinFile<'a>,
-    plan: &mut Plan<'a>,
+    plan: &mut Plan<'a, S>,
     order: &mut KeyOrder<'a>,
     ahead: &mut Ahead,
     object: u64,
@@ -83,10 +85,10 @@ fn walk<'a>(
 
 // Walks the values of the objects among the references, from the first place on: each gives way to its number.
 #[cycle(walk)]
-fn walk_children<'a>(
+fn walk_children<'a, S: BuildHasher + Copy>(
     alloc: Global,
     file: &BinFile<'a>,
-    plan: &mut Plan<'a>,
+    plan: &mut Plan<'a, S>,
     order: &mut KeyOrder<'a>,
     ahead: &mut Ahead,
     first: usize,

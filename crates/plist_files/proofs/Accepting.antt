@@ -4,7 +4,7 @@ use Rattle.plist_value.specs.Plist.{Plist, IsPlist}
 use Rattle.plist_value.specs.Limits.{Fits}
 use Rattle.plist_object.specs.Laws.{OneValueAtTop}
 use Rattle.plist_write.specs.Canonical.{canon}
-use Rattle.ostep_form.specs.Laws as of_text
+use Rattle.ostep_text.specs.Laws as of_text
 use Rattle.plist_files.specs.Accepted.{IsAccepted, begins_as_binary}
 use Rattle.plist_files.specs.Laws.{OneValue}
 

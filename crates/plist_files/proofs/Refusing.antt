@@ -6,10 +6,10 @@ use Rattle.plist_object.specs.Spelled.{IsBinary}
 use Rattle.plist_binary.specs.Faults as of_binary
 use Rattle.plist_binary.specs.declared.fault.BinaryFault.{BinaryFault}
 use Rattle.plist_binary.specs.declared.fault.BinaryFault.TheVariants as binary
-use Rattle.ostep_form.specs.Text.{IsNoText}
-use Rattle.ostep_form.specs.Stands as of_text
-use Rattle.ostep_form.specs.declared.fault.TextFault.{TextFault}
-use Rattle.ostep_form.specs.declared.fault.TextFault.TheVariants as text
+use Rattle.ostep_text.specs.Text.{IsNoText}
+use Rattle.ostep_text.specs.Stands as of_text
+use Rattle.ostep_text.specs.declared.fault.TextFault.{TextFault}
+use Rattle.ostep_text.specs.declared.fault.TextFault.TheVariants as text
 use Rattle.plist_files.specs.Accepted.{IsAccepted, begins_as_binary}
 use Rattle.plist_files.specs.Fault.{code_of, fault_for, text_fault_for}
 use Rattle.plist_files.specs.Refusals.{FaultStands, IsRefused}

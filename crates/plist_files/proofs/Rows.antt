@@ -2,17 +2,15 @@
 use Rattle.std.proofs.Common.{◌≡◌, refl, codes}
 use Rattle.std.specs.Fmt.{digits}
 use Rattle.plist_binary.specs.declared.fault.BinaryFault.TheVariants as binary
-use Rattle.plist_object.specs.declared.layout.LayoutFault.TheVariants.{TooShort}
-use Rattle.plist_object.specs.declared.object.ObjectFault.TheVariants.{NotAscii}
 use Rattle.plist_files.specs.declared.faults.Fault.TheVariants.{Binary, ReadFailed, WriteFailed}
 use Rattle.plist_files.specs.Fault.{code_of, status_for, fault_for}
 use Rattle.plist_files.specs.Line.{line_of}
 
-line-object : line_of (codes "PATH") (Binary (binary.Object 0 NotAscii)) ≡ codes "PATH: refused 11 NotAscii at object 0"
+line-object : line_of (codes "PATH") (Binary (binary.NotAscii 0)) ≡ codes "PATH: refused 11 NotAscii at object 0"
 unfolding digits
 line-object = refl
 
-line-plain : line_of (codes "PATH") (Binary (binary.Layout TooShort)) ≡ codes "PATH: refused 1 TooShort"
+line-plain : line_of (codes "PATH") (Binary binary.TooShort) ≡ codes "PATH: refused 1 TooShort"
 unfolding digits
 line-plain = refl
 
@@ -28,7 +26,7 @@ line-standard = refl
 status-memory : status_for (code_of (fault_for binary.OutOfMemory)) ≡ 5
 status-memory = refl
 
-status-refused : status_for (code_of (fault_for (binary.Layout TooShort))) ≡ 2
+status-refused : status_for (code_of (fault_for binary.TooShort)) ≡ 2
 status-refused = refl
 
 status-written : status_for (code_of (WriteFailed 10)) ≡ 4

@@ -1,8 +1,9 @@
 -- What holds of all accepted octets.
-use Rattle.std.specs.Prelude.{◌≡◌, ◌↔◌, true, List, ℕ}
+use Rattle.std.specs.Prelude.{◌≡◌, ◌↔◌, true, List, Some, ℕ}
 use Rattle.plist_value.specs.Plist.{Plist, IsPlist}
 use Rattle.plist_value.specs.Limits.{Fits}
 use Rattle.plist_write.specs.Canonical.{canon}
+use Rattle.ostep_text.specs.Written.{text_of}
 use Rattle.plist_files.specs.Accepted.{IsAccepted, begins_as_binary}
 
 -- no octets spell two values
@@ -13,6 +14,11 @@ OneValue = (octets : List ℕ) (v w : Plist) → IsAccepted octets v → IsAccep
 abbrev pub CanonicalIsAccepted : Type 0
 CanonicalIsAccepted =
     (v : Plist) → IsPlist v → Fits v → (begins_as_binary (canon v) ≡ true) × IsAccepted (canon v) v
+
+-- where a value within the limits has an OpenStep text, that text is accepted, and spells the value
+abbrev pub WrittenIsAccepted : Type 0
+WrittenIsAccepted =
+    (v : Plist) (octets : List ℕ) → IsPlist v → Fits v → text_of v ≡ Some octets → IsAccepted octets v
 
 -- Two canonical files are equal octet for octet exactly if the two values are; each is accepted, spells the value
 -- that its source spells, and is its own canonical file.

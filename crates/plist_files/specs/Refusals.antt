@@ -3,8 +3,8 @@ use Rattle.std.specs.Prelude.{◌≡◌, ◌≢◌, true, false, ℕ, List}
 use Rattle.plist_value.specs.Plist.{Plist}
 use Rattle.plist_binary.specs.Faults as of_binary
 use Rattle.plist_binary.specs.declared.fault.BinaryFault.TheVariants as binary
-use Rattle.ostep_form.specs.Stands as of_text
-use Rattle.ostep_form.specs.declared.fault.TextFault.TheVariants as text
+use Rattle.ostep_text.specs.Stands as of_text
+use Rattle.ostep_text.specs.declared.fault.TextFault.TheVariants as text
 use Rattle.plist_files.specs.Accepted.{IsAccepted, begins_as_binary}
 use Rattle.plist_files.specs.Fault.{code_of}
 use Rattle.plist_files.specs.declared.faults.Fault.{Fault}

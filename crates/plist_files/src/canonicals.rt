@@ -8,19 +8,21 @@ ghost use Rattle.plist_files.specs.Pair.{IsPair, IsRefusedPair};
 ghost use Rattle.plist_files.specs.Refusals.{IsRefused};
 
 use crate::{Fault, PairFault};
-use ostep_read::read_text;
-use plist_binary::{BinaryFault, judge, judge_keys};
-use plist_engine::canonical_of_sorted;
+use ostep_text::read_text;
+use plist_binary::{judge, judge_keys};
+use plist_engine::canonical_of_with_hasher;
 use plist_object::BinFile;
-use plist_value::Value;
+use plist_value::{FixedHasher, Value};
+use plist_write::canonical_with_hasher;
 use std::alloc::Global;
+use std::hash::BuildHasher;
 
 /// The value that the octets spell: those that begin with `bplist` are read as a binary file, and all others
 /// as a text. It is within the limits.
 ///
 /// # Errors
 ///
-/// Those of [`plist_binary::read`] and of [`ostep_read::read_text`]; their want of memory is
+/// Those of [`plist_binary::read`] and of [`ostep_text::read_text`]; their want of memory is
 /// `OutOfMemory { sent: 0 }`.
 pub fn read_any(alloc: Global, octets: &[u8]) -> Result<Value, Fault>
     ensures read { IfOk result (λ value. IsAccepted octets.now (view value)) }
@@ -68,23 +70,47 @@ pub fn canonicalise(alloc: Global, octets: &[u8]) -> Result<Vec<u8>, Fault>
     ensures canonical { IfOk result (λ file. IsCanonicalOf octets.now file.items) }
     ensures refused { IfErr result (IsRefused octets.now) }
 {
+    canonicalise_with_hasher(alloc, FixedHasher::new(), octets)
+}
+
+/// The same as [`canonicalise`], where scalars are hashed by what the builder makes. Where somebody else picks the
+/// files, hand it a [`RandomState`](std::hash::RandomState): scalars that were picked to collide under
+/// [`FixedHasher`] cost no more than others then.
+///
+/// # Errors
+///
+/// Those of [`canonicalise`].
+pub fn canonicalise_with_hasher<S: BuildHasher + Copy>(
+    alloc: Global,
+    hasher: S,
+    octets: &[u8],
+) -> Result<Vec<u8>, Fault>
+    ensures canonical { IfOk result (λ file. IsCanonicalOf octets.now file.items) }
+    ensures refused { IfErr result (IsRefused octets.now) }
+{
     if begins_as_binary(octets) {
-        canonicalise_binary(alloc, octets)
+        canonicalise_binary(alloc, hasher, octets)
     } else {
         let value = read_text(alloc, octets)?;
-        Ok(plist_write::canonical(alloc, &value)?)
+        Ok(canonical_with_hasher(alloc, hasher, &value)?)
     }
 }
 
 // The canonical file of what a binary file spells.
-fn canonicalise_binary(alloc: Global, octets: &[u8]) -> Result<Vec<u8>, Fault>
+fn canonicalise_binary<S: BuildHasher + Copy>(
+    alloc: Global,
+    hasher: S,
+    octets: &[u8],
+) -> Result<Vec<u8>, Fault>
     requires { begins octets.now ≡ true }
     ensures canonical { IfOk result (λ file. IsCanonicalOf octets.now file.items) }
     ensures refused { IfErr result (IsRefused octets.now) }
 {
-    let file = BinFile::of(octets).map_err(BinaryFault::from)?;
     let sorted = judge_keys(alloc, octets)?;
-    Ok(canonical_of_sorted(alloc, &file, sorted)?)
+    let Ok(file) = BinFile::of(octets) else {
+        unreachable!();
+    };
+    Ok(canonical_of_with_hasher(alloc, hasher, &file, sorted)?)
 }
 
 /// Whether the two octet lists spell equal values, which is whether their canonical files are equal. The
@@ -97,11 +123,29 @@ pub fn same_files(alloc: Global, a: &[u8], b: &[u8]) -> Result<bool, PairFault>
     ensures same { IfOk result (λ equal. IsPair a.now b.now equal) }
     ensures refused { IfErr result (IsRefusedPair a.now b.now) }
 {
-    let first = match canonicalise(alloc, a) {
+    same_files_with_hasher(alloc, FixedHasher::new(), a, b)
+}
+
+/// The same as [`same_files`], where scalars are hashed by what the builder makes, as
+/// [`canonicalise_with_hasher`] says.
+///
+/// # Errors
+///
+/// Those of [`same_files`].
+pub fn same_files_with_hasher<S: BuildHasher + Copy>(
+    alloc: Global,
+    hasher: S,
+    a: &[u8],
+    b: &[u8],
+) -> Result<bool, PairFault>
+    ensures same { IfOk result (λ equal. IsPair a.now b.now equal) }
+    ensures refused { IfErr result (IsRefusedPair a.now b.now) }
+{
+    let first = match canonicalise_with_hasher(alloc, hasher, a) {
         Ok(file) => file,
         Err(fault) => return Err(PairFault::First(fault)),
     };
-    let second = match canonicalise(alloc, b) {
+    let second = match canonicalise_with_hasher(alloc, hasher, b) {
         Ok(file) => file,
         Err(fault) => return Err(PairFault::Second(fault)),
     };

@@ -1,22 +1,24 @@
 //! Every refusal of this crate, with its number, its printed form, and the program's status for it.
 ghost use Rattle.std.specs.Prelude.{◌≡◌};
 ghost use Rattle.plist_files.specs.Fault.{check_fault_for, code_of, fault_for};
-ghost use Rattle.plist_files.specs.Fault.{fault_text, status_for, text_fault_for, write_fault_for};
+ghost use Rattle.plist_files.specs.Fault.{fault_text, report_of, status_for};
+ghost use Rattle.plist_files.specs.Fault.{text_fault_for, write_fault_for};
 ghost use Rattle.plist_files.specs.Status.{status_code};
 ghost use Rattle.plist_files.specs.declared.faults.Fault.TheVariants.{OutOfMemory, ReadFailed};
 
 use crate::Status;
-use ostep_form::TextFault;
+use ostep_text::TextFault;
 use plist_binary::BinaryFault;
 use plist_canon::CheckFault;
 use plist_devices::DeviceFault;
+use plist_value::{Place, Refusal, Report};
 use plist_write::WriteFault;
 use std::alloc::AllocError;
-use std::error::Error;
 use std::fmt;
+use thiserror::Error;
 
 /// Why a call was refused.
-#[derive(Clone, Copy, Debug, PartialEq, Eq)]
+#[derive(Clone, Copy, Debug, PartialEq, Eq, Error)]
 pub enum Fault {
     /// 1 to 18: the octets are no binary file of a value.
     Binary(BinaryFault),
@@ -39,14 +41,21 @@ impl Fault {
     pub fn code(&self) -> u8
         ensures { result ≡ code_of self.now }
     {
+        self.report().0.number()
+    }
+
+    /// Which refusal it is, and what it names.
+    pub fn report(&self) -> Report
+        ensures { result ≡ report_of self.now }
+    {
         match self {
-            Fault::Binary(fault) => fault.code(),
-            Fault::Text(fault) => fault.code(),
-            Fault::NotInOpenStep => 40,
-            Fault::ReadFailed => 50,
-            Fault::WriteFailed { .. } => 51,
-            Fault::InputTooLarge => 52,
-            Fault::OutOfMemory { .. } => 60,
+            Fault::Binary(fault) => fault.report(),
+            Fault::Text(fault) => fault.report(),
+            Fault::NotInOpenStep => Report(Refusal::NotInOpenStep, Place::Nowhere),
+            Fault::ReadFailed => Report(Refusal::ReadFailed, Place::Nowhere),
+            Fault::WriteFailed { sent } => Report(Refusal::WriteFailed, Place::After(*sent)),
+            Fault::InputTooLarge => Report(Refusal::InputTooLarge, Place::Nowhere),
+            Fault::OutOfMemory { sent } => Report(Refusal::OutOfMemory, Place::After(*sent)),
         }
     }
 
@@ -70,8 +79,6 @@ impl Fault {
     }
 }
 
-impl Error for Fault {}
-
 /// The number, the name and the place of the refusal: `14 DuplicateKey at object 0`.
 impl fmt::Display for Fault {
     ghost use Rattle.std.specs.Prelude.{Some};
@@ -79,15 +86,8 @@ impl fmt::Display for Fault {
     ghost output = { λ fault. Some (fault_text fault) };
 
     fn fmt<W: fmt::Write>(&self, f: &mut fmt::Formatter<W>) -> fmt::Result {
-        match self {
-            Fault::Binary(fault) => write!(f, "{fault}"),
-            Fault::Text(fault) => write!(f, "{fault}"),
-            Fault::NotInOpenStep => write!(f, "40 NotInOpenStep"),
-            Fault::ReadFailed => write!(f, "50 ReadFailed"),
-            Fault::WriteFailed { sent } => write!(f, "51 WriteFailed after {sent} octets"),
-            Fault::InputTooLarge => write!(f, "52 InputTooLarge"),
-            Fault::OutOfMemory { sent } => write!(f, "60 OutOfMemory after {sent} octets"),
-        }
+        let report = self.report();
+        write!(f, "{report}")
     }
 }
 
@@ -118,7 +118,9 @@ impl From<CheckFault> for Fault {
 
     fn from(fault: CheckFault) -> Fault {
         match fault {
-            CheckFault::Layout(fault) => Fault::Binary(BinaryFault::Layout(fault)),
+            CheckFault::TooShort => Fault::Binary(BinaryFault::TooShort),
+            CheckFault::BadHeader => Fault::Binary(BinaryFault::BadHeader),
+            CheckFault::BadTrailer => Fault::Binary(BinaryFault::BadTrailer),
             CheckFault::OutOfMemory => Fault::OutOfMemory { sent: 0 },
         }
     }

@@ -11,7 +11,10 @@ pub mod loading;
 pub mod pairs;
 pub mod statuses;
 
-pub use canonicals::{begins_as_binary, canonicalise, judge_any, read_any, same_files};
+pub use canonicals::{
+    begins_as_binary, canonicalise, canonicalise_with_hasher, judge_any, read_any, same_files,
+    same_files_with_hasher,
+};
 pub use faults::Fault;
 pub use forms::Form;
 pub use lines::line;

@@ -5,9 +5,9 @@ ghost use Rattle.plist_files.specs.Status.{status_code};
 /// How the program ends.
 #[derive(Clone, Copy, Debug, PartialEq, Eq)]
 pub enum Status {
-    /// 0: it is done, or a file that was checked is canonical.
+    /// 0: it is done; two files say the same; a file that was checked is canonical.
     Done,
-    /// 1: a file that was checked is not canonical.
+    /// 1: two files differ; a file that was checked is not canonical.
     Differs,
     /// 2: the input is refused.
     Refused,

@@ -1,5 +1,5 @@
 -- How many octets spelled numbers have.
-use Rattle.std.proofs.Common.{◌≡◌, ℕ, ◌+◌, ◌*◌, ◌<◌, ◌≤◌, true, false, cond, ltb, List, [], ◌∷◌, length, drop, get_or, refl, arith, length-append}
+use Rattle.std.proofs.Common.{◌≡◌, ℕ, ◌+◌, ◌*◌, ◌<◌, ◌≤◌, true, false, cond, ltb, List, [], ◌∷◌, length, drop, get_or, refl, ap, ◌∙◌, arith, length-append}
 use Rattle.std.proofs.lemmas.List.{drop_more}
 use Rattle.std.specs.List.{list_all}
 use Rattle.byteorder.specs.Numbers.{length-bytes_high_first}
@@ -36,6 +36,15 @@ length-table width keys values =
 -- the octets of a table are those of its parts
 pub length-table_parts : (width : ℕ) (keys values : List ℕ) → length (table_spelling width keys values) ≡ length (head 13 (length keys)) + (length (references width keys) + length (references width values))
 length-table_parts width keys values = rw (length-append, length-append) refl
+
+-- the octets of a list are those of its parts
+pub length-list_parts : (width count : ℕ) (refs : List ℕ) → length refs ≡ count → length (list_spelling width refs) ≡ length (head 10 count) + length (references width refs)
+length-list_parts width count refs e =
+    length-append (head 10 (length refs)) (references width refs) ∙ ap (λ n. length (head 10 n) + length (references width refs)) e
+
+pub length-table_counted : (width count : ℕ) (keys values : List ℕ) → length keys ≡ count → length (table_spelling width keys values) ≡ length (head 13 count) + (length (references width keys) + length (references width values))
+length-table_counted width count keys values e =
+    length-table_parts width keys values ∙ ap (λ n. length (head 13 n) + (length (references width keys) + length (references width values))) e
 
 -- there are the octets of one reference, where one is left
 pub references-first : (width : ℕ) (refs : List ℕ) (i : ℕ) → i < length refs → width ≤ length (references width (drop i refs))

@@ -10,12 +10,13 @@ use crate::reading;
 use crate::refs::number_at;
 use crate::shortest::begins_canonically;
 use byteorder::{BigEndian, ByteOrder};
-use std::error::Error;
+use plist_value::{Place, Refusal, Report};
 use std::fmt;
+use thiserror::Error;
 
 /// Why octets do not have the layout of a binary property list (CFBinaryPList.c; the bounds and the order
 /// of the tests are our profile).
-#[derive(Clone, Copy, Debug, PartialEq, Eq)]
+#[derive(Clone, Copy, Debug, PartialEq, Eq, Error)]
 pub enum LayoutFault {
     /// 1: there are fewer than 42 octets.
     TooShort,
@@ -27,33 +28,28 @@ pub enum LayoutFault {
 }
 
 impl LayoutFault {
-    ghost use Rattle.plist_object.specs.Codes.{layout_code, layout_name};
+    ghost use Rattle.plist_object.specs.Codes.{layout_code, layout_report};
 
-    /// The number of the refusal.
+    /// The number of the refusal: 1, 2 or 3.
     pub fn code(&self) -> u8
         ensures { result ≡ layout_code self.now }
     {
-        match self {
-            LayoutFault::TooShort => 1,
-            LayoutFault::BadHeader => 2,
-            LayoutFault::BadTrailer => 3,
-        }
+        self.report().0.number()
     }
 
-    // The name of the refusal.
-    fn name(&self) -> &'static str
-        ensures { result.now ≡ layout_name self.now }
+    // What is printed of it.
+    fn report(&self) -> Report
+        ensures { result ≡ layout_report self.now }
     {
         match self {
-            LayoutFault::TooShort => "TooShort",
-            LayoutFault::BadHeader => "BadHeader",
-            LayoutFault::BadTrailer => "BadTrailer",
+            LayoutFault::TooShort => Report(Refusal::TooShort, Place::Nowhere),
+            LayoutFault::BadHeader => Report(Refusal::BadHeader, Place::Nowhere),
+            LayoutFault::BadTrailer => Report(Refusal::BadTrailer, Place::Nowhere),
         }
     }
 }
 
-impl Error for LayoutFault {}
-
+/// The number and the name of the refusal, as `1 TooShort`.
 impl fmt::Display for LayoutFault {
     ghost use Rattle.std.specs.Prelude.{Some};
     ghost use Rattle.plist_object.specs.Codes.{layout_text};
@@ -61,9 +57,8 @@ impl fmt::Display for LayoutFault {
     ghost output = { λ fault. Some (layout_text fault) };
 
     fn fmt<W: fmt::Write>(&self, f: &mut fmt::Formatter<W>) -> fmt::Result {
-        let code = self.code();
-        let name = self.name();
-        write!(f, "{code} {name}")
+        let report = self.report();
+        write!(f, "{report}")
     }
 }
 

@@ -16,5 +16,7 @@ pub use layout::{BinFile, LayoutFault};
 pub use lengths::{list_length, scalar_length, table_length, width_of};
 pub use markers::HEADER;
 pub use object::{Object, ObjectFault};
-pub use puts::{put_list, put_scalar, put_table};
+pub use puts::{
+    put_data_head, put_list, put_number, put_scalar, put_short_list, put_short_table, put_table,
+};
 pub use refs::Refs;

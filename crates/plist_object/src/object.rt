@@ -2,9 +2,9 @@
 ghost use Rattle.std.specs.Prelude.{◌≡◌};
 
 use crate::Refs;
-use plist_value::ScalarRef;
-use std::error::Error;
+use plist_value::{Place, Refusal, Report, ScalarRef};
 use std::fmt;
+use thiserror::Error;
 
 /// What an object holds.
 #[derive(Clone, Copy, Debug)]
@@ -19,7 +19,7 @@ pub enum Object<'a> {
 
 /// Why an object does not read (CFBinaryPList.c). Of several faults the first is given in this order: the
 /// place, the marker, a count behind it, that it is cut, its content (our profile).
-#[derive(Clone, Copy, Debug, PartialEq, Eq)]
+#[derive(Clone, Copy, Debug, PartialEq, Eq, Error)]
 pub enum ObjectFault {
     /// 4: its place is in the header, or not before the offset table.
     BadOffset,
@@ -40,43 +40,33 @@ pub enum ObjectFault {
 }
 
 impl ObjectFault {
-    ghost use Rattle.plist_object.specs.Codes.{object_code, object_name};
+    ghost use Rattle.plist_object.specs.Codes.{object_code, object_report};
 
-    /// The number of the refusal.
+    /// The number of the refusal: 4 or 6 to 12.
     pub fn code(&self) -> u8
         ensures { result ≡ object_code self.now }
     {
-        match self {
-            ObjectFault::BadOffset => 4,
-            ObjectFault::CutObject => 6,
-            ObjectFault::BadMarker => 7,
-            ObjectFault::NullObject => 8,
-            ObjectFault::UidObject => 9,
-            ObjectFault::SetObject => 10,
-            ObjectFault::NotAscii => 11,
-            ObjectFault::WideInteger => 12,
-        }
+        self.report().0.number()
     }
 
-    // The name of the refusal.
-    fn name(&self) -> &'static str
-        ensures { result.now ≡ object_name self.now }
+    // What is printed of it; the object is not known here.
+    fn report(&self) -> Report
+        ensures { result ≡ object_report self.now }
     {
         match self {
-            ObjectFault::BadOffset => "BadOffset",
-            ObjectFault::CutObject => "CutObject",
-            ObjectFault::BadMarker => "BadMarker",
-            ObjectFault::NullObject => "NullObject",
-            ObjectFault::UidObject => "UidObject",
-            ObjectFault::SetObject => "SetObject",
-            ObjectFault::NotAscii => "NotAscii",
-            ObjectFault::WideInteger => "WideInteger",
+            ObjectFault::BadOffset => Report(Refusal::BadOffset, Place::Nowhere),
+            ObjectFault::CutObject => Report(Refusal::CutObject, Place::Nowhere),
+            ObjectFault::BadMarker => Report(Refusal::BadMarker, Place::Nowhere),
+            ObjectFault::NullObject => Report(Refusal::NullObject, Place::Nowhere),
+            ObjectFault::UidObject => Report(Refusal::UidObject, Place::Nowhere),
+            ObjectFault::SetObject => Report(Refusal::SetObject, Place::Nowhere),
+            ObjectFault::NotAscii => Report(Refusal::NotAscii, Place::Nowhere),
+            ObjectFault::WideInteger => Report(Refusal::WideInteger, Place::Nowhere),
         }
     }
 }
 
-impl Error for ObjectFault {}
-
+/// The number and the name of the refusal, as `11 NotAscii`.
 impl fmt::Display for ObjectFault {
     ghost use Rattle.std.specs.Prelude.{Some};
     ghost use Rattle.plist_object.specs.Codes.{object_text};
@@ -84,8 +74,7 @@ impl fmt::Display for ObjectFault {
     ghost output = { λ fault. Some (object_text fault) };
 
     fn fmt<W: fmt::Write>(&self, f: &mut fmt::Formatter<W>) -> fmt::Result {
-        let code = self.code();
-        let name = self.name();
-        write!(f, "{code} {name}")
+        let report = self.report();
+        write!(f, "{report}")
     }
 }

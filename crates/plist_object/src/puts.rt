@@ -1,6 +1,6 @@
 //! Objects in their canonical spelling.
 ghost use Rattle.std.specs.Prelude.{◌≡◌, ◌+◌, ◌*◌, ◌<◌, ◌≤◌, ◌^◌, [], ◌∷◌, ◌++◌};
-ghost use Rattle.std.specs.Prelude.{length, All, OnOk, OnErr, nat_lt, replicate, true};
+ghost use Rattle.std.specs.Prelude.{ℕ, List, length, All, OnOk, OnErr, nat_lt, replicate, true};
 ghost use Rattle.std.specs.List.{list_all};
 ghost use Rattle.byteorder.specs.Endian.{big_bytes};
 ghost use Rattle.plist_value.specs.Plist.{IsWhole};
@@ -96,25 +96,58 @@ fn put_data(out: &mut Vec<u8>, octets: &[u8]) -> Result<(), AllocError>
 
 /// Puts a list, its references in so many octets each, behind the octets of `out`, which stay as they are
 /// where there is no memory. The width is 1, 2, 4 or 8; there are below 2^32 references, and each is below
-/// 2^32 and fits the width.
-pub fn put_list(out: &mut Vec<u8>, width: u8, refs: &[u32]) -> Result<(), AllocError>
+/// 256^width.
+pub fn put_list(out: &mut Vec<u8>, width: u8, refs: &[u64]) -> Result<(), AllocError>
     requires width { IsWidth width }
     requires count { length refs.now < 2 ^ 32 }
     requires fit { All (λ reference. reference < 256 ^ width) refs.now }
     ensures ok { OnOk result (out.new.items ≡ out.old.items ++ list_spelling width refs.now) }
     ensures err { OnErr result (out.new.items ≡ out.old.items) }
 {
-    let count = refs.len() as u64;
-    out.reserve(list_length(count, width) as usize)?;
-    push_head(out, LIST, count);
+    begin_list(out, width, refs.len() as u64)?;
     push_references(out, width, refs);
     Ok(())
 }
 
 /// Puts a table, its references to keys and then those to values in so many octets each, behind the
 /// octets of `out`, which stay as they are where there is no memory. The width is 1, 2, 4 or 8; there are
-/// below 2^32 keys and as many values, and each reference is below 2^32 and fits the width.
+/// below 2^32 keys and as many values, and each reference is below 256^width.
 pub fn put_table(
+    out: &mut Vec<u8>,
+    width: u8,
+    keys: &[u64],
+    values: &[u64],
+) -> Result<(), AllocError>
+    requires width { IsWidth width }
+    requires count { length keys.now < 2 ^ 32 }
+    requires pairs { length keys.now ≡ length values.now }
+    requires keys_fit { All (λ reference. reference < 256 ^ width) keys.now }
+    requires values_fit { All (λ reference. reference < 256 ^ width) values.now }
+    ensures ok { OnOk result
+        (out.new.items ≡ out.old.items ++ table_spelling width keys.now values.now) }
+    ensures err { OnErr result (out.new.items ≡ out.old.items) }
+{
+    begin_table(out, width, keys.len() as u64)?;
+    push_references(out, width, keys);
+    push_references(out, width, values);
+    Ok(())
+}
+
+/// The same as [`put_list`], of references in 32 bits.
+pub fn put_short_list(out: &mut Vec<u8>, width: u8, refs: &[u32]) -> Result<(), AllocError>
+    requires width { IsWidth width }
+    requires count { length refs.now < 2 ^ 32 }
+    requires fit { All (λ reference. reference < 256 ^ width) refs.now }
+    ensures ok { OnOk result (out.new.items ≡ out.old.items ++ list_spelling width refs.now) }
+    ensures err { OnErr result (out.new.items ≡ out.old.items) }
+{
+    begin_list(out, width, refs.len() as u64)?;
+    push_short_references(out, width, refs);
+    Ok(())
+}
+
+/// The same as [`put_table`], of references in 32 bits.
+pub fn put_short_table(
     out: &mut Vec<u8>,
     width: u8,
     keys: &[u32],
@@ -129,15 +162,77 @@ pub fn put_table(
         (out.new.items ≡ out.old.items ++ table_spelling width keys.now values.now) }
     ensures err { OnErr result (out.new.items ≡ out.old.items) }
 {
-    let count = keys.len() as u64;
-    out.reserve(table_length(count, width) as usize)?;
-    push_head(out, TABLE, count);
-    push_references(out, width, keys);
-    push_references(out, width, values);
+    begin_table(out, width, keys.len() as u64)?;
+    push_short_references(out, width, keys);
+    push_short_references(out, width, values);
     Ok(())
 }
 
-fn push_references(out: &mut Vec<u8>, width: u8, refs: &[u32])
+/// Puts how data of so many octets begins, which is all that stands before these octets, behind the octets of
+/// `out`, which stay as they are where there is no memory.
+pub fn put_data_head(out: &mut Vec<u8>, count: u64) -> Result<(), AllocError>
+    ensures ok { OnOk result (out.new.items ≡ out.old.items ++ head 4 count) }
+    ensures err { OnErr result (out.new.items ≡ out.old.items) }
+{
+    out.reserve(head_length(count) as usize)?;
+    push_head(out, DATA, count);
+    Ok(())
+}
+
+/// Puts the number in so many octets behind the octets of `out`, which stay as they are where there is no
+/// memory. The width is 1, 2, 4 or 8, and the number is below 256^width.
+pub fn put_number(out: &mut Vec<u8>, width: u8, n: u64) -> Result<(), AllocError>
+    requires width { IsWidth width }
+    requires fits { n < 256 ^ width }
+    ensures ok { OnOk result (out.new.items ≡ out.old.items ++ big_bytes width n) }
+    ensures err { OnErr result (out.new.items ≡ out.old.items) }
+{
+    out.reserve(usize::from(width))?;
+    push_number(out, n, width);
+    Ok(())
+}
+
+// Room for a list of so many references, and what stands before these.
+fn begin_list(out: &mut Vec<u8>, width: u8, count: u64) -> Result<(), AllocError>
+    requires width { IsWidth width }
+    requires count { count < 2 ^ 32 }
+    ensures begun { OnOk result (out.new.items ≡ out.old.items ++ head 10 count) }
+    ensures room { OnOk result ((refs : List ℕ) → length refs ≡ count
+        → HasRoom out.new (length (references width refs))) }
+    ensures err { OnErr result (out.new.items ≡ out.old.items) }
+{
+    out.reserve(list_length(count, width) as usize)?;
+    push_head(out, LIST, count);
+    Ok(())
+}
+
+// Room for a table of so many pairs, and what stands before its references.
+fn begin_table(out: &mut Vec<u8>, width: u8, count: u64) -> Result<(), AllocError>
+    requires width { IsWidth width }
+    requires count { count < 2 ^ 32 }
+    ensures begun { OnOk result (out.new.items ≡ out.old.items ++ head 13 count) }
+    ensures room { OnOk result ((keys values : List ℕ) → length keys ≡ count → length values ≡ count
+        → HasRoom out.new (length (references width keys) + length (references width values))) }
+    ensures err { OnErr result (out.new.items ≡ out.old.items) }
+{
+    out.reserve(table_length(count, width) as usize)?;
+    push_head(out, TABLE, count);
+    Ok(())
+}
+
+fn push_references(out: &mut Vec<u8>, width: u8, refs: &[u64])
+    requires width_least { 1 ≤ width }
+    requires width_most { width ≤ 8 }
+    requires fit { All (λ reference. reference < 256 ^ width) refs.now }
+    requires room { HasRoom out.old (length (references width refs.now)) }
+    ensures { Appends out.old out.new (references width refs.now) }
+{
+    for reference in refs {
+        push_number(out, *reference, width);
+    }
+}
+
+fn push_short_references(out: &mut Vec<u8>, width: u8, refs: &[u32])
     requires width_least { 1 ≤ width }
     requires width_most { width ≤ 8 }
     requires fit { All (λ reference. reference < 256 ^ width) refs.now }

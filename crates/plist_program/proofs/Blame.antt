@@ -1,24 +1,17 @@
 -- The program ends with 4 only where a device failed.
-use Rattle.std.proofs.Common.{arith, inl, inr, refl, sym, Err, List, Ok, Option, Result, ℕ, ◌∙◌, ◌≡◌, ◌⊎◌}
-use Rattle.std.specs.Prelude.{◌≢◌, Bool, true, false}
+use Rattle.std.proofs.Common.{arith, inl, inr, sym, Err, List, Ok, Option, Result, ℕ, ◌∙◌, ◌≡◌, ◌⊎◌}
+use Rattle.std.specs.Prelude.{◌≢◌, ◌<◌, ◌≤◌, Bool, true, false}
+use Rattle.std.proofs.lemmas.Bool.{cases_lt}
 use Rattle.clap.specs.Words.{Text}
 use Rattle.clap.specs.declared.error.ErrorKind.{ErrorKind}
 use Rattle.clap.specs.declared.error.ErrorKind.TheVariants as kind
-use Rattle.plist_object.specs.Codes.{layout_code, object_code}
-use Rattle.plist_object.specs.declared.layout.LayoutFault.{LayoutFault}
-use Rattle.plist_object.specs.declared.layout.LayoutFault.TheVariants as layout
-use Rattle.plist_object.specs.declared.object.ObjectFault.{ObjectFault}
-use Rattle.plist_object.specs.declared.object.ObjectFault.TheVariants as object
 use Rattle.plist_binary.specs.Codes.{fault_code}
 use Rattle.plist_binary.specs.declared.fault.BinaryFault.{BinaryFault}
 use Rattle.plist_binary.specs.declared.fault.BinaryFault.TheVariants as binary
-use Rattle.plist_devices.specs.Count.{HasFailed}
-use Rattle.ostep_lex.specs.Fault as of_lexer
-use Rattle.ostep_lex.specs.declared.fault.LexFault.{LexFault}
-use Rattle.ostep_lex.specs.declared.fault.LexFault.TheVariants as lex
-use Rattle.ostep_form.specs.Fault as of_text
-use Rattle.ostep_form.specs.declared.fault.TextFault.{TextFault}
-use Rattle.ostep_form.specs.declared.fault.TextFault.TheVariants as text
+use Rattle.plist_devices.specs.Count.{one_more}
+use Rattle.ostep_text.specs.Fault as of_text
+use Rattle.ostep_text.specs.declared.fault.TextFault.{TextFault}
+use Rattle.ostep_text.specs.declared.fault.TextFault.TheVariants as text
 use Rattle.plist_canon.specs.declared.checking.CheckFault.{CheckFault}
 use Rattle.plist_canon.specs.declared.checking.CheckFault.TheVariants as check
 use Rattle.plist_canon.specs.declared.checking.Verdict.{Verdict}
@@ -39,7 +32,7 @@ use Rattle.plist_words.specs.Asked.{Asked, Filters, Converts, Compares, Lints, C
 use Rattle.plist_files.specs.declared.forms.Form.{Form}
 use Rattle.plist_program.specs.Answer.{IsCheckAnswer, IsLintAnswer, IsOutputRefusal, IsRefusedAnswer, IsSameAnswer, Said, Says, equality_said, pair_refusal, refusal}
 use Rattle.plist_program.specs.Ending.{Ends, HaveFailed, Prints, no_memory}
-use Rattle.plist_program.specs.Explaining.{said_of_kind, status_of_kind}
+use Rattle.plist_program.specs.Explaining.{Explains, said_of_kind, status_of_kind}
 use Rattle.plist_program.specs.Program.{DeviceFailed, IsAskedRun, IsRun}
 use Rattle.plist_program.specs.Runs.{EndsSending, IsAnswered, IsCheckRun, IsConvertRun, IsFileRun, IsFiltered, IsFilterRun, IsInputFault, IsLintRun, IsSameRun, IsUnread, IsWanting, refusal_between, standard}
 use Rattle.plist_program.specs.State.{Ending, Input, State}
@@ -63,25 +56,19 @@ no_5 e = omega (arith, e)
 
 -- no refusal of octets has the status of a device
 
-layout_quiet : (fault : LayoutFault) → status_for (layout_code fault) ≢ 4
-layout_quiet layout.TooShort = no_2
-layout_quiet layout.BadHeader = no_2
-layout_quiet layout.BadTrailer = no_2
-
-object_quiet : (fault : ObjectFault) → status_for (object_code fault) ≢ 4
-object_quiet object.BadOffset = no_2
-object_quiet object.CutObject = no_2
-object_quiet object.BadMarker = no_2
-object_quiet object.NullObject = no_2
-object_quiet object.UidObject = no_2
-object_quiet object.SetObject = no_2
-object_quiet object.NotAscii = no_2
-object_quiet object.WideInteger = no_2
-
 binary_quiet : (fault : BinaryFault) → status_for (fault_code fault) ≢ 4
-binary_quiet (binary.Layout fault) = layout_quiet fault
-binary_quiet (binary.Object i fault) = object_quiet fault
+binary_quiet binary.TooShort = no_2
+binary_quiet binary.BadHeader = no_2
+binary_quiet binary.BadTrailer = no_2
+binary_quiet (binary.BadOffset i) = no_2
 binary_quiet (binary.BadReference i) = no_2
+binary_quiet (binary.CutObject i) = no_2
+binary_quiet (binary.BadMarker i) = no_2
+binary_quiet (binary.NullObject i) = no_2
+binary_quiet (binary.UidObject i) = no_2
+binary_quiet (binary.SetObject i) = no_2
+binary_quiet (binary.NotAscii i) = no_2
+binary_quiet (binary.WideInteger i) = no_2
 binary_quiet (binary.KeyNotText i) = no_2
 binary_quiet (binary.DuplicateKey i) = no_2
 binary_quiet (binary.Cycle i) = no_2
@@ -90,27 +77,23 @@ binary_quiet (binary.TooManyNodes i) = no_2
 binary_quiet (binary.TooMuchPayload i) = no_2
 binary_quiet binary.OutOfMemory = no_5
 
-lex_quiet : (fault : LexFault) → status_for (of_lexer.code_of fault) ≢ 4
-lex_quiet (lex.BadUtf8 octet) = no_2
-lex_quiet (lex.XmlForm octet) = no_2
-lex_quiet (lex.UnexpectedCharacter octet) = no_2
-lex_quiet (lex.UnclosedString octet) = no_2
-lex_quiet (lex.UnclosedComment octet) = no_2
-lex_quiet (lex.BadEscape octet) = no_2
-lex_quiet (lex.OctalRange octet) = no_2
-lex_quiet (lex.OddData octet) = no_2
-lex_quiet (lex.BadData octet) = no_2
-lex_quiet (lex.BadUtf16 octet) = no_2
-lex_quiet lex.OutOfMemory = no_5
-
 text_quiet : (fault : TextFault) → status_for (of_text.code_of fault) ≢ 4
-text_quiet (text.Tokens fault) = lex_quiet fault
 text_quiet (text.DuplicateKey octet) = no_2
 text_quiet (text.TooDeep octet) = no_2
 text_quiet (text.TooManyNodes octet) = no_2
 text_quiet (text.TooMuchPayload octet) = no_2
+text_quiet (text.BadUtf8 octet) = no_2
+text_quiet (text.XmlForm octet) = no_2
+text_quiet (text.UnexpectedCharacter octet) = no_2
+text_quiet (text.UnclosedString octet) = no_2
+text_quiet (text.UnclosedComment octet) = no_2
+text_quiet (text.BadEscape octet) = no_2
+text_quiet (text.OctalRange octet) = no_2
+text_quiet (text.OddData octet) = no_2
+text_quiet (text.BadData octet) = no_2
 text_quiet (text.Expected octet) = no_2
 text_quiet (text.Junk octet) = no_2
+text_quiet (text.BadUtf16 octet) = no_2
 text_quiet text.OutOfMemory = no_5
 
 stands_quiet : (octets : List ℕ) (fault : Fault) → FaultStands octets fault → status_for (code_of fault) ≢ 4
@@ -135,7 +118,9 @@ verdict_quiet verdict.Canonical = no_0
 verdict_quiet (verdict.Broken rule i) = no_1
 
 check_fault_quiet : (fault : CheckFault) → status_for (code_of (check_fault_for fault)) ≢ 4
-check_fault_quiet (check.Layout fault) = layout_quiet fault
+check_fault_quiet check.TooShort = no_2
+check_fault_quiet check.BadHeader = no_2
+check_fault_quiet check.BadTrailer = no_2
 check_fault_quiet check.OutOfMemory = no_5
 
 check_quiet : (path octets : List ℕ) (s : Said) → IsCheckAnswer path octets s → s.status ≢ 4
@@ -173,14 +158,16 @@ kind_quiet _ = no_3
 
 -- a line that is printed ends with it only where its own status is that, or printing failed
 
-failed_once : (before after : ℕ) → HasFailed before after → HaveFailed before after
-failed_once before after (inl up) = inl up
-failed_once before after (inr top) = inr (omega (arith, top))
+failed_once : (before after : ℕ) → after ≡ one_more before → HaveFailed before after
+failed_once before after once = elim (cases_lt before 18446744073709551615) [
+  | inl below ↦ inl (omega (arith, once, below))
+  | inr top ↦ inr (omega (arith, once, top))
+]
 
 prints_blamed : (old new : Option (List ℕ)) (before after : ℕ) (s : Said) (status : ℕ) → s.status ≢ 4
     → Prints old new before after s status → status ≡ 4 → HaveFailed before after
 prints_blamed old new before after s status quiet (inl usual) four = absurd (quiet (sym usual.0 ∙ four))
-prints_blamed old new before after s status quiet (inr failed) four = failed_once before after failed.1
+prints_blamed old new before after s status quiet (inr failed) four = failed_once before after failed.2
 
 ends_blamed : (old new : Option (List ℕ)) (before after : ℕ) (s : Said) (status : ℕ) → s.status ≢ 4
     → Ends old new before after s status → status ≡ 4 → HaveFailed before after
@@ -258,27 +245,33 @@ convert_blamed form from to before after status (inr (inr run)) four =
 unloaded_by : (input rest : Input) (before after : State) (status : ℕ) (fault : Fault) → IsInputFault input rest fault
     → Ending before after (refusal standard fault) status → status ≡ 4 → DeviceFailed input rest before after
 unloaded_by input rest before after status fault (inr refused) ends four =
-    inr (ending_blamed before after (refusal standard fault) status (stands_quiet refused.0 fault refused.1.1.stands) ends four)
-unloaded_by input rest before after status ReadFailed (inl load) ends four = inl (failed_once _ _ (load.1 refl))
+    inr (ending_blamed before after (refusal standard fault) status (stands_quiet refused.0 fault refused.2.stands) ends four)
+unloaded_by input rest before after status ReadFailed (inl once) ends four = inl (failed_once _ _ once)
 unloaded_by input rest before after status InputTooLarge (inl load) ends four = inr (ending_blamed before after (refusal standard InputTooLarge) status no_2 ends four)
 unloaded_by input rest before after status (OutOfMemory sent) (inl load) ends four = inr (ending_blamed before after (refusal standard (OutOfMemory sent)) status no_5 ends four)
-unloaded_by input rest before after status _ (inl load) ends four = absurd load.0
+unloaded_by input rest before after status _ (inl load) ends four = absurd load
 
-failed_twice : (before middle after : ℕ) → HasFailed before middle → (after ≡ middle) ⊎ HasFailed middle after → HaveFailed before after
-failed_twice before middle after (inl up) (inl same) = inl (omega (arith, up, same))
-failed_twice before middle after (inl up) (inr (inl more)) = inl (omega (arith, up, more))
-failed_twice before middle after (inl up) (inr (inr top)) = inr (omega (arith, top))
-failed_twice before middle after (inr top) (inl same) = inr (omega (arith, top, same))
-failed_twice before middle after (inr top) (inr (inl more)) = inr (omega (arith, top, more))
-failed_twice before middle after (inr top) (inr (inr end)) = inr (omega (arith, end))
+later : (before middle after : ℕ) → middle ≡ one_more before → before < 18446744073709551615 → (after ≡ middle) ⊎ (after ≡ one_more middle) → before < after
+later before middle after once below (inl same) = omega (arith, once, below, same)
+later before middle after once below (inr more) = omega (arith, once, below, more)
+
+latest : (before middle after : ℕ) → middle ≡ one_more before → 18446744073709551615 ≤ before → (after ≡ middle) ⊎ (after ≡ one_more middle) → 18446744073709551615 ≤ after
+latest before middle after once top (inl same) = omega (arith, once, top, same)
+latest before middle after once top (inr more) = omega (arith, once, top, more)
+
+failed_twice : (before middle after : ℕ) → middle ≡ one_more before → (after ≡ middle) ⊎ (after ≡ one_more middle) → HaveFailed before after
+failed_twice before middle after once more = elim (cases_lt before 18446744073709551615) [
+  | inl below ↦ inl (later before middle after once below more)
+  | inr top ↦ inr (latest before middle after once top more)
+]
 
 -- a failure of printing stands, whatever became of the line of that
-line_failed : (old new : Option (List ℕ)) (before middle after : ℕ) (s : Said) (status : ℕ) → HasFailed before middle
+line_failed : (old new : Option (List ℕ)) (before middle after : ℕ) (s : Said) (status : ℕ) → middle ≡ one_more before
     → Ends old new middle after s status → HaveFailed before after
 line_failed old new before middle after s status failed (inl (inl usual)) = failed_twice before middle after failed (inl usual.2)
-line_failed old new before middle after s status failed (inl (inr unprinted)) = failed_twice before middle after failed (inr unprinted.1)
+line_failed old new before middle after s status failed (inl (inr unprinted)) = failed_twice before middle after failed (inr unprinted.2)
 line_failed old new before middle after s status failed (inr (inl memory)) = failed_twice before middle after failed (inl memory.2)
-line_failed old new before middle after s status failed (inr (inr unprinted)) = failed_twice before middle after failed (inr unprinted.1)
+line_failed old new before middle after s status failed (inr (inr unprinted)) = failed_twice before middle after failed (inr unprinted.2)
 
 sending_blamed : (file : List ℕ) (old mid new : Option (List ℕ)) (before middle after status : ℕ) (sent : Result ℕ WriteFault)
     → IsWritten file old mid before middle sent
@@ -289,7 +282,7 @@ sending_blamed file old mid new before middle after status (Err (write.WriteFail
 sending_blamed file old mid new before middle after status (Err (write.OutOfMemory n)) written ends four =
     rw written.front.1 at (ends_blamed mid new middle after (refusal standard (OutOfMemory n)) status no_5 ends four)
 
-filtered_blamed : (input rest : Input) (before after : State) (status : ℕ) → IsFiltered input before after status → status ≡ 4
+filtered_blamed : (input rest : Input) (before after : State) (status : ℕ) → IsFiltered input rest before after status → status ≡ 4
     → DeviceFailed input rest before after
 filtered_blamed input rest before after status run four =
     inr (inr (sending_blamed run.file before.printed run.printed after.printed before.print_failures run.failures after.print_failures status run.sent run.written run.ends four))
@@ -309,9 +302,18 @@ asked_blamed (Compares first second) input rest before after status run four = i
 asked_blamed (Lints path) input rest before after status run four = inr (lint_blamed path before after status run.1 four)
 asked_blamed (Checks path) input rest before after status run four = inr (check_blamed path before after status run.1 four)
 
+-- words that are refused
+
+explains_blamed : (old new : Option (List ℕ)) (before after : ℕ) (error : ErrorKind) (status : ℕ) → Explains error old new before after status
+    → status ≡ 4 → HaveFailed before after
+explains_blamed old new before after error status (inl told) four =
+    prints_blamed old new before after (said_of_kind told.text error) status (kind_quiet error) told.prints four
+explains_blamed old new before after error status (inr memory) four =
+    prints_blamed old new before after no_memory status no_5 memory four
+
 -- 4 is the status only where a device failed
 pub blamed : (words : List Text) (input rest : Input) (before after : State) (status : ℕ) → IsRun words input rest before after status
     → status ≡ 4 → DeviceFailed input rest before after
 blamed words input rest before after status (inl obeyed) four = asked_blamed obeyed.it input rest before after status obeyed.done four
 blamed words input rest before after status (inr refused) four =
-    inr (ending_blamed before after (said_of_kind refused.explained.text refused.explained.error) status (kind_quiet refused.explained.error) refused.explained.ends four)
+    inr (inr (explains_blamed _ _ _ _ refused.explained.error status refused.explained.ends four))

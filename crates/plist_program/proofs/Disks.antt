@@ -1,7 +1,7 @@
 -- What is said of the files after a load, said of the files before it.
 use Rattle.std.proofs.Common.{subst, sym, Err, List, None, Ok, Option, Result, Some, ℕ, ◌∙◌, ◌≡◌, ◌⊎◌, inl, inr}
 use Rattle.std.specs.Prelude.{◌≢◌, ◌<◌, IfSome, length, take}
-use Rattle.plist_devices.specs.Count.{HasFailed}
+use Rattle.plist_devices.specs.Count.{one_more}
 use Rattle.plist_files.specs.declared.faults.Fault.{Fault}
 use Rattle.plist_files.specs.declared.faults.Fault.TheVariants.{InputTooLarge, OutOfMemory, ReadFailed}
 use Rattle.plist_files.specs.declared.loading.TheConstants.{MAX_INPUT}
@@ -40,7 +40,7 @@ IsLargeAt path at = (octets : List ℕ) × ((at path ≡ Some octets) × (MAX_IN
 pub unloaded_before : (f m : Option Files) (path : FileName) (before middle after : ℕ) (fault : Fault) → SameFiles f m → middle ≡ before
     → IsUnloaded m path middle after fault → IsUnloaded f path before after fault
 unloaded_before f m path before middle after ReadFailed same e h =
-    (lacks_before f m path same h.0, subst (λ (n : ℕ). HasFailed n after) e h.1)
+    (lacks_before f m path same h.0, subst (λ (n : ℕ). after ≡ one_more n) e h.1)
 unloaded_before f m path before middle after InputTooLarge same e h =
     (told_before (IsLargeAt path) (λ old mid s t. (t.0, (sym (s path) ∙ t.1.0, t.1.1))) f m same h.0, h.1 ∙ e)
 unloaded_before f m path before middle after (OutOfMemory sent) same e h = (h.0, h.1 ∙ e)

@@ -2,5 +2,6 @@ pub mod Begun
 pub mod Blame
 pub mod Conversions
 pub mod Disks
+pub mod Judged
 pub mod Runs
 pub mod Transfers

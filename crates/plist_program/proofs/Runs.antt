@@ -9,10 +9,10 @@ use Rattle.plist_words.specs.Reading.{IsReading}
 use Rattle.plist_program.specs.declared.answers.Answer.{Answer}
 use Rattle.plist_program.specs.Answer.{IsSameAnswer, Said, said_of}
 use Rattle.plist_program.specs.Ending.{Prints, no_memory}
-use Rattle.plist_program.specs.Explaining.{said_of_kind}
+use Rattle.plist_program.specs.Explaining.{Explains}
 use Rattle.plist_program.specs.Program.{IsRefusedRun}
 use Rattle.plist_program.specs.Runs.{IsCompared, IsFileRun, IsWanting}
-use Rattle.plist_program.specs.State.{Ending, Input, State}
+use Rattle.plist_program.specs.State.{Input, State}
 
 -- what printing an answer ensures
 abbrev pub Gives : State → State → Result Answer AllocError → ℕ → Type 0
@@ -58,7 +58,7 @@ files_compared first second before after status a b (Err e) holds_a holds_b kept
 -- the words are refused
 pub refused_run : (words : List Text) (input : Input) (before after : State) (error : Error) (status : ℕ) → 2 ≤ length words
     → IsReading words (Err error) → after.files ≡ before.files → after.disk_failures ≡ before.disk_failures
-    → (text : List ℕ) × Ending before after (said_of_kind text (kind_of error)) status
+    → Explains (kind_of error) before.printed after.printed before.print_failures after.print_failures status
     → IsRefusedRun words input input before after status
 refused_run words input before after error status many r files failures ends = record {
   many = many;
@@ -72,7 +72,6 @@ refused_run words input before after error status many r files failures ends = r
     nothing = r.nothing;
     files = files;
     disk_failures = failures;
-    text = ends.0;
-    ends = ends.1;
+    ends = ends;
   };
 }

@@ -1,16 +1,18 @@
 -- What each word of the program does, before and after.
-use Rattle.std.specs.Prelude.{◌≡◌, ◌⊎◌, ℕ, List, Option, Result, IfSome, MatchResult, codes}
-use Rattle.plist_devices.specs.Count.{HasFailed}
+use Rattle.std.specs.Prelude.{◌≡◌, ◌⊎◌, ℕ, ◌<◌, List, length, Option, Result, MatchResult, codes}
+use Rattle.plist_devices.specs.Count.{one_more}
 use Rattle.plist_files.specs.Accepted.{IsCanonicalOf}
 use Rattle.plist_files.specs.Fault.{write_fault_for}
-use Rattle.plist_files.specs.Load.{IsLoadFault}
+use Rattle.plist_files.specs.Load.{Takes}
 use Rattle.plist_files.specs.Refusals.{IsRefused}
 use Rattle.plist_files.specs.declared.faults.Fault.{Fault}
 use Rattle.plist_files.specs.declared.faults.Fault.TheVariants as refusal_kind
 use Rattle.plist_files.specs.declared.forms.Form.{Form}
+use Rattle.plist_files.specs.declared.loading.TheConstants.{MAX_INPUT}
 use Rattle.plist_write.specs.Sending.{IsWritten}
 use Rattle.plist_write.specs.declared.sending.WriteFault.{WriteFault}
 use Rattle.plist_transfer.specs.Output.{IsOutput}
+use Rattle.plist_transfer.specs.Transfer.{IsInput, NeedsNoMemory}
 use Rattle.plist_disk.specs.Files.{FileName, Holds, IsStored, IsUnloaded, SameFiles}
 use Rattle.plist_program.specs.Answer.{IsCheckAnswer, IsLintAnswer, IsOutputRefusal, IsSameAnswer, Said, refusal}
 use Rattle.plist_program.specs.Ending.{Ends}
@@ -105,6 +107,7 @@ pub record IsConverted (form : Form) (from to : FileName) (before after : State)
   pub file : List ℕ
   pub of : IsOutput form octets file
   pub stored : IsStoreRun from to file before after status
+  pub memory : NeedsNoMemory form stored.result
 
 -- `convert FORM IN OUT`
 unfoldable pub IsConvertRun : Form → FileName → FileName → State → State → ℕ → Type 0
@@ -116,15 +119,23 @@ IsConvertRun form from to before after status =
 abbrev pub standard : FileName
 standard = codes "-"
 
--- the octets that a fault of the input speaks of are all that were to come, where it tells them
-abbrev pub Refuses : Option (List ℕ) → Fault → Type 0
-Refuses to_come fault = (octets : List ℕ) × (IfSome to_come (λ all. octets ≡ all) × IsRefused octets fault)
+-- The octets are all of the input, which was taken to its end without a failure.
+pub record IsTaken (input rest : Input) (octets : List ℕ) : Type 0 where
+  pub all : IsInput input.to_come rest.to_come octets
+  pub unfailed : rest.failures ≡ input.failures
+
+-- why the input was not loaded: a take failed, once; or more than the greatest input was taken; or there was no memory
+abbrev pub IsUntaken : Input → Input → Fault → Type 0
+IsUntaken input rest refusal_kind.ReadFailed = rest.failures ≡ one_more input.failures
+IsUntaken input rest refusal_kind.InputTooLarge =
+    Takes input.to_come rest.to_come (λ taken. MAX_INPUT < length taken) × (rest.failures ≡ input.failures)
+IsUntaken input rest (refusal_kind.OutOfMemory sent) = (sent ≡ 0) × (rest.failures ≡ input.failures)
+IsUntaken input rest _ = ⊥
 
 -- why there is no canonical file of the input: it was not loaded, or it is refused
 abbrev pub IsInputFault : Input → Input → Fault → Type 0
 IsInputFault input rest fault =
-    (IsLoadFault fault × (fault ≡ refusal_kind.ReadFailed → HasFailed input.failures rest.failures))
-    ⊎ Refuses input.to_come fault
+    IsUntaken input rest fault ⊎ ((octets : List ℕ) × IsTaken input rest octets × IsRefused octets fault)
 
 -- The input is refused, and the line of that is all that is printed.
 pub record IsUnfiltered (input rest : Input) (before after : State) (status : ℕ) : Type 0 where
@@ -134,9 +145,9 @@ pub record IsUnfiltered (input rest : Input) (before after : State) (status : �
 
 -- The canonical file of the input goes out, all of it or exactly a front, where printing failed or memory was wanting;
 -- and behind it, from what was printed and the failures of printing by then, the line of that.
-pub record IsFiltered (input : Input) (before after : State) (status : ℕ) : Type 0 where
+pub record IsFiltered (input rest : Input) (before after : State) (status : ℕ) : Type 0 where
   pub octets : List ℕ
-  pub whole : IfSome input.to_come (λ all. octets ≡ all)
+  pub taken : IsTaken input rest octets
   pub file : List ℕ
   pub canonical : IsCanonicalOf octets file
   pub sent : Result ℕ WriteFault
@@ -148,4 +159,4 @@ pub record IsFiltered (input : Input) (before after : State) (status : ℕ) : Ty
 -- without words
 unfoldable pub IsFilterRun : Input → Input → State → State → ℕ → Type 0
 IsFilterRun input rest before after status =
-    IsUnfiltered input rest before after status ⊎ IsFiltered input before after status
+    IsUnfiltered input rest before after status ⊎ IsFiltered input rest before after status

@@ -3,11 +3,12 @@ use Rattle.std.specs.Prelude.{ℕ, List, ◌++◌, codes}
 use Rattle.std.specs.Fmt.{decimal}
 use Rattle.plist_canon.specs.declared.checking.Verdict.{Verdict}
 use Rattle.plist_canon.specs.declared.checking.Verdict.TheVariants.{Canonical, Broken}
-use Rattle.plist_binary.specs.Codes.{at_object}
+use Rattle.plist_value.specs.Refusals.{place_text}
+use Rattle.plist_value.specs.declared.refusals.Place.TheVariants.{Object}
 
 abbrev pub verdict_text : Verdict → List ℕ
 verdict_text Canonical = codes "canonical"
-verdict_text (Broken rule object) = codes "broken C" ++ (decimal rule ++ at_object object)
+verdict_text (Broken rule object) = codes "broken C" ++ (decimal rule ++ place_text (Object object))
 
 -- 0 where the file is canonical, else 1
 abbrev pub verdict_status_for : Verdict → ℕ

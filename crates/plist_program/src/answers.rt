@@ -4,9 +4,11 @@ ghost use Rattle.plist_program.specs.Answer.{IsCheckAnswer, IsLintAnswer, IsSame
 ghost use Rattle.plist_program.specs.Answer.{accepted_said, equality_said, refusal, said_of};
 
 use crate::verdicts::{verdict_line, verdict_status};
-use plist_canon::check;
-use plist_files::{Fault, PairFault, Status, judge_any, line, same_files};
+use plist_canon::check_with_hasher;
+use plist_files::{Fault, PairFault, Status, judge_any, line, same_files_with_hasher};
+use plist_value::FixedHasher;
 use std::alloc::{AllocError, Global};
+use std::hash::BuildHasher;
 
 /// A line that is printed, with its line end, and the status with which the program ends.
 #[derive(Debug, Drop)]
@@ -25,7 +27,25 @@ pub struct Answer {
 pub fn check_answer(alloc: Global, path: &str, octets: &[u8]) -> Result<Answer, AllocError>
     ensures { IfOk result (λ answer. IsCheckAnswer path.now octets.now (said_of answer)) }
 {
-    match check(alloc, octets) {
+    check_answer_with_hasher(alloc, FixedHasher::new(), path, octets)
+}
+
+/// The same as [`check_answer`], where scalars are hashed by what the builder makes. Where somebody else picks the
+/// octets, hand it a [`RandomState`](std::hash::RandomState): scalars that were picked to collide under
+/// [`FixedHasher`] cost no more than others then.
+///
+/// # Errors
+///
+/// Where no memory is left for the line.
+pub fn check_answer_with_hasher<H: BuildHasher + Copy>(
+    alloc: Global,
+    hasher: H,
+    path: &str,
+    octets: &[u8],
+) -> Result<Answer, AllocError>
+    ensures { IfOk result (λ answer. IsCheckAnswer path.now octets.now (said_of answer)) }
+{
+    match check_with_hasher(alloc, hasher, octets) {
         Ok(verdict) => {
             let line = verdict_line(alloc, verdict)?;
             told(alloc, line.as_str(), verdict_status(verdict))
@@ -66,7 +86,27 @@ pub fn same_answer(
     ensures { IfOk result (λ answer.
         IsSameAnswer first.now second.now a.now b.now (said_of answer)) }
 {
-    match same_files(alloc, a, b) {
+    same_answer_with_hasher(alloc, FixedHasher::new(), first, second, a, b)
+}
+
+/// The same as [`same_answer`], where scalars are hashed by what the builder makes, as
+/// [`check_answer_with_hasher`] says.
+///
+/// # Errors
+///
+/// Where no memory is left for the line.
+pub fn same_answer_with_hasher<H: BuildHasher + Copy>(
+    alloc: Global,
+    hasher: H,
+    first: &str,
+    second: &str,
+    a: &[u8],
+    b: &[u8],
+) -> Result<Answer, AllocError>
+    ensures { IfOk result (λ answer.
+        IsSameAnswer first.now second.now a.now b.now (said_of answer)) }
+{
+    match same_files_with_hasher(alloc, hasher, a, b) {
         Ok(equal) => equality(alloc, equal),
         Err(PairFault::First(fault)) => refused(alloc, first, &fault),
         Err(PairFault::Second(fault)) => refused(alloc, second, &fault),

@@ -9,9 +9,12 @@ use crate::printing::explain;
 use crate::words::{check_file, compare_files, convert_file, lint_file};
 use plist_devices::{ReaderSource, Sink, Source, Stream};
 use plist_disk::{Disk, HostDisk};
+use plist_value::FixedHasher;
 use plist_words::{Request, read_words};
 use std::alloc::Global;
+use std::hash::{BuildHasher, RandomState};
 use std::io::{Read, Write};
+use std::random::RandomSource;
 use std::rt::Files;
 
 /// The whole program over the files of the host: reads the words, of which the first is the program's name,
@@ -47,7 +50,10 @@ pub fn run<R: Files, I: Read, O: Write>(
 /// [`run`] for a program that ends next: the value that a conversion reads of a text is not given back, and its
 /// memory stays taken until the program ends, when all of it is given back at once. It is what `main` calls; a
 /// program that goes on calls [`run`].
-pub fn run_to_end<R: Files, I: Read, O: Write>(
+///
+/// Scalars are hashed by a [`RandomState`] that is made once, so that nobody can pick some that collide; where the
+/// system gives no random octets, by the fixed builder. What is answered is the same.
+pub fn run_to_end<R: Files + RandomSource, I: Read, O: Write>(
     rt: &R,
     alloc: Global,
     words: &[&str],
@@ -61,10 +67,31 @@ pub fn run_to_end<R: Files, I: Read, O: Write>(
         (state None 0 (O.contents output.old) 0)
         (state None disk_failed (O.contents output.new) print_failed) result }
 {
-    let mut disk = HostDisk::at_end(rt);
+    match RandomState::new(rt) {
+        Ok(hasher) => run_last(rt, alloc, hasher, words, input, output),
+        Err(_) => run_last(rt, alloc, FixedHasher::new(), words, input, output),
+    }
+}
+
+/// The last run of a program, where scalars are hashed by what the builder makes.
+fn run_last<H: BuildHasher + Copy, R: Files, I: Read, O: Write>(
+    rt: &R,
+    alloc: Global,
+    hasher: H,
+    words: &[&str],
+    input: &mut I,
+    output: &mut O,
+) -> u8
+    ensures { (disk_failed : ℕ) × (print_failed : ℕ) × (rest : Input)
+        × IsRun (map (λ word. word.now) words.now)
+        (input_of (I.remaining input.old) 0) rest
+        (state None 0 (O.contents output.old) 0)
+        (state None disk_failed (O.contents output.new) print_failed) result }
+{
+    let mut disk = HostDisk::at_end_with_hasher(rt, hasher);
     let mut source = ReaderSource::new(input);
     let mut sink = Stream::new(output);
-    run_on(alloc, &mut disk, words, &mut source, &mut sink)
+    run_on_with_hasher(alloc, hasher, &mut disk, words, &mut source, &mut sink)
 }
 
 /// The whole program over any disk and streams, as [`run`] over the files of the host.
@@ -93,12 +120,45 @@ pub fn run_on<D: Disk, S: Source, W: Sink>(
         (state (D.files disk.new) (D.failures disk.new)
         (W.taken output.new) (W.failures output.new)) }
 {
-    perform(alloc, disk, words, input, output)
+    run_on_with_hasher(alloc, FixedHasher::new(), disk, words, input, output)
+}
+
+/// The same as [`run_on`], where scalars are hashed by what the builder makes. Where somebody else picks what is
+/// converted, compared or checked, hand it a [`RandomState`]: scalars that were picked to collide under
+/// [`FixedHasher`] cost no more than others then. What is stored the disk converts, by a builder of its own.
+pub fn run_on_with_hasher<H: BuildHasher + Copy, D: Disk, S: Source, W: Sink>(
+    alloc: Global,
+    hasher: H,
+    disk: &mut D,
+    words: &[&str],
+    input: &mut S,
+    output: &mut W,
+) -> u8
+    ensures run { IsRun (map (λ word. word.now) words.now)
+        (input_of (S.remaining input.old) (S.failures input.old))
+        (input_of (S.remaining input.new) (S.failures input.new))
+        (state (D.files disk.old) (D.failures disk.old)
+        (W.taken output.old) (W.failures output.old))
+        (state (D.files disk.new) (D.failures disk.new)
+        (W.taken output.new) (W.failures output.new))
+        result }
+    ensures same { W.device output.new ≡ W.device output.old }
+    // 4 comes only where a device failed.
+    ensures blamed { result ≡ 4 → DeviceFailed
+        (input_of (S.remaining input.old) (S.failures input.old))
+        (input_of (S.remaining input.new) (S.failures input.new))
+        (state (D.files disk.old) (D.failures disk.old)
+        (W.taken output.old) (W.failures output.old))
+        (state (D.files disk.new) (D.failures disk.new)
+        (W.taken output.new) (W.failures output.new)) }
+{
+    perform(alloc, hasher, disk, words, input, output)
 }
 
 /// Reads the words, and does what they ask for.
-fn perform<D: Disk, S: Source, W: Sink>(
+fn perform<H: BuildHasher + Copy, D: Disk, S: Source, W: Sink>(
     alloc: Global,
+    hasher: H,
     disk: &mut D,
     words: &[&str],
     input: &mut S,
@@ -115,14 +175,15 @@ fn perform<D: Disk, S: Source, W: Sink>(
     ensures same { W.device output.new ≡ W.device output.old }
 {
     match read_words(alloc, words) {
-        Ok(request) => obey(alloc, disk, request, input, output),
+        Ok(request) => obey(alloc, hasher, disk, request, input, output),
         Err(error) => explain(alloc, &error, output),
     }
 }
 
 /// Does what was asked for.
-fn obey<D: Disk, S: Source, W: Sink>(
+fn obey<H: BuildHasher + Copy, D: Disk, S: Source, W: Sink>(
     alloc: Global,
+    hasher: H,
     disk: &mut D,
     request: Request,
     input: &mut S,
@@ -139,10 +200,12 @@ fn obey<D: Disk, S: Source, W: Sink>(
     ensures same { W.device output.new ≡ W.device output.old }
 {
     match request {
-        Request::Filter => filter(alloc, input, output),
+        Request::Filter => filter(alloc, hasher, input, output),
         Request::Convert { form, from, to } => convert_file(alloc, disk, form, from, to, output),
-        Request::Same { first, second } => compare_files(alloc, disk, first, second, output),
+        Request::Same { first, second } => compare_files(
+            alloc, hasher, disk, first, second, output,
+        ),
         Request::Lint { path } => lint_file(alloc, disk, path, output),
-        Request::Check { path } => check_file(alloc, disk, path, output),
+        Request::Check { path } => check_file(alloc, hasher, disk, path, output),
     }
 }

@@ -7,15 +7,21 @@ ghost use Rattle.plist_program.specs.State.{input_of, state};
 use crate::printing::report;
 use plist_devices::{Sink, Source};
 use plist_files::{Form, Status};
-use plist_transfer::convert;
+use plist_transfer::convert_with_hasher;
 use std::alloc::Global;
+use std::hash::BuildHasher;
 
 /// The path that stands for standard input and standard output in a line.
 const STANDARD: &str = "-";
 
 /// The canonical file of the input, to the output, object after object. All of the input is read before the
-/// first octet goes out.
-pub(crate) fn filter<S: Source, W: Sink>(alloc: Global, input: &mut S, output: &mut W) -> u8
+/// first octet goes out. Scalars are hashed by what the builder makes.
+pub(crate) fn filter<H: BuildHasher + Copy, S: Source, W: Sink>(
+    alloc: Global,
+    hasher: H,
+    input: &mut S,
+    output: &mut W,
+) -> u8
     ensures run { (disk : ℕ) (files : Option Files) → IsFilterRun
         (input_of (S.remaining input.old) (S.failures input.old))
         (input_of (S.remaining input.new) (S.failures input.new))
@@ -23,7 +29,7 @@ pub(crate) fn filter<S: Source, W: Sink>(alloc: Global, input: &mut S, output: &
         (state files disk (W.taken output.new) (W.failures output.new)) result }
     ensures same { W.device output.new ≡ W.device output.old }
 {
-    match convert(alloc, input, output, Form::Binary1) {
+    match convert_with_hasher(alloc, hasher, input, output, Form::Binary1) {
         Ok(_) => Status::Done.code(),
         Err(fault) => report(alloc, STANDARD, &fault, output),
     }

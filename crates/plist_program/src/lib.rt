@@ -9,4 +9,4 @@ mod printing;
 mod verdicts;
 mod words;
 
-pub use entry::{run, run_on, run_to_end};
+pub use entry::{run, run_on, run_on_with_hasher, run_to_end};

@@ -1,12 +1,12 @@
 //! Printing: octets, lines, and how the program ends for them.
-ghost use Rattle.std.specs.Prelude.{◌≡◌, ◌<◌, ℕ, List, MatchResult, OnOk, IfErr, length, take};
+ghost use Rattle.std.specs.Prelude.{◌≡◌, ◌<◌, ℕ, MatchResult, OnOk, IfErr, IsTrue, length, take};
 ghost use Rattle.std.specs.Io.KnownBytes.{Appends};
 ghost use Rattle.clap.specs.Words.{kind_of};
-ghost use Rattle.plist_devices.specs.Count.{HasFailed};
+ghost use Rattle.plist_devices.specs.Count.{one_more};
 ghost use Rattle.plist_files.specs.Status.{status_code};
 ghost use Rattle.plist_program.specs.Answer.{refusal, said_of};
 ghost use Rattle.plist_program.specs.Ending.{Ends, Prints, no_memory as no_memory_said};
-ghost use Rattle.plist_program.specs.Explaining.{said_of_kind, status_of_kind};
+ghost use Rattle.plist_program.specs.Explaining.{Explains, IsExplanation, status_of_kind};
 
 use crate::answers::{Answer, refused};
 use clap::error::{Error, ErrorKind};
@@ -22,7 +22,7 @@ pub(crate) fn send<W: Sink>(output: &mut W, octets: &[u8]) -> Result<(), Fault>
     ensures err { IfErr result (λ fault. (sent : ℕ) × (fault ≡ Fault.WriteFailed sent)
         × (sent < length octets.now)
         × Appends (W.taken output.old) (W.taken output.new) (take sent octets.now)
-        × HasFailed (W.failures output.old) (W.failures output.new)) }
+        × (W.failures output.new ≡ one_more (W.failures output.old))) }
     ensures same { W.device output.new ≡ W.device output.old }
 {
     let mut sent = 0;
@@ -77,15 +77,26 @@ pub(crate) fn report<W: Sink>(alloc: Global, path: &str, fault: &Fault, output: 
 
 /// Prints what `clap` says of the words, and answers the status.
 pub(crate) fn explain<W: Sink>(alloc: Global, error: &Error, output: &mut W) -> u8
-    ensures ends { (text : List ℕ) × Ends (W.taken output.old) (W.taken output.new)
-        (W.failures output.old) (W.failures output.new)
-        (said_of_kind text (kind_of error.now)) result }
+    ensures ends { Explains (kind_of error.now) (W.taken output.old) (W.taken output.new)
+        (W.failures output.old) (W.failures output.new) result }
     ensures same { W.device output.new ≡ W.device output.old }
 {
     let status = status_of(error);
     match format!(in alloc; "{error}") {
-        Ok(text) if status != Status::NoMemory => print(output, text.as_str(), status),
+        Ok(text) if explains(text.as_str(), status) => print(output, text.as_str(), status),
         _ => report_no_memory(output),
+    }
+}
+
+/// Whether the text can be one of `clap`'s for an error with this status: that of a mistake says that it is an error.
+/// Where no memory was left, there is none.
+fn explains(text: &str, status: Status) -> bool
+    ensures { IsTrue result → IsExplanation (status_code status) text.now }
+{
+    match status {
+        Status::NoMemory => false,
+        Status::BadWords => text.as_bytes().starts_with(b"error: "),
+        _ => !text.is_empty(),
     }
 }
 

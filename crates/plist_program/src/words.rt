@@ -3,16 +3,18 @@ ghost use Rattle.std.specs.Prelude.{◌≡◌};
 ghost use Rattle.plist_program.specs.Runs.{IsCheckRun, IsConvertRun, IsLintRun, IsSameRun, path_of_fault};
 ghost use Rattle.plist_program.specs.State.{state};
 
-use crate::answers::{check_answer, lint_answer, same_answer};
+use crate::answers::{check_answer_with_hasher, lint_answer, same_answer_with_hasher};
 use crate::printing::{give, report};
 use plist_devices::Sink;
 use plist_disk::Disk;
 use plist_files::{Fault, Form, Status};
 use std::alloc::Global;
+use std::hash::BuildHasher;
 
 /// `check IN`.
-pub(crate) fn check_file<D: Disk, W: Sink>(
+pub(crate) fn check_file<H: BuildHasher + Copy, D: Disk, W: Sink>(
     alloc: Global,
+    hasher: H,
     disk: &mut D,
     path: &str,
     output: &mut W,
@@ -26,7 +28,10 @@ pub(crate) fn check_file<D: Disk, W: Sink>(
     ensures same { W.device output.new ≡ W.device output.old }
 {
     match disk.load(alloc, path) {
-        Ok(octets) => give(output, check_answer(alloc, path, octets.as_slice())),
+        Ok(octets) => give(
+            output,
+            check_answer_with_hasher(alloc, hasher, path, octets.as_slice()),
+        ),
         Err(fault) => report(alloc, path, &fault, output),
     }
 }
@@ -53,8 +58,9 @@ pub(crate) fn lint_file<D: Disk, W: Sink>(
 }
 
 /// `same A B`: loads A, then B, and only then reads them.
-pub(crate) fn compare_files<D: Disk, W: Sink>(
+pub(crate) fn compare_files<H: BuildHasher + Copy, D: Disk, W: Sink>(
     alloc: Global,
+    hasher: H,
     disk: &mut D,
     first: &str,
     second: &str,
@@ -75,7 +81,7 @@ pub(crate) fn compare_files<D: Disk, W: Sink>(
     match disk.load(alloc, second) {
         Ok(b) => give(
             output,
-            same_answer(alloc, first, second, a.as_slice(), b.as_slice()),
+            same_answer_with_hasher(alloc, hasher, first, second, a.as_slice(), b.as_slice()),
         ),
         Err(fault) => report(alloc, second, &fault, output),
     }

@@ -1,7 +1,6 @@
 //! Texts of values as deep as a value may be, and deeper.
-use ostep_form::TextFault;
-use ostep_read::read_text;
-use ostep_write::write_text;
+use ostep_text::{TextFault, read_text, write_text};
+use plist_convert::{Fault, canonicalise};
 use plist_value::same;
 use std::alloc::{AllocError, Global};
 use std::test::Fail;
@@ -109,8 +108,9 @@ fn first_wrong(alloc: Global) -> Result<Option<usize>, AllocError> {
     for (place, (nested, octet)) in ROWS.iter().enumerate() {
         let text = nested.text(alloc)?;
         let fault = read_text(alloc, text.as_slice()).err();
+        let canonical = canonicalise(alloc, text.as_slice()).err();
         let want = octet.map(|octet| TextFault::TooDeep { octet });
-        if fault != want {
+        if fault != want || canonical != want.map(Fault::Text) {
             return Ok(Some(place));
         }
     }

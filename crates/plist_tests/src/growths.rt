@@ -1,9 +1,7 @@
 //! Want of memory: each call that allocates answers 60, or what it answers with ample memory. A
 //! test is run once for each allocation that it makes, which is refused from outside, by
 //! bench/growths.py.
-use ostep_form::TextFault;
-use ostep_read::read_text;
-use ostep_write::{TextWriteFault, write_text};
+use ostep_text::{TextFault, TextWriteFault, read_text, write_text};
 use plist_binary::{BinaryFault, read};
 use plist_canon::{CheckFault, ListSink, Verdict, WriteFault, canonical, check, write_canonical};
 use plist_devices::ListSource;

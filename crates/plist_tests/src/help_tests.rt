@@ -14,14 +14,18 @@ fn size_of(text: &str) -> (usize, usize) {
 #[test]
 fn each_word_is_explained_on_one_screen(rt: HostRuntime) -> Result<(), Fail> {
     let rows = [
-        ("plistconv --help", "plistconv < Info.plist", 24),
+        ("plistconv --help", "plistutil -i IN -f bin -o OUT", 30),
         (
             "plistconv convert --help",
             "Example: plistconv convert binary1 ",
             40,
         ),
         ("plistconv same --help", "Example: plistconv same ", 40),
-        ("plistconv lint --help", "Example: plistconv lint ", 40),
+        (
+            "plistconv lint --help",
+            "plutil -convert binary1 -o OUT IN",
+            40,
+        ),
         ("plistconv check --help", "Example: plistconv check ", 40),
     ];
     for (words, example, most) in rows {

@@ -3,7 +3,7 @@ use crate::words::words_of;
 use crate::worked_files::{
     REAL4, REAL8, TABLE, TABLE_TEXT, TRUE, TWICE, UNSORTED, VALUES_FIRST, WRITTEN_TEXT,
 };
-use plist_program::{run, run_to_end};
+use plist_program::run;
 use std::alloc::{AllocError, Global};
 use std::fs;
 use std::io::{self, Read, Write};
@@ -19,7 +19,7 @@ fn status_with<R: Read>(
     run(rt, rt.alloc(), words, input, output)
 }
 
-fn status_of(rt: &HostRuntime, words: &[&str], output: &mut Vec<u8>) -> u8 {
+pub(crate) fn status_of(rt: &HostRuntime, words: &[&str], output: &mut Vec<u8>) -> u8 {
     let mut input: &[u8] = b"";
     status_with(rt, words, &mut input, output)
 }
@@ -42,7 +42,7 @@ const FILES: [(&str, &[u8]); 10] = [
 type Row = (&'static str, &'static str, u8);
 
 /// The worked rows, one after another.
-const ROWS: [Row; 27] = [
+const ROWS: [Row; 29] = [
     ("plistconv convert binary1 row2.txt converted", "", 0),
     ("plistconv same row2.txt row2.bin", "equal\n", 0),
     ("plistconv same real4.bin real8.bin", "different\n", 1),
@@ -134,6 +134,17 @@ const ROWS: [Row; 27] = [
     ),
     ("plistconv convert binary1 unsorted.bin unsorted.bin", "", 0),
     ("plistconv check unsorted.bin", "canonical\n", 0),
+    // A file that is refused stays as it is, where it is OUT too.
+    (
+        "plistconv convert binary1 twice.txt twice.txt",
+        "twice.txt: refused 14 DuplicateKey at octet 3\n",
+        2,
+    ),
+    (
+        "plistconv convert openstep true.bin true.bin",
+        "true.bin: refused 40 NotInOpenStep\n",
+        2,
+    ),
 ];
 
 // The words of the first row that is answered otherwise.
@@ -149,14 +160,14 @@ fn wrong(rt: &HostRuntime, rows: &[Row]) -> Result<Option<&'static str>, AllocEr
     Ok(None)
 }
 
-fn put_files(rt: &HostRuntime) -> Result<(), Fail> {
+pub(crate) fn put_files(rt: &HostRuntime) -> Result<(), Fail> {
     for (path, octets) in FILES {
         fs::write(rt, path, octets)?;
     }
     Ok(())
 }
 
-fn remove_files(rt: &HostRuntime) -> Result<(), Fail> {
+pub(crate) fn remove_files(rt: &HostRuntime) -> Result<(), Fail> {
     for (path, _) in FILES {
         fs::remove_file(rt, path)?;
     }
@@ -164,7 +175,7 @@ fn remove_files(rt: &HostRuntime) -> Result<(), Fail> {
 }
 
 // Whether these octets stand at the path.
-fn holds(rt: &HostRuntime, path: &str, octets: &[u8]) -> Result<bool, Fail> {
+pub(crate) fn holds(rt: &HostRuntime, path: &str, octets: &[u8]) -> Result<bool, Fail> {
     let found = fs::read(rt, path)?;
     Ok(found.as_slice() == octets)
 }
@@ -176,6 +187,8 @@ fn answers_the_worked_rows(rt: HostRuntime) -> Result<(), Fail> {
     assert!(rt; holds(&rt, "converted", TABLE)?);
     assert!(rt; holds(&rt, "text", WRITTEN_TEXT)?);
     assert!(rt; holds(&rt, "old", b"old")?);
+    assert!(rt; holds(&rt, "twice.txt", TWICE)?);
+    assert!(rt; holds(&rt, "true.bin", TRUE)?);
     assert!(rt; !fs::exists(&rt, "new")?);
     remove_files(&rt)?;
     fs::remove_file(&rt, "converted")?;
@@ -209,64 +222,6 @@ fn writes_a_long_file(rt: HostRuntime) -> Result<(), Fail> {
     fs::remove_file(&rt, "long.txt")?;
     fs::remove_file(&rt, "long")?;
     Ok(())
-}
-
-/// Words, what then stands at the path `old`, and the status.
-type Ending = (&'static str, &'static [u8], u8);
-
-const ENDINGS: [Ending; 7] = [
-    ("plistconv convert binary1 row2.txt old", TABLE, 0),
-    ("plistconv convert binary1 unsorted.bin old", TABLE, 0),
-    ("plistconv convert openstep row2.bin old", WRITTEN_TEXT, 0),
-    ("plistconv convert openstep row2.txt old", WRITTEN_TEXT, 0),
-    ("plistconv convert binary1 twice.txt old", b"old", 2),
-    ("plistconv convert openstep true.bin old", b"old", 2),
-    ("plistconv convert binary1 missing old", b"old", 4),
-];
-
-// The status of a run, of a program that ends then or of one that goes on.
-fn status_at(rt: &HostRuntime, words: &[&str], ends: bool) -> u8 {
-    let mut output = Vec::new(rt.alloc());
-    if ends {
-        let mut input: &[u8] = b"";
-        run_to_end(rt, rt.alloc(), words, &mut input, &mut output)
-    } else {
-        status_of(rt, words, &mut output)
-    }
-}
-
-// Whether a run ends with this status and leaves these octets at the path `old`.
-fn leaves(
-    rt: &HostRuntime,
-    words: &[&str],
-    ends: bool,
-    stands: &[u8],
-    want: u8,
-) -> Result<bool, Fail> {
-    fs::write(rt, "old", b"old")?;
-    let status = status_at(rt, words, ends);
-    Ok(holds(rt, "old", stands)? && status == want)
-}
-
-// The words of the first row that is answered otherwise, by a program that goes on or by one that
-// ends.
-fn wrong_ending(rt: &HostRuntime) -> Result<Option<&'static str>, Fail> {
-    for (text, stands, want) in &ENDINGS {
-        let words = words_of(rt.alloc(), text)?;
-        for ends in [false, true] {
-            if !leaves(rt, words.as_slice(), ends, stands, *want)? {
-                return Ok(Some(text));
-            }
-        }
-    }
-    Ok(None)
-}
-
-#[test]
-fn a_program_that_ends_answers_the_same(rt: HostRuntime) -> Result<(), Fail> {
-    put_files(&rt)?;
-    assert_eq!(rt; wrong_ending(&rt)?, None);
-    remove_files(&rt)
 }
 
 /// Words, the status, and how what is printed begins.

@@ -4,9 +4,13 @@
 #![tactic(auto)]
 
 #[cfg(test)]
+mod chance;
+#[cfg(test)]
 mod deepest;
 #[cfg(test)]
 mod depth;
+#[cfg(test)]
+mod ending_tests;
 #[cfg(test)]
 mod engine;
 #[cfg(test)]
@@ -39,6 +43,8 @@ mod send_tests;
 mod sink_tests;
 #[cfg(test)]
 mod size_tests;
+#[cfg(test)]
+mod surface;
 #[cfg(test)]
 mod texts;
 #[cfg(test)]

@@ -4,6 +4,7 @@ use crate::engine::canonical_file;
 use crate::values::made;
 use plist_binary::{BinaryFault, judge, read};
 use plist_canon::{Verdict, check};
+use plist_convert::{Fault, canonicalise};
 use std::alloc::{AllocError, Global};
 use std::test::Fail;
 use test_files::{Draft, chain, fan, tower};
@@ -148,14 +149,14 @@ impl Shape {
     }
 }
 
-/// What the judge and the reader answer.
+/// What the judge, the reader and `canonicalise` answer.
 #[derive(Clone, Copy)]
 enum Answer {
-    /// Both refuse it so.
+    /// All refuse it so.
     Refused(BinaryFault),
-    /// Both accept it, and it is the canonical file of the value that is read.
+    /// All accept it, and it is the canonical file of the value that is read.
     Read,
-    /// It is accepted. Its value is not read here, for want of memory.
+    /// It is accepted, and its own canonical file. Its value is not read here, since it takes much memory.
     Judged,
 }
 
@@ -232,15 +233,27 @@ fn is_own(alloc: Global, octets: &[u8]) -> Result<bool, Fail> {
     Ok(made.as_slice() == octets && own.as_slice() == octets)
 }
 
-// Whether the judge and the reader answer so.
+// Whether it is its own canonical file.
+fn is_canonical(alloc: Global, octets: &[u8]) -> Result<bool, Fail> {
+    Ok(canonicalise(alloc, octets)?.as_slice() == octets)
+}
+
+// Whether the judge, the reader and `canonicalise` refuse it so.
+fn is_refused(alloc: Global, octets: &[u8], fault: BinaryFault) -> bool {
+    judge(alloc, octets).err() == Some(fault)
+        && read(alloc, octets).err() == Some(fault)
+        && canonicalise(alloc, octets).err() == Some(Fault::Binary(fault))
+}
+
+// Whether the judge, the reader and `canonicalise` answer so.
 fn is_answered(alloc: Global, octets: &[u8], answer: Answer) -> Result<bool, Fail> {
-    let fault = judge(alloc, octets).err();
+    if let Answer::Refused(fault) = answer {
+        return Ok(is_refused(alloc, octets, fault));
+    }
+    judge(alloc, octets)?;
     match answer {
-        Answer::Refused(other) => {
-            Ok(fault == Some(other) && read(alloc, octets).err() == Some(other))
-        }
-        Answer::Read => Ok(fault.is_none() && is_own(alloc, octets)?),
-        Answer::Judged => Ok(fault.is_none()),
+        Answer::Read => Ok(is_canonical(alloc, octets)? && is_own(alloc, octets)?),
+        _ => is_canonical(alloc, octets),
     }
 }
 

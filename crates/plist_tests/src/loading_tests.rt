@@ -1,7 +1,6 @@
 //! Loading, and refusals with their lines.
 use plist_binary::BinaryFault;
 use plist_convert::{DeviceFault, Fault, ListSource, ReaderSource, Source, line, load};
-use plist_object::{LayoutFault, ObjectFault};
 use std::io::{self, ErrorKind, Read};
 use std::test::Fail;
 
@@ -59,20 +58,14 @@ fn loads_from_readers(rt: HostRuntime) -> Result<(), Fail> {
 
 #[test]
 fn prints_faults(rt: HostRuntime) -> Result<(), Fail> {
-    let not_ascii = BinaryFault::Object {
-        object: 7,
-        fault: ObjectFault::NotAscii,
-    };
+    let not_ascii = BinaryFault::NotAscii { object: 7 };
     let written = Fault::WriteFailed { sent: 10 };
     let cases = [
         (
             Fault::Binary(not_ascii),
             "p: refused 11 NotAscii at object 7",
         ),
-        (
-            Fault::from(BinaryFault::Layout(LayoutFault::TooShort)),
-            "p: refused 1 TooShort",
-        ),
+        (Fault::from(BinaryFault::TooShort), "p: refused 1 TooShort"),
         (Fault::InputTooLarge, "p: refused 52 InputTooLarge"),
         (written, "p: refused 51 WriteFailed after 10 octets"),
         (Fault::from(DeviceFault), "p: refused 50 ReadFailed"),

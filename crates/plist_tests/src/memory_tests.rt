@@ -3,8 +3,10 @@ use crate::words::words_of;
 use crate::worked_files::{TABLE, UNSORTED};
 use plist_devices::{ListSink, ListSource};
 use plist_disk::{Disk, MemoryDisk};
-use plist_program::run_on;
+use plist_program::{run_on, run_on_with_hasher};
+use plist_value::FixedHasher;
 use std::alloc::{AllocError, Global};
+use std::hash::{BuildHasher, RandomState};
 use std::test::Fail;
 
 // The status of a run and its output, where the input gives these octets, and fails at the take of this number.
@@ -37,11 +39,24 @@ const RUNS: [(&str, &str, u8); 8] = [
     ),
 ];
 
-// The words of the first run that is answered otherwise.
-fn wrong(alloc: Global, disk: &mut MemoryDisk) -> Result<Option<&'static str>, AllocError> {
+// The words of the first run that is answered otherwise, where scalars are hashed by what the builder makes.
+fn wrong<H: BuildHasher + Copy>(
+    alloc: Global,
+    hasher: H,
+    disk: &mut MemoryDisk,
+) -> Result<Option<&'static str>, AllocError> {
     for (text, printed, want) in &RUNS {
         let words = words_of(alloc, text)?;
-        let (status, output) = ran(alloc, disk, words.as_slice(), b"", None)?;
+        let mut input = ListSource::new(b"", 3, None);
+        let mut output = ListSink::new(alloc, 6000, 7)?;
+        let status = run_on_with_hasher(
+            alloc,
+            hasher,
+            disk,
+            words.as_slice(),
+            &mut input,
+            &mut output,
+        );
         if output.taken() != printed.as_bytes() || status != *want {
             return Ok(Some(text));
         }
@@ -49,16 +64,26 @@ fn wrong(alloc: Global, disk: &mut MemoryDisk) -> Result<Option<&'static str>, A
     Ok(None)
 }
 
-#[test]
-fn runs_over_a_disk_in_memory(rt: HostRuntime) -> Result<(), Fail> {
-    let alloc = rt.alloc();
+// Whether all of them are answered so over a disk of their own, and leave what they should.
+fn all_are_answered<H: BuildHasher + Copy>(alloc: Global, hasher: H) -> Result<bool, AllocError> {
     let mut disk = MemoryDisk::new(alloc, 100, 7);
     disk.put(alloc, "in", Vec::from_slice(alloc, UNSORTED)?)?;
     disk.put(alloc, "old", Vec::from_slice(alloc, b"old")?)?;
-    assert_eq!(rt; wrong(alloc, &mut disk)?, None);
-    assert_eq!(rt; disk.at("out"), Some(TABLE));
-    assert_eq!(rt; disk.at("old"), Some(b"old".as_slice()));
-    assert_eq!(rt; disk.failures(), 1);
+    if wrong(alloc, hasher, &mut disk)?.is_some() {
+        return Ok(false);
+    }
+    Ok(
+        disk.at("out") == Some(TABLE)
+            && disk.at("old") == Some(b"old".as_slice())
+            && disk.failures() == 1,
+    )
+}
+
+#[test]
+fn runs_over_a_disk_in_memory(rt: HostRuntime) -> Result<(), Fail> {
+    let random = RandomState::new(&rt)?;
+    assert!(rt; all_are_answered(rt.alloc(), FixedHasher::new())?);
+    assert!(rt; all_are_answered(rt.alloc(), random)?);
     Ok(())
 }
 

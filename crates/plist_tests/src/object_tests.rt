@@ -88,6 +88,17 @@ fn is_list_put(alloc: Global) -> Result<bool, AllocError> {
     is_put(put, out.as_slice(), b"\xaa\xa1\x00\x01")
 }
 
+// A reference that 32 bits do not hold.
+fn is_wide_list_put(alloc: Global) -> Result<bool, AllocError> {
+    let mut out = Vec::from_slice(alloc, b"\xaa")?;
+    let put = put_list(&mut out, 8, &[1 << 32]);
+    is_put(
+        put,
+        out.as_slice(),
+        b"\xaa\xa1\x00\x00\x00\x01\x00\x00\x00\x00",
+    )
+}
+
 fn is_table_put(alloc: Global) -> Result<bool, AllocError> {
     let mut out = Vec::from_slice(alloc, b"\xaa")?;
     let put = put_table(&mut out, 1, &[1, 2], &[2, 1]);
@@ -99,6 +110,7 @@ fn is_table_put(alloc: Global) -> Result<bool, AllocError> {
 fn a_refused_put_leaves_the_list(rt: HostRuntime) -> Result<(), Fail> {
     assert!(rt; is_scalar_put(rt.alloc())?);
     assert!(rt; is_list_put(rt.alloc())?);
+    assert!(rt; is_wide_list_put(rt.alloc())?);
     assert!(rt; is_table_put(rt.alloc())?);
     Ok(())
 }

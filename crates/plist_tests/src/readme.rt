@@ -5,12 +5,12 @@ use std::test::Fail;
 use plist_convert::{Fault, PairFault, canonicalise, same_files};
 use std::alloc::Global;
 
-/// Under what a cache keeps that which was made of a property list: one key for all its spellings.
+/// Cache key for anything derived from a property list: the same for all its spellings.
 fn cache_key(alloc: Global, octets: &[u8]) -> Result<Vec<u8>, Fault> {
     canonicalise(alloc, octets)
 }
 
-/// Whether what was made of the old one still serves for the new one.
+/// Whether what was derived from the old file still serves for the new one.
 fn still_serves(alloc: Global, old: &[u8], new: &[u8]) -> Result<bool, PairFault> {
     same_files(alloc, old, new)
 }

@@ -230,6 +230,8 @@ impl Sink for Noting {
 
     ghost device = { λ _. None };
 
+    ghost longest = { λ sink. sink.longest };
+
     fn put(&mut self, piece: &[u8]) -> Result<usize, DeviceFault> {
         self.longest = self.longest.max(piece.len());
         self.all = self.all.saturating_add(piece.len());
@@ -270,6 +272,32 @@ fn no_piece_is_longer_than_the_longest_object(rt: HostRuntime) -> Result<(), Fai
         assert_eq!(rt; (noting.longest, noting.all), (120_004, 720_048));
     }
     assert!(rt; canonicalise(alloc, file.as_slice())? == file);
+    Ok(())
+}
+
+// Data of 4,060 octets, as a text.
+fn long_data(alloc: Global) -> Result<Vec<u8>, AllocError> {
+    let mut text = Vec::from_slice(alloc, b"<")?;
+    for _ in 0..4060 {
+        text.extend_from_slice(b"00")?;
+    }
+    text.push(b'>')?;
+    Ok(text)
+}
+
+// The header, the data and its offset are 4,074 octets: the trailer has no room behind them.
+#[test]
+fn the_trailer_is_a_piece_of_its_own_where_it_has_no_room(rt: HostRuntime) -> Result<(), Fail> {
+    let alloc = rt.alloc();
+    let text = long_data(alloc)?;
+    let file = canonicalise(alloc, text.as_slice())?;
+    for octets in [text.as_slice(), file.as_slice()] {
+        let mut noting = Noting { longest: 0, all: 0 };
+        let mut source = ListSource::new(octets, 4096, None);
+        let sent = convert(alloc, &mut source, &mut noting, Form::Binary1);
+        assert_eq!(rt; sent, Ok(4106));
+        assert_eq!(rt; (noting.longest, noting.all), (4074, 4106));
+    }
     Ok(())
 }
 

@@ -2,7 +2,7 @@
 use Rattle.std.specs.Prelude.{◌≡◌, ◌⊎◌, ℕ, List, None, Option, Some}
 use Rattle.plist_value.specs.Plist.{Plist}
 use Rattle.plist_write.specs.Canonical.{canon}
-use Rattle.ostep_form.specs.Written.{text_of}
+use Rattle.ostep_text.specs.Written.{text_of}
 use Rattle.plist_files.specs.Accepted.{IsAccepted}
 use Rattle.plist_files.specs.Refusals.{IsRefused}
 use Rattle.plist_files.specs.declared.faults.Fault.{Fault}

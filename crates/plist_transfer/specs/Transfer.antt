@@ -3,11 +3,13 @@ use Rattle.std.specs.Prelude.{◌≡◌, ◌⊎◌, ℕ, ◌≤◌, List, length
 use Rattle.std.specs.Io.KnownBytes.{IsAtEnd}
 use Rattle.plist_write.specs.Sending.{IsWritten}
 use Rattle.plist_write.specs.declared.sending.WriteFault.{WriteFault}
+use Rattle.plist_write.specs.declared.sending.WriteFault.TheVariants as write
 use Rattle.plist_files.specs.Fault.{write_fault_for}
 use Rattle.plist_files.specs.Load.{IsLoadFault}
 use Rattle.plist_files.specs.declared.faults.Fault.{Fault}
 use Rattle.plist_files.specs.declared.faults.Fault.TheVariants.{OutOfMemory, WriteFailed}
 use Rattle.plist_files.specs.declared.forms.Form.{Form}
+use Rattle.plist_files.specs.declared.forms.Form.TheVariants.{OpenStep}
 use Rattle.plist_files.specs.declared.loading.TheConstants.{MAX_INPUT}
 use Rattle.plist_transfer.specs.Output.{IsOutput, IsOutputFault}
 
@@ -21,6 +23,11 @@ IsBeforePut _ = Unit {0}
 abbrev pub answer_of : Result ℕ WriteFault → Result ℕ Fault
 answer_of (Ok sent) = Ok sent
 answer_of (Err fault) = Err (write_fault_for fault)
+
+-- An OpenStep text is in memory before its first octet goes out: no memory is wanting from then on.
+abbrev pub NeedsNoMemory : Form → Result ℕ WriteFault → Type 0
+NeedsNoMemory OpenStep (Err (write.OutOfMemory sent)) = ⊥
+NeedsNoMemory _ _ = Unit {0}
 
 -- The call is refused for this cause before anything went out, and the sink did not fail.
 pub record IsUnsent (Cause : Fault → Type 0) (old new : Option (List ℕ)) (before after : ℕ) (result : Result ℕ Fault) : Type 0 where
@@ -36,6 +43,7 @@ pub record IsSent (form : Form) (octets : List ℕ) (old new : Option (List ℕ)
   pub of : IsOutput form octets output
   pub sent : Result ℕ WriteFault
   pub is : result ≡ answer_of sent
+  pub memory : NeedsNoMemory form sent
   pub written : IsWritten output old new before after sent
 
 -- what is done for octets that were loaded

@@ -12,15 +12,16 @@ ghost use Rattle.plist_transfer.specs.Transfer.{IsBeforePut, IsTransfer, Writes}
 
 use crate::sending::send;
 use crate::texts::{text_of, value_of};
-use plist_binary::{BinaryFault, judge_keys};
+use plist_binary::judge_keys;
 use plist_devices::{Sink, Source};
-use plist_engine::write_canonical_of_sorted;
+use plist_engine::write_canonical_of_with_hasher;
 use plist_files::{Fault, Form, MAX_INPUT, begins_as_binary, load};
 use plist_object::BinFile;
 use plist_ranks::SortedKeys;
-use plist_value::Value;
-use plist_write::write_canonical;
+use plist_value::{FixedHasher, Value};
+use plist_write::write_canonical_with_hasher;
 use std::alloc::Global;
+use std::hash::BuildHasher;
 use std::mem::forget;
 
 /// Loads a property list from the source, in either form, and sends its value to the sink: as the canonical
@@ -59,8 +60,41 @@ pub fn convert<S: Source, W: Sink>(
     ensures too_large { Takes (S.remaining from.old) (S.remaining from.new)
         (λ taken. IsErrOf result Fault.InputTooLarge ↔ (MAX_INPUT < length taken)) }
 {
+    convert_with_hasher(alloc, FixedHasher::new(), from, to, form)
+}
+
+/// The same as [`convert`], where scalars are hashed by what the builder makes. Where somebody else picks what is
+/// converted, hand it a [`RandomState`](std::hash::RandomState): scalars that were picked to collide under
+/// [`FixedHasher`] cost no more than others then.
+///
+/// # Errors
+///
+/// Those of [`convert`].
+pub fn convert_with_hasher<H: BuildHasher + Copy, S: Source, W: Sink>(
+    alloc: Global,
+    hasher: H,
+    from: &mut S,
+    to: &mut W,
+    form: Form,
+) -> Result<u64, Fault>
+    ensures transfer { IsTransfer form (S.remaining from.old) (S.remaining from.new)
+        (W.taken to.old) (W.taken to.new) (W.failures to.old) (W.failures to.new) result }
+    ensures untouched { IfErr result (λ fault. IsBeforePut fault → to.new ≡ to.old) }
+    ensures same { W.device to.new ≡ W.device to.old }
+
+    // The source fails in this call exactly where that is answered; then it fails once, and else never.
+    ensures failed { IsErrOf result Fault.ReadFailed
+        ↔ HasFailed (S.failures from.old) (S.failures from.new) }
+    ensures at_once { IsErrOf result Fault.ReadFailed
+        → S.failures from.new ≡ one_more (S.failures from.old) }
+    ensures kept { ¬ IsErrOf result Fault.ReadFailed
+        → S.failures from.new ≡ S.failures from.old }
+
+    ensures too_large { Takes (S.remaining from.old) (S.remaining from.new)
+        (λ taken. IsErrOf result Fault.InputTooLarge ↔ (MAX_INPUT < length taken)) }
+{
     let octets = load(alloc, from)?;
-    convert_octets(alloc, octets, to, form)
+    convert_octets_with_hasher(alloc, hasher, octets, to, form)
 }
 
 /// Sends the value that the octets spell, in either form, to the sink, and answers how many octets were sent.
@@ -84,7 +118,28 @@ pub fn convert_octets<W: Sink>(
     ensures untouched { IfErr result (λ fault. IsBeforePut fault → to.new ≡ to.old) }
     ensures same { W.device to.new ≡ W.device to.old }
 {
-    let (_value, sent) = write_octets(alloc, octets, to, form);
+    convert_octets_with_hasher(alloc, FixedHasher::new(), octets, to, form)
+}
+
+/// The same as [`convert_octets`], where scalars are hashed by what the builder makes, as [`convert_with_hasher`]
+/// says.
+///
+/// # Errors
+///
+/// Those of [`convert_octets`].
+pub fn convert_octets_with_hasher<H: BuildHasher + Copy, W: Sink>(
+    alloc: Global,
+    hasher: H,
+    octets: Vec<u8>,
+    to: &mut W,
+    form: Form,
+) -> Result<u64, Fault>
+    ensures writes { Writes form octets.items (W.taken to.old) (W.taken to.new)
+        (W.failures to.old) (W.failures to.new) result }
+    ensures untouched { IfErr result (λ fault. IsBeforePut fault → to.new ≡ to.old) }
+    ensures same { W.device to.new ≡ W.device to.old }
+{
+    let (_value, sent) = write_octets(alloc, hasher, octets, to, form);
     sent
 }
 
@@ -106,14 +161,36 @@ pub fn convert_octets_at_end<W: Sink>(
     ensures untouched { IfErr result (λ fault. IsBeforePut fault → to.new ≡ to.old) }
     ensures same { W.device to.new ≡ W.device to.old }
 {
-    let (value, sent) = write_octets(alloc, octets, to, form);
+    convert_octets_at_end_with_hasher(alloc, FixedHasher::new(), octets, to, form)
+}
+
+/// The same as [`convert_octets_at_end`], where scalars are hashed by what the builder makes, as
+/// [`convert_with_hasher`] says.
+///
+/// # Errors
+///
+/// Those of [`convert_octets`].
+pub fn convert_octets_at_end_with_hasher<H: BuildHasher + Copy, W: Sink>(
+    alloc: Global,
+    hasher: H,
+    octets: Vec<u8>,
+    to: &mut W,
+    form: Form,
+) -> Result<u64, Fault>
+    ensures writes { Writes form octets.items (W.taken to.old) (W.taken to.new)
+        (W.failures to.old) (W.failures to.new) result }
+    ensures untouched { IfErr result (λ fault. IsBeforePut fault → to.new ≡ to.old) }
+    ensures same { W.device to.new ≡ W.device to.old }
+{
+    let (value, sent) = write_octets(alloc, hasher, octets, to, form);
     forget(value);
     sent
 }
 
 // What is answered for the octets, beside the value that was read of a text whose canonical file was asked for.
-fn write_octets<W: Sink>(
+fn write_octets<H: BuildHasher + Copy, W: Sink>(
     alloc: Global,
+    hasher: H,
     octets: Vec<u8>,
     to: &mut W,
     form: Form,
@@ -124,15 +201,16 @@ fn write_octets<W: Sink>(
     ensures same { W.device to.new ≡ W.device to.old }
 {
     match form {
-        Form::Binary1 => write_binary1(alloc, octets, to),
+        Form::Binary1 => write_binary1(alloc, hasher, octets, to),
         Form::OpenStep => (None, write_openstep(alloc, octets, to)),
     }
 }
 
 // The canonical file of what the octets spell, beside the value that was read. They are given up where they are
 // a text.
-fn write_binary1<W: Sink>(
+fn write_binary1<H: BuildHasher + Copy, W: Sink>(
     alloc: Global,
+    hasher: H,
     octets: Vec<u8>,
     to: &mut W,
 ) -> (Option<Value>, Result<u64, Fault>)
@@ -142,11 +220,11 @@ fn write_binary1<W: Sink>(
     ensures same { W.device to.new ≡ W.device to.old }
 {
     if begins_as_binary(octets.as_slice()) {
-        return (None, write_file(alloc, octets.as_slice(), to));
+        return (None, write_file(alloc, hasher, octets.as_slice(), to));
     }
     match value_of(alloc, octets) {
         Ok(value) => {
-            let sent = write_canonical(alloc, &value, to).map_err(Fault::from);
+            let sent = write_canonical_with_hasher(alloc, hasher, &value, to).map_err(Fault::from);
             (Some(value), sent)
         }
         Err(fault) => (None, Err(fault)),
@@ -154,7 +232,12 @@ fn write_binary1<W: Sink>(
 }
 
 // The canonical file of what a binary file spells.
-fn write_file<W: Sink>(alloc: Global, octets: &[u8], to: &mut W) -> Result<u64, Fault>
+fn write_file<H: BuildHasher + Copy, W: Sink>(
+    alloc: Global,
+    hasher: H,
+    octets: &[u8],
+    to: &mut W,
+) -> Result<u64, Fault>
     requires { begins octets.now ≡ true }
     ensures writes { Writes Form.Binary1 octets.now (W.taken to.old) (W.taken to.new)
         (W.failures to.old) (W.failures to.new) result }
@@ -162,7 +245,7 @@ fn write_file<W: Sink>(alloc: Global, octets: &[u8], to: &mut W) -> Result<u64, 
     ensures same { W.device to.new ≡ W.device to.old }
 {
     let (file, sorted) = judged(alloc, octets)?;
-    Ok(write_canonical_of_sorted(alloc, &file, sorted, to)?)
+    Ok(write_canonical_of_with_hasher(alloc, hasher, &file, sorted, to)?)
 }
 
 // A binary file of a value within the limits, and the keys that were sorted while it was judged.
@@ -176,8 +259,10 @@ fn judged<'a>(
     ensures binary { OnOk result ((v : Plist) × IsBinary octets.entry.now v) }
     ensures refused { IfErr result (IsRefused octets.entry.now) }
 {
-    let file = BinFile::of(octets).map_err(BinaryFault::from)?;
     let sorted = judge_keys(alloc, octets)?;
+    let Ok(file) = BinFile::of(octets) else {
+        unreachable!();
+    };
     Ok((file, sorted))
 }
 

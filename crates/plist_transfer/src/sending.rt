@@ -1,6 +1,8 @@
 //! Octets in memory, to a sink.
 ghost use Rattle.std.specs.Prelude.{◌≡◌};
 ghost use Rattle.plist_write.specs.Sending.{IsWritten};
+ghost use Rattle.plist_files.specs.declared.forms.Form.TheVariants.{OpenStep};
+ghost use Rattle.plist_transfer.specs.Transfer.{NeedsNoMemory};
 
 use plist_devices::Sink;
 use plist_write::WriteFault;
@@ -9,6 +11,7 @@ use plist_write::WriteFault;
 pub(crate) fn send<W: Sink>(octets: &[u8], to: &mut W) -> Result<u64, WriteFault>
     ensures written { IsWritten octets.now (W.taken to.old) (W.taken to.new)
         (W.failures to.old) (W.failures to.new) result }
+    ensures memory { NeedsNoMemory OpenStep result }
     ensures same { W.device to.new ≡ W.device to.old }
 {
     let mut sent = 0;

@@ -7,7 +7,7 @@ ghost use Rattle.plist_files.specs.Refusals.{IsRefused};
 ghost use Rattle.plist_files.specs.declared.forms.Form.TheVariants.{OpenStep};
 ghost use Rattle.plist_transfer.specs.Output.{IsOutput, IsOutputFault};
 
-use ostep_write::{TextWriteFault, write_text};
+use ostep_text::{TextWriteFault, write_text};
 use plist_files::{Fault, read_any};
 use plist_value::Value;
 use std::alloc::Global;

@@ -20,12 +20,12 @@ pair_from i units = pair_word (slice_index units i) (slice_index units (i + 1))
 abbrev pub word_from : ℕ → List ℕ → ℕ
 word_from i units = pair_from i units + 4294967296 * pair_from (i + 2) units
 
--- a number for each four units, and each of those that are left by itself
+-- a number for each four units, and one for those that are left
 abbrev pub fed_units : List ℕ → List (List ℕ)
 fed_units [] = []
-fed_units (a ∷ []) = fed.u16 a
-fed_units (a ∷ b ∷ []) = fed.u16 a ++ fed.u16 b
-fed_units (a ∷ b ∷ c ∷ []) = fed.u16 a ++ fed.u16 b ++ fed.u16 c
+fed_units (a ∷ []) = fed.u64 (word a 0 0 0)
+fed_units (a ∷ b ∷ []) = fed.u64 (word a b 0 0)
+fed_units (a ∷ b ∷ c ∷ []) = fed.u64 (word a b c 0)
 fed_units (a ∷ b ∷ c ∷ d ∷ rest) = fed.u64 (word a b c d) ++ fed_units rest
 
 abbrev pub fed_text : List ℕ → List (List ℕ)

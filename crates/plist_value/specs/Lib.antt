@@ -11,3 +11,4 @@ pub mod Equality
 pub mod EqualityLaws
 pub mod Laws
 pub mod Rows
+pub mod Refusals

@@ -120,7 +120,8 @@ impl<'a> Eq for ScalarRef<'a> {
     ghost laws = { on_equiv content_of scalar_eq-equiv };
 }
 
-/// By the kind and the content alone; octets are fed in one write.
+/// By the content and the kind alone. The kind comes last: a hasher that takes eight octets at a time is fed whole
+/// words before it. Octets are fed in one write.
 impl<'a> Hash for ScalarRef<'a> {
     ghost hash_input = { λ scalar. fed_scalar (content_of scalar) };
 
@@ -128,31 +129,27 @@ impl<'a> Hash for ScalarRef<'a> {
 
     fn hash<H: Hasher>(&self, state: &mut H) {
         match self {
-            ScalarRef::Text(text) => hash_kind(0, text, state),
-            ScalarRef::Whole(whole) => hash_kind(1, whole, state),
-            ScalarRef::Flag(flag) => hash_kind(2, flag, state),
-            ScalarRef::Real4(octets) => hash_octets(3, octets, state),
-            ScalarRef::Real8(octets) => hash_octets(4, octets, state),
-            ScalarRef::Moment(octets) => hash_octets(5, octets, state),
-            ScalarRef::Bytes(octets) => {
-                state.write_u8(6);
-                state.write_usize(octets.len());
-                state.write(octets);
-            }
+            ScalarRef::Text(text) => hash_content(text, 0, state),
+            ScalarRef::Whole(whole) => hash_content(whole, 1, state),
+            ScalarRef::Flag(flag) => hash_content(flag, 2, state),
+            ScalarRef::Real4(octets) => hash_octets(octets, 3, state),
+            ScalarRef::Real8(octets) => hash_octets(octets, 4, state),
+            ScalarRef::Moment(octets) => hash_octets(octets, 5, state),
+            ScalarRef::Bytes(octets) => hash_octets(octets, 6, state),
         }
     }
 }
 
-fn hash_kind<T: Hash, H: Hasher>(kind: u8, content: &T, state: &mut H)
-    ensures { state.new ≡ fold H.write state.old (fed.u8 kind ++ T.hash_input content.now) }
+fn hash_content<T: Hash, H: Hasher>(content: &T, kind: u8, state: &mut H)
+    ensures { state.new ≡ fold H.write state.old (T.hash_input content.now ++ fed.u8 kind) }
 {
-    state.write_u8(kind);
     content.hash(state);
+    state.write_u8(kind);
 }
 
-fn hash_octets<H: Hasher>(kind: u8, octets: &[u8], state: &mut H)
-    ensures { state.new ≡ fold H.write state.old (fed.u8 kind ++ octets.now ∷ []) }
+fn hash_octets<H: Hasher>(octets: &[u8], kind: u8, state: &mut H)
+    ensures { state.new ≡ fold H.write state.old (octets.now ∷ fed.u8 kind) }
 {
-    state.write_u8(kind);
     state.write(octets);
+    state.write_u8(kind);
 }

@@ -10,7 +10,7 @@ ghost use Rattle.plist_value.specs.Hashes.{fed_text, fed_units, pair_from, word_
 ghost use Rattle.std.proofs.Common.{rules};
 ghost use Rattle.plist_value.specs.Texts.{units_of, wide_units, is_ascii_kept};
 
-use crate::words::{compare, feed, feed_octets};
+use crate::words::{compare, feed, feed_octets, word};
 use std::cmp::Ordering;
 use std::hash::{Hash, Hasher};
 
@@ -201,7 +201,7 @@ impl<'a> PartialOrd for TextRef<'a> {
     }
 }
 
-/// By the units alone, in place: their number, and then four in each write.
+/// By the units alone, in place: their number, and then four in each write, of which the last may have fewer.
 impl<'a> Hash for TextRef<'a> {
     ghost hash_input = { λ text. fed_text (units_of text) };
 
@@ -225,8 +225,12 @@ fn feed_each<H: Hasher>(text: &TextRef, state: &mut H)
     for i in 0..words {
         state.write_u64(text.word_at(4 * i));
     }
-    for i in 4 * words..text.len() {
-        state.write_u16(text.unit(i));
+    let i = 4 * words;
+    match text.len() - i {
+        0 => {}
+        1 => state.write_u64(word(text.unit(i), 0, 0, 0)),
+        2 => state.write_u64(word(text.unit(i), text.unit(i + 1), 0, 0)),
+        _ => state.write_u64(word(text.unit(i), text.unit(i + 1), text.unit(i + 2), 0)),
     }
 }
 

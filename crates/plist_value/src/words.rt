@@ -10,7 +10,7 @@ use std::hash::Hasher;
 
 // The four units as one number, the first in its lowest bits.
 #[inline(always)]
-fn word(a: u16, b: u16, c: u16, d: u16) -> u64
+pub(crate) fn word(a: u16, b: u16, c: u16, d: u16) -> u64
     ensures { result ≡ word a b c d }
 {
     let low = u32::from(a) + 65_536 * u32::from(b);
@@ -18,7 +18,7 @@ fn word(a: u16, b: u16, c: u16, d: u16) -> u64
     u64::from(low) + 4_294_967_296 * u64::from(high)
 }
 
-/// Feeds the units to the hasher: four in each write, and one in each for those that are left.
+/// Feeds the units to the hasher: four in each write, and in a last one those that are left.
 pub(crate) fn feed<H: Hasher>(units: &[u16], state: &mut H)
     ensures { state.new ≡ fold H.write state.old (fed_units units.now) }
 {
@@ -27,8 +27,11 @@ pub(crate) fn feed<H: Hasher>(units: &[u16], state: &mut H)
         state.write_u64(word(*a, *b, *c, *d));
         rest = behind;
     }
-    for unit in rest {
-        state.write_u16(*unit);
+    match rest {
+        [] => {}
+        [a] => state.write_u64(word(*a, 0, 0, 0)),
+        [a, b] => state.write_u64(word(*a, *b, 0, 0)),
+        [a, b, c, ..] => state.write_u64(word(*a, *b, *c, 0)),
     }
 }
 
@@ -43,8 +46,14 @@ pub(crate) fn feed_octets<H: Hasher>(octets: &[u8], state: &mut H)
         state.write_u64(word(a, b, c, d));
         rest = behind;
     }
-    for octet in rest {
-        state.write_u16(u16::from(*octet));
+    match rest {
+        [] => {}
+        [a] => state.write_u64(word(u16::from(*a), 0, 0, 0)),
+        [a, b] => state.write_u64(word(u16::from(*a), u16::from(*b), 0, 0)),
+        [a, b, c, ..] => {
+            let (a, b, c) = (u16::from(*a), u16::from(*b), u16::from(*c));
+            state.write_u64(word(a, b, c, 0));
+        }
     }
 }
 

@@ -1,14 +1,20 @@
 //! The texts of `--help`: what the program and each of its words read, write and answer. No line is wider
-//! than 80 columns, and the help of the program fills one screen of 24 lines.
+//! than 80 columns, and the help of the program has at most 30 lines.
 
 /// What the program is for.
 pub(crate) const ABOUT: &str = "Converts Apple property lists to their canonical form";
 
 /// What it does without words, and how it ends.
 pub(crate) const AFTER: &str = "\
-Without words it reads a property list, a binary file (bplist00) or an OpenStep
-text, from standard input and writes its canonical file to standard output:
-  plistconv < Info.plist > canonical.plist
+Reads binary files (bplist00) and OpenStep texts. XML is refused: make it binary
+first, always by the same converter, since they differ on reals:
+  plutil -convert binary1 -o OUT IN    or    plistutil -i IN -f bin -o OUT
+
+Without words it reads standard input (if empty, it is an empty dictionary) and
+writes its canonical file to standard output. A refusal is a line there, in
+place of the file, and only the status tells, so test it:
+  plistconv < Info.plist > OUT || rm OUT
+  plistconv convert binary1 Info.plist /dev/stdout > OUT || rm OUT
 
 Exit status: 0 done, equal, accepted or canonical; 1 different or not canonical;
 2 an input is refused; 3 the words are not understood; 4 a file cannot be read
@@ -63,6 +69,11 @@ pub(crate) const LINT_AFTER: &str = "\
 Reads a property list, a binary file or an OpenStep text, from IN, and writes no
 file. Prints one line: IN: OK, or what is refused, where, and why.
 
+XML is refused as 21 XmlForm. Either of these makes it binary; use one of them
+throughout, since they differ on reals, of four octets or of eight:
+  plutil -convert binary1 -o OUT IN
+  plistutil -i IN -f bin -o OUT
+
 Example: plistconv lint Info.plist
 
 Exit status:
@@ -90,6 +101,8 @@ that does not hold and the object at which it was seen.
   C6  no two objects hold one scalar
   C7  the objects are numbered as they are met from the top, and only scalars
       are met again
+
+What is no binary file, a text or XML, is refused as 1 or 2; lint tells which.
 
 Example: plistconv check Info.plist
 

@@ -45,7 +45,7 @@ module _ (v : Plist) (container : IsContainer v) (part : List Plist) (tree : pre
       let is : v ≡ scalar q = sym here.0 ∙ ap (value_at all) (sym e) ∙ at in
       subst IsContainer is container
 
-  below_ready : (old mid : Plan) (number : ℕ) → Begins old mid number → IsReady all k old → IsReady all (suc k) mid
+  below_ready : {S H : Type 0} → (old mid : Plan S H) (number : ℕ) → Begins old mid number → IsReady all k old → IsReady all (suc k) mid
   below_ready old mid number begins ready = record {
     numbered = rw (begins.scalars_kept, begins.numbers_kept) ready.numbered;
     known = λ q. rw (begins.scalars_kept, begins.numbers_kept) (ready.known q ∙ sym (known-still all k _ (no_scalar _)));
@@ -58,7 +58,7 @@ module _ (v : Plist) (container : IsContainer v) (part : List Plist) (tree : pre
   pub found_is : found_in all k (v ∷ part) ≡ held_at (number_in all) k v ∷ found_in all (suc k) part
   found_is = rw (eq-eqb _ _ own) refl
 
-  filled : (old mid done new : Plan) (number : ℕ) (filled_by : Slot) → Begins old mid number → Adds all (suc k) part mid done → held_in filled_by ≡ held_at (number_in all) k v → Finishes number filled_by done new → Adds all k (preorder v) old new
+  filled : {S H : Type 0} → (old mid done new : Plan S H) (number : ℕ) (filled_by : Slot) → Begins old mid number → Adds all (suc k) part mid done → held_in filled_by ≡ held_at (number_in all) k v → Finishes number filled_by done new → Adds all k (preorder v) old new
   filled old mid done new number filled_by begins adds holds finishes =
       let moved : suc k + length part ≡ k + length (v ∷ part) = omega arith in
       let before : length (held_by old.slots.items) ≡ number = length-map old.slots.items held_in ∙ sym begins.number_is in
@@ -74,7 +74,7 @@ module _ (v : Plist) (container : IsContainer v) (part : List Plist) (tree : pre
         found = ap held_by finishes.slot_set ∙ map-set done.slots.items number filled_by ∙ ap (λ hs. set hs number (held_in filled_by)) split ∙ set-behind (held_by old.slots.items) (found_in all (suc k) part) (held_in filler) (held_in filled_by) number before ∙ ap (λ h. held_by old.slots.items ++ (h ∷ found_in all (suc k) part)) holds ∙ ap (λ hs. held_by old.slots.items ++ hs) (sym found_is);
       })
 
-pub Walks-container : (v : Plist) → IsContainer v → (part : List Plist) → preorder v ≡ v ∷ part → (old mid done new : Plan) (number : ℕ) (filled_by : Slot) → Begins old mid number → ((all : List Plist) (k : ℕ) → Stands all k part → IsReady all k mid → Adds all k part mid done) → length mid.slots.items ≤ length done.slots.items → ((all : List Plist) (k : ℕ) → Stands all (suc k) part → IsReady all (suc k) mid → held_in filled_by ≡ held_at (number_in all) k v) → Finishes number filled_by done new → WalksTree v old new number
+pub Walks-container : {S H : Type 0} → (v : Plist) → IsContainer v → (part : List Plist) → preorder v ≡ v ∷ part → (old mid done new : Plan S H) (number : ℕ) (filled_by : Slot) → Begins old mid number → ((all : List Plist) (k : ℕ) → Stands all k part → IsReady all k mid → Adds all k part mid done) → length mid.slots.items ≤ length done.slots.items → ((all : List Plist) (k : ℕ) → Stands all (suc k) part → IsReady all (suc k) mid → held_in filled_by ≡ held_at (number_in all) k v) → Finishes number filled_by done new → WalksTree v old new number
 Walks-container v container part tree old mid done new number filled_by begins adds longer holds finishes = record {
   numbered = λ all k stands ready.
       let e : number ≡ number_in all k = begins.number_is ∙ ready.counted ∙ sym (number_is v container part tree all k stands) in
@@ -89,11 +89,11 @@ Walks-container v container part tree old mid done new number filled_by begins a
       omega arith;
 }
 
-pub Walks-list : (vs : Items) (old mid done new : Plan) (number : ℕ) (filled_by : Slot) (refs : List ℕ) → held_in filled_by ≡ holds_list refs → Begins old mid number → WalksItems vs mid done refs → Finishes number filled_by done new → WalksTree (list vs) old new number
+pub Walks-list : {S H : Type 0} → (vs : Items) (old mid done new : Plan S H) (number : ℕ) (filled_by : Slot) (refs : List ℕ) → held_in filled_by ≡ holds_list refs → Begins old mid number → WalksItems vs mid done refs → Finishes number filled_by done new → WalksTree (list vs) old new number
 Walks-list vs old mid done new number filled_by refs is begins walks finishes =
     Walks-container (list vs) tt (preorder_items vs) refl old mid done new number filled_by begins walks.adds walks.longer (λ all k stands ready. is ∙ ap holds_list (walks.numbered all (suc k) stands ready)) finishes
 
-pub Walks-table : (ps : Pairs) (old mid keyed done new : Plan) (number : ℕ) (filled_by : Slot) (keys values : List ℕ) → held_in filled_by ≡ holds_table keys values → Begins old mid number → WalksKeys ps mid keyed keys → WalksValues ps keyed done values → Finishes number filled_by done new → WalksTree (table ps) old new number
+pub Walks-table : {S H : Type 0} → (ps : Pairs) (old mid keyed done new : Plan S H) (number : ℕ) (filled_by : Slot) (keys values : List ℕ) → held_in filled_by ≡ holds_table keys values → Begins old mid number → WalksKeys ps mid keyed keys → WalksValues ps keyed done values → Finishes number filled_by done new → WalksTree (table ps) old new number
 Walks-table ps old mid keyed done new number filled_by keys values is begins first later finishes =
     Walks-container (table ps) tt (key_texts ps ++ preorder_values ps) refl old mid done new number filled_by begins
     (λ all k stands ready. let x = first.adds all k (Stands-front (key_texts ps) (preorder_values ps) stands) ready in Adds-append (key_texts ps) (preorder_values ps) x (later.adds all (k + length (key_texts ps)) (Stands-rest (key_texts ps) (preorder_values ps) (length (key_texts ps)) refl stands) x.ready))

@@ -10,7 +10,7 @@ use Rattle.plist_object.specs.Sizes.{IsSmall}
 use Rattle.plist_object.specs.Spelling.{least_width}
 use Rattle.plist_write.specs.Tree.{key_texts, preorder, preorder_items, preorder_values, item_places, key_places, value_places}
 use Rattle.plist_write.specs.Sharing.{first_place, kept_from, kept_places, value_at}
-use Rattle.plist_write.specs.Canonical.{object_octets, file_of, canon}
+use Rattle.plist_write.specs.Canonical.{object_octets, objects_of, file_of, canon}
 use Rattle.plist_write.specs.Plan.{held_at, held_in, held_by, number_in, found_in}
 use Rattle.plist_write.specs.Pieces.{spelled, AreSpellable, CanSpell, CanSpellAll, weight_of, weights, IsPlan}
 use Rattle.plist_write.specs.declared.plan.Slot.{Slot}
@@ -155,6 +155,10 @@ module _ (v : Plist) (fits : Fits v) (slots : List Slot) (found : held_by slots 
         light = rw found (omega arith);
       }
 
+  pub are_objects : spelled (least_width (length slots)) slots ≡ objects_of (preorder v)
+  are_objects =
+      rw (long, found) (octets-all (number_in (preorder v)) (least_width (length (kept_places (preorder v)))) (kept_places (preorder v)))
+
   pub is_canon : file_of (spelled (least_width (length slots)) slots) ≡ canon v
   unfolding canon
-  is_canon = rw (long, found) (ap file_of (octets-all (number_in (preorder v)) (least_width (length (kept_places (preorder v)))) (kept_places (preorder v))))
+  is_canon = ap file_of are_objects

@@ -108,6 +108,13 @@ Goes-after octets p q r t u v x y z (Err fault) gathers goes = record {
   stopped = subst (λ (os : List ℕ). Stops os p t v x z fault) (append-nil octets) (Stops-behind octets [] p q t u v x y z fault gathers goes.stopped);
 }
 
+-- nothing but what waited, and then the octets
+pub Goes-behind : {T : Type 0} (octets : List ℕ) (p q r : Pending) (t u v : Option (List ℕ)) (x y z : ℕ) (result : Result T WriteFault) → Gathers [] p q t u x y → Goes octets q r u v y z result → Goes octets p r t v x z result
+Goes-behind octets p q r t u v x y z (Ok a) gathers goes =
+    record { done = Gathers-append [] octets p q r t u v x y z gathers goes.done; stopped = tt }
+Goes-behind octets p q r t u v x y z (Err fault) gathers goes =
+    record { done = tt; stopped = Stops-behind [] octets p q t u v x y z fault gathers goes.stopped }
+
 -- after those that are done the next are refused
 pub Stops-next : (done rest all : List ℕ) (p q : Pending) (t u v : Option (List ℕ)) (x y z : ℕ) (fault : WriteFault) → done ++ rest ≡ all → Gathers done p q t u x y → Stops rest q u v y z fault → Stops all p t v x z fault
 Stops-next done rest all p q t u v x y z fault split gathers stops =

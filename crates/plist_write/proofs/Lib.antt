@@ -19,3 +19,4 @@ pub mod Sends
 pub mod Gathering
 pub mod FileSteps
 pub mod PlaceSteps
+pub mod Shortness

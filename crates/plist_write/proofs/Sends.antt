@@ -3,13 +3,28 @@ use Rattle.std.proofs.Common.{◌≡◌, ℕ, suc, ◌+◌, ◌≤◌, List, [],
 use Rattle.std.proofs.KnownBytes.{Appends-nil, Appends-trans}
 use Rattle.std.proofs.lemmas.List.{take-append-le}
 use Rattle.plist_write.specs.declared.sending.WriteFault.{WriteFault}
-use Rattle.plist_write.specs.declared.sending.WriteFault.TheVariants.{OutOfMemory}
-use Rattle.plist_write.specs.Sending.{sent_of, IsBlamed, Sends, IsWritten}
+use Rattle.plist_write.specs.declared.sending.WriteFault.TheVariants.{OutOfMemory, WriteFailed}
+use Rattle.plist_write.specs.Sending.{sent_of, IsBlamed, IsShort, Sends, IsWritten}
 
 take-past : (xs ys : List ℕ) (n : ℕ) → take (length xs + n) (xs ++ ys) ≡ xs ++ take n ys
 take-past [] ys n = ap (λ m. take m ys) (omega arith)
 take-past (x ∷ xs) ys n =
     let e : length (x ∷ xs) + n ≡ suc (length xs + n) = omega arith in rw e (ap (λ zs. x ∷ zs) (take-past xs ys n))
+
+-- a front is no longer than the whole
+pub IsShort-within : (e : WriteFault) (out all : ℕ) → IsShort e out all → out ≤ all
+IsShort-within (WriteFailed sent) out all h = omega arith
+IsShort-within (OutOfMemory sent) out all h = h
+
+-- so many more before the front, and in all
+IsShort-behind : (e : WriteFault) (first out all : ℕ) → IsShort e out all → IsShort e (first + out) (first + all)
+IsShort-behind (WriteFailed sent) first out all h = omega arith
+IsShort-behind (OutOfMemory sent) first out all h = omega arith
+
+-- so many more in all
+IsShort-longer : (e : WriteFault) (out all more : ℕ) → IsShort e out all → IsShort e out (all + more)
+IsShort-longer (WriteFailed sent) out all more h = omega arith
+IsShort-longer (OutOfMemory sent) out all more h = omega arith
 
 -- nothing is sent
 pub Sends-none : (sent : ℕ) (known : Option (List ℕ)) (failures : ℕ) → Sends [] sent known known failures failures (Ok sent)
@@ -35,7 +50,7 @@ Sends-append xs ys sent n a b c f g h (Err e) x y =
       front = (
         length xs + more,
         omega arith,
-        rw length-append (omega arith),
+        rw length-append (IsShort-behind e (length xs) more (length ys) y.front.2),
         rw take-past (Appends-trans a b c xs (take more ys) x.all.1 y.front.3),
         subst (λ (before : ℕ). IsBlamed e before h) x.all.2 y.front.4,
       );
@@ -45,10 +60,10 @@ Sends-append xs ys sent n a b c f g h (Err e) x y =
 pub Sends-stop : (xs ys : List ℕ) (sent : ℕ) (a b : Option (List ℕ)) (f g : ℕ) (e : WriteFault) → Sends xs sent a b f g (Err e) → Sends (xs ++ ys) sent a b f g (Err e)
 Sends-stop xs ys sent a b f g e x =
     let more = x.front.0 in
-    let within : more ≤ length xs = x.front.2 in
+    let within : more ≤ length xs = IsShort-within e more (length xs) x.front.2 in
     record {
       all = tt;
-      front = (more, x.front.1, rw length-append (omega arith), rw take-append-le x.front.3, x.front.4);
+      front = (more, x.front.1, rw length-append (IsShort-longer e more (length xs) (length ys) x.front.2), rw take-append-le x.front.3, x.front.4);
     }
 
 -- a file that is sent from its first octet on
@@ -58,5 +73,4 @@ is_written file a b f g (Ok n) x =
 is_written file a b f g (Err e) x =
     let more = x.front.0 in
     let sent : sent_of e ≡ more = (let s = x.front.1 in omega arith) in
-    let within = x.front.2 in
-    record { count = tt; whole = tt; within = omega arith; front = (rw sent x.front.3, x.front.4) }
+    record { count = tt; whole = tt; within = rw sent x.front.2; front = (rw sent x.front.3, x.front.4) }

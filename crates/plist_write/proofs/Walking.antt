@@ -34,7 +34,7 @@ found_in-append all k xs ys =
     ap (map (λ p. held_at (number_in all) p.0 p.1)) (kept_from-append all k xs ys) ∙ map-append _ (kept_from all k xs) _
 
 -- nothing to do
-pub Walks-none : (plan : Plan) → Walks [] (λ k. []) plan plan []
+pub Walks-none : {S H : Type 0} → (plan : Plan S H) → Walks [] (λ k. []) plan plan []
 Walks-none plan = record {
   numbered = λ all k stands ready. refl;
   adds = λ all k stands ready. record { ready = rw add-zero ready; found = sym (append-nil _) };
@@ -42,7 +42,7 @@ Walks-none plan = record {
 }
 
 -- one part, and then another
-pub Adds-append : {all : List Plist} {k : ℕ} {old mid new : Plan} (xs ys : List Plist) → Adds all k xs old mid → Adds all (k + length xs) ys mid new → Adds all k (xs ++ ys) old new
+pub Adds-append : {S H : Type 0} → {all : List Plist} {k : ℕ} {old mid new : Plan S H} (xs ys : List Plist) → Adds all k xs old mid → Adds all (k + length xs) ys mid new → Adds all k (xs ++ ys) old new
 Adds-append {all} {k} {old} {mid} {new} xs ys x y =
     let far : k + length xs + length ys ≡ k + length (xs ++ ys) = rw length-append (omega arith) in
     record {
@@ -50,7 +50,7 @@ Adds-append {all} {k} {old} {mid} {new} xs ys x y =
       found = y.found ∙ ap (λ hs. hs ++ found_in all (k + length xs) ys) x.found ∙ append_assoc (held_by old.slots.items) (found_in all k xs) (found_in all (k + length xs) ys) ∙ ap (λ hs. held_by old.slots.items ++ hs) (sym (found_in-append all k xs ys));
     }
 
-pub Walks-append : (xs ys : List Plist) (f g h : ℕ → List ℕ) (old mid new : Plan) (ms ns : List ℕ) → ((k : ℕ) → h k ≡ f k ++ g (k + length xs)) → Walks xs f old mid ms → Walks ys g mid new ns → Walks (xs ++ ys) h old new (ms ++ ns)
+pub Walks-append : {S H : Type 0} → (xs ys : List Plist) (f g h : ℕ → List ℕ) (old mid new : Plan S H) (ms ns : List ℕ) → ((k : ℕ) → h k ≡ f k ++ g (k + length xs)) → Walks xs f old mid ms → Walks ys g mid new ns → Walks (xs ++ ys) h old new (ms ++ ns)
 Walks-append xs ys f g h old mid new ms ns joined x y = record {
   numbered = λ all k stands ready.
       let first = Stands-front xs ys stands in
@@ -95,7 +95,7 @@ module _ (s : Scalar) (all : List Plist) (k : ℕ) (stands : Stands all k (scala
       ]
 
 -- a scalar that is known
-pub Walks-known : (r : ScalarRef) (old new : Plan) (n : ℕ) → number_held old r ≡ Some n → new.scalars.keys ≡ insert_key (on content_of scalar_eq) old.scalars.keys r → new.numbers ≡ old.numbers → new.slots ≡ old.slots → WalksScalar (content_of r) old new n
+pub Walks-known : {S H : Type 0} → (r : ScalarRef) (old new : Plan S H) (n : ℕ) → number_held old r ≡ Some n → new.scalars.keys ≡ insert_key (on content_of scalar_eq) old.scalars.keys r → new.numbers ≡ old.numbers → new.slots ≡ old.slots → WalksScalar (content_of r) old new n
 Walks-known r old new n held inserted same_numbers same_slots = record {
   numbered = λ all k stands ready.
       let known = known-before (content_of r) all k stands n (sym (ready.known r) ∙ held) in
@@ -123,7 +123,7 @@ Walks-known r old new n held inserted same_numbers same_slots = record {
 }
 
 -- one that is new, which is put last
-pub Walks-new : (r : ScalarRef) (old new : Plan) (n : ℕ) → number_held old r ≡ None → n ≡ length old.slots.items → held_by new.slots.items ≡ held_by old.slots.items ++ (holds_scalar (content_of r) ∷ []) → new.scalars.keys ≡ insert_key (on content_of scalar_eq) old.scalars.keys r → new.numbers.items ≡ old.numbers.items ++ (n ∷ []) → WalksScalar (content_of r) old new n
+pub Walks-new : {S H : Type 0} → (r : ScalarRef) (old new : Plan S H) (n : ℕ) → number_held old r ≡ None → n ≡ length old.slots.items → held_by new.slots.items ≡ held_by old.slots.items ++ (holds_scalar (content_of r) ∷ []) → new.scalars.keys ≡ insert_key (on content_of scalar_eq) old.scalars.keys r → new.numbers.items ≡ old.numbers.items ++ (n ∷ []) → WalksScalar (content_of r) old new n
 Walks-new r old new n unknown last added inserted pushed =
     let s = content_of r in
     let long : length new.slots.items ≡ suc (length old.slots.items) =
@@ -156,28 +156,28 @@ Walks-new r old new n unknown last added inserted pushed =
       longer = omega arith;
     }
 
-pub Walks-item : (v : Plist) (vs : Items) (old mid new : Plan) (n : ℕ) (ns : List ℕ) → WalksTree v old mid n → WalksItems vs mid new ns → WalksItems (item v vs) old new (n ∷ ns)
+pub Walks-item : {S H : Type 0} → (v : Plist) (vs : Items) (old mid new : Plan S H) (n : ℕ) (ns : List ℕ) → WalksTree v old mid n → WalksItems vs mid new ns → WalksItems (item v vs) old new (n ∷ ns)
 Walks-item v vs old mid new n ns x y =
     Walks-append (preorder v) (preorder_items vs) (λ k. k ∷ []) (λ k. item_places k vs) (λ k. item_places k (item v vs)) old mid new (n ∷ []) ns (λ k. ap (λ m. k ∷ item_places (k + m) vs) (sym (length-preorder v))) x y
 
-pub Walks-value : (key : List ℕ) (v : Plist) (ps : Pairs) (old mid new : Plan) (n : ℕ) (ns : List ℕ) → WalksTree v old mid n → WalksValues ps mid new ns → WalksValues (pair key v ps) old new (n ∷ ns)
+pub Walks-value : {S H : Type 0} → (key : List ℕ) (v : Plist) (ps : Pairs) (old mid new : Plan S H) (n : ℕ) (ns : List ℕ) → WalksTree v old mid n → WalksValues ps mid new ns → WalksValues (pair key v ps) old new (n ∷ ns)
 Walks-value key v ps old mid new n ns x y =
     Walks-append (preorder v) (preorder_values ps) (λ k. k ∷ []) (λ k. value_places k ps) (λ k. value_places k (pair key v ps)) old mid new (n ∷ []) ns (λ k. ap (λ m. k ∷ value_places (k + m) ps) (sym (length-preorder v))) x y
 
-pub Walks-key : (key : List ℕ) (v : Plist) (ps : Pairs) (old mid new : Plan) (n : ℕ) (ns : List ℕ) → WalksScalar (text key) old mid n → WalksKeys ps mid new ns → WalksKeys (pair key v ps) old new (n ∷ ns)
+pub Walks-key : {S H : Type 0} → (key : List ℕ) (v : Plist) (ps : Pairs) (old mid new : Plan S H) (n : ℕ) (ns : List ℕ) → WalksScalar (text key) old mid n → WalksKeys ps mid new ns → WalksKeys (pair key v ps) old new (n ∷ ns)
 Walks-key key v ps old mid new n ns x y =
     Walks-append (scalar (text key) ∷ []) (key_texts ps) (λ k. k ∷ []) (λ k. key_places k ps) (λ k. key_places k (pair key v ps)) old mid new (n ∷ []) ns (λ k. ap (λ m. k ∷ key_places m ps) (sym (add-one k))) x y
 
 -- one number more goes behind those that there are
-pub Walks-pushed : {part : List Plist} {places : ℕ → List ℕ} {old new : Plan} (refs pushed : List ℕ) (n : ℕ) (numbers : List ℕ) → pushed ≡ refs ++ (n ∷ []) → Walks part places old new (refs ++ (n ∷ numbers)) → Walks part places old new (pushed ++ numbers)
+pub Walks-pushed : {S H : Type 0} → {part : List Plist} {places : ℕ → List ℕ} {old new : Plan S H} (refs pushed : List ℕ) (n : ℕ) (numbers : List ℕ) → pushed ≡ refs ++ (n ∷ []) → Walks part places old new (refs ++ (n ∷ numbers)) → Walks part places old new (pushed ++ numbers)
 Walks-pushed {part} {places} {old} {new} refs pushed n numbers e w =
     subst (λ (ns : List ℕ). Walks part places old new ns) (sym (append_assoc refs (n ∷ []) numbers) ∙ ap (λ xs. xs ++ numbers) (sym e)) w
 
-pub Walks-end : {part : List Plist} {places : ℕ → List ℕ} {old new : Plan} (refs : List ℕ) → Walks part places old new (refs ++ []) → Walks part places old new refs
+pub Walks-end : {S H : Type 0} → {part : List Plist} {places : ℕ → List ℕ} {old new : Plan S H} (refs : List ℕ) → Walks part places old new (refs ++ []) → Walks part places old new refs
 Walks-end {part} {places} {old} {new} refs w = subst (λ (ns : List ℕ). Walks part places old new ns) (append-nil refs) w
 
 -- a walk that begins with nothing finds the objects of the whole tree
-pub Walks-whole : (v : Plist) (empty done : Plan) (n : ℕ) → IsEmptyPlan empty → WalksTree v empty done n → held_by done.slots.items ≡ found_in (preorder v) 0 (preorder v)
+pub Walks-whole : {S H : Type 0} → (v : Plist) (empty done : Plan S H) (n : ℕ) → IsEmptyPlan empty → WalksTree v empty done n → held_by done.slots.items ≡ found_in (preorder v) 0 (preorder v)
 Walks-whole v empty done n nothing walks =
     let all = preorder v in
     let start : IsReady all 0 empty = record {

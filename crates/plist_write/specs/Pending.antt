@@ -1,10 +1,10 @@
 -- Octets on their way to a sink.
-use Rattle.std.specs.Prelude.{◌≡◌, ℕ, ◌+◌, ◌<◌, ◌^◌, List, ◌++◌, length, Option, Result, Err, OnOk, IfErr}
+use Rattle.std.specs.Prelude.{◌≡◌, ℕ, ◌+◌, ◌<◌, ◌≤◌, ◌^◌, List, ◌++◌, length, Option, Result, Err, OnOk, IfErr}
 use Rattle.plist_write.specs.declared.sending.WriteFault.{WriteFault}
 use Rattle.std.specs.List.{concat}
 use Rattle.plist_object.specs.Spelling.{least_width, references}
 use Rattle.plist_write.specs.Canonical.{file_of, starts, trailer_octets}
-use Rattle.plist_write.specs.Sending.{Sends}
+use Rattle.plist_write.specs.Sending.{Sends, Allows}
 use Rattle.plist_write.specs.declared.pending.Pending.{Pending}
 
 -- The octets went behind those that wait, and the sink may have taken of them from the front on: where what waits
@@ -33,3 +33,18 @@ pub record AreBefore (objects : List (List ℕ)) (places : List ℕ) (pending : 
   pub begin : places ≡ starts 8 objects
   pub behind : pending.sent + length pending.octets.items ≡ 8 + length (concat objects)
   pub short : length (file_of objects) < 2 ^ 64
+
+-- no piece was longer, and what waits is not
+pub record IsShort (most : ℕ) (pending : Pending) (longest : ℕ) : Type 0 where
+  pub waits : length pending.octets.items ≤ most
+  pub pieces : longest ≤ most
+
+-- no piece was longer, and behind what waits there is room in a piece for so many octets more
+pub record LeavesRoom {T : Type 0} (most more : ℕ) (pending : Pending) (longest : ℕ) (result : Result T WriteFault) : Type 0 where
+  pub waits : OnOk result (length pending.octets.items + more ≤ most)
+  pub pieces : longest ≤ most
+
+-- Where pieces may be as long as these objects, and as so many octets: none was longer, and none is now.
+abbrev pub KeepsShort : {T : Type 0} → List (List ℕ) → ℕ → Pending → Pending → ℕ → ℕ → Result T WriteFault → Type 0
+KeepsShort objects more old new longest now_longest result =
+    (most : ℕ) → Allows most objects → more ≤ most → IsShort most old longest → LeavesRoom most more new now_longest result

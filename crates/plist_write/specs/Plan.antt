@@ -50,62 +50,62 @@ number_known all k s =
     let first = least_place s all in if nat_lt first k then Some (count_below first (kept_places all)) else None
 
 -- the number under which a scalar is found, if it is: the one at its index in the set
-abbrev pub number_held : Plan → ScalarRef → Option ℕ
+abbrev pub number_held : {S H : Type 0} → Plan S H → ScalarRef → Option ℕ
 number_held plan s = slice_get plan.numbers.items (insert_index (on content_of scalar_eq) plan.scalars s)
 
 -- there is a number for each scalar of the set
-abbrev pub IsNumbered : Plan → Type 0
+abbrev pub IsNumbered : {S H : Type 0} → Plan S H → Type 0
 IsNumbered plan = length plan.numbers.items ≡ length plan.scalars.keys
 
 -- nothing was found
-pub record IsEmptyPlan (plan : Plan) : Type 0 where
+pub record IsEmptyPlan {S H : Type 0} (plan : Plan S H) : Type 0 where
   pub numbered : IsNumbered plan
   pub unknown : (s : ScalarRef) → number_held plan s ≡ None
   pub none : plan.slots.items ≡ []
 
 -- the places below k are done: each scalar there is known by its number, and so many objects were found
-pub record IsReady (all : List Plist) (k : ℕ) (plan : Plan) : Type 0 where
+pub record IsReady {S H : Type 0} (all : List Plist) (k : ℕ) (plan : Plan S H) : Type 0 where
   pub numbered : IsNumbered plan
   pub known : (s : ScalarRef) → number_held plan s ≡ number_known all k (content_of s)
   pub counted : length plan.slots.items ≡ count_below k (kept_places all)
 
 -- the list `part`, which stands at the place k, was done
-pub record Adds (all : List Plist) (k : ℕ) (part : List Plist) (old new : Plan) : Type 0 where
+pub record Adds {S H : Type 0} (all : List Plist) (k : ℕ) (part : List Plist) (old new : Plan S H) : Type 0 where
   pub ready : IsReady all (k + length part) new
   pub found : held_by new.slots.items ≡ held_by old.slots.items ++ found_in all k part
 
 -- The list `part` was done, wherever it stands, and these are the numbers of the places, which are counted from its own.
-pub record Walks (part : List Plist) (places : ℕ → List ℕ) (old new : Plan) (numbers : List ℕ) : Type 0 where
+pub record Walks {S H : Type 0} (part : List Plist) (places : ℕ → List ℕ) (old new : Plan S H) (numbers : List ℕ) : Type 0 where
   pub numbered : (all : List Plist) (k : ℕ) → Stands all k part → IsReady all k old → numbers ≡ map (number_in all) (places k)
   pub adds : (all : List Plist) (k : ℕ) → Stands all k part → IsReady all k old → Adds all k part old new
   pub longer : length old.slots.items ≤ length new.slots.items
 
-abbrev pub WalksOne : List Plist → Plan → Plan → ℕ → Type 0
+abbrev pub WalksOne : {S H : Type 0} → List Plist → Plan S H → Plan S H → ℕ → Type 0
 WalksOne part old new number = Walks part (λ k. k ∷ []) old new (number ∷ [])
 
-abbrev pub WalksTree : Plist → Plan → Plan → ℕ → Type 0
+abbrev pub WalksTree : {S H : Type 0} → Plist → Plan S H → Plan S H → ℕ → Type 0
 WalksTree v = WalksOne (preorder v)
 
-abbrev pub WalksScalar : Scalar → Plan → Plan → ℕ → Type 0
+abbrev pub WalksScalar : {S H : Type 0} → Scalar → Plan S H → Plan S H → ℕ → Type 0
 WalksScalar s = WalksOne (scalar s ∷ [])
 
-abbrev pub WalksItems : Items → Plan → Plan → List ℕ → Type 0
+abbrev pub WalksItems : {S H : Type 0} → Items → Plan S H → Plan S H → List ℕ → Type 0
 WalksItems vs = Walks (preorder_items vs) (λ k. item_places k vs)
 
-abbrev pub WalksKeys : Pairs → Plan → Plan → List ℕ → Type 0
+abbrev pub WalksKeys : {S H : Type 0} → Pairs → Plan S H → Plan S H → List ℕ → Type 0
 WalksKeys ps = Walks (key_texts ps) (λ k. key_places k ps)
 
-abbrev pub WalksValues : Pairs → Plan → Plan → List ℕ → Type 0
+abbrev pub WalksValues : {S H : Type 0} → Pairs → Plan S H → Plan S H → List ℕ → Type 0
 WalksValues ps = Walks (preorder_values ps) (λ k. value_places k ps)
 
 -- One more slot, of the number; what it holds comes later.
-pub record Begins (old new : Plan) (number : ℕ) : Type 0 where
+pub record Begins {S H : Type 0} (old new : Plan S H) (number : ℕ) : Type 0 where
   pub number_is : number ≡ length old.slots.items
   pub scalars_kept : new.scalars ≡ old.scalars
   pub numbers_kept : new.numbers ≡ old.numbers
   pub slot_added : (filler : Slot) × (new.slots.items ≡ old.slots.items ++ (filler ∷ []))
 
-pub record Finishes (number : ℕ) (filled : Slot) (old new : Plan) : Type 0 where
+pub record Finishes {S H : Type 0} (number : ℕ) (filled : Slot) (old new : Plan S H) : Type 0 where
   pub scalars_kept : new.scalars ≡ old.scalars
   pub numbers_kept : new.numbers ≡ old.numbers
   pub slot_set : new.slots.items ≡ slice_set old.slots.items number filled

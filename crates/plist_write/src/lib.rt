@@ -9,8 +9,8 @@ pub mod putting;
 pub mod sending;
 mod walk;
 
-pub use making::{GrowingSink, canonical};
-pub use pending::{Pending, send_end, send_part};
+pub use making::{GrowingSink, canonical, canonical_with_hasher};
+pub use pending::{Pending, flush, send_end, send_part};
 pub use plist_devices::{DeviceFault, ListSink, Sink};
 pub use putting::{Part, part_length, short};
-pub use sending::{WriteFault, write_canonical};
+pub use sending::{WriteFault, write_canonical, write_canonical_with_hasher};

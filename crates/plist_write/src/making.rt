@@ -4,10 +4,11 @@ ghost use Rattle.plist_value.specs.Limits.{Fits};
 ghost use Rattle.plist_value.specs.View.{view};
 ghost use Rattle.plist_write.specs.Canonical.{canon};
 
-use crate::sending::write_canonical;
+use crate::sending::write_canonical_with_hasher;
 use crate::{DeviceFault, Sink};
-use plist_value::Value;
+use plist_value::{FixedHasher, Value};
 use std::alloc::{AllocError, Global};
+use std::hash::BuildHasher;
 
 /// A sink into memory that grows.
 #[derive(Drop)]
@@ -52,11 +53,28 @@ pub fn canonical(alloc: Global, value: &Value) -> Result<Vec<u8>, AllocError>
     requires { Fits (view value.now) }
     ensures { IfOk result (λ octets. octets.items ≡ canon (view value.now)) }
 {
+    canonical_with_hasher(alloc, FixedHasher::new(), value)
+}
+
+/// The same as [`canonical`], whose scalars are hashed by what the builder makes, as
+/// [`write_canonical_with_hasher`] says.
+///
+/// # Errors
+///
+/// Those of [`canonical`].
+pub fn canonical_with_hasher<S: BuildHasher + Copy>(
+    alloc: Global,
+    hasher: S,
+    value: &Value,
+) -> Result<Vec<u8>, AllocError>
+    requires { Fits (view value.now) }
+    ensures { IfOk result (λ octets. octets.items ≡ canon (view value.now)) }
+{
     let mut sink = GrowingSink {
         octets: Vec::new(alloc),
         failures: 0,
     };
-    match write_canonical(alloc, value, &mut sink) {
+    match write_canonical_with_hasher(alloc, hasher, value, &mut sink) {
         Ok(_) => Ok(sink.octets),
         Err(_) => Err(AllocError),
     }

@@ -1,5 +1,5 @@
 //! Octets on their way to a sink, in pieces.
-ghost use Rattle.std.specs.Prelude.{◌≡◌, ℕ, List, ◌+◌, ◌<◌, ◌≤◌, ◌-◌, ◌^◌, [], length, All, IfOk};
+ghost use Rattle.std.specs.Prelude.{◌≡◌, ℕ, List, ◌+◌, ◌<◌, ◌≤◌, ◌-◌, ◌^◌, [], ◌∷◌, length, All, IfOk};
 ghost use Rattle.std.specs.Prelude.{OnOk};
 ghost use Rattle.plist_value.specs.Plist.{bytes};
 ghost use Rattle.plist_object.specs.Sizes.{IsWidth};
@@ -7,16 +7,23 @@ ghost use Rattle.plist_object.specs.Shortest.{spelling_of};
 ghost use Rattle.plist_object.specs.Spelling.{references, scalar_spelling};
 ghost use Rattle.plist_write.specs.Canonical.{trailer_octets};
 ghost use Rattle.plist_write.specs.Pieces.{CanSpell, held_in_part};
-ghost use Rattle.plist_write.specs.Sending.{Sends};
-ghost use Rattle.plist_write.specs.Pending.{AreBefore, Goes, end_of};
+ghost use Rattle.plist_devices.specs.Sink.{IsLongest};
+ghost use Rattle.plist_write.specs.Sending.{Allows, Sends};
+ghost use Rattle.plist_write.specs.Pending.{AreBefore, Goes, KeepsShort, LeavesRoom, end_of};
 
-use crate::putting::{Part, put_data_head, put_number, put_part, put_trailer};
+use crate::putting::{Part, put_part, put_trailer};
 use crate::{Sink, WriteFault};
-use plist_object::width_of;
+use plist_object::{put_data_head, put_number, width_of};
 use plist_value::ScalarRef;
 
 /// So many octets go out at once, where an object has no more.
 const PIECE: u64 = 4096;
+
+/// What stands before the octets of data has no more octets.
+const MOST_HEAD: u64 = 10;
+
+/// The octets of a trailer.
+const TRAILER: u64 = 32;
 
 /// Octets that wait to be sent, and how many were sent before them.
 #[derive(Drop)]
@@ -45,9 +52,13 @@ pub fn send_part<W: Sink>(
     ensures goes { Goes (spelling_of width (held_in_part part.now)) pending.old pending.new
         (W.taken out.old) (W.taken out.new) (W.failures out.old) (W.failures out.new) result }
     ensures same { W.device out.new ≡ W.device out.old }
+    ensures pieces { size ≡ length (spelling_of width (held_in_part part.now))
+        → KeepsShort (spelling_of width (held_in_part part.now) ∷ []) 0 pending.old pending.new
+        (W.longest out.old) (W.longest out.new) result }
 {
     match part {
         Part::Scalar(ScalarRef::Bytes(octets)) if octets.len() as u64 > PIECE => {
+            make_room(MOST_HEAD, pending, out)?;
             send_data(octets, pending, out)
         }
         _ => {
@@ -68,6 +79,9 @@ fn send_data<W: Sink>(octets: &[u8], pending: &mut Pending, out: &mut W) -> Resu
     ensures goes { Goes (scalar_spelling (bytes octets.now)) pending.old pending.new
         (W.taken out.old) (W.taken out.new) (W.failures out.old) (W.failures out.new) result }
     ensures same { W.device out.new ≡ W.device out.old }
+    ensures pieces { (most : ℕ) → Allows most [] → length pending.old.octets.items + MOST_HEAD ≤ most
+        → length octets.now ≤ most → W.longest out.old ≤ most
+        → LeavesRoom most 0 pending.new (W.longest out.new) result }
 {
     let Ok(()) = put_data_head(&mut pending.octets, octets.len() as u64) else {
         return Err(WriteFault::OutOfMemory { sent: pending.sent });
@@ -95,6 +109,8 @@ pub fn send_end<W: Sink>(
     ensures none { OnOk result (pending.new.octets.items ≡ []) }
     ensures sent { IfOk result (λ sent. sent ≡ pending.new.sent) }
     ensures same { W.device out.new ≡ W.device out.old }
+    ensures pieces { KeepsShort [] 0 pending.old pending.new
+        (W.longest out.old) (W.longest out.new) result }
 {
     let place = pending.sent + pending.octets.len() as u64;
     send_places(width_of(place), places, pending, out)?;
@@ -116,9 +132,11 @@ fn send_places<W: Sink>(
     ensures goes { Goes (references width places.now) pending.old pending.new
         (W.taken out.old) (W.taken out.new) (W.failures out.old) (W.failures out.new) result }
     ensures same { W.device out.new ≡ W.device out.old }
+    ensures pieces { KeepsShort [] 0 pending.old pending.new
+        (W.longest out.old) (W.longest out.new) result }
 {
     for place in places {
-        make_room(8, pending, out)?;
+        make_room(u64::from(width), pending, out)?;
         let Ok(()) = put_number(&mut pending.octets, width, *place) else {
             return Err(WriteFault::OutOfMemory { sent: pending.sent });
         };
@@ -139,7 +157,10 @@ fn send_trailer<W: Sink>(
         (W.taken out.old) (W.taken out.new) (W.failures out.old) (W.failures out.new) result }
     ensures none { OnOk result (pending.new.octets.items ≡ []) }
     ensures same { W.device out.new ≡ W.device out.old }
+    ensures pieces { KeepsShort [] 0 pending.old pending.new
+        (W.longest out.old) (W.longest out.new) result }
 {
+    make_room(TRAILER, pending, out)?;
     let Ok(()) = put_trailer(&mut pending.octets, count, place) else {
         return Err(WriteFault::OutOfMemory { sent: pending.sent });
     };
@@ -152,21 +173,32 @@ fn make_room<W: Sink>(more: u64, pending: &mut Pending, out: &mut W) -> Result<(
     ensures goes { Goes [] pending.old pending.new
         (W.taken out.old) (W.taken out.new) (W.failures out.old) (W.failures out.new) result }
     ensures same { W.device out.new ≡ W.device out.old }
+    ensures pieces { KeepsShort [] more pending.old pending.new
+        (W.longest out.old) (W.longest out.new) result }
 {
     let held = pending.octets.len() as u64;
-    if held == 0 || more <= PIECE - held.min(PIECE) {
+    if held == 0 {
+        return Ok(());
+    }
+    if held <= PIECE && more <= PIECE - held {
         return Ok(());
     }
     flush(pending, out)
 }
 
-// Sends what waits.
-fn flush<W: Sink>(pending: &mut Pending, out: &mut W) -> Result<(), WriteFault>
+/// Sends all that waits.
+///
+/// # Errors
+///
+/// [`WriteFault::WriteFailed`] (51) where the sink fails.
+pub fn flush<W: Sink>(pending: &mut Pending, out: &mut W) -> Result<(), WriteFault>
     requires room { pending.old.sent + length pending.old.octets.items < 2 ^ 64 }
     ensures goes { Goes [] pending.old pending.new
         (W.taken out.old) (W.taken out.new) (W.failures out.old) (W.failures out.new) result }
     ensures none { OnOk result (pending.new.octets.items ≡ []) }
     ensures same { W.device out.new ≡ W.device out.old }
+    ensures pieces { KeepsShort [] 0 pending.old pending.new
+        (W.longest out.old) (W.longest out.new) result }
 {
     pending.sent = send(&pending.octets, pending.sent, out)?;
     pending.octets.clear();
@@ -179,6 +211,7 @@ fn send<W: Sink>(piece: &[u8], sent: u64, out: &mut W) -> Result<u64, WriteFault
     ensures sends { Sends piece.now sent (W.taken out.old) (W.taken out.new)
         (W.failures out.old) (W.failures out.new) result }
     ensures same { W.device out.new ≡ W.device out.old }
+    ensures longest { IsLongest (W.longest out.old) (W.longest out.new) (length piece.now) }
 {
     let mut done = 0;
     while done < piece.len() {

@@ -9,6 +9,7 @@ use crate::putting::{Part, short};
 use indexmap::IndexSet;
 use plist_value::ScalarRef;
 use std::alloc::{AllocError, Global};
+use std::hash::BuildHasher;
 
 /// An object: a scalar, the numbers of a list's items, or those of a table's keys and of its values.
 #[derive(Debug, Drop)]
@@ -33,18 +34,18 @@ impl<'a> Slot<'a> {
 
 /// The objects so far, the scalars among them, and their numbers.
 #[derive(Drop)]
-pub(crate) struct Plan<'a> {
-    scalars: IndexSet<ScalarRef<'a>>,
+pub(crate) struct Plan<'a, S: BuildHasher> {
+    scalars: IndexSet<ScalarRef<'a>, S>,
     numbers: Vec<u32>,
     slots: Vec<Slot<'a>>,
 }
 
-impl<'a> Plan<'a> {
-    pub(crate) fn new(alloc: Global) -> Plan<'a>
+impl<'a, S: BuildHasher + Copy> Plan<'a, S> {
+    pub(crate) fn new(alloc: Global, hasher: S) -> Plan<'a, S>
         ensures { IsEmptyPlan result }
     {
         Plan {
-            scalars: IndexSet::new(alloc),
+            scalars: IndexSet::with_hasher(alloc, hasher),
             numbers: Vec::new(alloc),
             slots: Vec::new(alloc),
         }

@@ -1,17 +1,16 @@
 //! The parts of a file, measured and put behind octets.
 ghost use Rattle.std.specs.Prelude.{◌≡◌, ◌+◌, ◌*◌, ◌<◌, ◌≤◌, ◌^◌, ◌++◌, ◌↔◌, length, IfOk, IsOk, OnOk};
-ghost use Rattle.byteorder.specs.Endian.{big_bytes};
 ghost use Rattle.plist_value.specs.Limits.{payload_of_scalar};
 ghost use Rattle.plist_value.specs.Scalars.{content_of};
 ghost use Rattle.plist_object.specs.Sizes.{IsSmall, IsWidth};
 ghost use Rattle.plist_object.specs.Shortest.{spelling_of};
-ghost use Rattle.plist_object.specs.Spelling.{head, list_spelling, scalar_spelling, table_spelling};
+ghost use Rattle.plist_object.specs.Spelling.{list_spelling, scalar_spelling, table_spelling};
 ghost use Rattle.plist_write.specs.Canonical.{trailer_octets};
 ghost use Rattle.plist_write.specs.Pieces.{CanSpell, held_in_part, weight_of};
 
-use byteorder::{BigEndian, ByteOrder};
 use plist_object::{
-    list_length, put_list, put_scalar, put_table, scalar_length, table_length, width_of,
+    list_length, put_number, put_scalar, put_short_list, put_short_table, scalar_length,
+    table_length, width_of,
 };
 use plist_value::ScalarRef;
 use std::alloc::AllocError;
@@ -59,67 +58,9 @@ pub(crate) fn put_part(out: &mut Vec<u8>, width: u8, part: &Part) -> Result<(), 
 {
     match part {
         Part::Scalar(scalar) => put_scalar(out, scalar),
-        Part::List(items) => put_list(out, width, items),
-        Part::Table(keys, values) => put_table(out, width, keys, values),
+        Part::List(items) => put_short_list(out, width, items),
+        Part::Table(keys, values) => put_short_table(out, width, keys, values),
     }
-}
-
-/// How data of so many octets, at least 15, begins.
-pub(crate) fn put_data_head(out: &mut Vec<u8>, count: u64) -> Result<(), AllocError>
-    requires { 15 ≤ count }
-    ensures { OnOk result (out.new.items ≡ out.old.items ++ head 4 count) }
-{
-    let marker = if count < 256 {
-        0x10
-    } else if count < 65536 {
-        0x11
-    } else if count < 4294967296 {
-        0x12
-    } else {
-        0x13
-    };
-    out.extend_from_slice(&[0x4f, marker])?;
-    put_number(out, width_of(count), count)
-}
-
-/// The number in so many octets.
-pub(crate) fn put_number(out: &mut Vec<u8>, width: u8, n: u64) -> Result<(), AllocError>
-    requires width { IsWidth width }
-    requires fits { n < 256 ^ width }
-    ensures { OnOk result (out.new.items ≡ out.old.items ++ big_bytes width n) }
-{
-    match width {
-        2 => put_two(out, n as u16),
-        4 => put_four(out, n as u32),
-        _ => put_digits(out, usize::from(width), n),
-    }
-}
-
-fn put_two(out: &mut Vec<u8>, n: u16) -> Result<(), AllocError>
-    ensures { OnOk result (out.new.items ≡ out.old.items ++ big_bytes 2 n) }
-{
-    let mut digits = [0; 2];
-    BigEndian::write_u16(&mut digits, n);
-    out.extend_from_slice(&digits)
-}
-
-fn put_four(out: &mut Vec<u8>, n: u32) -> Result<(), AllocError>
-    ensures { OnOk result (out.new.items ≡ out.old.items ++ big_bytes 4 n) }
-{
-    let mut digits = [0; 4];
-    BigEndian::write_u32(&mut digits, n);
-    out.extend_from_slice(&digits)
-}
-
-fn put_digits(out: &mut Vec<u8>, width: usize, n: u64) -> Result<(), AllocError>
-    requires width_least { 1 ≤ width }
-    requires width_most { width ≤ 8 }
-    requires fits { n < 256 ^ width }
-    ensures { OnOk result (out.new.items ≡ out.old.items ++ big_bytes width n) }
-{
-    let mut digits = [0; 8];
-    BigEndian::write_uint(&mut digits, n, width);
-    out.extend_from_slice(&digits[..width])
 }
 
 /// The trailer of a file with so many objects and its offset table at the place, behind the octets of `out`.

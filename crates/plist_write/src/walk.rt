@@ -10,20 +10,29 @@ use crate::plan::{Plan, Slot};
 use plist_value::{ScalarRef, TextRef, Utf16, Value};
 use std::alloc::{AllocError, Global};
 use std::collections::BTreeMap;
+use std::hash::BuildHasher;
 
 /// The objects of the value's canonical file, in the order of their numbers.
-pub(crate) fn slots_of<'a>(alloc: Global, value: &'a Value) -> Result<Vec<Slot<'a>>, AllocError>
+pub(crate) fn slots_of<'a, S: BuildHasher + Copy>(
+    alloc: Global,
+    hasher: S,
+    value: &'a Value,
+) -> Result<Vec<Slot<'a>>, AllocError>
     ensures { IfOk result
         (λ slots. let all = preorder (view value.now) in held_by slots.items ≡ found_in all 0 all) }
 {
-    let mut plan = Plan::new(alloc);
+    let mut plan = Plan::new(alloc, hasher);
     walk(alloc, &mut plan, value)?;
     Ok(plan.into_slots())
 }
 
 // The number of the value, whose objects are added.
 #[cycle(walk)]
-fn walk<'a>(alloc: Global, plan: &mut Plan<'a>, value: &'a Value) -> Result<u32, AllocError>
+fn walk<'a, S: BuildHasher + Copy>(
+    alloc: Global,
+    plan: &mut Plan<'a, S>,
+    value: &'a Value,
+) -> Result<u32, AllocError>
     ensures { IfOk result (WalksTree (view value.now) plan.old plan.new) }
 {
     match value {
@@ -34,9 +43,9 @@ fn walk<'a>(alloc: Global, plan: &mut Plan<'a>, value: &'a Value) -> Result<u32,
 }
 
 #[cycle(walk)]
-fn walk_list<'a>(
+fn walk_list<'a, S: BuildHasher + Copy>(
     alloc: Global,
-    plan: &mut Plan<'a>,
+    plan: &mut Plan<'a, S>,
     items: &'a Vec<Value>,
 ) -> Result<u32, AllocError>
     ensures { IfOk result (WalksTree (list (view_items items.now.items)) plan.old plan.new) }
@@ -48,9 +57,9 @@ fn walk_list<'a>(
 }
 
 #[cycle(walk)]
-fn walk_table<'a>(
+fn walk_table<'a, S: BuildHasher + Copy>(
     alloc: Global,
-    plan: &mut Plan<'a>,
+    plan: &mut Plan<'a, S>,
     pairs: &'a BTreeMap<Utf16, Value>,
 ) -> Result<u32, AllocError>
     ensures { IfOk result (WalksTree (table (view_pairs pairs.now.entries)) plan.old plan.new) }
@@ -64,9 +73,9 @@ fn walk_table<'a>(
 
 // The numbers of the items.
 #[cycle(walk)]
-fn walk_items<'a>(
+fn walk_items<'a, S: BuildHasher + Copy>(
     alloc: Global,
-    plan: &mut Plan<'a>,
+    plan: &mut Plan<'a, S>,
     items: &'a Vec<Value>,
 ) -> Result<Vec<u32>, AllocError>
     ensures { IfOk result
@@ -81,9 +90,9 @@ fn walk_items<'a>(
 
 // The numbers of the values.
 #[cycle(walk)]
-fn walk_values<'a>(
+fn walk_values<'a, S: BuildHasher + Copy>(
     alloc: Global,
-    plan: &mut Plan<'a>,
+    plan: &mut Plan<'a, S>,
     pairs: &'a BTreeMap<Utf16, Value>,
 ) -> Result<Vec<u32>, AllocError>
     ensures { IfOk result
@@ -97,9 +106,9 @@ fn walk_values<'a>(
 }
 
 // The numbers of the keys.
-fn number_keys<'a>(
+fn number_keys<'a, S: BuildHasher + Copy>(
     alloc: Global,
-    plan: &mut Plan<'a>,
+    plan: &mut Plan<'a, S>,
     pairs: &'a BTreeMap<Utf16, Value>,
 ) -> Result<Vec<u32>, AllocError>
     ensures { IfOk result

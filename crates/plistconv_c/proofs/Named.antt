@@ -1,12 +1,9 @@
 -- Each fault is named by its unit, its number and its place, up to faults that are told and printed alike.
-use Rattle.std.proofs.Common.{◌≡◌, ◌∙◌, ℕ, List, Some, refl, sym, ap, subst}
+use Rattle.std.proofs.Common.{◌≡◌, ◌∙◌, ℕ, Some, refl, sym, ap, subst}
 use Rattle.std.proofs.lemmas.Option.{same_Some}
-use Rattle.plist_object.specs.declared.layout.LayoutFault.TheVariants as layout
-use Rattle.plist_object.specs.declared.object.ObjectFault.TheVariants as object
 use Rattle.plist_binary.specs.declared.fault.BinaryFault.TheVariants as binary
-use Rattle.ostep_lex.specs.declared.fault.LexFault.TheVariants as token
-use Rattle.ostep_form.specs.declared.fault.TextFault.TheVariants as text
-use Rattle.plist_files.specs.Fault.{code_of, fault_text}
+use Rattle.ostep_text.specs.declared.fault.TextFault.TheVariants as text
+use Rattle.plist_files.specs.Fault.{code_of, fault_text, report_of}
 use Rattle.plist_files.specs.declared.faults.Fault.{Fault}
 use Rattle.plist_files.specs.declared.faults.Fault.TheVariants.{Binary, Text, NotInOpenStep, ReadFailed, WriteFailed, InputTooLarge, OutOfMemory}
 use Rattle.plistconv_c.specs.Lines.{fault_at}
@@ -16,26 +13,26 @@ use Rattle.plistconv_c.specs.declared.refusals.Refusal.{Refusal}
 -- the fault that the unit, the number and the place of a fault name
 pub record IsNamed (fault : Fault) : Type 0 where
   pub one : Fault
-  pub found : fault_at (unit_of fault) (code_of fault) (place_of fault) ≡ Some one
+  pub found : fault_at (unit_of (report_of fault).1) (code_of fault) (place_of (report_of fault).1) ≡ Some one
   pub told : (input : ℕ) → refusal_of one input ≡ refusal_of fault input
   pub printed : fault_text one ≡ fault_text fault
 
-itself : (fault : Fault) → fault_at (unit_of fault) (code_of fault) (place_of fault) ≡ Some fault → IsNamed fault
+itself : (fault : Fault) → fault_at (unit_of (report_of fault).1) (code_of fault) (place_of (report_of fault).1) ≡ Some fault → IsNamed fault
 itself fault found = record { one = fault; found = found; told = λ _. refl; printed = refl }
 
 pub named : (fault : Fault) → IsNamed fault
-named (Binary (binary.Layout layout.TooShort)) = itself _ refl
-named (Binary (binary.Layout layout.BadHeader)) = itself _ refl
-named (Binary (binary.Layout layout.BadTrailer)) = itself _ refl
-named (Binary (binary.Object i object.BadOffset)) = itself _ refl
-named (Binary (binary.Object i object.CutObject)) = itself _ refl
-named (Binary (binary.Object i object.BadMarker)) = itself _ refl
-named (Binary (binary.Object i object.NullObject)) = itself _ refl
-named (Binary (binary.Object i object.UidObject)) = itself _ refl
-named (Binary (binary.Object i object.SetObject)) = itself _ refl
-named (Binary (binary.Object i object.NotAscii)) = itself _ refl
-named (Binary (binary.Object i object.WideInteger)) = itself _ refl
+named (Binary binary.TooShort) = itself _ refl
+named (Binary binary.BadHeader) = itself _ refl
+named (Binary binary.BadTrailer) = itself _ refl
+named (Binary (binary.BadOffset i)) = itself _ refl
 named (Binary (binary.BadReference i)) = itself _ refl
+named (Binary (binary.CutObject i)) = itself _ refl
+named (Binary (binary.BadMarker i)) = itself _ refl
+named (Binary (binary.NullObject i)) = itself _ refl
+named (Binary (binary.UidObject i)) = itself _ refl
+named (Binary (binary.SetObject i)) = itself _ refl
+named (Binary (binary.NotAscii i)) = itself _ refl
+named (Binary (binary.WideInteger i)) = itself _ refl
 named (Binary (binary.KeyNotText i)) = itself _ refl
 named (Binary (binary.DuplicateKey i)) = itself _ refl
 named (Binary (binary.Cycle i)) = itself _ refl
@@ -43,24 +40,22 @@ named (Binary (binary.TooDeep i)) = itself _ refl
 named (Binary (binary.TooManyNodes i)) = itself _ refl
 named (Binary (binary.TooMuchPayload i)) = itself _ refl
 named (Binary binary.OutOfMemory) = itself _ refl
-named (Text (text.Tokens (token.BadUtf8 i))) = itself _ refl
-named (Text (text.Tokens (token.XmlForm i))) = itself _ refl
-named (Text (text.Tokens (token.UnexpectedCharacter i))) = itself _ refl
-named (Text (text.Tokens (token.UnclosedString i))) = itself _ refl
-named (Text (text.Tokens (token.UnclosedComment i))) = itself _ refl
-named (Text (text.Tokens (token.BadEscape i))) = itself _ refl
-named (Text (text.Tokens (token.OctalRange i))) = itself _ refl
-named (Text (text.Tokens (token.OddData i))) = itself _ refl
-named (Text (text.Tokens (token.BadData i))) = itself _ refl
-named (Text (text.Tokens (token.BadUtf16 i))) = itself _ refl
-named (Text (text.Tokens token.OutOfMemory)) =
-    record { one = Binary binary.OutOfMemory; found = refl; told = λ _. refl; printed = refl }
 named (Text (text.DuplicateKey i)) = itself _ refl
 named (Text (text.TooDeep i)) = itself _ refl
 named (Text (text.TooManyNodes i)) = itself _ refl
 named (Text (text.TooMuchPayload i)) = itself _ refl
+named (Text (text.BadUtf8 i)) = itself _ refl
+named (Text (text.XmlForm i)) = itself _ refl
+named (Text (text.UnexpectedCharacter i)) = itself _ refl
+named (Text (text.UnclosedString i)) = itself _ refl
+named (Text (text.UnclosedComment i)) = itself _ refl
+named (Text (text.BadEscape i)) = itself _ refl
+named (Text (text.OctalRange i)) = itself _ refl
+named (Text (text.OddData i)) = itself _ refl
+named (Text (text.BadData i)) = itself _ refl
 named (Text (text.Expected i)) = itself _ refl
 named (Text (text.Junk i)) = itself _ refl
+named (Text (text.BadUtf16 i)) = itself _ refl
 named (Text text.OutOfMemory) =
     record { one = Binary binary.OutOfMemory; found = refl; told = λ _. refl; printed = refl }
 named NotInOpenStep = itself _ refl

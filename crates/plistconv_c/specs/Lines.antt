@@ -1,10 +1,7 @@
 -- The fault that a refusal tells, and the line that is printed of it.
 use Rattle.std.specs.Prelude.{◌≡◌, ◌⊎◌, ◌==◌, ℕ, List, Option, Some, None, if◌then◌else◌}
-use Rattle.plist_object.specs.declared.layout.LayoutFault.TheVariants as layout
-use Rattle.plist_object.specs.declared.object.ObjectFault.TheVariants as object
 use Rattle.plist_binary.specs.declared.fault.BinaryFault.TheVariants as binary
-use Rattle.ostep_lex.specs.declared.fault.LexFault.TheVariants as token
-use Rattle.ostep_form.specs.declared.fault.TextFault.TheVariants as text
+use Rattle.ostep_text.specs.declared.fault.TextFault.TheVariants as text
 use Rattle.plist_files.specs.Line.{line_of}
 use Rattle.plist_files.specs.declared.faults.Fault.{Fault}
 use Rattle.plist_files.specs.declared.faults.Fault.TheVariants.{Binary, Text, NotInOpenStep, ReadFailed, WriteFailed, InputTooLarge, OutOfMemory}
@@ -32,54 +29,34 @@ pub record IsNoLine (before after : List ℕ) (count : ℕ) (told : Refusal) (nu
 -- the fault of a number that has no place
 abbrev pub fault_nowhere : ℕ → Option Fault
 fault_nowhere number =
-    if number == 1 then Some (Binary (binary.Layout layout.TooShort))
-    else (if number == 2 then Some (Binary (binary.Layout layout.BadHeader))
-    else (if number == 3 then Some (Binary (binary.Layout layout.BadTrailer))
+    if number == 1 then Some (Binary binary.TooShort)
+    else (if number == 2 then Some (Binary binary.BadHeader)
+    else (if number == 3 then Some (Binary binary.BadTrailer)
     else (if number == 40 then Some NotInOpenStep
     else (if number == 50 then Some ReadFailed
     else (if number == 52 then Some InputTooLarge
     else (if number == 60 then Some (Binary binary.OutOfMemory)
     else None))))))
 
--- the fault of an object that does not read
-abbrev pub fault_in : ℕ → ℕ → Option Fault
-fault_in number place =
-    if number == 4 then Some (Binary (binary.Object place object.BadOffset))
-    else (if number == 6 then Some (Binary (binary.Object place object.CutObject))
-    else (if number == 7 then Some (Binary (binary.Object place object.BadMarker))
-    else (if number == 8 then Some (Binary (binary.Object place object.NullObject))
-    else (if number == 9 then Some (Binary (binary.Object place object.UidObject))
-    else (if number == 10 then Some (Binary (binary.Object place object.SetObject))
-    else (if number == 11 then Some (Binary (binary.Object place object.NotAscii))
-    else (if number == 12 then Some (Binary (binary.Object place object.WideInteger))
-    else None)))))))
-
 -- the fault of an object of a binary file
 abbrev pub fault_at_object : ℕ → ℕ → Option Fault
 fault_at_object number place =
-    if number == 5 then Some (Binary (binary.BadReference place))
+    if number == 4 then Some (Binary (binary.BadOffset place))
+    else (if number == 5 then Some (Binary (binary.BadReference place))
+    else (if number == 6 then Some (Binary (binary.CutObject place))
+    else (if number == 7 then Some (Binary (binary.BadMarker place))
+    else (if number == 8 then Some (Binary (binary.NullObject place))
+    else (if number == 9 then Some (Binary (binary.UidObject place))
+    else (if number == 10 then Some (Binary (binary.SetObject place))
+    else (if number == 11 then Some (Binary (binary.NotAscii place))
+    else (if number == 12 then Some (Binary (binary.WideInteger place))
     else (if number == 13 then Some (Binary (binary.KeyNotText place))
     else (if number == 14 then Some (Binary (binary.DuplicateKey place))
     else (if number == 15 then Some (Binary (binary.Cycle place))
     else (if number == 16 then Some (Binary (binary.TooDeep place))
     else (if number == 17 then Some (Binary (binary.TooManyNodes place))
     else (if number == 18 then Some (Binary (binary.TooMuchPayload place))
-    else fault_in number place))))))
-
--- the fault of a token at an octet of a text
-abbrev pub fault_of_token : ℕ → ℕ → Option Fault
-fault_of_token number place =
-    if number == 20 then Some (Text (text.Tokens (token.BadUtf8 place)))
-    else (if number == 21 then Some (Text (text.Tokens (token.XmlForm place)))
-    else (if number == 23 then Some (Text (text.Tokens (token.UnexpectedCharacter place)))
-    else (if number == 24 then Some (Text (text.Tokens (token.UnclosedString place)))
-    else (if number == 25 then Some (Text (text.Tokens (token.UnclosedComment place)))
-    else (if number == 26 then Some (Text (text.Tokens (token.BadEscape place)))
-    else (if number == 27 then Some (Text (text.Tokens (token.OctalRange place)))
-    else (if number == 28 then Some (Text (text.Tokens (token.OddData place)))
-    else (if number == 29 then Some (Text (text.Tokens (token.BadData place)))
-    else (if number == 32 then Some (Text (text.Tokens (token.BadUtf16 place)))
-    else None)))))))))
+    else None))))))))))))))
 
 -- the fault at an octet of a text
 abbrev pub fault_at_octet : ℕ → ℕ → Option Fault
@@ -88,9 +65,19 @@ fault_at_octet number place =
     else (if number == 16 then Some (Text (text.TooDeep place))
     else (if number == 17 then Some (Text (text.TooManyNodes place))
     else (if number == 18 then Some (Text (text.TooMuchPayload place))
+    else (if number == 20 then Some (Text (text.BadUtf8 place))
+    else (if number == 21 then Some (Text (text.XmlForm place))
+    else (if number == 23 then Some (Text (text.UnexpectedCharacter place))
+    else (if number == 24 then Some (Text (text.UnclosedString place))
+    else (if number == 25 then Some (Text (text.UnclosedComment place))
+    else (if number == 26 then Some (Text (text.BadEscape place))
+    else (if number == 27 then Some (Text (text.OctalRange place))
+    else (if number == 28 then Some (Text (text.OddData place))
+    else (if number == 29 then Some (Text (text.BadData place))
     else (if number == 30 then Some (Text (text.Expected place))
     else (if number == 31 then Some (Text (text.Junk place))
-    else fault_of_token number place)))))
+    else (if number == 32 then Some (Text (text.BadUtf16 place))
+    else None)))))))))))))))
 
 -- the fault after so many octets had gone out
 abbrev pub fault_after : ℕ → ℕ → Option Fault

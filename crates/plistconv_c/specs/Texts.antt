@@ -1,7 +1,7 @@
 -- What the call for a text answers.
 use Rattle.std.specs.Prelude.{◌≡◌, ℕ, List, Some, None}
 use Rattle.plist_value.specs.Plist.{Plist}
-use Rattle.ostep_form.specs.Written.{text_of}
+use Rattle.ostep_text.specs.Written.{text_of}
 use Rattle.plist_files.specs.Accepted.{IsAccepted}
 use Rattle.plist_files.specs.Refusals.{IsRefused}
 use Rattle.plist_files.specs.declared.faults.Fault.{Fault}

@@ -1,9 +1,13 @@
 //! Whether a binary file is canonical.
-ghost use Rattle.std.specs.Prelude.{◌≡◌, ◌≢◌};
+ghost use Rattle.std.specs.Prelude.{◌≡◌, ◌≢◌, ◌↔◌, IfOk, IfErr};
+ghost use Rattle.plist_object.specs.Layout.{IsLaid};
+ghost use Rattle.plist_canon.specs.Checking.{IsCheckFault, IsVerdict};
+ghost use Rattle.plist_canon.specs.Locality.{IsCanonical};
 ghost use Rattle.plistconv_c.specs.Answers.{IsChecked, IsUnchecked, finding_of};
 
 use crate::Refusal;
-use plist_canon::{Verdict, check};
+use crate::keys::keyed_hasher;
+use plist_canon::{CheckFault, Verdict, check, check_with_hasher};
 use plist_files::Fault;
 use std::alloc::Global;
 
@@ -15,12 +19,13 @@ pub struct Finding {
     pub object: u64,
     /// 1 where the octets are the canonical file of a value within the limits, else 0.
     pub canonical: u8,
-    /// The rule that is broken first, from 0 to 7; 0 where none is.
+    /// A rule that is broken, from 0 to 7; 0 where none is.
     pub rule: u8,
 }
 
-/// Whether the octets, a binary file, are canonical, and the first broken rule where they are not. No value
-/// is built.
+/// Whether the octets, a binary file, are canonical, and a broken rule where they are not. No value
+/// is built. Scalars are hashed under the key, or, where it is all zeros, under a fixed seed, for which somebody
+/// can pick scalars that collide.
 ///
 /// # Errors
 ///
@@ -30,13 +35,14 @@ pub struct Finding {
 pub extern "C" fn plistconv_check(
     alloc: Global,
     octets: &[u8],
+    key: &[u8; 16],
     finding: &mut Finding,
     refusal: &mut Refusal,
 ) -> u8
     ensures checked { result ≡ 0 → IsChecked octets.now finding.new refusal.new }
     ensures refused { result ≢ 0 → IsUnchecked octets.now finding.new refusal.new result }
 {
-    match check(alloc, octets) {
+    match checked(alloc, octets, key) {
         Ok(verdict) => {
             *finding = found(verdict);
             *refusal = Refusal::none();
@@ -51,6 +57,20 @@ pub extern "C" fn plistconv_check(
             *refusal = Refusal::of(&Fault::from(fault), 1);
             fault.code()
         }
+    }
+}
+
+// What is found of the file under the key.
+fn checked(alloc: Global, octets: &[u8], key: &[u8; 16]) -> Result<Verdict, CheckFault>
+    ensures fault { IfErr result (IsCheckFault octets.now) }
+    ensures laid { IfOk result (λ _. IsLaid octets.now) }
+    ensures verdict { IfOk result (IsVerdict octets.now) }
+    ensures canonical { IfOk result
+        (λ verdict. (verdict ≡ Verdict.Canonical) ↔ IsCanonical octets.now) }
+{
+    match keyed_hasher(key) {
+        Some(hasher) => check_with_hasher(alloc, hasher, octets),
+        None => check(alloc, octets),
     }
 }
 

@@ -1,15 +1,13 @@
 //! The fault that a refusal tells.
 ghost use Rattle.std.specs.Prelude.{◌≡◌, None, IfSome};
 ghost use Rattle.plistconv_c.specs.Lines.{IsUntold, fault_after, fault_at, fault_at_object};
-ghost use Rattle.plistconv_c.specs.Lines.{fault_at_octet, fault_in, fault_nowhere, fault_of_token};
+ghost use Rattle.plistconv_c.specs.Lines.{fault_at_octet, fault_nowhere};
 ghost use Rattle.plistconv_c.specs.Refusals.{refusal_of};
 
 use crate::Refusal;
-use ostep_form::TextFault;
-use ostep_lex::LexFault;
+use ostep_text::TextFault;
 use plist_binary::BinaryFault;
 use plist_files::Fault;
-use plist_object::{LayoutFault, ObjectFault};
 
 // The fault that is told, where there is one. Of faults that are told alike it is one.
 pub(crate) fn fault_of(refusal: &Refusal) -> Option<Fault>
@@ -40,9 +38,9 @@ fn fault_nowhere(number: u8) -> Option<Fault>
     ensures { result ≡ fault_nowhere number }
 {
     Some(match number {
-        1 => Fault::Binary(BinaryFault::Layout(LayoutFault::TooShort)),
-        2 => Fault::Binary(BinaryFault::Layout(LayoutFault::BadHeader)),
-        3 => Fault::Binary(BinaryFault::Layout(LayoutFault::BadTrailer)),
+        1 => Fault::Binary(BinaryFault::TooShort),
+        2 => Fault::Binary(BinaryFault::BadHeader),
+        3 => Fault::Binary(BinaryFault::BadTrailer),
         40 => Fault::NotInOpenStep,
         50 => Fault::ReadFailed,
         52 => Fault::InputTooLarge,
@@ -55,32 +53,23 @@ fn fault_at_object(number: u8, object: u64) -> Option<Fault>
     ensures { result ≡ fault_at_object number object }
 {
     Some(Fault::Binary(match number {
+        4 => BinaryFault::BadOffset { object },
         5 => BinaryFault::BadReference { object },
+        6 => BinaryFault::CutObject { object },
+        7 => BinaryFault::BadMarker { object },
+        8 => BinaryFault::NullObject { object },
+        9 => BinaryFault::UidObject { object },
+        10 => BinaryFault::SetObject { object },
+        11 => BinaryFault::NotAscii { object },
+        12 => BinaryFault::WideInteger { object },
         13 => BinaryFault::KeyNotText { object },
         14 => BinaryFault::DuplicateKey { object },
         15 => BinaryFault::Cycle { object },
         16 => BinaryFault::TooDeep { object },
         17 => BinaryFault::TooManyNodes { object },
         18 => BinaryFault::TooMuchPayload { object },
-        _ => return fault_in(number, object),
-    }))
-}
-
-fn fault_in(number: u8, object: u64) -> Option<Fault>
-    ensures { result ≡ fault_in number object }
-{
-    let fault = match number {
-        4 => ObjectFault::BadOffset,
-        6 => ObjectFault::CutObject,
-        7 => ObjectFault::BadMarker,
-        8 => ObjectFault::NullObject,
-        9 => ObjectFault::UidObject,
-        10 => ObjectFault::SetObject,
-        11 => ObjectFault::NotAscii,
-        12 => ObjectFault::WideInteger,
         _ => return None,
-    };
-    Some(Fault::Binary(BinaryFault::Object { object, fault }))
+    }))
 }
 
 fn fault_at_octet(number: u8, octet: usize) -> Option<Fault>
@@ -91,29 +80,20 @@ fn fault_at_octet(number: u8, octet: usize) -> Option<Fault>
         16 => TextFault::TooDeep { octet },
         17 => TextFault::TooManyNodes { octet },
         18 => TextFault::TooMuchPayload { octet },
+        20 => TextFault::BadUtf8 { octet },
+        21 => TextFault::XmlForm { octet },
+        23 => TextFault::UnexpectedCharacter { octet },
+        24 => TextFault::UnclosedString { octet },
+        25 => TextFault::UnclosedComment { octet },
+        26 => TextFault::BadEscape { octet },
+        27 => TextFault::OctalRange { octet },
+        28 => TextFault::OddData { octet },
+        29 => TextFault::BadData { octet },
         30 => TextFault::Expected { octet },
         31 => TextFault::Junk { octet },
-        _ => return fault_of_token(number, octet),
-    }))
-}
-
-fn fault_of_token(number: u8, octet: usize) -> Option<Fault>
-    ensures { result ≡ fault_of_token number octet }
-{
-    let fault = match number {
-        20 => LexFault::BadUtf8 { octet },
-        21 => LexFault::XmlForm { octet },
-        23 => LexFault::UnexpectedCharacter { octet },
-        24 => LexFault::UnclosedString { octet },
-        25 => LexFault::UnclosedComment { octet },
-        26 => LexFault::BadEscape { octet },
-        27 => LexFault::OctalRange { octet },
-        28 => LexFault::OddData { octet },
-        29 => LexFault::BadData { octet },
-        32 => LexFault::BadUtf16 { octet },
+        32 => TextFault::BadUtf16 { octet },
         _ => return None,
-    };
-    Some(Fault::Text(TextFault::Tokens(fault)))
+    }))
 }
 
 fn fault_after(number: u8, sent: u64) -> Option<Fault>

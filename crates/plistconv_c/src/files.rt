@@ -1,15 +1,22 @@
 //! The canonical file of octets, and whether two spell the same.
-ghost use Rattle.std.specs.Prelude.{◌≡◌, ◌≢◌};
+ghost use Rattle.std.specs.Prelude.{◌≡◌, ◌≢◌, IfOk, IfErr};
+ghost use Rattle.plist_files.specs.Accepted.{IsCanonicalOf};
+ghost use Rattle.plist_files.specs.Pair.{IsPair, IsRefusedPair as IsRefusedOf};
+ghost use Rattle.plist_files.specs.Refusals.{IsRefused};
 ghost use Rattle.plistconv_c.specs.Answers.{IsCanonicalGiven, IsCompared};
 ghost use Rattle.plistconv_c.specs.Answers.{IsRefusedPair, IsRefusedWhole};
 
 use crate::Refusal;
 use crate::giving::give;
-use plist_files::{PairFault, canonicalise, same_files};
+use crate::keys::keyed_hasher;
+use plist_files::{
+    Fault, PairFault, canonicalise, canonicalise_with_hasher, same_files, same_files_with_hasher,
+};
 use std::alloc::Global;
 
 /// The canonical file of the value that the octets spell, at the head of the buffer. Where the buffer has
-/// no room for it, the buffer is as it was, and `length` is what is needed.
+/// no room for it, the buffer is as it was, and `length` is what is needed. Scalars are hashed under the key, or,
+/// where it is all zeros, under a fixed seed, for which somebody can pick scalars that collide.
 ///
 /// # Errors
 ///
@@ -18,6 +25,7 @@ use std::alloc::Global;
 pub extern "C" fn plistconv_canonical(
     alloc: Global,
     octets: &[u8],
+    key: &[u8; 16],
     into: &mut [u8],
     length: &mut usize,
     refusal: &mut Refusal,
@@ -27,7 +35,7 @@ pub extern "C" fn plistconv_canonical(
     ensures refused { result ≢ 0
         → IsRefusedWhole octets.now into.old into.new length.new refusal.new result }
 {
-    match canonicalise(alloc, octets) {
+    match canonical_file(alloc, octets, key) {
         Ok(file) => {
             give(&file, into, length);
             *refusal = Refusal::none();
@@ -41,7 +49,19 @@ pub extern "C" fn plistconv_canonical(
     }
 }
 
-/// Whether the two octet lists spell equal values: `equal` is 1 or 0.
+// The canonical file of the value that the octets spell, made under the key.
+fn canonical_file(alloc: Global, octets: &[u8], key: &[u8; 16]) -> Result<Vec<u8>, Fault>
+    ensures canonical { IfOk result (λ file. IsCanonicalOf octets.now file.items) }
+    ensures refused { IfErr result (IsRefused octets.now) }
+{
+    match keyed_hasher(key) {
+        Some(hasher) => canonicalise_with_hasher(alloc, hasher, octets),
+        None => canonicalise(alloc, octets),
+    }
+}
+
+/// Whether the two octet lists spell equal values: `equal` is 1 or 0. Scalars are hashed as in
+/// [`plistconv_canonical`].
 ///
 /// # Errors
 ///
@@ -51,6 +71,7 @@ pub extern "C" fn plistconv_same(
     alloc: Global,
     first: &[u8],
     second: &[u8],
+    key: &[u8; 16],
     equal: &mut u8,
     refusal: &mut Refusal,
 ) -> u8
@@ -58,7 +79,7 @@ pub extern "C" fn plistconv_same(
     ensures refused { result ≢ 0
         → IsRefusedPair first.now second.now equal.new refusal.new result }
 {
-    match same_files(alloc, first, second) {
+    match is_same(alloc, first, second, key) {
         Ok(same) => {
             *equal = same as u8;
             *refusal = Refusal::none();
@@ -74,5 +95,16 @@ pub extern "C" fn plistconv_same(
             *refusal = Refusal::of(&fault, 2);
             fault.code()
         }
+    }
+}
+
+// Whether the two spell equal values, found under the key.
+fn is_same(alloc: Global, first: &[u8], second: &[u8], key: &[u8; 16]) -> Result<bool, PairFault>
+    ensures same { IfOk result (λ equal. IsPair first.now second.now equal) }
+    ensures refused { IfErr result (IsRefusedOf first.now second.now) }
+{
+    match keyed_hasher(key) {
+        Some(hasher) => same_files_with_hasher(alloc, hasher, first, second),
+        None => same_files(alloc, first, second),
     }
 }

@@ -8,12 +8,15 @@ mod checking;
 mod faults;
 mod files;
 mod giving;
+mod keys;
 mod lines;
 mod refusals;
 mod texts;
+mod version;
 
 pub use checking::{Finding, plistconv_check};
 pub use files::{plistconv_canonical, plistconv_same};
 pub use lines::plistconv_line;
 pub use refusals::Refusal;
 pub use texts::plistconv_text;
+pub use version::plistconv_version;

@@ -4,7 +4,7 @@ ghost use Rattle.plistconv_c.specs.Texts.{IsTextGiven, IsTextRefused};
 
 use crate::Refusal;
 use crate::giving::give;
-use ostep_write::{TextWriteFault, write_text};
+use ostep_text::{TextWriteFault, write_text};
 use plist_files::{Fault, read_any};
 use std::alloc::Global;
 

@@ -1,6 +1,6 @@
 //! The value that octets spell, told by its canonical file and its OpenStep text, and how others are refused.
 use crate::octets::shown;
-use ostep_write::write_text;
+use ostep_text::write_text;
 use plist_canon::{Verdict, canonical, check};
 use plist_files::{
     Fault, PairFault, begins_as_binary, canonicalise, judge_any, line, read_any, same_files,

@@ -1,4 +1,4 @@
-use Rattle.std.proofs.Common.{◌≡◌, map, subst, sym, ap, ◌∙◌, List, ℕ, length}
+use Rattle.std.proofs.Common.{map, subst, ap, ◌∙◌, List, length}
 use Rattle.std.specs.List.Sorted.{IsPermutation}
 use Rattle.plist_binary.specs.declared.row_order.Row.{Row}
 use Rattle.plist_binary.specs.RowOrder.{place_in, HeadsAscend}

@@ -7,10 +7,10 @@ use Rattle.plist_canon.proofs.WalkTrees.{value_of_walk}
 use Rattle.plist_canon.proofs.checking.judge.Goals as goal
 
 pub judge_order-requires : goal.judge_order-requires
-judge_order-requires c = λ i below. (c.in_ok-judge_objects.ensures.judged i below).read
+judge_order-requires g c = λ i below. (c.in_ok-judge_objects.ensures.judged i below).read
 
 pub judge_limits-requires : goal.judge_limits-requires
-judge_limits-requires c =
+judge_limits-requires g c =
     let f = octets_of c.args.file.now in
     let judged = c.in_ok-judge_objects.ensures.judged in
     let read : (i : ℕ) → i < (trailer_of f).count → IsWellRead f i = λ i below. (judged i below).read in
@@ -20,7 +20,7 @@ judge_limits-requires c =
     record { read = read; weights = rw c.deref.ensures.value c.in_ok-weights.ensures.weights; ascending = ascending; spells = (v.0, (v.1, v.2)) }
 
 pub returns-clause-ok : goal.returns-clause-ok
-returns-clause-ok c =
+returns-clause-ok g c =
     let judged = c.in_ok-judge_objects.ensures.judged in
     on_ok_weaker c.judge_limits.result
     (λ fits. record {

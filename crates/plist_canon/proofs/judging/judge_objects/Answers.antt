@@ -7,13 +7,13 @@ use Rattle.plist_canon.proofs.Judges.{below_or_last}
 use Rattle.plist_canon.proofs.judging.judge_objects.Goals as goal
 
 pub loop-i-init : goal.loop-i-init
-loop-i-init c = record {
+loop-i-init g c = record {
   judged = λ j below. absurd (omega (arith, below));
   met = λ q. (λ met. absurd (true≢false (sym met ∙ c.new-repeats.ensures q)), λ held. absurd (omega (arith, held.1.0)));
 }
 
 pub loop-i-preserved : goal.loop-i-preserved
-loop-i-preserved c =
+loop-i-preserved g c =
     let f = octets_of c.args.file.now in
     let i = c.loop-i.i in
     record {
@@ -22,10 +22,10 @@ loop-i-preserved c =
     }
 
 pub judge_table-requires-clause-all : goal.judge_table-requires-clause-all
-judge_table-requires-clause-all c = rw c.in-None.is at c.judge_places-placed.ensures.all
+judge_table-requires-clause-all g c = rw c.in-None.is at c.judge_places-placed.ensures.all
 
 pub returns-clause-judged : goal.returns-clause-judged
-returns-clause-judged c =
+returns-clause-judged g c =
     let f = octets_of c.args.file.now in
     let all = rw c.in-None.is at c.judge_places-placed.ensures.all in
     let judged : (i : ℕ) → i < (trailer_of f).count → IsJudged f i = λ i below. c.loop-i.invariant.judged i (omega (arith, below, all, c.loop-i-test.false)) in

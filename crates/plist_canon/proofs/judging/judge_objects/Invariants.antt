@@ -4,7 +4,7 @@ use Rattle.plist_canon.specs.Checking.{IsJudged, HasMet}
 use Rattle.plist_canon.proofs.judging.judge_objects.Given as goal
 
 abbrev pub invariant-loop-i : goal.invariant-loop-i
-invariant-loop-i l =
+invariant-loop-i g l =
     let f = octets_of l.file in
     record {
       judged : (j : ℕ) → j < l.i → IsJudged f j;

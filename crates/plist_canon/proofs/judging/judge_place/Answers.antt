@@ -9,7 +9,7 @@ pub returns-in_default-clause-err : goal.returns-in_default-clause-err
 returns-in_default-clause-err c =
     let f = octets_of c.args.file.now in
     let fails = sym c.span.ensures ∙ c.in_default.is in
-    rw c.at.ensures (breaks_c0 c.args.i (λ within. unspanned f c.args.i c.in_default.field-0 fails (within.read c.args.i c.requires.listed)))
+    rw c.at.ensures (breaks_c0 c.args.i c.requires.listed (λ read. unspanned f c.args.i c.in_default.field-0 fails read))
 
 pub returns-then-start-place-clause-err : goal.returns-then-start-place-clause-err
 returns-then-start-place-clause-err c =

@@ -9,7 +9,7 @@ use Rattle.plist_canon.proofs.judging.judge_reading.Goals as goal
 pub returns-in_default-clause-err : goal.returns-in_default-clause-err
 returns-in_default-clause-err c =
     let f = octets_of c.args.file.now in
-    rw c.at.ensures (breaks_c0 c.args.i (λ within. unread f c.args.i c.in_default.field-0 c.in_default.ensures.read (within.read c.args.i c.requires.listed)))
+    rw c.at.ensures (breaks_c0 c.args.i c.requires.listed (λ read. unread f c.args.i c.in_default.field-0 c.in_default.ensures.read read))
 
 pub returns-then-not-refers_well-clause-err : goal.returns-then-not-refers_well-clause-err
 returns-then-not-refers_well-clause-err c =
@@ -17,4 +17,4 @@ returns-then-not-refers_well-clause-err c =
     let held = held_of c.in-Ok.object in
     let reads : what_holds f c.args.i ≡ Ok held = c.in-Ok.ensures.read in
     rw c.at-then-not-refers_well.ensures
-    (breaks_c0 c.args.i (λ within. refuted (RefersWell f held) c.refers_well.result c.refers_well.ensures c.if-not-refers_well.true (IsWellRead-refers f c.args.i held reads (within.read c.args.i c.requires.listed))))
+    (breaks_c0 c.args.i c.requires.listed (λ read. refuted (RefersWell f held) c.refers_well.result c.refers_well.ensures c.if-not-refers_well.true (IsWellRead-refers f c.args.i held reads read)))

@@ -1,13 +1,12 @@
 use Rattle.std.proofs.Common.{arith}
-use Rattle.plist_canon.specs.Rules.{breaks_c0}
+use Rattle.plist_canon.specs.Rules.{breaks_limits}
 use Rattle.plist_canon.proofs.limits.judge_limits.Goals as goal
 
 pub returns-in-None-clause-err : goal.returns-in-None-clause-err
 returns-in-None-clause-err c =
     let s = c.requires.spells in
     rw c.at.ensures
-    (breaks_c0 0 (λ within.
-    let fits = within.fits s.0 s.1.0 s.1.1 in
+    (breaks_limits s.0 s.1.0 s.1.1 (λ fits.
     c.in-None.ensures.over s.0 s.1.0 s.1.1 fits.depth_fits (rw c.whole.ensures.nodes fits.nodes_fit) (rw c.whole.ensures.payload fits.payload_fits)))
 
 pub returns-in-Some-clause-ok : goal.returns-in-Some-clause-ok

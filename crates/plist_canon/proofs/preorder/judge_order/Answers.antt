@@ -1,7 +1,6 @@
 use Rattle.std.proofs.Common.{◌≡◌, ◌<◌, [], arith, Some, None, add-one}
 use Rattle.plist_object.specs.Views.{octets_of}
 use Rattle.plist_object.specs.Layout.{trailer_of}
-use Rattle.plist_canon.specs.Rules.{breaks_c7}
 use Rattle.plist_canon.specs.Preorders.{Visits, Enters}
 use Rattle.plist_canon.proofs.Paths.{IsWalking-start, IsWalking-step, IsWalking-other, IsWalking-none, IsWalking-over, IsWalking-done, IsWalking-weights}
 use Rattle.plist_canon.proofs.preorder.judge_order.Goals as goal
@@ -19,7 +18,7 @@ returns-in-Some-2-clause-err c =
     let l = c.loop-number in
     let visits : Visits l.weights.items l.path.items c.next_visit.new.path.items (Some c.in-Some.visit) = rw (c.deref.ensures.value, c.in-Some.is) at c.in_ok-visit.ensures.visits in
     rw c.at.ensures
-    (breaks_c7 c.in-Some.visit.owner (IsWalking-other f l.number l.path.items c.next_visit.new.path.items l.weights.items l.invariant c.in-Some.visit visits c.if-visit-number.false))
+    (IsWalking-other f l.number l.path.items c.next_visit.new.path.items l.weights.items l.invariant c.in-Some.visit visits c.if-visit-number.false)
 
 pub returns-in-None-clause-err : goal.returns-in-None-clause-err
 returns-in-None-clause-err c =
@@ -28,7 +27,7 @@ returns-in-None-clause-err c =
     let visits : Visits l.weights.items l.path.items c.next_visit.new.path.items None = rw (c.deref.ensures.value, c.in-None.is) at c.in_ok-visit.ensures.visits in
     let below : l.number < (trailer_of f).count = omega (arith, c.loop-number-test.true, c.count-number-end.ensures) in
     rw c.at-in-None.ensures
-    (breaks_c7 0 (IsWalking-none f l.number l.path.items c.next_visit.new.path.items l.weights.items l.invariant visits below))
+    (IsWalking-none f l.number l.path.items c.next_visit.new.path.items l.weights.items l.invariant visits below)
 
 pub loop-number-preserved : goal.loop-number-preserved
 loop-number-preserved c =
@@ -47,7 +46,7 @@ returns-in-Some-3-clause-err c =
     let visits : Visits l.weights.items l.path.items c.next_visit-2.new.path.items (Some c.in-Some-3.visit) = rw (c.deref-2.ensures.value, c.in-Some-3.is) at c.in_ok-visit-2.ensures.visits in
     let all : l.number ≡ (trailer_of f).count = omega (arith, c.loop-number-test.false, c.count-number-end.ensures, l.auto.number-end) in
     rw c.at-in-Some-3.ensures
-    (breaks_c7 c.in-Some-3.visit.owner (IsWalking-over f l.number l.path.items c.next_visit-2.new.path.items l.weights.items l.invariant c.in-Some-3.visit visits all))
+    (IsWalking-over f l.number l.path.items c.next_visit-2.new.path.items l.weights.items l.invariant c.in-Some-3.visit visits all)
 
 pub returns-clause-ok : goal.returns-clause-ok
 returns-clause-ok c =

@@ -7,6 +7,7 @@ use Rattle.plist_write.specs.Canonical.{file_of, starts}
 use Rattle.plist_write.specs.Pending.{AreBefore}
 use Rattle.plist_write.specs.declared.pending.Pending.{Pending}
 use Rattle.plist_write.proofs.FileSteps.{file-length, file-stops, file-goes}
+use Rattle.plist_write.proofs.Shortness.{allows_none}
 use Rattle.plist_engine.specs.declared.plan.Objects.{Objects}
 use Rattle.plist_engine.specs.Parts.{octets_planned}
 use Rattle.plist_engine.proofs.sending.send_file.Goals as goal
@@ -62,3 +63,24 @@ returns-clause-sends g c =
     let gathered = c.in_ok-places.ensures.goes.done.count in
     let before = stands f c.args.objects c.width_of-width.result c.send_objects.new.pending c.deref.result.now width (c.deref.ensures.value ∙ c.in_ok-places.ensures.places) (omega (arith, gathered, begun)) c.requires.short in
     rw (sym is) (file-goes objects p c.in-Ok.ensures.items refl c.send_objects.new.pending c.send_end.new.pending _ _ _ _ _ _ c.send_end.result c.in_ok-places.ensures.goes.done (c.send_end.ensures.goes objects before) c.send_end.ensures.none c.send_end.ensures.sent)
+
+pub returns-in_err-places-clause-pieces : goal.returns-in_err-places-clause-pieces
+returns-in_err-places-clause-pieces g c = λ most allows before.
+    let f = octets_of c.args.file.now in
+    let count : c.len.result ≡ length c.args.objects.originals.items = search rules in
+    let width : c.width_of-width.result ≡ least_width (length c.args.objects.originals.items) = c.width_of-width.ensures.value ∙ ap least_width count in
+    let begun = ap length c.in-Ok.ensures.items in
+    let allowed = rw (sym width) at allows in
+    let sent = c.in_err-places.ensures.pieces most allowed (omega arith) (record { waits = omega (arith, begun, allows.least); pieces = before }) in
+    sent.pieces
+
+pub returns-clause-pieces : goal.returns-clause-pieces
+returns-clause-pieces g c = λ most allows before.
+    let f = octets_of c.args.file.now in
+    let count : c.len.result ≡ length c.args.objects.originals.items = search rules in
+    let width : c.width_of-width.result ≡ least_width (length c.args.objects.originals.items) = c.width_of-width.ensures.value ∙ ap least_width count in
+    let begun = ap length c.in-Ok.ensures.items in
+    let allowed = rw (sym width) at allows in
+    let sent = c.in_ok-places.ensures.pieces most allowed (omega arith) (record { waits = omega (arith, begun, allows.least); pieces = before }) in
+    let ended = c.send_end.ensures.pieces most (allows_none most _ allows) (omega arith) (record { waits = omega (arith, sent.waits); pieces = sent.pieces }) in
+    ended.pieces

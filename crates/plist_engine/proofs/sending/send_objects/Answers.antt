@@ -92,6 +92,12 @@ loop-original-preserved g c =
       split = split-next l.invariant.done octets (concat all) _ later one.split l.invariant.split;
       gathers = Gathers-append l.invariant.done octets c.args.pending.now l.pending c.send_part.new.pending _ _ _ _ _ _ l.invariant.gathers c.in_ok-send_part.ensures.goes.done;
       same = c.in_ok-send_part.ensures.same ∙ l.invariant.same;
+      allowed = λ most allows. (let here = rw one.split at (l.invariant.allowed most allows) in record { least = here.least; each = here.each.1 });
+      short = λ most allows before. (
+          let here = rw one.split at (l.invariant.allowed most allows) in
+          let now = l.invariant.short most allows before in
+          let sent = c.in_ok-send_part.ensures.pieces c.part_length-size.ensures most (record { least = here.least; each = (here.each.0, tt) }) (omega arith) now in
+          record { waits = omega (arith, sent.waits); pieces = sent.pieces });
     }
 
 pub returns-clause-goes : goal.returns-clause-goes
@@ -113,3 +119,28 @@ returns-clause-places g c =
     let past : length c.args.objects.now.originals.items ≤ l.original-index = search rules in
     let none = none-left c.args.width (octets_of c.args.file.now) c.args.objects.now.originals.items l.original-index l.numbers.now past in
     placed-end l.places.items l.place _ all none l.invariant.places
+
+pub returns-in_err-send_part-clause-pieces : goal.returns-in_err-send_part-clause-pieces
+returns-in_err-send_part-clause-pieces g c = λ most allows fits before.
+    let p = err_from_is_err_and c.from_residual.result c.from_residual.ensures.1 in
+    let f = octets_of c.args.file.now in
+    let start = c.args.objects.now.originals.items in
+    let l = c.loop-original in
+    let i = l.original-index in
+    let original = c.from.result in
+    let part = c.part_of.result.0 in
+    let below : i < length start = search rules in
+    let is : original ≡ get_or start i original = search rules in
+    let one = step c.args.width f start i original l.numbers.now c.part_of.result.1.now part below is c.part_of.ensures.part c.part_of.ensures.behind l.invariant.sound l.invariant.spellable in
+    let here = rw one.split at (l.invariant.allowed most allows) in
+    let now = l.invariant.short most allows before in
+    let sent = c.in_err-send_part.ensures.pieces c.part_length-size.ensures most (record { least = here.least; each = (here.each.0, tt) }) (omega arith) now in
+    rw (p.1, p.2) (record { waits = tt; pieces = sent.pieces })
+
+pub returns-clause-pieces : goal.returns-clause-pieces
+returns-clause-pieces g c = λ most allows fits before.
+    let now = c.loop-original.invariant.short most allows before in
+    record { waits = omega (arith, now.waits); pieces = now.pieces }
+
+pub returns-in_default-clause-pieces : goal.returns-in_default-clause-pieces
+returns-in_default-clause-pieces g c = λ most allows fits before. record { waits = tt; pieces = before.pieces }

@@ -4,7 +4,8 @@ use Rattle.plist_object.specs.Views.{octets_of}
 use Rattle.plist_write.specs.Canonical.{starts}
 use Rattle.plist_write.specs.Pieces.{CanSpellAll}
 use Rattle.plist_engine.specs.Parts.{AreSound, helds_of, octets_for, octets_planned}
-use Rattle.plist_write.specs.Pending.{Gathers}
+use Rattle.plist_write.specs.Sending.{Allows}
+use Rattle.plist_write.specs.Pending.{Gathers, IsShort}
 use Rattle.plist_engine.proofs.sending.send_objects.Given as goal
 
 -- those that are done and those that are left are all
@@ -23,4 +24,6 @@ invariant-loop-original g l =
       split : done ++ concat (octets_for l.width f left l.numbers) ≡ concat all;
       gathers : Gathers done l.fn.pending l.pending (g.W.Sink.taken l.fn.out) (g.W.Sink.taken l.out) (g.W.Sink.failures l.fn.out) (g.W.Sink.failures l.out);
       same : g.W.Sink.device l.out ≡ g.W.Sink.device l.fn.out;
+      allowed : (most : ℕ) → Allows most all → Allows most (octets_for l.width f left l.numbers);
+      short : (most : ℕ) → Allows most all → IsShort most l.fn.pending (g.W.Sink.longest l.fn.out) → IsShort most l.pending (g.W.Sink.longest l.out);
     }

@@ -17,18 +17,18 @@ behind_old old objects new first at_end added =
     let e = ap length added in let size = length-append old objects in omega arith
 
 pub walk-returns-in-Some-clause-walked : goal.walk-returns-in-Some-clause-walked
-walk-returns-in-Some-clause-walked t c =
+walk-returns-in-Some-clause-walked g t c =
     let f = octets_of c.args.file.now in
     walked-again f c.args.object c.args.levels c.args.plan.now c.in-Some.number c.requires.spells c.requires.memo (c.in-Some.ensures f c.requires.memo)
 
 pub walk-object_of-requires : goal.walk-object_of-requires
-walk-object_of-requires t c = read_within (octets_of c.args.file.now) c.args.object c.args.levels c.requires.spells
+walk-object_of-requires g t c = read_within (octets_of c.args.file.now) c.args.object c.args.levels c.requires.spells
 
 pub walk-overflow_sub-levels : goal.walk-overflow_sub-levels
-walk-overflow_sub-levels t c = levels_within (octets_of c.args.file.now) c.args.object c.args.levels c.requires.spells
+walk-overflow_sub-levels g t c = levels_within (octets_of c.args.file.now) c.args.object c.args.levels c.requires.spells
 
 pub walk-walk_children-requires : goal.walk-walk_children-requires
-walk-walk_children-requires t c =
+walk-walk_children-requires g t c =
     let f = octets_of c.args.file.now in
     let old = c.args.plan.now.references.items in
     let objects = numbers_of c.in-List.items in
@@ -38,20 +38,20 @@ walk-walk_children-requires t c =
     let added = c.in_ok-number-in-List.ensures.references_added in
     let begun : drop first c.begin_list.new.self.references.items ≡ objects = ap (drop first) added ∙ drop_at old objects first (sym at_end) in
     let within = items_within f c.args.object c.args.levels objects c.requires.spells c.in-List.ensures.holds in
-    (omega (arith, c.decreases), (behind_old old objects c.begin_list.new.self.references.items first at_end added, (subst (λ (refs : List ℕ). SpellWithin f refs (c.args.levels - 1)) (sym begun) within, (remembers-begun f c.args.object objects c.args.plan.now c.begin_list.new.self c.in_ok-number-in-List.number c.in_ok-number-in-List.ensures c.requires.memo, c.requires.ordered))))
+    λ κs lives. (omega (arith, c.decreases), (lives.0, (lives.1, (behind_old old objects c.begin_list.new.self.references.items first at_end added, (subst (λ (refs : List ℕ). SpellWithin f refs (c.args.levels - 1)) (sym begun) within, (remembers-begun f c.args.object objects c.args.plan.now c.begin_list.new.self c.in_ok-number-in-List.number c.in_ok-number-in-List.ensures c.requires.memo, c.requires.ordered))))))
 
 pub walk-begin_table-requires : goal.walk-begin_table-requires
-walk-begin_table-requires t c = record {
+walk-begin_table-requires g t c = record {
   table = is_table (octets_of c.args.file.now) c.args.object c.args.levels (numbers_of c.in-Table.keys) (numbers_of c.in-Table.values) c.requires.spells c.in-Table.ensures.holds c.in-Table.ensures.valid;
   ordered = c.requires.ordered;
 }
 
 pub walk-overflow_sub-levels-in-Table : goal.walk-overflow_sub-levels-in-Table
-walk-overflow_sub-levels-in-Table t c =
+walk-overflow_sub-levels-in-Table g t c =
     levels_within (octets_of c.args.file.now) c.args.object c.args.levels c.requires.spells
 
 pub walk-walk_children-requires-in-Table : goal.walk-walk_children-requires-in-Table
-walk-walk_children-requires-in-Table t c =
+walk-walk_children-requires-in-Table g t c =
     let f = octets_of c.args.file.now in
     let old = c.args.plan.now.references.items in
     let keys = numbers_of c.in-Table.keys in
@@ -63,10 +63,10 @@ walk-walk_children-requires-in-Table t c =
     let objects = in_turn within.rows in
     let added = (c.in_ok-number-in-Table.ensures.begins within.rows within.pairs within.spell).references_added in
     let begun : drop first c.begin_table.new.self.references.items ≡ objects = ap (drop first) added ∙ drop_at old objects first (sym at_end) in
-    (omega (arith, c.decreases), (behind_old old objects c.begin_table.new.self.references.items first at_end added, (subst (λ (refs : List ℕ). SpellWithin f refs (c.args.levels - 1)) (sym begun) (flat_within f keys values (c.args.levels - 1) within), (remembers-begun f c.args.object objects c.args.plan.now c.begin_table.new.self c.in_ok-number-in-Table.number (c.in_ok-number-in-Table.ensures.begins within.rows within.pairs within.spell) c.requires.memo, c.in_ok-number-in-Table.ensures.ordered))))
+    λ κs lives. (omega (arith, c.decreases), (lives.0, (lives.1, (behind_old old objects c.begin_table.new.self.references.items first at_end added, (subst (λ (refs : List ℕ). SpellWithin f refs (c.args.levels - 1)) (sym begun) (flat_within f keys values (c.args.levels - 1) within), (remembers-begun f c.args.object objects c.args.plan.now c.begin_table.new.self c.in_ok-number-in-Table.number (c.in_ok-number-in-Table.ensures.begins within.rows within.pairs within.spell) c.requires.memo, c.in_ok-number-in-Table.ensures.ordered))))))
 
 pub walk-returns-in-Scalar-clause-walked : goal.walk-returns-in-Scalar-clause-walked
-walk-returns-in-Scalar-clause-walked t c =
+walk-returns-in-Scalar-clause-walked g t c =
     let f = octets_of c.args.file.now in
     let old = c.args.plan.now in
     let new = c.scalar.new.self in
@@ -76,12 +76,12 @@ walk-returns-in-Scalar-clause-walked t c =
     c.scalar.ensures.numbers
 
 pub walk-returns-in_ok-walk_children-in-List-clause-walked : goal.walk-returns-in_ok-walk_children-in-List-clause-walked
-walk-returns-in_ok-walk_children-in-List-clause-walked t c =
+walk-returns-in_ok-walk_children-in-List-clause-walked g t c =
     let at_end : c.len-first.result ≡ length c.args.plan.now.references.items = search rules in
     walked-list (octets_of c.args.file.now) c.args.object (numbers_of c.in-List.items) c.args.plan.now c.begin_list.new.self c.walk_children.new.plan c.in_ok-number-in-List.number c.len-first.result at_end c.in_ok-number-in-List.ensures c.in_ok-walk_children-in-List.ensures.walked c.in-List.ensures.holds
 
 pub walk-returns-in_ok-walk_children-in-Table-clause-walked : goal.walk-returns-in_ok-walk_children-in-Table-clause-walked
-walk-returns-in_ok-walk_children-in-Table-clause-walked t c =
+walk-returns-in_ok-walk_children-in-Table-clause-walked g t c =
     let f = octets_of c.args.file.now in
     let keys = numbers_of c.in-Table.keys in
     let values = numbers_of c.in-Table.values in
@@ -90,13 +90,13 @@ walk-returns-in_ok-walk_children-in-Table-clause-walked t c =
     walked-table f c.args.object keys values within.rows within.pairs c.args.plan.now c.begin_table.new.self c.walk_children-in-Table.new.plan c.in_ok-number-in-Table.number c.len-first-in-Table.result c.in-Table.ensures.valid within.spell at_end (c.in_ok-number-in-Table.ensures.begins within.rows within.pairs within.spell) c.in_ok-walk_children-in-Table.ensures.walked c.in-Table.ensures.holds
 
 pub walk-returns-in-Scalar-clause-memo : goal.walk-returns-in-Scalar-clause-memo
-walk-returns-in-Scalar-clause-memo t c =
+walk-returns-in-Scalar-clause-memo g t c =
     on_ok_weaker c.scalar.result
     (λ keeps. keeps (octets_of c.args.file.now) c.in-Scalar.ensures.holds c.requires.memo)
     c.scalar.ensures.memo
 
 pub walk_children-loop-i-init : goal.walk_children-loop-i-init
-walk_children-loop-i-init t c = record {
+walk_children-loop-i-init g t c = record {
   done = [];
   filling = filling-start c.args.first c.args.plan.now.references.items c.requires.first;
   more = λ new numbers w. w;
@@ -105,7 +105,7 @@ walk_children-loop-i-init t c = record {
 }
 
 pub walk_children-walk-requires : goal.walk_children-walk-requires
-walk_children-walk-requires t c =
+walk_children-walk-requires g t c =
     let f = octets_of c.args.file.now in
     let start = c.args.plan.now.references.items in
     let now = c.loop-i.plan.references.items in
@@ -119,10 +119,10 @@ walk_children-walk-requires t c =
     let far : first + (i - first) ≡ i = omega arith in
     let at : get_or (drop first start) (i - first) 0 ≡ get_or start i 0 = get_or-drop first start (i - first) 0 ∙ ap (λ k. get_or start k 0) far in
     let within = value_within f (drop first start) c.args.levels (i - first) c.requires.spell (omega arith) in
-    (omega (arith, c.decreases), (subst (λ (x : ℕ). SpellsWithin f x c.args.levels) (at ∙ sym stands ∙ sym object ∙ sym c.from.ensures) within, (c.loop-i.invariant.memo, c.loop-i.invariant.ordered)))
+    λ κs lives. (omega (arith, c.decreases), (lives.0, (lives.1, (subst (λ (x : ℕ). SpellsWithin f x c.args.levels) (at ∙ sym stands ∙ sym object ∙ sym c.from.ensures) within, (c.loop-i.invariant.memo, c.loop-i.invariant.ordered)))))
 
 pub walk_children-index_mut-requires : goal.walk_children-index_mut-requires
-walk_children-index_mut-requires t c =
+walk_children-index_mut-requires g t c =
     let start = c.args.plan.now.references.items in
     let now = c.loop-i.plan.references.items in
     let i = c.loop-i.i in
@@ -132,7 +132,7 @@ walk_children-index_mut-requires t c =
     omega (arith, below, long, grown, c.walk.new.plan.references.ok.0)
 
 pub walk_children-loop-i-preserved : goal.walk_children-loop-i-preserved
-walk_children-loop-i-preserved t c =
+walk_children-loop-i-preserved g t c =
     let f = octets_of c.args.file.now in
     let start = c.args.plan.now.references.items in
     let now = c.loop-i.plan.references.items in
@@ -159,7 +159,7 @@ walk_children-loop-i-preserved t c =
     }
 
 pub walk_children-returns-clause-walked : goal.walk_children-returns-clause-walked
-walk_children-returns-clause-walked t c =
+walk_children-returns-clause-walked g t c =
     let f = octets_of c.args.file.now in
     let start = c.args.plan.now.references.items in
     let first = c.args.first in

@@ -7,19 +7,19 @@ use Rattle.plist_engine.proofs.Filling.{IsFilling}
 use Rattle.plist_engine.proofs.walk.+walk.Given as goal
 
 abbrev pub decreases-walk : goal.decreases-walk
-decreases-walk l = 2 * l.levels
+decreases-walk g l = 2 * l.levels
 
 abbrev pub decreases-walk_children : goal.decreases-walk_children
-decreases-walk_children l = 2 * l.levels + 1
+decreases-walk_children g l = 2 * l.levels + 1
 
 -- once those that are left are walked, all are
 abbrev pub invariant-walk_children-loop-i : goal.invariant-walk_children-loop-i
-invariant-walk_children-loop-i l =
+invariant-walk_children-loop-i g l =
     let start = l.fn.plan.references.items in
     record {
       done : List ℕ;
       filling : IsFilling l.first l.i start l.plan.references.items done;
-      more : (new : Plan) (numbers : List ℕ) → ItemsWalked (octets_of l.file) (length start) (drop l.i start) l.plan new numbers → ItemsWalked (octets_of l.file) (length start) (drop l.first start) l.fn.plan new (done ++ numbers);
+      more : (new : Plan _ _) (numbers : List ℕ) → ItemsWalked (octets_of l.file) (length start) (drop l.i start) l.plan new numbers → ItemsWalked (octets_of l.file) (length start) (drop l.first start) l.fn.plan new (done ++ numbers);
       memo : RemembersNumbers (octets_of l.file) l.plan;
       ordered : IsOrdered (octets_of l.file) l.order;
     }

@@ -9,7 +9,7 @@ use Rattle.plist_engine.proofs.Walking.{Walks-whole}
 use Rattle.plist_engine.proofs.walk.objects_of.Goals as goal
 
 pub walk-requires-clause-spells : goal.walk-requires-clause-spells
-walk-requires-clause-spells c =
+walk-requires-clause-spells g c =
     let binary = c.requires.binary.1 in
     record {
       value = c.requires.binary.0;
@@ -19,7 +19,7 @@ walk-requires-clause-spells c =
     }
 
 pub returns : goal.returns
-returns c = λ v binary.
+returns g c = λ v binary.
     let f = octets_of c.args.file.now in
     let walked = c.in_ok-walk.ensures.walked in
     let top = c.top.result in
@@ -31,7 +31,7 @@ returns c = λ v binary.
     }
 
 pub walk-requires-clause-memo : goal.walk-requires-clause-memo
-walk-requires-clause-memo c = remembers-none (octets_of c.args.file.now) c.in_ok-plan.plan c.in_ok-plan.ensures.empty.scalars.numbered c.in_ok-plan.ensures.memo
+walk-requires-clause-memo g c = remembers-none (octets_of c.args.file.now) c.in_ok-plan.plan c.in_ok-plan.ensures.empty.scalars.numbered c.in_ok-plan.ensures.memo
 
 pub walk-requires-clause-ordered : goal.walk-requires-clause-ordered
-walk-requires-clause-ordered c = c.new-order.ensures (octets_of c.args.file.now) c.requires.sorted
+walk-requires-clause-ordered g c = c.new-order.ensures (octets_of c.args.file.now) c.requires.sorted

@@ -24,8 +24,8 @@ returns-in-Ok-load-clause-run g c =
     let middle = g.D.Disk.files c.load.new.self in
     let a = c.in-Ok.octets.items in
     let b = c.in-Ok-load.b.items in
-    let answers : IfOk c.same_answer.result (λ r. IsSameAnswer c.args.first.now c.args.second.now a b (said_of r)) = search rules in
-    inr (inr (files_compared c.args.first.now c.args.second.now before after c.give.result a b c.same_answer.result
+    let answers : IfOk c.same_answer_with_hasher.result (λ r. IsSameAnswer c.args.first.now c.args.second.now a b (said_of r)) = search rules in
+    inr (inr (files_compared c.args.first.now c.args.second.now before after c.give.result a b c.same_answer_with_hasher.result
     c.in-Ok.ensures.found (holds_before before.files middle c.args.second.now b c.in-Ok.ensures.kept c.in-Ok-load.ensures.found)
     (same_trans before.files middle after.files c.in-Ok.ensures.kept c.in-Ok-load.ensures.kept)
     (c.in-Ok-load.ensures.unfailed ∙ c.in-Ok.ensures.unfailed) answers c.give.ensures.ends))

@@ -1,5 +1,4 @@
-use Rattle.std.proofs.Common.{◌≡◌, ◌*◌, drop, fold, flat_map}
-use Rattle.std.specs.Hash as fed
+use Rattle.std.proofs.Common.{◌≡◌, ◌*◌, drop, fold}
 use Rattle.plist_value.specs.Texts.{units_of}
 use Rattle.plist_value.specs.Hashes.{fed_units}
 use Rattle.plist_value.proofs.text_ref.feed_each.Given as goal
@@ -8,7 +7,3 @@ use Rattle.plist_value.proofs.text_ref.feed_each.Given as goal
 abbrev pub invariant-loop-i : goal.invariant-loop-i
 invariant-loop-i g l =
     fold g.H.Hasher.write l.state (fed_units (drop (4 * l.i) (units_of l.text))) ≡ fold g.H.Hasher.write l.initial.state (fed_units (units_of l.text))
-
-abbrev pub invariant-loop-i-2 : goal.invariant-loop-i-2
-invariant-loop-i-2 g l =
-    fold g.H.Hasher.write l.state (flat_map fed.u16 (drop l.i (units_of l.text))) ≡ fold g.H.Hasher.write l.initial.state (flat_map fed.u16 (drop l.initial.i (units_of l.text)))

@@ -1,5 +1,4 @@
-use Rattle.std.proofs.Common.{◌≡◌, drop, fold, flat_map, length}
-use Rattle.std.specs.Hash as fed
+use Rattle.std.proofs.Common.{◌≡◌, fold, length}
 use Rattle.plist_value.specs.Hashes.{fed_units}
 use Rattle.plist_value.proofs.words.feed.Given as goal
 
@@ -9,7 +8,3 @@ invariant-loop-rest g l = fold g.H.Hasher.write l.state (fed_units l.rest) ≡ f
 
 abbrev pub decreases-loop-rest : goal.decreases-loop-rest
 decreases-loop-rest g l = length l.rest
-
-abbrev pub invariant-loop-unit : goal.invariant-loop-unit
-invariant-loop-unit g l =
-    fold g.H.Hasher.write l.state (flat_map fed.u16 (drop l.unit-index l.unit-items)) ≡ fold g.H.Hasher.write l.initial.state (flat_map fed.u16 l.unit-items)

@@ -1,4 +1,4 @@
-use Rattle.std.proofs.Common.{[]}
+use Rattle.std.proofs.Common.{[], length, ap, arith}
 use Rattle.std.proofs.lemmas.Result.{err_from_is_err_and}
 use Rattle.plist_write.specs.declared.pending.Pending.{Pending}
 use Rattle.plist_write.proofs.Gathering.{Gathers-sent, Stops-sent, Goes-ok, Goes-err}
@@ -15,3 +15,15 @@ returns-clause-goes g c =
     let q : Pending = record { octets = c.clear.new.self; sent = c.in_ok-pending.field-0 } in
     let sent = rw c.deref.ensures.value at c.in_ok-pending.ensures.sends in
     Goes-ok [] c.args.pending.now q _ _ _ _ (Gathers-sent c.args.pending.now q _ _ _ _ c.clear.ensures.items sent)
+
+pub returns-in_err-pending-clause-pieces : goal.returns-in_err-pending-clause-pieces
+returns-in_err-pending-clause-pieces g c = λ most allows fits short.
+    let p = err_from_is_err_and c.from_residual.result c.from_residual.ensures.1 in
+    let longest = rw c.deref.ensures.value at c.in_err-pending.ensures.longest in
+    rw (p.1, p.2) (record { waits = tt; pieces = longest most short.pieces short.waits })
+
+pub returns-clause-pieces : goal.returns-clause-pieces
+returns-clause-pieces g c = λ most allows fits short.
+    let longest = rw c.deref.ensures.value at c.in_ok-pending.ensures.longest in
+    let none = ap length c.clear.ensures.items in
+    record { waits = omega (arith, none, allows.least); pieces = longest most short.pieces short.waits }

@@ -12,9 +12,11 @@ loop-done-preserved g c =
     let whole : take (length piece - done) (drop done piece) ≡ drop done piece = take_all (length piece - done) (drop done piece) (omega arith) in
     let put = rw whole at c.in-Ok.ensures.put in
     let bound = put.within in
+    let given = rw whole at c.in-Ok.ensures.longest in
     record {
       within = omega arith;
       taken = rw take-add (Appends-trans _ _ _ _ _ c.loop-done.invariant.taken put.octets);
       kept = put.count.1 ∙ c.loop-done.invariant.kept;
       same = c.in-Ok.ensures.same ∙ c.loop-done.invariant.same;
+      longest = λ most before fits. given most (c.loop-done.invariant.longest most before fits) (omega (arith, left, fits));
     }

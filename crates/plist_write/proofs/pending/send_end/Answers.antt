@@ -90,3 +90,22 @@ returns-clause-goes g c = λ objects before.
     let whole = end-is objects c.args.places.now c.width_of.result _ (length c.args.places.now) before.begin c.width_of.ensures.value is refl in
     let all = Gathers-append entries (trailer_octets (length c.args.places.now) (c.args.pending.now.sent + c.len.result)) c.args.pending.now c.send_places.new.pending c.send_trailer.new.pending _ _ _ _ _ _ c.in_ok-send_places.ensures.goes.done c.in_ok-send_trailer.ensures.goes.done in
     rw (sym whole) (record { done = all; stopped = tt })
+
+pub returns-in_err-send_places-clause-pieces : goal.returns-in_err-send_places-clause-pieces
+returns-in_err-send_places-clause-pieces g c = λ most allows fits before.
+    let e = err_from_is_err_and c.from_residual.result c.from_residual.ensures.1 in
+    let listed = c.in_err-send_places.ensures.pieces most allows fits before in
+    rw (e.1, e.2) (record { waits = tt; pieces = listed.pieces })
+
+pub returns-in_err-send_trailer-clause-pieces : goal.returns-in_err-send_trailer-clause-pieces
+returns-in_err-send_trailer-clause-pieces g c = λ most allows fits before.
+    let e = err_from_is_err_and c.from_residual-in_err-send_trailer.result c.from_residual-in_err-send_trailer.ensures.1 in
+    let listed = c.in_ok-send_places.ensures.pieces most allows fits before in
+    let ended = c.in_err-send_trailer.ensures.pieces most allows fits (record { waits = omega (arith, listed.waits); pieces = listed.pieces }) in
+    rw (e.1, e.2) (record { waits = tt; pieces = ended.pieces })
+
+pub returns-clause-pieces : goal.returns-clause-pieces
+returns-clause-pieces g c = λ most allows fits before.
+    let listed = c.in_ok-send_places.ensures.pieces most allows fits before in
+    let ended = c.in_ok-send_trailer.ensures.pieces most allows fits (record { waits = omega (arith, listed.waits); pieces = listed.pieces }) in
+    record { waits = ended.waits; pieces = ended.pieces }

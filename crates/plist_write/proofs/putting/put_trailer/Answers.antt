@@ -7,4 +7,4 @@ four_parts x0 x1 x2 x3 x4 a b c d e1 e2 e3 e4 = rw (e4, e3, e2, e1) (simp append
 pub returns : goal.returns
 returns c =
     let widths = rw (c.width_of.ensures.value, c.width_of-2.ensures.value) at c.in_ok-extend_from_slice.ensures.items in
-    four_parts _ _ _ _ _ _ _ _ _ widths c.in_ok-put_number.ensures c.in_ok-put_number-2.ensures c.in_ok-put_number-3.ensures
+    four_parts _ _ _ _ _ _ _ _ _ widths c.in_ok-put_number.ensures.ok c.in_ok-put_number-2.ensures.ok c.in_ok-put_number-3.ensures.ok

@@ -63,4 +63,39 @@ loop-slot-preserved g c =
       split = split-next done octets (concat (spelled width slots)) _ later split c.loop-slot.invariant.split;
       gathers = Gathers-append done octets c.args.pending.now c.loop-slot.pending c.send_part.new.pending _ _ _ _ _ _ c.loop-slot.invariant.gathers c.in_ok-send_part.ensures.goes.done;
       same = c.in_ok-send_part.ensures.same ∙ c.loop-slot.invariant.same;
+      allowed = λ most allows. (let here = rw split at (c.loop-slot.invariant.allowed most allows) in record { least = here.least; each = here.each.1 });
+      short = λ most allows before. (
+          let here = rw split at (c.loop-slot.invariant.allowed most allows) in
+          let now = c.loop-slot.invariant.short most allows before in
+          let sent = c.in_ok-send_part.ensures.pieces size most (record { least = here.least; each = (here.each.0, tt) }) (omega arith) now in
+          record { waits = omega (arith, sent.waits); pieces = sent.pieces });
     }
+
+pub returns-in_default-clause-pieces : goal.returns-in_default-clause-pieces
+returns-in_default-clause-pieces g c = λ most allows fits before.
+    let now = c.loop-slot.invariant.short most allows before in
+    record { waits = tt; pieces = now.pieces }
+
+pub returns-in_err-send_part-clause-pieces : goal.returns-in_err-send_part-clause-pieces
+returns-in_err-send_part-clause-pieces g c = λ most allows fits before.
+    let p = err_from_is_err_and c.from_residual.result c.from_residual.ensures.1 in
+    let width = c.args.width in
+    let slots = c.args.slots.now in
+    let i = c.loop-slot.slot-index in
+    let slot = c.slot-item.result in
+    let is : slot ≡ get_or slots i slot = search rules in
+    let one = step width slots i slot is c.loop-slot-test.true c.loop-slot.invariant.spellable in
+    let part = c.part-part.result in
+    let octets = spelling_of width (held_in_part part) in
+    let same : spelling_of width (held_in slot) ≡ octets = sym (ap (spelling_of width) c.part-part.ensures) in
+    let later = spelled width (drop (i + 1) slots) in
+    let split : spelled width (drop i slots) ≡ octets ∷ later = one.split ∙ ap (λ os. os ∷ later) same in
+    let here = rw split at (c.loop-slot.invariant.allowed most allows) in
+    let now = c.loop-slot.invariant.short most allows before in
+    let sent = c.in_err-send_part.ensures.pieces c.part_length-size.ensures most (record { least = here.least; each = (here.each.0, tt) }) (omega arith) now in
+    rw (p.1, p.2) (record { waits = tt; pieces = sent.pieces })
+
+pub returns-clause-pieces : goal.returns-clause-pieces
+returns-clause-pieces g c = λ most allows fits before.
+    let now = c.loop-slot.invariant.short most allows before in
+    record { waits = omega (arith, now.waits); pieces = now.pieces }

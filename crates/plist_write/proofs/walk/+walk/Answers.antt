@@ -15,13 +15,13 @@ items-end : (vs : List Value) (i : ℕ) → length vs ≤ i → view_items (drop
 items-end vs i h = ap view_items (drop_all i vs h)
 
 pub walk_list-returns : goal.walk_list-returns
-walk_list-returns t c = Walks-list _ _ _ _ _ _ _ _ refl c.in_ok-number.ensures c.in_ok-refs.ensures c.finish.ensures
+walk_list-returns g t c = Walks-list _ _ _ _ _ _ _ _ refl c.in_ok-number.ensures c.in_ok-refs.ensures c.finish.ensures
 
 pub walk_table-returns : goal.walk_table-returns
-walk_table-returns t c = Walks-table _ _ _ _ _ _ _ _ _ _ refl c.in_ok-number.ensures c.in_ok-keys.ensures c.in_ok-values.ensures c.finish.ensures
+walk_table-returns g t c = Walks-table _ _ _ _ _ _ _ _ _ _ refl c.in_ok-number.ensures c.in_ok-keys.ensures c.in_ok-values.ensures c.finish.ensures
 
 pub walk_items-loop-item-preserved : goal.walk_items-loop-item-preserved
-walk_items-loop-item-preserved t c = λ new numbers w.
+walk_items-loop-item-preserved g t c = λ new numbers w.
     let l = c.loop-item in
     let all = c.args.items.now.items in
     let n = c.in_ok-walk.field-0 in
@@ -34,14 +34,14 @@ walk_items-loop-item-preserved t c = λ new numbers w.
     (l.invariant new (n ∷ numbers) (subst (λ (vs : Items). WalksItems vs l.plan new (n ∷ numbers)) (sym split) done))
 
 pub walk_items-returns : goal.walk_items-returns
-walk_items-returns t c =
+walk_items-returns g t c =
     let l = c.loop-item in
     let all = c.args.items.now.items in
     let none : view_items (drop l.item-index all) ≡ no_items = items-end all l.item-index (search rules) in
     Walks-end l.refs.items (l.invariant l.plan [] (subst (λ (vs : Items). WalksItems vs l.plan l.plan []) (sym none) (Walks-none l.plan)))
 
 pub walk_values-loop-value-preserved : goal.walk_values-loop-value-preserved
-walk_values-loop-value-preserved t c = record {
+walk_values-loop-value-preserved g t c = record {
   can = tt;
   finite = tt;
   left = λ new numbers w.
@@ -53,6 +53,6 @@ walk_values-loop-value-preserved t c = record {
 }
 
 pub walk_values-returns : goal.walk_values-returns
-walk_values-returns t c =
+walk_values-returns g t c =
     let l = c.loop-value in
     Walks-end l.refs.items (l.invariant.left l.plan [] (subst (λ (ps : List (List ℕ × Value)). WalksValues (view_pairs ps) l.plan l.plan []) (sym c.in-None.ensures.steps.0) (Walks-none l.plan)))

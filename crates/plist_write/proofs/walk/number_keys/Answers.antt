@@ -7,7 +7,7 @@ use Rattle.plist_write.proofs.Walking.{Walks-none, Walks-key, Walks-pushed, Walk
 use Rattle.plist_write.proofs.walk.number_keys.Goals as goal
 
 pub loop-key-preserved : goal.loop-key-preserved
-loop-key-preserved c = record {
+loop-key-preserved g c = record {
   can = tt;
   finite = tt;
   left = λ new numbers w.
@@ -22,6 +22,6 @@ loop-key-preserved c = record {
 }
 
 pub returns : goal.returns
-returns c =
+returns g c =
     let l = c.loop-key in
     Walks-end l.refs.items (l.invariant.left l.plan [] (subst (λ (ps : List (List ℕ × Value)). WalksKeys (view_pairs ps) l.plan l.plan []) (sym c.in-None.ensures.steps.0) (Walks-none l.plan)))

@@ -6,8 +6,8 @@ use Rattle.plist_write.proofs.walk.number_keys.Given as goal
 
 -- once those that are left are done, all are
 abbrev pub invariant-loop-key : goal.invariant-loop-key
-invariant-loop-key l = record {
-  can : (goal.iterator-loop-key).can_next l.key-iterator;
-  finite : (goal.iterator-loop-key).is_finite l.key-iterator;
-  left : (new : Plan) (numbers : List ℕ) → WalksKeys (view_pairs l.key-iterator) l.plan new numbers → WalksKeys (view_pairs l.pairs.entries) l.fn.plan new (l.refs.items ++ numbers);
+invariant-loop-key g l = record {
+  can : (goal.iterator-loop-key g).can_next l.key-iterator;
+  finite : (goal.iterator-loop-key g).is_finite l.key-iterator;
+  left : (new : Plan _ _) (numbers : List ℕ) → WalksKeys (view_pairs l.key-iterator) l.plan new numbers → WalksKeys (view_pairs l.pairs.entries) l.fn.plan new (l.refs.items ++ numbers);
 }

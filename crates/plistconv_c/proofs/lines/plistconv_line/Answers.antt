@@ -1,10 +1,6 @@
-use Rattle.std.proofs.Common.{◌≡◌, ◌++◌, ◌∙◌, ℕ, List, codes, refl, sym, ap, subst, inl, inr}
-use Rattle.plist_files.specs.Fault.{fault_text}
+use Rattle.std.proofs.Common.{◌≡◌, ◌++◌, ◌∙◌, ℕ, List, codes, refl, sym, ap, subst, inr}
 use Rattle.plist_files.specs.Line.{line_of}
-use Rattle.plist_files.specs.declared.faults.Fault.{Fault}
 use Rattle.plistconv_c.specs.Given.{IsGiven}
-use Rattle.plistconv_c.specs.Lines.{IsLineGiven, IsNoLine}
-use Rattle.plistconv_c.specs.Refusals.{refusal_of}
 use Rattle.plistconv_c.proofs.Named.{printed_alike}
 use Rattle.plistconv_c.proofs.lines.plistconv_line.Goals as goal
 

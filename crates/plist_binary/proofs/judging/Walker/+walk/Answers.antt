@@ -16,9 +16,9 @@ use Rattle.plist_binary.specs.declared.tables.Key.{Key}
 use Rattle.plist_binary.specs.Keys.{units_at}
 use Rattle.plist_binary.specs.Passing.{PassesItems, PassesPairs, IsWithinLimits}
 use Rattle.plist_binary.specs.Paths.{containers_of}
-use Rattle.plist_binary.specs.Readings.{Refuses, RefusesItems, RefusesPairs}
-use Rattle.plist_binary.proofs.KeySteps.{AllRefer-values, AllRefer-items}
-use Rattle.plist_binary.proofs.LoopSteps.{Contains-at, RefusesItems-next, RefusesItems-none}
+use Rattle.plist_binary.specs.Readings.{Refuses, RefusesItems, RefusesPairs, texts}
+use Rattle.plist_binary.proofs.Beginning.{AllRefer-next, AreNext-items, AreNext-leads, AreNext-values, IsBegun-next, IsEntered-begun}
+use Rattle.plist_binary.proofs.LoopSteps.{RefusesItems-next, RefusesItems-none}
 use Rattle.plist_binary.proofs.Making.{Refuses-payload, Refuses-list, Refuses-table}
 use Rattle.plist_binary.proofs.Marking.{AreStates-open, AreStates-passed, AreStates-wider}
 use Rattle.plist_binary.proofs.Paired.{length-values}
@@ -54,7 +54,7 @@ content-returns-in_err-take_payload-in-Scalar-clause-refused t c =
     let f = octets_of c.args.self.now.file in
     let s = content_of c.in-Scalar.scalar in
     let reads : what_holds f c.args.object ≡ Ok (holds_scalar s) = rw c.in-Scalar.is at c.in_ok-scalar.ensures.held in
-    let refused : Refuses f c.args.object c.args.levels c.args.left.now (TooMuchPayload c.args.object) = Refuses-payload f (containers_of c.args.path.now) c.args.object c.args.levels c.args.left.now c.enter.new.left s c.args.self.now.laid c.requires.leads c.requires.listed reads c.in_ok-scalar.ensures.spent c.in_err-take_payload-in-Scalar.ensures.over.1 in
+    let refused : Refuses f c.args.self.now.whole c.args.object c.args.levels c.args.left.now (TooMuchPayload c.args.object) = Refuses-payload f c.args.self.now.whole (containers_of c.args.path.now) c.args.object c.args.levels c.args.left.now c.enter.new.left s c.args.self.now.laid c.requires.begun c.requires.listed reads c.in_ok-scalar.ensures.spent c.in_err-take_payload-in-Scalar.ensures.over.1 in
     search rules
 
 pub content-returns-in_ok-take_payload-in-Scalar-clause-passed : goal.content-returns-in_ok-take_payload-in-Scalar-clause-passed
@@ -75,14 +75,17 @@ content-items-requires t c =
     let refs = numbers_of c.in-List.items in
     let reads : what_holds f c.args.object ≡ Ok (holds_list refs) = rw c.in-List.is at c.in_ok-scalar.ensures.held in
     let some = c.in_ok-scalar.ensures.deep in
-    (search rules, (c.requires.leads, (AllRefer-items f c.args.object refs record { listed = c.requires.listed; reads = reads }, (omega arith, (AreStates-open f (containers_of c.args.path.now) c.args.states.now.items c.mark.new.states.items c.args.object c.in_ok-mark-in-List.ensures c.requires.states, (within_after c.args.left.now c.enter.new.left 1 0 c.requires.limits c.in_ok-scalar.ensures.spent, (c.requires.ranked, c.requires.known)))))))
+    let path = containers_of c.args.path.now in
+    let entered = IsEntered-begun f path c.args.object c.args.self.now.whole c.args.left.now c.enter.new.left c.requires.begun c.in_ok-scalar.ensures.spent in
+    let next = AreNext-items f path c.args.object refs c.args.self.now.whole c.enter.new.left entered record { listed = c.requires.listed; reads = reads } in
+    (search rules, (next, (omega arith, (AreStates-open f (containers_of c.args.path.now) c.args.states.now.items c.mark.new.states.items c.args.object c.in_ok-mark-in-List.ensures c.requires.states, (within_after c.args.left.now c.enter.new.left 1 0 c.requires.limits c.in_ok-scalar.ensures.spent, (c.requires.ranked, c.requires.known))))))
 
 pub content-returns-in_err-deep-in-List-clause-refused : goal.content-returns-in_err-deep-in-List-clause-refused
 content-returns-in_err-deep-in-List-clause-refused t c =
     let f = octets_of c.args.self.now.file in
     let refs = numbers_of c.in-List.items in
     let reads : what_holds f c.args.object ≡ Ok (holds_list refs) = rw c.in-List.is at c.in_ok-scalar.ensures.held in
-    let refused : Refuses f c.args.object c.args.levels c.args.left.now c.in_err-deep-in-List.field-0.0 = Refuses-list f refs c.args.object c.args.levels (c.args.levels - 1) c.args.left.now c.enter.new.left c.in_err-deep-in-List.field-0.0 (one_less c.args.levels c.in_ok-scalar.ensures.deep) c.requires.listed reads c.in_ok-scalar.ensures.spent c.in_err-deep-in-List.ensures.refused in
+    let refused : Refuses f c.args.self.now.whole c.args.object c.args.levels c.args.left.now c.in_err-deep-in-List.field-0.0 = Refuses-list f c.args.self.now.whole refs c.args.object c.args.levels (c.args.levels - 1) c.args.left.now c.enter.new.left c.in_err-deep-in-List.field-0.0 (one_less c.args.levels c.in_ok-scalar.ensures.deep) c.requires.listed reads c.in_ok-scalar.ensures.spent c.in_err-deep-in-List.ensures.refused in
     search rules
 
 pub content-returns-in_ok-deep-in-List-clause-passed : goal.content-returns-in_ok-deep-in-List-clause-passed
@@ -99,7 +102,9 @@ content-pairs-requires t c =
     let values = numbers_of c.in-Table.values in
     let reads : what_holds f c.args.object ≡ Ok (holds_table keys values) = rw c.in-Table.is at c.in_ok-scalar.ensures.held in
     let some = c.in_ok-scalar.ensures.deep in
-    (search rules, (c.requires.leads, (record { listed = c.requires.listed; reads = reads }, (omega arith, (AreStates-open f (containers_of c.args.path.now) c.args.states.now.items c.mark-in-Table.new.states.items c.args.object c.in_ok-mark-in-Table.ensures c.requires.states, (within_after c.args.left.now c.enter.new.left 1 0 c.requires.limits c.in_ok-scalar.ensures.spent, (c.requires.ranked, c.requires.known)))))))
+    let path = containers_of c.args.path.now in
+    let entered = IsEntered-begun f path c.args.object c.args.self.now.whole c.args.left.now c.enter.new.left c.requires.begun c.in_ok-scalar.ensures.spent in
+    (search rules, (entered, (record { listed = c.requires.listed; reads = reads }, (omega arith, (AreStates-open f (containers_of c.args.path.now) c.args.states.now.items c.mark-in-Table.new.states.items c.args.object c.in_ok-mark-in-Table.ensures c.requires.states, (within_after c.args.left.now c.enter.new.left 1 0 c.requires.limits c.in_ok-scalar.ensures.spent, (c.requires.ranked, c.requires.known)))))))
 
 pub content-returns-in_err-deep-in-Table-clause-refused : goal.content-returns-in_err-deep-in-Table-clause-refused
 content-returns-in_err-deep-in-Table-clause-refused t c =
@@ -107,7 +112,7 @@ content-returns-in_err-deep-in-Table-clause-refused t c =
     let keys = numbers_of c.in-Table.keys in
     let values = numbers_of c.in-Table.values in
     let reads : what_holds f c.args.object ≡ Ok (holds_table keys values) = rw c.in-Table.is at c.in_ok-scalar.ensures.held in
-    let refused : Refuses f c.args.object c.args.levels c.args.left.now c.in_err-deep-in-Table.field-0.0 = Refuses-table f keys values c.args.object c.args.levels (c.args.levels - 1) c.args.left.now c.enter.new.left c.in_err-deep-in-Table.field-0.0 (one_less c.args.levels c.in_ok-scalar.ensures.deep) c.requires.listed reads c.in_ok-scalar.ensures.spent c.in_err-deep-in-Table.ensures.refused in
+    let refused : Refuses f c.args.self.now.whole c.args.object c.args.levels c.args.left.now c.in_err-deep-in-Table.field-0.0 = Refuses-table f c.args.self.now.whole keys values c.args.object c.args.levels (c.args.levels - 1) c.args.left.now c.enter.new.left c.in_err-deep-in-Table.field-0.0 (one_less c.args.levels c.in_ok-scalar.ensures.deep) c.requires.listed reads c.in_ok-scalar.ensures.spent c.in_err-deep-in-Table.ensures.refused in
     search rules
 
 pub content-returns-in_ok-deep-in-Table-clause-passed : goal.content-returns-in_ok-deep-in-Table-clause-passed
@@ -122,20 +127,23 @@ pub items-returns-in_err-object-clause-refused : goal.items-returns-in_err-objec
 items-returns-in_err-object-clause-refused t c =
     let f = octets_of c.args.self.now.file in
     let refs = numbers_of c.args.refs in
-    let refused : RefusesItems f refs c.args.levels c.args.left.now (BadReference c.args.container) = RefusesItems-none f (containers_of c.args.before.now) refs c.args.container c.loop-i.i c.get.result c.args.levels c.args.left.now c.args.self.now.laid c.requires.leads c.requires.refer (omega arith) c.get.ensures c.in_err-object.ensures.above.1 in
+    let whole = c.args.self.now.whole in
+    let before = containers_of c.args.before.now in
+    let refused : RefusesItems f whole refs c.args.levels c.args.left.now (BadReference c.args.container) = RefusesItems-none f whole before refs c.args.container c.loop-i.i c.get.result c.args.levels c.args.left.now c.args.self.now.laid (AreNext-leads f before c.args.container refs whole c.args.left.now c.requires.next) (AllRefer-next f before c.args.container refs whole c.args.left.now c.requires.next) (omega arith) c.get.ensures c.in_err-object.ensures.above.1 in
     search rules
 
 pub items-pass-requires : goal.items-pass-requires
 items-pass-requires t c =
+    let f = octets_of c.args.self.now.file in
     let refs = numbers_of c.args.refs in
-    let refers = c.requires.refer c.in_ok-object.object (Contains-at refs c.loop-i.i c.in_ok-object.object (omega arith) (c.in_ok-object.ensures.same ∙ c.get.ensures)) in
-    (search rules, (c.in_ok-object.ensures.below, ((refers, c.requires.leads), (omega arith, (c.loop-i.invariant.states, (c.loop-i.invariant.within, (c.requires.ranked, c.loop-i.invariant.known)))))))
+    let begun = IsBegun-next f (containers_of c.args.before.now) c.args.container refs c.loop-i.i c.in_ok-object.object c.args.levels c.args.self.now.whole c.args.left.now c.loop-i.left (items_of c.loop-i.invariant.passed.values) c.requires.next (omega arith) (c.in_ok-object.ensures.same ∙ c.get.ensures) c.loop-i.invariant.passed.reads in
+    (search rules, (c.in_ok-object.ensures.below, (begun, (omega arith, (c.loop-i.invariant.states, (c.loop-i.invariant.within, (c.requires.ranked, c.loop-i.invariant.known)))))))
 
 pub items-returns-in_err-deep-clause-refused : goal.items-returns-in_err-deep-clause-refused
 items-returns-in_err-deep-clause-refused t c =
     let f = octets_of c.args.self.now.file in
     let refs = numbers_of c.args.refs in
-    let refused : RefusesItems f refs c.args.levels c.args.left.now c.in_err-deep.field-0.0 = RefusesItems-next f refs c.loop-i.i c.in_ok-object.object c.args.levels c.args.left.now c.loop-i.left (items_of c.loop-i.invariant.passed.values) c.in_err-deep.field-0.0 (omega arith) (c.in_ok-object.ensures.same ∙ c.get.ensures) c.in_ok-object.ensures.below c.loop-i.invariant.passed.reads c.in_err-deep.ensures.refused in
+    let refused : RefusesItems f c.args.self.now.whole refs c.args.levels c.args.left.now c.in_err-deep.field-0.0 = RefusesItems-next f c.args.self.now.whole refs c.loop-i.i c.in_ok-object.object c.args.levels c.args.left.now c.loop-i.left (items_of c.loop-i.invariant.passed.values) c.in_err-deep.field-0.0 (omega arith) (c.in_ok-object.ensures.same ∙ c.get.ensures) c.in_ok-object.ensures.below c.loop-i.invariant.passed.reads c.in_err-deep.ensures.refused in
     search rules
 
 pub items-loop-i-preserved : goal.items-loop-i-preserved
@@ -154,7 +162,9 @@ pub pairs-items-requires : goal.pairs-items-requires
 pairs-items-requires t c =
     let f = octets_of c.args.self.now.file in
     let spent = c.in_ok-keys_apart.ensures.read.reads.spent in
-    (search rules, (c.requires.leads, (AllRefer-values f c.args.table (numbers_of c.args.keys) (numbers_of c.args.values) c.requires.holds, (c.requires.depth, (c.requires.states, (within_after c.args.left.now c.keys_apart.new.left _ _ c.requires.limits spent, (c.requires.ranked, c.in_ok-keys_apart.ensures.known)))))))
+    let read = c.in_ok-keys_apart.ensures.read in
+    let next = AreNext-values f (containers_of c.args.before.now) c.args.table (numbers_of c.args.keys) (numbers_of c.args.values) c.args.levels c.args.self.now.whole c.args.left.now c.keys_apart.new.left (texts read.keys) c.requires.entered c.requires.holds read.reads in
+    (search rules, (next, (c.requires.depth, (c.requires.states, (within_after c.args.left.now c.keys_apart.new.left _ _ c.requires.limits spent, (c.requires.ranked, c.in_ok-keys_apart.ensures.known))))))
 
 pub pairs-returns-in_err-keys_apart-clause-refused : goal.pairs-returns-in_err-keys_apart-clause-refused
 pairs-returns-in_err-keys_apart-clause-refused t c =
@@ -169,8 +179,8 @@ pairs-returns-clause-refused t c =
     let values = numbers_of c.args.values in
     let long = length-values f c.args.table keys values c.requires.holds in
     let read = c.in_ok-keys_apart.ensures.read in
-    IfErr_then c.items.result (RefusesItems f values c.args.levels c.keys_apart.new.left) (RefusesPairs f keys values c.args.levels c.args.left.now)
-    (λ fault refused. RefusesPairs-values f keys values c.args.levels c.args.left.now c.keys_apart.new.left read.keys fault long read.reads refused)
+    IfErr_then c.items.result (RefusesItems f c.args.self.now.whole values c.args.levels c.keys_apart.new.left) (RefusesPairs f c.args.self.now.whole keys values c.args.levels c.args.left.now)
+    (λ fault refused. RefusesPairs-values f c.args.self.now.whole keys values c.args.levels c.args.left.now c.keys_apart.new.left read.keys fault long read.reads refused)
     c.items.ensures.refused
 
 pub pairs-returns-clause-passed : goal.pairs-returns-clause-passed

@@ -4,6 +4,7 @@ use Rattle.plist_object.specs.Views.{octets_of}
 use Rattle.plist_binary.specs.declared.fault.BinaryFault.TheVariants.{TooManyNodes}
 use Rattle.plist_binary.specs.Paths.{containers_of, Leads}
 use Rattle.plist_binary.specs.Readings.{Refuses}
+use Rattle.plist_binary.proofs.Beginning.{IsBegun-leads}
 use Rattle.plist_binary.proofs.Marking.{Open-among}
 use Rattle.plist_binary.proofs.Entering.{Refuses-cycle, Refuses-nodes, Refuses-depth, Refuses-object}
 use Rattle.plist_binary.proofs.judging.Walker.enter.Goals as goal
@@ -12,22 +13,24 @@ pub returns-clause-refused : goal.returns-clause-refused
 returns-clause-refused c =
     let f = octets_of c.args.self.now.file in
     let path : containers_of c.args.path.now ≡ c.in-In.container ∷ containers_of c.in-In.field-1.now = ap containers_of c.in-In.is in
-    let leads = subst (λ (containers : List ℕ). Leads f containers c.args.object) path c.requires.leads in
+    let leads = subst (λ (containers : List ℕ). Leads f containers c.args.object) path (IsBegun-leads f (containers_of c.args.path.now) c.args.object c.args.self.now.whole c.args.left.now c.requires.begun) in
     let among = Open-among f (containers_of c.args.path.now) c.args.states.now.items c.args.object c.requires.states (sym c.state_at.ensures ∙ c.in-Open.is) in
-    Refuses-cycle f (containers_of c.in-In.field-1.now) c.in-In.container c.args.object c.args.levels c.args.left.now c.args.self.now.laid leads (subst (λ (containers : List ℕ). Among c.args.object containers) path among)
+    Refuses-cycle f c.args.self.now.whole (containers_of c.in-In.field-1.now) c.in-In.container c.args.object c.args.levels c.args.left.now c.args.self.now.laid leads (subst (λ (containers : List ℕ). Among c.args.object containers) path among)
 
 pub returns-in_err-take_node-clause-refused : goal.returns-in_err-take_node-clause-refused
 returns-in_err-take_node-clause-refused c =
     let f = octets_of c.args.self.now.file in
-    let refused : Refuses f c.args.object c.args.levels c.args.left.now (TooManyNodes c.args.object) = Refuses-nodes f (containers_of c.args.path.now) c.args.object c.args.levels c.args.left.now c.args.self.now.laid c.requires.leads c.in_err-take_node.ensures.over.1 in
+    let refused : Refuses f c.args.self.now.whole c.args.object c.args.levels c.args.left.now (TooManyNodes c.args.object) = Refuses-nodes f c.args.self.now.whole (containers_of c.args.path.now) c.args.object c.args.levels c.args.left.now c.args.self.now.laid c.requires.listed c.requires.begun c.in_err-take_node.ensures.over.1 in
     search rules
 
 pub returns-then-levels-eq0-clause-refused : goal.returns-then-levels-eq0-clause-refused
 returns-then-levels-eq0-clause-refused c =
     let f = octets_of c.args.self.now.file in
-    Refuses-depth f (containers_of c.args.path.now) c.args.object c.args.levels c.args.left.now c.args.self.now.laid c.requires.leads c.requires.depth c.if-levels-eq0.true
+    Refuses-depth f c.args.self.now.whole (containers_of c.args.path.now) c.args.object c.args.levels c.args.left.now c.args.self.now.laid (IsBegun-leads f (containers_of c.args.path.now) c.args.object c.args.self.now.whole c.args.left.now c.requires.begun) c.requires.depth c.if-levels-eq0.true
 
 pub returns-in-Err-clause-refused : goal.returns-in-Err-clause-refused
 returns-in-Err-clause-refused c =
     let f = octets_of c.args.self.now.file in
-    Refuses-object f (containers_of c.args.path.now) c.args.object c.args.levels c.args.left.now c.in-Err.fault c.args.self.now.laid c.requires.listed c.requires.leads c.in-Err.ensures.read
+    let limits = c.args.left.now in
+    subst (Refuses f c.args.self.now.whole c.args.object c.args.levels limits) (sym c.of_object.ensures)
+    (Refuses-object f c.args.self.now.whole (containers_of c.args.path.now) c.args.object c.args.levels c.args.left.now c.in-Err.fault c.args.self.now.laid c.requires.listed (IsBegun-leads f (containers_of c.args.path.now) c.args.object c.args.self.now.whole c.args.left.now c.requires.begun) c.in-Err.ensures.read)

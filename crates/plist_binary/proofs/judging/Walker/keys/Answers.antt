@@ -11,6 +11,7 @@ use Rattle.plist_binary.specs.declared.tables.Key.{Key}
 use Rattle.plist_binary.specs.Heads.{AreHeadless}
 use Rattle.plist_binary.specs.Keys.{units_at, AreInPlace, IsRanked}
 use Rattle.plist_binary.specs.Readings.{ReadsItems, texts, RefusesKeys}
+use Rattle.plist_binary.proofs.Beginning.{AreNext-keys, IsBegun-next, IsEntered-leads}
 use Rattle.plist_binary.proofs.LoopSteps.{ReadsKeys-next, RefusesKeys-next, RefusesKeys-none}
 use Rattle.plist_binary.proofs.Placed.{AreInPlace-push}
 use Rattle.plist_binary.proofs.Ranking.{IsRanked-read}
@@ -20,15 +21,24 @@ pub returns-in_err-object-clause-refused : goal.returns-in_err-object-clause-ref
 returns-in_err-object-clause-refused c =
     let f = octets_of c.args.self.now.file in
     let refs = numbers_of c.args.refs in
-    let refused : RefusesKeys f refs c.args.levels c.args.left.now (BadReference c.args.table) = RefusesKeys-none f (containers_of c.args.before.now) refs c.args.table c.loop-i.i c.get.result c.args.levels c.args.left.now c.args.self.now.laid c.requires.leads c.requires.keys (omega arith) c.get.ensures c.in_err-object.ensures.above.1 in
+    let refused : RefusesKeys f c.args.self.now.whole refs c.args.levels c.args.left.now (BadReference c.args.table) = RefusesKeys-none f c.args.self.now.whole (containers_of c.args.before.now) refs c.args.table c.loop-i.i c.get.result c.args.levels c.args.left.now c.args.self.now.laid (IsEntered-leads f (containers_of c.args.before.now) c.args.table c.args.self.now.whole c.args.left.now c.requires.entered) c.requires.keys (omega arith) c.get.ensures c.in_err-object.ensures.above.1 in
     search rules
 
 pub returns-in_err-text-clause-refused : goal.returns-in_err-text-clause-refused
 returns-in_err-text-clause-refused c =
     let f = octets_of c.args.self.now.file in
     let refs = numbers_of c.args.refs in
-    let refused : RefusesKeys f refs c.args.levels c.args.left.now c.in_err-text.field-0.0 = RefusesKeys-next f refs c.loop-i.i c.in_ok-object.object c.args.levels c.args.left.now c.loop-i.left (texts (map units_at c.loop-i.keys.items)) c.in_err-text.field-0.0 (omega arith) (c.in_ok-object.ensures.same ∙ c.get.ensures) c.in_ok-object.ensures.below c.loop-i.invariant.read c.in_err-text.ensures.refused in
+    let refused : RefusesKeys f c.args.self.now.whole refs c.args.levels c.args.left.now c.in_err-text.field-0.0 = RefusesKeys-next f c.args.self.now.whole refs c.loop-i.i c.in_ok-object.object c.args.levels c.args.left.now c.loop-i.left (texts (map units_at c.loop-i.keys.items)) c.in_err-text.field-0.0 (omega arith) (c.in_ok-object.ensures.same ∙ c.get.ensures) c.in_ok-object.ensures.below c.loop-i.invariant.read c.in_err-text.ensures.refused in
     search rules
+
+pub key-requires-clause-begun : goal.key-requires-clause-begun
+key-requires-clause-begun c =
+    let f = octets_of c.args.self.now.file in
+    let refs = numbers_of c.args.refs in
+    let whole = c.args.self.now.whole in
+    let before = containers_of c.args.before.now in
+    let next = AreNext-keys f before c.args.table refs whole c.args.left.now c.requires.entered c.requires.keys in
+    IsBegun-next f before c.args.table refs c.loop-i.i c.in_ok-object.object c.args.levels whole c.args.left.now c.loop-i.left (texts (map units_at c.loop-i.keys.items)) next (omega arith) (c.in_ok-object.ensures.same ∙ c.get.ensures) c.loop-i.invariant.read
 
 pub loop-i-preserved : goal.loop-i-preserved
 loop-i-preserved c =

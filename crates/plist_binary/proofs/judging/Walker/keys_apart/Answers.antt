@@ -10,6 +10,7 @@ use Rattle.plist_binary.specs.Keys.{units_at, place_of}
 use Rattle.plist_binary.specs.Paths.{containers_of}
 use Rattle.plist_binary.specs.Recalls.{RefusesTable}
 use Rattle.plist_binary.specs.RowOrder.{AreOrdered}
+use Rattle.plist_binary.proofs.Beginning.{IsEntered-leads}
 use Rattle.plist_binary.proofs.Inserting.{same_key}
 use Rattle.plist_binary.proofs.Paired.{length-values}
 use Rattle.plist_binary.proofs.Recalling.{ReadsApart-sorted, SpellApart-read}
@@ -26,8 +27,8 @@ pub returns-in_err-keys-clause-refused : goal.returns-in_err-keys-clause-refused
 returns-in_err-keys-clause-refused c =
     let f = octets_of c.args.self.now.file in
     let refs = numbers_of c.args.refs in
-    let refused : RefusesTable f c.args.table refs c.args.levels c.args.left.now c.in_err-keys.field-0.0 = record {
-      each = λ values holds. RefusesPairs-keys f refs values c.args.levels c.args.left.now c.in_err-keys.field-0.0 (length-values f c.args.table refs values holds) c.in_err-keys.ensures.refused;
+    let refused : RefusesTable f c.args.self.now.whole c.args.table refs c.args.levels c.args.left.now c.in_err-keys.field-0.0 = record {
+      each = λ values holds. RefusesPairs-keys f c.args.self.now.whole refs values c.args.levels c.args.left.now c.in_err-keys.field-0.0 (length-values f c.args.table refs values holds) c.in_err-keys.ensures.refused;
     } in
     search rules
 
@@ -41,7 +42,7 @@ returns-then-not-sort-clause-refused c =
     let said = c.if-not-sort.true in
     cc in
     record {
-      each = λ values holds. RefusesPairs-twice f (containers_of c.args.before.now) refs values c.args.table c.args.levels c.args.left.now c.keys.new.left us c.args.self.now.laid c.requires.leads holds (length-values f c.args.table refs values holds) c.in_ok-keys.ensures.read not_distinct;
+      each = λ values holds. RefusesPairs-twice f c.args.self.now.whole (containers_of c.args.before.now) refs values c.args.table c.args.levels c.args.left.now c.keys.new.left us c.args.self.now.laid (IsEntered-leads f (containers_of c.args.before.now) c.args.table c.args.self.now.whole c.args.left.now c.requires.entered) holds (length-values f c.args.table refs values holds) c.in_ok-keys.ensures.read not_distinct;
     }
 
 pub returns-clause-read : goal.returns-clause-read

@@ -1,6 +1,5 @@
-use Rattle.plist_disk.proofs.Finished.{finished}
+use Rattle.plist_disk.proofs.Handed.{handed_over}
 use Rattle.plist_disk.proofs.host_disk.HostDiskDisk.store.Goals as goal
 
--- src/host_disk.rt
 pub returns : goal.returns
-returns g c = finished _ _ _ _ _ _ _ _ _ c.convert-sent.ensures c.finish-stored.ensures c.failures_after-self.ensures
+returns g c = handed_over _ _ _ _ _ _ c.deliver-stored.ensures c.failures_after-self.ensures

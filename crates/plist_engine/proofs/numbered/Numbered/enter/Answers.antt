@@ -5,7 +5,7 @@ use Rattle.plist_engine.proofs.Numbers.{enters-pushed}
 use Rattle.plist_engine.proofs.numbered.Numbered.enter.Goals as goal
 
 pub returns : goal.returns
-returns c = λ numbered.
+returns g c = λ numbered.
     let known = c.args.self.now in
     let long : IsLong c.args.scalar = search rules in
     let room : HasRoom known = omega (arith, c.len.ensures) in

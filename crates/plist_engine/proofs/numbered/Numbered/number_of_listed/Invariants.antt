@@ -5,5 +5,5 @@ use Rattle.plist_engine.proofs.numbered.Numbered.number_of_listed.Given as goal
 
 -- those that are left have the number that all have
 abbrev pub invariant-loop-one : goal.invariant-loop-one
-invariant-loop-one l =
+invariant-loop-one g l =
     number_listed (drop l.one-index l.self.listed.items) (content_of l.scalar) ≡ number_listed l.self.listed.items (content_of l.scalar)

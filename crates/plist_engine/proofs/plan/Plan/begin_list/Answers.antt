@@ -2,7 +2,7 @@ use Rattle.std.proofs.Common.{refl, rules}
 use Rattle.plist_engine.proofs.plan.Plan.begin_list.Goals as goal
 
 pub returns : goal.returns
-returns c = record {
+returns g c = record {
   number_is = search rules;
   scalars_kept = refl;
   memo_kept = refl;

@@ -2,7 +2,7 @@ use Rattle.std.proofs.Common.{refl, rules}
 use Rattle.plist_engine.proofs.plan.Plan.begin_table.Goals as goal
 
 pub returns-clause-begins : goal.returns-clause-begins
-returns-clause-begins c = λ rows ps spell. record {
+returns-clause-begins g c = λ rows ps spell. record {
   number_is = search rules;
   scalars_kept = refl;
   memo_kept = refl;

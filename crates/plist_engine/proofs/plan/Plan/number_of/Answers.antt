@@ -3,7 +3,7 @@ use Rattle.plist_engine.proofs.Remembering.{number-remembered}
 use Rattle.plist_engine.proofs.plan.Plan.number_of.Goals as goal
 
 pub returns : goal.returns
-returns c =
+returns g c =
     let items = c.args.self.now.memo.items in
     let x = c.index-number.result.now in
     let within : c.args.object < length items = omega (arith, c.len.ensures, c.args.self.now.memo.ok.0) in

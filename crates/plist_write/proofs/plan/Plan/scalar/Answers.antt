@@ -6,7 +6,7 @@ use Rattle.plist_write.proofs.Walking.{Walks-known, Walks-new}
 use Rattle.plist_write.proofs.plan.Plan.scalar.Goals as goal
 
 pub returns-in-Some : goal.returns-in-Some
-returns-in-Some c =
+returns-in-Some g c =
     let numbers = c.deref.result.now in
     let index = c.in_ok-index.index in
     let number = c.in-Some.number.now in
@@ -14,7 +14,7 @@ returns-in-Some c =
     Walks-known c.args.scalar c.args.self.now _ _ (rw (c.deref.ensures.value, c.in_ok-index.ensures.index) at found) c.in_ok-index.ensures.keys refl refl
 
 pub returns : goal.returns
-returns c =
+returns g c =
     let numbers = c.deref.result.now in
     let index = c.in_ok-index.index in
     let missed : slice_get numbers index ≡ None = slice_get_past numbers index (search rules) in

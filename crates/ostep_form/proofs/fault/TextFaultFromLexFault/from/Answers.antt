@@ -1,5 +1,0 @@
-use Rattle.std.proofs.Common.{refl}
-use Rattle.ostep_form.proofs.fault.TextFaultFromLexFault.from.Goals as goal
-
-pub returns-in-OutOfMemory : goal.returns-in-OutOfMemory
-returns-in-OutOfMemory c = rw c.in-OutOfMemory.is refl

@@ -1,3 +1,0 @@
-pub mod Machine
-pub mod Reading
-pub mod Due

@@ -1,0 +1,154 @@
+-- Faults that stand if the octets have tokens, from what was read.
+use Rattle.std.proofs.Common.{◌≡◌, ℕ, ◌+◌, ◌<◌, ◌≤◌, true, false, List, [], ◌∷◌, ◌++◌, length, refl, sym, ap, subst, ◌∙◌, append_assoc, append-nil, arith}
+use Rattle.std.proofs.lemmas.List.{map-append}
+use Rattle.plist_value.specs.declared.budget.Budget.{Budget}
+use Rattle.ostep_lex.specs.Lexeme.{Lexeme, Placed}
+use Rattle.ostep_lex.specs.Lexing.{HasTokens}
+use Rattle.ostep_lex.specs.declared.fault.LexFault.{LexFault}
+use Rattle.ostep_lex.specs.declared.fault.LexFault.TheVariants as lexer
+use Rattle.ostep_lex.specs.Stands.{Stands as StandsInTokens}
+use Rattle.ostep_lex.proofs.LawProofs.{tokens_continue}
+use Rattle.ostep_text.specs.declared.fault.TextFault.TheVariants.{Expected, Junk, DuplicateKey}
+use Rattle.ostep_text.specs.Fault.{of_tokens}
+use Rattle.ostep_text.specs.Begun.{Before, NodeAt}
+use Rattle.ostep_text.specs.Text.{lexemes}
+use Rattle.ostep_text.specs.Stands as Faults
+use Rattle.ostep_text.specs.Stands.{Stands, Splits, BeginsAt, BeginsPhrase, IsPhrase, payload_at}
+use Rattle.ostep_text.specs.declared.reader.Reader.{Reader}
+use Rattle.ostep_text.specs.Machine
+use Rattle.ostep_text.specs.Machine.{runs, accepts}
+use Rattle.ostep_text.specs.Reading.{Front, AreBefore, HasRead, StandsIfLexed, MayRefuse, IsLeft}
+use Rattle.ostep_text.specs.Due.{IsOpen}
+use Rattle.ostep_text.proofs.MachineLemmas.{not-accepted, phrase-accepted, stays-dead}
+
+-- a fault of the tokens
+pub tokens-stand : (octets : List ℕ) (fault : LexFault) → StandsInTokens octets fault → Stands octets (of_tokens fault)
+tokens-stand octets lexer.OutOfMemory s = tt
+tokens-stand octets (lexer.BadUtf8 at) s = s
+tokens-stand octets (lexer.XmlForm at) s = s
+tokens-stand octets (lexer.UnexpectedCharacter at) s = s
+tokens-stand octets (lexer.UnclosedString at) s = s
+tokens-stand octets (lexer.UnclosedComment at) s = s
+tokens-stand octets (lexer.BadEscape at) s = s
+tokens-stand octets (lexer.OctalRange at) s = s
+tokens-stand octets (lexer.OddData at) s = s
+tokens-stand octets (lexer.BadData at) s = s
+tokens-stand octets (lexer.BadUtf16 at) s = s
+
+-- one token more stands before
+pub before-more : (tokens : List Placed) (token : Placed) (whole : Front) → AreBefore tokens whole → AreBefore (tokens ++ token ∷ []) (λ rest. whole (token.lexeme ∷ rest))
+before-more tokens token whole b rest =
+    ap (λ ls. ls ++ rest) (map-append (λ (t : Placed). t.lexeme) tokens (token ∷ [])) ∙ (append_assoc (lexemes tokens) (token.lexeme ∷ []) rest ∙ b (token.lexeme ∷ rest))
+
+pub before-are : (tokens : List Placed) (whole : Front) → AreBefore tokens whole → lexemes tokens ≡ whole []
+before-are tokens whole b = sym (append-nil (lexemes tokens)) ∙ b []
+
+pub whole-append : (tokens : List Placed) (whole : Front) → AreBefore tokens whole → (rest : List Lexeme) → whole [] ++ rest ≡ whole rest
+whole-append tokens whole b rest = ap (λ ls. ls ++ rest) (sym (before-are tokens whole b)) ∙ b rest
+
+-- all tokens of the octets, from a token that was read on
+pub record SplitsAt (octets : List ℕ) (before : List Lexeme) (token : Placed) (more : List Placed) : Type 0 where
+  pub others : List Placed
+  pub splits : Splits octets token.start before (token.lexeme ∷ lexemes (more ++ others))
+
+pub splits-at : {octets : List ℕ} {reader : Reader} (tokens more : List Placed) (token : Placed) (whole : Front) → AreBefore tokens whole
+    → HasRead octets (tokens ++ token ∷ more) reader → (all : List Placed) → HasTokens octets all → SplitsAt octets (whole []) token more
+splits-at {octets} tokens more token whole b h all t =
+    let c = tokens_continue octets (tokens ++ token ∷ more) all _ h.behind.before t in
+    let is : all ≡ tokens ++ token ∷ (more ++ c.others) = c.first ∙ append_assoc tokens (token ∷ more) c.others in
+    record {
+      others = c.others;
+      splits = record {
+        tokens = tokens;
+        others = token ∷ (more ++ c.others);
+        has = subst (λ ts. HasTokens octets ts) is t;
+        before_are = before-are tokens whole b;
+        from_are = refl;
+        stands = refl;
+      };
+    }
+
+pub begins-phrase : (tokens : List Placed) (whole : Front) → AreBefore tokens whole → (o : IsOpen whole) → BeginsPhrase (whole [])
+begins-phrase tokens whole b o = (o.others, subst (λ ls. IsPhrase ls) (sym (whole-append tokens whole b o.others)) o.goes_on)
+
+-- no phrase goes on with a token that leads nowhere
+pub goes-nowhere : (tokens : List Placed) (whole : Front) (l : Lexeme) → AreBefore tokens whole → ((rest : List Lexeme) → runs Machine.front (whole (l ∷ rest)) ≡ Machine.dead)
+    → ¬ BeginsPhrase (whole [] ++ l ∷ [])
+goes-nowhere tokens whole l b d p =
+    let is : (whole [] ++ l ∷ []) ++ p.0 ≡ whole (l ∷ p.0) = append_assoc (whole []) (l ∷ []) p.0 ∙ whole-append tokens whole b (l ∷ p.0) in
+    let yes : accepts (runs Machine.front (whole (l ∷ p.0))) ≡ true = phrase-accepted (subst (λ ls. IsPhrase ls) is (p.1)) in
+    let nowhere : accepts (runs Machine.front (whole (l ∷ p.0))) ≡ false = ap accepts (d p.0) in
+    cc (yes, nowhere)
+
+pub expected-at : {octets : List ℕ} {reader : Reader} (tokens : List Placed) (token : Placed) (whole : Front) → AreBefore tokens whole
+    → HasRead octets (tokens ++ token ∷ []) reader → IsOpen whole → ((rest : List Lexeme) → runs Machine.front (whole (token.lexeme ∷ rest)) ≡ Machine.dead)
+    → StandsIfLexed octets (Expected token.start)
+expected-at tokens token whole b h o d all t =
+    Faults.at_token (splits-at tokens [] token whole b h all t).splits (begins-phrase tokens whole b o) (not-accepted o.unfinished) (goes-nowhere tokens whole token.lexeme b d)
+
+pub expected-end : {octets : List ℕ} (tokens : List Placed) (end : ℕ) (whole : Front) → AreBefore tokens whole → HasTokens octets tokens → end ≡ length octets → IsOpen whole
+    → Stands octets (Expected end)
+expected-end {octets} tokens end whole b t e o =
+    Faults.at_end (record {
+      tokens = tokens;
+      others = [];
+      has = subst (λ ts. HasTokens octets ts) (sym (append-nil tokens)) t;
+      before_are = before-are tokens whole b;
+      from_are = refl;
+      stands = e;
+    }) (begins-phrase tokens whole b o) (not-accepted o.unfinished)
+
+pub expected-front : {octets : List ℕ} {reader : Reader} (token : Placed) → HasRead octets (token ∷ []) reader
+    → ((rest : List Lexeme) → runs Machine.front (token.lexeme ∷ rest) ≡ Machine.dead) → StandsIfLexed octets (Expected token.start)
+expected-front token h d all t =
+    Faults.at_front (splits-at [] [] token (λ rest. rest) (λ rest. refl) h all t).splits (goes-nowhere [] (λ rest. rest) token.lexeme (λ rest. refl) d)
+
+-- some tokens stand before
+data IsSome (ls : List Lexeme) : Type 0 where
+  some : (first : Lexeme) (more : List Lexeme) → ls ≡ first ∷ more → IsSome ls
+
+is-some : (ls : List Lexeme) → ¬ (ls ≡ []) → IsSome ls
+is-some [] n = absurd (n refl)
+is-some (l ∷ ls) n = some l ls refl
+
+pub junk-at : {octets : List ℕ} {reader : Reader} (tokens : List Placed) (token : Placed) (whole : Front) → AreBefore tokens whole
+    → HasRead octets (tokens ++ token ∷ []) reader → ¬ (whole [] ≡ []) → IsPhrase (whole [])
+    → ((rest : List Lexeme) → runs Machine.front (whole (token.lexeme ∷ rest)) ≡ Machine.dead) → StandsIfLexed octets (Junk token.start)
+junk-at {octets} tokens token whole b h n p d all t =
+    let s = splits-at tokens [] token whole b h all t in
+    elim (is-some (whole []) n) [
+      | some first more e ↦ Faults.behind_phrase
+          (subst (λ ls. Splits octets token.start ls (token.lexeme ∷ lexemes s.others)) e s.splits)
+          (subst (λ ls. IsPhrase ls) e p)
+          (λ q. goes-nowhere tokens whole token.lexeme b d (subst (λ ls. BeginsPhrase (ls ++ token.lexeme ∷ [])) (sym e) q))
+    ]
+
+begins-at : {octets : List ℕ} {reader : Reader} {b : Before} (tokens more : List Placed) (token : Placed) (whole : Front) → AreBefore tokens whole
+    → HasRead octets (tokens ++ token ∷ more) reader
+    → ((others : List Placed) → NodeAt (whole (token.lexeme ∷ lexemes (more ++ others))) b (token.lexeme ∷ lexemes (more ++ others)))
+    → (all : List Placed) → HasTokens octets all → (others : List Placed) × BeginsAt octets token.start b (token.lexeme ∷ lexemes (more ++ others))
+begins-at {b = b} tokens more token whole f h n all t =
+    let s = splits-at tokens more token whole f h all t in
+    let from : List Lexeme = token.lexeme ∷ lexemes (more ++ s.others) in (
+      s.others,
+      record {
+        before = whole [];
+        splits = s.splits;
+        begins = subst (λ ls. NodeAt ls b from) (sym (whole-append tokens whole f from)) (n s.others);
+      },
+    )
+
+-- where a value or a key begins at a token, a limit that it passes is refused there
+pub node-refuses : {octets : List ℕ} {reader : Reader} {b : Before} (tokens more : List Placed) (token : Placed) (whole : Front) (levels load : ℕ) (left : Budget)
+    → AreBefore tokens whole → HasRead octets (tokens ++ token ∷ more) reader
+    → ((others : List Placed) → NodeAt (whole (token.lexeme ∷ lexemes (more ++ others))) b (token.lexeme ∷ lexemes (more ++ others)))
+    → ((rest : List Lexeme) → load ≤ payload_at (token.lexeme ∷ rest)) → IsLeft left levels b → MayRefuse octets token.start levels load left
+node-refuses {octets} {b = b} tokens more token whole levels load left f h n m i = record {
+  many = λ e all t. let g = begins-at tokens more token whole f h n all t in
+      record { before = b; from = token.lexeme ∷ lexemes (more ++ g.0); begins = g.1; full = omega (arith, i.nodes_left) };
+  deep = λ e all t. let g = begins-at tokens more token whole f h n all t in
+      record { before = b; from = token.lexeme ∷ lexemes (more ++ g.0); begins = g.1; full = omega (arith, i.levels_left) };
+  much = λ e all t. let g = begins-at tokens more token whole f h n all t in
+      let load_is : load ≤ payload_at (token.lexeme ∷ lexemes (more ++ g.0)) = m (lexemes (more ++ g.0)) in
+      record { before = b; from = token.lexeme ∷ lexemes (more ++ g.0); begins = g.1; within = omega (arith, i.payload_left); past = omega (arith, i.payload_left, load_is) };
+}

@@ -1,0 +1,128 @@
+-- What was taken from the limits, and what is left of them behind it.
+use Rattle.std.proofs.Common.{◌≡◌, ℕ, ◌+◌, ◌-◌, ◌*◌, ◌≤◌, false, List, length, refl, sym, ap, subst, ◌∙◌, arith}
+use Rattle.plist_value.specs.declared.budget.Budget.{Budget}
+use Rattle.plist_value.specs.Budget.{Spends}
+use Rattle.plist_value.specs.Plist.{Plist, Scalar, text, scalar, Items, no_items, Pairs, no_pairs, list, table, AreUnits, IsScalar, IsPlist}
+use Rattle.plist_value.specs.Limits.{payload_of_scalar, nodes, depth, payload, nodes_of_items, payload_of_items, nodes_of_pairs, payload_of_pairs, depth_of_pairs}
+use Rattle.plist_value.proofs.Pairs.{put_pair}
+use Rattle.ostep_text.specs.Sorting.{has_key, AreReordered}
+use Rattle.ostep_text.specs.Begun.{Before, opened, with_items, with_rows, with_key}
+use Rattle.ostep_text.proofs.SizeLemmas.{reordered-nodes, reordered-payload}
+use Rattle.ostep_text.specs.Reading.{IsLeft, Takes, TakesItems, TakesPairs, TakesRow}
+use Rattle.ostep_text.proofs.PhraseSteps.{push, nodes-push, payload-push, depth-push, AreItems-push}
+use Rattle.ostep_text.proofs.SortingSteps.{put-nodes, put-payload, put-depth, put-pairs}
+
+pub no-items-taken : (left : Budget) (levels : ℕ) → TakesItems left levels no_items left
+no-items-taken left levels = record { spent = record { nodes_left = omega arith; payload_left = omega arith }; deep = omega arith; valid = tt }
+
+pub no-pairs-taken : (left : Budget) (levels : ℕ) → TakesPairs left levels no_pairs left
+no-pairs-taken left levels = record { spent = record { nodes_left = omega arith; payload_left = omega arith }; deep = omega arith; valid = tt }
+
+pub item-taken : {left mid after : Budget} {levels : ℕ} (vs : Items) (w : Plist) → TakesItems left levels vs mid → Takes mid levels w after → TakesItems left levels (push vs w) after
+item-taken {levels = levels} vs w t u = record {
+  spent = record {
+    nodes_left = omega (arith, nodes-push vs w, t.spent.nodes_left, u.spent.nodes_left);
+    payload_left = omega (arith, payload-push vs w, t.spent.payload_left, u.spent.payload_left);
+  };
+  deep = depth-push vs w levels t.deep u.deep;
+  valid = AreItems-push vs w t.valid u.valid;
+}
+
+pub list-taken : {left mid after : Budget} {levels : ℕ} (vs : Items) → Spends left 1 0 mid → 1 ≤ levels → TakesItems mid (levels - 1) vs after → Takes left levels (list vs) after
+list-taken vs s o t = record {
+  spent = record {
+    nodes_left = omega (arith, s.nodes_left, t.spent.nodes_left);
+    payload_left = omega (arith, s.payload_left, t.spent.payload_left);
+  };
+  deep = omega (arith, o, t.deep);
+  valid = t.valid;
+}
+
+pub pair-taken : {left mid after : Budget} {levels : ℕ} (key : List ℕ) (v : Plist) (ps : Pairs) → TakesPairs left levels ps mid → TakesRow mid levels key v after → has_key key ps ≡ false
+    → TakesPairs left levels (put_pair key v ps) after
+pair-taken {levels = levels} key v ps t u n = record {
+  spent = record {
+    nodes_left = omega (arith, put-nodes key v ps n, t.spent.nodes_left, u.spent.nodes_left);
+    payload_left = omega (arith, put-payload key v ps n, t.spent.payload_left, u.spent.payload_left);
+  };
+  deep = put-depth key v ps levels n u.some u.deep t.deep;
+  valid = put-pairs key v ps u.valid_key u.valid t.valid n;
+}
+
+pub table-taken : {left mid after : Budget} {levels : ℕ} (ps : Pairs) → Spends left 1 0 mid → 1 ≤ levels → TakesPairs mid (levels - 1) ps after → Takes left levels (table ps) after
+table-taken ps s o t = record {
+  spent = record {
+    nodes_left = omega (arith, s.nodes_left, t.spent.nodes_left);
+    payload_left = omega (arith, s.payload_left, t.spent.payload_left);
+  };
+  deep = omega (arith, o, t.deep);
+  valid = t.valid;
+}
+
+pub row-taken : {left mid after : Budget} {levels : ℕ} (key : List ℕ) (v : Plist) → Spends left 1 (2 * length key) mid → 1 ≤ levels → Takes mid levels v after → AreUnits key
+    → TakesRow left levels key v after
+row-taken key v s o t u = record {
+  spent = record {
+    nodes_left = omega (arith, s.nodes_left, t.spent.nodes_left);
+    payload_left = omega (arith, s.payload_left, t.spent.payload_left);
+  };
+  some = o;
+  deep = t.deep;
+  valid_key = u;
+  valid = t.valid;
+}
+
+pub opened-left : {left mid : Budget} {levels : ℕ} {b : Before} → IsLeft left levels b → Spends left 1 0 mid → 1 ≤ levels → IsLeft mid (levels - 1) (opened b)
+opened-left i s o = record {
+  nodes_left = omega (arith, i.nodes_left, s.nodes_left);
+  payload_left = omega (arith, i.payload_left, s.payload_left);
+  levels_left = omega (arith, i.levels_left, o);
+}
+
+pub items-left : {left mid : Budget} {levels : ℕ} (b : Before) (vs : Items) → IsLeft left levels (opened b) → TakesItems left levels vs mid → IsLeft mid levels (with_items vs (opened b))
+items-left b vs i t = record {
+  nodes_left = omega (arith, i.nodes_left, t.spent.nodes_left);
+  payload_left = omega (arith, i.payload_left, t.spent.payload_left);
+  levels_left = i.levels_left;
+}
+
+pub rows-left : {left mid : Budget} {levels : ℕ} {b : Before} {rows ps : Pairs} → IsLeft left levels b → TakesPairs left levels ps mid → AreReordered rows ps → IsLeft mid levels (with_rows rows b)
+rows-left i t r = record {
+  nodes_left = omega (arith, i.nodes_left, t.spent.nodes_left, reordered-nodes r);
+  payload_left = omega (arith, i.payload_left, t.spent.payload_left, reordered-payload r);
+  levels_left = i.levels_left;
+}
+
+pub key-left : {left mid : Budget} {levels : ℕ} {b : Before} (key : List ℕ) → IsLeft left levels b → Spends left 1 (2 * length key) mid → IsLeft mid levels (with_key key b)
+key-left key i s = record {
+  nodes_left = omega (arith, i.nodes_left, s.nodes_left);
+  payload_left = omega (arith, i.payload_left, s.payload_left);
+  levels_left = i.levels_left;
+}
+
+-- with what stayed the same between
+pub item-taken-at : {old at called final new : Budget} {levels : ℕ} (vs all : Items) (w : Plist) → TakesItems old levels vs at → called ≡ at → Takes called levels w new → final ≡ new
+    → all ≡ push vs w → TakesItems old levels all final
+item-taken-at {old} {at} {final = final} {new = new} {levels = levels} vs all w t e u f g =
+    subst (λ x. TakesItems old levels x final) (sym g) (subst (λ x. TakesItems old levels (push vs w) x) (sym f)
+    (item-taken vs w t (subst (λ x. Takes x levels w new) e u)))
+
+pub scalar-taken : {left after : Budget} {levels : ℕ} (s : Scalar) → Spends left 1 (payload_of_scalar s) after → 1 ≤ levels → IsScalar s → Takes left levels (scalar s) after
+scalar-taken s p o v = record { spent = record { nodes_left = p.nodes_left; payload_left = p.payload_left }; deep = o; valid = v }
+
+pub left-same : {old new : Budget} {levels : ℕ} {b : Before} → new ≡ old → IsLeft old levels b → IsLeft new levels b
+left-same {levels = levels} {b = b} e i = subst (λ x. IsLeft x levels b) (sym e) i
+
+pub taken-same : {left left' after after' : Budget} {levels : ℕ} {w : Plist} → left ≡ left' → after' ≡ after → Takes left levels w after → Takes left' levels w after'
+taken-same {left} {after' = after'} {levels = levels} {w = w} e f t = subst (λ x. Takes x levels w after') e (subst (λ x. Takes left levels w x) (sym f) t)
+
+pub spends-same : {left after : Budget} {n load other : ℕ} → Spends left n load after → load ≡ other → Spends left n other after
+spends-same {left} {after} {n = n} s e = subst (λ x. Spends left n x after) e s
+
+pub pair-taken-at : {old at called new : Budget} {levels : ℕ} (key : List ℕ) (v : Plist) (ps all : Pairs) → TakesPairs old levels ps at → called ≡ at → TakesRow called levels key v new
+    → has_key key ps ≡ false → all ≡ put_pair key v ps → TakesPairs old levels all new
+pair-taken-at {old} {new = new} {levels = levels} key v ps all t e u n g =
+    subst (λ x. TakesPairs old levels x new) (sym g) (pair-taken key v ps t (subst (λ x. TakesRow x levels key v new) e u) n)
+
+pub row-same : {left left' after : Budget} {levels : ℕ} {key : List ℕ} {w : Plist} → left ≡ left' → TakesRow left levels key w after → TakesRow left' levels key w after
+row-same {after = after} {levels = levels} {key = key} {w = w} e t = subst (λ x. TakesRow x levels key w after) e t

@@ -1,0 +1,107 @@
+use Rattle.std.proofs.Common.{◌≡◌, ◌∷◌, ◌++◌, [], true, false, ℕ, List, refl, sym, ap, subst, ◌∙◌}
+use Rattle.plist_value.specs.Plist.{table, no_pairs}
+use Rattle.plist_value.specs.View.{view, view_pairs}
+use Rattle.plist_value.specs.Limits.{Fits}
+use Rattle.plist_value.specs.declared.TheConstants.{MAX_DEPTH}
+use Rattle.ostep_lex.specs.Lexeme.{placed, lexeme_of}
+use Rattle.ostep_lex.specs.Lexing.{HasTokens}
+use Rattle.ostep_text.specs.Fault.{of_tokens}
+use Rattle.ostep_text.specs.Begun.{nothing, begins_value}
+use Rattle.ostep_text.specs.Text.{IsText, IsNoText}
+use Rattle.ostep_text.specs.Stands.{Stands}
+use Rattle.ostep_text.specs.declared.fault.TextFault.TheVariants.{OutOfMemory}
+use Rattle.ostep_text.specs.Machine
+use Rattle.ostep_text.specs.Machine.{runs, begun, at_front}
+use Rattle.ostep_text.specs.Reading.{HasRead, IsLeft}
+use Rattle.ostep_text.proofs.Exits.{passed_on, no_ok}
+use Rattle.ostep_text.proofs.Shown.{view-table}
+use Rattle.ostep_text.proofs.MachineLemmas.{stays-dead}
+use Rattle.ostep_text.proofs.Standing.{tokens-stand, expected-front}
+use Rattle.ostep_text.proofs.TakeSteps.{left-same}
+use Rattle.ostep_text.proofs.TokenKinds.{front-begun, none-begins}
+use Rattle.ostep_text.proofs.BareSteps.{empty-text, whole-left, whole-fits, front-due, refused-by}
+use Rattle.ostep_text.proofs.read.read_text.Goals as goal
+
+pub returns-in_err-open-clause-stands : goal.returns-in_err-open-clause-stands
+returns-in_err-open-clause-stands c =
+    passed_on (Stands c.args.octets.now) (of_tokens c.in_err-open.field-0.0) c.from_residual.result c.from_residual.ensures.1 (tokens-stand c.args.octets.now c.in_err-open.field-0.0 c.in_err-open.ensures.stands)
+
+pub returns-in_err-open-clause-refused : goal.returns-in_err-open-clause-refused
+returns-in_err-open-clause-refused c =
+    refused-by c.args.octets.now c.faulty_is_no_text.ensures c.from_residual.result
+    (passed_on (Stands c.args.octets.now) (of_tokens c.in_err-open.field-0.0) c.from_residual.result c.from_residual.ensures.1 (tokens-stand c.args.octets.now c.in_err-open.field-0.0 c.in_err-open.ensures.stands))
+
+pub returns-in_err-first-clause-stands : goal.returns-in_err-first-clause-stands
+returns-in_err-first-clause-stands c =
+    let octets = c.args.octets.now in
+    passed_on (Stands octets) c.in_err-first.field-0.0 c.from_residual-in_err-first.result c.from_residual-in_err-first.ensures.1
+    (c.in_err-first.ensures.stands octets [] (record { behind = c.in_ok-open.ensures.ok; ends = refl }))
+
+pub returns-in_err-first-clause-refused : goal.returns-in_err-first-clause-refused
+returns-in_err-first-clause-refused c =
+    let octets = c.args.octets.now in
+    refused-by c.args.octets.now c.faulty_is_no_text.ensures c.from_residual-in_err-first.result
+    (passed_on (Stands octets) c.in_err-first.field-0.0 c.from_residual-in_err-first.result c.from_residual-in_err-first.ensures.1
+    (c.in_err-first.ensures.stands octets [] (record { behind = c.in_ok-open.ensures.ok; ends = refl })))
+
+pub returns-in_default-clause-read : goal.returns-in_default-clause-read
+returns-in_default-clause-read c =
+    let octets = c.args.octets.now in
+    let all : HasTokens octets [] = rw c.in_default.is at (c.in_ok-first.ensures.read octets [] (record { behind = c.in_ok-open.ensures.ok; ends = refl })) in
+    let none : view_pairs c.new.result.entries ≡ no_pairs = rw c.new.ensures.empty refl in
+    subst (λ x. IsText octets x) (sym (view-table c.new.result ∙ ap table none)) (empty-text all)
+
+pub returns-in-Text-clause-read : goal.returns-in-Text-clause-read
+returns-in-Text-clause-read c =
+    let octets = c.args.octets.now in
+    let first = placed c.in-Some.first in
+    let one : HasRead octets (first ∷ []) c.next.new.self =
+    rw c.in-Some.is at (c.in_ok-first.ensures.read octets [] (record { behind = c.in_ok-open.ensures.ok; ends = refl })) in
+    let left : IsLeft c.next.new.self.left MAX_DEPTH nothing = left-same c.in_ok-first.ensures.left (whole-left c.whole.result c.whole.ensures.nodes c.whole.ensures.payload) in
+    c.string_first.ensures.read octets first (rw c.in-Text.is refl) refl one left
+
+pub returns-in-Text-clause-stands : goal.returns-in-Text-clause-stands
+returns-in-Text-clause-stands c =
+    let octets = c.args.octets.now in
+    let first = placed c.in-Some.first in
+    let one : HasRead octets (first ∷ []) c.next.new.self =
+    rw c.in-Some.is at (c.in_ok-first.ensures.read octets [] (record { behind = c.in_ok-open.ensures.ok; ends = refl })) in
+    let left : IsLeft c.next.new.self.left MAX_DEPTH nothing = left-same c.in_ok-first.ensures.left (whole-left c.whole.result c.whole.ensures.nodes c.whole.ensures.payload) in
+    c.string_first.ensures.stands octets first (rw c.in-Text.is refl) refl one left
+
+pub returns-in-Text-clause-refused : goal.returns-in-Text-clause-refused
+returns-in-Text-clause-refused c =
+    let octets = c.args.octets.now in
+    let first = placed c.in-Some.first in
+    let one : HasRead octets (first ∷ []) c.next.new.self =
+    rw c.in-Some.is at (c.in_ok-first.ensures.read octets [] (record { behind = c.in_ok-open.ensures.ok; ends = refl })) in
+    let left : IsLeft c.next.new.self.left MAX_DEPTH nothing = left-same c.in_ok-first.ensures.left (whole-left c.whole.result c.whole.ensures.nodes c.whole.ensures.payload) in
+    refused-by octets c.faulty_is_no_text.ensures c.string_first.result (c.string_first.ensures.stands octets first (rw c.in-Text.is refl) refl one left)
+
+-- where the first token is no string
+pub returns-in_default-kind-clause-read : goal.returns-in_default-kind-clause-read
+returns-in_default-kind-clause-read c =
+    let octets = c.args.octets.now in
+    let first = placed c.in-Some.first in
+    let one : HasRead octets (first ∷ []) c.next.new.self =
+    rw c.in-Some.is at (c.in_ok-first.ensures.read octets [] (record { behind = c.in_ok-open.ensures.ok; ends = refl })) in
+    let left : IsLeft c.next.new.self.left MAX_DEPTH nothing = left-same c.in_ok-first.ensures.left (whole-left c.whole.result c.whole.ensures.nodes c.whole.ensures.payload) in
+    c.value_first.ensures.read octets one left
+
+pub returns-in_default-kind-clause-stands : goal.returns-in_default-kind-clause-stands
+returns-in_default-kind-clause-stands c =
+    let octets = c.args.octets.now in
+    let first = placed c.in-Some.first in
+    let one : HasRead octets (first ∷ []) c.next.new.self =
+    rw c.in-Some.is at (c.in_ok-first.ensures.read octets [] (record { behind = c.in_ok-open.ensures.ok; ends = refl })) in
+    let left : IsLeft c.next.new.self.left MAX_DEPTH nothing = left-same c.in_ok-first.ensures.left (whole-left c.whole.result c.whole.ensures.nodes c.whole.ensures.payload) in
+    c.value_first.ensures.stands octets one left (front-begun c.in-Some.first.kind c.in_default-kind.not-Text)
+
+pub returns-in_default-kind-clause-refused : goal.returns-in_default-kind-clause-refused
+returns-in_default-kind-clause-refused c =
+    let octets = c.args.octets.now in
+    let first = placed c.in-Some.first in
+    let one : HasRead octets (first ∷ []) c.next.new.self =
+    rw c.in-Some.is at (c.in_ok-first.ensures.read octets [] (record { behind = c.in_ok-open.ensures.ok; ends = refl })) in
+    let left : IsLeft c.next.new.self.left MAX_DEPTH nothing = left-same c.in_ok-first.ensures.left (whole-left c.whole.result c.whole.ensures.nodes c.whole.ensures.payload) in
+    refused-by octets c.faulty_is_no_text.ensures c.value_first.result (c.value_first.ensures.stands octets one left (front-begun c.in-Some.first.kind c.in_default-kind.not-Text))

@@ -1,0 +1,17 @@
+use Rattle.std.proofs.Common.{ℕ, List, [], length}
+use Rattle.plist_value.specs.declared.budget.Budget.{Budget}
+use Rattle.plist_value.specs.View.{view, view_pairs}
+use Rattle.ostep_lex.specs.Cursor.{ahead}
+use Rattle.ostep_text.specs.Begun.{nothing, opened}
+use Rattle.ostep_text.specs.Reading.{IsLeft, ReadsRow, TakesRow}
+use Rattle.ostep_text.proofs.BareSteps.{BareRead}
+use Rattle.ostep_text.proofs.reader.Reader.bare_table.Given as goal
+
+abbrev pub decreases-loop-rows : goal.decreases-loop-rows
+decreases-loop-rows l = length (ahead l.self.cursor)
+
+-- rows so far, one at least
+abbrev pub invariant-loop-rows : goal.invariant-loop-rows
+invariant-loop-rows l =
+    (octets : List ℕ) (left : Budget) → IsLeft left 511 (opened nothing) → TakesRow left 511 l.fn.key (view l.fn.value) l.fn.self.left
+    → ReadsRow octets [] l.fn.key (view l.fn.value) l.fn.self → BareRead octets left (view_pairs l.rows.entries) l.self

@@ -1,0 +1,11 @@
+use Rattle.std.proofs.Common.{List, ℕ, length}
+use Rattle.ostep_lex.specs.Lexeme.{Placed}
+use Rattle.ostep_lex.specs.Cursor.{ahead, StandsBehind}
+use Rattle.ostep_text.specs.Reading.{HasRead}
+use Rattle.ostep_text.proofs.reader.Reader.refuse.Given as goal
+
+abbrev pub decreases-loop-behind : goal.decreases-loop-behind
+decreases-loop-behind l = length (ahead l.cursor)
+
+abbrev pub invariant-loop-behind : goal.invariant-loop-behind
+invariant-loop-behind l = (octets : List ℕ) (tokens : List Placed) → HasRead octets tokens l.self → (more : List Placed) × StandsBehind octets more l.cursor

@@ -1,0 +1,13 @@
+pub mod Sorting
+pub mod Phrase
+pub mod Text
+pub mod Begun
+pub mod Fault
+pub mod Stands
+pub mod Written
+pub mod Laws
+pub mod Machine
+pub mod Reading
+pub mod Due
+pub mod WriteFault
+pub mod Ascii

@@ -1,0 +1,22 @@
+-- The texts of a value.
+use Rattle.std.specs.Prelude.{ℕ, List, map}
+use Rattle.plist_value.specs.Plist.{Plist, IsPlist}
+use Rattle.plist_value.specs.Limits.{Fits}
+use Rattle.ostep_lex.specs.Lexeme.{Lexeme, Placed}
+use Rattle.ostep_lex.specs.Lexing.{HasTokens}
+use Rattle.ostep_text.specs.Phrase.{TopPhrase}
+
+abbrev pub lexemes : List Placed → List Lexeme
+lexemes tokens = map (λ token. token.lexeme) tokens
+
+-- the octets are those of a text whose tokens are a phrase of the value, and the value is within the limits
+pub record IsText (octets : List ℕ) (v : Plist) : Type 0 where
+  pub tokens : List Placed
+  pub has : HasTokens octets tokens
+  pub phrase : TopPhrase (lexemes tokens) v
+  pub is_plist : IsPlist v
+  pub fits : Fits v
+
+-- the octets are a text of no value
+abbrev pub IsNoText : List ℕ → Type 0
+IsNoText octets = (v : Plist) → IsText octets v → ⊥

@@ -1,0 +1,21 @@
+-- The refusals of the writer of texts: which refusal each fault is, its number, and what is printed of it.
+use Rattle.std.specs.Prelude.{ℕ, List}
+use Rattle.plist_value.specs.Refusals.{number_of, reports, report_text}
+use Rattle.plist_value.specs.declared.refusals.Place.TheVariants.{Nowhere}
+use Rattle.plist_value.specs.declared.refusals.Refusal.TheVariants as refusal
+use Rattle.plist_value.specs.declared.refusals.Report.{Report}
+use Rattle.ostep_text.specs.declared.write_fault.TextWriteFault.{TextWriteFault}
+use Rattle.ostep_text.specs.declared.write_fault.TextWriteFault.TheVariants.{NotInOpenStep, OutOfMemory}
+
+-- the refusal; it stands nowhere
+abbrev pub report_of : TextWriteFault → Report
+report_of NotInOpenStep = reports refusal.NotInOpenStep Nowhere
+report_of OutOfMemory = reports refusal.OutOfMemory Nowhere
+
+-- the number of a refusal
+abbrev pub code_of : TextWriteFault → ℕ
+code_of fault = number_of (report_of fault).0
+
+-- the printed form of a refusal
+abbrev pub text_of_fault : TextWriteFault → List ℕ
+text_of_fault fault = report_text (report_of fault)

@@ -1,0 +1,143 @@
+//! Why octets are a text of no value.
+ghost use Rattle.std.specs.Prelude.{◌≡◌, Some};
+ghost use Rattle.ostep_text.specs.Fault.{code_of, of_tokens, report_of, text_of_fault};
+ghost use Rattle.ostep_text.specs.declared.fault.TextFault.TheVariants.{OutOfMemory};
+
+use ostep_lex::LexFault;
+use plist_value::{Place, Refusal, Report};
+use std::alloc::{AllocError, AllocFailed};
+use std::fmt;
+use thiserror::Error;
+
+/// Why octets are a text of no value. Each place counts octets from the input's first, its mark
+/// included. A fault of the tokens (`BadUtf8` to `BadUtf16`) comes before all others but
+/// `OutOfMemory`.
+#[derive(Clone, Copy, Debug, PartialEq, Eq, Error)]
+pub enum TextFault {
+    /// No UTF-8 character begins at this octet, and whole characters stand before it. Comes before
+    /// all other faults of a text with no UTF-16 mark.
+    BadUtf8 { octet: usize },
+    /// The text begins as an XML property list does, at this octet, its `<`. Comes next.
+    XmlForm { octet: usize },
+    /// The character at this octet begins no token, white or comment.
+    UnexpectedCharacter { octet: usize },
+    /// The string whose quote stands at this octet has no end.
+    UnclosedString { octet: usize },
+    /// The comment whose `/*` stands at this octet has no end.
+    UnclosedComment { octet: usize },
+    /// No hexadecimal digit follows the `\U` whose backslash stands at this octet.
+    BadEscape { octet: usize },
+    /// The octal escape whose backslash stands at this octet has a value above octal 177.
+    OctalRange { octet: usize },
+    /// No second digit follows the hexadecimal digit at this octet of a data token.
+    OddData { octet: usize },
+    /// At this octet of a data token stands neither a pair of digits nor `>`, or the text ends.
+    BadData { octet: usize },
+    /// No UTF-16 character begins at this octet, and whole characters stand between the mark and
+    /// it. Comes before all other faults of a text with a UTF-16 mark.
+    BadUtf16 { octet: usize },
+    /// At this octet a key begins that a row before it in its table has.
+    DuplicateKey { octet: usize },
+    /// The value or key that begins at this octet lies inside `MAX_DEPTH` lists and tables.
+    TooDeep { octet: usize },
+    /// The value or key that begins at this octet is one more than a value may hold, `MAX_NODES`.
+    TooManyNodes { octet: usize },
+    /// With the string or the data that begins at this octet the payload passes `MAX_PAYLOAD`.
+    TooMuchPayload { octet: usize },
+    /// No text goes on with the token at this octet, or the text ends there, and the tokens before
+    /// it are none or no whole text.
+    Expected { octet: usize },
+    /// The tokens before this octet are a whole text, and none goes on with the token there.
+    Junk { octet: usize },
+    /// There was no memory. May come before any other fault.
+    OutOfMemory,
+}
+
+impl TextFault {
+    /// The number of the refusal: 14, 16 to 18, 20, 21, 23 to 32 or 60.
+    pub fn code(&self) -> u8
+        ensures { result ≡ code_of self.now }
+    {
+        self.report().0.number()
+    }
+
+    /// Which refusal it is, and what it names.
+    pub fn report(&self) -> Report
+        ensures { result ≡ report_of self.now }
+    {
+        match *self {
+            TextFault::BadUtf8 { octet } => Report(Refusal::BadUtf8, Place::Octet(octet)),
+            TextFault::XmlForm { octet } => Report(Refusal::XmlForm, Place::Octet(octet)),
+            TextFault::UnexpectedCharacter { octet } => {
+                Report(Refusal::UnexpectedCharacter, Place::Octet(octet))
+            }
+            TextFault::UnclosedString { octet } => {
+                Report(Refusal::UnclosedString, Place::Octet(octet))
+            }
+            TextFault::UnclosedComment { octet } => {
+                Report(Refusal::UnclosedComment, Place::Octet(octet))
+            }
+            TextFault::BadEscape { octet } => Report(Refusal::BadEscape, Place::Octet(octet)),
+            TextFault::OctalRange { octet } => Report(Refusal::OctalRange, Place::Octet(octet)),
+            TextFault::OddData { octet } => Report(Refusal::OddData, Place::Octet(octet)),
+            TextFault::BadData { octet } => Report(Refusal::BadData, Place::Octet(octet)),
+            TextFault::BadUtf16 { octet } => Report(Refusal::BadUtf16, Place::Octet(octet)),
+            TextFault::DuplicateKey { octet } => Report(Refusal::DuplicateKey, Place::Octet(octet)),
+            TextFault::TooDeep { octet } => Report(Refusal::TooDeep, Place::Octet(octet)),
+            TextFault::TooManyNodes { octet } => Report(Refusal::TooManyNodes, Place::Octet(octet)),
+            TextFault::TooMuchPayload { octet } => {
+                Report(Refusal::TooMuchPayload, Place::Octet(octet))
+            }
+            TextFault::Expected { octet } => Report(Refusal::Expected, Place::Octet(octet)),
+            TextFault::Junk { octet } => Report(Refusal::Junk, Place::Octet(octet)),
+            TextFault::OutOfMemory => Report(Refusal::OutOfMemory, Place::Nowhere),
+        }
+    }
+}
+
+/// The number, the name and the place of the refusal, as `30 Expected at octet 4`.
+impl fmt::Display for TextFault {
+    ghost output = { λ fault. Some (text_of_fault fault) };
+
+    fn fmt<W: fmt::Write>(&self, f: &mut fmt::Formatter<W>) -> fmt::Result {
+        let report = self.report();
+        write!(f, "{report}")
+    }
+}
+
+/// A fault of the text's tokens, under its own name.
+impl From<LexFault> for TextFault {
+    ghost from_gives = { λ fault e. e ≡ of_tokens fault };
+
+    fn from(fault: LexFault) -> Self {
+        match fault {
+            LexFault::BadUtf8 { octet } => TextFault::BadUtf8 { octet },
+            LexFault::XmlForm { octet } => TextFault::XmlForm { octet },
+            LexFault::UnexpectedCharacter { octet } => TextFault::UnexpectedCharacter { octet },
+            LexFault::UnclosedString { octet } => TextFault::UnclosedString { octet },
+            LexFault::UnclosedComment { octet } => TextFault::UnclosedComment { octet },
+            LexFault::BadEscape { octet } => TextFault::BadEscape { octet },
+            LexFault::OctalRange { octet } => TextFault::OctalRange { octet },
+            LexFault::OddData { octet } => TextFault::OddData { octet },
+            LexFault::BadData { octet } => TextFault::BadData { octet },
+            LexFault::BadUtf16 { octet } => TextFault::BadUtf16 { octet },
+            LexFault::OutOfMemory => TextFault::OutOfMemory,
+        }
+    }
+}
+
+impl From<AllocError> for TextFault {
+    ghost from_gives = { λ _ fault. fault ≡ OutOfMemory };
+
+    fn from(_error: AllocError) -> Self {
+        TextFault::OutOfMemory
+    }
+}
+
+impl<T: Drop> From<AllocFailed<T>> for TextFault {
+    ghost from_gives = { λ _ fault. fault ≡ OutOfMemory };
+
+    fn from(_error: AllocFailed<T>) -> Self {
+        TextFault::OutOfMemory
+    }
+}

@@ -1,5 +1,0 @@
-use Rattle.ostep_write.proofs.AsciiLemmas.{plain-ascii}
-use Rattle.ostep_write.proofs.scalars.put_text.Goals as goal
-
-pub put_units-requires : goal.put_units-requires
-put_units-requires c = plain-ascii c.args.units.now (cc)

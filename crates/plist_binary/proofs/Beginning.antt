@@ -1,0 +1,177 @@
+-- What comes before an object, from what comes before its container and from the references before it.
+use Rattle.std.proofs.Common.{◌≡◌, ℕ, suc, ◌+◌, ◌<◌, List, [], ◌∷◌, ◌++◌, length, take, drop, slice_index, refl, sym, ap, ◌∙◌, subst, inl, inr, arith}
+use Rattle.std.proofs.lemmas.List.{append_assoc}
+use Rattle.plist_value.specs.Plist.{Items, no_items}
+use Rattle.plist_value.specs.Limits.{nodes_of_items, payload_of_items}
+use Rattle.plist_value.specs.Budget.{Spends}
+use Rattle.plist_value.specs.declared.budget.Budget.{Budget}
+use Rattle.plist_object.specs.Objects.{holds_list, holds_table}
+use Rattle.plist_object.specs.Places.{Holds}
+use Rattle.plist_object.specs.References.{references_of}
+use Rattle.plist_object.proofs.Ascending.{Among, Among-contains, Contains-among}
+use Rattle.plist_binary.specs.Begins.{Comes, Begins, IsBegun, IsEntered, AreNext}
+use Rattle.plist_binary.specs.Paths.{Refers, Leads, AllRefer, HasKeys}
+use Rattle.plist_binary.specs.Readings.{ReadsItems}
+use Rattle.plist_binary.proofs.KeySteps.{among_left, among_right}
+use Rattle.plist_binary.proofs.LoopSteps.{around}
+use Rattle.plist_binary.proofs.Sequences.{join, SpellItems-join, AreItems-join, nodes-join, payload-join}
+
+among_middle : (i : ℕ) (front behind : List ℕ) → Among i (front ++ i ∷ behind)
+among_middle i [] behind = inl refl
+among_middle i (x ∷ front) behind = inr (among_middle i front behind)
+
+pub Comes-refers : (f : List ℕ) (j i : ℕ) (vs : Items) → Comes f j i vs → Refers f j i
+Comes-refers f j i vs comes = record {
+  held = comes.held;
+  holds = comes.holds;
+  among = Contains-among i (references_of comes.held) (subst (Among i) (sym comes.all) (among_middle i comes.front comes.behind));
+}
+
+-- the path to an object leads to it
+pub Begins-leads : (f before : List ℕ) (i nodes payload : ℕ) → Begins f before i nodes payload → Leads f before i
+Begins-leads f [] i nodes payload begins = begins.0
+Begins-leads f (j ∷ before) i nodes payload begins = (
+  Comes-refers f j i begins.values begins.comes,
+  Begins-leads f before j begins.nodes_above begins.payload_above begins.above,
+)
+
+pub IsBegun-leads : (f before : List ℕ) (i : ℕ) (whole left : Budget) → IsBegun f before i whole left → Leads f before i
+IsBegun-leads f before i whole left begun = Begins-leads f before i begun.nodes begun.payload begun.begins
+
+-- the object at the top
+pub IsBegun-top : (f : List ℕ) (i : ℕ) (whole left : Budget) → Begins f [] i 0 0 → whole ≡ left → IsBegun f [] i whole left
+IsBegun-top f i whole left begins same = record {
+  nodes = 0;
+  payload = 0;
+  begins = begins;
+  spent = subst (Spends whole 0 0) same record { nodes_left = omega arith; payload_left = omega arith };
+}
+
+-- one node less: the container itself
+pub IsEntered-begun : (f before : List ℕ) (j : ℕ) (whole left after : Budget) → IsBegun f before j whole left → Spends left 1 0 after → IsEntered f before j whole after
+IsEntered-begun f before j whole left after begun node = record {
+  nodes = begun.nodes;
+  payload = begun.payload;
+  begins = begun.begins;
+  spent = record {
+    nodes_left = omega (arith, begun.spent.nodes_left, node.nodes_left);
+    payload_left = omega (arith, begun.spent.payload_left, node.payload_left);
+  };
+}
+
+pub IsEntered-leads : (f before : List ℕ) (j : ℕ) (whole left : Budget) → IsEntered f before j whole left → Leads f before j
+IsEntered-leads f before j whole left entered = Begins-leads f before j entered.nodes entered.payload entered.begins
+
+no_more : (xs : List ℕ) → xs ≡ xs ++ []
+no_more [] = refl
+no_more (x ∷ xs) = ap (λ l. x ∷ l) (no_more xs)
+
+-- the items of a list
+pub AreNext-items : (f before : List ℕ) (j : ℕ) (refs : List ℕ) (whole left : Budget) → IsEntered f before j whole left → Holds f j (holds_list refs) → AreNext f before j refs whole left
+AreNext-items f before j refs whole left entered holds = record {
+  nodes = entered.nodes;
+  payload = entered.payload;
+  begins = entered.begins;
+  held = holds_list refs;
+  holds = holds;
+  front = [];
+  behind = [];
+  all = no_more refs;
+  values = no_items;
+  spell = refl;
+  valid = tt;
+  spent = record {
+    nodes_left = omega (arith, entered.spent.nodes_left);
+    payload_left = omega (arith, entered.spent.payload_left);
+  };
+}
+
+-- the keys of a table
+pub AreNext-keys : (f before : List ℕ) (j : ℕ) (keys : List ℕ) (whole left : Budget) → IsEntered f before j whole left → HasKeys f j keys → AreNext f before j keys whole left
+AreNext-keys f before j keys whole left entered table = record {
+  nodes = entered.nodes;
+  payload = entered.payload;
+  begins = entered.begins;
+  held = holds_table keys table.values;
+  holds = table.holds;
+  front = [];
+  behind = table.values;
+  all = refl;
+  values = no_items;
+  spell = refl;
+  valid = tt;
+  spent = record {
+    nodes_left = omega (arith, entered.spent.nodes_left);
+    payload_left = omega (arith, entered.spent.payload_left);
+  };
+}
+
+-- the values of a table, behind its keys
+pub AreNext-values : (f before : List ℕ) (j : ℕ) (keys values : List ℕ) (levels : ℕ) (whole left after : Budget) (vs : Items) → IsEntered f before j whole left → Holds f j (holds_table keys values) → ReadsItems f keys levels left vs after → AreNext f before j values whole after
+AreNext-values f before j keys values levels whole left after vs entered holds read = record {
+  nodes = entered.nodes;
+  payload = entered.payload;
+  begins = entered.begins;
+  held = holds_table keys values;
+  holds = holds;
+  front = keys;
+  behind = [];
+  all = ap (λ (l : List ℕ). keys ++ l) (no_more values);
+  values = vs;
+  spell = read.spell;
+  valid = read.valid;
+  spent = record {
+    nodes_left = omega (arith, entered.spent.nodes_left, read.spent.nodes_left);
+    payload_left = omega (arith, entered.spent.payload_left, read.spent.payload_left);
+  };
+}
+
+pub AreNext-leads : (f before : List ℕ) (j : ℕ) (refs : List ℕ) (whole left : Budget) → AreNext f before j refs whole left → Leads f before j
+AreNext-leads f before j refs whole left next = Begins-leads f before j next.nodes next.payload next.begins
+
+-- those before one of the references, and those behind it
+around_next : (front refs behind : List ℕ) (k i : ℕ) → k < length refs → i ≡ slice_index refs k → front ++ (refs ++ behind) ≡ (front ++ take k refs) ++ i ∷ (drop (suc k) refs ++ behind)
+around_next front refs behind k i within is =
+    ap (λ (l : List ℕ). front ++ (l ++ behind)) (sym (around refs k i within is))
+    ∙ ap (λ (l : List ℕ). front ++ l) (append_assoc (take k refs) (i ∷ drop (suc k) refs) behind)
+    ∙ sym (append_assoc front (take k refs) (i ∷ (drop (suc k) refs ++ behind)))
+
+-- the reference that comes behind those that were read
+pub IsBegun-next : (f before : List ℕ) (j : ℕ) (refs : List ℕ) (k i levels : ℕ) (whole left after : Budget) (vs : Items) → AreNext f before j refs whole left → k < length refs → i ≡ slice_index refs k → ReadsItems f (take k refs) levels left vs after → IsBegun f (j ∷ before) i whole after
+IsBegun-next f before j refs k i levels whole left after vs next within is read =
+    let values = join next.values vs in
+    let nodes_sum = nodes-join next.values vs in
+    let payload_sum = payload-join next.values vs in
+    record {
+      nodes = next.nodes + 1 + nodes_of_items values;
+      payload = next.payload + payload_of_items values;
+      begins = record {
+        nodes_above = next.nodes;
+        payload_above = next.payload;
+        above = next.begins;
+        values = values;
+        comes = record {
+          held = next.held;
+          holds = next.holds;
+          front = next.front ++ take k refs;
+          behind = drop (suc k) refs ++ next.behind;
+          all = next.all ∙ around_next next.front refs next.behind k i within is;
+          spell = SpellItems-join f next.front (take k refs) next.values vs next.spell read.spell;
+          valid = AreItems-join next.values vs next.valid read.valid;
+        };
+        nodes_sum = refl;
+        payload_sum = refl;
+      };
+      spent = record {
+        nodes_left = omega (arith, next.spent.nodes_left, read.spent.nodes_left, nodes_sum);
+        payload_left = omega (arith, next.spent.payload_left, read.spent.payload_left, payload_sum);
+      };
+    }
+
+-- the container holds each of them
+pub AllRefer-next : (f before : List ℕ) (j : ℕ) (refs : List ℕ) (whole left : Budget) → AreNext f before j refs whole left → AllRefer f j refs
+AllRefer-next f before j refs whole left next i among = record {
+  held = next.held;
+  holds = next.holds;
+  among = Contains-among i (references_of next.held) (subst (Among i) (sym next.all) (among_right i next.front (refs ++ next.behind) (among_left i refs next.behind (Among-contains i refs among))));
+}

@@ -1,0 +1,74 @@
+-- Where an object begins in the value at the top of a file: what comes before it in preorder. Of a table all keys
+-- come before the values.
+use Rattle.std.specs.Prelude.{◌≡◌, ℕ, ◌+◌, List, [], ◌∷◌, ◌++◌, Result, Ok, Err}
+use Rattle.plist_value.specs.Plist.{Items, AreItems}
+use Rattle.plist_value.specs.Limits.{nodes_of_items, payload_of_items, payload_of_scalar}
+use Rattle.plist_value.specs.Budget.{Spends}
+use Rattle.plist_value.specs.declared.budget.Budget.{Budget}
+use Rattle.plist_object.specs.declared.object.ObjectFault.{ObjectFault}
+use Rattle.plist_object.specs.Layout.{trailer_of}
+use Rattle.plist_object.specs.Objects.{Held, holds_scalar, holds_list, holds_table}
+use Rattle.plist_object.specs.Places.{Holds}
+use Rattle.plist_object.specs.Spelled.{SpellItems}
+use Rattle.plist_object.specs.References.{references_of}
+
+-- the payload of the text or the data that was read
+abbrev pub payload_read : Result Held ObjectFault → ℕ
+payload_read (Ok (holds_scalar s)) = payload_of_scalar s
+payload_read (Ok (holds_list refs)) = 0
+payload_read (Ok (holds_table keys values)) = 0
+payload_read (Err e) = 0
+
+-- the object j holds a reference to i, behind references that spell these values in turn
+pub record Comes (f : List ℕ) (j i : ℕ) (vs : Items) : Type 0 where
+  pub held : Held
+  pub holds : Holds f j held
+  pub front : List ℕ
+  pub behind : List ℕ
+  pub all : references_of held ≡ front ++ i ∷ behind
+  pub spell : SpellItems f front vs
+  pub valid : AreItems vs
+
+-- before i come what comes before the container j, then j itself, and the values of its references before the one to i
+pub record BeginsIn (f : List ℕ) (begins : ℕ → ℕ → Type 0) (j i nodes payload : ℕ) : Type 0 where
+  pub nodes_above : ℕ
+  pub payload_above : ℕ
+  pub above : begins nodes_above payload_above
+  pub values : Items
+  pub comes : Comes f j i values
+  pub nodes_sum : nodes ≡ nodes_above + 1 + nodes_of_items values
+  pub payload_sum : payload ≡ payload_above + payload_of_items values
+
+-- the containers, the last first, lead from the top to i, before which come so many nodes and so much payload
+abbrev pub Begins : List ℕ → List ℕ → ℕ → ℕ → ℕ → Type 0
+Begins f [] i nodes payload = (i ≡ (trailer_of f).top) × (nodes ≡ 0) × (payload ≡ 0)
+Begins f (j ∷ before) i nodes payload = BeginsIn f (Begins f before j) j i nodes payload
+
+-- what comes before i took from the whole budget what is gone
+pub record IsBegun (f before : List ℕ) (i : ℕ) (whole left : Budget) : Type 0 where
+  pub nodes : ℕ
+  pub payload : ℕ
+  pub begins : Begins f before i nodes payload
+  pub spent : Spends whole nodes payload left
+
+-- likewise what comes before the container j, and j itself
+pub record IsEntered (f before : List ℕ) (j : ℕ) (whole left : Budget) : Type 0 where
+  pub nodes : ℕ
+  pub payload : ℕ
+  pub begins : Begins f before j nodes payload
+  pub spent : Spends whole (1 + nodes) payload left
+
+-- likewise what comes before these references, which the container j holds one behind another
+pub record AreNext (f before : List ℕ) (j : ℕ) (refs : List ℕ) (whole left : Budget) : Type 0 where
+  pub nodes : ℕ
+  pub payload : ℕ
+  pub begins : Begins f before j nodes payload
+  pub held : Held
+  pub holds : Holds f j held
+  pub front : List ℕ
+  pub behind : List ℕ
+  pub all : references_of held ≡ front ++ (refs ++ behind)
+  pub values : Items
+  pub spell : SpellItems f front values
+  pub valid : AreItems values
+  pub spent : Spends whole (nodes + 1 + nodes_of_items values) (payload + payload_of_items values) left

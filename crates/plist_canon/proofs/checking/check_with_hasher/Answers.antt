@@ -1,0 +1,18 @@
+use Rattle.std.proofs.Common.{arith, subst}
+use Rattle.plist_object.specs.Views.{octets_of}
+use Rattle.plist_canon.specs.Rules.{FollowsRules, IsBroken}
+use Rattle.plist_canon.specs.Checking.{IsFlaw}
+use Rattle.plist_canon.specs.declared.checking.Verdict.TheVariants as verdict
+use Rattle.plist_canon.proofs.Local.{verdict_decides}
+use Rattle.plist_canon.proofs.checking.check_with_hasher.Goals as goal
+
+pub returns-in-Ok-clause-canonical : goal.returns-in-Ok-clause-canonical
+returns-in-Ok-clause-canonical g c =
+    verdict_decides c.args.octets.now (λ i. omega (arith, c.type_inv.octets i)) c.in_ok-file.ensures.ok verdict.Canonical (subst FollowsRules c.in_ok-file.ensures.laid c.in-Ok.ensures.ok)
+
+pub returns-in-Err-Broken-clause-canonical : goal.returns-in-Err-Broken-clause-canonical
+returns-in-Err-Broken-clause-canonical g c =
+    let rule = c.in-Err-Broken.rule in
+    let object = c.in-Err-Broken.object in
+    let flawed = subst (IsFlaw (octets_of c.in_ok-file.file)) c.in-Err-Broken.field-0-is c.in-Err-Broken.ensures.err in
+    verdict_decides c.args.octets.now (λ i. omega (arith, c.type_inv.octets i)) c.in_ok-file.ensures.ok (verdict.Broken rule object) (subst (λ f. IsBroken f rule object) c.in_ok-file.ensures.laid flawed)

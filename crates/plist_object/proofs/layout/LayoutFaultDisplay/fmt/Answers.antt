@@ -1,5 +1,0 @@
-use Rattle.std.proofs.Common.{sym}
-use Rattle.plist_object.proofs.layout.LayoutFaultDisplay.fmt.Goals as goal
-
-pub returns-clause-writes : goal.returns-clause-writes
-returns-clause-writes g c = λ plain wrote. rw (sym c.code-code.ensures, sym c.name-name.ensures) (c.write.ensures.writes plain wrote)

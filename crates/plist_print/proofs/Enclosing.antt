@@ -1,0 +1,148 @@
+-- Containers that are printed: their brackets and the lines between them.
+use Rattle.std.proofs.Common.{◌≡◌, ℕ, suc, ◌+◌, ◌<◌, List, [], ◌∷◌, ◌++◌, length, Option, Result, Err, refl, ap, subst, ◌∙◌, arith, add-one}
+use Rattle.std.specs.Prelude.{codes}
+use Rattle.std.specs.List.{zip}
+use Rattle.std.specs.List.Sorted.{IsPermutation}
+use Rattle.plist_value.specs.Plist.{Scalar, text, Plist, scalar, list, table, Items, no_items, item, Pairs, no_pairs, pair, IsPlist, AreItems}
+use Rattle.plist_object.specs.Objects.{holds_scalar, holds_list, holds_table}
+use Rattle.plist_object.specs.Places.{Holds}
+use Rattle.plist_object.specs.Spelled.{Spells, SpellItems, SpellPairs}
+use Rattle.plist_object.proofs.Uniqueness.{same_held}
+use Rattle.plist_write.specs.declared.sending.WriteFault.{WriteFault}
+use Rattle.plist_write.specs.declared.pending.Pending.{Pending}
+use Rattle.plist_write.specs.Pending.{Gathers, Stops, Goes}
+use Rattle.plist_write.proofs.Gathering.{Gathers-same, Gathers-append}
+use Rattle.plist_engine.specs.Spelling.{SpellTable}
+use Rattle.plist_engine.proofs.Flat.{length-rows, length-keys}
+use Rattle.plist_print.specs.Printed.{indent, printed_scalar, printed_at, printed_items, printed_pairs}
+use Rattle.plist_print.proofs.Steps.{Goes-then, Goes-not}
+
+-- the same octets went
+pub Goes-same : {T : Type 0} (xs ys : List ℕ) (p r : Pending) (t v : Option (List ℕ)) (x z : ℕ) (result : Result T WriteFault) → xs ≡ ys → Goes xs p r t v x z result → Goes ys p r t v x z result
+Goes-same xs ys p r t v x z result same goes =
+    subst (λ (os : List ℕ). Goes os p r t v x z result) same goes
+
+-- the next octets went
+pub next_gathers : (before one all : List ℕ) (p q r : Pending) (t u v : Option (List ℕ)) (x y z : ℕ) → before ++ one ≡ all → Gathers before p q t u x y → Gathers one q r u v y z → Gathers all p r t v x z
+next_gathers before one all p q r t u v x y z is gathers next =
+    Gathers-same (before ++ one) all p r t v x z is (Gathers-append before one p q r t u v x y z gathers next)
+
+-- an opening bracket, lines, and the closing bracket on a line of its own
+abbrev pub bracketed : ℕ → ℕ → ℕ → List ℕ → List ℕ
+bracketed level left right lines = (left ∷ 10 ∷ []) ++ (lines ++ (indent level ++ (right ∷ 10 ∷ [])))
+
+module _ (level left right : ℕ) (lines all : List ℕ) (is : bracketed level left right lines ≡ all) where
+  -- it was refused at the opening bracket
+  pub brackets_unopened : {T : Type 0} (p r : Pending) (t u : Option (List ℕ)) (x y : ℕ) (fault : WriteFault) → Stops (left ∷ 10 ∷ []) p t u x y fault → Goes {T = T} all p r t u x y (Err fault)
+  brackets_unopened p r t u x y fault stops =
+      Goes-same (bracketed level left right lines) all p r t u x y (Err fault) is (Goes-not (left ∷ 10 ∷ []) (lines ++ (indent level ++ (right ∷ 10 ∷ []))) p r t u x y fault stops)
+
+  -- it was refused at the lines
+  pub brackets_unfilled : {T : Type 0} (p q r : Pending) (t u v : Option (List ℕ)) (x y z : ℕ) (fault : WriteFault) → Gathers (left ∷ 10 ∷ []) p q t u x y → Stops lines q u v y z fault → Goes {T = T} all p r t v x z (Err fault)
+  brackets_unfilled p q r t u v x y z fault opened stops =
+      Goes-same (bracketed level left right lines) all p r t v x z (Err fault) is (Goes-then (left ∷ 10 ∷ []) (lines ++ (indent level ++ (right ∷ 10 ∷ []))) p q r t u v x y z (Err fault) opened (Goes-not lines (indent level ++ (right ∷ 10 ∷ [])) q r u v y z fault stops))
+
+  pub brackets_closed : {T : Type 0} (p q r s : Pending) (t u v w : Option (List ℕ)) (x y z n : ℕ) (result : Result T WriteFault) → Gathers (left ∷ 10 ∷ []) p q t u x y → Gathers lines q r u v y z → Goes (indent level ++ (right ∷ 10 ∷ [])) r s v w z n result → Goes all p s t w x n result
+  brackets_closed p q r s t u v w x y z n result opened filled goes =
+      Goes-same (bracketed level left right lines) all p s t w x n result is (Goes-then (left ∷ 10 ∷ []) (lines ++ (indent level ++ (right ∷ 10 ∷ []))) p q s t u w x y n result opened (Goes-then lines (indent level ++ (right ∷ 10 ∷ [])) q r s u v w y z n result filled goes))
+
+-- a list that is empty, and one that is not
+pub list_empty : (f refs : List ℕ) (level : ℕ) (vs : Items) → length refs ≡ 0 → SpellItems f refs vs → 91 ∷ 93 ∷ 10 ∷ [] ≡ printed_at level (list vs)
+list_empty f [] level no_items h spell = refl
+list_empty f [] level (item v vs) h spell = absurd spell
+list_empty f (i ∷ refs) level vs h spell = absurd (omega arith)
+
+list_filled : (f refs : List ℕ) (level : ℕ) (vs : Items) → 0 < length refs → SpellItems f refs vs → bracketed level 91 93 (printed_items (suc level) 0 vs) ≡ printed_at level (list vs)
+list_filled f [] level vs h spell = absurd (omega arith)
+list_filled f (i ∷ refs) level no_items h spell = absurd (let none : i ∷ refs ≡ [] = spell in cc)
+list_filled f (i ∷ refs) level (item v vs) h spell = refl
+
+pub list_brackets : (f refs : List ℕ) (level : ℕ) (vs : Items) → 0 < length refs → SpellItems f refs vs → bracketed level 91 93 (printed_items (level + 1) 0 vs) ≡ printed_at level (list vs)
+list_brackets f refs level vs h spell =
+    ap (λ n. bracketed level 91 93 (printed_items n 0 vs)) (add-one level) ∙ list_filled f refs level vs h spell
+
+-- a table that is empty, and one that is not
+rows_long : (f keys values : List ℕ) (rows : List (ℕ × ℕ)) (ps : Pairs) → length keys ≡ length values → SpellTable f keys values rows ps → length rows ≡ length keys
+rows_long f keys values rows ps as_many spell =
+    length-rows f rows ps spell.spell ∙ length-keys f keys values rows ps as_many spell.moved spell.spell
+
+no_rows : (f : List ℕ) (rows : List (ℕ × ℕ)) (level : ℕ) (ps : Pairs) → length rows ≡ 0 → SpellPairs f rows ps → 123 ∷ 125 ∷ 10 ∷ [] ≡ printed_at level (table ps)
+no_rows f [] level no_pairs h spell = refl
+no_rows f [] level (pair key v ps) h spell = absurd spell
+no_rows f (row ∷ rows) level ps h spell = absurd (omega arith)
+
+pub table_empty : (f keys values : List ℕ) (rows : List (ℕ × ℕ)) (level : ℕ) (ps : Pairs) → length keys ≡ length values → length keys ≡ 0 → SpellTable f keys values rows ps → 123 ∷ 125 ∷ 10 ∷ [] ≡ printed_at level (table ps)
+table_empty f keys values rows level ps as_many h spell =
+    no_rows f rows level ps (rows_long f keys values rows ps as_many spell ∙ h) spell.spell
+
+table_filled : (f : List ℕ) (rows : List (ℕ × ℕ)) (level : ℕ) (ps : Pairs) → 0 < length rows → SpellPairs f rows ps → bracketed level 123 125 (printed_pairs (suc level) ps) ≡ printed_at level (table ps)
+table_filled f [] level ps h spell = absurd (omega arith)
+table_filled f (row ∷ rows) level no_pairs h spell = absurd (let none : row ∷ rows ≡ [] = spell in cc)
+table_filled f (row ∷ rows) level (pair key v ps) h spell = refl
+
+pub table_brackets : (f keys values : List ℕ) (rows : List (ℕ × ℕ)) (level : ℕ) (ps : Pairs) → length keys ≡ length values → 0 < length keys → SpellTable f keys values rows ps → bracketed level 123 125 (printed_pairs (level + 1) ps) ≡ printed_at level (table ps)
+table_brackets f keys values rows level ps as_many h spell =
+    let long = rows_long f keys values rows ps as_many spell in
+    ap (λ n. bracketed level 123 125 (printed_pairs n ps)) (add-one level) ∙ table_filled f rows level ps (omega arith) spell.spell
+
+-- what is spelled where a scalar, a list or a table is held
+pub scalar_seen : (f : List ℕ) (i level : ℕ) (s : Scalar) (v : Plist) → Holds f i (holds_scalar s) → Spells f i v → printed_scalar s ++ codes "\n" ≡ printed_at level v
+scalar_seen f i level s (scalar t) holds spells =
+    let held = same_held f i (holds_scalar s) (holds_scalar t) holds spells in
+    let same : s ≡ t = cc in
+    ap (λ x. printed_scalar x ++ codes "\n") same
+scalar_seen f i level s (list vs) holds spells =
+    absurd (let held = same_held f i (holds_scalar s) (holds_list spells.0) holds spells.1.0 in cc)
+scalar_seen f i level s (table ps) holds spells =
+    absurd (let held = same_held f i (holds_scalar s) (holds_table spells.0 spells.1.0) holds spells.1.1.1.0 in cc)
+
+pub record ListSeen (f refs : List ℕ) (v : Plist) : Type 0 where
+  pub items : Items
+  pub is : list items ≡ v
+  pub valid : AreItems items
+  pub spell : SpellItems f refs items
+
+pub list_seen : (f refs : List ℕ) (i : ℕ) (v : Plist) → Holds f i (holds_list refs) → IsPlist v → Spells f i v → ListSeen f refs v
+list_seen f refs i (scalar s) holds valid spells =
+    absurd (let held = same_held f i (holds_scalar s) (holds_list refs) spells holds in cc)
+list_seen f refs i (list vs) holds valid spells =
+    let held = same_held f i (holds_list spells.0) (holds_list refs) spells.1.0 holds in
+    let same : spells.0 ≡ refs = cc in
+    record {
+      items = vs;
+      is = refl;
+      valid = valid;
+      spell = subst (λ (r : List ℕ). SpellItems f r vs) same spells.1.1;
+    }
+list_seen f refs i (table ps) holds valid spells =
+    absurd (let held = same_held f i (holds_table spells.0 spells.1.0) (holds_list refs) spells.1.1.1.0 holds in cc)
+
+pub record TableSeen (f keys values : List ℕ) (v : Plist) : Type 0 where
+  pub rows : List (ℕ × ℕ)
+  pub pairs : Pairs
+  pub is : table pairs ≡ v
+  pub spell : SpellTable f keys values rows pairs
+
+pub table_seen : (f keys values : List ℕ) (i : ℕ) (v : Plist) → Holds f i (holds_table keys values) → IsPlist v → Spells f i v → TableSeen f keys values v
+table_seen f keys values i (scalar s) holds valid spells =
+    absurd (let held = same_held f i (holds_scalar s) (holds_table keys values) spells holds in cc)
+table_seen f keys values i (list vs) holds valid spells =
+    absurd (let held = same_held f i (holds_list spells.0) (holds_table keys values) spells.1.0 holds in cc)
+table_seen f keys values i (table ps) holds valid spells =
+    let held = same_held f i (holds_table spells.0 spells.1.0) (holds_table keys values) spells.1.1.1.0 holds in
+    let zipped : zip spells.0 spells.1.0 ≡ zip keys values = cc in
+    record {
+      rows = spells.1.1.0;
+      pairs = ps;
+      is = refl;
+      spell = record {
+        moved = subst (λ (held : List (ℕ × ℕ)). IsPermutation held spells.1.1.0) zipped spells.1.1.1.1.0;
+        spell = spells.1.1.1.1.1;
+        valid = valid;
+      };
+    }
+
+-- an object holds one text
+pub text_seen : (f : List ℕ) (i : ℕ) (units others : List ℕ) → Holds f i (holds_scalar (text units)) → Holds f i (holds_scalar (text others)) → units ≡ others
+text_seen f i units others holds held =
+    let same = same_held f i (holds_scalar (text units)) (holds_scalar (text others)) holds held in cc

@@ -1,0 +1,13 @@
+pub mod Rows
+pub mod Fronts
+pub mod UnitFronts
+pub mod Neighbours
+pub mod RealFronts
+pub mod ValueFronts
+pub mod Scaling
+pub mod Steps
+pub mod Deciding
+pub mod PrintSteps
+pub mod Enclosing
+pub mod Turns
+pub mod Ending

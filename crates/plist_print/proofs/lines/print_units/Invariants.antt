@@ -1,0 +1,18 @@
+use Rattle.std.proofs.Common.{◌≡◌, ◌≤◌, ◌-◌, ℕ, List, ◌++◌, drop, length}
+use Rattle.plist_value.specs.Texts.{units_of}
+use Rattle.plist_write.specs.Pending.{Gathers}
+use Rattle.plist_print.specs.Units.{printed_units}
+use Rattle.plist_print.proofs.lines.print_units.Given as goal
+
+-- those that are done and those that are left are all
+abbrev pub invariant-loop-place : goal.invariant-loop-place
+invariant-loop-place g l = record {
+  within : l.place ≤ length (units_of l.text);
+  done : List ℕ;
+  split : done ++ printed_units (drop l.place (units_of l.text)) ≡ printed_units (units_of l.text);
+  gathers : Gathers done l.fn.pending l.pending (g.W.Sink.taken l.fn.out) (g.W.Sink.taken l.out) (g.W.Sink.failures l.fn.out) (g.W.Sink.failures l.out);
+  same : g.W.Sink.device l.out ≡ g.W.Sink.device l.fn.out;
+}
+
+abbrev pub decreases-loop-place : goal.decreases-loop-place
+decreases-loop-place g l = length (units_of l.text) - l.place

@@ -1,0 +1,15 @@
+use Rattle.std.proofs.Common.{refl}
+use Rattle.plist_write.specs.declared.pending.Pending.{Pending}
+use Rattle.plist_write.proofs.Gathering.{Gathers-put, Stops-no_memory, Goes-err, Goes-after}
+use Rattle.plist_print.proofs.lines.put.Goals as goal
+
+pub returns-in_default-clause-goes : goal.returns-in_default-clause-goes
+returns-in_default-clause-goes g c =
+    let p = c.args.pending.now in
+    Goes-err (c.args.octets.now) p _ _ _ _ _ _ (Stops-no_memory (c.args.octets.now) p _ _)
+
+pub returns-clause-goes : goal.returns-clause-goes
+returns-clause-goes g c =
+    let p = c.args.pending.now in
+    let q : Pending = record { octets = c.gather.new.out; sent = p.sent } in
+    Goes-after (c.args.octets.now) p q c.settle.new.pending _ _ _ _ _ _ c.settle.result (Gathers-put (c.args.octets.now) p q _ _ c.in-Ok.ensures refl) c.settle.ensures.goes

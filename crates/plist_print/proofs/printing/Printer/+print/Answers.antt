@@ -1,0 +1,283 @@
+use Rattle.std.proofs.Common.{◌≡◌, ℕ, ◌+◌, ◌-◌, ◌/◌, ◌<◌, ◌≤◌, [], ◌∷◌, ◌++◌, length, rules, sym, ap, subst, ◌∙◌, arith, add-one}
+use Rattle.std.proofs.lemmas.Bool.Decides.{nat_tests}
+use Rattle.std.proofs.lemmas.Result.{err_from_is_err_and}
+use Rattle.plist_value.specs.Plist.{text, list, table}
+use Rattle.plist_value.specs.Scalars.{content_of}
+use Rattle.plist_value.specs.Texts.{units_of}
+use Rattle.plist_value.specs.declared.TheConstants.{MAX_DEPTH}
+use Rattle.plist_object.specs.Objects.{holds_scalar}
+use Rattle.plist_object.specs.Places.{Holds}
+use Rattle.plist_object.specs.Spelled.{Spells}
+use Rattle.plist_object.specs.Views.{octets_of, numbers_of}
+use Rattle.plist_write.proofs.Gathering.{Gathers-same, Stops-behind, Goes-ok}
+use Rattle.plist_engine.specs.Spelling.{SpellsWithin, SpellWithin, HoldsText}
+use Rattle.plist_engine.proofs.Within.{read_within, levels_within, items_within, table_within, value_within}
+use Rattle.plist_print.specs.Printed.{printed_at, printed_items, printed_pairs}
+use Rattle.plist_print.specs.Printing.{item_head, item_lines, pair_head, pair_lines}
+use Rattle.plist_print.proofs.Steps.{Goes-then, Goes-not}
+use Rattle.plist_print.proofs.PrintSteps.{items_before, item_at, items_all, pairs_before, pair_at, pairs_all}
+use Rattle.plist_print.proofs.Enclosing.{Goes-same, next_gathers, brackets_unopened, brackets_unfilled, brackets_closed, list_empty, list_brackets, table_empty, table_brackets, scalar_seen, list_seen, table_seen, text_seen}
+use Rattle.plist_print.proofs.Turns.{turn_count, turn_key, turn_value, turn_within}
+use Rattle.plist_print.proofs.printing.Printer.+print.Goals as goal
+
+pub value-object_of-requires : goal.value-object_of-requires
+value-object_of-requires g t c =
+    read_within (octets_of c.args.self.now.file) c.args.object (MAX_DEPTH - c.args.level) c.requires.spells
+
+pub value-list-requires : goal.value-list-requires
+value-list-requires g t c κs within =
+    let f = octets_of c.args.self.now.file in
+    let refs = numbers_of c.in-List.items in
+    let some = levels_within f c.args.object (MAX_DEPTH - c.args.level) c.requires.spells in
+    let below : c.args.level < MAX_DEPTH = omega arith in
+    let less : MAX_DEPTH - c.args.level - 1 ≡ MAX_DEPTH - (c.args.level + 1) = omega arith in
+    let inside = items_within f c.args.object (MAX_DEPTH - c.args.level) refs c.requires.spells c.in-List.ensures.holds in
+    (omega (arith, c.decreases, some), (within, (below, (subst (λ (n : ℕ). SpellWithin f refs n) less inside, c.requires.ordered))))
+
+pub value-table-requires : goal.value-table-requires
+value-table-requires g t c κs within =
+    let f = octets_of c.args.self.now.file in
+    let keys = numbers_of c.in-Table.keys in
+    let values = numbers_of c.in-Table.values in
+    let some = levels_within f c.args.object (MAX_DEPTH - c.args.level) c.requires.spells in
+    let below : c.args.level < MAX_DEPTH = omega arith in
+    let inside = table_within f c.args.object (MAX_DEPTH - c.args.level) keys values c.requires.spells c.in-Table.ensures.holds in (
+      omega (arith, c.decreases, some),
+      (
+        within,
+        (
+          below,
+          (
+            record {
+              rows = inside.rows;
+              pairs = inside.pairs;
+              as_many = c.in-Table.ensures.valid;
+              spell = inside.spell;
+              deep = omega (arith, inside.deep);
+            },
+            c.requires.ordered,
+          ),
+        ),
+      ),
+    )
+
+pub value-returns-in-Scalar-clause-goes : goal.value-returns-in-Scalar-clause-goes
+value-returns-in-Scalar-clause-goes g t c = λ v valid spells.
+    let f = octets_of c.args.self.now.file in
+    Goes-same _ (printed_at c.args.level v) c.args.pending.now c.print_line.new.pending _ _ _ _ c.print_line.result (scalar_seen f c.args.object c.args.level (content_of c.in-Scalar.scalar) v c.in-Scalar.ensures.holds spells) c.print_line.ensures.goes
+
+pub value-returns-in-List-clause-goes : goal.value-returns-in-List-clause-goes
+value-returns-in-List-clause-goes g t c = λ v valid spells.
+    let seen = list_seen (octets_of c.args.self.now.file) (numbers_of c.in-List.items) c.args.object v c.in-List.ensures.holds valid spells in
+    Goes-same (printed_at c.args.level (list seen.items)) (printed_at c.args.level v) c.args.pending.now c.list.new.pending _ _ _ _ c.list.result (ap (printed_at c.args.level) seen.is) (c.list.ensures.goes seen.items seen.valid seen.spell)
+
+pub value-returns-in-Table-clause-goes : goal.value-returns-in-Table-clause-goes
+value-returns-in-Table-clause-goes g t c = λ v valid spells.
+    let seen = table_seen (octets_of c.args.self.now.file) (numbers_of c.in-Table.keys) (numbers_of c.in-Table.values) c.args.object v c.in-Table.ensures.holds valid spells in
+    Goes-same (printed_at c.args.level (table seen.pairs)) (printed_at c.args.level v) c.args.pending.now c.table.new.pending _ _ _ _ c.table.result (ap (printed_at c.args.level) seen.is) (c.table.ensures.goes seen.rows seen.pairs seen.spell)
+
+pub list-returns-then-is_empty-clause-goes : goal.list-returns-then-is_empty-clause-goes
+list-returns-then-is_empty-clause-goes g t c = λ vs valid spell.
+    let refs = numbers_of c.args.items.now in
+    let none : length refs ≡ 0 = first_of (search rules, grind (arith, nat_tests)) in
+    Goes-same (91 ∷ 93 ∷ 10 ∷ []) (printed_at c.args.level (list vs)) c.args.pending.now c.put.new.pending _ _ _ _ c.put.result (list_empty (octets_of c.args.self.now.file) refs c.args.level vs none spell) c.put.ensures.goes
+
+pub list-returns-in_err-put-clause-goes : goal.list-returns-in_err-put-clause-goes
+list-returns-in_err-put-clause-goes g t c = λ vs valid spell.
+    let e = err_from_is_err_and c.from_residual.result c.from_residual.ensures.1 in
+    let refs = numbers_of c.args.items.now in
+    let some : 0 < length refs = first_of (search rules, grind (arith, nat_tests)) in
+    let is = list_brackets (octets_of c.args.self.now.file) refs c.args.level vs some spell in
+    rw (e.1, e.2) (brackets_unopened c.args.level 91 93 (printed_items (c.args.level + 1) 0 vs) (printed_at c.args.level (list vs)) is c.args.pending.now _ _ _ _ _ _ c.in_err-put.ensures.goes.stopped)
+
+pub list-returns-in_err-items-clause-goes : goal.list-returns-in_err-items-clause-goes
+list-returns-in_err-items-clause-goes g t c = λ vs valid spell.
+    let e = err_from_is_err_and c.from_residual-in_err-items.result c.from_residual-in_err-items.ensures.1 in
+    let refs = numbers_of c.args.items.now in
+    let some : 0 < length refs = first_of (search rules, grind (arith, nat_tests)) in
+    let is = list_brackets (octets_of c.args.self.now.file) refs c.args.level vs some spell in
+    rw (e.1, e.2) (brackets_unfilled c.args.level 91 93 (printed_items (c.args.level + 1) 0 vs) (printed_at c.args.level (list vs)) is c.args.pending.now c.put-2.new.pending _ _ _ _ _ _ _ _ c.in_ok-put.ensures.goes.done (c.in_err-items.ensures.goes vs valid spell).stopped)
+
+pub list-returns-clause-goes : goal.list-returns-clause-goes
+list-returns-clause-goes g t c = λ vs valid spell.
+    let refs = numbers_of c.args.items.now in
+    let some : 0 < length refs = first_of (search rules, grind (arith, nat_tests)) in
+    let is = list_brackets (octets_of c.args.self.now.file) refs c.args.level vs some spell in
+    brackets_closed c.args.level 91 93 (printed_items (c.args.level + 1) 0 vs) (printed_at c.args.level (list vs)) is c.args.pending.now c.put-2.new.pending c.items.new.pending c.end_lines.new.pending _ _ _ _ _ _ _ _ c.end_lines.result c.in_ok-put.ensures.goes.done (c.in_ok-items.ensures.goes vs valid spell).done c.end_lines.ensures.goes
+
+pub items-item-requires : goal.items-item-requires
+items-item-requires g t c κs within =
+    let f = octets_of c.args.self.now.file in
+    let refs = numbers_of c.args.items.now in
+    let i = c.loop-i.i in
+    let below : i < length refs = omega (arith, c.loop-i-test.true, c.len-i-end.ensures) in
+    let one = value_within f refs (MAX_DEPTH - c.args.level) i c.requires.spell below in
+    (omega (arith, c.decreases), (within, (subst (λ (n : ℕ). SpellsWithin f n (MAX_DEPTH - c.args.level)) (sym c.get.ensures) one, c.loop-i.invariant.ordered)))
+
+pub items-returns-in_err-item-clause-goes : goal.items-returns-in_err-item-clause-goes
+items-returns-in_err-item-clause-goes g t c = λ vs valid spell.
+    let e = err_from_is_err_and c.from_residual.result c.from_residual.ensures.1 in
+    let f = octets_of c.args.self.now.file in
+    let refs = numbers_of c.args.items.now in
+    let i = c.loop-i.i in
+    let below : i < length refs = omega (arith, c.loop-i-test.true, c.len-i-end.ensures) in
+    let at = item_at f refs c.args.level 0 i i vs (omega arith) below valid spell in
+    let spells = subst (λ (n : ℕ). Spells f n at.value) (sym c.get.ensures) at.spells in
+    let before = items_before c.args.level 0 i vs in
+    let one = item_lines c.args.level i at.value in
+    let stops = Stops-behind before one c.args.pending.now c.loop-i.pending _ _ _ _ _ _ _ (c.loop-i.invariant.gathers vs valid spell) (c.in_err-item.ensures.goes at.value at.valid spells).stopped in
+    rw (e.1, e.2) (Goes-same ((before ++ one) ++ at.rest) (printed_items c.args.level 0 vs) c.args.pending.now _ _ _ _ _ _ (sym at.split) (Goes-not (before ++ one) at.rest c.args.pending.now _ _ _ _ _ _ stops))
+
+pub items-loop-i-preserved : goal.items-loop-i-preserved
+items-loop-i-preserved g t c = record {
+  gathers = λ vs valid spell.
+      let f = octets_of c.args.self.now.file in
+      let refs = numbers_of c.args.items.now in
+      let i = c.loop-i.i in
+      let below : i < length refs = omega (arith, c.loop-i-test.true, c.len-i-end.ensures) in
+      let at = item_at f refs c.args.level 0 i i vs (omega arith) below valid spell in
+      let spells = subst (λ (n : ℕ). Spells f n at.value) (sym c.get.ensures) at.spells in
+      let more : items_before c.args.level 0 i vs ++ item_lines c.args.level i at.value ≡ items_before c.args.level 0 (i + 1) vs = sym at.more ∙ ap (λ k. items_before c.args.level 0 k vs) (sym (add-one i)) in
+      next_gathers (items_before c.args.level 0 i vs) (item_lines c.args.level i at.value) (items_before c.args.level 0 (i + 1) vs) c.args.pending.now c.loop-i.pending c.item.new.pending _ _ _ _ _ _ more (c.loop-i.invariant.gathers vs valid spell) (c.in_ok-item.ensures.goes at.value at.valid spells).done;
+  same = c.in_ok-item.ensures.same ∙ c.loop-i.invariant.same;
+  ordered = c.in_ok-item.ensures.ordered;
+}
+
+pub items-returns-clause-goes : goal.items-returns-clause-goes
+items-returns-clause-goes g t c = λ vs valid spell.
+    let refs = numbers_of c.args.items.now in
+    let i = c.loop-i.i in
+    let past : length refs ≤ i = omega (arith, c.loop-i-test.false, c.len-i-end.ensures) in
+    let all = items_all (octets_of c.args.self.now.file) refs c.args.level 0 i vs past spell in
+    Goes-ok (printed_items c.args.level 0 vs) c.args.pending.now c.loop-i.pending _ _ _ _ (Gathers-same (items_before c.args.level 0 i vs) (printed_items c.args.level 0 vs) c.args.pending.now c.loop-i.pending _ _ _ _ all (c.loop-i.invariant.gathers vs valid spell))
+
+pub item-returns-in_err-begin_item-clause-goes : goal.item-returns-in_err-begin_item-clause-goes
+item-returns-in_err-begin_item-clause-goes g t c = λ v valid spells.
+    let e = err_from_is_err_and c.from_residual.result c.from_residual.ensures.1 in
+    rw (e.1, e.2) (Goes-not (item_head c.args.level c.args.index) (printed_at c.args.level v) c.args.pending.now _ _ _ _ _ _ c.in_err-begin_item.ensures.goes.stopped)
+
+pub item-returns-clause-goes : goal.item-returns-clause-goes
+item-returns-clause-goes g t c = λ v valid spells.
+    Goes-then (item_head c.args.level c.args.index) (printed_at c.args.level v) c.args.pending.now c.begin_item.new.pending c.value.new.pending _ _ _ _ _ _ c.value.result c.in_ok-begin_item.ensures.goes.done (c.value.ensures.goes v valid spells)
+
+pub table-returns-then-is_empty-clause-goes : goal.table-returns-then-is_empty-clause-goes
+table-returns-then-is_empty-clause-goes g t c = λ rows ps spell.
+    let keys = numbers_of c.args.keys.now in
+    let none : length keys ≡ 0 = first_of (search rules, grind (arith, nat_tests)) in
+    Goes-same (123 ∷ 125 ∷ 10 ∷ []) (printed_at c.args.level (table ps)) c.args.pending.now c.put.new.pending _ _ _ _ c.put.result (table_empty (octets_of c.args.self.now.file) keys (numbers_of c.args.values.now) rows c.args.level ps c.requires.spell.as_many none spell) c.put.ensures.goes
+
+pub table-returns-in_err-put-clause-goes : goal.table-returns-in_err-put-clause-goes
+table-returns-in_err-put-clause-goes g t c = λ rows ps spell.
+    let e = err_from_is_err_and c.from_residual.result c.from_residual.ensures.1 in
+    let keys = numbers_of c.args.keys.now in
+    let some : 0 < length keys = first_of (search rules, grind (arith, nat_tests)) in
+    let is = table_brackets (octets_of c.args.self.now.file) keys (numbers_of c.args.values.now) rows c.args.level ps c.requires.spell.as_many some spell in
+    rw (e.1, e.2) (brackets_unopened c.args.level 123 125 (printed_pairs (c.args.level + 1) ps) (printed_at c.args.level (table ps)) is c.args.pending.now _ _ _ _ _ _ c.in_err-put.ensures.goes.stopped)
+
+pub table-pairs-requires : goal.table-pairs-requires
+table-pairs-requires g t c κs within =
+    let all = c.requires.spell in (
+      omega (arith, c.decreases, c.requires.below),
+      (
+        within,
+        (
+          record {
+            rows = all.rows;
+            pairs = all.pairs;
+            turn = c.deref.ensures.value ∙ c.in-Ok.ensures.turn all.rows all.pairs all.spell;
+            spell = all.spell.spell;
+            valid = all.spell.valid;
+            deep = all.deep;
+          },
+          c.in-Ok.ensures.ordered,
+        ),
+      ),
+    )
+
+pub table-returns-in_err-pairs-clause-goes : goal.table-returns-in_err-pairs-clause-goes
+table-returns-in_err-pairs-clause-goes g t c = λ rows ps spell.
+    let e = err_from_is_err_and c.from_residual-in_err-pairs.result c.from_residual-in_err-pairs.ensures.1 in
+    let keys = numbers_of c.args.keys.now in
+    let some : 0 < length keys = first_of (search rules, grind (arith, nat_tests)) in
+    let is = table_brackets (octets_of c.args.self.now.file) keys (numbers_of c.args.values.now) rows c.args.level ps c.requires.spell.as_many some spell in
+    let turn = c.deref.ensures.value ∙ c.in-Ok.ensures.turn rows ps spell in
+    rw (e.1, e.2) (brackets_unfilled c.args.level 123 125 (printed_pairs (c.args.level + 1) ps) (printed_at c.args.level (table ps)) is c.args.pending.now c.put-2.new.pending _ _ _ _ _ _ _ _ c.in_ok-put.ensures.goes.done (c.in_err-pairs.ensures.goes rows ps turn spell.valid spell.spell).stopped)
+
+pub table-returns-clause-goes : goal.table-returns-clause-goes
+table-returns-clause-goes g t c = λ rows ps spell.
+    let keys = numbers_of c.args.keys.now in
+    let some : 0 < length keys = first_of (search rules, grind (arith, nat_tests)) in
+    let is = table_brackets (octets_of c.args.self.now.file) keys (numbers_of c.args.values.now) rows c.args.level ps c.requires.spell.as_many some spell in
+    let turn = c.deref.ensures.value ∙ c.in-Ok.ensures.turn rows ps spell in
+    brackets_closed c.args.level 123 125 (printed_pairs (c.args.level + 1) ps) (printed_at c.args.level (table ps)) is c.args.pending.now c.put-2.new.pending c.pairs.new.pending c.end_lines.new.pending _ _ _ _ _ _ _ _ c.end_lines.result c.in_ok-put.ensures.goes.done (c.in_ok-pairs.ensures.goes rows ps turn spell.valid spell.spell).done c.end_lines.ensures.goes
+
+pub pairs-pair-requires : goal.pairs-pair-requires
+pairs-pair-requires g t c κs within =
+    let f = octets_of c.args.self.now.file in
+    let refs = c.args.references.now in
+    let i = c.loop-i.i in
+    let all = c.requires.spell in
+    let count = turn_count refs all.rows all.turn in
+    let below : i < length all.rows = omega (arith, c.loop-i-test.true, count) in
+    let far : length refs / 2 + i < length refs = omega (arith, c.loop-i-test.true) in
+    let at = pair_at f all.rows c.args.level i all.pairs below all.valid all.spell in
+    let key = c.from-key.ensures ∙ turn_key refs all.rows all.turn i below in
+    let named = subst (λ (n : ℕ). HoldsText f n) (sym key) (record { units = at.key; holds = at.named }) in
+    let one = subst (λ (n : ℕ). SpellsWithin f n (MAX_DEPTH - c.args.level)) (sym c.from-object.ensures) (turn_within f refs (MAX_DEPTH - c.args.level) (length refs / 2 + i) all far) in
+    (omega (arith, c.decreases), (within, (named, (one, c.loop-i.invariant.ordered))))
+
+pub pairs-returns-in_err-pair-clause-goes : goal.pairs-returns-in_err-pair-clause-goes
+pairs-returns-in_err-pair-clause-goes g t c = λ rows ps turn valid spell.
+    let e = err_from_is_err_and c.from_residual.result c.from_residual.ensures.1 in
+    let f = octets_of c.args.self.now.file in
+    let refs = c.args.references.now in
+    let i = c.loop-i.i in
+    let count = turn_count refs rows turn in
+    let below : i < length rows = omega (arith, c.loop-i-test.true, count) in
+    let at = pair_at f rows c.args.level i ps below valid spell in
+    let named = subst (λ (n : ℕ). Holds f n (holds_scalar (text at.key))) (sym (c.from-key.ensures ∙ turn_key refs rows turn i below)) at.named in
+    let spells = subst (λ (n : ℕ). Spells f n at.value) (sym (c.from-object.ensures ∙ turn_value refs rows turn (length refs / 2) i count)) at.spells in
+    let before = pairs_before c.args.level i ps in
+    let one = pair_lines c.args.level at.key at.value in
+    let stops = Stops-behind before one c.args.pending.now c.loop-i.pending _ _ _ _ _ _ _ (c.loop-i.invariant.gathers rows ps turn valid spell) (c.in_err-pair.ensures.goes at.key at.value named at.valid spells).stopped in
+    rw (e.1, e.2) (Goes-same ((before ++ one) ++ at.rest) (printed_pairs c.args.level ps) c.args.pending.now _ _ _ _ _ _ (sym at.split) (Goes-not (before ++ one) at.rest c.args.pending.now _ _ _ _ _ _ stops))
+
+pub pairs-loop-i-preserved : goal.pairs-loop-i-preserved
+pairs-loop-i-preserved g t c = record {
+  gathers = λ rows ps turn valid spell.
+      let f = octets_of c.args.self.now.file in
+      let refs = c.args.references.now in
+      let i = c.loop-i.i in
+      let count = turn_count refs rows turn in
+      let below : i < length rows = omega (arith, c.loop-i-test.true, count) in
+      let at = pair_at f rows c.args.level i ps below valid spell in
+      let named = subst (λ (n : ℕ). Holds f n (holds_scalar (text at.key))) (sym (c.from-key.ensures ∙ turn_key refs rows turn i below)) at.named in
+      let spells = subst (λ (n : ℕ). Spells f n at.value) (sym (c.from-object.ensures ∙ turn_value refs rows turn (length refs / 2) i count)) at.spells in
+      let more : pairs_before c.args.level i ps ++ pair_lines c.args.level at.key at.value ≡ pairs_before c.args.level (i + 1) ps = sym at.more ∙ ap (λ k. pairs_before c.args.level k ps) (sym (add-one i)) in
+      next_gathers (pairs_before c.args.level i ps) (pair_lines c.args.level at.key at.value) (pairs_before c.args.level (i + 1) ps) c.args.pending.now c.loop-i.pending c.pair.new.pending _ _ _ _ _ _ more (c.loop-i.invariant.gathers rows ps turn valid spell) (c.in_ok-pair.ensures.goes at.key at.value named at.valid spells).done;
+  same = c.in_ok-pair.ensures.same ∙ c.loop-i.invariant.same;
+  ordered = c.in_ok-pair.ensures.ordered;
+}
+
+pub pairs-returns-clause-goes : goal.pairs-returns-clause-goes
+pairs-returns-clause-goes g t c = λ rows ps turn valid spell.
+    let i = c.loop-i.i in
+    let count = turn_count c.args.references.now rows turn in
+    let past : length rows ≤ i = omega (arith, c.loop-i-test.false, count) in
+    let all = pairs_all (octets_of c.args.self.now.file) rows c.args.level i ps past spell in
+    Goes-ok (printed_pairs c.args.level ps) c.args.pending.now c.loop-i.pending _ _ _ _ (Gathers-same (pairs_before c.args.level i ps) (printed_pairs c.args.level ps) c.args.pending.now c.loop-i.pending _ _ _ _ all (c.loop-i.invariant.gathers rows ps turn valid spell))
+
+pub pair-returns-in_err-begin_pair-clause-goes : goal.pair-returns-in_err-begin_pair-clause-goes
+pair-returns-in_err-begin_pair-clause-goes g t c = λ units v named valid spells.
+    let e = err_from_is_err_and c.from_residual.result c.from_residual.ensures.1 in
+    let seen = units_of c.text_of-text.result in
+    let same = text_seen (octets_of c.args.self.now.file) c.args.key seen units c.text_of-text.ensures named in
+    let is = ap (λ us. pair_lines c.args.level us v) same in
+    rw (e.1, e.2) (Goes-same (pair_lines c.args.level seen v) (pair_lines c.args.level units v) c.args.pending.now _ _ _ _ _ _ is (Goes-not (pair_head c.args.level seen) (printed_at c.args.level v) c.args.pending.now _ _ _ _ _ _ c.in_err-begin_pair.ensures.goes.stopped))
+
+pub pair-returns-clause-goes : goal.pair-returns-clause-goes
+pair-returns-clause-goes g t c = λ units v named valid spells.
+    let seen = units_of c.text_of-text.result in
+    let same = text_seen (octets_of c.args.self.now.file) c.args.key seen units c.text_of-text.ensures named in
+    let is = ap (λ us. pair_lines c.args.level us v) same in
+    Goes-same (pair_lines c.args.level seen v) (pair_lines c.args.level units v) c.args.pending.now c.value.new.pending _ _ _ _ c.value.result is (Goes-then (pair_head c.args.level seen) (printed_at c.args.level v) c.args.pending.now c.begin_pair.new.pending c.value.new.pending _ _ _ _ _ _ c.value.result c.in_ok-begin_pair.ensures.goes.done (c.value.ensures.goes v valid spells))

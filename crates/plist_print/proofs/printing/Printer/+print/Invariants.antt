@@ -1,0 +1,48 @@
+use Rattle.std.proofs.Common.{◌≡◌, ℕ, ◌+◌, ◌-◌, ◌*◌, List}
+use Rattle.plist_value.specs.Plist.{Items, Pairs, AreItems, ArePairs}
+use Rattle.plist_value.specs.declared.TheConstants.{MAX_DEPTH}
+use Rattle.plist_object.specs.Spelled.{SpellItems, SpellPairs}
+use Rattle.plist_object.specs.Views.{octets_of, numbers_of}
+use Rattle.plist_write.specs.Pending.{Gathers}
+use Rattle.plist_engine.specs.Order.{IsOrdered}
+use Rattle.plist_engine.specs.Spelling.{in_turn}
+use Rattle.plist_print.proofs.PrintSteps.{items_before, pairs_before}
+use Rattle.plist_print.proofs.printing.Printer.+print.Given as goal
+
+-- by the levels that are left, with what calls before what is called
+abbrev pub decreases-value : goal.decreases-value
+decreases-value g l = 4 * (MAX_DEPTH - l.level)
+
+abbrev pub decreases-item : goal.decreases-item
+decreases-item g l = 4 * (MAX_DEPTH - l.level) + 1
+
+abbrev pub decreases-pair : goal.decreases-pair
+decreases-pair g l = 4 * (MAX_DEPTH - l.level) + 1
+
+abbrev pub decreases-items : goal.decreases-items
+decreases-items g l = 4 * (MAX_DEPTH - l.level) + 2
+
+abbrev pub decreases-pairs : goal.decreases-pairs
+decreases-pairs g l = 4 * (MAX_DEPTH - l.level) + 2
+
+abbrev pub decreases-list : goal.decreases-list
+decreases-list g l = 4 * (MAX_DEPTH - l.level) - 1
+
+abbrev pub decreases-table : goal.decreases-table
+decreases-table g l = 4 * (MAX_DEPTH - l.level) - 1
+
+-- the lines of the items before this one went
+abbrev pub invariant-items-loop-i : goal.invariant-items-loop-i
+invariant-items-loop-i g l = record {
+  gathers : (vs : Items) → AreItems vs → SpellItems (octets_of l.self.file) (numbers_of l.items) vs → Gathers (items_before l.level 0 l.i vs) l.fn.pending l.pending (g.W.Sink.taken l.fn.out) (g.W.Sink.taken l.out) (g.W.Sink.failures l.fn.out) (g.W.Sink.failures l.out);
+  same : g.W.Sink.device l.out ≡ g.W.Sink.device l.fn.out;
+  ordered : IsOrdered (octets_of l.self.file) l.order;
+}
+
+-- the lines of the pairs before this one went
+abbrev pub invariant-pairs-loop-i : goal.invariant-pairs-loop-i
+invariant-pairs-loop-i g l = record {
+  gathers : (rows : List (ℕ × ℕ)) (ps : Pairs) → l.references ≡ in_turn rows → ArePairs ps → SpellPairs (octets_of l.self.file) rows ps → Gathers (pairs_before l.level l.i ps) l.fn.pending l.pending (g.W.Sink.taken l.fn.out) (g.W.Sink.taken l.out) (g.W.Sink.failures l.fn.out) (g.W.Sink.failures l.out);
+  same : g.W.Sink.device l.out ≡ g.W.Sink.device l.fn.out;
+  ordered : IsOrdered (octets_of l.self.file) l.order;
+}

@@ -1,0 +1,53 @@
+-- The printed text of a value.
+use Rattle.std.specs.Prelude.{ℕ, zero, suc, Bool, true, false, List, [], ◌∷◌, ◌++◌, codes, decimal}
+use Rattle.std.specs.Fmt.{signed_decimal}
+use Rattle.plist_value.specs.Plist.{Scalar, text, whole, flag, real4, real8, moment, bytes, Plist, scalar, list, table, Items, no_items, item, Pairs, no_pairs, pair}
+use Rattle.plist_print.specs.Units.{printed_data, printed_text}
+use Rattle.plist_print.specs.Reals.{single, double, printed_real}
+
+abbrev pub printed_flag : Bool → List ℕ
+printed_flag true = codes "true"
+printed_flag false = codes "false"
+
+abbrev pub printed_scalar : Scalar → List ℕ
+printed_scalar (text units) = printed_text units
+printed_scalar (whole z) = signed_decimal z
+printed_scalar (flag b) = printed_flag b
+printed_scalar (real4 xs) = printed_real single xs ++ codes "f"
+printed_scalar (real8 xs) = printed_real double xs
+printed_scalar (moment xs) = codes "date " ++ printed_real double xs
+printed_scalar (bytes xs) = printed_data xs
+
+-- two blanks for each level
+abbrev pub indent : ℕ → List ℕ
+indent zero = []
+indent (suc level) = 32 ∷ 32 ∷ indent level
+
+-- What stands behind an opening bracket: the closing one, or the lines between them and then the closing one on a
+-- line of its own, indented as the line of the opening one.
+abbrev pub closed : ℕ → ℕ → List ℕ → List ℕ
+closed level close [] = close ∷ 10 ∷ []
+closed level close (c ∷ lines) = 10 ∷ (c ∷ lines) ++ (indent level ++ (close ∷ 10 ∷ []))
+
+-- A value up to the end of its last line, whose first line is indented by so many levels and has begun: a list is
+-- `[`, a line for each item with its number before it, `]`; a table is `{`, a line for each key and value, `}`.
+abbrev mutual
+  pub printed_at : ℕ → Plist → List ℕ
+  printed_at level (scalar s) = printed_scalar s ++ codes "\n"
+  printed_at level (list vs) = 91 ∷ closed level 93 (printed_items (suc level) 0 vs)
+  printed_at level (table ps) = 123 ∷ closed level 125 (printed_pairs (suc level) ps)
+
+  -- the items from the one of this number on
+  pub printed_items : ℕ → ℕ → Items → List ℕ
+  printed_items level n no_items = []
+  printed_items level n (item v vs) =
+      indent level ++ (decimal n ++ (codes " => " ++ (printed_at level v ++ printed_items level (suc n) vs)))
+
+  pub printed_pairs : ℕ → Pairs → List ℕ
+  printed_pairs level no_pairs = []
+  printed_pairs level (pair key v ps) =
+      indent level ++ (printed_text key ++ (codes " => " ++ (printed_at level v ++ printed_pairs level ps)))
+
+-- the whole text
+abbrev pub printed : Plist → List ℕ
+printed v = printed_at 0 v

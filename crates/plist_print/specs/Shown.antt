@@ -1,0 +1,34 @@
+-- What the values of the code stand for.
+use Rattle.std.specs.Prelude.{◌≡◌, ℕ, ◌+◌, ◌-◌, ◌*◌, ◌^◌, Bool, true, false, List, ◌++◌, nat_lt, if◌then◌else◌}
+use Rattle.plist_value.specs.Plist.{Scalar, text, bytes}
+use Rattle.plist_print.specs.Reals.{Placed}
+use Rattle.plist_print.specs.declared.kept.Decimal.{Decimal}
+use Rattle.plist_print.specs.declared.kept.Neighbours.{Neighbours}
+
+-- the numerator and how many digits stand behind the point
+abbrev pub decimal_in : Decimal → ℕ × ℕ
+decimal_in d = (d.numerator, d.digits)
+
+abbrev pub placed_of : Neighbours → Placed
+placed_of x = record { below = x.below; here = x.here; above = x.above; unit = x.unit }
+
+-- a real by its exponent and its digits, and its neighbours, counted in half of the step to the next
+abbrev pub halved : ℕ → ℕ → ℕ → Placed
+halved hidden t shift = record {
+  below = if nat_lt 0 t then 2 * (hidden + t) - 2 else 2 * (hidden + t) - 1;
+  here = 2 * (hidden + t);
+  above = 2 * (hidden + t) + 2;
+  unit = 2 ^ shift;
+}
+
+-- neither a text nor data
+abbrev pub is_short : Scalar → Bool
+is_short (text units) = false
+is_short (bytes xs) = false
+is_short _ = true
+
+-- a piece was put behind the old octets, and of all that was to be put the rest is left
+pub record Puts (old new all rest : List ℕ) : Type 0 where
+  pub piece : List ℕ
+  pub put : new ≡ old ++ piece
+  pub split : all ≡ piece ++ rest

@@ -1,0 +1,24 @@
+//! What is known of a real while it is printed.
+ghost use Rattle.std.specs.Prelude.{◌<◌, ◌≤◌, ◌^◌};
+
+// A decimal: its numerator, and how many digits stand behind the point.
+#[derive(Clone, Copy)]
+pub(crate) struct Decimal {
+    pub(crate) numerator: u128,
+    pub(crate) digits: u32,
+    ghost few: { digits ≤ 21 },
+}
+
+// A real among its neighbours, and 1, each as a multiple of one number.
+#[derive(Clone, Copy)]
+pub(crate) struct Neighbours {
+    pub(crate) below: u128,
+    pub(crate) here: u128,
+    pub(crate) above: u128,
+    pub(crate) unit: u128,
+    ghost some: { 0 < unit },
+    ghost unit_small: { unit ≤ 2 ^ 126 },
+    ghost here_small: { here ≤ 2 ^ 54 },
+    ghost above_small: { above ≤ 2 ^ 55 },
+    ghost below_small: { below ≤ 2 ^ 54 },
+}

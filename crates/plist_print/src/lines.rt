@@ -1,0 +1,201 @@
+//! Scalars on their way to a sink.
+ghost use Rattle.std.specs.Prelude.{◌≡◌, ◌++◌, [], codes, flat_map, true, OnOk};
+ghost use Rattle.plist_value.specs.Plist.{bytes};
+ghost use Rattle.plist_value.specs.Scalars.{content_of};
+ghost use Rattle.plist_value.specs.Texts.{units_of};
+ghost use Rattle.plist_write.specs.Pending.{Goes};
+ghost use Rattle.plist_print.specs.Units.{printed_data, printed_text, printed_units, two_digits};
+ghost use Rattle.plist_print.specs.Printed.{printed_scalar};
+ghost use Rattle.plist_print.specs.Shown.{is_short};
+
+use crate::reals::{put_double, put_single};
+use crate::texts::{put_chunk, put_unit};
+use itoa::Buffer;
+use plist_value::{ScalarRef, TextRef};
+use plist_write::{Pending, Sink, WriteFault, flush};
+use std::alloc::AllocError;
+
+/// So many octets go out at once.
+const PIECE: usize = 4096;
+
+/// Sends the text of a scalar, or has it wait. No piece is much longer than 4,096 octets.
+///
+/// # Errors
+///
+/// [`WriteFault::WriteFailed`] (51) where the sink fails, and [`WriteFault::OutOfMemory`] (60) where there is no
+/// memory for a piece, or where more than `u64::MAX` octets would go out.
+pub fn print_scalar<W: Sink>(
+    scalar: &ScalarRef,
+    pending: &mut Pending,
+    out: &mut W,
+) -> Result<(), WriteFault>
+    ensures goes { Goes (printed_scalar (content_of scalar.now)) pending.old pending.new
+        (W.taken out.old) (W.taken out.new) (W.failures out.old) (W.failures out.new) result }
+    ensures same { W.device out.new ≡ W.device out.old }
+{
+    match scalar {
+        ScalarRef::Text(text) => print_text(text, pending, out),
+        ScalarRef::Bytes(octets) => print_data(octets, pending, out),
+        _ => print_short(scalar, pending, out),
+    }
+}
+
+// Sends a scalar that is neither a text nor data, or has it wait.
+fn print_short<W: Sink>(
+    scalar: &ScalarRef,
+    pending: &mut Pending,
+    out: &mut W,
+) -> Result<(), WriteFault>
+    requires short { is_short (content_of scalar.now) ≡ true }
+    ensures goes { Goes (printed_scalar (content_of scalar.now)) pending.old pending.new
+        (W.taken out.old) (W.taken out.new) (W.failures out.old) (W.failures out.new) result }
+    ensures same { W.device out.new ≡ W.device out.old }
+{
+    let Ok(()) = put_short(&mut pending.octets, scalar) else {
+        return Err(WriteFault::OutOfMemory { sent: pending.sent });
+    };
+    settle(pending, out)
+}
+
+// A scalar that is neither a text nor data.
+fn put_short(out: &mut Vec<u8>, scalar: &ScalarRef) -> Result<(), AllocError>
+    requires { is_short (content_of scalar.now) ≡ true }
+    ensures { OnOk result (out.new.items
+        ≡ out.old.items ++ printed_scalar (content_of scalar.now)) }
+{
+    match scalar {
+        ScalarRef::Whole(whole) => {
+            let mut buffer = Buffer::new();
+            out.extend_from_slice(buffer.format(whole.get()).as_bytes())
+        }
+        ScalarRef::Flag(true) => out.extend_from_slice(b"true"),
+        ScalarRef::Flag(false) => out.extend_from_slice(b"false"),
+        ScalarRef::Real4(octets) => {
+            put_single(out, octets)?;
+            Ok(out.push(b'f')?)
+        }
+        ScalarRef::Real8(octets) => put_double(out, octets),
+        ScalarRef::Moment(octets) => {
+            out.extend_from_slice(b"date ")?;
+            put_double(out, octets)
+        }
+        ScalarRef::Text(_) | ScalarRef::Bytes(_) => unreachable!(),
+    }
+}
+
+/// Sends the text between quotes, or has it wait.
+///
+/// # Errors
+///
+/// As of [`print_scalar`].
+pub fn print_text<W: Sink>(
+    text: &TextRef,
+    pending: &mut Pending,
+    out: &mut W,
+) -> Result<(), WriteFault>
+    ensures goes { Goes (printed_text (units_of text.now)) pending.old pending.new
+        (W.taken out.old) (W.taken out.new) (W.failures out.old) (W.failures out.new) result }
+    ensures same { W.device out.new ≡ W.device out.old }
+{
+    put(b"\"", pending, out)?;
+    print_units(text, pending, out)
+}
+
+// The units, and the quote behind them.
+fn print_units<W: Sink>(
+    text: &TextRef,
+    pending: &mut Pending,
+    out: &mut W,
+) -> Result<(), WriteFault>
+    ensures goes { Goes (printed_units (units_of text.now) ++ codes "\"") pending.old pending.new
+        (W.taken out.old) (W.taken out.new) (W.failures out.old) (W.failures out.new) result }
+    ensures same { W.device out.new ≡ W.device out.old }
+{
+    let mut place = 0;
+    while place < text.len() {
+        let Ok(next) = put_unit(&mut pending.octets, text, place) else {
+            return Err(WriteFault::OutOfMemory { sent: pending.sent });
+        };
+        settle(pending, out)?;
+        place = next;
+    }
+    put(b"\"", pending, out)
+}
+
+// Sends the data, or has it wait.
+fn print_data<W: Sink>(octets: &[u8], pending: &mut Pending, out: &mut W) -> Result<(), WriteFault>
+    ensures goes { Goes (printed_data octets.now) pending.old pending.new
+        (W.taken out.old) (W.taken out.new) (W.failures out.old) (W.failures out.new) result }
+    ensures same { W.device out.new ≡ W.device out.old }
+{
+    put(b"<", pending, out)?;
+    print_digits(octets, pending, out)
+}
+
+// The octets, and the bracket behind them.
+fn print_digits<W: Sink>(
+    octets: &[u8],
+    pending: &mut Pending,
+    out: &mut W,
+) -> Result<(), WriteFault>
+    ensures goes { Goes (flat_map two_digits octets.now ++ codes ">") pending.old pending.new
+        (W.taken out.old) (W.taken out.new) (W.failures out.old) (W.failures out.new) result }
+    ensures same { W.device out.new ≡ W.device out.old }
+{
+    let mut left = octets;
+    while !left.is_empty() {
+        let Ok(behind) = put_chunk(&mut pending.octets, left) else {
+            return Err(WriteFault::OutOfMemory { sent: pending.sent });
+        };
+        settle(pending, out)?;
+        left = behind;
+    }
+    put(b">", pending, out)
+}
+
+/// Sends a few octets, or has them wait.
+pub(crate) fn put<W: Sink>(
+    octets: &[u8],
+    pending: &mut Pending,
+    out: &mut W,
+) -> Result<(), WriteFault>
+    ensures goes { Goes octets.now pending.old pending.new
+        (W.taken out.old) (W.taken out.new) (W.failures out.old) (W.failures out.new) result }
+    ensures same { W.device out.new ≡ W.device out.old }
+{
+    let Ok(()) = gather(&mut pending.octets, octets) else {
+        return Err(WriteFault::OutOfMemory { sent: pending.sent });
+    };
+    settle(pending, out)
+}
+
+/// Sends what waits, if it is long.
+pub(crate) fn settle<W: Sink>(pending: &mut Pending, out: &mut W) -> Result<(), WriteFault>
+    ensures goes { Goes [] pending.old pending.new
+        (W.taken out.old) (W.taken out.new) (W.failures out.old) (W.failures out.new) result }
+    ensures same { W.device out.new ≡ W.device out.old }
+{
+    if pending.octets.len() < PIECE {
+        return Ok(());
+    }
+    send_all(pending, out)
+}
+
+/// Sends all that waits.
+pub(crate) fn send_all<W: Sink>(pending: &mut Pending, out: &mut W) -> Result<(), WriteFault>
+    ensures goes { Goes [] pending.old pending.new
+        (W.taken out.old) (W.taken out.new) (W.failures out.old) (W.failures out.new) result }
+    ensures none { OnOk result (pending.new.octets.items ≡ []) }
+    ensures same { W.device out.new ≡ W.device out.old }
+{
+    if pending.octets.len() as u64 > u64::MAX - pending.sent {
+        return Err(WriteFault::OutOfMemory { sent: pending.sent });
+    }
+    flush(pending, out)
+}
+
+fn gather(out: &mut Vec<u8>, octets: &[u8]) -> Result<(), AllocError>
+    ensures { OnOk result (out.new.items ≡ out.old.items ++ octets.now) }
+{
+    out.extend_from_slice(octets)
+}

@@ -1,0 +1,271 @@
+//! The printed text of the value that a file spells, on its way to a sink.
+ghost use Rattle.std.specs.Prelude.{◌≡◌, ◌<◌, ◌+◌, ◌-◌, ℕ, List, IfOk, OnOk};
+ghost use Rattle.plist_value.specs.Plist.{Plist, Items, Pairs, list, table, text};
+ghost use Rattle.plist_value.specs.Plist.{IsPlist, AreItems, ArePairs};
+ghost use Rattle.plist_value.specs.declared.TheConstants.{MAX_DEPTH};
+ghost use Rattle.plist_object.specs.Objects.{holds_scalar};
+ghost use Rattle.plist_object.specs.Places.{Holds};
+ghost use Rattle.plist_object.specs.Spelled.{IsBinary, Spells, SpellItems, SpellPairs};
+ghost use Rattle.plist_object.specs.Views.{numbers_of, octets_of};
+ghost use Rattle.plist_write.specs.Pending.{Goes};
+ghost use Rattle.plist_write.specs.Sending.{IsWritten};
+ghost use Rattle.plist_engine.specs.Order.{IsOrdered};
+ghost use Rattle.plist_engine.specs.Spelling.{HoldsText, IsTable, SpellTable};
+ghost use Rattle.plist_engine.specs.Spelling.{SpellsWithin, SpellWithin, in_turn};
+ghost use Rattle.plist_print.specs.Printed.{printed, printed_at, printed_items, printed_pairs};
+ghost use Rattle.plist_print.specs.Printing.{PairsWithin, TableWithin, item_lines, pair_lines};
+
+use crate::heads::{begin_item, begin_pair, end_lines, print_line};
+use crate::lines::{put, send_all};
+use plist_engine::objects::{object_of, text_of};
+use plist_engine::order::KeyOrder;
+use plist_object::{BinFile, Object, Refs};
+use plist_write::{Pending, Sink, WriteFault};
+use std::alloc::{AllocError, Global};
+
+/// Sends the printed text of the value that the file spells, object after object, and answers how many octets it
+/// has. Neither that value nor the text is in memory: what is kept is the order of the keys of each table that is
+/// open, and a piece.
+///
+/// # Errors
+///
+/// [`WriteFault::WriteFailed`] (51) where the sink fails, and [`WriteFault::OutOfMemory`] (60) where there is no
+/// memory for the order of a table's keys or for a piece, or where more than `u64::MAX` octets would go out.
+/// Exactly the first `sent` octets of the text went out then.
+pub fn print_of<W: Sink>(alloc: Global, file: &BinFile, out: &mut W) -> Result<u64, WriteFault>
+    requires { (v : Plist) × IsBinary (octets_of file.now) v }
+    ensures written { (v : Plist) → IsBinary (octets_of file.now) v
+        → IsWritten (printed v) (W.taken out.old) (W.taken out.new)
+        (W.failures out.old) (W.failures out.new) result }
+    ensures same { W.device out.new ≡ W.device out.old }
+{
+    let printer = Printer { alloc, file: *file };
+    let mut order = KeyOrder::new(alloc, None);
+    let mut pending = Pending {
+        octets: Vec::new(alloc),
+        sent: 0,
+    };
+    printer.value(&mut order, file.top(), 0, &mut pending, out)?;
+    send_all(&mut pending, out)?;
+    Ok(pending.sent)
+}
+
+#[derive(Clone, Copy)]
+struct Printer<'a> {
+    alloc: Global,
+    file: BinFile<'a>,
+}
+
+impl<'a> Printer<'a> {
+    // Sends the value that the object spells, or has it wait. Its first line is indented by so many levels, and has
+    // begun.
+    #[cycle(print)]
+    fn value<W: Sink>(
+        &self,
+        order: &mut KeyOrder<'a>,
+        object: u64,
+        level: u64,
+        pending: &mut Pending,
+        out: &mut W,
+    ) -> Result<(), WriteFault>
+        requires spells { SpellsWithin (octets_of self.now.file) object (MAX_DEPTH - level) }
+        requires ordered { IsOrdered (octets_of self.now.file) order.old }
+        ensures goes { (v : Plist) → IsPlist v → Spells (octets_of self.now.file) object v
+            → Goes (printed_at level v) pending.old pending.new
+            (W.taken out.old) (W.taken out.new) (W.failures out.old) (W.failures out.new) result }
+        ensures same { W.device out.new ≡ W.device out.old }
+        ensures ordered { OnOk result (IsOrdered (octets_of self.now.file) order.new) }
+    {
+        match object_of(&self.file, object) {
+            Object::Scalar(scalar) => print_line(&scalar, pending, out),
+            Object::List(items) => self.list(order, &items, level, pending, out),
+            Object::Table(keys, values) => self.table(order, &keys, &values, level, pending, out),
+        }
+    }
+
+    // Sends the list of the items that the references spell, or has it wait.
+    #[cycle(print)]
+    fn list<W: Sink>(
+        &self,
+        order: &mut KeyOrder<'a>,
+        items: &Refs,
+        level: u64,
+        pending: &mut Pending,
+        out: &mut W,
+    ) -> Result<(), WriteFault>
+        requires below { level < MAX_DEPTH }
+        requires spell { SpellWithin (octets_of self.now.file) (numbers_of items.now)
+            (MAX_DEPTH - (level + 1)) }
+        requires ordered { IsOrdered (octets_of self.now.file) order.old }
+        ensures goes { (vs : Items) → AreItems vs
+            → SpellItems (octets_of self.now.file) (numbers_of items.now) vs
+            → Goes (printed_at level (list vs)) pending.old pending.new
+            (W.taken out.old) (W.taken out.new) (W.failures out.old) (W.failures out.new) result }
+        ensures same { W.device out.new ≡ W.device out.old }
+        ensures ordered { OnOk result (IsOrdered (octets_of self.now.file) order.new) }
+    {
+        if items.is_empty() {
+            return put(b"[]\n", pending, out);
+        }
+        put(b"[\n", pending, out)?;
+        self.items(order, items, level + 1, pending, out)?;
+        end_lines(level, b']', pending, out)
+    }
+
+    // Sends the lines of the items that the references spell, or has them wait.
+    #[cycle(print)]
+    fn items<W: Sink>(
+        &self,
+        order: &mut KeyOrder<'a>,
+        items: &Refs,
+        level: u64,
+        pending: &mut Pending,
+        out: &mut W,
+    ) -> Result<(), WriteFault>
+        requires spell { SpellWithin (octets_of self.now.file) (numbers_of items.now)
+            (MAX_DEPTH - level) }
+        requires ordered { IsOrdered (octets_of self.now.file) order.old }
+        ensures goes { (vs : Items) → AreItems vs
+            → SpellItems (octets_of self.now.file) (numbers_of items.now) vs
+            → Goes (printed_items level 0 vs) pending.old pending.new
+            (W.taken out.old) (W.taken out.new) (W.failures out.old) (W.failures out.new) result }
+        ensures same { W.device out.new ≡ W.device out.old }
+        ensures ordered { OnOk result (IsOrdered (octets_of self.now.file) order.new) }
+    {
+        for i in 0..items.len() {
+            self.item(order, items.get(i), i, level, pending, out)?;
+        }
+        Ok(())
+    }
+
+    // Sends the lines of the item of this number, or has them wait.
+    #[cycle(print)]
+    fn item<W: Sink>(
+        &self,
+        order: &mut KeyOrder<'a>,
+        object: u64,
+        index: u64,
+        level: u64,
+        pending: &mut Pending,
+        out: &mut W,
+    ) -> Result<(), WriteFault>
+        requires spells { SpellsWithin (octets_of self.now.file) object (MAX_DEPTH - level) }
+        requires ordered { IsOrdered (octets_of self.now.file) order.old }
+        ensures goes { (v : Plist) → IsPlist v → Spells (octets_of self.now.file) object v
+            → Goes (item_lines level index v) pending.old pending.new
+            (W.taken out.old) (W.taken out.new) (W.failures out.old) (W.failures out.new) result }
+        ensures same { W.device out.new ≡ W.device out.old }
+        ensures ordered { OnOk result (IsOrdered (octets_of self.now.file) order.new) }
+    {
+        begin_item(level, index, pending, out)?;
+        self.value(order, object, level, pending, out)
+    }
+
+    // Sends the table of the keys and values that the references spell, or has it wait.
+    #[cycle(print)]
+    fn table<W: Sink>(
+        &self,
+        order: &mut KeyOrder<'a>,
+        keys: &Refs<'a>,
+        values: &Refs,
+        level: u64,
+        pending: &mut Pending,
+        out: &mut W,
+    ) -> Result<(), WriteFault>
+        requires below { level < MAX_DEPTH }
+        requires spell { TableWithin (octets_of self.now.file) (numbers_of keys.now)
+            (numbers_of values.now) (MAX_DEPTH - (level + 1)) }
+        requires ordered { IsOrdered (octets_of self.now.file) order.old }
+        ensures goes { (rows : List (ℕ × ℕ)) (ps : Pairs)
+            → SpellTable (octets_of self.now.file) (numbers_of keys.now) (numbers_of values.now) rows ps
+            → Goes (printed_at level (table ps)) pending.old pending.new
+            (W.taken out.old) (W.taken out.new) (W.failures out.old) (W.failures out.new) result }
+        ensures same { W.device out.new ≡ W.device out.old }
+        ensures ordered { OnOk result (IsOrdered (octets_of self.now.file) order.new) }
+    {
+        if keys.is_empty() {
+            return put(b"{}\n", pending, out);
+        }
+        let Ok(references) = self.in_turn(order, keys, values) else {
+            return Err(WriteFault::OutOfMemory { sent: pending.sent });
+        };
+        put(b"{\n", pending, out)?;
+        self.pairs(order, &references, level + 1, pending, out)?;
+        end_lines(level, b'}', pending, out)
+    }
+
+    // The references to the keys in the order of their texts, and then those to their values in the same order.
+    fn in_turn(
+        &self,
+        order: &mut KeyOrder<'a>,
+        keys: &Refs<'a>,
+        values: &Refs,
+    ) -> Result<Vec<u32>, AllocError>
+        requires table { IsTable (octets_of self.now.file) (numbers_of keys.now)
+            (numbers_of values.now) }
+        requires ordered { IsOrdered (octets_of self.now.file) order.old }
+        ensures turn { IfOk result (λ references. (rows : List (ℕ × ℕ)) (ps : Pairs)
+            → SpellTable (octets_of self.now.file) (numbers_of keys.now) (numbers_of values.now) rows ps
+            → references.items ≡ in_turn rows) }
+        ensures ordered { OnOk result (IsOrdered (octets_of self.now.file) order.new) }
+    {
+        let mut references = Vec::new(self.alloc);
+        order.push_sorted(self.alloc, &self.file, keys, values, &mut references)?;
+        Ok(references)
+    }
+
+    // Sends the lines of the pairs that the references spell, those to keys and then those to values, or has them wait.
+    #[cycle(print)]
+    fn pairs<W: Sink>(
+        &self,
+        order: &mut KeyOrder<'a>,
+        references: &[u32],
+        level: u64,
+        pending: &mut Pending,
+        out: &mut W,
+    ) -> Result<(), WriteFault>
+        requires spell { PairsWithin (octets_of self.now.file) references.now (MAX_DEPTH - level) }
+        requires ordered { IsOrdered (octets_of self.now.file) order.old }
+        ensures goes { (rows : List (ℕ × ℕ)) (ps : Pairs) → references.now ≡ in_turn rows
+            → ArePairs ps → SpellPairs (octets_of self.now.file) rows ps
+            → Goes (printed_pairs level ps) pending.old pending.new
+            (W.taken out.old) (W.taken out.new) (W.failures out.old) (W.failures out.new) result }
+        ensures same { W.device out.new ≡ W.device out.old }
+        ensures ordered { OnOk result (IsOrdered (octets_of self.now.file) order.new) }
+    {
+        let count = references.len() / 2;
+        for i in 0..count {
+            let key = u64::from(references[i]);
+            let object = u64::from(references[count + i]);
+            self.pair(order, key, object, level, pending, out)?;
+        }
+        Ok(())
+    }
+
+    // Sends the lines of a key and its value, or has them wait.
+    #[cycle(print)]
+    fn pair<W: Sink>(
+        &self,
+        order: &mut KeyOrder<'a>,
+        key: u64,
+        object: u64,
+        level: u64,
+        pending: &mut Pending,
+        out: &mut W,
+    ) -> Result<(), WriteFault>
+        requires key { HoldsText (octets_of self.now.file) key }
+        requires spells { SpellsWithin (octets_of self.now.file) object (MAX_DEPTH - level) }
+        requires ordered { IsOrdered (octets_of self.now.file) order.old }
+        ensures goes { (units : List ℕ) (v : Plist)
+            → Holds (octets_of self.now.file) key (holds_scalar (text units))
+            → IsPlist v → Spells (octets_of self.now.file) object v
+            → Goes (pair_lines level units v) pending.old pending.new
+            (W.taken out.old) (W.taken out.new) (W.failures out.old) (W.failures out.new) result }
+        ensures same { W.device out.new ≡ W.device out.old }
+        ensures ordered { OnOk result (IsOrdered (octets_of self.now.file) order.new) }
+    {
+        let text = text_of(&self.file, key);
+        begin_pair(&text, level, pending, out)?;
+        self.value(order, object, level, pending, out)
+    }
+}

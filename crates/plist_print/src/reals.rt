@@ -1,0 +1,249 @@
+//! Reals as they are printed.
+ghost use Rattle.std.specs.Prelude.{◌≡◌, ◌+◌, ◌-◌, ◌*◌, ◌^◌, ◌<◌, ◌≤◌, ◌++◌, ◌==◌, ◌&&◌};
+ghost use Rattle.std.specs.Prelude.{OnOk, None, Some};
+ghost use Rattle.std.specs.Prelude.{codes, if◌then◌else◌, nat_le, nat_lt};
+ghost use Rattle.std.specs.Option.{option_map};
+ghost use Rattle.plist_print.specs.Units.{printed_data};
+ghost use Rattle.plist_print.specs.Reals.{single, double, nearest, reads_as, shortest, decimal_of};
+ghost use Rattle.plist_print.specs.Reals.{last_digits, printed_decimal, printed_finite};
+ghost use Rattle.plist_print.specs.Reals.{printed_real};
+ghost use Rattle.plist_print.specs.Shown.{decimal_in, halved, placed_of};
+
+use crate::kept::{Decimal, Neighbours};
+use crate::texts::put_digits;
+use byteorder::{BigEndian, ByteOrder};
+use itoa::Buffer;
+use std::alloc::AllocError;
+
+// The decimal of the fewest digits behind the point that reads as the real, of at most 21.
+fn shortest(real: &Neighbours) -> Option<Decimal>
+    ensures { option_map decimal_in result ≡ shortest (placed_of real.now) 21 1 }
+{
+    for digits in 1..22 {
+        match numerator_at(real, power_of_ten(digits)) {
+            Some(numerator) => return Some(Decimal { numerator, digits }),
+            None => {}
+        }
+    }
+    None
+}
+
+// The numerator that is nearest to the real, if it reads as the real.
+fn numerator_at(real: &Neighbours, over: u128) -> Option<u128>
+    requires { over ≤ 10 ^ 21 }
+    ensures { result ≡ (if reads_as (placed_of real.now) over (nearest (placed_of real.now) over)
+        then Some (nearest (placed_of real.now) over) else None) }
+{
+    let twice = 2 * real.unit;
+    let total = 2 * product(real.here, over) + real.unit;
+    let middle = total - total % twice;
+    let low = product(real.below + real.here, over);
+    let high = product(real.here + real.above, over);
+    if is_between(low, middle, high) {
+        Some(total / twice)
+    } else {
+        None
+    }
+}
+
+fn product(value: u128, over: u128) -> u128
+    requires value { value ≤ 2 ^ 56 }
+    requires over { over ≤ 10 ^ 21 }
+    ensures value { result ≡ value * over }
+    ensures small { result ≤ 2 ^ 56 * 10 ^ 21 }
+{
+    value * over
+}
+
+fn is_between(low: u128, middle: u128, high: u128) -> bool
+    ensures { result ≡ (nat_le low middle && nat_lt middle high) }
+{
+    low <= middle && middle < high
+}
+
+// A real by its digits and the exponent, counted in half of the step to the next.
+fn placed(hidden: u64, fraction: u64, shift: u32) -> Neighbours
+    requires hidden { hidden ≤ 2 ^ 52 }
+    requires least { 0 < hidden }
+    requires fraction { fraction < hidden }
+    requires shift { shift ≤ 126 }
+    ensures { placed_of result ≡ halved hidden fraction shift }
+{
+    let here = 2 * (hidden as u128 + fraction as u128);
+    Neighbours {
+        below: below(here, fraction),
+        here,
+        above: here + 2,
+        unit: power_of_two(shift),
+    }
+}
+
+// The next real below one with these digits behind the first: it is half as far where there are none.
+fn below(here: u128, fraction: u64) -> u128
+    requires { 2 ≤ here }
+    ensures value { result ≡ (if nat_lt 0 fraction then here - 2 else here - 1) }
+    ensures small { result ≤ here }
+{
+    if fraction > 0 { here - 2 } else { here - 1 }
+}
+
+fn power_of_two(shift: u32) -> u128
+    requires { shift ≤ 126 }
+    ensures value { result ≡ 2 ^ shift }
+    ensures some { 0 < result }
+    ensures small { result ≤ 2 ^ 126 }
+{
+    1 << shift
+}
+
+fn zero() -> Decimal
+    ensures { decimal_in result ≡ (0, 1) }
+{
+    Decimal {
+        numerator: 0,
+        digits: 1,
+    }
+}
+
+// The decimal of a real of eight octets, without its sign.
+fn decimal_of_double(bits: u64) -> Option<Decimal>
+    ensures { option_map decimal_in result ≡ decimal_of double bits }
+{
+    if bits == 0 {
+        return Some(zero());
+    }
+    let exponent = bits / 0x10_0000_0000_0000;
+    if exponent < 950 {
+        return None;
+    }
+    if exponent > 1076 {
+        return None;
+    }
+    let fraction = bits % 0x10_0000_0000_0000;
+    let shift = 1076 - exponent as u32;
+    shortest(&placed(0x10_0000_0000_0000, fraction, shift))
+}
+
+// Likewise of four octets.
+fn decimal_of_single(bits: u32) -> Option<Decimal>
+    ensures { option_map decimal_in result ≡ decimal_of single bits }
+{
+    if bits == 0 {
+        return Some(zero());
+    }
+    let exponent = bits / 0x80_0000;
+    if exponent < 54 {
+        return None;
+    }
+    if exponent > 151 {
+        return None;
+    }
+    let fraction = (bits % 0x80_0000) as u64;
+    let shift = 151 - exponent;
+    shortest(&placed(0x80_0000, fraction, shift))
+}
+
+/// A real of eight octets, behind what `out` has.
+pub(crate) fn put_double(out: &mut Vec<u8>, octets: &[u8; 8]) -> Result<(), AllocError>
+    ensures { OnOk result (out.new.items ≡ out.old.items ++ printed_real double octets.now) }
+{
+    let bits = BigEndian::read_u64(octets);
+    if bits >= 0x8000_0000_0000_0000 {
+        out.push(b'-')?;
+    }
+    let size = bits % 0x8000_0000_0000_0000;
+    put_size(
+        out,
+        octets,
+        size,
+        0x7ff0_0000_0000_0000,
+        decimal_of_double(size),
+    )
+}
+
+/// A real of four octets, behind what `out` has.
+pub(crate) fn put_single(out: &mut Vec<u8>, octets: &[u8; 4]) -> Result<(), AllocError>
+    ensures { OnOk result (out.new.items ≡ out.old.items ++ printed_real single octets.now) }
+{
+    let bits = BigEndian::read_u32(octets);
+    if bits >= 0x8000_0000 {
+        out.push(b'-')?;
+    }
+    let size = bits % 0x8000_0000;
+    put_size(
+        out,
+        octets,
+        u64::from(size),
+        0x7f80_0000,
+        decimal_of_single(size),
+    )
+}
+
+// A real without its sign, by its bits and those of infinity.
+fn put_size(
+    out: &mut Vec<u8>,
+    octets: &[u8],
+    bits: u64,
+    infinite: u64,
+    decimal: Option<Decimal>,
+) -> Result<(), AllocError>
+    ensures { OnOk result (out.new.items ≡ out.old.items
+        ++ (if nat_lt bits infinite then printed_finite octets.now (option_map decimal_in decimal)
+        else (if bits == infinite then codes "infinity"
+        else codes "nan " ++ printed_data octets.now))) }
+{
+    if bits < infinite {
+        return match decimal {
+            Some(decimal) => put_decimal(out, decimal),
+            None => put_octets(out, b"real ", octets),
+        };
+    }
+    if bits == infinite {
+        return out.extend_from_slice(b"infinity");
+    }
+    put_octets(out, b"nan ", octets)
+}
+
+// The word and then the octets.
+fn put_octets(out: &mut Vec<u8>, word: &[u8], octets: &[u8]) -> Result<(), AllocError>
+    ensures { OnOk result (out.new.items ≡ out.old.items ++ word.now ++ printed_data octets.now) }
+{
+    out.extend_from_slice(word)?;
+    out.push(b'<')?;
+    put_digits(out, octets)?;
+    Ok(out.push(b'>')?)
+}
+
+fn put_decimal(out: &mut Vec<u8>, decimal: Decimal) -> Result<(), AllocError>
+    ensures { OnOk result (out.new.items
+        ≡ out.old.items ++ printed_decimal decimal.numerator decimal.digits) }
+{
+    let whole = decimal.numerator / power_of_ten(decimal.digits);
+    let mut buffer = Buffer::new();
+    out.extend_from_slice(buffer.format(whole).as_bytes())?;
+    out.push(b'.')?;
+    put_last_digits(out, decimal.numerator, decimal.digits)
+}
+
+// The last decimal digits of the number, so many.
+fn put_last_digits(out: &mut Vec<u8>, number: u128, digits: u32) -> Result<(), AllocError>
+    requires { digits ≤ 21 }
+    ensures { OnOk result (out.new.items ≡ out.old.items ++ last_digits digits number) }
+{
+    let mut left = digits;
+    while left > 0 {
+        left -= 1;
+        let digit = number / power_of_ten(left) % 10;
+        out.push(b'0' + digit as u8)?;
+    }
+    Ok(())
+}
+
+fn power_of_ten(digits: u32) -> u128
+    requires { digits ≤ 21 }
+    ensures value { result ≡ 10 ^ digits }
+    ensures some { 0 < result }
+    ensures small { result ≤ 10 ^ 21 }
+{
+    10_u128.pow(digits)
+}

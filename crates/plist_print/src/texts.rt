@@ -1,0 +1,159 @@
+//! Texts and data as they are printed.
+ghost use Rattle.std.specs.Prelude.{◌≡◌, ◌<◌, ◌≤◌, ◌++◌, ◌==◌, true, false, length, drop, flat_map};
+ghost use Rattle.std.specs.Prelude.{IfOk, OnOk};
+ghost use Rattle.std.specs.Char.{digit_char, encode_utf8};
+ghost use Rattle.std.specs.Char.Utf16.{is_high_surrogate, is_low_surrogate, surrogate_pair_char};
+ghost use Rattle.plist_value.specs.Texts.{units_of};
+ghost use Rattle.plist_print.specs.Shown.{Puts};
+ghost use Rattle.plist_print.specs.Units.{is_unseen, printed_unit, printed_units, two_digits};
+
+use plist_value::TextRef;
+use std::alloc::AllocError;
+
+/// The octets as pairs of hexadecimal digits, behind what `out` has.
+pub(crate) fn put_digits(out: &mut Vec<u8>, octets: &[u8]) -> Result<(), AllocError>
+    ensures { OnOk result (out.new.items ≡ out.old.items ++ flat_map two_digits octets.now) }
+{
+    for octet in octets {
+        out.extend_from_slice(&digits_of(*octet))?;
+    }
+    Ok(())
+}
+
+// The two hexadecimal digits of an octet.
+fn digits_of(octet: u8) -> [u8; 2]
+    ensures { result ≡ two_digits octet }
+{
+    [digit(octet / 16), digit(octet % 16)]
+}
+
+fn digit(value: u8) -> u8
+    requires { value < 16 }
+    ensures { result ≡ digit_char value }
+{
+    if value < 10 {
+        b'0' + value
+    } else {
+        b'a' + (value - 10)
+    }
+}
+
+// So many octets of data are printed at once.
+const CHUNK: usize = 1024;
+
+/// Some of the octets, from the first on, as digits behind what `out` has. It answers those behind them.
+pub(crate) fn put_chunk<'a>(out: &mut Vec<u8>, octets: &'a [u8]) -> Result<&'a [u8], AllocError>
+    requires { 0 < length octets.now }
+    ensures octets { IfOk result (λ left. Puts out.old.items out.new.items
+        (flat_map two_digits octets.entry.now) (flat_map two_digits left.now)) }
+    ensures shorter { IfOk result (λ left. length left.now < length octets.entry.now) }
+{
+    let (front, left) = octets.split_at(octets.len().min(CHUNK));
+    put_digits(out, front)?;
+    Ok(left)
+}
+
+/// The unit at the place, with the one behind it where the two are a pair, behind what `out` has. It answers the place
+/// behind them.
+pub(crate) fn put_unit(out: &mut Vec<u8>, text: &TextRef, place: usize) -> Result<usize, AllocError>
+    requires { place < length (units_of text.now) }
+    ensures octets { IfOk result (λ next. Puts out.old.items out.new.items
+        (printed_units (drop place (units_of text.now)))
+        (printed_units (drop next (units_of text.now)))) }
+    ensures further { IfOk result (λ next. place < next) }
+    ensures within { IfOk result (λ next. next ≤ length (units_of text.now)) }
+{
+    let length = text.len();
+    let unit = text.unit(place);
+    if place + 1 < length {
+        let next = text.unit(place + 1);
+        if is_high(unit) && is_low(next) {
+            put_pair(out, unit, next)?;
+            return Ok(place + 2);
+        }
+    }
+    put_single(out, unit)?;
+    Ok(place + 1)
+}
+
+fn is_high(unit: u16) -> bool
+    ensures { result ≡ is_high_surrogate unit }
+{
+    unit >= 0xd800 && unit < 0xdc00
+}
+
+fn is_low(unit: u16) -> bool
+    ensures { result ≡ is_low_surrogate unit }
+{
+    unit >= 0xdc00 && unit < 0xe000
+}
+
+// The character of a pair of surrogates.
+fn put_pair(out: &mut Vec<u8>, high: u16, low: u16) -> Result<(), AllocError>
+    requires high { is_high_surrogate high ≡ true }
+    requires low { is_low_surrogate low ≡ true }
+    ensures { OnOk result (out.new.items
+        ≡ out.old.items ++ encode_utf8 (surrogate_pair_char high low)) }
+{
+    prove!(high >= 0xd800 && high < 0xdc00);
+    prove!(low >= 0xdc00 && low < 0xe000);
+    let code = 0x1_0000 + (u32::from(high) - 0xd800) * 0x400 + (u32::from(low) - 0xdc00);
+    put_character(out, char::from_u32(code).unwrap())
+}
+
+// A unit that is in no pair.
+#[tactic(auto, unfolding(crate::specs::Units::printed_unit))]
+fn put_single(out: &mut Vec<u8>, unit: u16) -> Result<(), AllocError>
+    ensures { OnOk result (out.new.items ≡ out.old.items ++ printed_unit unit) }
+{
+    match unit {
+        0x22 => out.extend_from_slice(b"\\\""),
+        0x5c => out.extend_from_slice(b"\\\\"),
+        0x0a => out.extend_from_slice(b"\\n"),
+        0x09 => out.extend_from_slice(b"\\t"),
+        0x0d => out.extend_from_slice(b"\\r"),
+        _ => put_plain(out, unit),
+    }
+}
+
+// A unit that no escape of one letter stands for.
+#[tactic(auto, unfolding(crate::specs::Units::printed_unit))]
+fn put_plain(out: &mut Vec<u8>, unit: u16) -> Result<(), AllocError>
+    requires quote { (unit == 34) ≡ false }
+    requires backslash { (unit == 92) ≡ false }
+    requires newline { (unit == 10) ≡ false }
+    requires tab { (unit == 9) ≡ false }
+    requires back { (unit == 13) ≡ false }
+    ensures { OnOk result (out.new.items ≡ out.old.items ++ printed_unit unit) }
+{
+    if is_unseen(unit) {
+        out.extend_from_slice(b"\\U")?;
+        out.extend_from_slice(&digits_of((unit / 256) as u8))?;
+        return out.extend_from_slice(&digits_of((unit % 256) as u8));
+    }
+    put_character(out, char::from_u32(u32::from(unit)).unwrap())
+}
+
+// Whether the unit is not seen, or changes how others are seen.
+fn is_unseen(unit: u16) -> bool
+    ensures { result ≡ is_unseen unit }
+{
+    matches!(
+        unit,
+        0..=0x1f
+            | 0x7f..=0x9f
+            | 0xd800..=0xdfff
+            | 0x200e..=0x200f
+            | 0x2028..=0x202e
+            | 0x2066..=0x2069
+            | 0xfeff
+    )
+}
+
+// A character in UTF-8.
+fn put_character(out: &mut Vec<u8>, character: char) -> Result<(), AllocError>
+    ensures { OnOk result (out.new.items ≡ out.old.items ++ encode_utf8 character) }
+{
+    let mut buffer = [0; 4];
+    out.extend_from_slice(character.encode_utf8(&mut buffer).as_bytes())
+}

@@ -1,0 +1,78 @@
+//! The program that ends with its run, and one that goes on, over the files of the host.
+use crate::chance::NoChance;
+use crate::host_tests::{holds, put_files, remove_files, status_of};
+use crate::words::words_of;
+use crate::worked_files::{TABLE, WRITTEN_TEXT};
+use plist_program::run_to_end;
+use std::fs;
+use std::test::Fail;
+
+/// Words, what then stands at the path `old`, and the status.
+type Ending = (&'static str, &'static [u8], u8);
+
+const ENDINGS: [Ending; 7] = [
+    ("plistconv convert binary1 row2.txt old", TABLE, 0),
+    ("plistconv convert binary1 unsorted.bin old", TABLE, 0),
+    ("plistconv convert openstep row2.bin old", WRITTEN_TEXT, 0),
+    ("plistconv convert openstep row2.txt old", WRITTEN_TEXT, 0),
+    ("plistconv convert binary1 twice.txt old", b"old", 2),
+    ("plistconv convert openstep true.bin old", b"old", 2),
+    ("plistconv convert binary1 missing old", b"old", 4),
+];
+
+/// Which program runs.
+#[derive(Clone, Copy)]
+enum Running {
+    /// One that goes on.
+    On,
+    /// One that ends then.
+    ToEnd,
+    /// One that ends then, where the system gives no random octets.
+    ToEndWithoutChance,
+}
+
+// The status of a run.
+fn status_at(rt: &HostRuntime, words: &[&str], running: Running) -> u8 {
+    let mut output = Vec::new(rt.alloc());
+    let mut input: &[u8] = b"";
+    match running {
+        Running::On => status_of(rt, words, &mut output),
+        Running::ToEnd => run_to_end(rt, rt.alloc(), words, &mut input, &mut output),
+        Running::ToEndWithoutChance => {
+            run_to_end(&NoChance(rt), rt.alloc(), words, &mut input, &mut output)
+        }
+    }
+}
+
+// Whether a run ends with this status and leaves these octets at the path `old`.
+fn leaves(
+    rt: &HostRuntime,
+    words: &[&str],
+    running: Running,
+    stands: &[u8],
+    want: u8,
+) -> Result<bool, Fail> {
+    fs::write(rt, "old", b"old")?;
+    let status = status_at(rt, words, running);
+    Ok(holds(rt, "old", stands)? && status == want)
+}
+
+// The words of the first row that is answered otherwise, whichever program runs.
+fn wrong_ending(rt: &HostRuntime) -> Result<Option<&'static str>, Fail> {
+    for (text, stands, want) in &ENDINGS {
+        let words = words_of(rt.alloc(), text)?;
+        for running in [Running::On, Running::ToEnd, Running::ToEndWithoutChance] {
+            if !leaves(rt, words.as_slice(), running, stands, *want)? {
+                return Ok(Some(text));
+            }
+        }
+    }
+    Ok(None)
+}
+
+#[test]
+fn a_program_that_ends_answers_the_same(rt: HostRuntime) -> Result<(), Fail> {
+    put_files(&rt)?;
+    assert_eq!(rt; wrong_ending(&rt)?, None);
+    remove_files(&rt)
+}

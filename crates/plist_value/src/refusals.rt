@@ -1,0 +1,172 @@
+//! Every refusal: its number and its name, each written once, and how one is printed.
+ghost use Rattle.std.specs.Prelude.{◌≡◌, Some};
+ghost use Rattle.plist_value.specs.Refusals.{TellsApart, name_of, number_of, report_text};
+
+use std::fmt;
+
+/// Why a call refuses. This is the one table of numbers and names; which faults a call answers, and
+/// where each stands, is said by the fault types.
+#[derive(Clone, Copy)]
+pub enum Refusal {
+    /// A binary file has fewer than 42 octets.
+    TooShort = 1,
+    /// A binary file does not begin with `bplist00`.
+    BadHeader = 2,
+    /// The trailer of a binary file does not fit the file.
+    BadTrailer = 3,
+    /// The place of an object is in the header, or not before the offset table.
+    BadOffset = 4,
+    /// A reference is not below the number of objects.
+    BadReference = 5,
+    /// An object reaches into the offset table.
+    CutObject = 6,
+    /// A marker is none of the format.
+    BadMarker = 7,
+    /// An object is a null.
+    NullObject = 8,
+    /// An object is a UID.
+    UidObject = 9,
+    /// An object is a set.
+    SetObject = 10,
+    /// An ASCII string has an octet above 7f.
+    NotAscii = 11,
+    /// A whole number of sixteen octets does not fit into eight.
+    WideInteger = 12,
+    /// A key is no string.
+    KeyNotText = 13,
+    /// Two keys of a dictionary are equal.
+    DuplicateKey = 14,
+    /// A reference leads back to a container on the path to it.
+    Cycle = 15,
+    /// The value is deeper than [`MAX_DEPTH`](crate::MAX_DEPTH).
+    TooDeep = 16,
+    /// The value has more than [`MAX_NODES`](crate::MAX_NODES) nodes.
+    TooManyNodes = 17,
+    /// The value has more payload than [`MAX_PAYLOAD`](crate::MAX_PAYLOAD).
+    TooMuchPayload = 18,
+    /// A text is no UTF-8.
+    BadUtf8 = 20,
+    /// A text begins as an XML property list does.
+    XmlForm = 21,
+    /// A character begins no token.
+    UnexpectedCharacter = 23,
+    /// A quoted string has no end.
+    UnclosedString = 24,
+    /// A comment has no end.
+    UnclosedComment = 25,
+    /// No hexadecimal digit follows `\U`.
+    BadEscape = 26,
+    /// An octal escape is above octal 177.
+    OctalRange = 27,
+    /// A hexadecimal digit of data stands alone.
+    OddData = 28,
+    /// Data has another character, or no end.
+    BadData = 29,
+    /// No text goes on with a token, or it ends too early.
+    Expected = 30,
+    /// A token stands behind a whole text.
+    Junk = 31,
+    /// A text with a mark of UTF-16 is no UTF-16.
+    BadUtf16 = 32,
+    /// A value has no OpenStep text.
+    NotInOpenStep = 40,
+    /// A source failed.
+    ReadFailed = 50,
+    /// A sink failed.
+    WriteFailed = 51,
+    /// The input is longer than is read.
+    InputTooLarge = 52,
+    /// Out of memory.
+    OutOfMemory = 60,
+}
+
+impl Refusal {
+    /// The number, from 1 to 60.
+    pub fn number(self) -> u8
+        ensures { result ≡ number_of self }
+    {
+        self as u8
+    }
+
+    /// The name, as it is printed.
+    pub fn name(self) -> &'static str
+        ensures { result.now ≡ name_of self }
+    {
+        match self {
+            Refusal::TooShort => "TooShort",
+            Refusal::BadHeader => "BadHeader",
+            Refusal::BadTrailer => "BadTrailer",
+            Refusal::BadOffset => "BadOffset",
+            Refusal::BadReference => "BadReference",
+            Refusal::CutObject => "CutObject",
+            Refusal::BadMarker => "BadMarker",
+            Refusal::NullObject => "NullObject",
+            Refusal::UidObject => "UidObject",
+            Refusal::SetObject => "SetObject",
+            Refusal::NotAscii => "NotAscii",
+            Refusal::WideInteger => "WideInteger",
+            Refusal::KeyNotText => "KeyNotText",
+            Refusal::DuplicateKey => "DuplicateKey",
+            Refusal::Cycle => "Cycle",
+            Refusal::TooDeep => "TooDeep",
+            Refusal::TooManyNodes => "TooManyNodes",
+            Refusal::TooMuchPayload => "TooMuchPayload",
+            Refusal::BadUtf8 => "BadUtf8",
+            Refusal::XmlForm => "XmlForm",
+            Refusal::UnexpectedCharacter => "UnexpectedCharacter",
+            Refusal::UnclosedString => "UnclosedString",
+            Refusal::UnclosedComment => "UnclosedComment",
+            Refusal::BadEscape => "BadEscape",
+            Refusal::OctalRange => "OctalRange",
+            Refusal::OddData => "OddData",
+            Refusal::BadData => "BadData",
+            Refusal::Expected => "Expected",
+            Refusal::Junk => "Junk",
+            Refusal::BadUtf16 => "BadUtf16",
+            Refusal::NotInOpenStep => "NotInOpenStep",
+            Refusal::ReadFailed => "ReadFailed",
+            Refusal::WriteFailed => "WriteFailed",
+            Refusal::InputTooLarge => "InputTooLarge",
+            Refusal::OutOfMemory => "OutOfMemory",
+        }
+    }
+}
+
+/// What a fault names besides its refusal.
+#[derive(Clone, Copy)]
+pub enum Place {
+    /// Nothing.
+    Nowhere,
+    /// An object of a binary file, by its number.
+    Object(u64),
+    /// An octet of the input, counted from its first.
+    Octet(usize),
+    /// How many octets had gone out.
+    After(u64),
+}
+
+/// A refusal, and what it names: what is printed of a fault, as `14 DuplicateKey at object 0`,
+/// `24 UnclosedString at octet 2`, `51 WriteFailed after 10 octets` or `1 TooShort`.
+#[derive(Clone, Copy)]
+pub struct Report(pub Refusal, pub Place);
+
+impl fmt::Display for Report {
+    ghost output = { λ report. Some (report_text report) };
+
+    fn fmt<W: fmt::Write>(&self, f: &mut fmt::Formatter<W>) -> fmt::Result {
+        let number = self.0.number();
+        let name = self.0.name();
+        match self.1 {
+            Place::Nowhere => write!(f, "{number} {name}"),
+            Place::Object(object) => write!(f, "{number} {name} at object {object}"),
+            Place::Octet(octet) => write!(f, "{number} {name} at octet {octet}"),
+            Place::After(sent) => write!(f, "{number} {name} after {sent} octets"),
+        }
+    }
+}
+
+/// No two refusals have one number or one name.
+pub fn refusals_differ()
+    ensures numbers { TellsApart number_of }
+    ensures names { TellsApart name_of }
+{}
