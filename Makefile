@@ -1,23 +1,39 @@
-# plistconv: `make` builds ./plistconv, `make lib` the C library, `make test` is the gate,
-# `make install PREFIX=..` and `make install-lib` install; `make dist` and `make deb` pack both (dist.mk).
-# Besides the gate: `make recipes`, `make examples`, `make new-user` and `make words` (words that are not UTF-8),
-# `make edits [CRATE=NAME]`, `make fuzz [SECONDS=60] [SEED=1]`, `make bench` (time and memory beside other programs),
-# `make hostile` (what refusals and large files cost), `make growths` (each allocation refused in turn).
+## make                       proves, builds and runs ./plistconv: 30 processor minutes the first time (README, Set-up)
+## make lib                   builds libplistconv.a and libplistconv.so, two processor minutes more
+## make install               installs the program, man page, completions, recipes and pages (PREFIX=/usr/local DESTDIR=)
+## make install-lib           installs the C library, its header and a file for pkg-config
+## make uninstall             removes what both have installed
+## make test                  the gate: every proof from nothing, all tests, and what stands around them (see CONTRIBUTING.md)
+## make around                the gate without the proofs, over what is built
+## make edits [CRATE=NAME]    tries the edits that the gate leaves out
+## make fuzz [SECONDS=60] [SEED=1]   compares the program with a second reading of the formats
+## make recipes, examples, words, new-user   try the recipes and the README, the bindings, words that are not UTF-8,
+##                            and what a new user does on a clean checkout
+## make growths, growths-lib, hostile, bench   each allocation refused in turn; what refusals cost; time and memory
+## make dist, make deb        a tar file, and Debian packages, for machines without the toolchain
+## make clean                 removes what was built and proved
 PREFIX ?= /usr/local
 SECONDS ?= 60
 SEED ?= 1
+VERSION := $(shell sed -n 's/.*\.version("\(.*\)").*/\1/p' crates/plist_words/src/commands.rt)
 
-.PHONY: all test edits fuzz recipes new-user words bench hostile growths install clean
+.PHONY: all help test around edits fuzz recipes new-user words bench hostile growths install uninstall clean
 all: plistconv
 
 include build.mk
 
 plistconv: $(call files,plistconv) out/plist_convert.proved
-	cd crates/plistconv && $(RT) run -- --version
+	$(FIRST)cd crates/plistconv && $(RT) run -- --version
 	cp crates/plistconv/out/plistconv $@
 
+help:
+	@sed -n 's/^## //p' Makefile
+
 test:
-	$(RT) ci
+	@scripts/gate.sh
+
+around: plistconv lib
+	@scripts/gate.sh --around
 
 edits:
 	scripts/edits.sh $(CRATE)
@@ -28,6 +44,7 @@ fuzz: plistconv
 
 recipes: plistconv
 	PLISTCONV=./plistconv recipes/test
+	PLISTCONV=./plistconv recipes/readme
 
 new-user: plistconv lib
 	scripts/new-user.sh
@@ -41,18 +58,43 @@ bench: plistconv
 hostile: plistconv
 	python3 bench/hostile.py ./plistconv
 	python3 bench/refusals.py ./plistconv
+	python3 bench/collisions.py ./plistconv
+	python3 scripts/limits.py ./plistconv --large
 
-growths: plistconv
-	python3 bench/growths.py ./plistconv
+growths: plistconv lib
+	python3 bench/growths.py ./plistconv --library libplistconv.a
 
-SHARE = $(DESTDIR)$(PREFIX)/share
+SHARE = $(PREFIX)/share
+DOC ?= $(SHARE)/doc/plistconv
 ZSH ?= zsh/site-functions
-install: plistconv
-	install -D -m 755 plistconv $(DESTDIR)$(PREFIX)/bin/plistconv
-	install -D -m 644 man/plistconv.1 $(SHARE)/man/man1/plistconv.1
-	install -D -m 644 completions/plistconv.bash $(SHARE)/bash-completion/completions/plistconv
-	install -D -m 644 completions/_plistconv $(SHARE)/$(ZSH)/_plistconv
-	install -D -m 644 completions/plistconv.fish $(SHARE)/fish/vendor_completions.d/plistconv.fish
+RECIPES := $(filter-out recipes/common.sh recipes/readme recipes/test,$(wildcard recipes/*))
+PYTHON := plistconv/__init__.py plistconv/py.typed pyproject.toml wheel_of_plistconv.py
+# (what is installed: MODE:FROM:TO)
+INSTALLED = 755:plistconv:$(PREFIX)/bin/plistconv 644:man/plistconv.1:$(SHARE)/man/man1/plistconv.1 \
+  644:completions/plistconv.bash:$(SHARE)/bash-completion/completions/plistconv \
+  644:completions/_plistconv:$(SHARE)/$(ZSH)/_plistconv \
+  644:completions/plistconv.fish:$(SHARE)/fish/vendor_completions.d/plistconv.fish \
+  $(foreach it,$(RECIPES),755:$(it):$(SHARE)/plistconv/$(it)) 644:recipes/common.sh:$(SHARE)/plistconv/recipes/common.sh \
+  $(foreach it,$(PYTHON),644:bindings/python/$(it):$(SHARE)/plistconv/python/$(it)) \
+  $(foreach it,README.md docs/FORMATS.md docs/RECIPES.md,644:$(it):$(DOC)/$(notdir $(it)))
+
+define install_one
+install -D -m $(word 1,$(1)) $(word 2,$(1)) '$(DESTDIR)$(word 3,$(1))'
+
+endef
+install_all = $(foreach it,$(1),$(call install_one,$(subst :, ,$(it))))
+
+# (what is built is installed as it is if there is no toolchain)
+built = $(if $(shell command -v $(RT) 2> /dev/null),$(1),$(filter-out $(wildcard $(1)),$(1)))
+
+install: $(call built,plistconv)
+	$(call install_all,$(INSTALLED))
+
+uninstall:
+	rm -f $(foreach it,$(INSTALLED) $(LIB_INSTALLED),'$(DESTDIR)$(word 3,$(subst :, ,$(it)))') $(addprefix $(DESTDIR),$(LIB_LINKS) $(PC_FILE))
+	for folder in plistconv/recipes plistconv/python/plistconv plistconv/python plistconv; do \
+	  if [ -d "$(DESTDIR)$(SHARE)/$$folder" ]; then rmdir "$(DESTDIR)$(SHARE)/$$folder" || true; fi; done
+	if [ -d "$(DESTDIR)$(DOC)" ]; then rmdir "$(DESTDIR)$(DOC)" || true; fi
 
 clean:
 	rm -rf plistconv libplistconv.a libplistconv.so dist out crates/*/out

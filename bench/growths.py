@@ -2,14 +2,19 @@
 """Refuses each allocation in turn, from outside, in runs of `plistconv` with each of its words, and in the
 tests of the crates.
 
-usage: bench/growths.py [PLISTCONV] [--tests CRATE..]   (./plistconv if not given; all crates with built tests)
+usage: bench/growths.py [PLISTCONV] [--short] [--library libplistconv.a] [--tests CRATE..]
+       (./plistconv if not given; all crates with built tests)
 
 A run of the program with a refused allocation must end as with ample memory, or with status 5 and the line
 of 60, having sent as many octets as that line says. Where it is refused before any octet went out, the file
 that was to be written stands as it was. A test must pass, or end with an allocation error or with 60. Tests
 that make more than 2,000 allocations, or take longer than a second, are left out by name.
 
-`rt test` in a crate builds its tests. The library that refuses is bench/refuse.c, made with cc.
+With --library each allocation of plistconv_check is refused in turn, on the canonical file of the list of the numbers 0
+to 254. It builds no value, so it makes fewer than 100, and with the 100th refused the answer is canonical.
+
+With --short only a few inputs are tried, and no tests, which takes seconds. `rt test` in a crate builds its tests. The
+library that refuses is bench/refuse.c, made with cc.
 """
 import collections
 import glob
@@ -50,6 +55,9 @@ INPUTS = {
     "long.bin": joined([b"\xa2\x01\x02", *[head(0x40, 80_000) + bytes(80_000)] * 2], 1),
 }
 
+# (those of --short: each word meets a file and a text that it takes, and one that it refuses)
+SHORT = ["table.txt", "twice.txt", "shared.bin", "same-keys.bin"]
+
 WORDS = [["convert", "binary1", "IN", "out"], ["convert", "openstep", "IN", "out"], ["lint", "IN"], ["check", "IN"],
          ["same", "IN", "table.txt"], ["same", "unsorted.bin", "IN"]]
 OTHER_WORDS = [["--help"], ["convert", "--help"], ["--version"], ["turn", "table.bin"], ["check"], ["lint", "missing"],
@@ -88,19 +96,47 @@ def is_wanting(ending, ample, path):
     return output == line[0] and written == (ample[2][:sent] if sent else BEFORE)
 
 
-def program_runs(program, refusing):
+def program_runs(program, names):
     for words in WORDS:
-        for name in INPUTS:
+        for name in names:
             yield [program, *(name if word == "IN" else word for word in words)], b""
     for words in OTHER_WORDS:
         yield [program, *words], b""
-    for octets in INPUTS.values():
-        yield [program], octets
+    for name in names:
+        yield [program], INPUTS[name]
 
 
-def refuse_in_program(program, refusing):
+def numbers_to_254():
+    """The canonical file of the list of the numbers 0 to 254."""
+    numbers = b"".join(b"\x10" + octets_of(number, 1) for number in range(255))
+    objects = head(0xA0, 255) + b"".join(octets_of(place, 2) for place in range(1, 256)) + numbers
+    end = 8 + len(objects)
+    places = b"".join(octets_of(place, 2) for place in [8, *range(end - len(numbers), end, 2)])
+    return (b"bplist00" + objects + places + bytes([0] * 6 + [2, 2])
+            + octets_of(256, 8) + octets_of(0, 8) + octets_of(end, 8))
+
+
+def refuse_in_check(library, refusing):
+    """How many runs of plistconv_check end otherwise than they must."""
+    program, octets = os.path.join(refusing.folder, "check"), numbers_to_254()
+    source, include = os.path.join(refused.HERE, "check.c"), os.path.join(refused.HERE, "..", "include")
+    subprocess.run(["cc", "-std=c99", "-D_POSIX_C_SOURCE=200809L", f"-I{include}", source, library, "-o", program], check=True)
+    wrong, ample = 0, (0, b"canonical\n", BEFORE)
+    ending, _, allocations = refusing.run([program], octets, 100)
+    print(f"plistconv_check of the numbers 0 to 254: {allocations} allocations; with the 100th refused: {ending[:2]}")
+    if ending != ample or not 0 < allocations < 100:
+        wrong += 1
+    for number in range(1, allocations + 1):
+        ending, _, _ = refusing.run([program], octets, number)
+        if ending not in (ample, (5, b"refused 60\n", BEFORE)):
+            wrong += 1
+            print(f"plistconv_check, allocation {number}: {ending}", flush=True)
+    return wrong
+
+
+def refuse_in_program(program, refusing, names):
     wrong, endings = 0, collections.defaultdict(collections.Counter)
-    for words, octets in program_runs(program, refusing):
+    for words, octets in program_runs(program, names):
         path = b"-" if len(words) == 1 else None
         ample, _, allocations = refusing.run(words, octets, 0)
         kind = " ".join(words[1:3] if words[1:2] == ["convert"] else words[1:2]) or "no words"
@@ -161,10 +197,17 @@ def refuse_in_tests(crate, refusing):
 
 
 def main():
-    words = sys.argv[1:]
+    words, library = sys.argv[1:], None
+    is_short = "--short" in words
+    if is_short:
+        words.remove("--short")
+    if "--library" in words:
+        at = words.index("--library")
+        library = os.path.abspath(words[at + 1])
+        del words[at:at + 2]
     at = words.index("--tests") if "--tests" in words else len(words)
     program = os.path.abspath(words[0] if at > 0 else "./plistconv")
-    crates = words[at + 1:] or sorted(path.split(os.sep)[-3] for path in glob.glob(
+    crates = [] if is_short else words[at + 1:] or sorted(path.split(os.sep)[-3] for path in glob.glob(
         os.path.join(refused.HERE, "..", "crates", "*", "out", "*_tests")) if os.path.isfile(path))
     with tempfile.TemporaryDirectory() as folder:
         refusing = Refusing(folder)
@@ -172,7 +215,8 @@ def main():
         for name, octets in INPUTS.items():
             with open(name, "wb") as file:
                 file.write(octets)
-        wrong = refuse_in_program(program, refusing)
+        wrong = refuse_in_check(library, refusing) if library else 0
+        wrong += refuse_in_program(program, refusing, SHORT if is_short else INPUTS)
         wrong += sum(refuse_in_tests(crate, refusing) for crate in crates)
     print("each run ended as it should" if wrong == 0 else f"{wrong} runs ended otherwise")
     return 1 if wrong else 0

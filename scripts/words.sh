@@ -6,7 +6,7 @@ PLISTCONV=$(realpath "${PLISTCONV:-plistconv}")
 work=$(mktemp -d) && trap 'rm -rf "$work"' EXIT
 cd "$work"
 named=$(printf 'caf\351.plist')
-printf '{b=a;a=b;}' > "$named"
+printf '{b=a;a=b;}' > "$named" || { echo 'words: skipped, no file here has such a name'; exit 77; }
 cp "$named" plain.plist
 
 refused() { # WORD..

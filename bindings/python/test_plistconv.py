@@ -1,9 +1,13 @@
 """Runs plistconv beside plistlib: python3 bindings/python/test_plistconv.py"""
+import concurrent.futures
 import datetime
+import pickle
 import plistlib
 import random
+import re
 import sys
 import threading
+import time
 
 import plistconv
 
@@ -28,7 +32,7 @@ def test_values():
         ours = plistconv.canonical(plistlib.dumps(value, fmt=plistlib.FMT_BINARY))
         assert plistlib.loads(ours) == value, value
         assert plistconv.canonical(ours) == ours, value
-        assert plistconv.check(ours).canonical, value
+        assert plistconv.check(ours) == plistconv.Finding(True), value
         files.append(ours)
     for i, first in enumerate(files):
         for j, second in enumerate(files):
@@ -43,7 +47,9 @@ def test_order_of_keys():
     second = dumps(keys)
     assert first != second and plistconv.same(first, second)
     assert plistconv.canonical(first) == plistconv.canonical(second)
-    assert not plistconv.check(second).canonical
+    finding = plistconv.check(second)
+    assert not finding and not finding.canonical and finding.rule is not None and finding.object is not None
+    assert pickle.loads(pickle.dumps(finding)) == finding and plistconv.check(plistconv.canonical(second))
 
 
 def test_texts():
@@ -88,6 +94,71 @@ def test_lines():
             assert False, octets
 
 
+def test_refusals_between_processes():
+    for octets, place in [(b"{a=1;a=2;}", (14, "octet", 5, 1)), (b"bplist00", (1, None, None, 1))]:
+        try:
+            plistconv.canonical(octets)
+        except plistconv.Refused as refusal:
+            copy = pickle.loads(pickle.dumps(refusal))
+            assert (copy.number, copy.unit, copy.place, copy.input) == place
+            assert str(copy) == str(refusal) and copy.line("a") == refusal.line("a") and copy.args == refusal.args
+    try:
+        pool = concurrent.futures.ProcessPoolExecutor(1)
+    except (ImportError, NotImplementedError, OSError) as fault:
+        print(f"python: a pool of processes skipped, there are no semaphores ({fault})")
+        return
+    with pool:
+        assert pool.submit(plistconv.canonical, b"{}").result() == plistconv.canonical(b"{}")
+        assert refused(pool.submit(plistconv.canonical, b'("a').result) == (24, "octet", 1, 1)
+
+
+def test_arguments():
+    octets = b"(a, b)"
+    for other in [bytearray(octets), memoryview(octets), memoryview(b")b ,a(")[::-1]]:
+        assert plistconv.canonical(other) == plistconv.canonical(octets)
+    for call in [plistconv.canonical, plistconv.text, plistconv.check]:
+        for wrong in [5, "text", None, [1, 2], 1.5]:
+            try:
+                call(wrong)
+            except TypeError:
+                pass
+            else:
+                assert False, (call, wrong)
+    assert plistconv.same(b"", b"{}")
+
+
+def test_keys():
+    for value in VALUES:
+        octets = plistlib.dumps(value, fmt=plistlib.FMT_BINARY)
+        ours = plistconv.canonical(octets)
+        for key in [bytes(16), b"k" * 16, bytearray(range(16))]:
+            assert plistconv.canonical(octets, key) == ours, value
+            assert plistconv.same(octets, ours, key=key) and plistconv.check(ours, key)
+    for wrong in [b"", b"k" * 15, bytes(17)]:
+        try:
+            plistconv.check(b"", wrong)
+        except ValueError as fault:
+            assert not isinstance(fault, plistconv.Refused), fault
+        else:
+            assert False, wrong
+
+
+def test_data_that_collide():
+    """20,000 pieces of data that were picked to collide under the fixed seed take a fraction of the time with a key."""
+    zero = 0x9E3779B97F4A7C15.to_bytes(8, "little")
+    octets = plistlib.dumps([n.to_bytes(8, "little") + zero + bytes(16) for n in range(20_000)], fmt=plistlib.FMT_BINARY)
+    begin = time.process_time()
+    keyed = plistconv.canonical(octets)
+    middle = time.process_time()
+    assert plistconv.canonical(octets, bytes(16)) == keyed
+    assert 4 * (middle - begin) < time.process_time() - middle
+
+
+def test_versions():
+    assert re.fullmatch(r"\d+\.\d+\.\d+", plistconv.__version__)
+    assert plistconv.library_version() == plistconv.__version__, plistconv.library_version()
+
+
 def test_corpus_of_plistlib():
     """The files that the tests of plistlib hold: where both take one, they read the same of it."""
     try:
@@ -98,7 +169,7 @@ def test_corpus_of_plistlib():
     octets = corpus.TESTDATA[plistlib.FMT_BINARY]
     ours = plistconv.canonical(octets)
     assert plistlib.loads(ours) == plistlib.loads(octets)
-    assert plistconv.check(ours).canonical and plistconv.same(ours, octets)
+    assert plistconv.check(ours) and plistconv.same(ours, octets)
     assert refused(plistconv.canonical, corpus.TESTDATA["KEYED_ARCHIVE"])[0] == 9
     assert refused(plistconv.canonical, corpus.TESTDATA[plistlib.FMT_XML])[0] == 21
     # What plistlib refuses is refused, but that here a text is any UTF-16 units, and a date any 8 octets.
@@ -114,7 +185,7 @@ def test_depth():
 
     def work():
         file = plistconv.canonical(deep)
-        seen.append(plistconv.check(file).canonical and plistconv.same(deep, file))
+        seen.append(bool(plistconv.check(file)) and plistconv.same(deep, file))
         seen.append(plistconv.same(deep, plistconv.text(file)))
         seen.append(refused(plistconv.canonical, b"(" + deep + b")")[0] == 16)
 

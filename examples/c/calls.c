@@ -9,6 +9,7 @@
 static uint8_t file[ROOM], again[ROOM], text[ROOM], line[ROOM];
 static plistconv_refusal refusal;
 
+static const uint8_t key[PLISTCONV_HASH_KEY_OCTETS] = "sixteen octets!";
 static const uint8_t value[] = "{ b = (x, \"y z\", (deep, (er, { k = <00ff>; }))); c = \"h\\U00e9\"; }";
 static const uint8_t twice[] = "{ a = b; c = (d); a = c; }";
 
@@ -20,7 +21,7 @@ static void must(int holds) {
 static size_t canonical(const uint8_t *octets, size_t count, uint8_t *into, uint8_t wanted) {
     size_t length = 7;
     memset(into, 0xee, ROOM);
-    uint8_t number = plistconv_canonical(octets, count, into, ROOM, &length, &refusal);
+    uint8_t number = plistconv_canonical(octets, count, NULL, into, ROOM, &length, &refusal);
     must(refusal.number == number && refusal.input == (number != 0));
     if (number != 0) {
         must(length == 0);
@@ -33,7 +34,7 @@ static size_t canonical(const uint8_t *octets, size_t count, uint8_t *into, uint
 
 static void same(const uint8_t *first, size_t count, const uint8_t *second, size_t second_count) {
     uint8_t equal = 7;
-    uint8_t number = plistconv_same(first, count, second, second_count, &equal, &refusal);
+    uint8_t number = plistconv_same(first, count, second, second_count, key, &equal, &refusal);
     if (number == 60) _exit(equal == 0 ? 5 : 1);
     must(number == 0 && equal == 1);
 }
@@ -48,7 +49,7 @@ static uint8_t line_of(size_t room, size_t *length) {
 int main(void) {
     size_t length = canonical(value, sizeof value - 1, file, 0);
     plistconv_finding finding = {0};
-    uint8_t number = plistconv_check(file, length, &finding, &refusal);
+    uint8_t number = plistconv_check(file, length, key, &finding, &refusal);
     if (number == 60) _exit(5);
     must(number == 0 && finding.canonical == 1);
     must(canonical(file, length, again, 0) == length && memcmp(file, again, length) == 0);

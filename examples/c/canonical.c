@@ -1,5 +1,5 @@
 /* Writes the canonical file of a property list: canonical IN OUT. Exits with 0, or with 2 where the input
- * is refused, which it tells on standard error. */
+ * is refused, which it tells on standard error. Whoever runs it picks the file, so it takes no key: keys.c does. */
 #include <plistconv.h>
 #include <stdio.h>
 #include <stdlib.h>
@@ -47,12 +47,12 @@ int main(int argc, char **argv) {
     uint8_t *into = calloc(room, 1), number;
     plistconv_refusal refusal = {0};
     if (!into) return 5;
-    number = plistconv_canonical(octets, count, into, room, &length, &refusal);
+    number = plistconv_canonical(octets, count, NULL, into, room, &length, &refusal);
     if (number == 0 && length > room) {
         free(into);
         into = calloc(room = length, 1);
         if (!into) return 5;
-        number = plistconv_canonical(octets, count, into, room, &length, &refusal);
+        number = plistconv_canonical(octets, count, NULL, into, room, &length, &refusal);
     }
     if (number != 0) {
         tell(argv[1], &refusal);
@@ -61,8 +61,8 @@ int main(int argc, char **argv) {
 
     uint8_t equal = 0;
     plistconv_finding finding = {0};
-    if (plistconv_same(octets, count, into, length, &equal, &refusal) != 0 || equal != 1) return 1;
-    if (plistconv_check(into, length, &finding, &refusal) != 0 || finding.canonical != 1) return 1;
+    if (plistconv_same(octets, count, into, length, NULL, &equal, &refusal) != 0 || equal != 1) return 1;
+    if (plistconv_check(into, length, NULL, &finding, &refusal) != 0 || finding.canonical != 1) return 1;
 
     FILE *out = fopen(argv[2], "wb");
     if (!out || fwrite(into, 1, length, out) != length || fclose(out)) { perror(argv[2]); return 4; }

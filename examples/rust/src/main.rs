@@ -1,33 +1,14 @@
 //! Writes the canonical file of a property list: canonical IN OUT.
+use plistconv_sys::{plistconv_canonical, plistconv_check, plistconv_line, plistconv_same, Finding, Refusal};
+use std::hash::{BuildHasher, RandomState};
 use std::process::ExitCode;
+use std::sync::LazyLock;
 
-#[repr(C)]
-#[derive(Clone, Copy, Debug, Default)]
-struct Refusal {
-    place: u64,
-    number: u8,
-    unit: u8,
-    input: u8,
-}
-
-extern "C" {
-    fn plistconv_canonical(
-        octets: *const u8,
-        count: usize,
-        into: *mut u8,
-        room: usize,
-        length: *mut usize,
-        refusal: *mut Refusal,
-    ) -> u8;
-    fn plistconv_line(
-        path: *const u8,
-        path_count: usize,
-        refusal: *const Refusal,
-        into: *mut u8,
-        room: usize,
-        length: *mut usize,
-    ) -> u8;
-}
+/// The key of this process, which nobody outside learns: nobody can pick files that cost it time.
+static KEY: LazyLock<[u8; 16]> = LazyLock::new(|| {
+    let random = RandomState::new();
+    std::array::from_fn(|place| random.hash_one(place) as u8)
+});
 
 /// The canonical file of the value that the octets spell.
 fn canonical(octets: &[u8]) -> Result<Vec<u8>, Refusal> {
@@ -35,11 +16,12 @@ fn canonical(octets: &[u8]) -> Result<Vec<u8>, Refusal> {
     loop {
         let mut length = 0;
         let mut refusal = Refusal::default();
-        // The slices are neither null nor overlapping, and hold as many octets as is said.
+        // The slices are neither null nor overlapping, and hold as many octets as is said; the key holds 16.
         let number = unsafe {
             plistconv_canonical(
                 octets.as_ptr(),
                 octets.len(),
+                &*KEY,
                 into.as_mut_ptr(),
                 into.len(),
                 &mut length,
@@ -54,6 +36,36 @@ fn canonical(octets: &[u8]) -> Result<Vec<u8>, Refusal> {
             return Ok(into);
         }
         into = vec![0u8; length];
+    }
+}
+
+/// Whether the octets are a canonical file.
+fn is_canonical(octets: &[u8]) -> bool {
+    let (mut finding, mut refusal) = (Finding::default(), Refusal::default());
+    // As above.
+    let number = unsafe { plistconv_check(octets.as_ptr(), octets.len(), &*KEY, &mut finding, &mut refusal) };
+    number == 0 && finding.canonical == 1
+}
+
+/// Whether the two spell equal values.
+fn same(first: &[u8], second: &[u8]) -> Result<bool, Refusal> {
+    let (mut equal, mut refusal) = (0, Refusal::default());
+    // As above.
+    let number = unsafe {
+        plistconv_same(
+            first.as_ptr(),
+            first.len(),
+            second.as_ptr(),
+            second.len(),
+            &*KEY,
+            &mut equal,
+            &mut refusal,
+        )
+    };
+    if number == 0 {
+        Ok(equal == 1)
+    } else {
+        Err(refusal)
     }
 }
 
@@ -93,6 +105,7 @@ fn main() -> ExitCode {
         }
     };
     match canonical(&octets) {
+        Ok(file) if !is_canonical(&file) || same(&octets, &file) != Ok(true) => ExitCode::FAILURE,
         Ok(file) => match std::fs::write(&words[2], file) {
             Ok(()) => ExitCode::SUCCESS,
             Err(error) => {

@@ -1,0 +1,237 @@
+#!/usr/bin/env python3
+"""Measures `plistconv` on scalars that somebody picked to collide, at three counts of which each is four times the one
+before, and beside as many that do not collide.
+
+usage: bench/collisions.py [PLISTCONV]   (the program to measure, ./plistconv if not given)
+
+The hasher whose seed is fixed (`FoldHasher` of the toolchain's library) keeps a state of 64 bits. It multiplies it,
+xor the octets of a write, by a constant, and joins the halves of the product by xor. So what collides under it is made
+by arithmetic:
+- data: of 32 octets the first 16 are one product of two factors; where the second factor is 0 so is the state,
+  whatever the first eight octets are;
+- texts in UTF-16: the second word, four units, undoes the state behind the first;
+- whole numbers, reals and dates: factors whose product with the constant has 20 zeros at the end of either half are the
+  points of a lattice in a square, so the last 20 bits of the state are 0. A set joins both halves of the state by xor,
+  which spreads them again: they cost no more than others under any hasher, and stand here to show that.
+Texts in ASCII are left out: of the word that would undo a state seven bits of every sixteen are free, so they could be
+found by search alone. Keys of a dictionary are sorted and not hashed: those that begin alike for 60 characters stand here
+too, since each comparison reads all that two have in common.
+
+Time is that of the processor, the least of five runs. The status is 1 where four times as many take more than six
+times as long, or where 160,000 pieces of data take more than one and a half times as long as as many that do not
+collide.
+"""
+import itertools
+import os
+import random
+import struct
+import sys
+import tempfile
+
+from hostile import head, joined, number
+from measure import Measure
+
+WORD = (1 << 64) - 1
+SEED, FACTOR = 0x243F6A8885A308D3, 0x9E3779B97F4A7C15
+COUNTS = (10_000, 40_000, 160_000)
+# A run of less than so many seconds is counted as one of so many: what the program begins with takes as long.
+LEAST = 0.01
+
+
+def folded(a, b):
+    """The halves of the product, by xor."""
+    product = a * b
+    return product & WORD ^ product >> 64
+
+
+def behind(state, word):
+    """The state behind a write of eight octets."""
+    return folded(state ^ word, FACTOR ^ 16)
+
+
+def data(count):
+    """Data of 32 octets, behind whose first 16 octets the state is 0."""
+    zero = FACTOR.to_bytes(8, "little")
+    return [n.to_bytes(8, "little") + zero + bytes(16) for n in range(count)]
+
+
+def plain_units(word):
+    """The four units of a word, or None where one is no plain character."""
+    units = struct.unpack("<4H", word.to_bytes(8, "little"))
+    return units if all(0xA0 <= unit < 0xD800 for unit in units) else None
+
+
+def texts(count):
+    """Texts of eight units, behind which the state is the same."""
+    start, made = behind(SEED, 8), []
+    for n in itertools.count(1):
+        first = n * FACTOR & WORD
+        second = behind(start, first) ^ 0x1234_5678_9ABC_1357
+        units = plain_units(first), plain_units(second)
+        if None not in units:
+            made.append(units[0] + units[1])
+        if len(made) == count:
+            return made
+
+
+def shortest(first, second):
+    """Two short vectors that make all that the two make."""
+    while True:
+        if sum(a * a for a in first) > sum(a * a for a in second):
+            first, second = second, first
+        square, product = sum(a * a for a in first), sum(a * b for a, b in zip(first, second))
+        times = (2 * product + square) // (2 * square)
+        if times == 0:
+            return first, second
+        second = tuple(b - times * a for a, b in zip(first, second))
+
+
+def words(count):
+    """Words behind which the last 20 bits of the state are 0: those of either half of the product are."""
+    most = 1 << 64 - 20
+    (a, b), (c, d) = shortest((1, FACTOR ^ 16), (0, 1 << 64))
+    area, middle = a * d - b * c, most // 2
+    i, j, far = middle * (d - c) // area, middle * (a - b) // area, 300
+    found = ((n * a + m * c, n * b + m * d) for n in range(i - far, i + far) for m in range(j - far, j + far))
+    made = [SEED ^ n << 20 for n, product in found if 0 <= n < most and 0 <= product < most]
+    return made[:count]
+
+
+def data_object(octets):
+    return head(0x40, len(octets)) + octets
+
+
+def text_object(units):
+    return head(0x60, len(units)) + struct.pack(f">{len(units)}H", *units)
+
+
+def whole_object(word):
+    """A number from 2^63 on takes sixteen octets."""
+    return b"\x13" + number(word, 8) if word < 1 << 63 else b"\x14" + number(word, 16)
+
+
+def list_of(objects):
+    """The file of a list of these objects."""
+    count = len(objects)
+    return joined([head(0xA0, count) + b"".join(number(n, 3) for n in range(1, count + 1)), *objects], 3)
+
+
+def keys(count):
+    """Keys that differ in their last characters alone, in no order."""
+    made = [f"{'k' * 60}{n:06d}".encode("ascii") for n in range(count)]
+    random.Random(4).shuffle(made)
+    return made
+
+
+def table_of(names):
+    """The file of a dictionary with these keys and one value."""
+    count = len(names)
+    references = b"".join(number(n, 3) for n in [*range(1, count + 1), *[count + 1] * count])
+    spelled = [head(0x50, len(name)) + name for name in names]
+    return joined([head(0xD0, count) + references, *spelled, b"\x51x"], 3)
+
+
+def table_text(names):
+    return b"{" + b"".join(name + b" = x;\n" for name in names) + b"}"
+
+
+def data_text(octets):
+    return f"<{octets.hex()}>"
+
+
+def units_text(units):
+    return '"' + "".join(f"\\U{unit:04x}" for unit in units) + '"'
+
+
+def text_of(items):
+    return ("(" + ",\n".join(items) + ")").encode("ascii")
+
+
+def finite(word):
+    """Whether the octets are those of a number."""
+    return word >> 52 & 0x7FF != 0x7FF
+
+
+def unlike(count):
+    """As many pieces of data that do not collide."""
+    chance = random.Random(3)
+    return [chance.randbytes(32) for _ in range(count)]
+
+
+# The octets of the first so many of each kind, as a binary file and, where the form has them, as a text.
+KINDS = {
+    "data": lambda n: (list_of(map_list(data_object, data(n))), text_of(map(data_text, data(n)))),
+    "texts": lambda n: (list_of(map_list(text_object, texts(n))), text_of(map(units_text, texts(n)))),
+    "whole numbers": lambda n: (list_of(map_list(whole_object, words(n))), None),
+    "reals": lambda n: (list_of([b"\x23" + word.to_bytes(8, "little") for word in words(n)]), None),
+    "dates": lambda n: (list_of([b"\x33" + number(word, 8) for word in words(n + n // 100) if finite(word)][:n]), None),
+    "keys": lambda n: (table_of(keys(n)), table_text(keys(n))),
+    "data that do not collide": lambda n: (list_of(map_list(data_object, unlike(n))),
+                                           text_of(map(data_text, unlike(n)))),
+}
+
+
+def map_list(make, items):
+    return [make(item) for item in items]
+
+
+class Tries:
+    """The runs of the program on files in a folder."""
+
+    def __init__(self, program, folder):
+        self.program, self.folder, self.measure = program, folder, Measure(folder)
+
+    def path(self, name):
+        return os.path.join(self.folder, name)
+
+    def seconds(self, words):
+        """The least of five runs, each of which is to end with 0."""
+        runs = [self.measure.run([self.program, *words]) for _ in range(5)]
+        if any(run.status != 0 for run in runs):
+            sys.exit(f"plistconv {' '.join(words)}: {runs[0].status} {runs[0].printed}")
+        return min(run.processor for run in runs)
+
+    def all(self, binary, text):
+        """The seconds of each run for these octets."""
+        source, made = self.path("source"), self.path("made")
+        with open(source, "wb") as target:
+            target.write(binary)
+        figures = {"convert": self.seconds(["convert", "binary1", source, made])}
+        figures["check"] = self.seconds(["check", made])
+        figures["same"] = self.seconds(["same", source, made])
+        if text is not None:
+            with open(source, "wb") as target:
+                target.write(text)
+            figures["convert a text"] = self.seconds(["convert", "binary1", source, made])
+        return figures
+
+
+def main():
+    program = os.path.abspath(sys.argv[1] if len(sys.argv) > 1 else "./plistconv")
+    slow, last = [], {}
+    print("| scalars | count | octets | run | seconds | times as long |")
+    print("|---|---|---|---|---|---|")
+    with tempfile.TemporaryDirectory() as folder:
+        tries = Tries(program, folder)
+        for kind, make in KINDS.items():
+            for count in COUNTS:
+                binary, text = make(count)
+                for run, seconds in tries.all(binary, text).items():
+                    before = last.get((kind, run))
+                    growth = max(seconds, LEAST) / max(before, LEAST) if before is not None else None
+                    if growth is not None and growth > 6:
+                        slow.append(f"{run} of {count:,} {kind} takes {growth:.1f} times as long as of a quarter")
+                    last[kind, run] = seconds
+                    print(f"| {kind} | {count:,} | {len(binary):,} | {run} | {seconds:.3f} "
+                          f"| {'' if growth is None else f'{growth:.1f}'} |", flush=True)
+    ratio = last["data", "convert"] / last["data that do not collide", "convert"]
+    print(f"data that collide take {ratio:.2f} times as long as data that do not")
+    if ratio > 1.5:
+        slow.append("data that collide take more than one and a half times as long")
+    for line in slow:
+        print(line)
+    sys.exit(1 if slow else 0)
+
+
+if __name__ == "__main__":
+    main()

@@ -1,0 +1,82 @@
+/* Tries what the header adds to the exported functions: names of refusals, versions, room that suffices, null pointers
+ * beside a count of 0, structures and numbers that are not initialised. Exits with the line of what does not hold. */
+#include <plistconv.h>
+#include <stdio.h>
+#include <string.h>
+
+#define MUST(holds) do { if (!(holds)) { fprintf(stderr, "header.c:%d: %s\n", __LINE__, #holds); return 1; } } while (0)
+
+static const struct { uint8_t number; const char *name; } names[] = {
+#include "names.h"
+};
+
+/* Whether the library prints the refusal under this name, in any unit that it has. */
+static int is_named(uint8_t number, const char *name) {
+    char wanted[80];
+    int count = snprintf(wanted, sizeof wanted, "x: refused %d %s", number, name);
+    for (uint8_t unit = PLISTCONV_NO_PLACE; unit <= PLISTCONV_SENT; unit++) {
+        plistconv_refusal refusal = {7, number, unit, 1};
+        if (unit == PLISTCONV_NO_PLACE) refusal.place = 0;
+        uint8_t line[80] = {0};
+        size_t length;
+        if (plistconv_line((const uint8_t *)"x", 1, &refusal, line, sizeof line, &length) != 0) continue;
+        return length <= sizeof line && memcmp(line, wanted, count) == 0 && (line[count] == 0 || line[count] == ' ');
+    }
+    return 0;
+}
+
+int main(void) {
+    static uint8_t into[4096];
+    size_t length, needed;
+    uint8_t equal;
+    plistconv_refusal refusal;
+    plistconv_finding finding;
+    MUST(plistconv_version() == PLISTCONV_VERSION_NUMBER);
+    for (size_t at = 0; at < sizeof names / sizeof *names; at++) {
+        if (!is_named(names[at].number, names[at].name)) {
+            fprintf(stderr, "header.c: %d is not %s\n", names[at].number, names[at].name);
+            return 1;
+        }
+    }
+
+    /* No octets are the empty dictionary, also behind a null pointer. */
+    MUST(plistconv_canonical(NULL, 0, NULL, NULL, 0, &needed, &refusal) == 0 && needed > 0);
+    MUST(plistconv_canonical(NULL, 0, NULL, into, sizeof into, &length, &refusal) == 0 && length == needed);
+    MUST(length <= PLISTCONV_FILE_ROOM(0, 1));
+    MUST(plistconv_same(NULL, 0, into, length, NULL, &equal, &refusal) == 0 && equal == 1);
+    MUST(plistconv_same(into, length, NULL, 0, NULL, &equal, &refusal) == 0 && equal == 1);
+    MUST(plistconv_check(into, length, NULL, &finding, &refusal) == 0 && finding.canonical == 1);
+    MUST(plistconv_check(NULL, 0, NULL, &finding, &refusal) == PLISTCONV_TOO_SHORT && finding.canonical == 0);
+    MUST(refusal.number == PLISTCONV_TOO_SHORT && refusal.unit == PLISTCONV_NO_PLACE && refusal.input == 1);
+    MUST(plistconv_line(NULL, 0, &refusal, NULL, 0, &length) == 0 && length == strlen(": refused 1 TooShort"));
+    MUST(plistconv_text(NULL, 0, NULL, 0, &length, &refusal) == 0 && length <= PLISTCONV_TEXT_ROOM(0, 1));
+
+    /* The greatest room for its nodes and payload: a list of three strings that are not ASCII. */
+    const uint8_t text[] = "(\"\\U00e9\", \"\\U00ea\", \"\\U00eb\")";
+    MUST(plistconv_canonical(text, sizeof text - 1, NULL, into, PLISTCONV_FILE_ROOM(6, 4), &length, &refusal) == 0);
+    MUST(length <= PLISTCONV_FILE_ROOM(6, 4));
+    MUST(plistconv_text(text, sizeof text - 1, NULL, 0, &length, &refusal) == 0 && length <= PLISTCONV_TEXT_ROOM(6, 4));
+
+    const uint8_t xml[] = "<?xml version='1.0'?>";
+    MUST(plistconv_canonical(xml, sizeof xml - 1, NULL, into, sizeof into, &length, &refusal) == PLISTCONV_XML_FORM);
+    MUST(length == 0 && refusal.unit == PLISTCONV_OCTET && refusal.place == 0);
+
+    /* A key of zeros is none, and no key changes what is answered. */
+    const uint8_t keys[2][PLISTCONV_HASH_KEY_OCTETS] = {{0}, {1, 2, 3}};
+    static uint8_t keyed[sizeof into];
+    MUST(plistconv_canonical(text, sizeof text - 1, NULL, into, sizeof into, &needed, &refusal) == 0);
+    for (int at = 0; at < 2; at++) {
+        MUST(plistconv_canonical(text, sizeof text - 1, keys[at], keyed, sizeof keyed, &length, &refusal) == 0);
+        MUST(length == needed && memcmp(keyed, into, length) == 0);
+        MUST(plistconv_same(text, sizeof text - 1, into, length, keys[at], &equal, &refusal) == 0 && equal == 1);
+        MUST(plistconv_check(into, length, keys[at], &finding, &refusal) == 0 && finding.canonical == 1);
+        MUST(plistconv_check(NULL, 0, keys[at], &finding, &refusal) == PLISTCONV_TOO_SHORT);
+    }
+
+    /* The functions have addresses. */
+    uint8_t (*call)(const uint8_t *, size_t, const uint8_t *, uint8_t *, size_t, size_t *, plistconv_refusal *) =
+        plistconv_canonical;
+    MUST(call(text, sizeof text - 1, NULL, NULL, 0, &length, &refusal) == 0 && length == needed);
+    puts("header: " PLISTCONV_VERSION);
+    return 0;
+}

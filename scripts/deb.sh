@@ -1,0 +1,98 @@
+#!/usr/bin/env bash
+# scripts/deb.sh FOLDER MULTIARCH: packs what `make deb` has installed into FOLDER/all as Debian packages, in the folder
+# above: plistconv (program, man page, completions, recipes), libplistconv1, libplistconv-dev and python3-plistconv.
+# VERSION, MAINTAINER and SOURCE_DATE_EPOCH are the environment's.
+set -euo pipefail
+umask 022
+cd "$1"
+multiarch=$2
+arch=$(dpkg --print-architecture)
+lib=usr/lib/$multiarch
+
+# (the oldest libc that has all that the file calls)
+libc() { objdump -T "$1" | grep -o 'GLIBC_[0-9.]*' | cut -c7- | sort -V | tail -n 1; }
+
+take() { # PACKAGE PATH..: moves what was installed into the package
+    local package=$1 path
+    shift
+    for path; do
+        mkdir -p "$package/$(dirname "$path")"
+        mv "all/$path" "$package/$path"
+    done
+}
+
+# What each package has beside its files.
+documents() { # PACKAGE
+    local folder=$1/usr/share/doc/$1
+    mkdir -p "$folder"
+    cat > "$folder/copyright" <<END
+Format: https://www.debian.org/doc/packaging-manuals/copyright-format/1.0/
+Upstream-Name: plistconv
+Upstream-Contact: $MAINTAINER
+
+Files: *
+Copyright: $(date -u -d "@$SOURCE_DATE_EPOCH" +%Y), $MAINTAINER
+License: none-yet
+ The owners have chosen no licence yet. Until they do, nobody but them has a
+ right to copy, change or hand on this software.
+END
+    gzip -n9 > "$folder/changelog.gz" <<END
+plistconv ($VERSION) unstable; urgency=medium
+
+  * Property lists in their canonical form, proved; the repository's log
+    tells what has changed.
+
+ -- $MAINTAINER  $(date -u -R -d "@$SOURCE_DATE_EPOCH")
+END
+}
+
+pack() { # PACKAGE SECTION ARCHITECTURE DEPENDS TEXT [FIELD..]: the text is the package's description, whose first line is its title
+    local package=$1
+    documents "$package"
+    mkdir -p "$package/DEBIAN"
+    {
+        printf '%s\n' "Package: $package" 'Source: plistconv' "Version: $VERSION" "Architecture: $3" "Section: $2" \
+            'Priority: optional' "Maintainer: $MAINTAINER" "Depends: $4" "${@:6}" \
+            "Installed-Size: $(du -k -s --apparent-size "$package" | cut -f 1)" "Description: $5"
+    } > "$package/DEBIAN/control"
+    (cd "$package" && find usr -type f -print0 | LC_ALL=C sort -z | xargs -0 md5sum > DEBIAN/md5sums)
+    chmod -R u+rwX,go+rX,go-w "$package"
+    dpkg-deb --root-owner-group --build "$package" "../${package}_${VERSION}_$3.deb"
+}
+
+strip --strip-unneeded --remove-section=.comment --remove-section=.note all/usr/bin/plistconv "all/$lib/libplistconv.so.1"
+strip --strip-debug --remove-section=.comment --enable-deterministic-archives "all/$lib/libplistconv.a"
+gzip -n9 all/usr/share/man/man1/plistconv.1
+
+take libplistconv1 "$lib/libplistconv.so.1"
+take libplistconv-dev "$lib/libplistconv.so" "$lib/libplistconv.a" "$lib/pkgconfig" usr/include/plistconv.h
+mkdir -p python3-plistconv/usr/lib/python3/dist-packages
+mv all/usr/share/plistconv/python/plistconv python3-plistconv/usr/lib/python3/dist-packages/plistconv
+rm -r all/usr/share/plistconv/python
+take plistconv usr/bin usr/share
+rmdir "all/$lib" all/usr/lib all/usr/include all/usr all # (nothing is left out)
+
+mkdir -p libplistconv1/DEBIAN
+echo "libplistconv 1 libplistconv1 (>= $VERSION)" > libplistconv1/DEBIAN/shlibs
+echo 'activate-noawait ldconfig' > libplistconv1/DEBIAN/triggers
+
+pack plistconv utils "$arch" "libc6 (>= $(libc plistconv/usr/bin/plistconv))" 'canonical form of Apple property lists
+ Gives each Apple property list, binary or OpenStep text, the one file that all
+ its spellings share, so that property lists can be compared, hashed and cached.
+ .
+ With recipes for git, caches, archives and bundles.' 'Suggests: git, python3, libplist-utils, python3-plistconv'
+pack libplistconv1 libs "$arch" "libc6 (>= $(libc "libplistconv1/$lib/libplistconv.so.1"))" 'canonical form of Apple property lists - library
+ Gives each Apple property list, binary or OpenStep text, the one file that all
+ its spellings share, so that property lists can be compared, hashed and cached.
+ .
+ This package holds the shared library.' 'Multi-Arch: same'
+pack libplistconv-dev libdevel "$arch" "libplistconv1 (= $VERSION)" 'canonical form of Apple property lists - development
+ Gives each Apple property list, binary or OpenStep text, the one file that all
+ its spellings share, so that property lists can be compared, hashed and cached.
+ .
+ This package holds the header, the static library and a file for pkg-config.' 'Multi-Arch: same'
+pack python3-plistconv python all "python3:any (>= 3.8), libplistconv1 (>= $VERSION)" 'canonical form of Apple property lists - Python module
+ Gives each Apple property list, binary or OpenStep text, the one file that all
+ its spellings share, so that property lists can be compared, hashed and cached.
+ .
+ This package holds the Python module.'

@@ -1,0 +1,170 @@
+#!/usr/bin/env bash
+# The gate: `make test`, which `.ci/run` is. First `rt ci`, which proves every crate from nothing, tries the edits that must
+# be refused, and runs the tests and the programs; then what stands around the proofs, over the program that `rt ci`
+# built. Each step prints a line, and its log if it fails. What needs a tool that is not here is skipped, and counted
+# as skipped. The last line is `N passed, M failed`, those of `rt ci` included; the status is 0 if M is 0.
+#
+# gate.sh            all
+# gate.sh --around   without `rt ci`: over ./plistconv, libplistconv.a and libplistconv.so, or the program and the folder
+#                    that PLISTCONV and PLISTCONV_LIBDIR name
+#
+# SEED is that of the random inputs, FUZZ for how many seconds they are tried.
+set -u
+cd "$(dirname "$0")/.." || exit 2
+unset MAKEFLAGS MFLAGS MAKELEVEL CDPATH GIT_DIR GIT_INDEX_FILE GIT_WORK_TREE
+export PYTHONDONTWRITEBYTECODE=1
+passed=0 failed=0 skipped=0
+rm -f out/gate.summary 2> /dev/null
+fuzz=${FUZZ:-60} seed=${SEED:-$(date +%s)}
+work=$(mktemp -d) || { echo '0 passed, 1 failed'; exit 1; }
+trap 'kill $(jobs -p) 2> /dev/null; rm -rf "$work"' EXIT
+trap 'exit 130' INT
+trap 'exit 143' TERM HUP
+if [ -z "${HOME:-}" ]; then
+    mkdir "$work/home"
+    export HOME=$work/home
+fi
+
+limited() { # SECONDS COMMAND..
+    if command -v timeout > /dev/null; then
+        timeout -k 10 "$@"
+    else
+        shift
+        "$@"
+    fi
+}
+
+# Whether a tool is here, and runs.
+works() { command -v "$1" > /dev/null && "$@" > /dev/null 2>&1; } # COMMAND WORD..
+
+told() { # STATUS LOG SECONDS NAME: counts a step that has ended
+    case $1 in
+        0) passed=$((passed + 1)); echo "gate: $4: passed ($3 s)" ;;
+        77) echo "gate: $4: skipped" ;;
+        *) failed=$((failed + 1)); echo "gate: $4: FAILED with status $1 ($3 s)"; sed 's/^/    /' "$2" ;;
+    esac
+    # (what a step left out for want of a tool)
+    grep -a 'skipped' "$2" | sed 's/^/    /'
+    local parts
+    parts=$(grep -ac 'skipped' "$2")
+    [ "$1" != 77 ] || [ "$parts" -gt 0 ] || parts=1
+    skipped=$((skipped + parts))
+}
+
+step() { # NAME SECONDS COMMAND..: runs one step
+    local name=$1 begin=$SECONDS status=0
+    limited "${@:2}" > "$work/log" 2>&1 < /dev/null || status=$?
+    told $status "$work/log" $((SECONDS - begin)) "$name"
+}
+
+# Starts a step beside the others; `ended NAME` waits for it.
+begun() { # NAME SECONDS COMMAND..
+    local name=$1
+    (
+        begin=$SECONDS status=0
+        limited "${@:2}" > "$work/$name.log" 2>&1 < /dev/null || status=$?
+        echo "$status $((SECONDS - begin))" > "$work/$name.ended"
+    ) &
+}
+ended() { # NAME
+    local status seconds
+    while [ ! -e "$work/$1.ended" ]; do
+        jobs -r | grep -q . || { echo '1 0' > "$work/$1.ended"; break; }
+        sleep 0.2
+    done
+    read -r status seconds < "$work/$1.ended"
+    told "$status" "$work/$1.log" "$seconds" "$1"
+    return "$status"
+}
+
+needs() { # TOOL..: for `step`, a command that is skipped
+    local tool
+    for tool; do
+        works "$tool" --version || { echo "skipped: there is no $tool"; return 77; }
+    done
+}
+
+proofs() {
+    local line
+    "${RT:-rt}" ci 2>&1 | tee "$work/log"
+    local status=${PIPESTATUS[0]}
+    line=$(tail -n 1 "$work/log")
+    if [[ $line =~ ^([0-9]+)\ passed,\ ([0-9]+)\ failed$ ]]; then
+        passed=$((passed + BASH_REMATCH[1])) failed=$((failed + BASH_REMATCH[2]))
+        [ "$status" -eq 0 ] || [ "${BASH_REMATCH[2]}" -gt 0 ] || failed=$((failed + 1))
+    else
+        failed=$((failed + 1))
+        echo "gate: rt ci ended with status $status and no count"
+    fi
+}
+
+# The C library over what `rt ci` proved: it leaves the crates below as libraries, and no archive.
+library() { # FOLDER
+    needs python3 "${CC:-cc}" ld objcopy ar || return
+    mkdir "$1" || return
+    python3 scripts/static_library.py "$1/libplistconv_c.a" || return
+    local libc
+    libc=$(dirname "$(dirname "$(realpath "$(command -v "${RT:-rt}")")")")/c/liblibc_c.a
+    scripts/link-library.sh "$1/libplistconv_c.a" "$libc" "$1/libplistconv.a" &&
+        scripts/link-library.sh "$1/libplistconv_c.a" "$libc" "$1/libplistconv.so"
+}
+
+fuzzed() {
+    needs python3 || return
+    echo "seed $seed"
+    # (what differs is kept in the folder fuzz-differences)
+    python3 fuzz/fuzz.py "$PLISTCONV" --seconds "$fuzz" --seed "$seed"
+}
+export -f library needs works fuzzed
+export work fuzz seed
+
+if [ "${1:-}" = --around ]; then
+    program=${PLISTCONV:-./plistconv} libraries=${PLISTCONV_LIBDIR:-.}
+else
+    proofs
+    program=crates/plistconv/out/plistconv libraries=
+fi
+
+if [ -x "$program" ]; then
+    begin=$SECONDS
+    PLISTCONV=$(realpath "$program")
+    export PLISTCONV
+    begun fuzz $((fuzz + 600)) bash -c fuzzed
+    export PLISTCONV_LIBDIR=$work/libraries
+    if [ -n "$libraries" ]; then
+        PLISTCONV_LIBDIR=$(realpath "$libraries")
+    else
+        begun library 1500 bash -c 'library "$PLISTCONV_LIBDIR"'
+    fi
+
+    step 'stale edits' 900 bash -c 'needs python3 && scripts/stale_edits.py'
+    step 'names in the pages' 900 bash -c 'needs python3 && scripts/docs.py'
+    step 'rows against the second reading' 900 bash -c 'needs python3 && python3 fuzz/rows.py'
+    step README 900 recipes/readme
+    step recipes 900 recipes/test
+    step 'words that are not UTF-8' 900 scripts/words.sh
+    step completions 900 completions/test
+    step 'limits of texts' 900 bash -c 'needs python3 && scripts/limits.py "$PLISTCONV"'
+    # (it prints its seed, so that a difference can be made again)
+    ended fuzz
+    echo "    seed $seed"
+    is_built=yes
+    [ -n "$libraries" ] || ended library || is_built=
+    if [ "$is_built" ]; then
+        step growths 900 bash -c 'needs python3 cc &&
+            python3 bench/growths.py "$PLISTCONV" --short --library "$PLISTCONV_LIBDIR/libplistconv.a"'
+        for part in exports c c++ python rust go; do step "examples, $part" 900 examples/test $part; done
+        for part in install manual dist deb; do step "new user, $part" 900 scripts/new-user.sh $part; done
+    else
+        echo 'gate: growths of check, examples, packages: skipped, there is no C library'
+        skipped=$((skipped + 11))
+        step growths 900 bash -c 'needs python3 cc && python3 bench/growths.py "$PLISTCONV" --short'
+    fi
+    echo "gate: $skipped skipped; what stands around the proofs took $((SECONDS - begin)) s"
+else
+    failed=$((failed + 1))
+    echo "gate: there is no program $program, so nothing around the proofs was tried"
+fi
+mkdir -p out
+echo "$passed passed, $failed failed" | tee out/gate.summary 2> /dev/null
+[ $failed -eq 0 ]
