@@ -7,6 +7,8 @@ pub mod ValueFronts
 pub mod Scaling
 pub mod Steps
 pub mod Deciding
+pub mod Calendar
+pub mod DateFronts
 pub mod PrintSteps
 pub mod Enclosing
 pub mod Turns

@@ -4,6 +4,7 @@ use Rattle.std.specs.Prelude.{codes, negsuc}
 use Rattle.plist_value.specs.Plist.{text, whole, flag, real4, real8, moment, bytes, scalar, list, table, no_items, item, no_pairs, pair}
 use Rattle.plist_print.specs.Units.{printed_unit}
 use Rattle.plist_print.specs.Reals.{value_of, decimal_of}
+use Rattle.plist_print.specs.Dates.{days_before, days_of_months, year_of, month_of, printed_day, printed_month, printed_time, printed_moment, second_of}
 use Rattle.plist_print.specs.Printed.{printed}
 use Rattle.std.specs.Fmt.{digits}
 use Rattle.std.specs.Char.{encode_utf8}
@@ -38,9 +39,71 @@ pub printed_least : printed (scalar (real8 (0 ∷ 0 ∷ 0 ∷ 0 ∷ 0 ∷ 0 ∷ 
 unfolding decimal_of
 printed_least = refl
 
-pub printed_date : printed (scalar (moment (0x41 ∷ 0xc7 ∷ 0x68 ∷ 0xf4 ∷ 0xe7 ∷ 0 ∷ 0 ∷ 0 ∷ []))) ≡ codes "date 785508814.0\n"
-unfolding decimal_of value_of digits
+pub printed_date : printed (scalar (moment (0x41 ∷ 0xc7 ∷ 0x69 ∷ 0x26 ∷ 0x37 ∷ 0 ∷ 0 ∷ 0 ∷ []))) ≡ codes "date 785534062.0 (2025-11-22T19:54:22Z)\n"
+unfolding decimal_of value_of digits second_of printed_moment printed_day printed_month printed_time year_of month_of days_of_months
 printed_date = refl
+
+pub printed_date_below_zero : printed (scalar (moment (0x80 ∷ 0 ∷ 0 ∷ 0 ∷ 0 ∷ 0 ∷ 0 ∷ 0 ∷ []))) ≡ codes "date -0.0 (2001-01-01T00:00:00Z)\n"
+unfolding decimal_of value_of digits second_of printed_moment printed_day printed_month printed_time year_of month_of days_of_months
+printed_date_below_zero = refl
+
+-- no whole second
+pub printed_date_half : printed (scalar (moment (0x3f ∷ 0xe0 ∷ 0 ∷ 0 ∷ 0 ∷ 0 ∷ 0 ∷ 0 ∷ []))) ≡ codes "date 0.5\n"
+unfolding decimal_of value_of digits second_of printed_moment printed_day printed_month printed_time year_of month_of days_of_months
+printed_date_half = refl
+
+-- the first and the last moment that are in brackets, and the seconds before and behind them
+pub printed_date_first : printed (scalar (moment (0xc2 ∷ 0x2d ∷ 0x63 ∷ 0xc3 ∷ 0x7f ∷ 0 ∷ 0 ∷ 0 ∷ []))) ≡ codes "date -63113904000.0 (0001-01-01T00:00:00Z)\n"
+unfolding decimal_of value_of digits second_of printed_moment printed_day printed_month printed_time year_of month_of days_of_months
+printed_date_first = refl
+
+pub printed_date_before : printed (scalar (moment (0xc2 ∷ 0x2d ∷ 0x63 ∷ 0xc3 ∷ 0x7f ∷ 0x02 ∷ 0 ∷ 0 ∷ []))) ≡ codes "date -63113904001.0\n"
+unfolding decimal_of value_of digits second_of printed_moment printed_day printed_month printed_time year_of month_of days_of_months
+printed_date_before = refl
+
+pub printed_date_last : printed (scalar (moment (0x42 ∷ 0x4d ∷ 0x62 ∷ 0xd2 ∷ 0x3c ∷ 0x7f ∷ 0x80 ∷ 0 ∷ []))) ≡ codes "date 252423993599.0 (9999-12-31T23:59:59Z)\n"
+unfolding decimal_of value_of digits second_of printed_moment printed_day printed_month printed_time year_of month_of days_of_months
+printed_date_last = refl
+
+pub printed_date_behind : printed (scalar (moment (0x42 ∷ 0x4d ∷ 0x62 ∷ 0xd2 ∷ 0x3c ∷ 0x80 ∷ 0 ∷ 0 ∷ []))) ≡ codes "date 252423993600.0\n"
+unfolding decimal_of value_of digits second_of printed_moment printed_day printed_month printed_time year_of month_of days_of_months
+printed_date_behind = refl
+
+pub printed_date_far : printed (scalar (moment (0x7e ∷ 0x37 ∷ 0xe4 ∷ 0x3c ∷ 0x88 ∷ 0 ∷ 0x75 ∷ 0x9c ∷ []))) ≡ codes "date real <7e37e43c8800759c>\n"
+unfolding decimal_of value_of digits second_of printed_moment printed_day printed_month printed_time year_of month_of days_of_months
+printed_date_far = refl
+
+-- days of the calendar, counted from 0 for 0001-01-01
+pub first_of_2001 : days_before 2001 ≡ 730485
+first_of_2001 = refl
+
+pub leap_century : printed_day 730178 ≡ codes "2000-02-29"
+unfolding printed_day printed_month year_of month_of days_of_months
+leap_century = refl
+
+pub century : printed_day 693653 ≡ codes "1900-02-28"
+unfolding printed_day printed_month year_of month_of days_of_months
+century = refl
+
+pub after_century : printed_day 693654 ≡ codes "1900-03-01"
+unfolding printed_day printed_month year_of month_of days_of_months
+after_century = refl
+
+pub leap_day : printed_day 738944 ≡ codes "2024-02-29"
+unfolding printed_day printed_month year_of month_of days_of_months
+leap_day = refl
+
+pub year_end : printed_day 738884 ≡ codes "2023-12-31"
+unfolding printed_day printed_month year_of month_of days_of_months
+year_end = refl
+
+pub year_begin : printed_day 738885 ≡ codes "2024-01-01"
+unfolding printed_day printed_month year_of month_of days_of_months
+year_begin = refl
+
+pub leap_year_end : printed_day 739250 ≡ codes "2024-12-31"
+unfolding printed_day printed_month year_of month_of days_of_months
+leap_year_end = refl
 
 pub printed_escapes : printed (scalar (text (34 ∷ 92 ∷ 10 ∷ 9 ∷ 13 ∷ 7 ∷ 126 ∷ 127 ∷ []))) ≡ codes "\"\\\"\\\\\\n\\t\\r\\U0007~\\U007f\"\n"
 unfolding printed_unit encode_utf8

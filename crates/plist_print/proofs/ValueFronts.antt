@@ -9,9 +9,11 @@ use Rattle.std.proofs.lemmas.Int.{ints}
 use Rattle.plist_value.specs.Plist.{Scalar, text, whole, flag, real4, real8, moment, bytes, Plist, scalar, list, table, Items, no_items, item, Pairs, no_pairs, pair, AreOctets, IsScalar, IsWhole, IsPlist, AreItems, ArePairs}
 use Rattle.plist_print.specs.Units.{two_digits, printed_units, printed_text}
 use Rattle.plist_print.specs.Reals.{Format, single, double, printed_real}
+use Rattle.plist_print.specs.Dates.{printed_date}
 use Rattle.plist_print.specs.Printed.{printed_scalar, indent, printed_at, printed_items, printed_pairs}
 use Rattle.plist_print.proofs.Fronts.{head_of, tail_of, heads, tails, EndsDigits, digits-front, kind_of_head, digits-kind}
 use Rattle.plist_print.proofs.UnitFronts.{units-front, data-front}
+use Rattle.plist_print.proofs.DateFronts.{date-front}
 use Rattle.plist_print.proofs.RealFronts.{single-format, double-format, real-front, reals-part, real-kind, real-whole}
 
 -- the digits of a whole number, or of its size
@@ -123,8 +125,7 @@ scalar-front (whole z) (real8 ys) r s h k same = absurd (no-whole double z ys r 
 scalar-front (real4 xs) (whole z) r s h k same = absurd (no-whole single z xs s (102 ∷ 10 ∷ r) k h.octets (sym same ∙ line-4 xs (10 ∷ r)))
 scalar-front (real8 xs) (whole z) r s h k same = absurd (no-whole double z xs s (10 ∷ r) k h.octets (sym same))
 scalar-front (moment xs) (moment ys) r s h k same =
-    let both = real-front double xs ys 10 10 r s double-format h k (omega arith) (omega arith) (append_cancel_left (codes "date ") (printed_real double xs ++ (10 ∷ r)) (printed_real double ys ++ (10 ∷ s)) same) in
-    (ap moment both.0, tails 10 10 r s both.1)
+    let both = date-front xs ys r s h k (append_cancel_left (codes "date ") (printed_date xs ++ (10 ∷ r)) (printed_date ys ++ (10 ∷ s)) same) in (ap moment both.0, both.1)
 scalar-front (bytes xs) (bytes ys) r s h k same =
     let both = bytes-front xs ys (10 ∷ r) (10 ∷ s) h k same in (ap bytes both.0, tails 10 10 r s both.1)
 scalar-front v w r s h k same = apart v w r s h k same (λ e. omega arith)

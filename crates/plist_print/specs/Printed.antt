@@ -4,6 +4,7 @@ use Rattle.std.specs.Fmt.{signed_decimal}
 use Rattle.plist_value.specs.Plist.{Scalar, text, whole, flag, real4, real8, moment, bytes, Plist, scalar, list, table, Items, no_items, item, Pairs, no_pairs, pair}
 use Rattle.plist_print.specs.Units.{printed_data, printed_text}
 use Rattle.plist_print.specs.Reals.{single, double, printed_real}
+use Rattle.plist_print.specs.Dates.{printed_date}
 
 abbrev pub printed_flag : Bool → List ℕ
 printed_flag true = codes "true"
@@ -15,7 +16,7 @@ printed_scalar (whole z) = signed_decimal z
 printed_scalar (flag b) = printed_flag b
 printed_scalar (real4 xs) = printed_real single xs ++ codes "f"
 printed_scalar (real8 xs) = printed_real double xs
-printed_scalar (moment xs) = codes "date " ++ printed_real double xs
+printed_scalar (moment xs) = codes "date " ++ printed_date xs
 printed_scalar (bytes xs) = printed_data xs
 
 -- two blanks for each level

@@ -22,3 +22,10 @@ pub(crate) struct Neighbours {
     ghost above_small: { above ≤ 2 ^ 55 },
     ghost below_small: { below ≤ 2 ^ 54 },
 }
+
+// Month and day of the month, each counted from 1.
+#[derive(Clone, Copy)]
+pub(crate) struct DayOfMonth {
+    pub(crate) month: u64,
+    pub(crate) day: u64,
+}

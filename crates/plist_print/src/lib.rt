@@ -3,6 +3,7 @@
 //! of the value that a binary file spells.
 #![tactic(auto)]
 
+mod dates;
 mod heads;
 mod kept;
 pub mod laws;

@@ -8,6 +8,7 @@ ghost use Rattle.plist_print.specs.Units.{printed_data, printed_text, printed_un
 ghost use Rattle.plist_print.specs.Printed.{printed_scalar};
 ghost use Rattle.plist_print.specs.Shown.{is_short};
 
+use crate::dates::put_date;
 use crate::reals::{put_double, put_single};
 use crate::texts::{put_chunk, put_unit};
 use itoa::Buffer;
@@ -77,7 +78,7 @@ fn put_short(out: &mut Vec<u8>, scalar: &ScalarRef) -> Result<(), AllocError>
         ScalarRef::Real8(octets) => put_double(out, octets),
         ScalarRef::Moment(octets) => {
             out.extend_from_slice(b"date ")?;
-            put_double(out, octets)
+            put_date(out, octets)
         }
         ScalarRef::Text(_) | ScalarRef::Bytes(_) => unreachable!(),
     }

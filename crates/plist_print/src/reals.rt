@@ -106,7 +106,7 @@ fn zero() -> Decimal
 }
 
 // The decimal of a real of eight octets, without its sign.
-fn decimal_of_double(bits: u64) -> Option<Decimal>
+pub(crate) fn decimal_of_double(bits: u64) -> Option<Decimal>
     ensures { option_map decimal_in result ≡ decimal_of double bits }
 {
     if bits == 0 {
@@ -226,7 +226,11 @@ fn put_decimal(out: &mut Vec<u8>, decimal: Decimal) -> Result<(), AllocError>
 }
 
 // The last decimal digits of the number, so many.
-fn put_last_digits(out: &mut Vec<u8>, number: u128, digits: u32) -> Result<(), AllocError>
+pub(crate) fn put_last_digits(
+    out: &mut Vec<u8>,
+    number: u128,
+    digits: u32,
+) -> Result<(), AllocError>
     requires { digits ≤ 21 }
     ensures { OnOk result (out.new.items ≡ out.old.items ++ last_digits digits number) }
 {

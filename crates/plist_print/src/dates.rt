@@ -1,0 +1,193 @@
+//! Dates as they are printed: the seconds since 2001 and, in brackets, the moment in UTC.
+ghost use Rattle.std.specs.Prelude.{◌≡◌, ◌+◌, ◌-◌, ◌*◌, ◌<◌, ◌≤◌, ◌++◌, ◌%◌, IfSome, OnOk, Some};
+ghost use Rattle.std.specs.Option.{option_map};
+ghost use Rattle.plist_print.specs.Dates.{is_leap, days_in_month, days_of_months, days_before};
+ghost use Rattle.plist_print.specs.Dates.{year_of, month_of, printed_month, printed_day};
+ghost use Rattle.plist_print.specs.Dates.{printed_time, printed_moment, second_at, whole_second};
+ghost use Rattle.plist_print.specs.Dates.{until_10000, second_of, in_brackets, printed_date};
+ghost use Rattle.plist_print.specs.Shown.{decimal_in};
+
+use crate::kept::{DayOfMonth, Decimal};
+use crate::reals::{decimal_of_double, put_double, put_last_digits};
+use byteorder::{BigEndian, ByteOrder};
+use std::alloc::AllocError;
+
+// Seconds of a day, and from 0001-01-01T00:00:00Z to 2001-01-01T00:00:00Z and to 10000-01-01T00:00:00Z.
+const DAY: u64 = 86_400;
+
+const UNTIL_2001: u64 = 63_113_904_000;
+
+const UNTIL_10000: u64 = 315_537_897_600;
+
+/// Appends the seconds of a date, and the moment in brackets if it has one.
+pub(crate) fn put_date(out: &mut Vec<u8>, octets: &[u8; 8]) -> Result<(), AllocError>
+    ensures { OnOk result (out.new.items ≡ out.old.items ++ printed_date octets.now) }
+{
+    put_double(out, octets)?;
+    put_brackets(out, octets)
+}
+
+// Appends the moment in brackets, if the date is a whole second of the years 1 to 9999.
+fn put_brackets(out: &mut Vec<u8>, octets: &[u8; 8]) -> Result<(), AllocError>
+    ensures { OnOk result (out.new.items ≡ out.old.items ++ in_brackets (second_of octets.now)) }
+{
+    let Some(second) = second_of(octets) else {
+        return Ok(());
+    };
+    out.extend_from_slice(b" (")?;
+    put_moment(out, second)?;
+    Ok(out.push(b')')?)
+}
+
+// The seconds from 0001-01-01T00:00:00Z to a date, if they are whole and it lies in the years 1 to 9999.
+fn second_of(octets: &[u8; 8]) -> Option<u64>
+    ensures value { result ≡ second_of octets.now }
+    ensures within { IfSome result (λ second. second < until_10000) }
+{
+    let bits = BigEndian::read_u64(octets);
+    let decimal = decimal_of_double(bits % 0x8000_0000_0000_0000)?;
+    whole_second(bits >= 0x8000_0000_0000_0000, decimal)
+}
+
+// The same, from the sign and the decimal of the date.
+fn whole_second(negative: bool, decimal: Decimal) -> Option<u64>
+    ensures value { result ≡ whole_second negative (Some (decimal_in decimal)) }
+    ensures within { IfSome result (λ second. second < until_10000) }
+{
+    if decimal.digits == 1 && decimal.numerator % 10 == 0 {
+        second_at(negative, decimal.numerator / 10)
+    } else {
+        None
+    }
+}
+
+// The same, from the whole seconds before 2001, or since.
+fn second_at(negative: bool, seconds: u128) -> Option<u64>
+    ensures value { result ≡ second_at negative seconds }
+    ensures within { IfSome result (λ second. second < until_10000) }
+{
+    if seconds > u128::from(UNTIL_10000) {
+        return None;
+    }
+    let seconds = seconds as u64;
+    if negative {
+        return UNTIL_2001.checked_sub(seconds);
+    }
+    let second = UNTIL_2001 + seconds;
+    if second < UNTIL_10000 {
+        Some(second)
+    } else {
+        None
+    }
+}
+
+// Appends the moment this many seconds after 0001-01-01T00:00:00Z.
+#[tactic(auto, unfolding(crate::specs::Dates::printed_moment))]
+fn put_moment(out: &mut Vec<u8>, second: u64) -> Result<(), AllocError>
+    requires { second < until_10000 }
+    ensures { OnOk result (out.new.items ≡ out.old.items ++ printed_moment second) }
+{
+    put_day(out, second / DAY)?;
+    out.push(b'T')?;
+    put_time(out, second % DAY)?;
+    Ok(out.push(b'Z')?)
+}
+
+// Appends a date, given as its number of days since 0001-01-01.
+#[tactic(auto, unfolding(crate::specs::Dates::printed_day))]
+fn put_day(out: &mut Vec<u8>, day: u64) -> Result<(), AllocError>
+    requires { day < days_before 10_000 }
+    ensures { OnOk result (out.new.items ≡ out.old.items ++ printed_day day) }
+{
+    let year = year_of(day);
+    put_last_digits(out, u128::from(year), 4)?;
+    out.push(b'-')?;
+    put_month(out, year, day - days_before(year))
+}
+
+// The year of that day.
+fn year_of(day: u64) -> u64
+    requires { day < days_before 10_000 }
+    ensures value { result ≡ year_of day }
+    ensures some { 1 ≤ result }
+    ensures most { result ≤ 9_999 }
+    ensures begun { days_before result ≤ day }
+    ensures lasts { day < days_before (result + 1) }
+{
+    let mut year = day / 366 + 1;
+    while days_before(year + 1) <= day {
+        year += 1;
+    }
+    year
+}
+
+// How many days the years have from 1 to the one before this.
+fn days_before(year: u64) -> u64
+    requires some { 1 ≤ year }
+    requires most { year ≤ 10_000 }
+    ensures { result ≡ days_before year }
+{
+    let years = year - 1;
+    365 * years + years / 4 - years / 100 + years / 400
+}
+
+// Appends month and day of the month, given the number of days since 1 January.
+#[tactic(auto, unfolding(crate::specs::Dates::printed_month))]
+fn put_month(out: &mut Vec<u8>, year: u64, day: u64) -> Result<(), AllocError>
+    requires { day < days_of_months year 12 }
+    ensures { OnOk result (out.new.items ≡ out.old.items ++ printed_month year day) }
+{
+    let found = day_of_month(year, day);
+    put_last_digits(out, u128::from(found.month), 2)?;
+    out.push(b'-')?;
+    put_last_digits(out, u128::from(found.day), 2)
+}
+
+fn day_of_month(year: u64, day: u64) -> DayOfMonth
+    requires { day < days_of_months year 12 }
+    ensures month { result.month ≡ month_of year day }
+    ensures day { result.day ≡ day - days_of_months year (month_of year day - 1) + 1 }
+{
+    let mut month = 1;
+    let mut left = day;
+    while left >= days_in_month(year, month) {
+        left -= days_in_month(year, month);
+        month += 1;
+    }
+    DayOfMonth {
+        month,
+        day: left + 1,
+    }
+}
+
+fn days_in_month(year: u64, month: u64) -> u64
+    ensures value { result ≡ days_in_month year month }
+    ensures some { 28 ≤ result }
+    ensures most { result ≤ 31 }
+{
+    match month {
+        2 if is_leap(year) => 29,
+        2 => 28,
+        4 | 6 | 9 | 11 => 30,
+        _ => 31,
+    }
+}
+
+fn is_leap(year: u64) -> bool
+    ensures { result ≡ is_leap year }
+{
+    year % 4 == 0 && (year % 100 != 0 || year % 400 == 0)
+}
+
+// Appends the time of day.
+#[tactic(auto, unfolding(crate::specs::Dates::printed_time))]
+fn put_time(out: &mut Vec<u8>, second: u64) -> Result<(), AllocError>
+    requires { second < 86_400 }
+    ensures { OnOk result (out.new.items ≡ out.old.items ++ printed_time second) }
+{
+    put_last_digits(out, u128::from(second / 3600), 2)?;
+    out.push(b':')?;
+    put_last_digits(out, u128::from(second / 60 % 60), 2)?;
+    out.push(b':')?;
+    put_last_digits(out, u128::from(second % 60), 2)
+}
