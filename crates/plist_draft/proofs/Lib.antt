@@ -1,0 +1,5 @@
+pub mod Telling
+pub mod Storing
+pub mod Files
+pub mod Finishing
+mod Rows

@@ -1,0 +1,28 @@
+use Rattle.std.proofs.Common.{◌≡◌, ◌∙◌, ◌++◌, ◌∷◌, [], length}
+use Rattle.plist_object.specs.Objects.{holds_list}
+use Rattle.plist_draft.proofs.Storing.{PutsHeld, puts_held, spells-list}
+use Rattle.plist_draft.proofs.draft.Draft.put_list.Goals as goal
+use Rattle.plist_draft.proofs.draft.Draft.put_list.Goals.{After-push_reserved}
+
+puts : (c : After-push_reserved) → PutsHeld c.args.self.now.octets.items c.args.self.now.places.items c.put_short_list.new.out.items c.push_reserved.new.self.items (holds_list c.args.items.now)
+puts c =
+    let placed : c.push_reserved.new.self.items ≡ c.args.self.now.places.items ++ (length c.args.self.now.octets.items ∷ []) = cc (c.push_reserved.ensures.items, c.begin.ensures.places, c.in_ok-number.ensures.place) in
+    let spelled = rw c.begin.ensures.octets at c.in_ok-put_short_list.ensures.ok in
+    puts_held _ _ _ _ (holds_list c.args.items.now) c.args.self.now.laid c.in_ok-are_kept.ensures spelled placed
+
+pub invariant_of-self-2 : goal.invariant_of-self-2
+invariant_of-self-2 c = record { laid = (puts (goal.at.invariant_of-self-2 c).After-push_reserved).stored }
+
+pub returns-clause-number : goal.returns-clause-number
+returns-clause-number c =
+    c.in_ok-number.ensures.next ∙ (puts (goal.at.returns-clause-number c).After-push_reserved).number
+
+pub returns-clause-put : goal.returns-clause-put
+returns-clause-put c = (puts (goal.at.returns-clause-put c).After-push_reserved).put
+
+pub returns-clause-spells : goal.returns-clause-spells
+returns-clause-spells c =
+    λ vs told. spells-list _ _ _ _ c.in_ok-number.number c.in_ok-number.ensures.next c.args.items.now vs (puts (goal.at.returns-clause-spells c).After-push_reserved) told
+
+pub returns-clause-kept : goal.returns-clause-kept
+returns-clause-kept c = (puts (goal.at.returns-clause-kept c).After-push_reserved).keeps

@@ -1,0 +1,11 @@
+pub use Rattle.plist_value.specs.Plist
+pub use Rattle.plist_value.specs.Limits
+pub use Rattle.plist_value.specs.Scalars
+pub use Rattle.plist_object.specs.Objects
+pub use Rattle.plist_object.specs.Spelled
+pub mod Files
+pub mod Stored
+pub mod Proofs
+pub mod Told
+pub mod View
+pub mod Laws

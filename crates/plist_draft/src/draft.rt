@@ -1,0 +1,183 @@
+//! A binary file that grows.
+ghost use Rattle.std.specs.Prelude.{◌≡◌, ◌+◌, ◌<◌, ◌≤◌, ◌^◌, ◌++◌, ◌∷◌, []};
+ghost use Rattle.std.specs.Prelude.{ℕ, List, length, vec_len, vec_capacity};
+ghost use Rattle.std.specs.Prelude.{IfOk, OnOk, OnErr};
+ghost use Rattle.std.specs.List.{zip};
+ghost use Rattle.std.specs.List.Sorted.{IsPermutation};
+ghost use Rattle.plist_value.specs.Plist.{Plist, Items, Pairs, IsPlist, IsScalar};
+ghost use Rattle.plist_value.specs.Plist.{scalar as one_scalar, list, table};
+ghost use Rattle.plist_value.specs.Limits.{Fits};
+ghost use Rattle.plist_value.specs.Scalars.{content_of};
+ghost use Rattle.plist_object.specs.Objects.{holds_scalar, holds_list, holds_table};
+ghost use Rattle.plist_object.specs.Sizes.{IsSmall};
+ghost use Rattle.plist_object.specs.Spelled.{IsBinary};
+ghost use Rattle.plist_draft.specs.Stored.{AreKept, IsDraft, draft_file};
+ghost use Rattle.plist_draft.specs.Proofs.{IsDraft-prop};
+ghost use Rattle.plist_draft.specs.Told.{SpellsIn, SpellItemsIn, SpellPairsIn, Keeps};
+
+use crate::ends::{are_octets, put_places, put_trailer};
+use plist_object::{HEADER, put_scalar, put_short_list, put_short_table};
+use plist_value::ScalarRef;
+use std::alloc::{AllocError, Global};
+
+/// The header of a binary file and objects behind it, each reference in four octets. Objects are numbered from 0 in
+/// the order in which they are put, so an object is put behind those that it refers to.
+#[derive(Drop)]
+pub struct Draft {
+    octets: Vec<u8>,
+    places: Vec<u32>,
+    ghost laid: { IsDraft octets.items places.items } by { IsDraft-prop octets.items places.items },
+}
+
+impl Draft {
+    ghost use Rattle.plist_draft.specs.View.{objects};
+
+    /// A draft without objects.
+    ///
+    /// # Errors
+    ///
+    /// Where there is no memory for the header.
+    pub fn new(alloc: Global) -> Result<Draft, AllocError>
+        ensures { IfOk result (λ draft. objects draft ≡ []) }
+    {
+        let octets = Vec::from_slice(alloc, &HEADER)?;
+        Ok(Draft {
+            octets,
+            places: Vec::new(alloc),
+        })
+    }
+
+    /// Puts a scalar behind the objects, and answers its number.
+    ///
+    /// # Errors
+    ///
+    /// Where there is no memory, or where there are 2^32 objects, or octets of them, or units or octets of the scalar.
+    /// The draft is then as it was.
+    pub fn put_scalar(&mut self, scalar: &ScalarRef) -> Result<u32, AllocError>
+        requires { IsScalar (content_of scalar.now) }
+        ensures number { IfOk result (λ number. number ≡ length (objects self.old)) }
+        ensures put { OnOk result
+            (objects self.new ≡ objects self.old ++ (holds_scalar (content_of scalar.now) ∷ [])) }
+        ensures spells { IfOk result (λ number.
+            SpellsIn (objects self.new) number (one_scalar (content_of scalar.now))) }
+        ensures kept { Keeps (objects self.old) (objects self.new) }
+        ensures refused { OnErr result (objects self.new ≡ objects self.old) }
+    {
+        is_small(scalar)?;
+        let (number, place) = self.begin()?;
+        put_scalar(&mut self.octets, scalar)?;
+        self.places.push_reserved(place);
+        Ok(number)
+    }
+
+    /// Puts a list of the objects with these numbers behind the objects, and answers its number.
+    ///
+    /// # Errors
+    ///
+    /// Where there is no memory, or where there are 2^32 objects, or octets of them, or items. The draft is then as it
+    /// was.
+    pub fn put_list(&mut self, items: &[u32]) -> Result<u32, AllocError>
+        ensures number { IfOk result (λ number. number ≡ length (objects self.old)) }
+        ensures put { OnOk result
+            (objects self.new ≡ objects self.old ++ (holds_list items.now ∷ [])) }
+        ensures spells { IfOk result (λ number. (vs : Items)
+            → SpellItemsIn (objects self.old) items.now vs
+            → SpellsIn (objects self.new) number (list vs)) }
+        ensures kept { Keeps (objects self.old) (objects self.new) }
+        ensures refused { OnErr result (objects self.new ≡ objects self.old) }
+    {
+        are_kept(items)?;
+        let (number, place) = self.begin()?;
+        put_short_list(&mut self.octets, 4, items)?;
+        self.places.push_reserved(place);
+        Ok(number)
+    }
+
+    /// Puts a table behind the objects, and answers its number. Its keys and its values are the objects with these
+    /// numbers, as many of the one as of the other: key k goes with value k.
+    ///
+    /// # Errors
+    ///
+    /// Where there is no memory, or where there are 2^32 objects, or octets of them, or keys. The draft is then as it
+    /// was.
+    pub fn put_table(&mut self, keys: &[u32], values: &[u32]) -> Result<u32, AllocError>
+        requires { length keys.now ≡ length values.now }
+        ensures number { IfOk result (λ number. number ≡ length (objects self.old)) }
+        ensures put { OnOk result
+            (objects self.new ≡ objects self.old ++ (holds_table keys.now values.now ∷ [])) }
+        ensures spells { IfOk result (λ number. (rows : List (ℕ × ℕ)) (ps : Pairs)
+            → IsPermutation (zip keys.now values.now) rows
+            → SpellPairsIn (objects self.old) rows ps
+            → SpellsIn (objects self.new) number (table ps)) }
+        ensures kept { Keeps (objects self.old) (objects self.new) }
+        ensures refused { OnErr result (objects self.new ≡ objects self.old) }
+    {
+        are_kept(keys)?;
+        are_kept(values)?;
+        let (number, place) = self.begin()?;
+        put_short_table(&mut self.octets, 4, keys, values)?;
+        self.places.push_reserved(place);
+        Ok(number)
+    }
+
+    /// The binary file of the objects, with this one at its top.
+    ///
+    /// # Errors
+    ///
+    /// Where there is no memory for the offset table and the trailer.
+    pub fn finish(self, top: u32) -> Result<Vec<u8>, AllocError>
+        ensures file { IfOk result (λ octets. octets.items ≡ draft_file top (objects self)) }
+        ensures spells { IfOk result (λ octets. (v : Plist) → IsPlist v → Fits v
+            → SpellsIn (objects self) top v → IsBinary octets.items v) }
+    {
+        let Draft { mut octets, places } = self;
+        let count = places.len() as u64;
+        let place = octets.len() as u64;
+        octets.reserve_exact(4 * places.len() + 32)?;
+        put_places(&mut octets, &places)?;
+        put_trailer(&mut octets, count, u64::from(top), place)?;
+        are_octets(&octets);
+        Ok(octets)
+    }
+
+    // The number and the place of the next object, and room for the place.
+    fn begin(&mut self) -> Result<(u32, u32), AllocError>
+        ensures octets { self.new.octets.items ≡ self.old.octets.items }
+        ensures places { self.new.places.items ≡ self.old.places.items }
+        ensures next { IfOk result (λ next. next.0 ≡ length self.old.places.items) }
+        ensures place { IfOk result (λ next. next.1 ≡ length self.old.octets.items) }
+        ensures room { OnOk result (vec_len self.new.places < vec_capacity self.new.places) }
+    {
+        let number = short(self.places.len())?;
+        let place = short(self.octets.len())?;
+        self.places.reserve(1)?;
+        Ok((number, place))
+    }
+}
+
+// The number in 32 bits. No number of a value within the limits passes them.
+fn short(number: usize) -> Result<u32, AllocError>
+    ensures value { IfOk result (λ short. short ≡ number) }
+    ensures small { OnOk result (number < 2 ^ 32) }
+{
+    u32::try_from(number).map_err(|_| AllocError)
+}
+
+// Whether there are below 2^32 references, each of which has four octets.
+fn are_kept(refs: &[u32]) -> Result<(), AllocError>
+    ensures { OnOk result (AreKept refs.now) }
+{
+    short(refs.len())?;
+    Ok(())
+}
+
+// Whether a text has below 2^32 units, and data below 2^32 octets.
+fn is_small(scalar: &ScalarRef) -> Result<(), AllocError>
+    ensures { OnOk result (IsSmall (content_of scalar.now)) }
+{
+    match scalar {
+        ScalarRef::Text(text) => short(text.len()).map(|_| ()),
+        ScalarRef::Bytes(octets) => short(octets.len()).map(|_| ()),
+        _ => Ok(()),
+    }
+}

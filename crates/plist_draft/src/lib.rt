@@ -1,0 +1,8 @@
+//! A binary file that grows object by object: each object is put once, behind those that it refers to.
+#![tactic(auto)]
+
+pub mod draft;
+mod ends;
+pub mod laws;
+
+pub use draft::Draft;
