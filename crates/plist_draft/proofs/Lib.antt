@@ -2,4 +2,5 @@ pub mod Telling
 pub mod Storing
 pub mod Files
 pub mod Finishing
+pub mod Valued
 mod Rows

@@ -4,5 +4,7 @@
 pub mod draft;
 mod ends;
 pub mod laws;
+pub mod values;
 
 pub use draft::Draft;
+pub use values::put_value;

@@ -1,0 +1,54 @@
+use Rattle.std.proofs.Common.{rules, ◌≡◌, ℕ, ◌+◌, ◌<◌, ◌≤◌, ap, sym, subst, ◌∙◌, List, length, get_or, drop}
+use Rattle.std.proofs.lemmas.List.{drop_more, drop_all}
+use Rattle.plist_value.specs.Plist.{text, scalar, no_items, item}
+use Rattle.plist_value.specs.View.{view, view_items, view_pairs}
+use Rattle.plist_value.specs.declared.value.Value.{Value}
+use Rattle.plist_draft.specs.Told.{SpellsIn}
+use Rattle.plist_draft.specs.View.{objects}
+use Rattle.plist_draft.proofs.Valued.{Keeps-both, items-next, items-end, pairs-next, pairs-end, table-put}
+use Rattle.plist_draft.proofs.values.+values.Goals as goal
+
+items-more : (vs : List Value) (i : ℕ) (v : Value) → v ≡ get_or vs i v → i < length vs → view_items (drop i vs) ≡ item (view v) (view_items (drop (i + 1) vs))
+items-more vs i v is h =
+    ap view_items (drop_more vs i v h) ∙ ap (λ u. item (view u) (view_items (drop (i + 1) vs))) (sym is)
+
+none-left : (vs : List Value) (i : ℕ) → length vs ≤ i → view_items (drop i vs) ≡ no_items
+none-left vs i h = ap view_items (drop_all i vs h)
+
+pub put_items-loop-item-preserved : goal.put_items-loop-item-preserved
+put_items-loop-item-preserved t c =
+    let all = c.args.items.now.items in
+    let i = c.loop-item.item-index in
+    let element = c.item-item.result in
+    let items : c.deref-item-items.result.now ≡ all = c.deref-item-items.ensures.value in
+    let below : i < length all = search rules in
+    let first : view_items (drop i all) ≡ item (view element) (view_items (drop (i + 1) all)) = items-more all i element (search rules) below in
+    record {
+      kept = Keeps-both _ _ _ c.loop-item.invariant.kept c.put_value.ensures.kept;
+      left = items-next _ _ _ _ c.in_ok-put_value.field-0 (view element) _ _ _ c.put_value.ensures.kept c.in_ok-put_value.ensures.spells first c.in_ok-push.ensures.items c.loop-item.invariant.left;
+    }
+
+pub put_items-returns-clause-spells : goal.put_items-returns-clause-spells
+put_items-returns-clause-spells t c =
+    let all = c.args.items.now.items in
+    items-end _ _ _ _ (none-left all c.loop-item.item-index (search rules)) c.loop-item.invariant.left
+
+pub put_pairs-loop-key-preserved : goal.put_pairs-loop-key-preserved
+put_pairs-loop-key-preserved t c =
+    let units = c.of_units-text.ensures.text ∙ c.units.ensures in
+    let key = subst (λ (us : List ℕ). SpellsIn (objects c.put_scalar.new.self) c.in_ok-put_scalar.field-0 (scalar (text us))) units c.in_ok-put_scalar.ensures.spells in
+    record {
+      can = tt;
+      finite = tt;
+      kept = Keeps-both _ _ _ c.loop-key.invariant.kept (Keeps-both _ _ _ c.put_scalar.ensures.kept c.put_value.ensures.kept);
+      left = pairs-next _ _ _ _ _ _ _ c.in_ok-put_scalar.field-0 c.in_ok-put_value.field-0 c.in-Some.key.now (view c.in-Some.value.now) _ _ _ c.put_scalar.ensures.kept key c.put_value.ensures.kept c.in_ok-put_value.ensures.spells (ap view_pairs c.in-Some.ensures.steps) c.in_ok-push.ensures.items c.in_ok-push-2.ensures.items c.loop-key.invariant.left;
+    }
+
+pub put_pairs-returns-clause-spells : goal.put_pairs-returns-clause-spells
+put_pairs-returns-clause-spells t c =
+    pairs-end _ _ _ _ _ (ap view_pairs c.in-None.ensures.steps.0) c.loop-key.invariant.left
+
+pub put_table-returns-clause-spells : goal.put_table-returns-clause-spells
+put_table-returns-clause-spells t c =
+    let told = rw (sym c.deref.ensures.value, sym c.deref-2.ensures.value) at c.in_ok-keys.ensures.spells in
+    table-put _ _ _ _ _ c.put_table.result told c.put_table.ensures.spells

@@ -1,0 +1,20 @@
+use Rattle.std.proofs.Common.{drop}
+use Rattle.plist_value.specs.View.{view_items, view_pairs}
+use Rattle.plist_draft.specs.Told.{Keeps}
+use Rattle.plist_draft.specs.View.{objects}
+use Rattle.plist_draft.proofs.Valued.{ItemsLeft, PairsLeft}
+use Rattle.plist_draft.proofs.values.+values.Given as goal
+
+abbrev pub invariant-put_items-loop-item : goal.invariant-put_items-loop-item
+invariant-put_items-loop-item l = record {
+  kept : Keeps (objects l.fn.draft) (objects l.draft);
+  left : ItemsLeft (objects l.draft) l.numbers.items (view_items (drop l.item-index l.items.items)) (view_items l.items.items);
+}
+
+abbrev pub invariant-put_pairs-loop-key : goal.invariant-put_pairs-loop-key
+invariant-put_pairs-loop-key l = record {
+  can : (goal.iterator-put_pairs-loop-key).can_next l.key-iterator;
+  finite : (goal.iterator-put_pairs-loop-key).is_finite l.key-iterator;
+  kept : Keeps (objects l.fn.draft) (objects l.draft);
+  left : PairsLeft (objects l.draft) l.keys.items l.values.items (view_pairs l.key-iterator) (view_pairs l.pairs.entries);
+}

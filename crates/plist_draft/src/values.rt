@@ -1,0 +1,94 @@
+//! Values put into a draft.
+ghost use Rattle.std.specs.Prelude.{◌≡◌, IfOk, length};
+ghost use Rattle.std.specs.List.{zip};
+ghost use Rattle.plist_value.specs.Plist.{list, table};
+ghost use Rattle.plist_value.specs.View.{view, view_items, view_pairs};
+ghost use Rattle.plist_draft.specs.Told.{Keeps, SpellsIn, SpellItemsIn, SpellPairsIn};
+ghost use Rattle.plist_draft.specs.View.{objects};
+
+use crate::Draft;
+use plist_value::{ScalarRef, TextRef, Utf16, Value};
+use std::alloc::{AllocError, Global};
+use std::collections::BTreeMap;
+
+/// Puts the value behind the objects of the draft, each list and table behind what it holds, and answers the number of
+/// its object. No two objects are shared.
+///
+/// # Errors
+///
+/// Where there is no memory, or where the draft refuses one of the objects. The draft then has those that were put
+/// before, behind those that it had.
+#[cycle(values)]
+pub fn put_value(alloc: Global, draft: &mut Draft, value: &Value) -> Result<u32, AllocError>
+    ensures spells { IfOk result
+        (λ number. SpellsIn (objects draft.new) number (view value.now)) }
+    ensures kept { Keeps (objects draft.old) (objects draft.new) }
+{
+    match value {
+        Value::List(items) => put_list(alloc, draft, items),
+        Value::Table(pairs) => put_table(alloc, draft, pairs),
+        _ => draft.put_scalar(&ScalarRef::of(value).unwrap()),
+    }
+}
+
+// A list, behind its items.
+#[cycle(values)]
+fn put_list(alloc: Global, draft: &mut Draft, items: &Vec<Value>) -> Result<u32, AllocError>
+    ensures spells { IfOk result
+        (λ number. SpellsIn (objects draft.new) number (list (view_items items.now.items))) }
+    ensures kept { Keeps (objects draft.old) (objects draft.new) }
+{
+    let items = put_items(alloc, draft, items)?;
+    draft.put_list(&items)
+}
+
+// A table, behind its keys and its values.
+#[cycle(values)]
+fn put_table(
+    alloc: Global,
+    draft: &mut Draft,
+    pairs: &BTreeMap<Utf16, Value>,
+) -> Result<u32, AllocError>
+    ensures spells { IfOk result
+        (λ number. SpellsIn (objects draft.new) number (table (view_pairs pairs.now.entries))) }
+    ensures kept { Keeps (objects draft.old) (objects draft.new) }
+{
+    let (keys, values) = put_pairs(alloc, draft, pairs)?;
+    draft.put_table(&keys, &values)
+}
+
+// The numbers of the items.
+#[cycle(values)]
+fn put_items(alloc: Global, draft: &mut Draft, items: &Vec<Value>) -> Result<Vec<u32>, AllocError>
+    ensures spells { IfOk result (λ numbers.
+        SpellItemsIn (objects draft.new) numbers.items (view_items items.now.items)) }
+    ensures kept { Keeps (objects draft.old) (objects draft.new) }
+{
+    let mut numbers = Vec::with_capacity(alloc, items.len())?;
+    for item in items {
+        numbers.push(put_value(alloc, draft, item)?)?;
+    }
+    Ok(numbers)
+}
+
+// The numbers of the keys, and those of their values.
+#[cycle(values)]
+fn put_pairs(
+    alloc: Global,
+    draft: &mut Draft,
+    pairs: &BTreeMap<Utf16, Value>,
+) -> Result<(Vec<u32>, Vec<u32>), AllocError>
+    ensures spells { IfOk result (λ numbers. SpellPairsIn (objects draft.new)
+        (zip numbers.0.items numbers.1.items) (view_pairs pairs.now.entries)) }
+    ensures same { IfOk result (λ numbers. length numbers.0.items ≡ length numbers.1.items) }
+    ensures kept { Keeps (objects draft.old) (objects draft.new) }
+{
+    let mut keys = Vec::with_capacity(alloc, pairs.len())?;
+    let mut values = Vec::with_capacity(alloc, pairs.len())?;
+    for (key, value) in pairs {
+        let text = TextRef::of_units(key.units());
+        keys.push(draft.put_scalar(&ScalarRef::Text(text))?)?;
+        values.push(put_value(alloc, draft, value)?)?;
+    }
+    Ok((keys, values))
+}
