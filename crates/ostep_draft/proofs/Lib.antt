@@ -1,0 +1,4 @@
+pub mod Orders
+pub mod Spelling
+pub mod ReadSteps
+pub mod DraftSteps

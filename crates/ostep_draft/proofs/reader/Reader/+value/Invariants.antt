@@ -1,0 +1,50 @@
+use Rattle.std.proofs.Common.{◌≡◌, ◌+◌, ◌*◌, ◌≤◌, ℕ, List, [], length}
+use Rattle.plist_draft.specs.View.{objects}
+use Rattle.ostep_lex.specs.Lexeme.{Placed}
+use Rattle.ostep_lex.specs.Cursor.{ahead, StandsBehind}
+use Rattle.ostep_draft.specs.Held.{AllRemain}
+use Rattle.ostep_draft.specs.Drafted.{DraftsItems, DraftsRows}
+use Rattle.ostep_draft.proofs.reader.Reader.+value.Given as goal
+
+-- by the levels, with what calls before what is called
+abbrev pub decreases-value : goal.decreases-value
+decreases-value l = 4 * l.levels
+
+abbrev pub decreases-items : goal.decreases-items
+decreases-items l = 4 * l.levels + 1
+
+abbrev pub decreases-rows : goal.decreases-rows
+decreases-rows l = 4 * l.levels + 3
+
+abbrev pub decreases-row : goal.decreases-row
+decreases-row l = 4 * l.levels + 2
+
+abbrev pub decreases-row_value : goal.decreases-row_value
+decreases-row_value l = 4 * l.levels + 1
+
+abbrev pub decreases-items-loop-items : goal.decreases-items-loop-items
+decreases-items-loop-items l = length (ahead l.self.cursor)
+
+abbrev pub decreases-rows-loop-rows : goal.decreases-rows-loop-rows
+decreases-rows-loop-rows l = length (ahead l.self.cursor)
+
+-- items so far
+abbrev pub invariant-items-loop-items : goal.invariant-items-loop-items
+invariant-items-loop-items l =
+    record {
+      shorter : length (ahead l.self.cursor) ≤ length (ahead l.initial.self.cursor);
+      kept : AllRemain (objects l.initial.self.draft) (objects l.self.draft);
+      read : (octets : List ℕ) (tokens : List Placed) → StandsBehind octets tokens l.initial.self.cursor
+          → DraftsItems octets tokens [] l.items.items (objects l.self.draft) l.self.cursor;
+    }
+
+-- rows so far
+abbrev pub invariant-rows-loop-rows : goal.invariant-rows-loop-rows
+invariant-rows-loop-rows l =
+    record {
+      shorter : length (ahead l.self.cursor) ≤ length (ahead l.initial.self.cursor);
+      kept : AllRemain (objects l.initial.self.draft) (objects l.self.draft);
+      even : length l.rows.keys.items ≡ length l.rows.values.items;
+      read : (octets : List ℕ) (tokens : List Placed) → StandsBehind octets tokens l.initial.self.cursor
+          → DraftsRows octets tokens [] l.rows.keys.items l.rows.values.items (objects l.self.draft) l.self.cursor;
+    }

@@ -1,0 +1,19 @@
+-- What becomes of the objects of a draft: none changes when others are put behind it, and the file holds each.
+use Rattle.std.specs.Prelude.{ℕ, ◌<◌, List, length}
+use Rattle.plist_object.specs.Objects.{Held}
+use Rattle.plist_object.specs.Places.{Holds}
+use Rattle.plist_draft.specs.Told.{Tells}
+
+-- each old object stands among the new ones under its number
+abbrev pub AllRemain : List Held → List Held → Type 0
+AllRemain old new = (i : ℕ) (held : Held) → Tells old i held → Tells new i held
+
+-- the file holds each of the objects under its number
+abbrev pub HoldsAll : List ℕ → List Held → Type 0
+HoldsAll f helds = (i : ℕ) (held : Held) → Tells helds i held → Holds f i held
+
+-- an object that holds this was put behind the others, under this number
+pub record Puts (old new : List Held) (held : Held) (number : ℕ) : Type 0 where
+  pub tells : Tells new number held
+  pub within : number < length new
+  pub kept : AllRemain old new

@@ -1,0 +1,122 @@
+//! The tokens of a text, one after another, and the draft that grows as they are read.
+ghost use Rattle.std.specs.Prelude.{◌≡◌, ◌<◌, ◌∷◌, ◌++◌, [], ℕ, List, length};
+ghost use Rattle.std.specs.Prelude.{MatchOption, IfSome, IfOk};
+ghost use Rattle.std.specs.Result.{OnOk};
+ghost use Rattle.plist_value.specs.Plist.{text as one_text, bytes};
+ghost use Rattle.plist_object.specs.Objects.{holds_scalar, holds_list, holds_table};
+ghost use Rattle.plist_draft.specs.View.{objects};
+ghost use Rattle.ostep_lex.specs.Lexeme.{Placed, placed};
+ghost use Rattle.ostep_lex.specs.Lexing.{HasTokens};
+ghost use Rattle.ostep_lex.specs.Cursor.{ahead, StandsBehind};
+ghost use Rattle.ostep_draft.specs.Held.{Puts};
+
+use crate::failure::NoDraft;
+use crate::rows::Rows;
+use ostep_lex::{Cursor, Token, next_mark, next_token};
+use plist_draft::Draft;
+use plist_value::{ScalarRef, TextRef, Utf16};
+use std::alloc::Global;
+
+// Where the reader stands in an input, and what it has put for the tokens before.
+#[derive(Drop)]
+pub(crate) struct Reader<'a> {
+    pub(crate) alloc: Global,
+    pub(crate) cursor: Cursor<'a>,
+    pub(crate) draft: Draft,
+}
+
+impl<'a> Reader<'a> {
+    // The next token, or None where the text ends.
+    pub(crate) fn next(&mut self) -> Result<Option<Token>, NoDraft>
+        ensures read { (octets : List ℕ) (tokens : List Placed)
+            → StandsBehind octets tokens self.old.cursor
+            → IfOk result (λ found. MatchOption found (HasTokens octets tokens)
+            (λ token. StandsBehind octets (tokens ++ placed token ∷ []) self.new.cursor)) }
+        ensures shorter { IfOk result (λ found. IfSome found (λ _.
+            length (ahead self.new.cursor) < length (ahead self.old.cursor))) }
+        ensures draft { self.new.draft ≡ self.old.draft }
+    {
+        match next_token(self.alloc, self.cursor)? {
+            Some((token, behind)) => {
+                self.cursor = behind;
+                Ok(Some(token))
+            }
+            None => Ok(None),
+        }
+    }
+
+    // The next token, where a text may not end.
+    pub(crate) fn expect(&mut self) -> Result<Token, NoDraft>
+        ensures read { (octets : List ℕ) (tokens : List Placed)
+            → StandsBehind octets tokens self.old.cursor
+            → IfOk result (λ token.
+            StandsBehind octets (tokens ++ placed token ∷ []) self.new.cursor) }
+        ensures shorter { OnOk result
+            (length (ahead self.new.cursor) < length (ahead self.old.cursor)) }
+        ensures draft { self.new.draft ≡ self.old.draft }
+    {
+        match self.next()? {
+            Some(token) => Ok(token),
+            None => Err(NoDraft),
+        }
+    }
+
+    // The next token, as `expect` has it, with less work where it is the mark.
+    #[inline(always)]
+    pub(crate) fn expect_mark(&mut self, mark: char) -> Result<Token, NoDraft>
+        ensures read { (octets : List ℕ) (tokens : List Placed)
+            → StandsBehind octets tokens self.old.cursor
+            → IfOk result (λ token.
+            StandsBehind octets (tokens ++ placed token ∷ []) self.new.cursor) }
+        ensures shorter { OnOk result
+            (length (ahead self.new.cursor) < length (ahead self.old.cursor)) }
+        ensures draft { self.new.draft ≡ self.old.draft }
+    {
+        match next_mark(self.cursor, mark) {
+            Some((token, behind)) => {
+                self.cursor = behind;
+                Ok(token)
+            }
+            None => self.expect(),
+        }
+    }
+
+    // Puts a text, and answers its number.
+    pub(crate) fn put_text(&mut self, text: &Utf16) -> Result<u32, NoDraft>
+        ensures put { IfOk result (Puts (objects self.old.draft) (objects self.new.draft)
+            (holds_scalar (one_text text.now))) }
+        ensures cursor { self.new.cursor ≡ self.old.cursor }
+    {
+        let scalar = ScalarRef::Text(TextRef::of_units(text.units()));
+        Ok(self.draft.put_scalar(&scalar)?)
+    }
+
+    // Puts data, and answers its number.
+    pub(crate) fn put_data(&mut self, octets: &[u8]) -> Result<u32, NoDraft>
+        ensures put { IfOk result (Puts (objects self.old.draft) (objects self.new.draft)
+            (holds_scalar (bytes octets.now))) }
+        ensures cursor { self.new.cursor ≡ self.old.cursor }
+    {
+        let scalar = ScalarRef::Bytes(octets);
+        Ok(self.draft.put_scalar(&scalar)?)
+    }
+
+    // Puts a list of these objects, and answers its number.
+    pub(crate) fn put_list(&mut self, items: &[u32]) -> Result<u32, NoDraft>
+        ensures put { IfOk result (Puts (objects self.old.draft) (objects self.new.draft)
+            (holds_list items.now)) }
+        ensures cursor { self.new.cursor ≡ self.old.cursor }
+    {
+        Ok(self.draft.put_list(items)?)
+    }
+
+    // Puts a table of these objects, and answers its number.
+    pub(crate) fn put_table(&mut self, rows: &Rows) -> Result<u32, NoDraft>
+        requires { length rows.now.keys.items ≡ length rows.now.values.items }
+        ensures put { IfOk result (Puts (objects self.old.draft) (objects self.new.draft)
+            (holds_table rows.now.keys.items rows.now.values.items)) }
+        ensures cursor { self.new.cursor ≡ self.old.cursor }
+    {
+        Ok(self.draft.put_table(&rows.keys, &rows.values)?)
+    }
+}
