@@ -13,7 +13,7 @@ use Rattle.plist_object.specs.Spelling.{references}
 use Rattle.plist_object.specs.Spelled.{Spells, SpellItems, SpellPairs, IsBinary}
 use Rattle.plist_draft.specs.Files.{starts, trailer_with}
 use Rattle.plist_draft.specs.Stored.{IsKept, spellings, draft_file, helds_at, Stores}
-use Rattle.plist_draft.specs.Told.{Tells, SpellsBy, SpellItemsBy, SpellPairsBy, SpellsIn}
+use Rattle.plist_draft.specs.Told.{Tells, SpellsBy, SpellItemsBy, SpellPairsBy, SpellsIn, Shows}
 use Rattle.plist_draft.proofs.Files.{length-starts, before_trailer, length-file_with, CanStand, trailer_of-file, is_laid, object_at-file}
 use Rattle.plist_draft.proofs.Storing.{object_in-kept}
 use Rattle.plist_draft.proofs.Telling.{SpellsBy-told}
@@ -62,7 +62,7 @@ unfolding what_holds
 what_holds-at f i held behind h = rw h refl
 
 module _ (helds : List Held) (top : ℕ) (kept : AllByRecursion IsKept helds) (can : CanStand 4 4 top (spellings helds)) where
-  pub Holds-told : (i : ℕ) (held : Held) → Tells helds i held → Holds (draft_file top helds) i held
+  Holds-told : (i : ℕ) (held : Held) → Tells helds i held → Holds (draft_file top helds) i held
   unfolding draft_file
   Holds-told i held tells =
       let f = draft_file top helds in
@@ -78,7 +78,7 @@ module _ (helds : List Held) (top : ℕ) (kept : AllByRecursion IsKept helds) (c
         reads = what_holds-at f i held read.0 (read.1 ∙ ap (λ (xs : List ℕ). object_in 4 (xs ++ read.0)) octets ∙ back);
       }
 
-  pub file-spells : (v : Plist) → SpellsIn helds top v → Spells (draft_file top helds) (trailer_of (draft_file top helds)).top v
+  file-spells : (v : Plist) → SpellsIn helds top v → Spells (draft_file top helds) (trailer_of (draft_file top helds)).top v
   unfolding draft_file
   file-spells v told =
       let f = draft_file top helds in
@@ -97,15 +97,14 @@ file-parts octets places begun f top stored entries ended =
     let front : begun ≡ header ++ (body ++ references 4 (starts 8 (spellings helds))) = entries ∙ ap (λ (xs : List ℕ). xs ++ references 4 places) stored.spelled ∙ append_assoc header body (references 4 places) ∙ ap (λ (xs : List ℕ). header ++ (body ++ references 4 xs)) stored.placed in
     ended ∙ ap (λ (xs : List ℕ). begun ++ xs) tail ∙ ap (λ (xs : List ℕ). xs ++ trailer_with 4 4 (length (spellings helds)) top (8 + length body)) front ∙ sym (before_trailer header body (references 4 (starts 8 (spellings helds))) (trailer_with 4 4 (length (spellings helds)) top (8 + length body)))
 
--- the finished octets are a binary file of what the top spells
-pub finished : (octets places f : List ℕ) (top : ℕ) (v : Plist) → Stores octets places (helds_at octets places) → AllUnder 4294967296 places → length f < 18446744073709551616 → f ≡ draft_file top (helds_at octets places) → AreOctets f → IsPlist v → Fits v → SpellsIn (helds_at octets places) top v → IsBinary f v
+-- the objects of a draft can stand in a file that has one of them at its top
+can_stand : (octets places f : List ℕ) (top : ℕ) → Stores octets places (helds_at octets places) → AllUnder 4294967296 places → length f < 18446744073709551616 → f ≡ draft_file top (helds_at octets places) → top < length (helds_at octets places) → CanStand 4 4 top (spellings (helds_at octets places))
 unfolding draft_file
-finished octets places f top v stored short long is in_range valid fits told =
+can_stand octets places f top stored short long is within =
     let helds = helds_at octets places in
-    let within = spells_within helds top v told in
     let listed : length (spellings helds) ≡ length helds = length-map helds (spelling_of 4) in
     let size : length f ≡ 8 + length (concat (spellings helds)) + 4 * length (spellings helds) + 32 = ap length is ∙ length-file_with 4 4 top (spellings helds) in
-    let can : CanStand 4 4 top (spellings helds) = record {
+    record {
       offset_width_least = omega arith;
       offset_width_most = omega arith;
       reference_width_least = omega arith;
@@ -115,11 +114,29 @@ finished octets places f top v stored short long is in_range valid fits told =
       starts_fit = subst (AllUnder 4294967296) stored.placed short;
       count_fits = omega arith;
       table_fits = omega arith;
-    } in
+    }
+
+-- the finished octets are a binary file of what the top spells
+pub finished : (octets places f : List ℕ) (top : ℕ) (v : Plist) → Stores octets places (helds_at octets places) → AllUnder 4294967296 places → length f < 18446744073709551616 → f ≡ draft_file top (helds_at octets places) → AreOctets f → IsPlist v → Fits v → SpellsIn (helds_at octets places) top v → IsBinary f v
+unfolding draft_file
+finished octets places f top v stored short long is in_range valid fits told =
+    let helds = helds_at octets places in
+    let can = can_stand octets places f top stored short long is (spells_within helds top v told) in
     record {
       octets = in_range;
       laid = rw is (is_laid 4 4 top (spellings helds) can);
       spells = rw is (file-spells helds top stored.kept can v told);
       valid = valid;
       fits = fits;
+    }
+
+-- they hold what the objects hold
+pub shows : (octets places f : List ℕ) (top : ℕ) → Stores octets places (helds_at octets places) → AllUnder 4294967296 places → length f < 18446744073709551616 → f ≡ draft_file top (helds_at octets places) → top < length (helds_at octets places) → Shows f top (helds_at octets places)
+unfolding draft_file
+shows octets places f top stored short long is within =
+    let helds = helds_at octets places in
+    let can = can_stand octets places f top stored short long is within in
+    record {
+      topmost = ap (λ xs. (trailer_of xs).top) is ∙ ap (λ (x : Trailer). x.top) (trailer_of-file 4 4 top (spellings helds) can);
+      holds = λ i held tells. rw is (Holds-told helds top stored.kept can i held tells);
     }

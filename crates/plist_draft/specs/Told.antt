@@ -3,7 +3,9 @@ use Rattle.std.specs.Prelude.{◌≡◌, ℕ, List, [], ◌∷◌, slice_get, So
 use Rattle.std.specs.List.{zip}
 use Rattle.std.specs.List.Sorted.{IsPermutation}
 use Rattle.plist_value.specs.Plist.{text, Plist, scalar, list, table, Items, no_items, item, Pairs, no_pairs, pair}
+use Rattle.plist_object.specs.Layout.{trailer_of}
 use Rattle.plist_object.specs.Objects.{Held, holds_scalar, holds_list, holds_table}
+use Rattle.plist_object.specs.Places.{Holds}
 
 -- The object i spells the value, where `Tells i held` says that the object i holds this. Of a table it holds the
 -- pairs in any order.
@@ -48,3 +50,8 @@ pub record Keeps (old new : List Held) : Type 0 where
   pub value : (i : ℕ) (v : Plist) → SpellsIn old i v → SpellsIn new i v
   pub items : (refs : List ℕ) (vs : Items) → SpellItemsIn old refs vs → SpellItemsIn new refs vs
   pub pairs : (rows : List (ℕ × ℕ)) (ps : Pairs) → SpellPairsIn old rows ps → SpellPairsIn new rows ps
+
+-- the file holds each of the objects under its number, and has this one at its top
+pub record Shows (f : List ℕ) (top : ℕ) (helds : List Held) : Type 0 where
+  pub topmost : (trailer_of f).top ≡ top
+  pub holds : (i : ℕ) (held : Held) → Tells helds i held → Holds f i held

@@ -13,7 +13,7 @@ ghost use Rattle.plist_object.specs.Sizes.{IsSmall};
 ghost use Rattle.plist_object.specs.Spelled.{IsBinary};
 ghost use Rattle.plist_draft.specs.Stored.{AreKept, IsDraft, draft_file};
 ghost use Rattle.plist_draft.specs.Proofs.{IsDraft-prop};
-ghost use Rattle.plist_draft.specs.Told.{SpellsIn, SpellItemsIn, SpellPairsIn, Keeps};
+ghost use Rattle.plist_draft.specs.Told.{SpellsIn, SpellItemsIn, SpellPairsIn, Keeps, Shows};
 
 use crate::ends::{are_octets, put_places, put_trailer};
 use plist_object::{HEADER, put_scalar, put_short_list, put_short_table};
@@ -129,6 +129,8 @@ impl Draft {
         ensures file { IfOk result (λ octets. octets.items ≡ draft_file top (objects self)) }
         ensures spells { IfOk result (λ octets. (v : Plist) → IsPlist v → Fits v
             → SpellsIn (objects self) top v → IsBinary octets.items v) }
+        ensures shows { IfOk result (λ octets. top < length (objects self)
+            → Shows octets.items top (objects self)) }
     {
         let Draft { mut octets, places } = self;
         let count = places.len() as u64;

@@ -1,7 +1,7 @@
 use Rattle.std.proofs.Common.{◌≡◌, ◌<◌, length, ap, arith}
 use Rattle.plist_draft.specs.Stored.{draft_file}
 use Rattle.plist_draft.specs.View.{objects}
-use Rattle.plist_draft.proofs.Finishing.{file-parts, finished}
+use Rattle.plist_draft.proofs.Finishing.{file-parts, finished, shows}
 use Rattle.plist_draft.proofs.draft.Draft.finish.Goals as goal
 use Rattle.plist_draft.proofs.draft.Draft.finish.Goals.{After-are_octets}
 
@@ -21,3 +21,10 @@ returns-clause-spells c = λ v valid fits told.
     let octets = rw c.deref-2.ensures.value at c.are_octets.ensures in
     let long : length c.put_trailer.new.out.items < 18446744073709551616 = omega (arith, c.deref-2.type_inv, whole) in
     finished _ _ _ c.args.top v c.args.self.laid short long (is_file (goal.at.returns-clause-spells c).After-are_octets) octets valid fits told
+
+pub returns-clause-shows : goal.returns-clause-shows
+returns-clause-shows c = λ within.
+    let short = rw c.deref.ensures.value at c.in_ok-put_places.ensures.fit in
+    let whole = ap length c.deref-2.ensures.value in
+    let long : length c.put_trailer.new.out.items < 18446744073709551616 = omega (arith, c.deref-2.type_inv, whole) in
+    shows _ _ _ c.args.top c.args.self.laid short long (is_file (goal.at.returns-clause-shows c).After-are_octets) within
