@@ -1,20 +1,18 @@
 -- What a draft has for the tokens that were read, from its parts.
 use Rattle.std.proofs.Common.{◌≡◌, ℕ, List, [], ◌∷◌, ◌++◌, length, refl, sym, ap, subst, ◌∙◌, arith, length-append}
 use Rattle.std.specs.List.{zip}
-use Rattle.plist_value.specs.Plist.{Plist, scalar, text, bytes, list, table, Items, no_items, item, Pairs, no_pairs, pair, IsPlist, AreItems, ArePairs}
+use Rattle.plist_value.specs.Plist.{text, bytes, Items, no_items, item, Pairs, no_pairs, pair, IsPlist, AreItems, ArePairs}
 use Rattle.plist_object.specs.Objects.{Held, holds_scalar, holds_list, holds_table}
-use Rattle.plist_object.specs.Places.{Holds}
-use Rattle.plist_object.specs.Spelled.{Spells, SpellItems, SpellPairs}
+use Rattle.plist_object.specs.Spelled.{SpellItems, SpellPairs}
 use Rattle.plist_draft.specs.declared.draft.Draft.{Draft}
 use Rattle.plist_draft.specs.View.{objects}
 use Rattle.ostep_lex.specs.Lexeme.{Lexeme, Placed, brace_open, brace_close, paren_open, paren_close, comma, semicolon, equals, text as string, octets as data_token}
 use Rattle.ostep_lex.specs.Lexing.{HasTokens}
 use Rattle.ostep_lex.specs.Cursor.{StandsBehind}
 use Rattle.ostep_lex.specs.declared.cursor.Cursor.{Cursor}
-use Rattle.ostep_text.specs.Sorting.{AreSorted}
 use Rattle.ostep_text.proofs.SortingSteps.{pairs-ascend}
-use Rattle.ostep_draft.specs.Held.{AllRemain, HoldsAll, Puts}
-use Rattle.ostep_draft.specs.Read.{ReadsValue, ReadsEnded, ReadsItems, ReadsRow, ReadsRows, Says, AreRows}
+use Rattle.ostep_draft.specs.Held.{AllRemain, Puts}
+use Rattle.ostep_draft.specs.Read.{ReadsValue, ReadsItems, ReadsRow, ReadsRows, Says, AreRows}
 use Rattle.ostep_draft.specs.Drafted.{DraftsValue, DraftsEnded, DraftsItems, DraftsRow, DraftsRows, DraftsText}
 use Rattle.ostep_draft.proofs.Orders.{in-turn, turned-rows, push-rows}
 use Rattle.ostep_draft.proofs.Spelling.{holds-old, scalar-spelled, list-spelled, table-spelled, key-spelled, last-item, push-items, last-row, zip-push}

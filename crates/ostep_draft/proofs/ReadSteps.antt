@@ -1,13 +1,12 @@
 -- What was read, from its parts.
-use Rattle.std.proofs.Common.{◌≡◌, ℕ, false, List, [], ◌∷◌, ◌++◌, refl, sym, ap, subst, ◌∙◌}
-use Rattle.plist_value.specs.Plist.{Plist, scalar, text, bytes, list, table, Items, no_items, Pairs, no_pairs, ArePairs}
+use Rattle.std.proofs.Common.{◌≡◌, ℕ, false, List, [], ◌∷◌, ◌++◌, refl, sym, subst}
+use Rattle.plist_value.specs.Plist.{Plist, scalar, text, bytes, list, table, Items, no_items, Pairs, no_pairs}
 use Rattle.ostep_lex.specs.Lexeme.{Lexeme, Placed, brace_open, brace_close, paren_open, paren_close, comma, semicolon, equals, text as string, octets as data_token}
 use Rattle.ostep_lex.specs.Lexing.{HasTokens}
 use Rattle.ostep_lex.specs.Cursor.{StandsBehind}
 use Rattle.ostep_lex.specs.declared.cursor.Cursor.{Cursor}
 use Rattle.ostep_text.specs.Phrase.{Phrase, a_string, some_data, a_list, a_table, items_end, rows_end, with_value, key_alone, a_value, bare_table, TopPhrase}
 use Rattle.ostep_text.specs.Sorting.{has_key, AreSorted}
-use Rattle.ostep_text.specs.Text.{lexemes}
 use Rattle.ostep_text.proofs.PhraseSteps.{push, push_row, items-more, items-last, rows-more}
 use Rattle.ostep_text.proofs.Standing.{before-more, before-are}
 use Rattle.ostep_text.specs.Reading.{Front, AreBefore}

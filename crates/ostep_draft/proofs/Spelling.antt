@@ -1,5 +1,5 @@
 -- What a file spells by the objects of a draft.
-use Rattle.std.proofs.Common.{◌≡◌, ℕ, ◌+◌, ◌<◌, List, [], ◌∷◌, ◌++◌, length, refl, sym, ap, subst, ◌∙◌, arith, length-append}
+use Rattle.std.proofs.Common.{◌≡◌, ℕ, List, [], ◌∷◌, ◌++◌, length, refl, ap, subst, ◌∙◌, arith, length-append}
 use Rattle.std.specs.List.{zip}
 use Rattle.std.specs.List.Sorted.{IsPermutation}
 use Rattle.plist_value.specs.Plist.{Scalar, text, Plist, scalar, list, table, Items, no_items, item, Pairs, no_pairs, pair, IsPlist, AreItems}
@@ -7,7 +7,6 @@ use Rattle.plist_object.specs.Objects.{Held, holds_scalar, holds_list, holds_tab
 use Rattle.plist_object.specs.Places.{Holds}
 use Rattle.plist_object.specs.Spelled.{Spells, SpellItems, SpellPairs}
 use Rattle.plist_object.proofs.Uniqueness.{same_held}
-use Rattle.plist_draft.specs.Told.{Tells}
 use Rattle.plist_draft.proofs.Telling.{Tells-append, Tells-last}
 use Rattle.ostep_text.proofs.PhraseSteps.{push, push_row}
 use Rattle.ostep_draft.specs.Held.{AllRemain, HoldsAll, Puts}

@@ -1,5 +1,5 @@
 -- What was read of a text, up to a cursor.
-use Rattle.std.specs.Prelude.{◌≡◌, ℕ, false, List, [], ◌∷◌, ◌++◌, ⊤}
+use Rattle.std.specs.Prelude.{◌≡◌, ℕ, false, List, ◌∷◌, ◌++◌, ⊤}
 use Rattle.plist_value.specs.Plist.{Plist, Items, Pairs, no_pairs, pair, IsPlist}
 use Rattle.ostep_lex.specs.Lexeme.{Lexeme, Placed, semicolon}
 use Rattle.ostep_lex.specs.Lexing.{HasTokens}

@@ -11,4 +11,4 @@ mod reader;
 mod rows;
 mod values;
 
-
+pub use draft::draft_text;
