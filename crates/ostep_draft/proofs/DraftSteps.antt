@@ -15,7 +15,7 @@ use Rattle.ostep_draft.specs.Held.{AllRemain, Puts}
 use Rattle.ostep_draft.specs.Read.{ReadsValue, ReadsItems, ReadsRow, ReadsRows, Says, AreRows}
 use Rattle.ostep_draft.specs.Drafted.{DraftsValue, DraftsEnded, DraftsItems, DraftsRow, DraftsRows, DraftsText}
 use Rattle.ostep_draft.proofs.Orders.{in-turn, turned-rows, push-rows}
-use Rattle.ostep_draft.proofs.Spelling.{holds-old, scalar-spelled, list-spelled, table-spelled, key-spelled, last-item, push-items, last-row, zip-push}
+use Rattle.ostep_draft.proofs.Spelling.{holds-old, scalar-spelled, list-spelled, table-spelled, key-spelled, last-item, push-items, LastRow, last-row, zip-push}
 use Rattle.ostep_draft.proofs.ReadSteps.{string-read, data-read, list-read, table-read, no-items-read, item-read, last_item-read, items-read, ended-read, row-read, alone-read, no-rows-read, row-more-read, rows-read, value-says, rows-say}
 
 -- the same drafts
@@ -134,14 +134,19 @@ module _ {octets : List ℕ} {tokens : List Placed} {begin key_read after : Curs
     (keys_are : all_keys ≡ keys ++ row.0 ∷ []) (values_are : all_values ≡ values ++ row.1 ∷ []) (even : length keys ≡ length values) (kept : AllRemain old new)
     (before : DraftsRows octets tokens [] keys values old begin) (steps : StepsBy octets begin at key_read)
     (reads : (all : List Placed) → StandsBehind octets (all ++ at ∷ []) key_read → DraftsRow octets all row new after) where
+  zipped : zip all_keys all_values ≡ zip keys values ++ row ∷ []
+  zipped = ap (λ l. zip l all_values) keys_are ∙ ap (λ l. zip (keys ++ row.0 ∷ []) l) values_are ∙ zip-push keys values row.0 row.1 even
+
+  the-last : (f : List ℕ) (rows : Pairs) → SpellPairs f (zip all_keys all_values) rows → LastRow f (zip keys values) row rows
+  the-last f rows s = last-row f (zip keys values) row rows (subst (λ x. SpellPairs f x rows) zipped s)
+
   pub drafts-row-more : DraftsRows octets tokens [] all_keys all_values new after
   drafts-row-more f holds rows valid s =
-      let zipped : zip all_keys all_values ≡ zip keys values ++ row ∷ [] = ap (λ l. zip l all_values) keys_are ∙ ap (λ l. zip (keys ++ row.0 ∷ []) l) values_are ∙ zip-push keys values (row.0) (row.1) even in
-      let l = last-row f (zip keys values) row rows (subst (λ x. SpellPairs f x rows) zipped s) in
+      let l = the-last f rows s in
       let are = push-rows l.before l.key l.last (subst AreRows l.is valid) in
       let r = before f (holds-old old new kept holds) l.before are.2 l.spell in
       let w = reads r.reads.all (steps r.reads.all r.reads.has) f holds l.key l.last are.0 l.spell_key l.spell_last in
-      subst (λ x. ReadsRows octets tokens [] x after) {y = rows} (sym l.is) (row-more-read r w are.1)
+      subst (λ x. ReadsRows octets tokens [] x after) (sym l.is) (row-more-read r w are.1)
 
 -- whole texts
 pub value-drafts : {octets : List ℕ} {first : Lexeme} {cursor : Cursor} (helds : List Held) (number : ℕ) → DraftsValue octets [] first number helds cursor

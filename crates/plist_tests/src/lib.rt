@@ -10,6 +10,8 @@ mod deepest;
 #[cfg(test)]
 mod depth;
 #[cfg(test)]
+mod drafted_texts;
+#[cfg(test)]
 mod drafts;
 #[cfg(test)]
 mod ending_tests;
