@@ -59,10 +59,6 @@ AllByRecursion-last : (helds : List Held) (held : Held) → AllByRecursion IsKep
 AllByRecursion-last [] held all last = (last, tt)
 AllByRecursion-last (first ∷ helds) held all last = (all.0, AllByRecursion-last helds held all.1 last)
 
-length-starts : (k : ℕ) (objects : List (List ℕ)) → length (starts k objects) ≡ length objects
-length-starts k [] = refl
-length-starts k (o ∷ os) = ap suc (length-starts (k + length o) os)
-
 stored-last : (octets places : List ℕ) (helds : List Held) (held : Held) → Stores octets places helds → IsKept held → Stores (octets ++ spelling_of 4 held) (places ++ (length octets ∷ [])) (helds ++ (held ∷ []))
 stored-last octets places helds held stored kept =
     let spelled = spelling_of 4 held in

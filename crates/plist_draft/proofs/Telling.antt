@@ -4,7 +4,7 @@ use Rattle.std.proofs.lemmas.List.{get_or_append_left}
 use Rattle.std.proofs.lemmas.Option.{slice_get_within, get_or_from_slice_get, slice_get-get_or}
 use Rattle.plist_value.specs.Plist.{text, Plist, scalar, list, table, Items, no_items, item, Pairs, no_pairs, pair}
 use Rattle.plist_object.specs.Objects.{Held, holds_scalar}
-use Rattle.plist_draft.specs.Told.{SpellsBy, SpellItemsBy, SpellPairsBy, Tells, Keeps}
+use Rattle.plist_draft.specs.Told.{SpellsBy, SpellItemsBy, SpellPairsBy, Tells}
 use Rattle.plist_draft.specs.Laws.{AppendingKeeps}
 
 -- what is told in one way of each object is told in another
@@ -47,6 +47,3 @@ appending_keeps helds more =
 pub Tells-last : (helds : List Held) (held : Held) → Tells (helds ++ (held ∷ [])) (length helds) held
 Tells-last [] held = refl
 Tells-last (first ∷ helds) held = Tells-last helds held
-
-pub Keeps-same : (old new : List Held) → new ≡ old → Keeps old new
-Keeps-same old new same = rw same (record { value = λ i v h. h; items = λ refs vs h. h; pairs = λ rows ps h. h })

@@ -12,7 +12,7 @@ ghost use Rattle.plist_object.specs.Objects.{holds_scalar, holds_list, holds_tab
 ghost use Rattle.plist_object.specs.Sizes.{IsSmall};
 ghost use Rattle.plist_object.specs.Spelled.{IsBinary};
 ghost use Rattle.plist_draft.specs.Stored.{AreKept, IsDraft, draft_file};
-ghost use Rattle.plist_draft.specs.Proofs.{IsDraft-prop};
+ghost use Rattle.plist_draft.specs.OneProof.{IsDraft-prop};
 ghost use Rattle.plist_draft.specs.Told.{SpellsIn, SpellItemsIn, SpellPairsIn, Keeps, Shows};
 
 use crate::ends::{are_octets, put_places, put_trailer};

@@ -36,6 +36,6 @@ pub(crate) fn put_trailer(
 }
 
 /// Does nothing when it runs: it carries what the type says of octets to the proofs.
-pub(crate) fn are_octets(_octets: &[u8])
-    ensures { AreOctets _octets.now }
+pub(crate) fn are_octets(octets: &[u8])
+    ensures { AreOctets octets.now }
 {}

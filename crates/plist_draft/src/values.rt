@@ -12,7 +12,7 @@ use std::alloc::{AllocError, Global};
 use std::collections::BTreeMap;
 
 /// Puts the value behind the objects of the draft, each list and table behind what it holds, and answers the number of
-/// its object. No two objects are shared.
+/// its object. Equal values become objects of their own.
 ///
 /// # Errors
 ///
