@@ -1,8 +1,8 @@
--- Feeding units four at a time.
-use Rattle.std.proofs.Common.{◌≡◌, ℕ, ◌+◌, ◌≤◌, List, ◌∷◌, ◌++◌, length, drop, slice_index, arith}
+-- Feeding units four at a time, and eight.
+use Rattle.std.proofs.Common.{◌≡◌, ℕ, ◌+◌, ◌<◌, ◌≤◌, List, [], ◌∷◌, ◌++◌, length, drop, take, slice_index, refl, arith}
 use Rattle.std.proofs.lemmas.List.{drop_more}
 use Rattle.std.specs.Hash as fed
-use Rattle.plist_value.specs.Hashes.{fed_units, word_from}
+use Rattle.plist_value.specs.Hashes.{fed_narrow, fed_units, seven_and, word_from}
 
 -- the next four are one number
 pub fed_units-word : (units : List ℕ) (i : ℕ) → i + 4 ≤ length units → fed_units (drop i units) ≡ fed.u64 (word_from i units) ++ fed_units (drop (i + 4) units)
@@ -14,3 +14,38 @@ fed_units-word units i h =
     let two : i + 2 ≡ i + 1 + 1 = omega arith in
     let four : i + 4 ≡ i + 1 + 1 + 1 + 1 = omega arith in
     rw (a, b, c, d, four, two)
+
+-- eight narrow units are one write
+pub fed_narrow-eight : (xs : List ℕ) → 8 ≤ length xs → fed_narrow xs ≡ take 8 xs ∷ fed_narrow (drop 8 xs)
+fed_narrow-eight [] h = absurd (omega arith)
+fed_narrow-eight (a ∷ []) h = absurd (omega arith)
+fed_narrow-eight (a ∷ b ∷ []) h = absurd (omega arith)
+fed_narrow-eight (a ∷ b ∷ c ∷ []) h = absurd (omega arith)
+fed_narrow-eight (a ∷ b ∷ c ∷ d ∷ []) h = absurd (omega arith)
+fed_narrow-eight (a ∷ b ∷ c ∷ d ∷ e ∷ []) h = absurd (omega arith)
+fed_narrow-eight (a ∷ b ∷ c ∷ d ∷ e ∷ f ∷ []) h = absurd (omega arith)
+fed_narrow-eight (a ∷ b ∷ c ∷ d ∷ e ∷ f ∷ g ∷ []) h = absurd (omega arith)
+fed_narrow-eight (a ∷ b ∷ c ∷ d ∷ e ∷ f ∷ g ∷ k ∷ rest) h = refl
+
+pub seven_and-eight : (xs : List ℕ) → 8 ≤ length xs → seven_and xs (slice_index xs 7) ≡ take 8 xs
+seven_and-eight [] h = absurd (omega arith)
+seven_and-eight (a ∷ []) h = absurd (omega arith)
+seven_and-eight (a ∷ b ∷ []) h = absurd (omega arith)
+seven_and-eight (a ∷ b ∷ c ∷ []) h = absurd (omega arith)
+seven_and-eight (a ∷ b ∷ c ∷ d ∷ []) h = absurd (omega arith)
+seven_and-eight (a ∷ b ∷ c ∷ d ∷ e ∷ []) h = absurd (omega arith)
+seven_and-eight (a ∷ b ∷ c ∷ d ∷ e ∷ f ∷ []) h = absurd (omega arith)
+seven_and-eight (a ∷ b ∷ c ∷ d ∷ e ∷ f ∷ g ∷ []) h = absurd (omega arith)
+seven_and-eight (a ∷ b ∷ c ∷ d ∷ e ∷ f ∷ g ∷ k ∷ rest) h = refl
+
+-- and fewer are the last
+pub fed_narrow-last : (xs : List ℕ) → length xs < 8 → fed_narrow xs ≡ seven_and xs (128 + length xs) ∷ []
+fed_narrow-last [] h = refl
+fed_narrow-last (a ∷ []) h = refl
+fed_narrow-last (a ∷ b ∷ []) h = refl
+fed_narrow-last (a ∷ b ∷ c ∷ []) h = refl
+fed_narrow-last (a ∷ b ∷ c ∷ d ∷ []) h = refl
+fed_narrow-last (a ∷ b ∷ c ∷ d ∷ e ∷ []) h = refl
+fed_narrow-last (a ∷ b ∷ c ∷ d ∷ e ∷ f ∷ []) h = refl
+fed_narrow-last (a ∷ b ∷ c ∷ d ∷ e ∷ f ∷ g ∷ []) h = refl
+fed_narrow-last (a ∷ b ∷ c ∷ d ∷ e ∷ f ∷ g ∷ k ∷ rest) h = absurd (omega arith)

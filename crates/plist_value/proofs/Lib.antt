@@ -1,3 +1,4 @@
+pub mod NarrowUnits
 pub mod Keys
 pub mod WideUnits
 pub mod Pairs

@@ -1,5 +1,5 @@
 -- Equality of scalars as a test, and what each scalar feeds a hasher.
-use Rattle.std.specs.Prelude.{ℕ, Bool, false, List, [], ◌∷◌, ◌++◌, nat_eq}
+use Rattle.std.specs.Prelude.{ℕ, Bool, false, List, ◌∷◌, ◌++◌, nat_eq}
 use Rattle.std.specs.Cmp.Lexicographic.{pointwise}
 use Rattle.std.specs.Ordering.{int_eq}
 use Rattle.std.specs.Hash as fed
@@ -18,9 +18,9 @@ scalar_eq (moment xs) (moment ys) = pointwise nat_eq xs ys
 scalar_eq (bytes xs) (bytes ys) = pointwise nat_eq xs ys
 scalar_eq s t = false
 
--- the content, and then the kind; octets go in one piece
+-- the content, and then the kind, where it is no text; octets go in one piece
 abbrev pub fed_scalar : Scalar → List (List ℕ)
-fed_scalar (text units) = fed_text units ++ fed.u8 0
+fed_scalar (text units) = fed_text units
 fed_scalar (whole z) = fed.i128 z ++ fed.u8 1
 fed_scalar (flag b) = fed.bool b ++ fed.u8 2
 fed_scalar (real4 xs) = xs ∷ fed.u8 3

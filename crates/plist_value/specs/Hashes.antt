@@ -1,9 +1,10 @@
--- What a text feeds a hasher: its length, and then its units, four at a time.
-use Rattle.std.specs.Prelude.{ℕ, ◌+◌, ◌*◌, List, [], ◌∷◌, ◌++◌, length, slice_index, drop}
+-- What a text feeds a hasher: units below 256 eight at a time, and others four at a time.
+use Rattle.std.specs.Prelude.{ℕ, ◌+◌, ◌-◌, ◌*◌, if◌then◌else◌, List, [], ◌∷◌, ◌++◌, length, replicate, slice_index, drop}
 use Rattle.std.specs.declared.cmp.Ordering.{Ordering}
 use Rattle.std.specs.Ordering.{nat_cmp}
 use Rattle.std.specs.Cmp.Lexicographic.{slice_cmp}
 use Rattle.std.specs.Hash as fed
+use Rattle.plist_value.specs.Narrow.{are_narrow}
 
 -- two units as one number, the first in the lower half
 abbrev pub pair_word : ℕ → ℕ → ℕ
@@ -28,8 +29,23 @@ fed_units (a ∷ b ∷ []) = fed.u64 (word a b 0 0)
 fed_units (a ∷ b ∷ c ∷ []) = fed.u64 (word a b c 0)
 fed_units (a ∷ b ∷ c ∷ d ∷ rest) = fed.u64 (word a b c d) ++ fed_units rest
 
+-- the number of units, the units, and 255
+abbrev pub fed_wide : List ℕ → List (List ℕ)
+fed_wide units = fed.usize (length units) ++ (fed_units units ++ fed.u8 255)
+
+-- Each eight units are the octets of one write. The last write has those that are left, zeros, and 128 and their number.
+abbrev pub fed_narrow : List ℕ → List (List ℕ)
+fed_narrow (a ∷ b ∷ c ∷ d ∷ e ∷ f ∷ g ∷ h ∷ rest) = (a ∷ b ∷ c ∷ d ∷ e ∷ f ∷ g ∷ h ∷ []) ∷ fed_narrow rest
+fed_narrow rest = (rest ++ (replicate (7 - length rest) 0 ++ ((128 + length rest) ∷ []))) ∷ []
+
+-- its last octet is above 127, which the kind of no other scalar is
 abbrev pub fed_text : List ℕ → List (List ℕ)
-fed_text units = fed.usize (length units) ++ fed_units units
+fed_text units = if are_narrow units then fed_narrow units else fed_wide units
+
+-- the first seven octets, zeros behind the end, and another
+abbrev pub seven_and : List ℕ → ℕ → List ℕ
+seven_and xs last =
+    slice_index xs 0 ∷ slice_index xs 1 ∷ slice_index xs 2 ∷ slice_index xs 3 ∷ slice_index xs 4 ∷ slice_index xs 5 ∷ slice_index xs 6 ∷ last ∷ []
 
 -- the order of two lists from a place on
 abbrev pub order_from : ℕ → List ℕ → List ℕ → Ordering

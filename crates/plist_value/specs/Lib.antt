@@ -2,6 +2,7 @@ pub mod Plist
 pub mod Limits
 pub mod Numbers
 pub mod View
+pub mod Narrow
 pub mod Texts
 pub mod Scalars
 pub mod Wholes

@@ -121,7 +121,7 @@ impl<'a> Eq for ScalarRef<'a> {
 }
 
 /// By the content and the kind alone. The kind comes last: a hasher that takes eight octets at a time is fed whole
-/// words before it. Octets are fed in one write.
+/// words before it. Of a text the last octet is above all other kinds. Octets are fed in one write.
 impl<'a> Hash for ScalarRef<'a> {
     ghost hash_input = { λ scalar. fed_scalar (content_of scalar) };
 
@@ -129,7 +129,7 @@ impl<'a> Hash for ScalarRef<'a> {
 
     fn hash<H: Hasher>(&self, state: &mut H) {
         match self {
-            ScalarRef::Text(text) => hash_content(text, 0, state),
+            ScalarRef::Text(text) => text.hash(state),
             ScalarRef::Whole(whole) => hash_content(whole, 1, state),
             ScalarRef::Flag(flag) => hash_content(flag, 2, state),
             ScalarRef::Real4(octets) => hash_octets(octets, 3, state),

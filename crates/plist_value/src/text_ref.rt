@@ -1,12 +1,14 @@
 //! Texts that are borrowed.
 ghost use Rattle.std.specs.Prelude.{◌≡◌, ◌<◌, ◌≤◌, ◌+◌, ◌%◌, ◌↔◌, IsSome};
-ghost use Rattle.std.specs.Prelude.{IfSome, All, true, false, nat_eq, length, slice_index, fold};
+ghost use Rattle.std.specs.Prelude.{IfSome, All, true, false, nat_eq, length, slice_index, drop, fold};
 ghost use Rattle.std.specs.Ordering.{nat_cmp, on, as_partial_cmp};
 ghost use Rattle.std.specs.Cmp.{partial_order_from_own_ties};
 ghost use Rattle.std.specs.Cmp.Lexicographic.{pointwise, slice_cmp, bytes_decides};
 ghost use Rattle.std.specs.Cmp.Rules.{comparing};
 ghost use Rattle.std.specs.Hash.{on_Alike, same_Alike};
-ghost use Rattle.plist_value.specs.Hashes.{fed_text, fed_units, pair_from, word_from};
+ghost use Rattle.plist_value.specs.Narrow.{are_narrow};
+ghost use Rattle.plist_value.specs.Hashes.{fed_narrow, fed_text, fed_units, fed_wide};
+ghost use Rattle.plist_value.specs.Hashes.{pair_from, seven_and, word_from};
 ghost use Rattle.std.proofs.Common.{rules};
 ghost use Rattle.plist_value.specs.Texts.{units_of, wide_units, is_ascii_kept};
 
@@ -119,6 +121,37 @@ impl<'a> TextRef<'a> {
         }
     }
 
+    // The unit that stands `k` places behind the place `i`, or 0 behind the end.
+    fn octet(&self, i: usize, k: usize) -> u8
+        requires narrow { are_narrow (units_of self.now) ≡ true }
+        requires within { i ≤ length (units_of self.now) }
+        ensures { result ≡ slice_index (drop i (units_of self.now)) k }
+    {
+        if k < self.len() - i {
+            self.unit(i + k) as u8
+        } else {
+            0
+        }
+    }
+
+    // The seven units from the place `i` on, zeros behind the end, and another octet.
+    fn seven_and(&self, i: usize, last: u8) -> [u8; 8]
+        requires narrow { are_narrow (units_of self.now) ≡ true }
+        requires within { i ≤ length (units_of self.now) }
+        ensures { result ≡ seven_and (drop i (units_of self.now)) last }
+    {
+        [
+            self.octet(i, 0),
+            self.octet(i, 1),
+            self.octet(i, 2),
+            self.octet(i, 3),
+            self.octet(i, 4),
+            self.octet(i, 5),
+            self.octet(i, 6),
+            last,
+        ]
+    }
+
     // The four units from the place `i` on, the first in the lowest bits.
     fn word_at(&self, i: usize) -> u64
         requires { i + 4 ≤ length (units_of self.now) }
@@ -201,20 +234,60 @@ impl<'a> PartialOrd for TextRef<'a> {
     }
 }
 
-/// By the units alone, in place: their number, and then four in each write, of which the last may have fewer.
+/// By the units alone, in place: eight in each write where all are below 256, and otherwise four.
 impl<'a> Hash for TextRef<'a> {
     ghost hash_input = { λ text. fed_text (units_of text) };
 
     ghost respects_eq = { (on_Alike units_of (same_Alike fed_text bytes_decides)).fed };
 
     fn hash<H: Hasher>(&self, state: &mut H) {
-        state.write_usize(self.len());
-        match self.kept {
-            Kept::Units(units) => feed(units, state),
-            Kept::Ascii(text) => feed_octets(text.as_bytes(), state),
-            _ => feed_each(self, state),
+        if let Kept::Ascii(text) = self.kept {
+            feed_octets(text.as_bytes(), state);
+        } else if is_narrow(self) {
+            feed_narrow(self, state);
+        } else {
+            feed_wide(self, state);
         }
     }
+}
+
+// Whether all units are below 256.
+fn is_narrow(text: &TextRef) -> bool
+    ensures { result ≡ are_narrow (units_of text.now) }
+{
+    let text = *text;
+    let mut most = 0;
+    for i in 0..text.len() {
+        let unit = text.unit(i);
+        if unit > most {
+            most = unit;
+        }
+    }
+    most < 256
+}
+
+// However it is kept; the octets of a slice are fed faster.
+fn feed_narrow<H: Hasher>(text: &TextRef, state: &mut H)
+    requires { are_narrow (units_of text.now) ≡ true }
+    ensures { state.new ≡ fold H.write state.old (fed_narrow (units_of text.now)) }
+{
+    let words = text.len() / 8;
+    for i in 0..words {
+        state.write(&text.seven_and(8 * i, text.octet(8 * i, 7)));
+    }
+    let i = 8 * words;
+    state.write(&text.seven_and(i, 128 + (text.len() - i) as u8));
+}
+
+fn feed_wide<H: Hasher>(text: &TextRef, state: &mut H)
+    ensures { state.new ≡ fold H.write state.old (fed_wide (units_of text.now)) }
+{
+    state.write_usize(text.len());
+    match text.kept {
+        Kept::Units(units) => feed(units, state),
+        _ => feed_each(text, state),
+    }
+    state.write_u8(255);
 }
 
 // However it is kept; the units of a slice are fed faster.

@@ -1,9 +1,10 @@
-//! Four units as one number.
+//! Units as numbers, and what a hasher is fed of them.
 ghost use Rattle.std.specs.Prelude.{◌≡◌, ◌≢◌, ◌+◌, ◌≤◌, length, slice_index, fold};
 ghost use Rattle.std.specs.Ordering.{nat_cmp};
 ghost use Rattle.std.specs.Cmp.Lexicographic.{slice_cmp};
 ghost use Rattle.plist_value.specs.Plist.{AreUnits};
-ghost use Rattle.plist_value.specs.Hashes.{fed_units, word, pair_from, word_from, order_from};
+ghost use Rattle.plist_value.specs.Hashes.{fed_text, fed_units, seven_and, word, pair_from};
+ghost use Rattle.plist_value.specs.Hashes.{word_from, order_from};
 
 use std::cmp::Ordering;
 use std::hash::Hasher;
@@ -35,26 +36,40 @@ pub(crate) fn feed<H: Hasher>(units: &[u16], state: &mut H)
     }
 }
 
-/// Feeds the octets, a unit in each, likewise.
+/// Feeds the octets, a unit in each, to the hasher: eight in each write, and in a last one those that are left.
 pub(crate) fn feed_octets<H: Hasher>(octets: &[u8], state: &mut H)
-    ensures { state.new ≡ fold H.write state.old (fed_units octets.now) }
+    ensures { state.new ≡ fold H.write state.old (fed_text octets.now) }
 {
     let mut rest = octets;
-    while let [a, b, c, d, behind @ ..] = rest {
-        let (a, b) = (u16::from(*a), u16::from(*b));
-        let (c, d) = (u16::from(*c), u16::from(*d));
-        state.write_u64(word(a, b, c, d));
+    while rest.len() >= 8 {
+        let (eight, behind) = rest.split_at(8);
+        state.write(eight);
         rest = behind;
     }
-    match rest {
-        [] => {}
-        [a] => state.write_u64(word(u16::from(*a), 0, 0, 0)),
-        [a, b] => state.write_u64(word(u16::from(*a), u16::from(*b), 0, 0)),
-        [a, b, c, ..] => {
-            let (a, b, c) = (u16::from(*a), u16::from(*b), u16::from(*c));
-            state.write_u64(word(a, b, c, 0));
-        }
-    }
+    state.write(&seven_and(rest, 128 + rest.len() as u8));
+}
+
+// The first seven octets, zeros behind the end, and another.
+fn seven_and(octets: &[u8], last: u8) -> [u8; 8]
+    ensures { result ≡ seven_and octets.now last }
+{
+    [
+        octet(octets, 0),
+        octet(octets, 1),
+        octet(octets, 2),
+        octet(octets, 3),
+        octet(octets, 4),
+        octet(octets, 5),
+        octet(octets, 6),
+        last,
+    ]
+}
+
+// The octet at the place, or 0 behind the end.
+fn octet(octets: &[u8], i: usize) -> u8
+    ensures { result ≡ slice_index octets.now i }
+{
+    if i < octets.len() { octets[i] } else { 0 }
 }
 
 fn unit_pair(units: &[u16], i: usize) -> u32

@@ -1,0 +1,7 @@
+-- Units that fit in one octet each.
+use Rattle.std.specs.Prelude.{ℕ, Bool, nat_lt, List}
+use Rattle.std.specs.List.{list_all}
+
+-- whether all units are below 256
+abbrev pub are_narrow : List ℕ → Bool
+are_narrow units = list_all (λ unit. nat_lt unit 256) units
