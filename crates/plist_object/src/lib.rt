@@ -2,6 +2,7 @@
 //! canonical spelling of an object.
 #![tactic(auto)]
 
+mod digits;
 pub mod laws;
 pub mod layout;
 pub mod lengths;

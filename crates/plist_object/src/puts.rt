@@ -12,12 +12,12 @@ ghost use Rattle.plist_object.specs.Spelling.{head, least_integer, list_spelling
 ghost use Rattle.plist_object.specs.Spelling.{references, table_spelling, scalar_spelling};
 ghost use Rattle.plist_object.specs.Spelling.{text_spelling, whole_spelling};
 
+use crate::digits::{push_four, push_number, push_octet, push_octets, push_two};
 use crate::lengths::{head_length, is_ascii, list_length, table_length, width_of};
 use crate::markers::{
     ASCII, DATA, FALSE, LIST, MOMENT_8, REAL_4, REAL_8, TABLE, TRUE, WHOLE_1, WHOLE_2, WHOLE_4,
     WHOLE_8, WHOLE_16, WIDE,
 };
-use byteorder::{BigEndian, ByteOrder};
 use plist_value::{ScalarRef, TextRef};
 use std::alloc::AllocError;
 
@@ -239,23 +239,23 @@ fn push_short_references(out: &mut Vec<u8>, width: u8, refs: &[u32])
     requires room { HasRoom out.old (length (references width refs.now)) }
     ensures { Appends out.old out.new (references width refs.now) }
 {
+    if width == 4 {
+        push_fours(out, refs);
+        return;
+    }
     for reference in refs {
         push_number(out, u64::from(*reference), width);
     }
 }
 
-fn push_octet(out: &mut Vec<u8>, octet: u8)
-    requires { HasRoom out.old 1 }
-    ensures { Appends out.old out.new (octet ∷ []) }
+// The references in four octets each, as most files have them that take long.
+fn push_fours(out: &mut Vec<u8>, refs: &[u32])
+    requires { HasRoom out.old (length (references 4 refs.now)) }
+    ensures { Appends out.old out.new (references 4 refs.now) }
 {
-    out.push_reserved(octet);
-}
-
-fn push_octets(out: &mut Vec<u8>, octets: &[u8])
-    requires { HasRoom out.old (length octets.now) }
-    ensures { Appends out.old out.new octets.now }
-{
-    out.extend_from_slice(octets).unwrap();
+    for reference in refs {
+        push_four(out, *reference);
+    }
 }
 
 fn push_marked(out: &mut Vec<u8>, marker: u8, octets: &[u8])
@@ -264,52 +264,6 @@ fn push_marked(out: &mut Vec<u8>, marker: u8, octets: &[u8])
 {
     push_octet(out, marker);
     push_octets(out, octets);
-}
-
-// The number in so many octets.
-fn push_number(out: &mut Vec<u8>, n: u64, width: u8)
-    requires width_least { 1 ≤ width }
-    requires width_most { width ≤ 8 }
-    requires fits { n < 256 ^ width }
-    requires room { HasRoom out.old width }
-    ensures { Appends out.old out.new (big_bytes width n) }
-{
-    match width {
-        1 => push_octet(out, n as u8),
-        2 => push_two(out, n as u16),
-        4 => push_four(out, n as u32),
-        _ => push_digits(out, n, usize::from(width)),
-    }
-}
-
-fn push_two(out: &mut Vec<u8>, n: u16)
-    requires { HasRoom out.old 2 }
-    ensures { Appends out.old out.new (big_bytes 2 n) }
-{
-    let mut digits = [0; 2];
-    BigEndian::write_u16(&mut digits, n);
-    push_octets(out, &digits);
-}
-
-fn push_four(out: &mut Vec<u8>, n: u32)
-    requires { HasRoom out.old 4 }
-    ensures { Appends out.old out.new (big_bytes 4 n) }
-{
-    let mut digits = [0; 4];
-    BigEndian::write_u32(&mut digits, n);
-    push_octets(out, &digits);
-}
-
-fn push_digits(out: &mut Vec<u8>, n: u64, width: usize)
-    requires width_least { 1 ≤ width }
-    requires width_most { width ≤ 8 }
-    requires fits { n < 256 ^ width }
-    requires room { HasRoom out.old width }
-    ensures { Appends out.old out.new (big_bytes width n) }
-{
-    let mut digits = [0; 8];
-    BigEndian::write_uint(&mut digits, n, width);
-    push_octets(out, &digits[..width]);
 }
 
 fn push_integer(out: &mut Vec<u8>, n: u64)
@@ -388,6 +342,6 @@ fn push_wide(out: &mut Vec<u8>, text: &TextRef)
 {
     let text = *text;
     for i in 0..text.len() {
-        push_number(out, u64::from(text.unit(i)), 2);
+        push_two(out, text.unit(i));
     }
 }

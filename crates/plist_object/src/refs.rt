@@ -94,10 +94,24 @@ pub(crate) fn number_in(octets: &[u8], width: usize) -> u64
     requires within { width ≤ length octets.now }
     ensures { result ≡ big_number width octets.now }
 {
+    if width == 4 {
+        u64::from(BigEndian::read_u32(octets))
+    } else {
+        uncommon_number_in(octets, width)
+    }
+}
+
+// The same as `number_in`. A function of its own: to choose among all widths in each caller takes longer than to read.
+#[inline(never)]
+fn uncommon_number_in(octets: &[u8], width: usize) -> u64
+    requires width_least { 1 ≤ width }
+    requires width_most { width ≤ 8 }
+    requires within { width ≤ length octets.now }
+    ensures { result ≡ big_number width octets.now }
+{
     match width {
         1 => u64::from(octets[0]),
         2 => u64::from(BigEndian::read_u16(octets)),
-        4 => u64::from(BigEndian::read_u32(octets)),
         8 => BigEndian::read_u64(octets),
         _ => BigEndian::read_uint(octets, width),
     }

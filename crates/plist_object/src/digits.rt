@@ -1,0 +1,85 @@
+//! Octets and numbers, put where there is room for them.
+ghost use Rattle.std.specs.Prelude.{◌<◌, ◌≤◌, ◌^◌, [], ◌∷◌, length};
+ghost use Rattle.byteorder.specs.Endian.{big_bytes};
+ghost use Rattle.plist_object.specs.Appending.{Appends, HasRoom};
+
+use byteorder::{BigEndian, ByteOrder};
+
+/// One octet.
+pub(crate) fn push_octet(out: &mut Vec<u8>, octet: u8)
+    requires { HasRoom out.old 1 }
+    ensures { Appends out.old out.new (octet ∷ []) }
+{
+    out.push_reserved(octet);
+}
+
+/// All of the octets.
+pub(crate) fn push_octets(out: &mut Vec<u8>, octets: &[u8])
+    requires { HasRoom out.old (length octets.now) }
+    ensures { Appends out.old out.new octets.now }
+{
+    out.extend_from_slice(octets).unwrap();
+}
+
+/// The number in so many octets.
+pub(crate) fn push_number(out: &mut Vec<u8>, n: u64, width: u8)
+    requires width_least { 1 ≤ width }
+    requires width_most { width ≤ 8 }
+    requires fits { n < 256 ^ width }
+    requires room { HasRoom out.old width }
+    ensures { Appends out.old out.new (big_bytes width n) }
+{
+    if width == 4 {
+        push_four(out, n as u32);
+    } else {
+        push_uncommon_number(out, n, width);
+    }
+}
+
+// The same as `push_number`. A function of its own: to choose among all widths in each caller takes longer.
+#[inline(never)]
+fn push_uncommon_number(out: &mut Vec<u8>, n: u64, width: u8)
+    requires width_least { 1 ≤ width }
+    requires width_most { width ≤ 8 }
+    requires fits { n < 256 ^ width }
+    requires room { HasRoom out.old width }
+    ensures { Appends out.old out.new (big_bytes width n) }
+{
+    match width {
+        1 => push_octet(out, n as u8),
+        2 => push_two(out, n as u16),
+        _ => push_digits(out, n, usize::from(width)),
+    }
+}
+
+/// The number in two octets.
+pub(crate) fn push_two(out: &mut Vec<u8>, n: u16)
+    requires { HasRoom out.old 2 }
+    ensures { Appends out.old out.new (big_bytes 2 n) }
+{
+    let mut digits = [0; 2];
+    BigEndian::write_u16(&mut digits, n);
+    push_octets(out, &digits);
+}
+
+/// The number in four octets.
+pub(crate) fn push_four(out: &mut Vec<u8>, n: u32)
+    requires { HasRoom out.old 4 }
+    ensures { Appends out.old out.new (big_bytes 4 n) }
+{
+    let mut digits = [0; 4];
+    BigEndian::write_u32(&mut digits, n);
+    push_octets(out, &digits);
+}
+
+fn push_digits(out: &mut Vec<u8>, n: u64, width: usize)
+    requires width_least { 1 ≤ width }
+    requires width_most { width ≤ 8 }
+    requires fits { n < 256 ^ width }
+    requires room { HasRoom out.old width }
+    ensures { Appends out.old out.new (big_bytes width n) }
+{
+    let mut digits = [0; 8];
+    BigEndian::write_uint(&mut digits, n, width);
+    push_octets(out, &digits[..width]);
+}
