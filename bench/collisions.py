@@ -9,13 +9,14 @@ xor the octets of a write, by a constant, and joins the halves of the product by
 by arithmetic:
 - data: of 32 octets the first 16 are one product of two factors; where the second factor is 0 so is the state,
   whatever the first eight octets are;
-- texts in UTF-16: the second word, four units, undoes the state behind the first;
+- texts in UTF-16: of two words that they feed, the second undoes the state behind the first. A word is four units, or
+  eight where all units of a text are below 256;
 - whole numbers, reals and dates: factors whose product with the constant has 20 zeros at the end of either half are the
   points of a lattice in a square, so the last 20 bits of the state are 0. A set joins both halves of the state by xor,
   which spreads them again: they cost no more than others under any hasher, and stand here to show that.
-Texts in ASCII are left out: of the word that would undo a state seven bits of every sixteen are free, so they could be
-found by search alone. Keys of a dictionary are sorted and not hashed: those that begin alike for 60 characters stand here
-too, since each comparison reads all that two have in common.
+Texts in ASCII are left out: of the word that would undo a state one bit of every eight is not free, so they are found
+by some 256 tries for each, and would cost what those in UTF-16 do. Keys of a dictionary are sorted and not hashed: those
+that begin alike for 60 characters stand here too, since each comparison reads all that two have in common.
 
 Time is that of the processor, the least of five runs. The status is 1 where four times as many take more than six
 times as long, or where 160,000 pieces of data take more than one and a half times as long as as many that do not
@@ -61,17 +62,33 @@ def plain_units(word):
     return units if all(0xA0 <= unit < 0xD800 for unit in units) else None
 
 
-def texts(count):
-    """Texts of eight units, behind which the state is the same."""
-    start, made = behind(SEED, 8), []
+def narrow_units(word):
+    """The eight units below 256 of a word, or None where one is no plain character."""
+    units = tuple(word.to_bytes(8, "little"))
+    return units if 0 not in units else None
+
+
+def undone(count, start, units_of):
+    """Texts of the units of two words, behind which the state is the same: it was `start` before them."""
+    made = []
     for n in itertools.count(1):
         first = n * FACTOR & WORD
         second = behind(start, first) ^ 0x1234_5678_9ABC_1357
-        units = plain_units(first), plain_units(second)
+        units = units_of(first), units_of(second)
         if None not in units:
             made.append(units[0] + units[1])
         if len(made) == count:
             return made
+
+
+def texts(count):
+    """Texts of eight units, which are fed behind their number."""
+    return undone(count, behind(SEED, 8), plain_units)
+
+
+def narrow_texts(count):
+    """Texts of sixteen units below 256."""
+    return undone(count, SEED, narrow_units)
 
 
 def shortest(first, second):
@@ -162,6 +179,8 @@ def unlike(count):
 KINDS = {
     "data": lambda n: (list_of(map_list(data_object, data(n))), text_of(map(data_text, data(n)))),
     "texts": lambda n: (list_of(map_list(text_object, texts(n))), text_of(map(units_text, texts(n)))),
+    "texts below 256": lambda n: (list_of(map_list(text_object, narrow_texts(n))),
+                                  text_of(map(units_text, narrow_texts(n)))),
     "whole numbers": lambda n: (list_of(map_list(whole_object, words(n))), None),
     "reals": lambda n: (list_of([b"\x23" + word.to_bytes(8, "little") for word in words(n)]), None),
     "dates": lambda n: (list_of([b"\x33" + number(word, 8) for word in words(n + n // 100) if finite(word)][:n]), None),
