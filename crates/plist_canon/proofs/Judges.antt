@@ -1,5 +1,5 @@
 -- What is judged of one object.
-use Rattle.std.proofs.Common.{◌≡◌, ℕ, zero, suc, ◌+◌, ◌-◌, ◌<◌, ◌≤◌, List, [], ◌∷◌, ◌++◌, Bool, true, false, Ok, Err, Result, refl, sym, ap, subst, ◌∙◌, arith, inl, inr}
+use Rattle.std.proofs.Common.{◌≡◌, ℕ, zero, suc, ◌+◌, ◌-◌, ◌<◌, ◌≤◌, List, [], ◌∷◌, ◌++◌, length, Bool, true, false, Ok, Err, Result, refl, sym, ap, subst, ◌∙◌, arith, inl, inr}
 use Rattle.std.specs.Prelude.{◌↔◌, ◌≢◌, slice_index, EachIndex, IsOk, IsTrue, not}
 use Rattle.std.specs.declared.cmp.Ordering.TheVariants.{Less}
 use Rattle.std.specs.Ordering.{nat_cmp}
@@ -17,7 +17,7 @@ use Rattle.plist_object.specs.declared.object.ObjectFault.{ObjectFault}
 use Rattle.plist_object.specs.Views.{held_of}
 use Rattle.plist_object.specs.Layout.{trailer_of}
 use Rattle.plist_object.specs.Objects.{Held, holds_scalar, holds_list, holds_table, ◌>>=◌}
-use Rattle.plist_object.specs.Places.{Holds, object_at, what_holds, span_of}
+use Rattle.plist_object.specs.Places.{Holds, object_at, place_of, what_holds, span_of}
 use Rattle.plist_object.proofs.Uniqueness.{same_held}
 use Rattle.plist_canon.specs.declared.repeats.Repeats.{Repeats}
 use Rattle.plist_canon.specs.Rules.{HoldsText, HoldTexts, IsWellRead, HasAscendingKeys, IsNoRepeat, Adjoins}
@@ -61,6 +61,18 @@ span_reads (Err fault) g ok = ok
 pub Holds-span : (f : List ℕ) (i : ℕ) (held : Held) → Holds f i held → IsOk (span_of f i)
 unfolding span_of
 Holds-span f i held holds = span_reads (object_at f i) _ (Holds-reads f i held holds)
+
+-- an object that reads begins at its place
+abbrev ok_pair : ℕ × ℕ → Result (ℕ × ℕ) ObjectFault
+ok_pair p = Ok p
+
+started : (place table : ℕ) (m : Result (Held × List ℕ) ObjectFault) → IsOk m → (end : ℕ) × ((m >>= λ read. ok_pair (place, table - length read.1)) ≡ ok_pair (place, end))
+started place table (Ok read) ok = (table - length read.1, refl)
+started place table (Err fault) ok = absurd (true≢false (sym ok))
+
+pub span-starts : (f : List ℕ) (i : ℕ) → IsOk (object_at f i) → (end : ℕ) × (span_of f i ≡ Ok (place_of f i, end))
+unfolding span_of
+span-starts f i ok = started (place_of f i) (trailer_of f).table (object_at f i) ok
 
 -- texts that the references name
 pub Texts : List ℕ → List ℕ → Type 0
@@ -136,10 +148,7 @@ not-Adjoins f zero place start end before span other adjoins =
 not-Adjoins f (suc i) place start end before span other adjoins =
     other (adjoins.next i before.0 place start end refl before.1 span)
 
-abbrev ok_pair : ℕ × ℕ → Result (ℕ × ℕ) ObjectFault
-ok_pair p = Ok p
-
-same_span : (f : List ℕ) (i a b c d : ℕ) → span_of f i ≡ Ok (a, b) → span_of f i ≡ Ok (c, d) → (a ≡ c) × (b ≡ d)
+pub same_span : (f : List ℕ) (i a b c d : ℕ) → span_of f i ≡ Ok (a, b) → span_of f i ≡ Ok (c, d) → (a ≡ c) × (b ≡ d)
 same_span f i a b c d first second =
     let e : (a, b) ≡ (c, d) = (let e2 : ok_pair (a, b) ≡ ok_pair (c, d) = sym first ∙ second in cc) in
     (ap (λ (p : ℕ × ℕ). p.0) e, ap (λ (p : ℕ × ℕ). p.1) e)

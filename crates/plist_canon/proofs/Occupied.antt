@@ -54,6 +54,7 @@ pub record Occupies (f : List ℕ) (i : ℕ) (octets : List ℕ) : Type 0 where
   pub before : place_of f i < (trailer_of f).table
   pub stands : StandsAt (take (trailer_of f).table f) (place_of f i) octets
   pub span : span_of f i ≡ Ok (place_of f i, place_of f i + length octets)
+  pub within : place_of f i + length octets ≤ (trailer_of f).table
 
 occupies_shortest : (f : List ℕ) (i : ℕ) → (trailer_of f).table ≤ length f → (x : IsShortest f i) → Occupies f i (spelling_of (trailer_of f).reference_width x.held)
 occupies_shortest f i table x =
@@ -70,6 +71,7 @@ occupies_shortest f i table x =
       before = at.before;
       stands = (x.behind, stands);
       span = span-shortest f i x ∙ ap (λ (n : ℕ). Ok (place_of f i, n)) end;
+      within = omega arith;
     }
 
 -- so does an object that holds this and is spelled canonically

@@ -13,8 +13,8 @@ use Rattle.plist_object.specs.References.{references_of}
 use Rattle.plist_canon.specs.Rules.{HoldsScalar, IsWellRead, IsNumberedInPreorder, Reference, held_by, ComesTo, begins, meets, TurnsAt, IsBroken, breaks_c7, leaves_over}
 use Rattle.plist_canon.specs.Preorders.{CanFinish, part_of, part_read, numbers, frame_left, path_left, new_frame, IsKnown, LeadsTo, LeadsOn, visited, Visits, Enters, IsWalking}
 use Rattle.plist_canon.specs.declared.weights.Weight.{Weight}
-use Rattle.plist_canon.specs.Weights.{weight_of, AreWeights, AreAllWeights}
-use Rattle.plist_canon.proofs.Weighing.{scalar-Weighs, AreWeights-push}
+use Rattle.plist_canon.specs.Weights.{AreWeights}
+use Rattle.plist_canon.proofs.Weighing.{scalar-Weighs}
 use Rattle.plist_canon.proofs.Leading.{LeadsOn-append, LeadsOn-trans, LeadsTo-held, held_by-append}
 use Rattle.plist_canon.proofs.Visiting.{CanFinish-all, CanFinish-none, CanFinish-new, CanFinish-other, CanFinish-over, CanFinish-leads, ComesTo-leads}
 
@@ -48,43 +48,26 @@ LeadsOn-visited weights refs items left new frame done i is new_is leads ahead =
     (subst (λ (xs : List Reference). LeadsOn weights xs (first ∷ path_left new)) (sym split)
     (subst (λ (xs : List Reference). LeadsOn weights (frame_left frame ++ path_left left) (first ∷ xs)) (sym after_split) appended))
 
-module _ (f : List ℕ) (number : ℕ) (old : List Frame) (weights told : List Weight) (held : Held)
-    (holds : Holds f number held) (weighed : AreWeights f weights) (counted : length weights ≡ number)
-    (pushed : told ≡ weights ++ (weight_of held ∷ [])) where
-  told-weights : AreWeights f told
-  told-weights =
-      subst (λ (ws : List Weight). AreWeights f ws) (sym pushed) (AreWeights-push f weights held weighed (subst (λ (k : ℕ). Holds f k held) (sym counted) holds))
-
-  told-count : length told ≡ suc number
-  told-count =
-      let long = length-append weights (weight_of held ∷ []) in
-      ap length pushed ∙ (omega arith)
-
-  parts : (new : List Frame) → path_left new ≡ held_by number (part_of false held) ++ (held_by number (part_of true held) ++ path_left old) → path_left new ≡ held_by number (part_read false (what_holds f number)) ++ (held_by number (part_read true (what_holds f number)) ++ path_left old)
+module _ (f : List ℕ) (number : ℕ) (old : List Frame) (held : Held) (holds : Holds f number held) where
+  parts : (new : List Frame) → path_left new ≡ held_by number (part_of false held) ++ (held_by number (part_of true held) ++ path_left old) → Enters f number old new
   parts new left = rw holds.reads left
 
-  pub Enters-none : part_of false held ≡ [] → part_of true held ≡ [] → Enters f number old old weights told
-  Enters-none none_first none_second = record {
-    weighed = told-weights;
-    counted = told-count;
-    left = parts old (sym (ap (λ xs. held_by number xs ++ (held_by number (part_of true held) ++ path_left old)) none_first ∙ ap (λ xs. held_by number xs ++ path_left old) none_second));
-  }
+  pub Enters-none : part_of false held ≡ [] → part_of true held ≡ [] → Enters f number old old
+  Enters-none none_first none_second =
+      parts old (sym (ap (λ xs. held_by number xs ++ (held_by number (part_of true held) ++ path_left old)) none_first ∙ ap (λ xs. held_by number xs ++ path_left old) none_second))
 
-  pub Enters-one : (new : List Frame) (refs : Refs) → part_of false held ≡ numbers_of refs → part_of true held ≡ [] → new ≡ old ++ (new_frame number refs ∷ []) → Enters f number old new weights told
-  Enters-one new refs first none is = record {
-    weighed = told-weights;
-    counted = told-count;
-    left = parts new (ap path_left is ∙ path_left-push old (new_frame number refs) ∙ ap (λ xs. held_by number xs ++ path_left old) (sym first) ∙ ap (λ xs. held_by number (part_of false held) ++ (held_by number xs ++ path_left old)) (sym none));
-  }
+  pub Enters-one : (new : List Frame) (refs : Refs) → part_of false held ≡ numbers_of refs → part_of true held ≡ [] → new ≡ old ++ (new_frame number refs ∷ []) → Enters f number old new
+  Enters-one new refs first none is =
+      parts new (ap path_left is ∙ path_left-push old (new_frame number refs) ∙ ap (λ xs. held_by number xs ++ path_left old) (sym first) ∙ ap (λ xs. held_by number (part_of false held) ++ (held_by number xs ++ path_left old)) (sym none))
 
-  pub Enters-two : (mid new : List Frame) (keys values : Refs) → part_of false held ≡ numbers_of keys → part_of true held ≡ numbers_of values → mid ≡ old ++ (new_frame number values ∷ []) → new ≡ mid ++ (new_frame number keys ∷ []) → Enters f number old new weights told
+  pub Enters-two : (mid new : List Frame) (keys values : Refs) → part_of false held ≡ numbers_of keys → part_of true held ≡ numbers_of values → mid ≡ old ++ (new_frame number values ∷ []) → new ≡ mid ++ (new_frame number keys ∷ []) → Enters f number old new
   Enters-two mid new keys values first second mid_is new_is =
       let mid_left : path_left mid ≡ held_by number (part_of true held) ++ path_left old = ap path_left mid_is ∙ path_left-push old (new_frame number values) ∙ ap (λ xs. held_by number xs ++ path_left old) (sym second) in
-      record {
-        weighed = told-weights;
-        counted = told-count;
-        left = parts new (ap path_left new_is ∙ path_left-push mid (new_frame number keys) ∙ ap (λ xs. held_by number xs ++ path_left mid) (sym first) ∙ ap (λ xs. held_by number (part_of false held) ++ xs) mid_left);
-      }
+      parts new (ap path_left new_is ∙ path_left-push mid (new_frame number keys) ∙ ap (λ xs. held_by number xs ++ path_left mid) (sym first) ∙ ap (λ xs. held_by number (part_of false held) ++ xs) mid_left)
+
+-- a scalar has no references
+pub Enters-scalar : (f : List ℕ) (number : ℕ) (old : List Frame) → HoldsScalar f number → Enters f number old old
+Enters-scalar f number old scalar = Enters-none f number old (holds_scalar scalar.0) scalar.1 refl refl
 
 both-parts : (number : ℕ) (held : Held) (rest : List Reference) → held_by number (references_of held) ++ rest ≡ held_by number (part_of false held) ++ (held_by number (part_of true held) ++ rest)
 both-parts number (holds_scalar s) rest = refl
@@ -92,59 +75,55 @@ both-parts number (holds_list refs) rest = refl
 both-parts number (holds_table keys values) rest =
     ap (λ xs. xs ++ rest) (held_by-append number keys values) ∙ append_assoc (held_by number keys) (held_by number values) rest
 
-entered-left : (f : List ℕ) (number : ℕ) (old new : List Frame) (weights told : List Weight) (held : Held) → Holds f number held → Enters f number old new weights told → path_left new ≡ held_by number (references_of held) ++ path_left old
-entered-left f number old new weights told held holds enters =
-    let left = rw holds.reads at enters.left in
+entered-left : (f : List ℕ) (number : ℕ) (old new : List Frame) (held : Held) → Holds f number held → Enters f number old new → path_left new ≡ held_by number (references_of held) ++ path_left old
+entered-left f number old new held holds enters =
+    let left = rw holds.reads at enters in
     left ∙ sym (both-parts number held (path_left old))
 
 numbers-held : (holder : ℕ) (refs : List ℕ) (rest : List Reference) → numbers (held_by holder refs ++ rest) ≡ refs ++ numbers rest
 numbers-held holder [] rest = refl
 numbers-held holder (i ∷ refs) rest = ap (λ xs. i ∷ xs) (numbers-held holder refs rest)
 
-pub IsWalking-start : (f : List ℕ) (path : List Frame) (told : List Weight) → IsWellRead f 0 → Enters f 0 [] path [] told → IsWalking f 1 path told
-IsWalking-start f path told read enters =
+pub IsWalking-start : (f : List ℕ) (path : List Frame) → IsWellRead f 0 → Enters f 0 [] path → IsWalking f 1 path
+IsWalking-start f path read enters =
     let all = CanFinish-all f in
     let new = CanFinish-new f [] 0 read.held read.holds in
     let refs = references_of read.held in
-    let is : path_left path ≡ held_by 0 refs ++ [] = entered-left f 0 [] path [] told read.held read.holds enters in
+    let is : path_left path ≡ held_by 0 refs ++ [] = entered-left f 0 [] path read.held read.holds enters in
     let numbered_is : numbers (path_left path) ≡ refs ++ [] = ap numbers is ∙ numbers-held 0 refs [] in
     record {
-      weighed = enters.weighed;
-      counted = enters.counted;
       comes = subst (λ (left : List Reference). ComesTo f 1 left) (sym (is ∙ append-nil (held_by 0 refs))) (begins read.held read.holds);
       finishes = subst (λ (left : List ℕ). IsNumberedInPreorder f ↔ CanFinish f left 1) (sym numbered_is) (λ numbered. new.0 (all.0 numbered), λ can. all.1 (new.1 can));
     }
 
-module _ (f : List ℕ) (number : ℕ) (path mid : List Frame) (weights : List Weight) (walking : IsWalking f number path weights) where
+module _ (f : List ℕ) (number : ℕ) (path mid : List Frame) (weights : List Weight) (weighed : AreWeights f weights)
+    (counted : length weights ≡ number) (walking : IsWalking f number path) where
   leads_on : (left : List Reference) → LeadsOn weights (path_left path) left → IsNumberedInPreorder f ↔ CanFinish f (numbers left) number
   leads_on left leads =
       let finishes = walking.finishes in
-      let on = subst (λ (n : ℕ). CanFinish f (numbers (path_left path)) n ↔ CanFinish f (numbers left) n) walking.counted (CanFinish-leads f (path_left path) left weights walking.weighed leads) in
+      let on = subst (λ (n : ℕ). CanFinish f (numbers (path_left path)) n ↔ CanFinish f (numbers left) n) counted (CanFinish-leads f (path_left path) left weights weighed leads) in
       (λ numbered. on.0 (finishes.0 numbered), λ can. finishes.1 (on.1 can))
 
   comes_on : (left : List Reference) → LeadsOn weights (path_left path) left → ComesTo f number left
   comes_on left leads =
-      let before = subst (λ (n : ℕ). ComesTo f n (path_left path)) (sym walking.counted) walking.comes in
-      subst (λ (n : ℕ). ComesTo f n left) walking.counted (ComesTo-leads f (path_left path) left weights walking.weighed leads before)
+      let before = subst (λ (n : ℕ). ComesTo f n (path_left path)) (sym counted) walking.comes in
+      subst (λ (n : ℕ). ComesTo f n left) counted (ComesTo-leads f (path_left path) left weights weighed leads before)
 
   unknown : (i : ℕ) → ¬ IsKnown weights i → i < number → ¬ HoldsScalar f i
   unknown i not_known below scalar =
-      let counted = walking.counted in
       let inside : i < length weights = omega arith in
-      not_known (inside, scalar-Weighs f i _ (walking.weighed i inside) scalar)
+      not_known (inside, scalar-Weighs f i _ (weighed i inside) scalar)
 
-  pub IsWalking-step : (visit : Visit) (new : List Frame) (told : List Weight) → Visits weights path mid (Some visit) → visit.reference ≡ number → IsWellRead f number → Enters f number mid new weights told → IsWalking f (suc number) new told
-  IsWalking-step visit new told visits is read enters =
+  pub IsWalking-step : (visit : Visit) (new : List Frame) → Visits weights path mid (Some visit) → visit.reference ≡ number → IsWellRead f number → Enters f number mid new → IsWalking f (suc number) new
+  IsWalking-step visit new visits is read enters =
       let refs = references_of read.held in
       let next : Reference = record { holder = visit.owner; number = number } in
       let leads = subst (λ (i : ℕ). LeadsOn weights (path_left path) (record { holder = visit.owner; number = i } ∷ path_left mid)) is visits.0 in
       let here = leads_on (next ∷ path_left mid) leads in
       let fresh = CanFinish-new f (numbers (path_left mid)) number read.held read.holds in
-      let left : path_left new ≡ held_by number refs ++ path_left mid = entered-left f number mid new weights told read.held read.holds enters in
+      let left : path_left new ≡ held_by number refs ++ path_left mid = entered-left f number mid new read.held read.holds enters in
       let numbered_left : numbers (path_left new) ≡ refs ++ numbers (path_left mid) = ap numbers left ∙ numbers-held number refs (path_left mid) in
       record {
-        weighed = enters.weighed;
-        counted = enters.counted;
         comes = subst (λ (on : List Reference). ComesTo f (suc number) on) (sym left) (meets number visit.owner read.held (path_left mid) (comes_on (next ∷ path_left mid) leads) read.holds);
         finishes = subst (λ (on : List ℕ). IsNumberedInPreorder f ↔ CanFinish f on (suc number)) (sym numbered_left) (λ numbered. fresh.0 (here.0 numbered), λ can. here.1 (fresh.1 can));
       }
@@ -184,6 +163,3 @@ module _ (f : List ℕ) (number : ℕ) (path mid : List Frame) (weights : List W
   IsWalking-done visits all =
       let here = leads_on [] visits in
       here.1 ((CanFinish-none f number).1 all)
-
-  pub IsWalking-weights : number ≡ (trailer_of f).count → AreAllWeights f weights
-  IsWalking-weights all = record { each = walking.weighed; all = walking.counted ∙ all }

@@ -1,8 +1,8 @@
 -- The weights of objects.
-use Rattle.std.proofs.Common.{◌≡◌, ℕ, ◌<◌, List, [], ◌∷◌, ◌++◌, length, true, refl, sym, ap, subst, ◌∙◌, arith, length-append, inl, inr}
+use Rattle.std.proofs.Common.{◌≡◌, ℕ, ◌+◌, ◌<◌, ◌≤◌, List, [], ◌∷◌, ◌++◌, length, take, true, refl, sym, ap, subst, ◌∙◌, arith, length-append, inl, inr}
 use Rattle.std.specs.Prelude.{slice_index_or}
 use Rattle.std.proofs.lemmas.Bool.{cases_lt, true≢false}
-use Rattle.std.proofs.lemmas.List.{get_or_append_left, get_or_push}
+use Rattle.std.proofs.lemmas.List.{get_or_append_left, get_or_push, get_or-take, length-take-le}
 use Rattle.plist_value.specs.Plist.{Scalar, text, whole, flag, real4, real8, moment, bytes}
 use Rattle.plist_value.specs.Limits.{payload_of_scalar}
 use Rattle.plist_object.specs.Layout.{trailer_of}
@@ -48,18 +48,30 @@ pub scalar-Weighs : (f : List ℕ) (i : ℕ) (weight : Weight) → Weighs f i we
 scalar-Weighs f i weight weighs scalar =
     ap is_scalar_weight (Weighs-held f i weight (holds_scalar scalar.0) weighs scalar.1) ∙ scalar-weight scalar.0
 
-pub AreWeights-push : (f : List ℕ) (weights : List Weight) (held : Held) → AreWeights f weights → Holds f (length weights) held → AreWeights f (weights ++ (weight_of held ∷ []))
-AreWeights-push f weights held weighed holds i below =
+pub AreWeights-more : (f : List ℕ) (weights : List Weight) (number : ℕ) (weight : Weight) → AreWeights f weights → length weights ≡ number → Weighs f number weight → AreWeights f (weights ++ (weight ∷ []))
+AreWeights-more f weights number weight weighed counted weighs i below =
     elim (cases_lt i (length weights)) [
-      | inl before ↦ rw (get_or_append_left weights (weight_of held ∷ []) Container i before) (weighed i before)
+      | inl before ↦ rw (get_or_append_left weights (weight ∷ []) Container i before) (weighed i before)
       | inr past ↦ (
-          let long = length-append weights (weight_of held ∷ []) in
+          let long = length-append weights (weight ∷ []) in
           let is : length weights ≡ i = omega arith in
-          rw (get_or_push weights (weight_of held) Container i is)
-          (record { held = held; holds = subst (λ (k : ℕ). Holds f k held) is holds; is = refl }))
+          rw (get_or_push weights weight Container i is) (subst (λ (k : ℕ). Weighs f k weight) (sym counted ∙ is) weighs))
     ]
+
+pub length-more : (weights : List Weight) (number : ℕ) (weight : Weight) → length weights ≡ number → length (weights ++ (weight ∷ [])) ≡ number + 1
+length-more weights number weight counted =
+    let long = length-append weights (weight ∷ []) in omega arith
 
 pub AreAllWeights-at : (f : List ℕ) (weights : List Weight) → AreAllWeights f weights → (i : ℕ) → i < (trailer_of f).count → Weighs f i (slice_index_or weights i Container)
 AreAllWeights-at f weights all i below =
     let counted = all.all in
     all.each i (omega arith)
+
+-- the weights of the objects below the number
+pub AreAllWeights-front : (f : List ℕ) (weights : List Weight) (number : ℕ) → AreAllWeights f weights → number ≤ (trailer_of f).count → AreWeights f (take number weights) × (length (take number weights) ≡ number)
+AreAllWeights-front f weights number all most =
+    let counted = all.all in
+    let long : length (take number weights) ≡ number = length-take-le number weights (omega arith) in (
+      λ i below. rw (get_or-take number weights i Container (omega arith)) (all.each i (omega arith)),
+      long,
+    )

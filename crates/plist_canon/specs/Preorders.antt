@@ -1,5 +1,5 @@
 -- What is left to visit in the walk from object 0.
-use Rattle.std.specs.Prelude.{◌≡◌, ◌↔◌, ℕ, suc, ◌<◌, Bool, true, false, if◌then◌else◌, List, [], ◌∷◌, ◌++◌, length, drop, slice_index_or, Result, Ok, Err, Option, Some, None}
+use Rattle.std.specs.Prelude.{◌≡◌, ◌↔◌, ℕ, ◌<◌, Bool, true, false, if◌then◌else◌, List, [], ◌∷◌, ◌++◌, length, drop, slice_index_or, Result, Ok, Err, Option, Some, None}
 use Rattle.std.specs.List.{AllByRecursion}
 use Rattle.plist_object.specs.declared.object.ObjectFault.{ObjectFault}
 use Rattle.plist_object.specs.Layout.{trailer_of}
@@ -8,7 +8,7 @@ use Rattle.plist_object.specs.Places.{what_holds}
 use Rattle.plist_object.specs.Views.{numbers_of}
 use Rattle.plist_object.specs.declared.refs.Refs.{Refs}
 use Rattle.plist_canon.specs.Rules.{Walks, MeetsInOrder, IsNumberedInPreorder, Reference, held_by, ComesTo}
-use Rattle.plist_canon.specs.Weights.{is_scalar_weight, AreWeights}
+use Rattle.plist_canon.specs.Weights.{is_scalar_weight}
 use Rattle.plist_canon.specs.declared.weights.Weight.{Weight}
 use Rattle.plist_canon.specs.declared.weights.Weight.TheVariants.{Container}
 use Rattle.plist_canon.specs.declared.preorder.Frame.{Frame}
@@ -75,15 +75,12 @@ Visits weights old new (Some visit) =
     LeadsOn weights (path_left old) (visited visit ∷ path_left new) × (¬ IsKnown weights visit.reference)
 Visits weights old new None = LeadsOn weights (path_left old) []
 
--- The object was met: its weight is told, and its references are next.
-pub record Enters (f : List ℕ) (number : ℕ) (old new : List Frame) (weights told : List Weight) : Type 0 where
-  pub weighed : AreWeights f told
-  pub counted : length told ≡ suc number
-  pub left : path_left new ≡ held_by number (part_read false (what_holds f number)) ++ (held_by number (part_read true (what_holds f number)) ++ path_left old)
+-- the object was met: its references are next
+abbrev pub Enters : List ℕ → ℕ → List Frame → List Frame → Type 0
+Enters f number old new =
+    path_left new ≡ held_by number (part_read false (what_holds f number)) ++ (held_by number (part_read true (what_holds f number)) ++ path_left old)
 
 -- The objects below the number were met in order, and the walk goes on along the path.
-pub record IsWalking (f : List ℕ) (number : ℕ) (path : List Frame) (weights : List Weight) : Type 0 where
-  pub weighed : AreWeights f weights
-  pub counted : length weights ≡ number
+pub record IsWalking (f : List ℕ) (number : ℕ) (path : List Frame) : Type 0 where
   pub comes : ComesTo f number (path_left path)
   pub finishes : IsNumberedInPreorder f ↔ CanFinish f (numbers (path_left path)) number

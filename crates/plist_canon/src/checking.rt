@@ -161,7 +161,7 @@ fn judge<S: BuildHasher + Copy>(alloc: Global, hasher: S, file: &BinFile) -> Res
     ensures err { IfErr result (IsFlaw (octets_of file.now)) }
 {
     judge_trailer(file)?;
-    judge_objects(alloc, hasher, file)?;
-    let weights = judge_order(alloc, file)?;
+    let weights = judge_objects(alloc, hasher, file)?;
+    judge_order(alloc, file, &weights)?;
     judge_limits(file, &weights)
 }

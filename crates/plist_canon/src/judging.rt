@@ -1,18 +1,20 @@
 //! The rules of the trailer and of each object.
 ghost use Rattle.std.specs.Prelude.{◌≡◌, ◌↔◌, ◌<◌, ℕ, suc, IsTrue, Ok};
-ghost use Rattle.std.specs.Prelude.{IsOk, IfOk, IfErr, IfSome, IfNone, OnOk};
+ghost use Rattle.std.specs.Prelude.{IsOk, IfOk, IfErr, IfSome, OnOk};
 ghost use Rattle.plist_object.specs.Layout.{trailer_of};
-ghost use Rattle.plist_object.specs.Places.{Holds, object_at, span_of};
+ghost use Rattle.plist_object.specs.Places.{Holds, object_at, place_of, span_of};
 ghost use Rattle.plist_object.specs.Views.{held_of, octets_of};
 ghost use Rattle.plist_ranks.specs.Ranks.{AreRanks};
 ghost use Rattle.plist_canon.specs.Rules.{HasPlainTrailer, HasLeastWidths, Adjoins};
 ghost use Rattle.plist_canon.specs.Rules.{IsSpelledCanonically, HasAscendingKeys, IsNoRepeat};
 ghost use Rattle.plist_canon.specs.Checking.{IsFlaw, RefersWell, IsEndBefore};
 ghost use Rattle.plist_canon.specs.Checking.{Follows, IsJudged, HasMet};
+ghost use Rattle.plist_canon.specs.Weights.{Weighs, AreAllWeights};
 
 use crate::references::{keys_ascend, refers_well};
 use crate::repeats::Repeats;
-use plist_object::{BinFile, Object, width_of};
+use crate::weights::Weight;
+use plist_object::{BinFile, Object, scalar_length, width_of};
 use plist_ranks::{Keys, Ranks};
 use std::alloc::{AllocError, AllocFailed, Global};
 use std::hash::BuildHasher;
@@ -83,67 +85,68 @@ fn has_least_widths(file: &BinFile) -> bool
     file.offset_width() == offset_width && file.reference_width() == reference_width
 }
 
-/// Rules 0, 3, 4, 5 and 6 of each object in turn, but for the limits; then the place of the offset table.
+/// Rules 0, 3, 4, 5 and 6 of each object in turn, but for the limits; then the place of the offset table. What is
+/// given are the weights of all objects.
 pub(crate) fn judge_objects<S: BuildHasher + Copy>(
     alloc: Global,
     hasher: S,
     file: &BinFile,
-) -> Result<(), Flaw>
-    ensures judged { OnOk result
-        ((i : ℕ) → i < (trailer_of (octets_of file.now)).count → IsJudged (octets_of file.now) i) }
-    ensures adjoin { OnOk result
-        ((i : ℕ) → i < (trailer_of (octets_of file.now)).count → Adjoins (octets_of file.now) i) }
+) -> Result<Vec<Weight>, Flaw>
+    ensures judged { IfOk result (λ _.
+        (i : ℕ) → i < (trailer_of (octets_of file.now)).count → IsJudged (octets_of file.now) i) }
+    ensures adjoin { IfOk result (λ _.
+        (i : ℕ) → i < (trailer_of (octets_of file.now)).count → Adjoins (octets_of file.now) i) }
+    ensures weights { IfOk result (λ weights. AreAllWeights (octets_of file.now) weights.items) }
     ensures err { IfErr result (IsFlaw (octets_of file.now)) }
 {
-    let placed = judge_places(file);
-    let ranks = rank_keys(alloc, file, placed)?;
+    let ranks = rank_keys(alloc, file)?;
     let mut repeats = Repeats::new(alloc, hasher);
-    for i in 0..placed.objects {
-        judge_object(file, i, &ranks, &mut repeats)?;
+    let mut weights = Vec::new(alloc);
+    let mut end = 8;
+    for i in 0..file.count() {
+        let judged = judge_object(file, i, end, &ranks, &mut repeats)?;
+        weights.push(judged.weight)?;
+        end = judged.end;
     }
-    match placed.flaw {
-        // The references of that object are judged before its place.
-        Some(flaw) => {
-            judge_reading(file, &ranks, placed.objects)?;
-            Err(flaw)
-        }
-        None => judge_table(file, placed),
-    }
+    judge_table(file, end)?;
+    Ok(weights)
 }
 
 // Rule 3 at the last object: the offset table stands where all objects end.
-fn judge_table(file: &BinFile, placed: Placed) -> Result<(), Flaw>
-    requires all { placed.objects ≡ (trailer_of (octets_of file.now)).count }
-    requires follows { (i : ℕ) → i < placed.objects → Follows (octets_of file.now) i }
-    requires ends { IsEndBefore (octets_of file.now) placed.objects placed.end }
+fn judge_table(file: &BinFile, end: u64) -> Result<(), Flaw>
+    requires follows { (i : ℕ) → i < (trailer_of (octets_of file.now)).count
+        → Follows (octets_of file.now) i }
+    requires ends { IsEndBefore (octets_of file.now)
+        (trailer_of (octets_of file.now)).count end }
     ensures adjoin { OnOk result
         ((i : ℕ) → i < (trailer_of (octets_of file.now)).count → Adjoins (octets_of file.now) i) }
     ensures err { IfErr result (IsFlaw (octets_of file.now)) }
 {
-    if placed.end != file.table() {
+    if end != file.table() {
         return Err(Flaw::at(3, file.count() - 1));
     }
     Ok(())
 }
 
-// How far the objects stand one behind the other, from the header on.
-#[derive(Clone, Copy)]
-struct Placed {
-    // How many objects do.
-    objects: u64,
-    // Where the last of them ends.
-    end: u64,
-    // Why the next one does not, if there is one.
-    flaw: Option<Flaw>,
-}
-
-// The ranks of the texts that tables name as keys. Where so many of these texts overlap that they cannot be
-// sorted in time, the first object that does not stand where the one before it ends is answered.
-fn rank_keys<'a>(alloc: Global, file: &BinFile<'a>, placed: Placed) -> Result<Ranks<'a>, Flaw>
-    requires { IfSome placed.flaw (IsFlaw (octets_of file.now)) }
+// The ranks of the texts that tables name as keys.
+fn rank_keys<'a>(alloc: Global, file: &BinFile<'a>) -> Result<Ranks<'a>, Flaw>
     ensures ok { IfOk result (λ ranks. AreRanks (octets_of file.now) ranks) }
     ensures err { IfErr result (IsFlaw (octets_of file.now)) }
 {
+    let mut keys = Keys::of_tables(alloc, file, file.count())?;
+    if keys.overlap() {
+        return rank_placed(alloc, file);
+    }
+    Ok(keys.ranks(alloc, file)?)
+}
+
+// The same where texts overlap: of the tables up to the first object that does not stand where the one before
+// it ends. If so many of their texts overlap that they cannot be sorted in time, that object is answered.
+fn rank_placed<'a>(alloc: Global, file: &BinFile<'a>) -> Result<Ranks<'a>, Flaw>
+    ensures ok { IfOk result (λ ranks. AreRanks (octets_of file.now) ranks) }
+    ensures err { IfErr result (IsFlaw (octets_of file.now)) }
+{
+    let placed = judge_places(file);
     let mut keys = Keys::of_tables(alloc, file, placed.objects)?;
     if let Some(flaw) = placed.flaw {
         if keys.overlap() {
@@ -153,15 +156,18 @@ fn rank_keys<'a>(alloc: Global, file: &BinFile<'a>, placed: Placed) -> Result<Ra
     Ok(keys.ranks(alloc, file)?)
 }
 
+// How far the objects stand one behind the other, from the header on.
+#[derive(Clone, Copy)]
+struct Placed {
+    // How many objects do.
+    objects: u64,
+    // Why the next one does not, if there is one.
+    flaw: Option<Flaw>,
+}
+
 // How far the objects read, and begin where the one before them ends.
 fn judge_places(file: &BinFile) -> Placed
-    ensures follows { (i : ℕ) → i < result.objects → Follows (octets_of file.now) i }
-    ensures ends { IsEndBefore (octets_of file.now) result.objects result.end }
-    ensures flaw { IfSome result.flaw (IsFlaw (octets_of file.now)) }
-    ensures below { IfSome result.flaw
-        (λ _. result.objects < (trailer_of (octets_of file.now)).count) }
-    ensures all { IfNone result.flaw
-        (result.objects ≡ (trailer_of (octets_of file.now)).count) }
+    ensures { IfSome result.flaw (IsFlaw (octets_of file.now)) }
 {
     let count = file.count();
     let mut end = 8;
@@ -171,7 +177,6 @@ fn judge_places(file: &BinFile) -> Placed
             Err(flaw) => {
                 return Placed {
                     objects: i,
-                    end,
                     flaw: Some(flaw),
                 };
             }
@@ -179,30 +184,45 @@ fn judge_places(file: &BinFile) -> Placed
     }
     Placed {
         objects: count,
-        end,
         flaw: None,
     }
 }
 
-// The rules of the object, which begins where the one before it ends.
+// What is kept of an object that follows the rules.
+#[derive(Clone, Copy)]
+struct Judged {
+    weight: Weight,
+    // Where the object ends.
+    end: u64,
+}
+
+// The rules of the object, where the one before it ends at the place.
 fn judge_object<'a, S: BuildHasher>(
     file: &BinFile<'a>,
     i: u64,
+    place: u64,
     ranks: &Ranks,
     repeats: &mut Repeats<'a, S>,
-) -> Result<(), Flaw>
+) -> Result<Judged, Flaw>
     requires listed { i < (trailer_of (octets_of file.now)).count }
-    requires follows { Follows (octets_of file.now) i }
+    requires before { IsEndBefore (octets_of file.now) i place }
     requires ranks { AreRanks (octets_of file.now) ranks.now }
     requires met { HasMet (octets_of file.now) i repeats.old }
-    ensures judged { OnOk result (IsJudged (octets_of file.now) i) }
-    ensures met { OnOk result (HasMet (octets_of file.now) (suc i) repeats.new) }
+    ensures judged { IfOk result (λ _. IsJudged (octets_of file.now) i) }
+    ensures ends { IfOk result (λ judged. span_of (octets_of file.now) i ≡ Ok (place, judged.end)) }
+    ensures weighs { IfOk result (λ judged. Weighs (octets_of file.now) i judged.weight) }
+    ensures met { IfOk result (λ _. HasMet (octets_of file.now) (suc i) repeats.new) }
     ensures err { IfErr result (IsFlaw (octets_of file.now)) }
 {
     let object = judge_reading(file, ranks, i)?;
+    judge_start(file, i, place)?;
     judge_spelling(file, i)?;
     judge_keys(file, ranks, i, &object)?;
-    judge_repeat(file, i, &object, repeats)
+    judge_repeat(file, i, &object, repeats)?;
+    Ok(Judged {
+        weight: Weight::of(&object),
+        end: end_of(file, i, &object),
+    })
 }
 
 // Rule 0 of the object: what it holds.
@@ -222,7 +242,42 @@ fn judge_reading<'a>(file: &BinFile<'a>, ranks: &Ranks, i: u64) -> Result<Object
     Ok(object)
 }
 
-// Rule 3 of the object, but for the place of the offset table: where the object ends, which has to read and to
+// Rule 3 of an object that reads, but for the place of the offset table: it begins at the place.
+fn judge_start(file: &BinFile, i: u64, place: u64) -> Result<(), Flaw>
+    requires listed { i < (trailer_of (octets_of file.now)).count }
+    requires before { IsEndBefore (octets_of file.now) i place }
+    requires reads { IsOk (object_at (octets_of file.now) i) }
+    ensures ok { OnOk result (place_of (octets_of file.now) i ≡ place) }
+    ensures err { IfErr result (IsFlaw (octets_of file.now)) }
+{
+    if file.place(i) != place {
+        return Err(Flaw::at(3, i));
+    }
+    Ok(())
+}
+
+// Where an object ends that stands in its canonical spelling.
+fn end_of(file: &BinFile, i: u64, object: &Object) -> u64
+    requires holds { Holds (octets_of file.now) i (held_of object.now) }
+    requires spelled { IsSpelledCanonically (octets_of file.now) i }
+    ensures { span_of (octets_of file.now) i ≡ Ok (place_of (octets_of file.now) i, result) }
+{
+    match object {
+        Object::Scalar(scalar) if file.table() < 1 << 32 => file.place(i) + scalar_length(scalar),
+        _ => end_read(file, i),
+    }
+}
+
+// Where an object ends, by reading it again.
+fn end_read(file: &BinFile, i: u64) -> u64
+    requires listed { i < (trailer_of (octets_of file.now)).count }
+    requires reads { IsOk (object_at (octets_of file.now) i) }
+    ensures { span_of (octets_of file.now) i ≡ Ok (place_of (octets_of file.now) i, result) }
+{
+    file.span(i).unwrap().1
+}
+
+// Rule 3 of any object, but for the place of the offset table: where the object ends, which has to read and to
 // begin at the place.
 fn judge_place(file: &BinFile, i: u64, place: u64) -> Result<u64, Flaw>
     requires listed { i < (trailer_of (octets_of file.now)).count }

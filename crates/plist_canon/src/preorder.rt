@@ -1,11 +1,11 @@
 //! The walk in preorder from object 0.
-ghost use Rattle.std.specs.Prelude.{◌≡◌, ◌↔◌, ◌<◌, ◌∷◌, ◌++◌, [], length, drop};
+ghost use Rattle.std.specs.Prelude.{◌≡◌, ◌↔◌, ◌<◌, ◌∷◌, ◌++◌, [], drop};
 ghost use Rattle.std.specs.Prelude.{IfOk, IfErr, IfSome, IfNone, OnOk, IsTrue};
 ghost use Rattle.plist_object.specs.Views.{numbers_of, octets_of};
 ghost use Rattle.plist_canon.specs.Rules.{IsNumberedInPreorder, IsWellRead};
 ghost use Rattle.plist_canon.specs.Checking.{IsFlaw, AllRead};
 ghost use Rattle.plist_canon.specs.Preorders.{IsKnown, LeadsTo, Visits, Enters, new_frame};
-ghost use Rattle.plist_canon.specs.Weights.{AreWeights, AreAllWeights};
+ghost use Rattle.plist_canon.specs.Weights.{Weighs, AreAllWeights};
 
 use crate::judging::Flaw;
 use crate::objects::object_of;
@@ -29,48 +29,48 @@ struct Visit {
     reference: u64,
 }
 
-/// Rule 7: the walk meets the objects in the order of their numbers, and only scalars again. Then these are
-/// the weights of all objects.
-pub(crate) fn judge_order(alloc: Global, file: &BinFile) -> Result<Vec<Weight>, Flaw>
-    requires { AllRead (octets_of file.now) }
-    ensures ok { IfOk result (λ _. IsNumberedInPreorder (octets_of file.now)) }
-    ensures weights { IfOk result (λ weights. AreAllWeights (octets_of file.now) weights.items) }
+/// Rule 7: the walk meets the objects in the order of their numbers, and only scalars again.
+pub(crate) fn judge_order(alloc: Global, file: &BinFile, weights: &[Weight]) -> Result<(), Flaw>
+    requires read { AllRead (octets_of file.now) }
+    requires weights { AreAllWeights (octets_of file.now) weights.now }
+    ensures ok { OnOk result (IsNumberedInPreorder (octets_of file.now)) }
     ensures err { IfErr result (IsFlaw (octets_of file.now)) }
 {
     let mut path = Vec::new(alloc);
-    let mut weights = Vec::new(alloc);
-    enter(file, 0, &mut path, &mut weights)?;
+    enter(file, 0, weights[0], &mut path)?;
     for number in 1..file.count() {
-        match next_visit(&mut path, &weights)? {
+        let met = &weights[..number as usize];
+        match next_visit(&mut path, met)? {
             Some(visit) if visit.reference == number => {
-                enter(file, number, &mut path, &mut weights)?;
+                enter(file, number, weights[number as usize], &mut path)?;
             }
             Some(visit) => return Err(Flaw::at(7, visit.owner)),
             None => return Err(Flaw::at(7, 0)),
         }
     }
-    match next_visit(&mut path, &weights)? {
+    match next_visit(&mut path, weights)? {
         Some(visit) => Err(Flaw::at(7, visit.owner)),
-        None => Ok(weights),
+        None => Ok(()),
     }
 }
 
-// The object is met for the first time, and weighed. Its references are next, where it has some.
+// The object, which has this weight, is met for the first time. Its references are next, where it has some.
 fn enter<'a>(
     file: &BinFile<'a>,
     number: u64,
+    weight: Weight,
     path: &mut Vec<Frame<'a>>,
-    weights: &mut Vec<Weight>,
 ) -> Result<(), AllocError>
     requires read { IsWellRead (octets_of file.now) number }
-    requires weighed { AreWeights (octets_of file.now) weights.old.items }
-    requires counted { length weights.old.items ≡ number }
-    ensures { OnOk result (Enters (octets_of file.now) number
-        path.old.items path.new.items weights.old.items weights.new.items) }
+    requires weighs { Weighs (octets_of file.now) number weight }
+    ensures { OnOk result
+        (Enters (octets_of file.now) number path.old.items path.new.items) }
 {
-    let object = object_of(file, number);
-    weights.push(Weight::of(&object))?;
-    match object {
+    // A scalar has no references, and is not read again.
+    if weight.is_scalar() {
+        return Ok(());
+    }
+    match object_of(file, number) {
         Object::Scalar(_) => Ok(()),
         Object::List(items) => push_part(path, number, items),
         Object::Table(keys, values) => {

@@ -1,12 +1,6 @@
-use Rattle.std.proofs.Common.{ℕ, ◌<◌}
 use Rattle.plist_object.specs.Views.{octets_of}
-use Rattle.plist_canon.specs.Checking.{IsEndBefore, Follows}
+use Rattle.plist_canon.specs.Checking.{IsEndBefore}
 use Rattle.plist_canon.proofs.judging.judge_places.Given as goal
 
 abbrev pub invariant-loop-i : goal.invariant-loop-i
-invariant-loop-i l =
-    let f = octets_of l.file in
-    record {
-      follows : (j : ℕ) → j < l.i → Follows f j;
-      ends : IsEndBefore f l.i l.end;
-    }
+invariant-loop-i l = IsEndBefore (octets_of l.file) l.i l.end

@@ -1,66 +1,67 @@
-use Rattle.std.proofs.Common.{◌≡◌, ◌<◌, [], arith, Some, None, add-one}
+use Rattle.std.proofs.Common.{◌≡◌, ◌<◌, [], arith, Some, None, add-one, take, sym, ◌∙◌}
 use Rattle.plist_object.specs.Views.{octets_of}
 use Rattle.plist_object.specs.Layout.{trailer_of}
 use Rattle.plist_canon.specs.Preorders.{Visits, Enters}
-use Rattle.plist_canon.proofs.Paths.{IsWalking-start, IsWalking-step, IsWalking-other, IsWalking-none, IsWalking-over, IsWalking-done, IsWalking-weights}
+use Rattle.plist_canon.proofs.Paths.{IsWalking-start, IsWalking-step, IsWalking-other, IsWalking-none, IsWalking-over, IsWalking-done}
+use Rattle.plist_canon.proofs.Weighing.{AreAllWeights-front}
 use Rattle.plist_canon.proofs.preorder.judge_order.Goals as goal
 
 pub loop-number-init : goal.loop-number-init
 loop-number-init c =
     let f = octets_of c.args.file.now in
     let some = c.args.file.now.laid.trailed.some_object in
-    let enters : Enters f 0 [] c.enter.new.path.items [] c.enter.new.weights.items = rw (c.new-path.ensures.items, c.new-weights.ensures.items) at c.in_ok-enter.ensures in
-    IsWalking-start f c.enter.new.path.items c.enter.new.weights.items (c.requires 0 (omega arith)) enters
+    let enters : Enters f 0 [] c.enter.new.path.items = rw c.new-path.ensures.items at c.in_ok-enter.ensures in
+    IsWalking-start f c.enter.new.path.items (c.requires.read 0 (omega arith)) enters
 
 pub returns-in-Some-2-clause-err : goal.returns-in-Some-2-clause-err
 returns-in-Some-2-clause-err c =
     let f = octets_of c.args.file.now in
     let l = c.loop-number in
-    let visits : Visits l.weights.items l.path.items c.next_visit.new.path.items (Some c.in-Some.visit) = rw (c.deref.ensures.value, c.in-Some.is) at c.in_ok-visit.ensures.visits in
+    let weights = take l.number c.args.weights.now in
+    let front = AreAllWeights-front f c.args.weights.now l.number c.requires.weights (omega (arith, c.loop-number-test.true, c.count-number-end.ensures)) in
+    let visits : Visits weights l.path.items c.next_visit.new.path.items (Some c.in-Some.visit) = rw c.in-Some.is at c.in_ok-visit.ensures.visits in
     rw c.at.ensures
-    (IsWalking-other f l.number l.path.items c.next_visit.new.path.items l.weights.items l.invariant c.in-Some.visit visits c.if-visit-number.false)
+    (IsWalking-other f l.number l.path.items c.next_visit.new.path.items weights front.0 front.1 l.invariant c.in-Some.visit visits c.if-visit-number.false)
 
 pub returns-in-None-clause-err : goal.returns-in-None-clause-err
 returns-in-None-clause-err c =
     let f = octets_of c.args.file.now in
     let l = c.loop-number in
-    let visits : Visits l.weights.items l.path.items c.next_visit.new.path.items None = rw (c.deref.ensures.value, c.in-None.is) at c.in_ok-visit.ensures.visits in
+    let weights = take l.number c.args.weights.now in
     let below : l.number < (trailer_of f).count = omega (arith, c.loop-number-test.true, c.count-number-end.ensures) in
+    let front = AreAllWeights-front f c.args.weights.now l.number c.requires.weights (omega arith) in
+    let visits : Visits weights l.path.items c.next_visit.new.path.items None = rw c.in-None.is at c.in_ok-visit.ensures.visits in
     rw c.at-in-None.ensures
-    (IsWalking-none f l.number l.path.items c.next_visit.new.path.items l.weights.items l.invariant visits below)
+    (IsWalking-none f l.number l.path.items c.next_visit.new.path.items weights front.0 front.1 l.invariant visits below)
 
 pub loop-number-preserved : goal.loop-number-preserved
 loop-number-preserved c =
     let f = octets_of c.args.file.now in
     let l = c.loop-number in
-    let visits : Visits l.weights.items l.path.items c.next_visit.new.path.items (Some c.in-Some.visit) = rw (c.deref.ensures.value, c.in-Some.is) at c.in_ok-visit.ensures.visits in
+    let weights = take l.number c.args.weights.now in
     let below : l.number < (trailer_of f).count = omega (arith, c.loop-number-test.true, c.count-number-end.ensures) in
+    let front = AreAllWeights-front f c.args.weights.now l.number c.requires.weights (omega arith) in
+    let visits : Visits weights l.path.items c.next_visit.new.path.items (Some c.in-Some.visit) = rw c.in-Some.is at c.in_ok-visit.ensures.visits in
     rw add-one
-    (IsWalking-step f l.number l.path.items c.next_visit.new.path.items l.weights.items l.invariant c.in-Some.visit c.enter-in-Some.new.path.items c.enter-in-Some.new.weights.items visits c.if-visit-number.true (c.requires l.number below) c.in_ok-enter-in-Some.ensures)
+    (IsWalking-step f l.number l.path.items c.next_visit.new.path.items weights front.0 front.1 l.invariant c.in-Some.visit c.enter-in-Some.new.path.items visits c.if-visit-number.true (c.requires.read l.number below) c.in_ok-enter-in-Some.ensures)
 
 pub returns-in-Some-3-clause-err : goal.returns-in-Some-3-clause-err
 returns-in-Some-3-clause-err c =
     let f = octets_of c.args.file.now in
     let l = c.loop-number in
+    let weights = c.args.weights.now in
     let some = c.args.file.now.laid.trailed.some_object in
-    let visits : Visits l.weights.items l.path.items c.next_visit-2.new.path.items (Some c.in-Some-3.visit) = rw (c.deref-2.ensures.value, c.in-Some-3.is) at c.in_ok-visit-2.ensures.visits in
     let all : l.number ≡ (trailer_of f).count = omega (arith, c.loop-number-test.false, c.count-number-end.ensures, l.auto.number-end) in
+    let visits : Visits weights l.path.items c.next_visit-2.new.path.items (Some c.in-Some-3.visit) = rw c.in-Some-3.is at c.in_ok-visit-2.ensures.visits in
     rw c.at-in-Some-3.ensures
-    (IsWalking-over f l.number l.path.items c.next_visit-2.new.path.items l.weights.items l.invariant c.in-Some-3.visit visits all)
+    (IsWalking-over f l.number l.path.items c.next_visit-2.new.path.items weights c.requires.weights.each (c.requires.weights.all ∙ sym all) l.invariant c.in-Some-3.visit visits all)
 
 pub returns-clause-ok : goal.returns-clause-ok
 returns-clause-ok c =
     let f = octets_of c.args.file.now in
     let l = c.loop-number in
-    let some = c.args.file.now.laid.trailed.some_object in
-    let visits : Visits l.weights.items l.path.items c.next_visit-2.new.path.items None = rw (c.deref-2.ensures.value, c.in-None-2.is) at c.in_ok-visit-2.ensures.visits in
-    let all : l.number ≡ (trailer_of f).count = omega (arith, c.loop-number-test.false, c.count-number-end.ensures, l.auto.number-end) in
-    IsWalking-done f l.number l.path.items c.next_visit-2.new.path.items l.weights.items l.invariant visits all
-
-pub returns-clause-weights : goal.returns-clause-weights
-returns-clause-weights c =
-    let f = octets_of c.args.file.now in
-    let l = c.loop-number in
+    let weights = c.args.weights.now in
     let some = c.args.file.now.laid.trailed.some_object in
     let all : l.number ≡ (trailer_of f).count = omega (arith, c.loop-number-test.false, c.count-number-end.ensures, l.auto.number-end) in
-    IsWalking-weights f l.number l.path.items c.next_visit-2.new.path.items l.weights.items l.invariant all
+    let visits : Visits weights l.path.items c.next_visit-2.new.path.items None = rw c.in-None-2.is at c.in_ok-visit-2.ensures.visits in
+    IsWalking-done f l.number l.path.items c.next_visit-2.new.path.items weights c.requires.weights.each (c.requires.weights.all ∙ sym all) l.invariant visits all
