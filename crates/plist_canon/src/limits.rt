@@ -47,12 +47,7 @@ fn charge(
     ensures over { IfNone result (Exceeds (octets_of file.now) object levels left) }
 {
     let below = levels.checked_sub(1)?;
-    let weight = weights[object as usize];
-    let left = weight.spend(left)?;
-    // A scalar has no references, and is not read again.
-    if weight.is_scalar() {
-        return Some(left);
-    }
+    let left = weights[object as usize].spend(left)?;
     match object_of(file, object) {
         Object::Scalar(_) => Some(left),
         Object::List(items) => charge_items(file, weights, &items, below, left),
@@ -84,7 +79,34 @@ fn charge_items(
 {
     let mut left = left;
     for k in 0..items.len() {
-        left = charge(file, weights, items.get(k), levels, left)?;
+        left = charge_item(file, weights, items.get(k), levels, left)?;
     }
     Some(left)
+}
+
+// The same as `charge`. A scalar has no references, so it is not read again, and is charged where the list is.
+#[cycle(limits)]
+#[inline(always)]
+fn charge_item(
+    file: &BinFile,
+    weights: &[Weight],
+    object: u64,
+    levels: u64,
+    left: Budget,
+) -> Option<Budget>
+    requires read { AllRead (octets_of file.now) }
+    requires weights { AreAllWeights (octets_of file.now) weights.now }
+    requires ascending { AllAscend (octets_of file.now) }
+    requires listed { object < (trailer_of (octets_of file.now)).count }
+    ensures left { IfSome result (Charges (octets_of file.now) object levels left) }
+    ensures over { IfNone result (Exceeds (octets_of file.now) object levels left) }
+{
+    let weight = weights[object as usize];
+    if !weight.is_scalar() {
+        return charge(file, weights, object, levels, left);
+    }
+    if levels == 0 {
+        return None;
+    }
+    weight.spend(left)
 }

@@ -22,14 +22,6 @@ charge-returns-in_err-left-clause-over t c =
     rw c.from_residual-in_err-left.ensures
     (Exceeds-weighed f i c.args.levels _ c.args.left weighs c.in_err-left.ensures.over)
 
-pub charge-returns-then-is_scalar-clause-left : goal.charge-returns-then-is_scalar-clause-left
-charge-returns-then-is_scalar-clause-left t c =
-    let f = octets_of c.args.file.now in
-    let i = c.args.object in
-    let weighs = AreAllWeights-at f c.args.weights.now c.requires.weights i c.requires.listed in
-    let s = Weighs-scalar f i _ weighs (rw c.is_scalar.ensures at c.if-is_scalar.true) in
-    Charges-weighed f i c.args.levels s.0 _ c.args.left c.in_ok-left.left weighs s.1 (omega (arith, c.in_ok-below.ensures)) c.in_ok-left.ensures.left
-
 pub charge-returns-in-Scalar-clause-left : goal.charge-returns-in-Scalar-clause-left
 charge-returns-in-Scalar-clause-left t c =
     let f = octets_of c.args.file.now in
@@ -156,3 +148,24 @@ charge_items-returns-clause-left t c =
     let refs = numbers_of c.args.items.now in
     let past : length refs ≤ c.loop-k.k = omega (arith, c.loop-k-test.false, c.len-k-end.ensures) in
     ChargesItems-end (octets_of c.args.file.now) refs c.loop-k.k c.args.levels c.args.left c.loop-k.left past c.loop-k.invariant
+
+pub charge_item-returns-then-levels-eq0-clause-over : goal.charge_item-returns-then-levels-eq0-clause-over
+charge_item-returns-then-levels-eq0-clause-over t c =
+    Exceeds-deep (octets_of c.args.file.now) c.args.object c.args.levels c.args.left (omega (arith, c.if-levels-eq0.true))
+
+pub charge_item-returns-clause-left : goal.charge_item-returns-clause-left
+charge_item-returns-clause-left t c =
+    let f = octets_of c.args.file.now in
+    let i = c.args.object in
+    let weighs = AreAllWeights-at f c.args.weights.now c.requires.weights i c.requires.listed in
+    let s = Weighs-scalar f i _ weighs (rw c.is_scalar.ensures at c.if-not-is_scalar.false) in
+    some_map c.spend.result _ (Charges f i c.args.levels c.args.left)
+    (λ after spends. Charges-weighed f i c.args.levels s.0 _ c.args.left after weighs s.1 (omega (arith, c.if-levels-eq0.false)) spends)
+    c.spend.ensures.left
+
+pub charge_item-returns-clause-over : goal.charge_item-returns-clause-over
+charge_item-returns-clause-over t c =
+    let f = octets_of c.args.file.now in
+    let i = c.args.object in
+    let weighs = AreAllWeights-at f c.args.weights.now c.requires.weights i c.requires.listed in
+    none_map c.spend.result _ (Exceeds f i c.args.levels c.args.left) (Exceeds-weighed f i c.args.levels _ c.args.left weighs) c.spend.ensures.over
