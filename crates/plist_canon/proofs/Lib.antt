@@ -2,6 +2,7 @@ pub mod Every
 pub mod Pieced
 pub mod Occupied
 pub mod Ending
+pub mod Plainly
 pub mod Trailed
 pub mod Filed
 pub mod Formed

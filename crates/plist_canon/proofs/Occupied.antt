@@ -12,10 +12,10 @@ use Rattle.plist_canon.specs.Rules.{IsSpelledCanonically}
 use Rattle.plist_canon.proofs.Pieced.{StandsAt}
 
 -- the place of the object i lies between the header and the offset table, where these octets begin
-record IsPlaced (f : List ℕ) (i : ℕ) (octets : List ℕ) : Type 0 where
-  from : 8 ≤ place_of f i
-  before : place_of f i < (trailer_of f).table
-  stands : drop (place_of f i) (take (trailer_of f).table f) ≡ octets
+pub record IsPlaced (f : List ℕ) (i : ℕ) (octets : List ℕ) : Type 0 where
+  pub from : 8 ≤ place_of f i
+  pub before : place_of f i < (trailer_of f).table
+  pub stands : drop (place_of f i) (take (trailer_of f).table f) ≡ octets
 
 placed_by_test : (f : List ℕ) (i : ℕ) (octets : List ℕ) (inside : Bool) → (leb 8 (place_of f i) && ltb (place_of f i) (trailer_of f).table) ≡ inside → cond {A = Result (List ℕ) ObjectFault} inside (Ok (drop (place_of f i) (take (trailer_of f).table f))) (Err BadOffset) ≡ Ok octets → IsPlaced f i octets
 placed_by_test f i octets true is h =
@@ -23,7 +23,7 @@ placed_by_test f i octets true is h =
     record { from = leb-true 8 (place_of f i) parts.0; before = ltb-true (place_of f i) (trailer_of f).table parts.1; stands = cc }
 placed_by_test f i octets false is h = absurd cc
 
-is_placed : (f : List ℕ) (i : ℕ) (octets : List ℕ) → octets_at f i ≡ Ok octets → IsPlaced f i octets
+pub is_placed : (f : List ℕ) (i : ℕ) (octets : List ℕ) → octets_at f i ≡ Ok octets → IsPlaced f i octets
 unfolding octets_at
 is_placed f i octets h = placed_by_test f i octets _ refl h
 

@@ -147,7 +147,7 @@ pub fn check_with_hasher<S: BuildHasher + Copy>(
         (λ verdict. (verdict ≡ Verdict.Canonical) ↔ IsCanonical octets.now) }
 {
     let file = BinFile::of(octets)?;
-    match judge(alloc, hasher, &file) {
+    match judge(alloc, hasher, octets, &file) {
         Ok(()) => Ok(Verdict::Canonical),
         Err(Flaw::Broken { rule, object }) => Ok(Verdict::Broken { rule, object }),
         Err(Flaw::NoMemory) => Err(CheckFault::OutOfMemory),
@@ -155,13 +155,20 @@ pub fn check_with_hasher<S: BuildHasher + Copy>(
 }
 
 // A broken rule, if there is one.
-fn judge<S: BuildHasher + Copy>(alloc: Global, hasher: S, file: &BinFile) -> Result<(), Flaw>
-    requires { AreOctets (octets_of file.now) }
+fn judge<S: BuildHasher + Copy>(
+    alloc: Global,
+    hasher: S,
+    octets: &[u8],
+    file: &BinFile,
+) -> Result<(), Flaw>
+    requires same { octets.now ≡ octets_of file.now }
+    requires valid { AreOctets (octets_of file.now) }
     ensures ok { OnOk result (FollowsRules (octets_of file.now)) }
     ensures err { IfErr result (IsFlaw (octets_of file.now)) }
 {
     judge_trailer(file)?;
-    let weights = judge_objects(alloc, hasher, file)?;
+    let objects = &octets[..file.table() as usize];
+    let weights = judge_objects(alloc, hasher, objects, file)?;
     judge_order(alloc, file, &weights)?;
     judge_limits(file, &weights)
 }

@@ -1,7 +1,8 @@
 //! The rules of the trailer and of each object.
 ghost use Rattle.std.specs.Prelude.{◌≡◌, ◌↔◌, ◌<◌, ℕ, suc, IsTrue, Ok};
-ghost use Rattle.std.specs.Prelude.{IsOk, IfOk, IfErr, IfSome, OnOk};
+ghost use Rattle.std.specs.Prelude.{IsOk, IfOk, IfErr, IfSome, OnOk, take};
 ghost use Rattle.plist_object.specs.Layout.{trailer_of};
+ghost use Rattle.plist_object.specs.Objects.{IsHeld};
 ghost use Rattle.plist_object.specs.Places.{Holds, object_at, place_of, span_of};
 ghost use Rattle.plist_object.specs.Views.{held_of, octets_of};
 ghost use Rattle.plist_ranks.specs.Ranks.{AreRanks};
@@ -11,6 +12,7 @@ ghost use Rattle.plist_canon.specs.Checking.{IsFlaw, RefersWell, IsEndBefore};
 ghost use Rattle.plist_canon.specs.Checking.{Follows, IsJudged, HasMet};
 ghost use Rattle.plist_canon.specs.Weights.{Weighs, AreAllWeights};
 
+use crate::beginning::begins_plainly;
 use crate::references::{keys_ascend, refers_well};
 use crate::repeats::Repeats;
 use crate::weights::Weight;
@@ -85,13 +87,15 @@ fn has_least_widths(file: &BinFile) -> bool
     file.offset_width() == offset_width && file.reference_width() == reference_width
 }
 
-/// Rules 0, 3, 4, 5 and 6 of each object in turn, but for the limits; then the place of the offset table. What is
-/// given are the weights of all objects.
+/// Rules 0, 3, 4, 5 and 6 of each object in turn, but for the limits; then the place of the offset
+/// table. What is given are the weights of all objects, which stand in these octets before the table.
 pub(crate) fn judge_objects<S: BuildHasher + Copy>(
     alloc: Global,
     hasher: S,
+    objects: &[u8],
     file: &BinFile,
 ) -> Result<Vec<Weight>, Flaw>
+    requires { objects.now ≡ take (trailer_of (octets_of file.now)).table (octets_of file.now) }
     ensures judged { IfOk result (λ _.
         (i : ℕ) → i < (trailer_of (octets_of file.now)).count → IsJudged (octets_of file.now) i) }
     ensures adjoin { IfOk result (λ _.
@@ -104,7 +108,7 @@ pub(crate) fn judge_objects<S: BuildHasher + Copy>(
     let mut weights = Vec::new(alloc);
     let mut end = 8;
     for i in 0..file.count() {
-        let judged = judge_object(file, i, end, &ranks, &mut repeats)?;
+        let judged = judge_object(objects, file, i, end, &ranks, &mut repeats)?;
         weights.push(judged.weight)?;
         end = judged.end;
     }
@@ -140,8 +144,9 @@ fn rank_keys<'a>(alloc: Global, file: &BinFile<'a>) -> Result<Ranks<'a>, Flaw>
     Ok(keys.ranks(alloc, file)?)
 }
 
-// The same where texts overlap: of the tables up to the first object that does not stand where the one before
-// it ends. If so many of their texts overlap that they cannot be sorted in time, that object is answered.
+// The same where texts overlap: of the tables up to the first object that does not stand where the
+// one before it ends. If so many of their texts overlap that they cannot be sorted in time, that
+// object is answered.
 fn rank_placed<'a>(alloc: Global, file: &BinFile<'a>) -> Result<Ranks<'a>, Flaw>
     ensures ok { IfOk result (λ ranks. AreRanks (octets_of file.now) ranks) }
     ensures err { IfErr result (IsFlaw (octets_of file.now)) }
@@ -198,12 +203,15 @@ struct Judged {
 
 // The rules of the object, where the one before it ends at the place.
 fn judge_object<'a, S: BuildHasher>(
+    objects: &[u8],
     file: &BinFile<'a>,
     i: u64,
     place: u64,
     ranks: &Ranks,
     repeats: &mut Repeats<'a, S>,
 ) -> Result<Judged, Flaw>
+    requires objects { objects.now
+        ≡ take (trailer_of (octets_of file.now)).table (octets_of file.now) }
     requires listed { i < (trailer_of (octets_of file.now)).count }
     requires before { IsEndBefore (octets_of file.now) i place }
     requires ranks { AreRanks (octets_of file.now) ranks.now }
@@ -216,7 +224,7 @@ fn judge_object<'a, S: BuildHasher>(
 {
     let object = judge_reading(file, ranks, i)?;
     judge_start(file, i, place)?;
-    judge_spelling(file, i)?;
+    judge_spelling(objects, file, i, place, &object)?;
     judge_keys(file, ranks, i, &object)?;
     judge_repeat(file, i, &object, repeats)?;
     Ok(Judged {
@@ -230,6 +238,7 @@ fn judge_reading<'a>(file: &BinFile<'a>, ranks: &Ranks, i: u64) -> Result<Object
     requires ranks { AreRanks (octets_of file.now) ranks.now }
     requires listed { i < (trailer_of (octets_of file.now)).count }
     ensures holds { IfOk result (λ object. Holds (octets_of file.now) i (held_of object)) }
+    ensures valid { IfOk result (λ object. IsHeld (held_of object)) }
     ensures refers { IfOk result (λ object. RefersWell (octets_of file.now) (held_of object)) }
     ensures err { IfErr result (IsFlaw (octets_of file.now)) }
 {
@@ -277,8 +286,8 @@ fn end_read(file: &BinFile, i: u64) -> u64
     file.span(i).unwrap().1
 }
 
-// Rule 3 of any object, but for the place of the offset table: where the object ends, which has to read and to
-// begin at the place.
+// Rule 3 of any object, but for the place of the offset table: where the object ends, which has to
+// read and to begin at the place.
 fn judge_place(file: &BinFile, i: u64, place: u64) -> Result<u64, Flaw>
     requires listed { i < (trailer_of (octets_of file.now)).count }
     requires before { IsEndBefore (octets_of file.now) i place }
@@ -294,13 +303,26 @@ fn judge_place(file: &BinFile, i: u64, place: u64) -> Result<u64, Flaw>
     Ok(end)
 }
 
-// Rule 4 of the object.
-fn judge_spelling(file: &BinFile, i: u64) -> Result<(), Flaw>
-    requires listed { i < (trailer_of (octets_of file.now)).count }
-    requires reads { IsOk (object_at (octets_of file.now) i) }
+// Rule 4 of the object, which begins at the place. Mostly its first octets tell, so it is not read
+// again.
+fn judge_spelling(
+    objects: &[u8],
+    file: &BinFile,
+    i: u64,
+    place: u64,
+    object: &Object,
+) -> Result<(), Flaw>
+    requires objects { objects.now
+        ≡ take (trailer_of (octets_of file.now)).table (octets_of file.now) }
+    requires starts { place_of (octets_of file.now) i ≡ place }
+    requires holds { Holds (octets_of file.now) i (held_of object.now) }
+    requires valid { IsHeld (held_of object.now) }
     ensures ok { OnOk result (IsSpelledCanonically (octets_of file.now) i) }
     ensures err { IfErr result (IsFlaw (octets_of file.now)) }
 {
+    if begins_plainly(&objects[place as usize..], object) {
+        return Ok(());
+    }
     if !file.is_shortest(i).unwrap() {
         return Err(Flaw::at(4, i));
     }

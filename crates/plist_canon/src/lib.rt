@@ -1,6 +1,7 @@
 //! Whether a binary file is the one canonical file of a property list; with it, how that file is made.
 #![tactic(auto)]
 
+mod beginning;
 pub mod checking;
 mod judging;
 pub mod laws;

@@ -19,7 +19,7 @@ judge_limits-requires g c =
     let read : (i : ℕ) → i < (trailer_of f).count → IsWellRead f i = λ i below. (judged i below).read in
     let ascending : (i : ℕ) → i < (trailer_of f).count → HasAscendingKeys f i = λ i below. (judged i below).ascending in
     let numbered = c.in_ok-judge_order.ensures.ok in
-    let v = value_of_walk f c.requires read ascending 0 numbered.entries numbered.walk in
+    let v = value_of_walk f c.requires.valid read ascending 0 numbered.entries numbered.walk in
     record { read = read; weights = rw c.deref-2.ensures.value c.in_ok-weights.ensures.weights; ascending = ascending; spells = (v.0, (v.1, v.2)) }
 
 pub returns-clause-ok : goal.returns-clause-ok

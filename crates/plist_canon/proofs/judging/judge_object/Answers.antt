@@ -4,6 +4,3 @@ use Rattle.plist_canon.proofs.judging.judge_object.Goals as goal
 
 pub judge_start-requires-clause-reads : goal.judge_start-requires-clause-reads
 judge_start-requires-clause-reads g c = Holds-reads (octets_of c.args.file.now) c.args.i (held_of c.in_ok-object.object) c.in_ok-object.ensures.holds
-
-pub judge_spelling-requires-clause-reads : goal.judge_spelling-requires-clause-reads
-judge_spelling-requires-clause-reads g c = Holds-reads (octets_of c.args.file.now) c.args.i (held_of c.in_ok-object.object) c.in_ok-object.ensures.holds
