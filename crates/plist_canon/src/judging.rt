@@ -10,12 +10,10 @@ ghost use Rattle.plist_canon.specs.Rules.{HasPlainTrailer, HasLeastWidths, Adjoi
 ghost use Rattle.plist_canon.specs.Rules.{IsSpelledCanonically, HasAscendingKeys, IsNoRepeat};
 ghost use Rattle.plist_canon.specs.Checking.{IsFlaw, RefersWell, IsEndBefore};
 ghost use Rattle.plist_canon.specs.Checking.{Follows, IsJudged, HasMet};
-ghost use Rattle.plist_canon.specs.Weights.{Weighs, AreAllWeights};
 
 use crate::beginning::begins_plainly;
 use crate::references::{keys_ascend, refers_well};
 use crate::repeats::Repeats;
-use crate::weights::Weight;
 use plist_object::{BinFile, Object, scalar_length, width_of};
 use plist_ranks::{Keys, Ranks};
 use std::alloc::{AllocError, AllocFailed, Global};
@@ -88,32 +86,27 @@ fn has_least_widths(file: &BinFile) -> bool
 }
 
 /// Rules 0, 3, 4, 5 and 6 of each object in turn, but for the limits; then the place of the offset
-/// table. What is given are the weights of all objects, which stand in these octets before the table.
+/// table. All objects stand in these octets before the table.
 pub(crate) fn judge_objects<S: BuildHasher + Copy>(
     alloc: Global,
     hasher: S,
     objects: &[u8],
     file: &BinFile,
-) -> Result<Vec<Weight>, Flaw>
+) -> Result<(), Flaw>
     requires { objects.now ≡ take (trailer_of (octets_of file.now)).table (octets_of file.now) }
-    ensures judged { IfOk result (λ _.
-        (i : ℕ) → i < (trailer_of (octets_of file.now)).count → IsJudged (octets_of file.now) i) }
-    ensures adjoin { IfOk result (λ _.
-        (i : ℕ) → i < (trailer_of (octets_of file.now)).count → Adjoins (octets_of file.now) i) }
-    ensures weights { IfOk result (λ weights. AreAllWeights (octets_of file.now) weights.items) }
+    ensures judged { OnOk result
+        ((i : ℕ) → i < (trailer_of (octets_of file.now)).count → IsJudged (octets_of file.now) i) }
+    ensures adjoin { OnOk result
+        ((i : ℕ) → i < (trailer_of (octets_of file.now)).count → Adjoins (octets_of file.now) i) }
     ensures err { IfErr result (IsFlaw (octets_of file.now)) }
 {
     let ranks = rank_keys(alloc, file)?;
     let mut repeats = Repeats::new(alloc, hasher);
-    let mut weights = Vec::new(alloc);
     let mut end = 8;
     for i in 0..file.count() {
-        let judged = judge_object(objects, file, i, end, &ranks, &mut repeats)?;
-        weights.push(judged.weight)?;
-        end = judged.end;
+        end = judge_object(objects, file, i, end, &ranks, &mut repeats)?;
     }
-    judge_table(file, end)?;
-    Ok(weights)
+    judge_table(file, end)
 }
 
 // Rule 3 at the last object: the offset table stands where all objects end.
@@ -193,15 +186,7 @@ fn judge_places(file: &BinFile) -> Placed
     }
 }
 
-// What is kept of an object that follows the rules.
-#[derive(Clone, Copy)]
-struct Judged {
-    weight: Weight,
-    // Where the object ends.
-    end: u64,
-}
-
-// The rules of the object, where the one before it ends at the place.
+// The rules of the object, where the one before it ends at the place; and where the object ends.
 fn judge_object<'a, S: BuildHasher>(
     objects: &[u8],
     file: &BinFile<'a>,
@@ -209,7 +194,7 @@ fn judge_object<'a, S: BuildHasher>(
     place: u64,
     ranks: &Ranks,
     repeats: &mut Repeats<'a, S>,
-) -> Result<Judged, Flaw>
+) -> Result<u64, Flaw>
     requires objects { objects.now
         ≡ take (trailer_of (octets_of file.now)).table (octets_of file.now) }
     requires listed { i < (trailer_of (octets_of file.now)).count }
@@ -217,8 +202,7 @@ fn judge_object<'a, S: BuildHasher>(
     requires ranks { AreRanks (octets_of file.now) ranks.now }
     requires met { HasMet (octets_of file.now) i repeats.old }
     ensures judged { IfOk result (λ _. IsJudged (octets_of file.now) i) }
-    ensures ends { IfOk result (λ judged. span_of (octets_of file.now) i ≡ Ok (place, judged.end)) }
-    ensures weighs { IfOk result (λ judged. Weighs (octets_of file.now) i judged.weight) }
+    ensures ends { IfOk result (λ end. span_of (octets_of file.now) i ≡ Ok (place, end)) }
     ensures met { IfOk result (λ _. HasMet (octets_of file.now) (suc i) repeats.new) }
     ensures err { IfErr result (IsFlaw (octets_of file.now)) }
 {
@@ -227,10 +211,7 @@ fn judge_object<'a, S: BuildHasher>(
     judge_spelling(objects, file, i, place, &object)?;
     judge_keys(file, ranks, i, &object)?;
     judge_repeat(file, i, &object, repeats)?;
-    Ok(Judged {
-        weight: Weight::of(&object),
-        end: end_of(file, i, &object),
-    })
+    Ok(end_of(file, i, &object))
 }
 
 // Rule 0 of the object: what it holds.

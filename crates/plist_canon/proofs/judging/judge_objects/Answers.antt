@@ -1,11 +1,9 @@
-use Rattle.std.proofs.Common.{◌≡◌, ℕ, ◌<◌, ◌++◌, [], ◌∷◌, length, refl, sym, subst, ◌∙◌, ap, arith, add-one, true≢false}
+use Rattle.std.proofs.Common.{◌≡◌, ℕ, ◌<◌, refl, sym, subst, ◌∙◌, arith, add-one, true≢false}
 use Rattle.std.proofs.lemmas.Result.{on_ok_weaker}
 use Rattle.plist_object.specs.Views.{octets_of}
 use Rattle.plist_object.specs.Layout.{trailer_of}
-use Rattle.plist_canon.specs.Checking.{IsJudged, IsEndBefore, Follows, HasMet}
-use Rattle.plist_canon.specs.Weights.{AreWeights}
+use Rattle.plist_canon.specs.Checking.{IsJudged, IsEndBefore, HasMet}
 use Rattle.plist_canon.proofs.Judges.{below_or_last}
-use Rattle.plist_canon.proofs.Weighing.{AreWeights-more, length-more}
 use Rattle.plist_canon.proofs.judging.judge_objects.Goals as goal
 
 pub loop-i-init : goal.loop-i-init
@@ -13,22 +11,17 @@ loop-i-init g c = record {
   judged = λ j below. absurd (omega (arith, below));
   ends = refl;
   met = λ q. (λ met. absurd (true≢false (sym met ∙ c.new-repeats.ensures q)), λ held. absurd (omega (arith, held.1.0)));
-  weighed = rw c.new-weights.ensures.items (λ j below. absurd (omega (arith, below)));
-  counted = rw c.new-weights.ensures.items refl;
 }
 
 pub loop-i-preserved : goal.loop-i-preserved
 loop-i-preserved g c =
     let f = octets_of c.args.file.now in
     let i = c.loop-i.i in
-    let judged = c.in_ok-judged.judged in
-    let before = c.loop-i.invariant in
+    let end = c.in_ok-end.end in
     record {
-      judged = below_or_last (λ j. IsJudged f j) i before.judged c.in_ok-judged.ensures.judged;
-      ends = subst (λ (n : ℕ). IsEndBefore f n judged.end) (sym (add-one i)) (c.loop-i.end, c.in_ok-judged.ensures.ends);
-      met = subst (λ (n : ℕ). HasMet f n c.judge_object.new.repeats) (sym (add-one i)) c.in_ok-judged.ensures.met;
-      weighed = subst (λ ws. AreWeights f ws) (sym c.in_ok-push.ensures.items) (AreWeights-more f c.loop-i.weights.items i judged.weight before.weighed before.counted c.in_ok-judged.ensures.weighs);
-      counted = ap length c.in_ok-push.ensures.items ∙ length-more c.loop-i.weights.items i judged.weight before.counted;
+      judged = below_or_last (λ j. IsJudged f j) i c.loop-i.invariant.judged c.in_ok-end.ensures.judged;
+      ends = subst (λ (n : ℕ). IsEndBefore f n end) (sym (add-one i)) (c.loop-i.end, c.in_ok-end.ensures.ends);
+      met = subst (λ (n : ℕ). HasMet f n c.judge_object.new.repeats) (sym (add-one i)) c.in_ok-end.ensures.met;
     }
 
 pub judge_table-requires : goal.judge_table-requires
@@ -41,13 +34,8 @@ judge_table-requires g c =
       ends = subst (λ (n : ℕ). IsEndBefore f n c.loop-i.end) all c.loop-i.invariant.ends;
     }
 
-pub returns : goal.returns
-returns g c =
+pub returns-clause-judged : goal.returns-clause-judged
+returns-clause-judged g c =
     let f = octets_of c.args.file.now in
-    let all : c.loop-i.i ≡ (trailer_of f).count = omega (arith, c.loop-i-test.false, c.count-i-end.ensures, c.loop-i.auto.i-end) in
-    record {
-      judged = λ i below. c.loop-i.invariant.judged i (omega (arith, below, all));
-      adjoin = c.in_ok-judge_table.ensures.adjoin;
-      weights = record { each = c.loop-i.invariant.weighed; all = c.loop-i.invariant.counted ∙ all };
-      err = tt;
-    }
+    let judged : (i : ℕ) → i < (trailer_of f).count → IsJudged f i = λ i below. c.loop-i.invariant.judged i (omega (arith, below, c.loop-i-test.false, c.count-i-end.ensures)) in
+    on_ok_weaker c.judge_table.result (λ adjoin. judged) c.judge_table.ensures.adjoin
