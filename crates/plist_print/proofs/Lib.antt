@@ -13,3 +13,4 @@ pub mod PrintSteps
 pub mod Enclosing
 pub mod Turns
 pub mod Ending
+pub mod Plain

@@ -10,7 +10,7 @@ ghost use Rattle.plist_print.specs.Shown.{is_short};
 
 use crate::dates::put_date;
 use crate::reals::{put_double, put_single};
-use crate::texts::{put_chunk, put_unit};
+use crate::texts::{put_chunk, put_some};
 use itoa::Buffer;
 use plist_value::{ScalarRef, TextRef};
 use plist_write::{Pending, Sink, WriteFault, flush};
@@ -114,7 +114,7 @@ fn print_units<W: Sink>(
 {
     let mut place = 0;
     while place < text.len() {
-        let Ok(next) = put_unit(&mut pending.octets, text, place) else {
+        let Ok(next) = put_some(&mut pending.octets, text, place) else {
             return Err(WriteFault::OutOfMemory { sent: pending.sent });
         };
         settle(pending, out)?;

@@ -1,6 +1,7 @@
 //! Texts and data as they are printed.
-ghost use Rattle.std.specs.Prelude.{◌≡◌, ◌<◌, ◌≤◌, ◌++◌, ◌==◌, true, false, length, drop, flat_map};
-ghost use Rattle.std.specs.Prelude.{IfOk, OnOk};
+ghost use Rattle.std.specs.Prelude.{◌≡◌, ◌+◌, ◌*◌, ◌<◌, ◌≤◌, ◌∷◌, ◌++◌, ◌==◌, ℕ, List};
+ghost use Rattle.std.specs.Prelude.{true, false, IsTrue, IfOk, OnOk, length, take, drop, flat_map};
+ghost use Rattle.std.specs.Prelude.{vec_len, vec_capacity};
 ghost use Rattle.std.specs.Char.{digit_char, encode_utf8};
 ghost use Rattle.std.specs.Char.Utf16.{is_high_surrogate, is_low_surrogate, surrogate_pair_char};
 ghost use Rattle.plist_value.specs.Texts.{units_of};
@@ -14,10 +15,30 @@ use std::alloc::AllocError;
 pub(crate) fn put_digits(out: &mut Vec<u8>, octets: &[u8]) -> Result<(), AllocError>
     ensures { OnOk result (out.new.items ≡ out.old.items ++ flat_map two_digits octets.now) }
 {
-    for octet in octets {
-        out.extend_from_slice(&digits_of(*octet))?;
-    }
+    out.reserve(2 * octets.len())?;
+    push_digits(out, octets);
     Ok(())
+}
+
+// The octets as pairs of hexadecimal digits, for which `out` has room.
+fn push_digits(out: &mut Vec<u8>, octets: &[u8])
+    requires { vec_len out.old + 2 * length octets.now ≤ vec_capacity out.old }
+    ensures { out.new.items ≡ out.old.items ++ flat_map two_digits octets.now }
+{
+    for octet in octets {
+        push_octet(out, *octet);
+    }
+}
+
+// The octet as a pair of hexadecimal digits, for which `out` has room.
+fn push_octet(out: &mut Vec<u8>, octet: u8)
+    requires { vec_len out.old + 2 ≤ vec_capacity out.old }
+    ensures items { out.new.items ≡ out.old.items ++ two_digits octet }
+    ensures len { vec_len out.new ≡ vec_len out.old + 2 }
+    ensures room { vec_capacity out.new ≡ vec_capacity out.old }
+{
+    out.push_reserved(digit(octet / 16));
+    out.push_reserved(digit(octet % 16));
 }
 
 // The two hexadecimal digits of an octet.
@@ -53,9 +74,62 @@ pub(crate) fn put_chunk<'a>(out: &mut Vec<u8>, octets: &'a [u8]) -> Result<&'a [
     Ok(left)
 }
 
-/// The unit at the place, with the one behind it where the two are a pair, behind what `out` has. It answers the place
-/// behind them.
-pub(crate) fn put_unit(out: &mut Vec<u8>, text: &TextRef, place: usize) -> Result<usize, AllocError>
+/// Some of the units from the place on, behind what `out` has: a run of those that are printed as they are, if the text
+/// is kept as ASCII, else one unit, or the two of a pair. It answers the place behind them.
+pub(crate) fn put_some(out: &mut Vec<u8>, text: &TextRef, place: usize) -> Result<usize, AllocError>
+    requires { place < length (units_of text.now) }
+    ensures octets { IfOk result (λ next. Puts out.old.items out.new.items
+        (printed_units (drop place (units_of text.now)))
+        (printed_units (drop next (units_of text.now)))) }
+    ensures further { IfOk result (λ next. place < next) }
+    ensures within { IfOk result (λ next. next ≤ length (units_of text.now)) }
+{
+    let Some(octets) = text.octets() else {
+        return put_unit(out, text, place);
+    };
+    let behind = &octets[place..];
+    let run = plain_length(behind);
+    if run == 0 {
+        return put_unit(out, text, place);
+    }
+    out.extend_from_slice(&behind[..run])?;
+    Ok(place + run)
+}
+
+// So many octets of a run are printed at once.
+const RUN: usize = 4096;
+
+// How many octets at the front are printed as they are, up to `RUN`.
+fn plain_length(octets: &[u8]) -> usize
+    ensures within { result ≤ length octets.now }
+    ensures same { printed_units octets.now
+        ≡ take result octets.now ++ printed_units (drop result octets.now) }
+{
+    let most = octets.len().min(RUN);
+    let mut length = 0;
+    while length < most && is_plain(octets[length]) {
+        length += 1;
+    }
+    length
+}
+
+// Whether the octet, as a unit, is printed as it is.
+fn is_plain(octet: u8) -> bool
+    ensures { IsTrue result → (units : List ℕ)
+        → printed_units (octet ∷ units) ≡ octet ∷ printed_units units }
+{
+    if octet < 0x20 || octet > 0x7e {
+        return false;
+    }
+    if octet == b'"' || octet == b'\\' {
+        return false;
+    }
+    true
+}
+
+// The unit at the place, with the one behind it if the two are a pair, behind what `out` has. It answers the place
+// behind them.
+fn put_unit(out: &mut Vec<u8>, text: &TextRef, place: usize) -> Result<usize, AllocError>
     requires { place < length (units_of text.now) }
     ensures octets { IfOk result (λ next. Puts out.old.items out.new.items
         (printed_units (drop place (units_of text.now)))

@@ -20,14 +20,14 @@ returns-in_err-settle-clause-goes g c =
     let e = err_from_is_err_and c.from_residual.result c.from_residual.ensures.1 in
     let us = units_of c.args.text.now in
     let l = c.loop-place in
-    let n : Pending = record { octets = c.put_unit.new.out; sent = l.pending.sent } in
+    let n : Pending = record { octets = c.put_some.new.out; sent = l.pending.sent } in
     rw (e.1, e.2) (Goes-not (printed_units us) (codes "\"") c.args.pending.now _ _ _ _ _ _ (piece-stops l.invariant.done (printed_units (drop l.place us)) (printed_units (drop c.in-Ok.next us)) (printed_units us) c.args.pending.now l.pending n _ _ _ _ l.invariant.split l.invariant.gathers c.in-Ok.ensures.octets refl _ _ _ c.in_err-settle.ensures.goes.stopped))
 
 pub loop-place-preserved : goal.loop-place-preserved
 loop-place-preserved g c =
     let us = units_of c.args.text.now in
     let l = c.loop-place in
-    let n : Pending = record { octets = c.put_unit.new.out; sent = l.pending.sent } in
+    let n : Pending = record { octets = c.put_some.new.out; sent = l.pending.sent } in
     let puts = c.in-Ok.ensures.octets in
     record {
       within = c.in-Ok.ensures.within;

@@ -1,0 +1,49 @@
+-- Units that are printed as they are.
+use Rattle.std.proofs.Common.{◌≡◌, ℕ, ◌+◌, ◌<◌, ◌≤◌, Bool, true, false, ◌&&◌, List, [], ◌∷◌, ◌++◌, take, drop, length, refl, sym, ap, ◌∙◌, arith, append_assoc}
+use Rattle.std.specs.Prelude.{◌==◌, if◌then◌else◌}
+use Rattle.std.specs.Char.{encode_utf8}
+use Rattle.std.specs.Char.Utf16.{is_high_surrogate}
+use Rattle.std.proofs.lemmas.Bool.Decides.{nat_tests}
+use Rattle.std.proofs.lemmas.Str.{encode_ascii}
+use Rattle.std.proofs.Math.Seq.{take-suc, drop-cons}
+use Rattle.plist_print.specs.Units.{is_unseen, printed_unit, printed_units}
+
+if-false : (b : Bool) (xs ys : List ℕ) → b ≡ false → (if b then xs else ys) ≡ ys
+if-false false xs ys e = refl
+if-false true xs ys e = absurd cc
+
+-- an ASCII unit that no escape stands for
+pub record IsPlain (u : ℕ) : Type 0 where
+  pub low : 32 ≤ u
+  pub high : u < 127
+  pub quote : u ≡ 34 → ⊥
+  pub backslash : u ≡ 92 → ⊥
+
+not-equal : (x y : ℕ) → (x ≡ y → ⊥) → (x == y) ≡ false
+not-equal x y h = grind (arith, nat_tests)
+
+seen : (u : ℕ) → 32 ≤ u → u < 127 → is_unseen u ≡ false
+seen u low high = grind (arith, nat_tests)
+
+no-high : (u : ℕ) → u < 127 → is_high_surrogate u ≡ false
+no-high u high = grind (arith, nat_tests)
+
+one : (u : ℕ) → IsPlain u → printed_unit u ≡ u ∷ []
+unfolding printed_unit
+one u p =
+    if-false (u == 34) _ _ (not-equal u 34 p.quote)
+    ∙ if-false (u == 92) _ _ (not-equal u 92 p.backslash)
+    ∙ if-false (u == 10) _ _ (not-equal u 10 (λ e. omega (arith, e, p.low)))
+    ∙ if-false (u == 9) _ _ (not-equal u 9 (λ e. omega (arith, e, p.low)))
+    ∙ if-false (u == 13) _ _ (not-equal u 13 (λ e. omega (arith, e, p.low)))
+    ∙ if-false (is_unseen u) _ _ (seen u p.low p.high)
+    ∙ encode_ascii u (omega (arith, p.high))
+
+if-pair : (b c : Bool) (xs ys : List ℕ) → b ≡ false → (if b && c then xs else ys) ≡ ys
+if-pair false c xs ys e = refl
+if-pair true c xs ys e = absurd cc
+
+pub printed_units-plain : (u : ℕ) (us : List ℕ) → IsPlain u → printed_units (u ∷ us) ≡ u ∷ printed_units us
+printed_units-plain u [] p = one u p
+printed_units-plain u (v ∷ us) p =
+    if-pair (is_high_surrogate u) _ _ _ (no-high u p.high) ∙ ap (λ xs. xs ++ printed_units (v ∷ us)) (one u p)
