@@ -12,7 +12,8 @@ use Rattle.plist_write.specs.declared.sending.WriteFault.{WriteFault}
 use Rattle.plist_write.specs.declared.sending.WriteFault.TheVariants as write
 use Rattle.plist_write.specs.Sending.{IsWritten}
 use Rattle.plist_transfer.specs.Output.{IsOutput, IsOutputFault}
-use Rattle.plist_transfer.specs.Transfer.{NeedsNoMemory, Writes, answer_of}
+use Rattle.plist_files.specs.Sent.{answer_of}
+use Rattle.plist_transfer.specs.Transfer.{NeedsNoMemory, Writes}
 use Rattle.plist_disk.specs.Delivery.{Delivers, Finishes, IsDelivered, IsEmpty, Leaves, reached}
 
 -- the octets before those that are left

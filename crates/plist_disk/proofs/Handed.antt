@@ -5,7 +5,7 @@ use Rattle.plist_files.specs.declared.forms.Form.{Form}
 use Rattle.plist_write.specs.declared.sending.WriteFault.{WriteFault}
 use Rattle.plist_write.specs.declared.sending.WriteFault.TheVariants as write
 use Rattle.plist_write.specs.Sending.{IsWritten}
-use Rattle.plist_transfer.specs.Transfer.{answer_of}
+use Rattle.plist_files.specs.Sent.{answer_of}
 use Rattle.plist_disk.specs.Delivery.{Delivers}
 use Rattle.plist_disk.specs.Files.{CountsFailure, FileName, IsStored, Stores}
 use Rattle.plist_disk.proofs.Stored.{unstored}

@@ -9,7 +9,8 @@ use Rattle.plist_write.specs.declared.sending.WriteFault.{WriteFault}
 use Rattle.plist_write.specs.declared.sending.WriteFault.TheVariants as write
 use Rattle.plist_write.specs.Sending.{IsWritten}
 use Rattle.plist_transfer.specs.Output.{IsOutput, IsOutputFault}
-use Rattle.plist_transfer.specs.Transfer.{Writes, answer_of}
+use Rattle.plist_files.specs.Sent.{answer_of}
+use Rattle.plist_transfer.specs.Transfer.{Writes}
 use Rattle.plist_disk.specs.MemoryDisk.{IsFull, IsFullAt}
 
 -- no refusal of octets is a failure of the device

@@ -16,7 +16,8 @@ use Rattle.plist_write.specs.declared.sending.WriteFault.TheVariants as write
 use Rattle.plist_write.specs.Sending.{IsBlamed, IsWritten, sent_of}
 use Rattle.plist_write.proofs.Sends.{IsShort-within}
 use Rattle.plist_transfer.specs.Output.{IsOutputFault}
-use Rattle.plist_transfer.specs.Transfer.{Writes, answer_of}
+use Rattle.plist_files.specs.Sent.{answer_of}
+use Rattle.plist_transfer.specs.Transfer.{Writes}
 use Rattle.plist_disk.specs.Files.{CountsFailure, FileName, Files, IsStored, SameFiles, Stores}
 
 -- the value of another key, where the keys' map is updated at this one

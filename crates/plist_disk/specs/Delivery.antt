@@ -7,7 +7,8 @@ use Rattle.plist_files.specs.declared.forms.Form.{Form}
 use Rattle.plist_write.specs.Sending.{IsWritten}
 use Rattle.plist_write.specs.declared.sending.WriteFault.{WriteFault}
 use Rattle.plist_transfer.specs.Output.{IsOutput, IsOutputFault}
-use Rattle.plist_transfer.specs.Transfer.{NeedsNoMemory, answer_of}
+use Rattle.plist_files.specs.Sent.{answer_of}
+use Rattle.plist_transfer.specs.Transfer.{NeedsNoMemory}
 
 -- it holds nothing, where it tells
 abbrev pub IsEmpty : Option (List ℕ) → Type 0

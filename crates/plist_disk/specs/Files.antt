@@ -8,7 +8,8 @@ use Rattle.plist_files.specs.declared.loading.TheConstants.{MAX_INPUT}
 use Rattle.plist_write.specs.declared.sending.WriteFault.{WriteFault}
 use Rattle.plist_write.specs.Sending.{IsBlamed, IsShort, sent_of}
 use Rattle.plist_transfer.specs.Output.{IsOutput, IsOutputFault}
-use Rattle.plist_transfer.specs.Transfer.{NeedsNoMemory, answer_of}
+use Rattle.plist_files.specs.Sent.{answer_of}
+use Rattle.plist_transfer.specs.Transfer.{NeedsNoMemory}
 
 -- a path, as its octets
 abbrev pub FileName : Type 0

@@ -1,68 +1,43 @@
 //! From octets to a device, in long writes.
 ghost use Rattle.std.specs.Prelude.{◌≡◌};
 ghost use Rattle.std.specs.Io.Buffered.{writer_contents};
-ghost use Rattle.plist_transfer.specs.Transfer.{Writes};
 ghost use Rattle.plist_disk.specs.Delivery.{Delivers, Finishes, IsEmpty, reached};
 
-use plist_devices::{Sink, Stream};
+use plist_devices::Stream;
 use plist_files::{Fault, Form};
-use plist_transfer::{convert_octets_at_end_with_hasher, convert_octets_with_hasher};
+use plist_transfer::convert_octets_with_hasher;
 use std::alloc::Global;
 use std::hash::BuildHasher;
 use std::io::{BufWriter, Write};
 
 /// Sends the value that the octets spell, in this form, to the device behind the writer, which gathers them for
-/// long writes. Gives the device back, and answers how many octets it took.
-///
-/// At the end of a program the value that is read of a text is not given back, as
-/// [`convert_octets_at_end`](plist_transfer::convert_octets_at_end) says. Scalars are hashed by what the builder makes.
+/// long writes. Gives the device back, and answers how many octets it took. Scalars are hashed by what the builder
+/// makes.
 ///
 /// # Errors
 ///
-/// Those of [`convert_octets`](plist_transfer::convert_octets). After 51 and 60 the device took exactly the first `sent` octets, and after any
-/// other it took none.
+/// Those of [`convert_octets`](plist_transfer::convert_octets). After 51 and 60 the device took exactly the first
+/// `sent` octets, and after any other it took none.
 pub(crate) fn deliver<H: BuildHasher + Copy, W: Write + Drop>(
     alloc: Global,
     hasher: H,
     to: BufWriter<W>,
     octets: Vec<u8>,
     form: Form,
-    at_end: bool,
 ) -> (W, Result<u64, Fault>)
     requires { IsEmpty (writer_contents W.contents to) }
     ensures { Delivers form octets.items (writer_contents W.contents to)
         (W.contents result.0) result.1 }
 {
     let mut writer = to;
-    let sent = send(
+    let sent = convert_octets_with_hasher(
         alloc,
         hasher,
         octets,
         &mut Stream::new(&mut writer),
         form,
-        at_end,
     );
     finish(writer, sent)
-}
-
-// Sends what is asked for, and gives back the value of a text where the program goes on.
-fn send<H: BuildHasher + Copy, W: Sink>(
-    alloc: Global,
-    hasher: H,
-    octets: Vec<u8>,
-    to: &mut W,
-    form: Form,
-    at_end: bool,
-) -> Result<u64, Fault>
-    ensures writes { Writes form octets.items (W.taken to.old) (W.taken to.new)
-        (W.failures to.old) (W.failures to.new) result }
-    ensures same { W.device to.new ≡ W.device to.old }
-{
-    if at_end {
-        convert_octets_at_end_with_hasher(alloc, hasher, octets, to, form)
-    } else {
-        convert_octets_with_hasher(alloc, hasher, octets, to, form)
-    }
 }
 
 // Writes all that was gathered, where all was sent, and gives the device back. The device is written at once, so

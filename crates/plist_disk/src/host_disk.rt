@@ -27,7 +27,6 @@ pub struct HostDisk<'a, R, H = FixedHasher> {
     rt: &'a R,
     hasher: H,
     failures: u64,
-    at_end: bool,
 }
 
 impl<'a, R: Files> HostDisk<'a, R> {
@@ -38,16 +37,6 @@ impl<'a, R: Files> HostDisk<'a, R> {
         ensures { failures_of result ≡ 0 }
     {
         HostDisk::with_hasher(rt, FixedHasher::new())
-    }
-
-    /// The files that this runtime reaches, for a program that ends with this run: the value that a conversion
-    /// reads of a text is not given back, as
-    /// [`convert_octets_at_end`](plist_transfer::convert_octets_at_end) says. Any other program calls
-    /// [`new`](HostDisk::new).
-    pub fn at_end(rt: &'a R) -> HostDisk<'a, R>
-        ensures { failures_of result ≡ 0 }
-    {
-        HostDisk::at_end_with_hasher(rt, FixedHasher::new())
     }
 }
 
@@ -64,18 +53,7 @@ impl<'a, R: Files, H: BuildHasher + Copy> HostDisk<'a, R, H> {
             rt,
             hasher,
             failures: 0,
-            at_end: false,
         }
-    }
-
-    /// The same as [`at_end`](HostDisk::at_end), where scalars are hashed by what the builder makes, as
-    /// [`with_hasher`](HostDisk::with_hasher) says.
-    pub fn at_end_with_hasher(rt: &'a R, hasher: H) -> HostDisk<'a, R, H>
-        ensures { failures_of result ≡ 0 }
-    {
-        let mut disk = HostDisk::with_hasher(rt, hasher);
-        disk.at_end = true;
-        disk
     }
 
     fn octets_at(&self, alloc: Global, path: &str) -> Result<Vec<u8>, Fault>
@@ -117,7 +95,6 @@ impl<R: Files, H: BuildHasher + Copy> Disk for HostDisk<'_, R, H> {
             file_at(self.rt, alloc, path),
             octets,
             form,
-            self.at_end,
         );
         self.failures = failures_after(self.failures, &stored);
         stored

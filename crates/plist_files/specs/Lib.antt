@@ -4,5 +4,7 @@ pub mod Laws
 pub mod Line
 pub mod Load
 pub mod Pair
+pub mod Printed
 pub mod Refusals
+pub mod Sent
 pub mod Status

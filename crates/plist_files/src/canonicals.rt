@@ -1,6 +1,7 @@
 //! From octets to values and to canonical files.
-ghost use Rattle.std.specs.Prelude.{◌≡◌, true, IfOk, IfErr, OnOk};
+ghost use Rattle.std.specs.Prelude.{◌≡◌, true, false, IfOk, IfErr, OnOk};
 ghost use Rattle.plist_value.specs.Plist.{Plist};
+ghost use Rattle.plist_object.specs.Spelled.{IsBinary};
 ghost use Rattle.plist_value.specs.Limits.{Fits};
 ghost use Rattle.plist_value.specs.View.{view};
 ghost use Rattle.plist_files.specs.Accepted.{IsAccepted, IsCanonicalOf, begins_as_binary as begins};
@@ -8,12 +9,12 @@ ghost use Rattle.plist_files.specs.Pair.{IsPair, IsRefusedPair};
 ghost use Rattle.plist_files.specs.Refusals.{IsRefused};
 
 use crate::{Fault, PairFault};
+use ostep_draft::draft_text;
 use ostep_text::read_text;
 use plist_binary::{judge, judge_keys};
 use plist_engine::canonical_of_with_hasher;
 use plist_object::BinFile;
 use plist_value::{FixedHasher, Value};
-use plist_write::canonical_with_hasher;
 use std::alloc::Global;
 use std::hash::BuildHasher;
 
@@ -36,7 +37,7 @@ pub fn read_any(alloc: Global, octets: &[u8]) -> Result<Value, Fault>
     }
 }
 
-/// Whether the octets spell a value, of which nothing is made where they are a binary file.
+/// Whether the octets spell a value, which is not made: a text is read into a binary file, and that is judged.
 ///
 /// # Errors
 ///
@@ -48,8 +49,36 @@ pub fn judge_any(alloc: Global, octets: &[u8]) -> Result<(), Fault>
     if begins_as_binary(octets) {
         Ok(judge(alloc, octets)?)
     } else {
-        read_text(alloc, octets)?;
+        file_of_text(alloc, octets)?;
         Ok(())
+    }
+}
+
+// A binary file that spells what the text does.
+pub(crate) fn file_of_text(alloc: Global, octets: &[u8]) -> Result<Vec<u8>, Fault>
+    requires { begins octets.now ≡ false }
+    ensures binary { IfOk result (λ file. (v : Plist) × IsBinary file.items v) }
+    ensures accepted { IfOk result (λ file. (v : Plist) → IsBinary file.items v
+        → IsAccepted octets.now v) }
+    ensures refused { IfErr result (IsRefused octets.now) }
+{
+    let Some(file) = draft_text(alloc, octets) else {
+        return Err(refusal(alloc, octets));
+    };
+    match judge(alloc, &file) {
+        Ok(()) => Ok(file),
+        Err(_) => Err(refusal(alloc, octets)),
+    }
+}
+
+/// Why the octets are refused, for whoever knows that they are and not why: what a text was read into may be refused
+/// in its place. Octets that spell a value are `OutOfMemory { sent: 0 }`.
+pub fn refusal(alloc: Global, octets: &[u8]) -> Fault
+    ensures { IsRefused octets.now result }
+{
+    match read_any(alloc, octets) {
+        Ok(_) => Fault::OutOfMemory { sent: 0 },
+        Err(fault) => fault,
     }
 }
 
@@ -60,8 +89,8 @@ pub fn begins_as_binary(octets: &[u8]) -> bool
     octets.starts_with(b"bplist")
 }
 
-/// The canonical file of the value that the octets spell. That of a binary file is planned and made from the
-/// file itself, without its value.
+/// The canonical file of the value that the octets spell, which is not made: the canonical file is planned and made
+/// from the binary file, or from the one that a text is read into.
 ///
 /// # Errors
 ///
@@ -91,8 +120,7 @@ pub fn canonicalise_with_hasher<S: BuildHasher + Copy>(
     if begins_as_binary(octets) {
         canonicalise_binary(alloc, hasher, octets)
     } else {
-        let value = read_text(alloc, octets)?;
-        Ok(canonical_with_hasher(alloc, hasher, &value)?)
+        canonicalise_text(alloc, hasher, octets)
     }
 }
 
@@ -113,8 +141,30 @@ fn canonicalise_binary<S: BuildHasher + Copy>(
     Ok(canonical_of_with_hasher(alloc, hasher, &file, sorted)?)
 }
 
+// The canonical file of what a text says, by the binary file that it is read into.
+fn canonicalise_text<S: BuildHasher + Copy>(
+    alloc: Global,
+    hasher: S,
+    octets: &[u8],
+) -> Result<Vec<u8>, Fault>
+    requires { begins octets.now ≡ false }
+    ensures canonical { IfOk result (λ file. IsCanonicalOf octets.now file.items) }
+    ensures refused { IfErr result (IsRefused octets.now) }
+{
+    let Some(draft) = draft_text(alloc, octets) else {
+        return Err(refusal(alloc, octets));
+    };
+    let Ok(sorted) = judge_keys(alloc, &draft) else {
+        return Err(refusal(alloc, octets));
+    };
+    let Ok(file) = BinFile::of(&draft) else {
+        unreachable!();
+    };
+    Ok(canonical_of_with_hasher(alloc, hasher, &file, sorted)?)
+}
+
 /// Whether the two octet lists spell equal values, which is whether their canonical files are equal. The
-/// first is read before the second.
+/// first is read before the second; of equal octets no canonical file is made.
 ///
 /// # Errors
 ///
@@ -141,6 +191,9 @@ pub fn same_files_with_hasher<S: BuildHasher + Copy>(
     ensures same { IfOk result (λ equal. IsPair a.now b.now equal) }
     ensures refused { IfErr result (IsRefusedPair a.now b.now) }
 {
+    if a == b {
+        return same_as_itself(alloc, a);
+    }
     let first = match canonicalise_with_hasher(alloc, hasher, a) {
         Ok(file) => file,
         Err(fault) => return Err(PairFault::First(fault)),
@@ -150,4 +203,15 @@ pub fn same_files_with_hasher<S: BuildHasher + Copy>(
         Err(fault) => return Err(PairFault::Second(fault)),
     };
     Ok(first == second)
+}
+
+// Whether octets spell the same as themselves, which they do if they are accepted.
+fn same_as_itself(alloc: Global, octets: &[u8]) -> Result<bool, PairFault>
+    ensures same { IfOk result (λ equal. IsPair octets.now octets.now equal) }
+    ensures refused { IfErr result (IsRefusedPair octets.now octets.now) }
+{
+    match judge_any(alloc, octets) {
+        Ok(()) => Ok(true),
+        Err(fault) => Err(PairFault::First(fault)),
+    }
 }

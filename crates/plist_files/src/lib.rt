@@ -1,5 +1,5 @@
-//! Property lists as octets: what is loaded from a source, the value that it spells, its canonical file, and
-//! every refusal with its number and its printed line.
+//! Property lists as octets: what is loaded from a source, the value that it spells, its canonical file and its
+//! printed text, and every refusal with its number and its printed line.
 #![tactic(auto)]
 
 pub mod canonicals;
@@ -9,15 +9,17 @@ pub mod laws;
 pub mod lines;
 pub mod loading;
 pub mod pairs;
+pub mod printing;
 pub mod statuses;
 
 pub use canonicals::{
-    begins_as_binary, canonicalise, canonicalise_with_hasher, judge_any, read_any, same_files,
-    same_files_with_hasher,
+    begins_as_binary, canonicalise, canonicalise_with_hasher, judge_any, read_any, refusal,
+    same_files, same_files_with_hasher,
 };
 pub use faults::Fault;
 pub use forms::Form;
 pub use lines::line;
 pub use loading::{MAX_INPUT, load};
 pub use pairs::PairFault;
+pub use printing::print;
 pub use statuses::Status;

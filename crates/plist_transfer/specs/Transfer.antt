@@ -1,41 +1,21 @@
 -- How a property list goes from a source to a sink.
-use Rattle.std.specs.Prelude.{◌≡◌, ◌⊎◌, ℕ, ◌≤◌, List, length, Option, Result, Err, Ok, IfSome}
+use Rattle.std.specs.Prelude.{◌≡◌, ◌⊎◌, ℕ, ◌≤◌, List, length, Option, Result, Err, IfSome}
 use Rattle.std.specs.Io.KnownBytes.{IsAtEnd}
 use Rattle.plist_write.specs.Sending.{IsWritten}
 use Rattle.plist_write.specs.declared.sending.WriteFault.{WriteFault}
 use Rattle.plist_write.specs.declared.sending.WriteFault.TheVariants as write
-use Rattle.plist_files.specs.Fault.{write_fault_for}
 use Rattle.plist_files.specs.Load.{IsLoadFault}
+use Rattle.plist_files.specs.Sent.{IsUnsent, answer_of}
 use Rattle.plist_files.specs.declared.faults.Fault.{Fault}
-use Rattle.plist_files.specs.declared.faults.Fault.TheVariants.{OutOfMemory, WriteFailed}
 use Rattle.plist_files.specs.declared.forms.Form.{Form}
 use Rattle.plist_files.specs.declared.forms.Form.TheVariants.{OpenStep}
 use Rattle.plist_files.specs.declared.loading.TheConstants.{MAX_INPUT}
 use Rattle.plist_transfer.specs.Output.{IsOutput, IsOutputFault}
 
--- the refusals that come before the first put, but for a want of memory
-abbrev pub IsBeforePut : Fault → Type 0
-IsBeforePut (WriteFailed sent) = ⊥
-IsBeforePut (OutOfMemory sent) = ⊥
-IsBeforePut _ = Unit {0}
-
--- what a call answers that sent something
-abbrev pub answer_of : Result ℕ WriteFault → Result ℕ Fault
-answer_of (Ok sent) = Ok sent
-answer_of (Err fault) = Err (write_fault_for fault)
-
 -- An OpenStep text is in memory before its first octet goes out: no memory is wanting from then on.
 abbrev pub NeedsNoMemory : Form → Result ℕ WriteFault → Type 0
 NeedsNoMemory OpenStep (Err (write.OutOfMemory sent)) = ⊥
 NeedsNoMemory _ _ = Unit {0}
-
--- The call is refused for this cause before anything went out, and the sink did not fail.
-pub record IsUnsent (Cause : Fault → Type 0) (old new : Option (List ℕ)) (before after : ℕ) (result : Result ℕ Fault) : Type 0 where
-  pub fault : Fault
-  pub is : result ≡ Err fault
-  pub cause : Cause fault
-  pub nothing : new ≡ old
-  pub unfailed : after ≡ before
 
 -- The output for the octets goes out: all of it, or exactly a front, where the sink failed or memory was wanting.
 pub record IsSent (form : Form) (octets : List ℕ) (old new : Option (List ℕ)) (before after : ℕ) (result : Result ℕ Fault) : Type 0 where

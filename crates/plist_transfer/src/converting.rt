@@ -2,34 +2,36 @@
 ghost use Rattle.std.specs.Prelude.{◌≡◌, ◌<◌, ◌↔◌, true, length, IfErr, IfOk, OnOk, IsErrOf};
 ghost use Rattle.plist_value.specs.Plist.{Plist};
 ghost use Rattle.plist_object.specs.Spelled.{IsBinary};
-ghost use Rattle.plist_object.specs.Views.{octets_of};
 ghost use Rattle.plist_ranks.specs.Order.{AreSortedIfAny};
+ghost use Rattle.plist_write.specs.Canonical.{canon};
+ghost use Rattle.plist_write.specs.Sending.{IsWritten};
 ghost use Rattle.plist_devices.specs.Count.{HasFailed, one_more};
 ghost use Rattle.plist_files.specs.Accepted.{begins_as_binary as begins};
 ghost use Rattle.plist_files.specs.Load.{Takes};
 ghost use Rattle.plist_files.specs.Refusals.{IsRefused};
-ghost use Rattle.plist_transfer.specs.Transfer.{IsBeforePut, IsTransfer, Writes};
+ghost use Rattle.plist_files.specs.Sent.{IsBeforePut};
+ghost use Rattle.plist_transfer.specs.Transfer.{IsTransfer, Writes};
 
 use crate::sending::send;
-use crate::texts::{text_of, value_of};
+use crate::texts::text_of;
+use ostep_draft::draft_text;
 use plist_binary::judge_keys;
 use plist_devices::{Sink, Source};
 use plist_engine::write_canonical_of_with_hasher;
-use plist_files::{Fault, Form, MAX_INPUT, begins_as_binary, load};
+use plist_files::{Fault, Form, MAX_INPUT, begins_as_binary, load, refusal};
 use plist_object::BinFile;
 use plist_ranks::SortedKeys;
-use plist_value::{FixedHasher, Value};
-use plist_write::write_canonical_with_hasher;
+use plist_value::FixedHasher;
+use plist_write::WriteFault;
 use std::alloc::Global;
 use std::hash::BuildHasher;
-use std::mem::forget;
 
 /// Loads a property list from the source, in either form, and sends its value to the sink: as the canonical
 /// file, or as the OpenStep text. Answers how many octets were sent.
 ///
 /// All of the source is loaded and read, and it is sure that the value can be written, before the first put.
-/// A text that was loaded is given up before that; a binary file whose canonical file is asked for stays in
-/// memory, since it is sent from there.
+/// A text that was loaded is given up before that: its canonical file is sent from the binary file that it was read
+/// into. A binary file stays in memory, since its canonical file is sent from there.
 ///
 /// # Errors
 ///
@@ -139,96 +141,35 @@ pub fn convert_octets_with_hasher<H: BuildHasher + Copy, W: Sink>(
     ensures untouched { IfErr result (λ fault. IsBeforePut fault → to.new ≡ to.old) }
     ensures same { W.device to.new ≡ W.device to.old }
 {
-    let (_value, sent) = write_octets(alloc, hasher, octets, to, form);
-    sent
-}
-
-/// [`convert_octets`] for a program that ends next: the value that was read of a text whose canonical file was
-/// asked for is not given back, and its memory stays taken until the program ends, when all of it is given back
-/// at once. A program that goes on calls [`convert_octets`].
-///
-/// # Errors
-///
-/// Those of [`convert_octets`].
-pub fn convert_octets_at_end<W: Sink>(
-    alloc: Global,
-    octets: Vec<u8>,
-    to: &mut W,
-    form: Form,
-) -> Result<u64, Fault>
-    ensures writes { Writes form octets.items (W.taken to.old) (W.taken to.new)
-        (W.failures to.old) (W.failures to.new) result }
-    ensures untouched { IfErr result (λ fault. IsBeforePut fault → to.new ≡ to.old) }
-    ensures same { W.device to.new ≡ W.device to.old }
-{
-    convert_octets_at_end_with_hasher(alloc, FixedHasher::new(), octets, to, form)
-}
-
-/// The same as [`convert_octets_at_end`], where scalars are hashed by what the builder makes, as
-/// [`convert_with_hasher`] says.
-///
-/// # Errors
-///
-/// Those of [`convert_octets`].
-pub fn convert_octets_at_end_with_hasher<H: BuildHasher + Copy, W: Sink>(
-    alloc: Global,
-    hasher: H,
-    octets: Vec<u8>,
-    to: &mut W,
-    form: Form,
-) -> Result<u64, Fault>
-    ensures writes { Writes form octets.items (W.taken to.old) (W.taken to.new)
-        (W.failures to.old) (W.failures to.new) result }
-    ensures untouched { IfErr result (λ fault. IsBeforePut fault → to.new ≡ to.old) }
-    ensures same { W.device to.new ≡ W.device to.old }
-{
-    let (value, sent) = write_octets(alloc, hasher, octets, to, form);
-    forget(value);
-    sent
-}
-
-// What is answered for the octets, beside the value that was read of a text whose canonical file was asked for.
-fn write_octets<H: BuildHasher + Copy, W: Sink>(
-    alloc: Global,
-    hasher: H,
-    octets: Vec<u8>,
-    to: &mut W,
-    form: Form,
-) -> (Option<Value>, Result<u64, Fault>)
-    ensures writes { Writes form octets.items (W.taken to.old) (W.taken to.new)
-        (W.failures to.old) (W.failures to.new) result.1 }
-    ensures untouched { IfErr result.1 (λ fault. IsBeforePut fault → to.new ≡ to.old) }
-    ensures same { W.device to.new ≡ W.device to.old }
-{
     match form {
         Form::Binary1 => write_binary1(alloc, hasher, octets, to),
-        Form::OpenStep => (None, write_openstep(alloc, octets, to)),
+        Form::OpenStep => write_openstep(alloc, octets, to),
     }
 }
 
-// The canonical file of what the octets spell, beside the value that was read. They are given up where they are
-// a text.
+// The canonical file of what the octets spell. Those of a text are given up before the first put.
 fn write_binary1<H: BuildHasher + Copy, W: Sink>(
     alloc: Global,
     hasher: H,
     octets: Vec<u8>,
     to: &mut W,
-) -> (Option<Value>, Result<u64, Fault>)
+) -> Result<u64, Fault>
     ensures writes { Writes Form.Binary1 octets.items (W.taken to.old) (W.taken to.new)
-        (W.failures to.old) (W.failures to.new) result.1 }
-    ensures untouched { IfErr result.1 (λ fault. IsBeforePut fault → to.new ≡ to.old) }
+        (W.failures to.old) (W.failures to.new) result }
+    ensures untouched { IfErr result (λ fault. IsBeforePut fault → to.new ≡ to.old) }
     ensures same { W.device to.new ≡ W.device to.old }
 {
     if begins_as_binary(octets.as_slice()) {
-        return (None, write_file(alloc, hasher, octets.as_slice(), to));
+        return write_file(alloc, hasher, octets.as_slice(), to);
     }
-    match value_of(alloc, octets) {
-        Ok(value) => {
-            let sent = write_canonical_with_hasher(alloc, hasher, &value, to).map_err(Fault::from);
-            (Some(value), sent)
-        }
-        Err(fault) => (None, Err(fault)),
-    }
+    let Some(draft) = draft_text(alloc, octets.as_slice()) else {
+        return Err(refusal(alloc, octets.as_slice()));
+    };
+    let Ok(sorted) = judge_keys(alloc, &draft) else {
+        return Err(refusal(alloc, octets.as_slice()));
+    };
+    drop(octets);
+    Ok(write_judged(alloc, hasher, &draft, sorted, to)?)
 }
 
 // The canonical file of what a binary file spells.
@@ -244,26 +185,39 @@ fn write_file<H: BuildHasher + Copy, W: Sink>(
     ensures untouched { IfErr result (λ fault. IsBeforePut fault → to.new ≡ to.old) }
     ensures same { W.device to.new ≡ W.device to.old }
 {
-    let (file, sorted) = judged(alloc, octets)?;
-    Ok(write_canonical_of_with_hasher(alloc, hasher, &file, sorted, to)?)
+    let sorted = sorted_keys(alloc, octets)?;
+    Ok(write_judged(alloc, hasher, octets, sorted, to)?)
 }
 
-// A binary file of a value within the limits, and the keys that were sorted while it was judged.
-fn judged<'a>(
-    alloc: Global,
-    octets: &'a [u8],
-) -> Result<(BinFile<'a>, Option<SortedKeys<'a>>), Fault>
+// The keys that are sorted while the octets are judged, which are a binary file of a value within the limits.
+fn sorted_keys<'a>(alloc: Global, octets: &'a [u8]) -> Result<Option<SortedKeys<'a>>, Fault>
     requires { begins octets.now ≡ true }
-    ensures octets { IfOk result (λ judged. octets_of judged.0 ≡ octets.entry.now) }
-    ensures sorted { IfOk result (λ judged. AreSortedIfAny octets.entry.now judged.1) }
+    ensures sorted { IfOk result (λ sorted. AreSortedIfAny octets.entry.now sorted) }
     ensures binary { OnOk result ((v : Plist) × IsBinary octets.entry.now v) }
     ensures refused { IfErr result (IsRefused octets.entry.now) }
 {
-    let sorted = judge_keys(alloc, octets)?;
+    Ok(judge_keys(alloc, octets)?)
+}
+
+// The canonical file of what a binary file spells that was judged, by the keys that were sorted then.
+fn write_judged<'a, H: BuildHasher + Copy, W: Sink>(
+    alloc: Global,
+    hasher: H,
+    octets: &'a [u8],
+    sorted: Option<SortedKeys<'a>>,
+    to: &mut W,
+) -> Result<u64, WriteFault>
+    requires binary { (v : Plist) × IsBinary octets.now v }
+    requires sorted { AreSortedIfAny octets.now sorted }
+    ensures written { (v : Plist) → IsBinary octets.entry.now v
+        → IsWritten (canon v) (W.taken to.old) (W.taken to.new)
+        (W.failures to.old) (W.failures to.new) result }
+    ensures same { W.device to.new ≡ W.device to.old }
+{
     let Ok(file) = BinFile::of(octets) else {
         unreachable!();
     };
-    Ok((file, sorted))
+    write_canonical_of_with_hasher(alloc, hasher, &file, sorted, to)
 }
 
 // The OpenStep text of what the octets spell.

@@ -6,7 +6,4 @@ mod converting;
 mod sending;
 mod texts;
 
-pub use converting::{
-    convert, convert_octets, convert_octets_at_end, convert_octets_at_end_with_hasher,
-    convert_octets_with_hasher, convert_with_hasher,
-};
+pub use converting::{convert, convert_octets, convert_octets_with_hasher, convert_with_hasher};

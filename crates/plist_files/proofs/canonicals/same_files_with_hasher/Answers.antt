@@ -14,7 +14,7 @@ returns-clause-same g c =
     let second = c.in-Ok-canonicalise_with_hasher.ensures.canonical in
     let v = first.value in
     let w = second.value in
-    let octets = slice_eq-Decides Decides-eqb c.in-Ok.file.items c.in-Ok-canonicalise_with_hasher.file.items c.eq.result c.eq.ensures in
+    let octets = slice_eq-Decides Decides-eqb c.in-Ok.file.items c.in-Ok-canonicalise_with_hasher.file.items c.eq-2.result c.eq-2.ensures in
     let equal : c.in-Ok.file.items ≡ c.in-Ok-canonicalise_with_hasher.file.items → canon v ≡ canon w =
     λ e. sym first.canonical ∙ e ∙ second.canonical in
     let apart : canon v ≡ canon w → c.in-Ok.file.items ≡ c.in-Ok-canonicalise_with_hasher.file.items =
