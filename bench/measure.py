@@ -20,12 +20,13 @@ class Measure:
         self.program, self.file = os.path.join(folder, "measure"), os.path.join(folder, "measured")
         subprocess.run(["cc", "-O1", "-o", self.program, os.path.join(HERE, "measure.c")], check=True)
 
-    def run(self, words, errors=None):
-        """The status, what is printed, the seconds, those of the processor, and the greatest resident size."""
-        ran = subprocess.run([self.program, self.file, str(MOST), *words], stdout=subprocess.PIPE, stderr=errors, check=False)
+    def run(self, words, errors=None, into=subprocess.PIPE):
+        """The status, what is printed unless it goes into a file, the seconds, those of the processor, and the greatest
+        resident size."""
+        ran = subprocess.run([self.program, self.file, str(MOST), *words], stdout=into, stderr=errors, check=False)
         with open(self.file, encoding="ascii") as measured:
             seconds, processor, size = measured.read().split()
-        printed = ran.stdout.decode().strip()
+        printed = (ran.stdout or b"").decode().strip()
         return Run(ran.returncode, printed, float(seconds), float(processor), int(size) * 1024)
 
 

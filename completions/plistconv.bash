@@ -3,7 +3,7 @@ _plistconv() {
     local word=${COMP_WORDS[COMP_CWORD]}
     COMPREPLY=()
     if [ "$COMP_CWORD" -eq 1 ]; then
-        COMPREPLY=($(compgen -W 'convert same lint check help --help --version' -- "$word"))
+        COMPREPLY=($(compgen -W 'convert same lint check print help --help --version' -- "$word"))
     elif [ "${COMP_WORDS[1]}" = convert ] && [ "$COMP_CWORD" -eq 2 ]; then
         COMPREPLY=($(compgen -W 'binary1 openstep --help' -- "$word"))
     else

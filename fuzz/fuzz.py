@@ -1,11 +1,11 @@
 #!/usr/bin/env python3
 """Compares the program with a second reading of the formats (oracle.py) on random inputs.
 
-    fuzz.py PROGRAM [--seconds N] [--seed N] [--words lint,check,binary1,openstep,same,none] [--binary]
+    fuzz.py PROGRAM [--seconds N] [--seed N] [--words lint,check,binary1,openstep,print,same,none] [--binary]
 
 Each case is a random value, spelled as a binary file (any order, sharing and widths) or as an OpenStep
 text (any white, comments and quotes), and often damaged. The program's answers to `lint`, `check`,
-`same`, `convert binary1`, `convert openstep` and to no words must be those of the second reading; often
+`same`, `print`, `convert binary1`, `convert openstep` and to no words must be those of the second reading; often
 the second file of `same` is another spelling of the same value. What a word writes must be read again as
 the same value, a canonical file must be its own canonical file, and Python's plistlib must read it as the
 same value. A run that does not end within a minute, or by a signal, is a difference. The first differences are printed and their inputs
@@ -45,18 +45,35 @@ def random_whole(rng):
     return max(-2 ** 63, min(2 ** 64 - 1, number))
 
 
+def random_real(rng, size):
+    """A decimal of chance, the real before or after it, or a power of two."""
+    plain = rng.choice([0.0, 0.1, 0.5, 1.0, 3.25, 1e-21, 1e21, float('inf'), rng.random()])
+    number = rng.choice([plain, rng.randrange(10 ** 6) / 10 ** rng.randrange(1, 9), 2.0 ** rng.randrange(-80, 60)])
+    form, unsigned = ('>f', '>I') if size == 4 else ('>d', '>Q')
+    bits = struct.unpack(unsigned, struct.pack(form, number))[0]
+    bits = max(bits + rng.choice([0, 0, 0, 1, -1]), 0)
+    return struct.pack(unsigned, bits | rng.choice([0, 0, 1 << 8 * size - 1]))
+
+
+def random_date(rng):
+    """Seconds since 2001: whole or not, now or far from now, the first and last of the years that have a name."""
+    edge = rng.choice([0, 10 ** 6, 785534062, -63113904000, 252423993600, 10 ** 11, -10 ** 11])
+    return struct.pack('>d', edge + rng.choice([0, 1, -1, 0.5, rng.randrange(-10 ** 9, 10 ** 9)]))
+
+
 def random_scalar(rng, writable):
     kind = rng.choice(['text', 'text', 'bytes'] if writable else [
         'text', 'text', 'bytes', 'whole', 'flag', 'real4', 'real8', 'moment'])
     some = lambda size: bytes(rng.randrange(256) for _ in range(size))
+    real = lambda size: random_real(rng, size) if rng.random() < 0.8 else some(size)
     return {
         'text': lambda: ('text', random_text(rng)),
         'bytes': lambda: ('bytes', some(rng.choice([0, 1, 2, 14, 15, 16, 300]))),
         'whole': lambda: ('whole', random_whole(rng)),
         'flag': lambda: ('flag', rng.random() < 0.5),
-        'real4': lambda: ('real4', some(4)),
-        'real8': lambda: ('real8', some(8)),
-        'moment': lambda: ('moment', struct.pack('>d', rng.randrange(10 ** 8))),
+        'real4': lambda: ('real4', real(4)),
+        'real8': lambda: ('real8', real(8)),
+        'moment': lambda: ('moment', random_date(rng) if rng.random() < 0.9 else some(8)),
     }[kind]()
 
 
@@ -311,6 +328,8 @@ def differences(program, octets, other):
         second, second_refusal = answer(lambda: oracle.read_any(other), 'other')
         same = refusal or second_refusal or ((0, b'equal\n') if value == second else (1, b'different\n'))
         expect('same', program.run('same', 'in', 'other'), same)
+    if 'print' in program.words:
+        expect('print', program.run('print', 'in'), refusal or (0, oracle.printed(value)))
     file = None if refusal else oracle.canonical(value)
     if 'binary1' in program.words:
         expect_written(program, expect, 'binary1', value, refusal, oracle.canonical)
@@ -389,7 +408,7 @@ def main():
     parser.add_argument('--seconds', type=float, default=60)
     parser.add_argument('--seed', type=int, default=1)
     parser.add_argument('--keep', default='fuzz-differences', help='a folder for inputs that differ')
-    parser.add_argument('--words', default='lint,check,binary1,openstep,same,none', help='what is tried')
+    parser.add_argument('--words', default='lint,check,binary1,openstep,print,same,none', help='what is tried')
     parser.add_argument('--binary', action='store_true', help='binary files alone')
     arguments = parser.parse_args()
     rng, cases, bad = random.Random(arguments.seed), 0, 0

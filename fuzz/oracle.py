@@ -1,11 +1,13 @@
 """A second reading of docs/FORMATS.md, for comparisons with the program: values, both readers, the
-canonical file, the text of a value, and the rules of `check`. It is slow and plain, shares no code with
+canonical file, the text of a value, its printed text, and the rules of `check`. It is slow and plain, shares no code with
 the program, and nothing is proved of it.
 
 A value is a pair (kind, content): ('text', units), ('whole', n), ('flag', b), ('real4', octets),
 ('real8', octets), ('moment', octets), ('bytes', octets), ('list', values), ('table', {units: value}),
 with units as a tuple of numbers."""
+import datetime
 import sys
+from fractions import Fraction
 
 sys.setrecursionlimit(20_000)
 
@@ -535,6 +537,100 @@ def written(value):
 
 def openstep(value):
     return (written(value) + '\n').encode()
+
+
+# The printed text
+
+UNSEEN = [(0, 0x1f), (0x7f, 0x9f), (0xd800, 0xdfff), (0x200e, 0x200f), (0x2028, 0x202e), (0x2066, 0x2069), (0xfeff, 0xfeff)]
+
+
+def printed_text(units):
+    names = {34: '\\"', 92: '\\\\', 10: '\\n', 9: '\\t', 13: '\\r'}
+    shown, at = [], 0
+    while at < len(units):
+        unit, behind = units[at], units[at + 1] if at + 1 < len(units) else 0
+        if 0xd800 <= unit < 0xdc00 <= behind < 0xe000:
+            shown.append(chr(0x10000 + (unit - 0xd800) * 0x400 + behind - 0xdc00))
+            at += 1
+        elif unit in names:
+            shown.append(names[unit])
+        else:
+            unseen = any(first <= unit <= last for first, last in UNSEEN)
+            shown.append('\\U%04x' % unit if unseen else chr(unit))
+        at += 1
+    return '"%s"' % ''.join(shown)
+
+
+def size_of_real(bits, octets):
+    """The size with these bits, of which none is the sign; None if it is infinite or no number."""
+    width, bias = {4: (23, 127), 8: (52, 1023)}[octets]
+    exponent, rest = bits >> width, bits & (1 << width) - 1
+    if exponent == 2 * bias + 1:
+        return None
+    digits = rest if exponent == 0 else rest + (1 << width)
+    return digits * Fraction(2) ** (max(exponent, 1) - bias - width)
+
+
+def decimal_of_real(bits, octets):
+    """The decimal of the fewest digits behind the point that reads back, if the size has one."""
+    size = size_of_real(bits, octets)
+    if size != 0 and not Fraction(2) ** -73 <= size < 2 ** {4: 25, 8: 54}[octets]:
+        return None
+    lower, upper = size_of_real(max(bits - 1, 0), octets), size_of_real(bits + 1, octets)
+    for digits in range(1, 22):
+        count = (2 * size * 10 ** digits + 1) // 2
+        if (lower + size) / 2 <= Fraction(count, 10 ** digits) < (size + upper) / 2:
+            return '%d.%0*d' % (count // 10 ** digits, digits, count % 10 ** digits)
+    return None
+
+
+def printed_real(content):
+    top = 8 * len(content) - 1
+    bits = number(content)
+    sign, bits = '-' if bits >> top else '', bits & (1 << top) - 1
+    size = size_of_real(bits, len(content))
+    if size is None:
+        infinite = bits == {4: 0x7f800000, 8: 0x7ff0000000000000}[len(content)]
+        return sign + ('infinity' if infinite else 'nan <%s>' % content.hex())
+    return sign + (decimal_of_real(bits, len(content)) or 'real <%s>' % content.hex())
+
+
+def printed_date(content):
+    shown = printed_real(content)
+    if shown.endswith('.0'):
+        try:
+            moment = datetime.datetime(2001, 1, 1) + datetime.timedelta(seconds=int(shown[:-2]))
+        except OverflowError:
+            return 'date ' + shown
+        return 'date %s (%sZ)' % (shown, moment.isoformat())
+    return 'date ' + shown
+
+
+def printed_lines(value, level):
+    """The value up to the end of its last line; its first line has begun."""
+    kind, content = value
+    if kind in ('list', 'table'):
+        if kind == 'list':
+            brackets, heads = '[]', [(str(n), item) for n, item in enumerate(content)]
+        else:
+            brackets, heads = '{}', [(printed_text(key), content[key]) for key in sorted(content)]
+        if not heads:
+            return brackets + '\n'
+        inside = ['  ' * (level + 1) + head + ' => ' + printed_lines(item, level + 1) for head, item in heads]
+        return brackets[0] + '\n' + ''.join(inside) + '  ' * level + brackets[1] + '\n'
+    return {
+        'text': printed_text,
+        'whole': str,
+        'flag': lambda flag: 'true' if flag else 'false',
+        'bytes': lambda octets: '<%s>' % octets.hex(),
+        'real8': printed_real,
+        'real4': lambda octets: printed_real(octets) + 'f',
+        'moment': printed_date,
+    }[kind](content) + '\n'
+
+
+def printed(value):
+    return printed_lines(value, 0).encode()
 
 
 # The rules of a canonical file

@@ -80,6 +80,10 @@ def value(octets):
     return said + ('; ' + verdict(octets) if octets[:6] == b'bplist' else '')
 
 
+def print_of(octets):
+    return shown(oracle.printed(oracle.read_any(octets)))
+
+
 def layout(octets):
     found = oracle.File(octets)
     widths = [found.offset_width, found.reference_width]
@@ -125,7 +129,7 @@ def fronts(octets):
 
 def answer(line):
     name, question, form = line.split(' ', 2)
-    ask = {'value': value, 'layout': layout, 'tokens': tokens, 'fronts': fronts}[question]
+    ask = {'value': value, 'print': print_of, 'layout': layout, 'tokens': tokens, 'fronts': fronts}[question]
     try:
         return '%s: %s' % (name, ask(octets_of(form)))
     except Refused as fault:

@@ -31,8 +31,8 @@ extern "C" {
 
 /* The version of this header, which is that of the program, and as a number (10,000 * major + 100 * minor +
  * patch). plistconv_version() tells that of the library which is linked. */
-#define PLISTCONV_VERSION "0.1.0"
-#define PLISTCONV_VERSION_NUMBER 100
+#define PLISTCONV_VERSION "0.2.0"
+#define PLISTCONV_VERSION_NUMBER 200
 uint32_t plistconv_version(void);
 
 /* The refusals by number. docs/FORMATS.md tells what each says of the octets, and which place it names. */
@@ -131,6 +131,14 @@ uint8_t plistconv_same(const uint8_t *first, size_t first_count, const uint8_t *
 uint8_t plistconv_text(const uint8_t *octets, size_t count, uint8_t *into, size_t room, size_t *length,
                        plistconv_refusal *refusal);
 
+/* The printed text of the value that the octets spell: for people to read, of every value, one line for each item
+ * of a list and each pair of a dictionary. Two values print the same exactly if they are equal.
+ * Reads octets[0 .. count). Answers 0 and gives the text in the buffer and *length, as plistconv_canonical gives a
+ * file; it may be far longer than the file, which may have a part once that the value holds many times.
+ * Else answers the number of the refusal: *refusal tells it, *length is 0, and the buffer is as it was. */
+uint8_t plistconv_print(const uint8_t *octets, size_t count, uint8_t *into, size_t room, size_t *length,
+                        plistconv_refusal *refusal);
+
 /* Whether the octets, a binary property list, are a canonical file. It builds no value.
  * Reads octets[0 .. count), and the key. Answers 0 and writes *finding.
  * Else answers 1 to 3, where the octets do not have the layout of a binary file, or 60: *refusal tells it,
@@ -172,6 +180,17 @@ static inline uint8_t plistconv_canonical_(const uint8_t *octets, size_t count, 
                                room == 0 ? none + 1 : into, room, length, refusal);
 }
 #define plistconv_canonical plistconv_canonical_
+
+static inline uint8_t plistconv_print_(const uint8_t *octets, size_t count, uint8_t *into, size_t room,
+                                       size_t *length, plistconv_refusal *refusal) {
+    const plistconv_refusal unset = {0, 0, 0, 0};
+    uint8_t none[2] = {0, 0};
+    *length = 0;
+    *refusal = unset;
+    return plistconv_print(plistconv_read_(octets, count, none), count, room == 0 ? none + 1 : into, room,
+                           length, refusal);
+}
+#define plistconv_print plistconv_print_
 
 static inline uint8_t plistconv_text_(const uint8_t *octets, size_t count, uint8_t *into, size_t room,
                                       size_t *length, plistconv_refusal *refusal) {

@@ -82,6 +82,56 @@ is_xml() { # LINK
     return 1
 }
 
+# Makes a binary file of an XML property list by Python's plistlib, if that reads and writes it without loss; else the
+# last line of the file WHY says what is wrong.
+binary_of_xml() { # IN OUT WHY
+    python3 -I - "$1" "$2" 2> "$3" <<'END'
+import plistlib
+import sys
+
+
+class Table(dict):
+    """A dictionary that has no key twice."""
+
+    def __setitem__(self, key, value):
+        if key in self:
+            raise ValueError(f"the key {key!r} is duplicated")
+        super().__setitem__(key, value)
+
+
+try:
+    with open(sys.argv[1], "rb") as file:
+        value = plistlib.load(file, fmt=plistlib.FMT_XML, dict_type=Table)
+    octets = plistlib.dumps(value, fmt=plistlib.FMT_BINARY, sort_keys=False)
+    # (it writes 0.0 and -0.0 as one object)
+    if repr(plistlib.loads(octets, dict_type=Table)) != repr(value):
+        raise ValueError("plistlib does not write what it read")
+    with open(sys.argv[2], "wb") as file:
+        file.write(octets)
+except Exception as fault:
+    sys.exit(f"not read as XML: {fault}")
+END
+}
+
+# Prints the value of the file at the link to OUT, of an XML property list too if Python's plistlib is here and reads
+# it. Sets `ended`, and `answer` to what is said of a file that is refused.
+print_value() { # LINK OUT
+    ended=0
+    "$plistconv" print "$1" > "$2" || ended=$?
+    [ "$ended" -ne 0 ] || return 0
+    answer=$(tail -n 1 "$2")
+    answer=${answer#"$1: "}
+    case $ended:$answer in
+        3:* | 126:* | 127:*) stop 4 "$plistconv cannot be run: $answer" ;;
+        '2:refused 21 '*)
+            answer="$answer (XML)"
+            command -v python3 > /dev/null && binary_of_xml "$1" "$scratch/binary" "$scratch/why" || return 0
+            "$plistconv" print "$scratch/binary" > "$2" && ended=0
+            ;;
+    esac
+    return 0
+}
+
 # Puts what stands in NEW in the place of FILE, whose mode it keeps, in one step.
 put_in_place() { # NEW FILE
     local folder=.

@@ -65,6 +65,16 @@ def test_openstep():
     assert refused(plistconv.text, plistlib.dumps([1], fmt=plistlib.FMT_BINARY)) == (40, None, None, 1)
 
 
+def test_printed():
+    value = {"b": ["x", 5, 3.25, True, {}], "a": b"\x00\xff", "\u00e9\n": datetime.datetime(2025, 11, 22, 19, 54, 22)}
+    octets = plistlib.dumps(value, fmt=plistlib.FMT_BINARY, sort_keys=False)
+    lines = ["{", '  "a" => <00ff>', '  "b" => [', '    0 => "x"', "    1 => 5", "    2 => 3.25", "    3 => true",
+             "    4 => {}", "  ]", '  "\u00e9\\n" => date 785534062.0 (2025-11-22T19:54:22Z)', "}"]
+    assert plistconv.printed(octets) == "\n".join(lines) + "\n"
+    assert plistconv.printed(b"(a)") == plistconv.printed(plistconv.canonical(b"(a)")) == '[\n  0 => "a"\n]\n'
+    assert refused(plistconv.printed, b"(") == (30, "octet", 1, 1)
+
+
 def test_refusals():
     assert refused(plistconv.canonical, b"bplist00") == (1, None, None, 1)
     assert refused(plistconv.check, b"") == (1, None, None, 1)

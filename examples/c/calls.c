@@ -11,6 +11,9 @@ static plistconv_refusal refusal;
 
 static const uint8_t key[PLISTCONV_HASH_KEY_OCTETS] = "sixteen octets!";
 static const uint8_t value[] = "{ b = (x, \"y z\", (deep, (er, { k = <00ff>; }))); c = \"h\\U00e9\"; }";
+static const uint8_t printed[] = "{\n  \"b\" => [\n    0 => \"x\"\n    1 => \"y z\"\n    2 => [\n      0 => \"deep\"\n"
+                                 "      1 => [\n        0 => \"er\"\n        1 => {\n          \"k\" => <00ff>\n        }\n"
+                                 "      ]\n    ]\n  ]\n  \"c\" => \"h\303\251\"\n}\n";
 static const uint8_t twice[] = "{ a = b; c = (d); a = c; }";
 
 static void must(int holds) {
@@ -60,6 +63,14 @@ int main(void) {
     if (number == 60) _exit(text_length == 0 ? 5 : 1);
     must(number == 0);
     same(text, text_length, file, length);
+
+    size_t print_length = 0, printed_length = 0;
+    number = plistconv_print(file, length, text, ROOM, &print_length, &refusal);
+    if (number == 60) _exit(print_length == 0 ? 5 : 1);
+    must(number == 0 && print_length == sizeof printed - 1 && memcmp(text, printed, print_length) == 0);
+    number = plistconv_print(value, sizeof value - 1, again, 3, &printed_length, &refusal);
+    if (number == 60) _exit(printed_length == 0 ? 5 : 1);
+    must(number == 0 && printed_length == print_length);
 
     canonical(twice, sizeof twice - 1, again, 14);
     size_t line_length = 0;

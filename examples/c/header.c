@@ -50,6 +50,7 @@ int main(void) {
     MUST(refusal.number == PLISTCONV_TOO_SHORT && refusal.unit == PLISTCONV_NO_PLACE && refusal.input == 1);
     MUST(plistconv_line(NULL, 0, &refusal, NULL, 0, &length) == 0 && length == strlen(": refused 1 TooShort"));
     MUST(plistconv_text(NULL, 0, NULL, 0, &length, &refusal) == 0 && length <= PLISTCONV_TEXT_ROOM(0, 1));
+    MUST(plistconv_print(NULL, 0, NULL, 0, &length, &refusal) == 0 && length == 3);
 
     /* The greatest room for its nodes and payload: a list of three strings that are not ASCII. */
     const uint8_t text[] = "(\"\\U00e9\", \"\\U00ea\", \"\\U00eb\")";

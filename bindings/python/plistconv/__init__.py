@@ -15,8 +15,8 @@ import dataclasses
 import os
 from typing import Any, NoReturn, Optional, Tuple, Union
 
-__all__ = ["Refused", "Finding", "canonical", "same", "check", "text", "library_version"]
-__version__ = "0.1.0"
+__all__ = ["Refused", "Finding", "canonical", "same", "check", "text", "printed", "library_version"]
+__version__ = "0.2.0"
 
 Octets = Union[bytes, bytearray, memoryview]
 
@@ -79,6 +79,7 @@ def _load() -> Any:
     for name, arguments in {
         "plistconv_canonical": [octets, size, key, *into, refusal],
         "plistconv_text": [octets, size, *into, refusal],
+        "plistconv_print": [octets, size, *into, refusal],
         "plistconv_same": [octets, size, octets, size, key, ctypes.POINTER(ctypes.c_uint8), refusal],
         "plistconv_check": [octets, size, key, ctypes.POINTER(_Finding), refusal],
         "plistconv_line": [octets, size, refusal, *into],
@@ -155,6 +156,12 @@ def canonical(octets: Octets, key: Optional[Octets] = None) -> bytes:
 def text(octets: Octets) -> bytes:
     """The OpenStep text of the value that the octets spell."""
     return _converted(_library.plistconv_text, octets)
+
+
+def printed(octets: Octets) -> str:
+    """The printed text of the value that the octets spell, for people to read: two values print the same exactly if
+    they are equal."""
+    return _converted(_library.plistconv_print, octets).decode("utf-8")
 
 
 def same(first: Octets, second: Octets, key: Optional[Octets] = None) -> bool:

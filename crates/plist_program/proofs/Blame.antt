@@ -29,12 +29,13 @@ use Rattle.plist_write.specs.declared.sending.WriteFault.TheVariants as write
 use Rattle.plist_transfer.specs.Output.{IsOutputFault}
 use Rattle.plist_disk.specs.Files.{FileName, IsStored, IsUnloaded}
 use Rattle.plist_words.specs.Asked.{Asked, Filters, Converts, Compares, Lints, Checks}
+use Rattle.plist_words.specs.Asked as asked
 use Rattle.plist_files.specs.declared.forms.Form.{Form}
 use Rattle.plist_program.specs.Answer.{IsCheckAnswer, IsLintAnswer, IsOutputRefusal, IsRefusedAnswer, IsSameAnswer, Said, Says, equality_said, pair_refusal, refusal}
 use Rattle.plist_program.specs.Ending.{Ends, HaveFailed, Prints, no_memory}
 use Rattle.plist_program.specs.Explaining.{Explains, said_of_kind, status_of_kind}
 use Rattle.plist_program.specs.Program.{DeviceFailed, IsAskedRun, IsRun}
-use Rattle.plist_program.specs.Runs.{EndsSending, IsAnswered, IsCheckRun, IsConvertRun, IsFileRun, IsFiltered, IsFilterRun, IsInputFault, IsLintRun, IsSameRun, IsUnread, IsWanting, refusal_between, standard}
+use Rattle.plist_program.specs.Runs.{EndsSending, IsAnswered, IsCheckRun, IsConvertRun, IsFileRun, IsFiltered, IsFilterRun, IsInputFault, IsLintRun, IsPrintRun, IsSameRun, IsUnread, IsWanting, refusal_between, standard}
 use Rattle.plist_program.specs.State.{Ending, Input, State}
 use Rattle.plist_program.specs.Verdicts.{verdict_status_for}
 
@@ -273,19 +274,26 @@ line_failed old new before middle after s status failed (inl (inr unprinted)) = 
 line_failed old new before middle after s status failed (inr (inl memory)) = failed_twice before middle after failed (inl memory.2)
 line_failed old new before middle after s status failed (inr (inr unprinted)) = failed_twice before middle after failed (inr unprinted.2)
 
-sending_blamed : (file : List ℕ) (old mid new : Option (List ℕ)) (before middle after status : ℕ) (sent : Result ℕ WriteFault)
-    → IsWritten file old mid before middle sent
-    → EndsSending mid new middle after (λ fault. refusal standard (write_fault_for fault)) sent status → status ≡ 4 → HaveFailed before after
-sending_blamed file old mid new before middle after status (Ok n) written ends four = absurd (no_0 (sym ends.0 ∙ four))
-sending_blamed file old mid new before middle after status (Err (write.WriteFailed n)) written ends four =
-    line_failed mid new before middle after (refusal standard (WriteFailed n)) status written.front.1 ends
-sending_blamed file old mid new before middle after status (Err (write.OutOfMemory n)) written ends four =
-    rw written.front.1 at (ends_blamed mid new middle after (refusal standard (OutOfMemory n)) status no_5 ends four)
+sending_blamed : (line : WriteFault → Said) (file : List ℕ) (old mid new : Option (List ℕ)) (before middle after status : ℕ) (sent : Result ℕ WriteFault)
+    → ((n : ℕ) → (line (write.OutOfMemory n)).status ≢ 4) → IsWritten file old mid before middle sent
+    → EndsSending mid new middle after line sent status → status ≡ 4 → HaveFailed before after
+sending_blamed line file old mid new before middle after status (Ok n) quiet written ends four = absurd (no_0 (sym ends.0 ∙ four))
+sending_blamed line file old mid new before middle after status (Err (write.WriteFailed n)) quiet written ends four =
+    line_failed mid new before middle after (line (write.WriteFailed n)) status written.front.1 ends
+sending_blamed line file old mid new before middle after status (Err (write.OutOfMemory n)) quiet written ends four =
+    rw written.front.1 at (ends_blamed mid new middle after (line (write.OutOfMemory n)) status (quiet n) ends four)
+
+print_blamed : (path : FileName) (before after : State) (status : ℕ) → IsPrintRun path before after status → status ≡ 4 → Failed before after
+unfolding IsPrintRun
+print_blamed path before after status (inl unread) four = unread_blamed path before after status unread four
+print_blamed path before after status (inr (inl refused)) four = answered_blamed (IsRefusedAnswer path) path before after status (refused_quiet path) refused four
+print_blamed path before after status (inr (inr run)) four =
+    inr (sending_blamed (λ fault. refusal_between path standard (write_fault_for fault)) run.text before.printed run.printed after.printed before.print_failures run.failures after.print_failures status run.sent (λ n. no_5) run.written run.ends four)
 
 filtered_blamed : (input rest : Input) (before after : State) (status : ℕ) → IsFiltered input rest before after status → status ≡ 4
     → DeviceFailed input rest before after
 filtered_blamed input rest before after status run four =
-    inr (inr (sending_blamed run.file before.printed run.printed after.printed before.print_failures run.failures after.print_failures status run.sent run.written run.ends four))
+    inr (inr (sending_blamed (λ fault. refusal standard (write_fault_for fault)) run.file before.printed run.printed after.printed before.print_failures run.failures after.print_failures status run.sent (λ n. no_5) run.written run.ends four))
 
 filter_blamed : (input rest : Input) (before after : State) (status : ℕ) → IsFilterRun input rest before after status → status ≡ 4
     → DeviceFailed input rest before after
@@ -301,6 +309,7 @@ asked_blamed (Converts form from to) input rest before after status run four = i
 asked_blamed (Compares first second) input rest before after status run four = inr (same_blamed first second before after status run.1 four)
 asked_blamed (Lints path) input rest before after status run four = inr (lint_blamed path before after status run.1 four)
 asked_blamed (Checks path) input rest before after status run four = inr (check_blamed path before after status run.1 four)
+asked_blamed (asked.Prints path) input rest before after status run four = inr (print_blamed path before after status run.1 four)
 
 -- words that are refused
 

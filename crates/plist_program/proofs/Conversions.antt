@@ -1,12 +1,13 @@
 -- From what a load and a store ensure to a conversion.
 use Rattle.std.proofs.Common.{inl, inr, refl, Err, List, Ok, Option, Result, ℕ, ◌∙◌, ◌≡◌}
 use Rattle.plist_files.specs.Fault.{write_fault_for}
+use Rattle.plist_files.specs.Refusals.{IsRefused}
 use Rattle.plist_files.specs.declared.faults.Fault.{Fault}
 use Rattle.plist_files.specs.declared.faults.Fault.TheVariants.{Binary, Text, NotInOpenStep, ReadFailed, WriteFailed, InputTooLarge, OutOfMemory}
 use Rattle.plist_files.specs.declared.forms.Form.{Form}
 use Rattle.plist_write.specs.declared.sending.WriteFault.{WriteFault}
 use Rattle.plist_transfer.specs.Output.{IsOutputFault}
-use Rattle.plist_transfer.specs.Transfer.{answer_of}
+use Rattle.plist_files.specs.Sent.{answer_of}
 use Rattle.plist_disk.specs.Files.{FileName, Holds, IsOutputStored, SameFiles, Stores}
 use Rattle.plist_program.specs.Ending.{Ends}
 use Rattle.plist_program.specs.Runs.{EndsSending, IsConverted, IsConvertRun, path_of_fault, refusal_between}
@@ -14,13 +15,13 @@ use Rattle.plist_program.specs.State.{State}
 use Rattle.plist_program.proofs.Disks.{same_trans, stored_before}
 
 -- nothing more is printed behind what was stored whole
-stored_whole : (from to : FileName) (sent : Result ℕ WriteFault) (n : ℕ) (printed : Option (List ℕ)) (failures : ℕ) → Ok n ≡ answer_of sent
+pub stored_whole : (from to : FileName) (sent : Result ℕ WriteFault) (n : ℕ) (printed : Option (List ℕ)) (failures : ℕ) → Ok n ≡ answer_of sent
     → EndsSending printed printed failures failures (λ fault. refusal_between from to (write_fault_for fault)) sent 0
 stored_whole from to (Ok m) n printed failures is = (refl, refl, refl)
 stored_whole from to (Err fault) n printed failures is = absurd cc
 
 -- the line of what was not
-stored_front : (from to : FileName) (sent : Result ℕ WriteFault) (fault : Fault) (old new : Option (List ℕ)) (before after status : ℕ)
+pub stored_front : (from to : FileName) (sent : Result ℕ WriteFault) (fault : Fault) (old new : Option (List ℕ)) (before after status : ℕ)
     → Err fault ≡ answer_of sent → Ends old new before after (refusal_between from to fault) status
     → EndsSending old new before after (λ f. refusal_between from to (write_fault_for f)) sent status
 stored_front from to (Ok m) fault old new before after status is ends = absurd cc
@@ -59,16 +60,20 @@ converted form octets from to before middle after n stands kept unfailed printed
     (rw (printed, failures) (stored_whole from to goes.sent n before.printed before.print_failures goes.is))))
 
 -- a refusal of octets is told under their own path
+pub refused_under : (octets : List ℕ) (from to : FileName) (fault : Fault) → IsRefused octets fault
+    → path_of_fault from to fault ≡ from
+refused_under octets from to (WriteFailed sent) refused = absurd refused.stands
+refused_under octets from to (Binary fault) refused = refl
+refused_under octets from to (Text fault) refused = refl
+refused_under octets from to NotInOpenStep refused = refl
+refused_under octets from to ReadFailed refused = refl
+refused_under octets from to InputTooLarge refused = refl
+refused_under octets from to (OutOfMemory sent) refused = refl
+
 told_under : (form : Form) (octets : List ℕ) (from to : FileName) (fault : Fault) → IsOutputFault form octets fault
     → path_of_fault from to fault ≡ from
-told_under form octets from to (WriteFailed sent) (inl refused) = absurd refused.stands
-told_under form octets from to (WriteFailed sent) (inr none) = absurd (let is = none.is in cc)
-told_under form octets from to (Binary fault) cause = refl
-told_under form octets from to (Text fault) cause = refl
-told_under form octets from to NotInOpenStep cause = refl
-told_under form octets from to ReadFailed cause = refl
-told_under form octets from to InputTooLarge cause = refl
-told_under form octets from to (OutOfMemory sent) cause = refl
+told_under form octets from to fault (inl refused) = refused_under octets from to fault refused
+told_under form octets from to fault (inr none) = rw none.is refl
 
 pub unconverted : (form : Form) (octets : List ℕ) (from to : FileName) (before middle after : State) (status : ℕ) (fault : Fault)
     → Holds before.files from octets → SameFiles before.files middle.files → middle.disk_failures ≡ before.disk_failures

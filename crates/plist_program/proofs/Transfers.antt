@@ -14,7 +14,8 @@ use Rattle.plist_write.specs.Canonical.{canon}
 use Rattle.plist_write.specs.declared.sending.WriteFault.{WriteFault}
 use Rattle.plist_write.specs.declared.sending.WriteFault.TheVariants as write
 use Rattle.plist_transfer.specs.Output.{IsOutput, IsOutputFault}
-use Rattle.plist_transfer.specs.Transfer.{IsInput, IsTransfer, Writes, answer_of}
+use Rattle.plist_files.specs.Sent.{answer_of}
+use Rattle.plist_transfer.specs.Transfer.{IsInput, IsTransfer, Writes}
 use Rattle.plist_program.specs.Answer.{refusal}
 use Rattle.plist_program.specs.Ending.{Ends}
 use Rattle.plist_program.specs.Runs.{EndsSending, IsFilterRun, IsInputFault, IsUntaken, standard}

@@ -1,11 +1,11 @@
 -- The whole program: words, what is there before, what is there after, and the status.
 use Rattle.std.specs.Prelude.{◌≡◌, ◌⊎◌, ℕ, ◌<◌, ◌≤◌, List, [], Option, Some, length}
 use Rattle.clap.specs.Words.{Kinds, Text}
-use Rattle.plist_words.specs.Asked.{Asked, Filters, Converts, Compares, Lints, Checks}
+use Rattle.plist_words.specs.Asked.{Asked, Filters, Converts, Compares, Lints, Checks, Prints}
 use Rattle.plist_words.specs.Reading.{IsParse}
 use Rattle.plist_program.specs.Ending.{HaveFailed}
 use Rattle.plist_program.specs.Explaining.{IsExplained}
-use Rattle.plist_program.specs.Runs.{IsCheckRun, IsConvertRun, IsFilterRun, IsLintRun, IsSameRun}
+use Rattle.plist_program.specs.Runs.{IsCheckRun, IsConvertRun, IsFilterRun, IsLintRun, IsPrintRun, IsSameRun}
 use Rattle.plist_program.specs.State.{Input, State}
 
 -- no file and no failure of one changes
@@ -24,6 +24,8 @@ IsAskedRun (Lints path) input rest before after status =
     (rest ≡ input) × IsLintRun path before after status
 IsAskedRun (Checks path) input rest before after status =
     (rest ≡ input) × IsCheckRun path before after status
+IsAskedRun (Prints path) input rest before after status =
+    (rest ≡ input) × IsPrintRun path before after status
 
 -- the parser takes the words, and this is what they ask for
 pub record AreTaken (words : List Text) (it : Asked) : Type 0 where

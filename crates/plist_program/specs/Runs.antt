@@ -4,6 +4,7 @@ use Rattle.plist_devices.specs.Count.{one_more}
 use Rattle.plist_files.specs.Accepted.{IsCanonicalOf}
 use Rattle.plist_files.specs.Fault.{write_fault_for}
 use Rattle.plist_files.specs.Load.{Takes}
+use Rattle.plist_files.specs.Printed.{IsPrintOf}
 use Rattle.plist_files.specs.Refusals.{IsRefused}
 use Rattle.plist_files.specs.declared.faults.Fault.{Fault}
 use Rattle.plist_files.specs.declared.faults.Fault.TheVariants as refusal_kind
@@ -14,7 +15,7 @@ use Rattle.plist_write.specs.declared.sending.WriteFault.{WriteFault}
 use Rattle.plist_transfer.specs.Output.{IsOutput}
 use Rattle.plist_transfer.specs.Transfer.{IsInput, NeedsNoMemory}
 use Rattle.plist_disk.specs.Files.{FileName, Holds, IsStored, IsUnloaded, SameFiles}
-use Rattle.plist_program.specs.Answer.{IsCheckAnswer, IsLintAnswer, IsOutputRefusal, IsSameAnswer, Said, refusal}
+use Rattle.plist_program.specs.Answer.{IsCheckAnswer, IsLintAnswer, IsOutputRefusal, IsRefusedAnswer, IsSameAnswer, Said, refusal}
 use Rattle.plist_program.specs.Ending.{Ends}
 use Rattle.plist_program.specs.State.{Ending, Input, State, Wanting}
 
@@ -118,6 +119,27 @@ IsConvertRun form from to before after status =
 -- the path that stands for standard input and standard output in a line
 abbrev pub standard : FileName
 standard = codes "-"
+
+-- The printed text of what stands at the path goes out, all of it or exactly a front, where printing failed or memory
+-- ran out; and behind it, from what was printed and the failures of printing by then, the line of that.
+pub record IsPrintedRun (path : FileName) (before after : State) (status : ℕ) : Type 0 where
+  pub octets : List ℕ
+  pub stands : Holds before.files path octets
+  pub kept : SameFiles before.files after.files
+  pub unfailed : after.disk_failures ≡ before.disk_failures
+  pub text : List ℕ
+  pub of : IsPrintOf octets text
+  pub sent : Result ℕ WriteFault
+  pub printed : Option (List ℕ)
+  pub failures : ℕ
+  pub written : IsWritten text before.printed printed before.print_failures failures sent
+  pub ends : EndsSending printed after.printed failures after.print_failures (λ fault. refusal_between path standard (write_fault_for fault)) sent status
+
+-- `print IN`
+unfoldable pub IsPrintRun : FileName → State → State → ℕ → Type 0
+IsPrintRun path before after status =
+    IsUnread path before after status ⊎ (IsAnswered (IsRefusedAnswer path) path before after status
+    ⊎ IsPrintedRun path before after status)
 
 -- The octets are all of the input, which was taken to its end without a failure.
 pub record IsTaken (input rest : Input) (octets : List ℕ) : Type 0 where

@@ -6,7 +6,7 @@ ghost use Rattle.plist_program.specs.State.{Input, input_of, state};
 
 use crate::filtering::filter;
 use crate::printing::explain;
-use crate::words::{check_file, compare_files, convert_file, lint_file};
+use crate::words::{check_file, compare_files, convert_file, lint_file, print_file};
 use plist_devices::{ReaderSource, Sink, Source, Stream};
 use plist_disk::{Disk, HostDisk};
 use plist_value::FixedHasher;
@@ -47,12 +47,8 @@ pub fn run<R: Files, I: Read, O: Write>(
     )
 }
 
-/// [`run`] for a program that ends next: the value that a conversion reads of a text is not given back, and its
-/// memory stays taken until the program ends, when all of it is given back at once. It is what `main` calls; a
-/// program that goes on calls [`run`].
-///
-/// Scalars are hashed by a [`RandomState`] that is made once, so that nobody can pick some that collide; where the
-/// system gives no random octets, by the fixed builder. What is answered is the same.
+/// [`run`], where scalars are hashed by a [`RandomState`] that is made once, so that nobody can pick some that collide;
+/// if the system gives no random octets, by the fixed builder. What is answered is the same. It is what `main` calls.
 pub fn run_to_end<R: Files + RandomSource, I: Read, O: Write>(
     rt: &R,
     alloc: Global,
@@ -73,7 +69,7 @@ pub fn run_to_end<R: Files + RandomSource, I: Read, O: Write>(
     }
 }
 
-/// The last run of a program, where scalars are hashed by what the builder makes.
+/// A run where scalars are hashed by what the builder makes.
 fn run_last<H: BuildHasher + Copy, R: Files, I: Read, O: Write>(
     rt: &R,
     alloc: Global,
@@ -88,7 +84,7 @@ fn run_last<H: BuildHasher + Copy, R: Files, I: Read, O: Write>(
         (state None 0 (O.contents output.old) 0)
         (state None disk_failed (O.contents output.new) print_failed) result }
 {
-    let mut disk = HostDisk::at_end_with_hasher(rt, hasher);
+    let mut disk = HostDisk::with_hasher(rt, hasher);
     let mut source = ReaderSource::new(input);
     let mut sink = Stream::new(output);
     run_on_with_hasher(alloc, hasher, &mut disk, words, &mut source, &mut sink)
@@ -207,5 +203,6 @@ fn obey<H: BuildHasher + Copy, D: Disk, S: Source, W: Sink>(
         ),
         Request::Lint { path } => lint_file(alloc, disk, path, output),
         Request::Check { path } => check_file(alloc, hasher, disk, path, output),
+        Request::Print { path } => print_file(alloc, disk, path, output),
     }
 }

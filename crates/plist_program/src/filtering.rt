@@ -12,7 +12,7 @@ use std::alloc::Global;
 use std::hash::BuildHasher;
 
 /// The path that stands for standard input and standard output in a line.
-const STANDARD: &str = "-";
+pub(crate) const STANDARD: &str = "-";
 
 /// The canonical file of the input, to the output, object after object. All of the input is read before the
 /// first octet goes out. Scalars are hashed by what the builder makes.

@@ -1,13 +1,15 @@
 //! What each word of the program does with the files that it names.
 ghost use Rattle.std.specs.Prelude.{◌≡◌};
-ghost use Rattle.plist_program.specs.Runs.{IsCheckRun, IsConvertRun, IsLintRun, IsSameRun, path_of_fault};
+ghost use Rattle.plist_program.specs.Runs.{IsCheckRun, IsConvertRun, IsLintRun, IsPrintRun, IsSameRun};
+ghost use Rattle.plist_program.specs.Runs.{path_of_fault};
 ghost use Rattle.plist_program.specs.State.{state};
 
 use crate::answers::{check_answer_with_hasher, lint_answer, same_answer_with_hasher};
+use crate::filtering::STANDARD;
 use crate::printing::{give, report};
 use plist_devices::Sink;
 use plist_disk::Disk;
-use plist_files::{Fault, Form, Status};
+use plist_files::{Fault, Form, Status, print};
 use std::alloc::Global;
 use std::hash::BuildHasher;
 
@@ -115,7 +117,32 @@ pub(crate) fn convert_file<D: Disk, W: Sink>(
     }
 }
 
-/// The path under which a refusal of a conversion is told.
+/// `print IN`: the printed text of the value, object after object. Nothing of it goes out unless IN is accepted.
+pub(crate) fn print_file<D: Disk, W: Sink>(
+    alloc: Global,
+    disk: &mut D,
+    path: &str,
+    output: &mut W,
+) -> u8
+    ensures run { IsPrintRun path.now
+        (state (D.files disk.old) (D.failures disk.old)
+        (W.taken output.old) (W.failures output.old))
+        (state (D.files disk.new) (D.failures disk.new)
+        (W.taken output.new) (W.failures output.new))
+        result }
+    ensures same { W.device output.new ≡ W.device output.old }
+{
+    let octets = match disk.load(alloc, path) {
+        Ok(octets) => octets,
+        Err(fault) => return report(alloc, path, &fault, output),
+    };
+    match print(alloc, octets.as_slice(), output) {
+        Ok(_) => Status::Done.code(),
+        Err(fault) => report(alloc, path_of(&fault, path, STANDARD), &fault, output),
+    }
+}
+
+/// The path under which a refusal is told of what goes from one path to another.
 fn path_of<'a>(fault: &Fault, from: &'a str, to: &'a str) -> &'a str
     ensures { result.now ≡ path_of_fault from.now to.now fault.now }
 {

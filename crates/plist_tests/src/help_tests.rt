@@ -27,6 +27,7 @@ fn each_word_is_explained_on_one_screen(rt: HostRuntime) -> Result<(), Fail> {
             40,
         ),
         ("plistconv check --help", "Example: plistconv check ", 40),
+        ("plistconv print --help", "Example: plistconv print ", 40),
     ];
     for (words, example, most) in rows {
         let given: Vec<&str> = words.split(' ').collect(rt.alloc())?;

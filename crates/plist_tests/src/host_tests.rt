@@ -42,7 +42,7 @@ const FILES: [(&str, &[u8]); 10] = [
 type Row = (&'static str, &'static str, u8);
 
 /// The worked rows, one after another.
-const ROWS: [Row; 29] = [
+const ROWS: [Row; 33] = [
     ("plistconv convert binary1 row2.txt converted", "", 0),
     ("plistconv same row2.txt row2.bin", "equal\n", 0),
     ("plistconv same real4.bin real8.bin", "different\n", 1),
@@ -134,6 +134,22 @@ const ROWS: [Row; 29] = [
     ),
     ("plistconv convert binary1 unsorted.bin unsorted.bin", "", 0),
     ("plistconv check unsorted.bin", "canonical\n", 0),
+    (
+        "plistconv print row2.txt",
+        "{\n  \"a\" => \"b\"\n  \"b\" => \"a\"\n}\n",
+        0,
+    ),
+    ("plistconv print real4.bin", "1.0f\n", 0),
+    (
+        "plistconv print twice.txt",
+        "twice.txt: refused 14 DuplicateKey at octet 3\n",
+        2,
+    ),
+    (
+        "plistconv print missing",
+        "missing: refused 50 ReadFailed\n",
+        4,
+    ),
     // A file that is refused stays as it is, where it is OUT too.
     (
         "plistconv convert binary1 twice.txt twice.txt",
@@ -225,18 +241,20 @@ fn writes_a_long_file(rt: HostRuntime) -> Result<(), Fail> {
 }
 
 /// Words, the status, and how what is printed begins.
-const OTHER_WORDS: [(&str, u8, &str); 14] = [
+const OTHER_WORDS: [(&str, u8, &str); 16] = [
     ("plistconv -h", 0, "Converts Apple property lists"),
     ("plistconv --help", 0, "Converts Apple property lists"),
     ("plistconv convert --help", 0, "Writes the property list"),
     ("plistconv same --help", 0, "Says whether two files"),
     ("plistconv lint -h", 0, "Says whether a file is a"),
     ("plistconv check --help", 0, "Says whether a file is the"),
-    ("plistconv --version", 0, "plistconv 0.1.0\n"),
+    ("plistconv print --help", 0, "Prints the value of a file"),
+    ("plistconv --version", 0, "plistconv 0.2.0\n"),
     ("plistconv turn row2.txt", 3, "error: "),
     ("plistconv same row2.txt", 3, "error: "),
     ("plistconv lint", 3, "error: "),
     ("plistconv check", 3, "error: "),
+    ("plistconv print", 3, "error: "),
     ("plistconv convert binary1 a", 3, "error: "),
     ("plistconv convert binary2 a b", 3, "error: "),
     ("plistconv --", 3, "error: "),

@@ -40,6 +40,8 @@ mod object_tests;
 #[cfg(test)]
 mod prefixes;
 #[cfg(test)]
+mod print_tests;
+#[cfg(test)]
 mod readme;
 #[cfg(test)]
 mod send_tests;

@@ -4,7 +4,7 @@ use Rattle.std.specs.Borrow.{Bor}
 use Rattle.clap.specs.Words.{App, Kinds, Text, fault_of, subcommand_of}
 use Rattle.clap.proofs.OnLiterals.{clap_on_literals}
 use Rattle.clap.specs.declared.error.ErrorKind.TheVariants as kind
-use Rattle.plist_words.specs.Asked.{Asked, Checks, Compares, Converts, Lints, asked_at}
+use Rattle.plist_words.specs.Asked.{Asked, Checks, Compares, Converts, Lints, Prints, asked_at}
 use Rattle.plist_words.specs.CommandLine.{NamesForms, program}
 use Rattle.plist_words.specs.Reading.{IsParse}
 use Rattle.plist_files.specs.declared.forms.Form.TheVariants.{Binary1, OpenStep}
@@ -109,6 +109,10 @@ lints = asks _ _ (λ p q r. refl) (λ p q r. refl)
 checks : AsksFor (codes "plistconv" ∷ (codes "check" ∷ (codes "a" ∷ []))) (Checks (codes "a"))
 unfolding clap_on_literals
 checks = asks _ _ (λ p q r. refl) (λ p q r. refl)
+
+prints : AsksFor (codes "plistconv" ∷ (codes "print" ∷ (codes "a" ∷ []))) (Prints (codes "a"))
+unfolding clap_on_literals
+prints = asks _ _ (λ p q r. refl) (λ p q r. refl)
 
 a-path-behind-two-lines : AsksFor (codes "plistconv" ∷ (codes "check" ∷ (codes "--" ∷ (codes "-x" ∷ [])))) (Checks (codes "-x"))
 unfolding clap_on_literals

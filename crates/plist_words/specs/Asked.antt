@@ -14,6 +14,7 @@ pub data Asked : Type 0 where
   Compares : Text → Text → Asked
   Lints : Text → Asked
   Checks : Text → Asked
+  Prints : Text → Asked
 
 -- what a request asks for
 abbrev pub asked_by : Request → Asked
@@ -22,6 +23,7 @@ asked_by (request.Convert form from to) = Converts form from.now to.now
 asked_by (request.Same first second) = Compares first.now second.now
 asked_by (request.Lint path) = Lints path.now
 asked_by (request.Check path) = Checks path.now
+asked_by (request.Print path) = Prints path.now
 
 -- the form of this name
 abbrev pub form_of : Text → Option Form
@@ -53,12 +55,16 @@ lint_at rows = option_map Lints (first_of (codes "IN") rows)
 abbrev pub check_at : List Row → Option Asked
 check_at rows = option_map Checks (first_of (codes "IN") rows)
 
+abbrev pub print_at : List Row → Option Asked
+print_at rows = option_map Prints (first_of (codes "IN") rows)
+
 abbrev pub asked_in : Text → List Row → Option Asked
 asked_in word rows =
     if bytes_eq word (codes "convert") then convert_at rows
     else if bytes_eq word (codes "same") then same_at rows
     else if bytes_eq word (codes "lint") then lint_at rows
     else if bytes_eq word (codes "check") then check_at rows
+    else if bytes_eq word (codes "print") then print_at rows
     else None
 
 abbrev pub asked_at : Option (Text × List Row) → Option Asked

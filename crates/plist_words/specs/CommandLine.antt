@@ -8,7 +8,7 @@ use Rattle.clap.specs.declared.builder.ValueParser.TheVariants.{Names}
 abbrev pub file_word : Text → Rule
 file_word id = record (new_rule id) { required = true }
 
--- a word with one file, `lint IN` or `check IN`
+-- a word with one file, as `lint IN`
 abbrev pub one_file : Text → App
 one_file name = with_rule (new_app name) (file_word (codes "IN"))
 
@@ -23,7 +23,7 @@ convert forms =
     (record (file_word (codes "FORM")) { parser = Some (Names forms) })) (file_word (codes "IN")))
     (file_word (codes "OUT"))
 
--- one of the four has to be given
+-- one of the words has to be given
 abbrev pub program_top : App
 program_top =
     let a = new_app (codes "plistconv") in
@@ -31,8 +31,9 @@ program_top =
 
 abbrev pub program : Bor (List (Bor Text)) → App
 program forms =
-    with_subcommand (with_subcommand (with_subcommand (with_subcommand program_top
-    (convert forms).top) same.top) (one_file (codes "lint")).top) (one_file (codes "check")).top
+    with_subcommand (with_subcommand (with_subcommand (with_subcommand (with_subcommand program_top
+    (convert forms).top) same.top) (one_file (codes "lint")).top) (one_file (codes "check")).top)
+    (one_file (codes "print")).top
 
 -- the names of the forms, in memory somewhere
 abbrev pub NamesForms : Bor (List (Bor Text)) → Type 0

@@ -18,14 +18,15 @@ pub(crate) fn program<'a>(alloc: Global) -> Result<Command<'a>, AllocError>
         .subcommand(convert(alloc)?)?
         .subcommand(same(alloc)?)?
         .subcommand(lint(alloc)?)?
-        .subcommand(check(alloc)?)
+        .subcommand(check(alloc)?)?
+        .subcommand(print(alloc)?)
 }
 
 fn top<'a>(alloc: Global) -> Command<'a>
     ensures { app_of result ≡ program_top }
 {
     word(alloc, "plistconv", help::ABOUT, help::AFTER)
-        .version("0.1.0")
+        .version("0.2.0")
         .subcommand_required(true)
 }
 
@@ -61,6 +62,16 @@ fn check<'a>(alloc: Global) -> Result<Command<'a>, AllocError>
     ensures { IfOk result (λ command. app_of command ≡ one_file (codes "check")) }
 {
     word(alloc, "check", help::CHECK_ABOUT, help::CHECK_AFTER).arg(place(
+        alloc,
+        "IN",
+        "The file to read",
+    ))
+}
+
+fn print<'a>(alloc: Global) -> Result<Command<'a>, AllocError>
+    ensures { IfOk result (λ command. app_of command ≡ one_file (codes "print")) }
+{
+    word(alloc, "print", help::PRINT_ABOUT, help::PRINT_AFTER).arg(place(
         alloc,
         "IN",
         "The file to read",

@@ -113,3 +113,25 @@ Exit status:
   3  the words are not understood
   4  the file cannot be read, or the line cannot be printed
   5  no memory is left";
+
+/// What `print` is for.
+pub(crate) const PRINT_ABOUT: &str = "Prints the value of a file for people to read";
+
+/// What `print` reads and prints.
+pub(crate) const PRINT_AFTER: &str = "\
+Reads a property list, a binary file or an OpenStep text, from IN, and writes no
+file. Prints its value, whatever it holds; if IN is refused, only one line that
+says what is refused, where, and why.
+
+Two values print the same exactly if they are equal, so a comparison of two
+prints shows all that differs:
+  plistconv print A > a && plistconv print B > b && diff -u a b
+
+Example: plistconv print Info.plist
+
+Exit status:
+  0  printed
+  2  refused
+  3  the words are not understood
+  4  the file cannot be read, or its value cannot be printed
+  5  no memory is left";

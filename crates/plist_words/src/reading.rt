@@ -2,7 +2,7 @@
 ghost use Rattle.std.specs.Prelude.{◌≡◌, ◌<◌, ◌≤◌, length, map, option_map, Ok};
 ghost use Rattle.clap.specs.Words.{first_of, found_of, rows_of, subcommand_rows_of};
 ghost use Rattle.plist_words.specs.Asked.{asked_by, asked_at, check_at, convert_at};
-ghost use Rattle.plist_words.specs.Asked.{form_of, lint_at, same_at};
+ghost use Rattle.plist_words.specs.Asked.{form_of, lint_at, print_at, same_at};
 ghost use Rattle.plist_words.specs.Reading.{IsReading};
 
 use crate::commands::program;
@@ -41,6 +41,7 @@ fn request_of<'a>(matches: &ArgMatches<'a>) -> Option<Request<'a>>
         "same" => same_request(given),
         "lint" => lint_request(given),
         "check" => check_request(given),
+        "print" => print_request(given),
         _ => None,
     }
 }
@@ -76,6 +77,14 @@ fn check_request<'a>(given: &ArgMatches<'a>) -> Option<Request<'a>>
     ensures { option_map asked_by result ≡ check_at (rows_of (found_of given.now)) }
 {
     Some(Request::Check {
+        path: value(given, "IN")?,
+    })
+}
+
+fn print_request<'a>(given: &ArgMatches<'a>) -> Option<Request<'a>>
+    ensures { option_map asked_by result ≡ print_at (rows_of (found_of given.now)) }
+{
+    Some(Request::Print {
         path: value(given, "IN")?,
     })
 }

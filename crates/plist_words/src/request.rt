@@ -26,4 +26,8 @@ pub enum Request<'a> {
     Check {
         path: &'a str,
     },
+    /// `print IN`: the printed text of the value of a file, to standard output.
+    Print {
+        path: &'a str,
+    },
 }

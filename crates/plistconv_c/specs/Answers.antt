@@ -10,8 +10,10 @@ use Rattle.plist_canon.specs.declared.checking.Verdict.TheVariants.{Canonical, B
 use Rattle.plist_files.specs.Accepted.{IsAccepted, IsCanonicalOf}
 use Rattle.plist_files.specs.Fault.{check_fault_for}
 use Rattle.plist_files.specs.Pair.{IsPair}
+use Rattle.plist_files.specs.Printed.{IsPrintOf}
 use Rattle.plist_files.specs.Refusals.{IsRefused}
 use Rattle.plist_files.specs.declared.faults.Fault.{Fault}
+use Rattle.plist_files.specs.declared.faults.Fault.TheVariants.{OutOfMemory, WriteFailed}
 use Rattle.plistconv_c.specs.Given.{IsGiven}
 use Rattle.plistconv_c.specs.Refusals.{no_refusal, refusal_of}
 use Rattle.plistconv_c.specs.declared.checking.Finding.{Finding}
@@ -23,6 +25,19 @@ pub record IsCanonicalGiven (octets before after : List ℕ) (count : ℕ) (told
   pub canonical : IsCanonicalOf octets file
   pub given : IsGiven file before after count
   pub none : told ≡ no_refusal
+
+-- the printed text of the value that the octets spell is given in the buffer
+pub record IsPrintGiven (octets before after : List ℕ) (count : ℕ) (told : Refusal) : Type 0 where
+  pub text : List ℕ
+  pub of : IsPrintOf octets text
+  pub given : IsGiven text before after count
+  pub none : told ≡ no_refusal
+
+-- the refusal of a call that gathers octets before any goes out: a put fails where memory runs out
+abbrev pub gathered_fault : Fault → Fault
+gathered_fault (WriteFailed sent) = OutOfMemory 0
+gathered_fault (OutOfMemory sent) = OutOfMemory 0
+gathered_fault fault = fault
 
 -- the octets are refused, the refusal is told by its number and its place, and the buffer is as it was
 pub record IsRefusedWhole (octets before after : List ℕ) (count : ℕ) (told : Refusal) (number : ℕ) : Type 0 where

@@ -7,20 +7,34 @@ use crate::octets::shown;
 use crate::row::{Question, Row};
 use crate::values::answer_value;
 use ostep_lex::{Token, TokenKind, open, tokens};
-use plist_files::{judge_any, read_any};
+use plist_devices::ListSink;
+use plist_files::{judge_any, print, read_any};
 use plist_object::{BinFile, Object, Refs};
 use plist_value::Utf16;
 use std::alloc::{AllocError, Global};
 use std::fmt::Write;
+
+// The greatest printed text of a row, in octets.
+const ROOM: usize = 65_536;
 
 /// The line that answers the row.
 pub(crate) fn answer(alloc: Global, row: &Row) -> Result<String, AllocError> {
     let octets = row.octets.as_slice();
     match row.question {
         Question::Value => answer_value(alloc, row.name, octets),
+        Question::Print => answer_print(alloc, row.name, octets),
         Question::Layout => answer_layout(alloc, row.name, octets),
         Question::Tokens => answer_tokens(alloc, row.name, octets),
         Question::Fronts => answer_fronts(alloc, row.name, octets),
+    }
+}
+
+// The printed text of the value.
+fn answer_print(alloc: Global, name: &str, octets: &[u8]) -> Result<String, AllocError> {
+    let mut sink = ListSink::new(alloc, ROOM, ROOM)?;
+    match print(alloc, octets, &mut sink) {
+        Ok(_) => format!(in alloc; "{name}: {}", shown(sink.taken())),
+        Err(fault) => format!(in alloc; "{name}: refused {fault} ({})", fault.code()),
     }
 }
 

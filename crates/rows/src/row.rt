@@ -9,6 +9,8 @@ pub(crate) enum Question {
     /// Which value they spell: its canonical file and its OpenStep text; of a binary file also whether it is
     /// canonical.
     Value,
+    /// How their value is printed.
+    Print,
     /// What stands in a binary file: its trailer, and each of its objects.
     Layout,
     /// The tokens of a text.
@@ -21,6 +23,7 @@ impl Question {
     fn of(word: &str) -> Option<Question> {
         match word {
             "value" => Some(Question::Value),
+            "print" => Some(Question::Print),
             "layout" => Some(Question::Layout),
             "tokens" => Some(Question::Tokens),
             "fronts" => Some(Question::Fronts),

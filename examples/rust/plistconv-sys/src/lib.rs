@@ -61,6 +61,14 @@ extern "C" {
         length: *mut usize,
         refusal: *mut Refusal,
     ) -> u8;
+    pub fn plistconv_print(
+        octets: *const u8,
+        count: usize,
+        into: *mut u8,
+        room: usize,
+        length: *mut usize,
+        refusal: *mut Refusal,
+    ) -> u8;
     pub fn plistconv_same(
         first: *const u8,
         first_count: usize,

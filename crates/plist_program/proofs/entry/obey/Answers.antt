@@ -21,3 +21,7 @@ returns-in-Lint-clause-run g c = rw c.in-Lint.is (refl, c.lint_file.ensures.run)
 pub returns-in-Check-clause-run : goal.returns-in-Check-clause-run
 unfolding IsAskedRun
 returns-in-Check-clause-run g c = rw c.in-Check.is (refl, c.check_file.ensures.run)
+
+pub returns-in-Print-clause-run : goal.returns-in-Print-clause-run
+unfolding IsAskedRun
+returns-in-Print-clause-run g c = rw c.in-Print.is (refl, c.print_file.ensures.run)

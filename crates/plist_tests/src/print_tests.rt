@@ -1,0 +1,88 @@
+//! Prints to sinks that fail, and where memory runs out.
+use plist_devices::{ListSink, Sink};
+use plist_files::{Fault, canonicalise, print};
+use std::alloc::{AllocError, Global};
+use std::test::Fail;
+use test_files::file;
+
+const TABLE: &[u8] = b"{b=(a,<0f>);a=b;}";
+
+const PRINTED: &[u8] =
+    b"{\n  \"a\" => \"b\"\n  \"b\" => [\n    0 => \"a\"\n    1 => <0f>\n  ]\n}\n";
+
+// The answer for a sink of this room, and the sink.
+fn printing(
+    alloc: Global,
+    octets: &[u8],
+    room: usize,
+) -> Result<(Result<u64, Fault>, ListSink), AllocError> {
+    let mut sink = ListSink::new(alloc, room, 7)?;
+    let answer = print(alloc, octets, &mut sink);
+    Ok((answer, sink))
+}
+
+// The first room of which it does not hold that a front goes out, and what does not is told.
+fn wrong_room(alloc: Global, octets: &[u8]) -> Result<Option<usize>, AllocError> {
+    for room in 0..PRINTED.len() + 2 {
+        let (answer, sink) = printing(alloc, octets, room)?;
+        let most = room.min(PRINTED.len());
+        let sent = most as u64;
+        let wanted = if room < PRINTED.len() {
+            Err(Fault::WriteFailed { sent })
+        } else {
+            Ok(sent)
+        };
+        if answer != wanted || PRINTED.get(..most) != Some(sink.taken()) {
+            return Ok(Some(room));
+        }
+    }
+    Ok(None)
+}
+
+#[test]
+fn a_sink_of_any_room_holds_a_front_of_the_print(rt: HostRuntime) -> Result<(), Fail> {
+    let alloc = rt.alloc();
+    let own = canonicalise(alloc, TABLE)?;
+    for octets in [TABLE, own.as_slice()] {
+        assert_eq!(rt; wrong_room(alloc, octets)?, None);
+    }
+    Ok(())
+}
+
+#[test]
+fn nothing_of_refused_octets_is_printed(rt: HostRuntime) -> Result<(), Fail> {
+    // A list of a flag and of itself: the flag is not printed before the cycle is found.
+    let circular = file(rt.alloc(), &[0xa2, 1, 0, 9], &[8, 11], 1)?;
+    let rows = [
+        (circular.as_slice(), 15),
+        (b"{a;a=b;}".as_slice(), 14),
+        (b"bplist00".as_slice(), 1),
+    ];
+    for (octets, code) in rows {
+        let (answer, sink) = printing(rt.alloc(), octets, 100)?;
+        assert_eq!(rt; answer.err().map(|fault| fault.code()), Some(code));
+        assert_eq!(rt; (sink.taken().len(), sink.failures()), (0, 0));
+    }
+    Ok(())
+}
+
+// Also where memory is refused from outside, at any of the growths.
+#[test]
+fn what_was_printed_is_a_front(rt: HostRuntime) -> Result<(), Fail> {
+    let alloc = rt.alloc();
+    let sorted = file(alloc, b"\xd2\x01\x02\x02\x01QaQb", &[8, 13, 15], 1)?;
+    let whole = b"{\n  \"a\" => \"b\"\n  \"b\" => \"a\"\n}\n".as_slice();
+    for octets in [b"{b=a;a=b;}", sorted.as_slice()] {
+        let (answer, sink) = printing(alloc, octets, 100)?;
+        let sent = match answer {
+            Ok(sent) => {
+                assert_eq!(rt; sent, whole.len() as u64);
+                sent
+            }
+            Err(Fault::OutOfMemory { sent }) => sent,
+            Err(_) => return Err(Fail::from("the octets are accepted, and the sink has room")),
+        };
+        assert_eq!(rt; whole.get(..sent as usize), Some(sink.taken()));
+    }
+    Ok(())
+}

@@ -1,0 +1,46 @@
+//! Octets that are gathered in memory.
+ghost use Rattle.std.specs.Prelude.{◌≡◌, [], None, Some};
+
+use plist_devices::{DeviceFault, Sink};
+use std::alloc::Global;
+
+/// A sink that keeps all octets that it takes. A put fails only where there is no memory for the piece.
+#[derive(Drop)]
+pub(crate) struct Gathering {
+    pub(crate) octets: Vec<u8>,
+    failures: u64,
+}
+
+impl Gathering {
+    // No octets.
+    pub(crate) fn new(alloc: Global) -> Gathering
+        ensures octets { result.octets.items ≡ [] }
+        ensures failures { result.failures ≡ 0 }
+    {
+        Gathering {
+            octets: Vec::new(alloc),
+            failures: 0,
+        }
+    }
+}
+
+impl Sink for Gathering {
+    ghost taken = { λ sink. Some sink.octets.items };
+
+    ghost failures = { λ sink. sink.failures };
+
+    ghost device = { λ _. None };
+
+    fn put(&mut self, piece: &[u8]) -> Result<usize, DeviceFault> {
+        let failures = self.failures;
+        if failures == u64::MAX || self.octets.extend_from_slice(piece).is_err() {
+            self.failures = failures.saturating_add(1);
+            return Err(DeviceFault);
+        }
+        Ok(piece.len())
+    }
+
+    fn failures(&self) -> u64 {
+        self.failures
+    }
+}

@@ -1,0 +1,66 @@
+//! The printed text of a value.
+ghost use Rattle.std.specs.Prelude.{◌≡◌, ◌≢◌, IfOk, IfErr};
+ghost use Rattle.plist_files.specs.Printed.{IsPrintOf};
+ghost use Rattle.plist_files.specs.Refusals.{IsRefused};
+ghost use Rattle.plistconv_c.specs.Answers.{IsPrintGiven, IsRefusedWhole, gathered_fault};
+
+use crate::Refusal;
+use crate::gathering::Gathering;
+use crate::giving::give;
+use plist_files::{Fault, print};
+use std::alloc::Global;
+
+/// The printed text of the value that the octets spell, at the head of the buffer. Two values print the same exactly
+/// if they are equal. If the buffer has no room for the text, it is as it was, and `length` is what is needed.
+///
+/// # Errors
+///
+/// The number of the refusal; the buffer is as it was, and `length` is 0.
+#[unsafe(no_mangle)]
+pub extern "C" fn plistconv_print(
+    alloc: Global,
+    octets: &[u8],
+    into: &mut [u8],
+    length: &mut usize,
+    refusal: &mut Refusal,
+) -> u8
+    ensures given { result ≡ 0
+        → IsPrintGiven octets.now into.old into.new length.new refusal.new }
+    ensures refused { result ≢ 0
+        → IsRefusedWhole octets.now into.old into.new length.new refusal.new result }
+{
+    match printed_text(alloc, octets) {
+        Ok(text) => {
+            give(&text, into, length);
+            *refusal = Refusal::none();
+            0
+        }
+        Err(fault) => {
+            *length = 0;
+            *refusal = Refusal::of(&fault, 1);
+            fault.code()
+        }
+    }
+}
+
+// The printed text of the value that the octets spell. Nothing of it has gone out if memory runs out.
+fn printed_text(alloc: Global, octets: &[u8]) -> Result<Vec<u8>, Fault>
+    ensures text { IfOk result (λ text. IsPrintOf octets.now text.items) }
+    ensures refused { IfErr result (IsRefused octets.now) }
+{
+    let mut text = Gathering::new(alloc);
+    match print(alloc, octets, &mut text) {
+        Ok(_) => Ok(text.octets),
+        Err(fault) => Err(unsent(fault)),
+    }
+}
+
+// The refusal if nothing goes out before all is gathered: a put fails only if memory runs out.
+fn unsent(fault: Fault) -> Fault
+    ensures { result ≡ gathered_fault fault }
+{
+    match fault {
+        Fault::WriteFailed { .. } | Fault::OutOfMemory { .. } => Fault::OutOfMemory { sent: 0 },
+        _ => fault,
+    }
+}
