@@ -5,7 +5,7 @@
 ## make uninstall             removes what both have installed
 ## make test                  the gate: every proof from nothing, all tests, and what stands around them (see CONTRIBUTING.md)
 ## make around                the gate without the proofs, over what is built
-## make edits [CRATE=NAME]    tries the edits that the gate leaves out
+## make edits [CRATE=NAME]    tries the mutants that the gate leaves out
 ## make fuzz [SECONDS=60] [SEED=1]   compares the program with a second reading of the formats
 ## make recipes, examples, words, new-user   try the recipes and the README, the bindings, words that are not UTF-8,
 ##                            and what a new user does on a clean checkout
