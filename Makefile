@@ -1,5 +1,5 @@
-## make                       proves, builds and runs ./plistconv: 30 processor minutes the first time (README, Set-up)
-## make lib                   builds libplistconv.a and libplistconv.so, two processor minutes more
+## make                       proves, builds and runs ./plistconv; CONTRIBUTING.md says how long the first time takes
+## make lib                   builds libplistconv.a and libplistconv.so
 ## make install               installs the program, man page, completions, recipes and pages (PREFIX=/usr/local DESTDIR=)
 ## make install-lib           installs the C library, its header and a file for pkg-config
 ## make uninstall             removes what both have installed
