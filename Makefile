@@ -54,6 +54,7 @@ words: plistconv
 
 bench: plistconv
 	python3 bench/bench.py ./plistconv --plot docs/benchmarks.svg
+	python3 bench/print.py ./plistconv
 
 hostile: plistconv
 	python3 bench/hostile.py ./plistconv

@@ -59,7 +59,7 @@ INPUTS = {
 SHORT = ["table.txt", "twice.txt", "shared.bin", "same-keys.bin"]
 
 WORDS = [["convert", "binary1", "IN", "out"], ["convert", "openstep", "IN", "out"], ["lint", "IN"], ["check", "IN"],
-         ["same", "IN", "table.txt"], ["same", "unsorted.bin", "IN"]]
+         ["print", "IN"], ["same", "IN", "table.txt"], ["same", "unsorted.bin", "IN"]]
 OTHER_WORDS = [["--help"], ["convert", "--help"], ["--version"], ["turn", "table.bin"], ["check"], ["lint", "missing"],
                ["check", "missing"], ["convert", "binary1", "table.bin", "no/out"], ["same", "table.bin", "missing"]]
 
@@ -83,7 +83,8 @@ class Refusing:
 
 
 def is_wanting(ending, ample, path):
-    """Whether the run ended for want of memory, having sent as many octets of the ample output as it says."""
+    """Whether the run ended out of memory, having sent as many octets of the ample output as it says; what goes to
+    standard output stands there before the line of this path."""
     status, output, written = ending
     # (the octets that went out before the line need not end with a newline)
     named = rb"[^\n]*" if path is None else re.escape(path)
@@ -91,7 +92,7 @@ def is_wanting(ending, ample, path):
     if status != 5 or line is None:
         return False
     sent = int(line["sent"] or 0)
-    if path == b"-":
+    if path is not None:
         return output == ample[1][:sent] + line[0] and written == BEFORE
     return output == line[0] and written == (ample[2][:sent] if sent else BEFORE)
 
@@ -137,7 +138,7 @@ def refuse_in_check(library, refusing):
 def refuse_in_program(program, refusing, names):
     wrong, endings = 0, collections.defaultdict(collections.Counter)
     for words, octets in program_runs(program, names):
-        path = b"-" if len(words) == 1 else None
+        path = b"-" if len(words) == 1 else words[2].encode() if words[1] == "print" else None
         ample, _, allocations = refusing.run(words, octets, 0)
         kind = " ".join(words[1:3] if words[1:2] == ["convert"] else words[1:2]) or "no words"
         number = 0
