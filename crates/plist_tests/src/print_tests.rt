@@ -1,4 +1,5 @@
 //! Prints to sinks that fail, and where memory runs out.
+use crate::transfer_tests::is_front;
 use plist_devices::{ListSink, Sink};
 use plist_files::{Fault, canonicalise, print};
 use std::alloc::{AllocError, Global};
@@ -74,15 +75,7 @@ fn what_was_printed_is_a_front(rt: HostRuntime) -> Result<(), Fail> {
     let whole = b"{\n  \"a\" => \"b\"\n  \"b\" => \"a\"\n}\n".as_slice();
     for octets in [b"{b=a;a=b;}", sorted.as_slice()] {
         let (answer, sink) = printing(alloc, octets, 100)?;
-        let sent = match answer {
-            Ok(sent) => {
-                assert_eq!(rt; sent, whole.len() as u64);
-                sent
-            }
-            Err(Fault::OutOfMemory { sent }) => sent,
-            Err(_) => return Err(Fail::from("the octets are accepted, and the sink has room")),
-        };
-        assert_eq!(rt; whole.get(..sent as usize), Some(sink.taken()));
+        assert!(rt; is_front(&answer, &sink, whole));
     }
     Ok(())
 }

@@ -302,7 +302,7 @@ fn the_trailer_is_a_piece_of_its_own_where_it_has_no_room(rt: HostRuntime) -> Re
 }
 
 // Whether the sink holds the output: all of it, or as many octets as the answer says, where memory was wanting.
-fn is_front(answer: &Result<u64, Fault>, sink: &ListSink, whole: &[u8]) -> bool {
+pub(crate) fn is_front(answer: &Result<u64, Fault>, sink: &ListSink, whole: &[u8]) -> bool {
     let most = match answer {
         Ok(sent) if *sent == whole.len() as u64 => *sent,
         Err(Fault::OutOfMemory { sent }) => *sent,
