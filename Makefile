@@ -3,7 +3,7 @@
 ## make install               installs the program, man page, completions, recipes and pages (PREFIX=/usr/local DESTDIR=)
 ## make install-lib           installs the C library, its header and a file for pkg-config
 ## make uninstall             removes what both have installed
-## make test                  the gate: every proof from nothing, all tests, and what stands around them (see CONTRIBUTING.md)
+## make test                  the gate: every proof, all tests, and what stands around them (see CONTRIBUTING.md)
 ## make around                the gate without the proofs, over what is built
 ## make edits [CRATE=NAME]    tries the mutants that the gate leaves out
 ## make fuzz [SECONDS=60] [SEED=1]   compares the program with a second reading of the formats

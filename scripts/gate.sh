@@ -1,8 +1,9 @@
 #!/usr/bin/env bash
-# The gate: `make test`, which `.ci/run` is. First `rt ci`, which proves every crate from nothing, tries the edits that must
-# be refused, and runs the tests and the programs; then what stands around the proofs, over the program that `rt ci`
-# built. Each step prints a line, and its log if it fails. What needs a tool that is not here is skipped, and counted
-# as skipped. The last line is `N passed, M failed`, those of `rt ci` included; the status is 0 if M is 0.
+# The gate: `make test`, which `.ci/run` is. First `rt ci`, which proves every crate and tries the mutants that must be
+# refused, but for what passed on this machine before, and runs the tests and the programs; then what stands around the
+# proofs, over the program that `rt ci` built. Each step prints a line, and its log if it fails. What needs a tool that
+# is not here is skipped, and counted as skipped. The last line is `N passed, M failed`, those of `rt ci` included; the
+# status is 0 if M is 0.
 #
 # gate.sh            all
 # gate.sh --around   without `rt ci`: over ./plistconv, libplistconv.a and libplistconv.so, or the program and the folder
