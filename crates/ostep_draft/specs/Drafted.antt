@@ -1,5 +1,5 @@
--- What was put into a draft for the tokens that were read: whatever file holds its objects, a property list that the
--- file spells there is what the tokens say.
+-- What was put into a draft for the tokens that were read: whatever file holds its objects, a
+-- property list that the file spells there is what the tokens say.
 use Rattle.std.specs.Prelude.{ℕ, List}
 use Rattle.std.specs.List.{zip}
 use Rattle.plist_value.specs.Plist.{Plist, Items, Pairs, IsPlist, AreItems, text}

@@ -1,4 +1,5 @@
--- What becomes of the objects of a draft: none changes when others are put behind it, and the file holds each.
+-- What becomes of the objects of a draft: none changes when others are put behind it, and the file
+-- holds each.
 use Rattle.std.specs.Prelude.{ℕ, ◌<◌, List, length}
 use Rattle.plist_object.specs.Objects.{Held}
 use Rattle.plist_object.specs.Places.{Holds}

@@ -33,7 +33,8 @@ place_at cursor = place (places_in cursor) (ahead cursor)
 abbrev pub SameInput : Cursor → Cursor → Type 0
 SameInput old new = places_in new ≡ places_in old
 
--- the cursor stands before all characters of the octets behind the mark, in an input of so many octets
+-- the cursor stands before all characters of the octets behind the mark, in an input of so many
+-- octets
 pub record Holds (e : Encoding) (octets : List ℕ) (end : ℕ) (cursor : Cursor) : Type 0 where
   pub scalars : all_scalars (ahead cursor) ≡ true
   pub spelled : octets ≡ octets_of e (ahead cursor)

@@ -1,4 +1,5 @@
--- The refusals of a text's tokens: which refusal each fault is, its number, and what is printed of it.
+-- The refusals of a text's tokens: which refusal each fault is, its number, and what is printed of
+-- it.
 use Rattle.std.specs.Prelude.{ℕ, List}
 use Rattle.plist_value.specs.Refusals.{number_of, reports, report_text}
 use Rattle.plist_value.specs.declared.refusals.Place.TheVariants.{Nowhere, Octet}

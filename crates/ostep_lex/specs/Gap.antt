@@ -1,5 +1,5 @@
--- What stands between tokens: white and comments. Each relation is between the text at a place and the
--- text behind what stands there.
+-- What stands between tokens: white and comments. Each relation is between the text at a place and
+-- the text behind what stands there.
 use Rattle.std.specs.Prelude.{◌≡◌, ℕ, Bool, true, false, ◌||◌, ◌&&◌, ◌==◌, List, [], ◌∷◌}
 use Rattle.ostep_lex.specs.Character.{slash, star, is_white, is_line_end}
 

@@ -16,7 +16,8 @@ OneLexing = (octets : List ℕ) (tokens others : List Placed) → HasTokens octe
 abbrev pub FaultyHasNone : Type 0
 FaultyHasNone = (octets : List ℕ) (fault : LexFault) → Stands octets fault → ¬ (fault ≡ OutOfMemory) → HasNoTokens octets
 
--- the tokens that the octets begin with are the first of all their tokens, and the others stand in the rest
+-- the tokens that the octets begin with are the first of all their tokens, and the others stand in
+-- the rest
 pub record Continues (octets : List ℕ) (tokens all : List Placed) (rest : List ℕ) : Type 0 where
   pub others : List Placed
   pub first : all ≡ tokens ++ others
@@ -26,6 +27,7 @@ abbrev pub TokensContinue : Type 0
 TokensContinue = (octets : List ℕ) (tokens all : List Placed) (rest : List ℕ) → BeginsWithTokens octets tokens rest → HasTokens octets all
     → Continues octets tokens all rest
 
--- Tokens stand in turn, with gaps before, between and behind them, and the octets of each span spell its token.
+-- Tokens stand in turn, with gaps before, between and behind them, and the octets of each span
+-- spell its token.
 abbrev pub SpansSpell : Type 0
 SpansSpell = (octets : List ℕ) (tokens : List Placed) → HasTokens octets tokens → HasSpans octets tokens

@@ -4,8 +4,8 @@ use Rattle.ostep_lex.specs.Encoding.{Spells, Places, places_of, place}
 use Rattle.ostep_lex.specs.Gap.{Gap}
 use Rattle.ostep_lex.specs.Lexeme.{Lexeme, IsToken, Placed}
 
--- The text is a gap, a token, a gap, .., a token, a gap, with these tokens in turn. Each stands from the
--- place where its text begins to the place where the text behind it does.
+-- The text is a gap, a token, a gap, .., a token, a gap, with these tokens in turn. Each stands
+-- from the place where its text begins to the place where the text behind it does.
 pub data Lexes (p : Places) : List ℕ → List Placed → Type 0 where
   none : {text : List ℕ} → Gap text [] → Lexes p text []
   next : {text from behind : List ℕ} {lexeme : Lexeme} {tokens : List Placed} → Gap text from → IsToken from lexeme behind

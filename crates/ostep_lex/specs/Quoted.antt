@@ -1,5 +1,5 @@
--- Strings: unquoted runs, and quoted strings with their escapes. Each relation is between the text at a
--- place, the UTF-16 units that what stands there gives, and the text behind it.
+-- Strings: unquoted runs, and quoted strings with their escapes. Each relation is between the text
+-- at a place, the UTF-16 units that what stands there gives, and the text behind it.
 use Rattle.std.specs.Prelude.{◌≡◌, ℕ, ◌≤◌, Bool, true, false, not, ◌&&◌, ◌==◌, List, [], ◌∷◌, ◌++◌, if◌then◌else◌}
 use Rattle.std.specs.Char.Escape.{encode_utf16}
 use Rattle.ostep_lex.specs.Character.{backslash, is_run, is_octal}
@@ -19,7 +19,8 @@ pub data Run : List ℕ → List ℕ → List ℕ → Type 0 where
 abbrev pub unit_letter : ℕ
 unit_letter = 85
 
--- the units of a character that no digit and no `U` is: those of the letters a, b, f, n, r, t, v are 7, 8, 12, 10, 13, 9, 11
+-- the units of a character that no digit and no `U` is: those of the letters a, b, f, n, r, t, v
+-- are 7, 8, 12, 10, 13, 9, 11
 abbrev pub escaped : ℕ → List ℕ
 escaped c =
     if c == 97 then 7 ∷ []
@@ -31,8 +32,8 @@ escaped c =
     else (if c == 118 then 11 ∷ []
     else encode_utf16 c))))))
 
--- behind a backslash: one to three octal digits with a value of at most octal 177, `U` and one to four
--- hexadecimal digits, in each case as many as stand there, or any other character
+-- behind a backslash: one to three octal digits with a value of at most octal 177, `U` and one to
+-- four hexadecimal digits, in each case as many as stand there, or any other character
 pub data Escape : List ℕ → List ℕ → List ℕ → Type 0 where
   octal : {text : List ℕ} → begins_digit 8 text ≡ true → (octal_number text).value ≤ 0x7f
       → Escape text ((octal_number text).value ∷ []) (octal_number text).behind

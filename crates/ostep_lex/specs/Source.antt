@@ -1,4 +1,5 @@
--- What the code holds of an input: the octets that are still to be read, and how they write characters.
+-- What the code holds of an input: the octets that are still to be read, and how they write
+-- characters.
 use Rattle.std.specs.Prelude.{◌≡◌, ℕ, ◌+◌, ◌*◌, List, [], ◌∷◌, ◌++◌, map, true, chars, unwrap_or, length, ◌≤◌}
 use Rattle.std.specs.Str.{all_scalars}
 use Rattle.std.specs.Char.Utf16.{utf16_chars}

@@ -4,8 +4,8 @@ use Rattle.ostep_lex.specs.Encoding.{Encoding, octets_of, encoding_of, mark_of}
 use Rattle.ostep_lex.specs.Gap.{Gap}
 use Rattle.ostep_lex.specs.Lexeme.{IsToken, Placed}
 
--- The octets from a place on are those of a gap, those of the token, which begins and ends where it says,
--- and others.
+-- The octets from a place on are those of a gap, those of the token, which begins and ends where it
+-- says, and others.
 pub record StandsFirst (e : Encoding) (at : ℕ) (octets : List ℕ) (token : Placed) (others : List ℕ) : Type 0 where
   pub gap : List ℕ
   pub piece : List ℕ

@@ -1,5 +1,5 @@
--- Where each fault of a text stands. Each relation is between the text at a place and the fault that
--- reading on from there meets.
+-- Where each fault of a text stands. Each relation is between the text at a place and the fault
+-- that reading on from there meets.
 use Rattle.std.specs.Prelude.{◌≡◌, ℕ, ◌<◌, Bool, true, false, ◌||◌, ◌==◌, List, [], ◌∷◌, Some, None, nat_eq, codes}
 use Rattle.std.specs.List.{starts_with}
 use Rattle.ostep_lex.specs.declared.fault.LexFault.{LexFault}

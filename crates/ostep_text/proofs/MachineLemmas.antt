@@ -1,4 +1,5 @@
--- A phrase leads the machine from where a value is due to what is behind it; so a whole phrase is accepted.
+-- A phrase leads the machine from where a value is due to what is behind it; so a whole phrase is
+-- accepted.
 use Rattle.std.proofs.Common.{◌≡◌, ℕ, Bool, true, false, List, [], ◌∷◌, refl, sym, ap, ◌∙◌}
 use Rattle.plist_value.specs.Plist.{Plist, Items, Pairs}
 use Rattle.ostep_lex.specs.Lexeme.{Lexeme, semicolon, paren_close, brace_close}

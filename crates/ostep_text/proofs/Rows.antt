@@ -24,7 +24,8 @@ b_text = scalar (text (codes "b"))
 abbrev pub two_rows : Pairs
 two_rows = pair (codes "a") b_text (pair (codes "b") a_text no_pairs)
 
--- `{b=a;a=b;}`: the pairs of a table stand in the order of their keys, whatever the order of the rows
+-- `{b=a;a=b;}`: the pairs of a table stand in the order of their keys, whatever the order of the
+-- rows
 pub sorted_table : TopPhrase (brace_open ∷ b ∷ equals ∷ a ∷ semicolon ∷ a ∷ equals ∷ b ∷ semicolon ∷ brace_close ∷ []) (table two_rows)
 sorted_table =
     Phrase.a_value (Phrase.a_table

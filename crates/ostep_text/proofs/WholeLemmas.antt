@@ -1,5 +1,5 @@
--- What stands in a whole phrase where a value, rows or a key should begin, and that with what stands before
--- it it is within the value.
+-- What stands in a whole phrase where a value, rows or a key should begin, and that with what
+-- stands before it it is within the value.
 use Rattle.std.proofs.Common.{◌≡◌, ℕ, ◌+◌, ◌*◌, ◌≤◌, Bool, true, false, ◌||◌, List, [], ◌∷◌, length, refl, ap, sym, subst, arith}
 use Rattle.std.specs.Prelude.{max, nat_eq}
 use Rattle.std.specs.Cmp.Lexicographic.{pointwise, bytes_decides}
@@ -250,8 +250,8 @@ pub row-once : {b : Before} {v : Plist} {inside rest : List Lexeme} {key : List 
 row-once (rows p h w) q = (row-there p h q).once
 row-once {key = key} (value p e) q = subst (λ x. has_key key x ≡ false) (sym ((alone p q).1)) refl
 
--- with the token at which a value or a key begins, what stands before it is within the value; but a string
--- alone may also be the first key of a table without braces
+-- with the token at which a value or a key begins, what stands before it is within the value; but a
+-- string alone may also be the first key of a table without braces
 pub record NodeWithin (b : Before) (at : List Lexeme) (v : Plist) : Type 0 where
   pub nodes_within : b.nodes + 1 ≤ max 2 (nodes v)
   pub depth_within : b.open_containers + 1 ≤ max 2 (depth v)

@@ -30,8 +30,8 @@ abbrev pub with_key : List ℕ → Before → Before
 with_key key b = record { open_containers = b.open_containers; nodes = b.nodes + 1; payload = b.payload + 2 * length key }
 
 mutual
-  -- Where a value should stand: at the front of the text, behind items of an open list, and behind a new
-  -- key and `=`. The value of a key alone stands at its key.
+  -- Where a value should stand: at the front of the text, behind items of an open list, and behind
+  -- a new key and `=`. The value of a key alone stands at its key.
   pub data ValueAt (whole : List Lexeme) : Before → List Lexeme → Type 0 where
     front : ValueAt whole nothing whole
     behind_items : {b : Before} {vs : Items} {inside at : List Lexeme} → ValueAt whole b (paren_open ∷ inside) → ItemsPhrase inside vs at

@@ -1,5 +1,5 @@
--- What is known where something is due in a text: that it may stand there, that a text goes on with it, and
--- the state of the machine.
+-- What is known where something is due in a text: that it may stand there, that a text goes on with
+-- it, and the state of the machine.
 use Rattle.std.specs.Prelude.{◌≡◌, ℕ, false, List, [], ◌∷◌}
 use Rattle.plist_value.specs.Plist.{Plist, Items, Pairs}
 use Rattle.ostep_lex.specs.Lexeme.{Lexeme, paren_open, paren_close, brace_open, brace_close, semicolon}

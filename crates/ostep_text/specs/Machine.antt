@@ -1,5 +1,5 @@
--- Where tokens have come in a text, as far as their kinds tell: a machine that each token moves on. That
--- keys are apart is not its business: it goes on wherever a phrase does.
+-- Where tokens have come in a text, as far as their kinds tell: a machine that each token moves on.
+-- That keys are apart is not its business: it goes on wherever a phrase does.
 use Rattle.std.specs.Prelude.{ℕ, Bool, true, false, List, [], ◌∷◌}
 use Rattle.ostep_lex.specs.Lexeme.{Lexeme, brace_open, brace_close, paren_open, paren_close, comma, semicolon, equals, text as string, octets as data_token}
 
@@ -10,8 +10,9 @@ pub data Around : Type 0 where
   in_braces : Around → Around
   bare : Around
 
--- the front of a text; behind a string there; where a value is due; in a list, where an item or its end is
--- due; behind a value; in a table, where a row or its end is due; behind a key; and where no phrase goes on
+-- the front of a text; behind a string there; where a value is due; in a list, where an item or its
+-- end is due; behind a value; in a table, where a row or its end is due; behind a key; and where no
+-- phrase goes on
 pub data State : Type 0 where
   front : State
   lone : State

@@ -1,5 +1,5 @@
--- Phrases. Each relation is between the tokens from a place on, what the phrase that stands there means,
--- and the tokens behind it.
+-- Phrases. Each relation is between the tokens from a place on, what the phrase that stands there
+-- means, and the tokens behind it.
 use Rattle.std.specs.Prelude.{◌≡◌, ℕ, false, List, [], ◌∷◌}
 use Rattle.plist_value.specs.Plist.{text, bytes, Plist, scalar, list, table, Items, no_items, item, Pairs, no_pairs, pair}
 use Rattle.ostep_lex.specs.Lexeme.{Lexeme, brace_open, brace_close, paren_open, paren_close, comma, semicolon, equals, text as string, octets as data_token}
@@ -35,7 +35,8 @@ mutual
     a_row : {key : List ℕ} {v : Plist} {rows : Pairs} {tokens others rest : List Lexeme} → RowPhrase tokens key v others
         → RowsPhrase others rows rest → has_key key rows ≡ false → RowsPhrase tokens (pair key v rows) rest
 
--- All tokens of a text: a phrase, or the rows of a table without its braces. No tokens are the empty table.
+-- All tokens of a text: a phrase, or the rows of a table without its braces. No tokens are the
+-- empty table.
 pub data TopPhrase : List Lexeme → Plist → Type 0 where
   a_value : {tokens : List Lexeme} {v : Plist} → Phrase tokens v [] → TopPhrase tokens v
   bare_table : {tokens : List Lexeme} {rows pairs : Pairs} → RowsPhrase tokens rows [] → AreSorted rows pairs → TopPhrase tokens (table pairs)

@@ -74,7 +74,8 @@ pub record ReadsRow (octets : List ℕ) (tokens : List Placed) (key : List ℕ) 
   pub spells : (rest : List Lexeme) → RowPhrase (inside rest) key v rest
   pub reads : ReadsOn octets tokens inside reader
 
--- these were rows, so far, or all and the brace behind them; in the order of their keys they are the pairs
+-- these were rows, so far, or all and the brace behind them; in the order of their keys they are
+-- the pairs
 pub record ReadsRows (octets : List ℕ) (tokens : List Placed) (end : List Lexeme) (pairs : Pairs) (reader : Reader) : Type 0 where
   pub inside : Front
   pub rows : Pairs
@@ -82,7 +83,8 @@ pub record ReadsRows (octets : List ℕ) (tokens : List Placed) (end : List Lexe
   pub same : AreReordered rows pairs
   pub reads : ReadsOn octets tokens inside reader
 
--- a value, items, pairs, or a row, as they must be to lie so many levels deep, with what is left then
+-- a value, items, pairs, or a row, as they must be to lie so many levels deep, with what is left
+-- then
 pub record Takes (left : Budget) (levels : ℕ) (v : Plist) (after : Budget) : Type 0 where
   pub spent : Spends left (nodes v) (payload v) after
   pub deep : depth v ≤ levels

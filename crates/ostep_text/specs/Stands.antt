@@ -46,7 +46,8 @@ pub record HasKeyTwice (octets : List ℕ) (at : ℕ) : Type 0 where
   pub rows_before : RowsPhrase inside rows (string key ∷ behind)
   pub twice : has_key key rows ≡ true
 
--- TooDeep: at the octet a value or a key begins, inside as many open lists and tables as a value is deep at most
+-- TooDeep: at the octet a value or a key begins, inside as many open lists and tables as a value is
+-- deep at most
 pub record IsTooDeep (octets : List ℕ) (at : ℕ) : Type 0 where
   pub before : Before
   pub from : List Lexeme
@@ -82,8 +83,8 @@ IsPhrase tokens = (v : Plist) × TopPhrase tokens v
 abbrev pub BeginsPhrase : List Lexeme → Type 0
 BeginsPhrase tokens = (others : List Lexeme) × IsPhrase (tokens ++ others)
 
--- Expected: no phrase goes on with the token at the octet, or the text ends there, and the tokens before it
--- are none or an unfinished phrase
+-- Expected: no phrase goes on with the token at the octet, or the text ends there, and the tokens
+-- before it are none or an unfinished phrase
 pub data IsUnfinished (octets : List ℕ) (at : ℕ) : Type 0 where
   at_token : {before others : List Lexeme} {token : Lexeme} → Splits octets at before (token ∷ others) → BeginsPhrase before
       → ¬ IsPhrase before → ¬ BeginsPhrase (before ++ token ∷ []) → IsUnfinished octets at

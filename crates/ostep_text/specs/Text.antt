@@ -9,7 +9,8 @@ use Rattle.ostep_text.specs.Phrase.{TopPhrase}
 abbrev pub lexemes : List Placed → List Lexeme
 lexemes tokens = map (λ token. token.lexeme) tokens
 
--- the octets are those of a text whose tokens are a phrase of the value, and the value is within the limits
+-- the octets are those of a text whose tokens are a phrase of the value, and the value is within
+-- the limits
 pub record IsText (octets : List ℕ) (v : Plist) : Type 0 where
   pub tokens : List Placed
   pub has : HasTokens octets tokens

@@ -45,8 +45,8 @@ is_empty (unit ∷ units) = false
 abbrev pub is_plain : List ℕ → Bool
 is_plain units = not (is_empty units) && are_alphanumeric units && not (starts_with nat_eq units (codes "bplist"))
 
--- a unit between quotes: as an escape, as itself where it is a printable ASCII character, or as `\U` and four
--- lower-case hexadecimal digits
+-- a unit between quotes: as an escape, as itself where it is a printable ASCII character, or as
+-- `\U` and four lower-case hexadecimal digits
 abbrev pub quoted_unit : ℕ → List ℕ
 quoted_unit unit =
     if unit == 34 then codes "\\\""
@@ -66,8 +66,8 @@ written_scalar (text units) = written_text units
 written_scalar (bytes xs) = written_data xs
 written_scalar _ = []
 
--- a list is `(`, each item with `,` behind it, `)`; a table `{`, each key, ` = `, its value and `;`, `}`; a
--- newline stands behind each opening, each `,` and each `;`
+-- a list is `(`, each item with `,` behind it, `)`; a table `{`, each key, ` = `, its value and
+-- `;`, `}`; a newline stands behind each opening, each `,` and each `;`
 abbrev mutual
   pub written : Plist → List ℕ
   written (scalar s) = written_scalar s

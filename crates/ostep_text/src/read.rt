@@ -30,10 +30,10 @@ const BARE_LEVELS: u64 = MAX_DEPTH - 1;
 ///
 /// # Errors
 ///
-/// Those of [`tokens`](ostep_lex::tokens) first, whatever else is wrong. Then the leftmost of these: a
-/// token that no text has there, or an end that comes too early (`Expected`, `Junk`), a duplicate key
-/// (`DuplicateKey`), and a node past the limits (`TooManyNodes`, `TooDeep`, `TooMuchPayload`, in this
-/// order at one node). Any step may fail with `OutOfMemory`.
+/// Those of [`tokens`](ostep_lex::tokens) first, whatever else is wrong. Then the leftmost of
+/// these: a token that no text has there, or an end that comes too early (`Expected`, `Junk`), a
+/// duplicate key (`DuplicateKey`), and a node past the limits (`TooManyNodes`, `TooDeep`,
+/// `TooMuchPayload`, in this order at one node). Any step may fail with `OutOfMemory`.
 pub fn read_text(alloc: Global, octets: &[u8]) -> Result<Value, TextFault>
     // The octets are a text of the value, which is within the limits.
     ensures read { IfOk result (λ value. IsText octets.now (view value)) }

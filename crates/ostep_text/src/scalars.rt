@@ -147,7 +147,8 @@ fn stretch_length(units: &[u16]) -> usize
     units.len()
 }
 
-// Whether the unit stands between quotes as it is: printable ASCII, and neither `"` nor a backslash.
+// Whether the unit stands between quotes as it is: printable ASCII, and neither `"` nor a
+// backslash.
 fn stands_itself(unit: u16) -> bool
     ensures ascii { OnTrue result (unit < 128) }
     ensures quoted { OnTrue result (quoted_unit unit ≡ unit ∷ []) }

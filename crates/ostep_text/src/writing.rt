@@ -12,13 +12,13 @@ use plist_value::{Utf16, Value};
 use std::alloc::Global;
 use std::collections::BTreeMap;
 
-/// The text of a value that is within the limits, in OpenStep form: one for each value that has any. It
-/// goes over the value once, and recurses as deep as the value.
+/// The text of a value that is within the limits, in OpenStep form: one for each value that has
+/// any. It goes over the value once, and recurses as deep as the value.
 ///
 /// # Errors
 ///
-/// `NotInOpenStep` where the value holds a number, a flag, a real or a date anywhere. `OutOfMemory` where
-/// there is no memory for the text; it may come in place of the other.
+/// `NotInOpenStep` where the value holds a number, a flag, a real or a date anywhere. `OutOfMemory`
+/// where there is no memory for the text; it may come in place of the other.
 pub fn write_text(alloc: Global, value: &Value) -> Result<Vec<u8>, TextWriteFault>
     requires { Fits (view value.now) }
     ensures ok { IfOk result (λ octets. text_of (view value.now) ≡ Some octets.items) }

@@ -1,4 +1,5 @@
--- What an object spells is less than what an object spells that leads to it, so that a cycle spells nothing.
+-- What an object spells is less than what an object spells that leads to it, so that a cycle spells
+-- nothing.
 use Rattle.std.proofs.Common.{◌≡◌, ℕ, suc, ◌+◌, ◌≤◌, List, [], ◌∷◌, ◌++◌, length, sym, ap, subst, ⊎_elim, inl, inr, arith}
 use Rattle.std.specs.Prelude.{◌⊎◌}
 use Rattle.std.specs.List.{Contains, zip}

@@ -1,4 +1,5 @@
--- Why a reference to an object is refused before the object is looked at, or for the object's own fault.
+-- Why a reference to an object is refused before the object is looked at, or for the object's own
+-- fault.
 use Rattle.std.proofs.Common.{◌≡◌, ℕ, suc, ◌+◌, ◌-◌, ◌<◌, ◌≤◌, List, [], ◌∷◌, length, Err, sym, subst, ⊎_elim, arith}
 use Rattle.plist_value.specs.Plist.{Plist, scalar, list, table, IsPlist}
 use Rattle.plist_value.specs.Limits.{nodes, depth}

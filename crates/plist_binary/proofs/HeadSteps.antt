@@ -1,4 +1,5 @@
--- The heads of keys: how they are read, and that keys in their order are in the order of their texts.
+-- The heads of keys: how they are read, and that keys in their order are in the order of their
+-- texts.
 use Rattle.std.proofs.Common.{◌≡◌, ℕ, zero, suc, ◌+◌, ◌-◌, ◌*◌, ◌^◌, ◌<◌, ◌≤◌, List, [], ◌∷◌, ◌++◌, length, get_or, set, map, take, drop, sym, ap, ◌∙◌, subst, arith, inl, inr, refl, lt-ltb}
 use Rattle.std.proofs.Math.Nat.{pow-suc, mul-le-mul_left, one-le-pow}
 use Rattle.std.specs.Prelude.{All, true, false, ◌↔◌}

@@ -18,8 +18,8 @@ all_under bound (x ∷ xs) h e zero = ltb-true x bound (and_parts (nat_lt x boun
 all_under bound (x ∷ xs) h e (suc i) =
     all_under bound xs h (and_parts (nat_lt x bound) (list_all (λ x. nat_lt x bound) xs) e).1 i
 
--- the end of a file whose numbers have one octet each: so many objects, the first at the top, and the place of
--- the offset table
+-- the end of a file whose numbers have one octet each: so many objects, the first at the top, and
+-- the place of the offset table
 unfoldable pub end_of : ℕ → ℕ → List ℕ
 end_of count place = replicate 6 0 ++ (1 ∷ 1 ∷ (replicate 7 0 ++ (count ∷ (replicate 15 0 ++ (place ∷ [])))))
 

@@ -1,5 +1,5 @@
--- Where an object begins in the value at the top of a file: what comes before it in preorder. Of a table all keys
--- come before the values.
+-- Where an object begins in the value at the top of a file: what comes before it in preorder. Of a
+-- table all keys come before the values.
 use Rattle.std.specs.Prelude.{◌≡◌, ℕ, ◌+◌, List, [], ◌∷◌, ◌++◌, Result, Ok, Err}
 use Rattle.plist_value.specs.Plist.{Items, AreItems}
 use Rattle.plist_value.specs.Limits.{nodes_of_items, payload_of_items, payload_of_scalar}
@@ -29,7 +29,8 @@ pub record Comes (f : List ℕ) (j i : ℕ) (vs : Items) : Type 0 where
   pub spell : SpellItems f front vs
   pub valid : AreItems vs
 
--- before i come what comes before the container j, then j itself, and the values of its references before the one to i
+-- before i come what comes before the container j, then j itself, and the values of its references
+-- before the one to i
 pub record BeginsIn (f : List ℕ) (begins : ℕ → ℕ → Type 0) (j i nodes payload : ℕ) : Type 0 where
   pub nodes_above : ℕ
   pub payload_above : ℕ
@@ -39,7 +40,8 @@ pub record BeginsIn (f : List ℕ) (begins : ℕ → ℕ → Type 0) (j i nodes 
   pub nodes_sum : nodes ≡ nodes_above + 1 + nodes_of_items values
   pub payload_sum : payload ≡ payload_above + payload_of_items values
 
--- the containers, the last first, lead from the top to i, before which come so many nodes and so much payload
+-- the containers, the last first, lead from the top to i, before which come so many nodes and so
+-- much payload
 abbrev pub Begins : List ℕ → List ℕ → ℕ → ℕ → ℕ → Type 0
 Begins f [] i nodes payload = (i ≡ (trailer_of f).top) × (nodes ≡ 0) × (payload ≡ 0)
 Begins f (j ∷ before) i nodes payload = BeginsIn f (Begins f before j) j i nodes payload

@@ -86,7 +86,8 @@ pub record HasNodesBefore (f : List ℕ) (i nodes most : ℕ) : Type 0 where
   pub begins : Begins f before i nodes payload
   pub within : payload ≤ most
 
--- before i come fewer nodes than may be, and no more payload than may be, which with that of i is more
+-- before i come fewer nodes than may be, and no more payload than may be, which with that of i is
+-- more
 pub record HasPayloadAbove (f : List ℕ) (i few most : ℕ) : Type 0 where
   pub laid : IsLaid f
   pub before : List ℕ

@@ -1,9 +1,11 @@
--- The head of a key: what stands first in it behind the units that all keys of the table share, as one number.
+-- The head of a key: what stands first in it behind the units that all keys of the table share, as
+-- one number.
 use Rattle.std.specs.Prelude.{◌≡◌, ℕ, zero, suc, ◌+◌, ◌*◌, ◌^◌, nat_lt, List, [], ◌∷◌, take, drop, All, if◌then◌else◌}
 use Rattle.plist_binary.specs.declared.tables.Key.{Key}
 use Rattle.plist_binary.specs.Keys.{units_at}
 
--- the octet of the first unit: a unit of 256 or more is cut off to 255, and where there is none it is 0
+-- the octet of the first unit: a unit of 256 or more is cut off to 255, and where there is none it
+-- is 0
 abbrev pub octet_of : List ℕ → ℕ
 octet_of [] = 0
 octet_of (unit ∷ units) = if nat_lt unit 256 then unit else 255
@@ -27,7 +29,8 @@ with_head front key =
 abbrev pub headless : Key → Key
 headless key = record { text = key.text; rank = key.rank; place = key.place; head = 0 }
 
--- the key shares so many units at the front with the first, and has the head of what stands behind them
+-- the key shares so many units at the front with the first, and has the head of what stands behind
+-- them
 abbrev pub IsHeaded : ℕ → List ℕ → Key → Type 0
 IsHeaded front first key =
     (take front (units_at key) ≡ take front first) × (key.head ≡ head_of 8 (drop front (units_at key)))

@@ -1,4 +1,5 @@
--- What the judge passes: an object that spells a value within a budget, of which only the size is told.
+-- What the judge passes: an object that spells a value within a budget, of which only the size is
+-- told.
 use Rattle.std.specs.Prelude.{ℕ, ◌≤◌, List}
 use Rattle.plist_value.specs.Plist.{Plist, Pairs}
 use Rattle.plist_value.specs.Limits.{depth, depth_of_items, depth_of_pairs}

@@ -13,7 +13,8 @@ pub record Refers (f : List ℕ) (j i : ℕ) : Type 0 where
   pub holds : Holds f j held
   pub among : Contains (references_of held) i
 
--- the objects, the last first, lead from the top to i: each refers to the next, and the last one to i
+-- the objects, the last first, lead from the top to i: each refers to the next, and the last one to
+-- i
 abbrev pub Leads : List ℕ → List ℕ → ℕ → Type 0
 Leads f [] i = i ≡ (trailer_of f).top
 Leads f (j ∷ before) i = Refers f j i × Leads f before j

@@ -18,7 +18,8 @@ pub record Reads (f : List ℕ) (i levels : ℕ) (before : Budget) (v : Plist) (
   pub deep : depth v ≤ levels
   pub spent : Spends before (nodes v) (payload v) after
 
--- the fault stands in the whole budget, and the object spells no value of at most so many levels within the budget
+-- the fault stands in the whole budget, and the object spells no value of at most so many levels
+-- within the budget
 pub record Refuses (f : List ℕ) (whole : Budget) (i levels : ℕ) (left : Budget) (fault : BinaryFault) : Type 0 where
   pub stands : StandsWithin f whole.nodes whole.payload fault
   pub none : UnlessMemory fault ((v : Plist) → IsPlist v → Spells f i v → depth v ≤ levels → Affords left (nodes v) (payload v) → ⊥)

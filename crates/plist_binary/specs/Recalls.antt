@@ -1,4 +1,5 @@
--- What is known of keys that were read and sorted: those of the table judged last, and the order of the longest table.
+-- What is known of keys that were read and sorted: those of the table judged last, and the order of
+-- the longest table.
 use Rattle.std.specs.Prelude.{◌≡◌, ℕ, List, Option, IfSome}
 use Rattle.std.specs.Ordering.{nat_cmp}
 use Rattle.std.specs.Cmp.Lexicographic.{slice_cmp}
@@ -39,12 +40,14 @@ pub record IsKnown (f : List ℕ) (known : KnownKeys) : Type 0 where
   pub last : IsKnownLast f known.last
   pub sorted : AreSortedIfAny f known.sorted
 
--- the references spell texts, of which no two are equal, and which took what is gone from the budget
+-- the references spell texts, of which no two are equal, and which took what is gone from the
+-- budget
 pub record ReadsApart (f refs : List ℕ) (levels : ℕ) (before after : Budget) : Type 0 where
   pub keys : List (List ℕ)
   pub reads : ReadsItems f refs levels before (texts keys) after
   pub apart : AreApart keys
 
--- With these references to keys the table, whatever its values are, spells no pairs, and the fault stands.
+-- With these references to keys the table, whatever its values are, spells no pairs, and the fault
+-- stands.
 pub record RefusesTable (f : List ℕ) (whole : Budget) (table : ℕ) (refs : List ℕ) (levels : ℕ) (left : Budget) (fault : BinaryFault) : Type 0 where
   pub each : (values : List ℕ) → Holds f table (holds_table refs values) → RefusesPairs f whole refs values levels left fault

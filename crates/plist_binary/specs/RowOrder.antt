@@ -1,4 +1,5 @@
--- The rows by which the keys of a long table are sorted, and the places of keys in the order of their texts.
+-- The rows by which the keys of a long table are sorted, and the places of keys in the order of
+-- their texts.
 use Rattle.std.specs.Prelude.{◌≡◌, ℕ, ◌+◌, ◌<◌, List, map, drop, slice_index_or}
 use Rattle.std.specs.Ordering.{nat_cmp}
 use Rattle.std.specs.Cmp.Lexicographic.{slice_cmp}

@@ -1,4 +1,5 @@
-//! The value of a binary property list that was judged: nothing but memory can keep it from being made.
+//! The value of a binary property list that was judged: nothing but memory can keep it from being
+//! made.
 ghost use Rattle.std.specs.Prelude.{◌≡◌, ◌<◌, ◌≤◌, length, map, IfOk};
 ghost use Rattle.plist_value.specs.View.{view, view_items, view_pairs};
 ghost use Rattle.plist_value.specs.Texts.{units_of};

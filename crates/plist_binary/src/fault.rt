@@ -8,8 +8,8 @@ use std::alloc::{AllocError, AllocFailed};
 use std::fmt;
 use thiserror::Error;
 
-/// Why octets are not read as a binary property list (CFBinaryPList.c; which faults there are, and their
-/// order, is our profile). A place is the number of an object.
+/// Why octets are not read as a binary property list (CFBinaryPList.c; which faults there are, and
+/// their order, is our profile). A place is the number of an object.
 #[derive(Clone, Copy, Debug, PartialEq, Eq, Error)]
 pub enum BinaryFault {
     /// 1: there are fewer than 42 octets.

@@ -1,4 +1,5 @@
-//! The heads of the keys of a long table, so that most keys compare by one number each and not by their texts.
+//! The heads of the keys of a long table, so that most keys compare by one number each and not by
+//! their texts.
 ghost use Rattle.std.specs.Prelude.{◌≡◌, ◌≤◌, ◌↔◌, ◌∷◌, [], All, IsTrue, map, take, drop, length};
 ghost use Rattle.std.specs.Prelude.{◌+◌};
 ghost use Rattle.std.specs.Ordering.{nat_cmp};

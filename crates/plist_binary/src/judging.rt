@@ -28,17 +28,17 @@ use plist_ranks::{Keys, Ranks, SortedKeys};
 use plist_value::{Budget, MAX_DEPTH};
 use std::alloc::Global;
 
-/// Whether the octets spell a value, of which nothing is made: the refusals of `read`, in their order and
-/// at their places. An object that several references share is walked once, and a key that many tables share
-/// is read twice at most, so time and memory grow with the file and not with the value. Only where objects
-/// overlap are keys read again at each table.
+/// Whether the octets spell a value, of which nothing is made: the refusals of `read`, in their
+/// order and at their places. An object that several references share is walked once, and a key
+/// that many tables share is read twice at most, so time and memory grow with the file and not with
+/// the value. Only where objects overlap are keys read again at each table.
 ///
 /// # Errors
 ///
 /// The first fault in this order: the layout; then, for each reference in preorder from the top, a
-/// reference to no object, one to a container on the path to it, a node too many, a node too deep, the
-/// object's own fault, a key that is no text, too much payload. Of a table all keys come first, then two
-/// equal keys, then the values. Want of memory may come before any of them.
+/// reference to no object, one to a container on the path to it, a node too many, a node too deep,
+/// the object's own fault, a key that is no text, too much payload. Of a table all keys come first,
+/// then two equal keys, then the values. Want of memory may come before any of them.
 pub fn judge(alloc: Global, octets: &[u8]) -> Result<(), BinaryFault>
     ensures ok { OnOk result ((v : Plist) × IsBinary octets.now v) }
     ensures refused { IfErr result (λ fault. fault ≢ BinaryFault.OutOfMemory → (v : Plist) →
@@ -51,8 +51,8 @@ pub fn judge(alloc: Global, octets: &[u8]) -> Result<(), BinaryFault>
     }
 }
 
-/// The same as [`judge`], and of the longest table of more than 64 keys, if there is one, the keys in the order
-/// of their texts: whoever needs them need not sort them again.
+/// The same as [`judge`], and of the longest table of more than 64 keys, if there is one, the keys
+/// in the order of their texts: whoever needs them need not sort them again.
 ///
 /// # Errors
 ///
@@ -68,8 +68,9 @@ pub fn judge_keys(alloc: Global, octets: &[u8]) -> Result<Option<SortedKeys<'_>>
     judge_file(alloc, file)
 }
 
-// Whether the top object of the file spells a value within the limits. Where the value is far longer than the
-// file, the file shares texts, and its keys are ranked, so that no key is read again at each table.
+// Whether the top object of the file spells a value within the limits. Where the value is far
+// longer than the file, the file shares texts, and its keys are ranked, so that no key is read
+// again at each table.
 pub(crate) fn judge_file<'a>(
     alloc: Global,
     file: BinFile<'a>,
@@ -117,8 +118,8 @@ pub(crate) struct Walker<'a, 'r> {
 }
 
 impl<'a, 'r> Walker<'a, 'r> {
-    // Whether the top object spells a value of not much more payload than the file has octets. What it refuses
-    // may be a value.
+    // Whether the top object spells a value of not much more payload than the file has octets. What
+    // it refuses may be a value.
     fn short(&self) -> Result<Option<SortedKeys<'a>>, BinaryFault>
         requires whole { self.now.whole ≡ limits }
         requires ranked { AreRanks (octets_of self.now.file) self.now.ranks.now }
@@ -173,7 +174,8 @@ impl<'a, 'r> Walker<'a, 'r> {
         self.pass(&mut states, known, &Path::Above, top, MAX_DEPTH, left)
     }
 
-    // The depth of the value that the object spells, to which the path leads, of at most so many levels.
+    // The depth of the value that the object spells, to which the path leads, of at most so many
+    // levels.
     #[cycle(walk)]
     fn pass(
         &self,
@@ -327,8 +329,8 @@ impl<'a, 'r> Walker<'a, 'r> {
         Ok(deepest)
     }
 
-    // The depth of the deepest value of the pairs that the references of the open table spell: the keys in turn,
-    // and then the values.
+    // The depth of the deepest value of the pairs that the references of the open table spell: the
+    // keys in turn, and then the values.
     #[cycle(walk)]
     fn pairs(
         &self,

@@ -1,4 +1,5 @@
-//! What is known of keys: those of the table that was judged last, and those of a long table in order.
+//! What is known of keys: those of the table that was judged last, and those of a long table in
+//! order.
 ghost use Rattle.std.specs.Prelude.{◌≡◌, List, ℕ, map, IfOk, IfSome, OnOk};
 ghost use Rattle.plist_object.specs.Views.{numbers_of};
 ghost use Rattle.plist_ranks.specs.Order.{IsOrder};

@@ -12,15 +12,15 @@ use plist_object::BinFile;
 use plist_value::{MAX_DEPTH, Value};
 use std::alloc::Global;
 
-/// The value that the octets spell at their top. The octets are judged first, so memory is taken for a value
-/// only where there is one.
+/// The value that the octets spell at their top. The octets are judged first, so memory is taken
+/// for a value only where there is one.
 ///
 /// # Errors
 ///
 /// The first fault in this order: the layout; then, for each reference in preorder from the top, a
-/// reference to no object, one to a container on the path to it, a node too many, a node too deep, the
-/// object's own fault, a key that is no text, too much payload. Of a table all keys come first, then two
-/// equal keys, then the values. Want of memory may come before any of them.
+/// reference to no object, one to a container on the path to it, a node too many, a node too deep,
+/// the object's own fault, a key that is no text, too much payload. Of a table all keys come first,
+/// then two equal keys, then the values. Want of memory may come before any of them.
 pub fn read(alloc: Global, octets: &[u8]) -> Result<Value, BinaryFault>
     ensures read { IfOk result (λ value. IsBinary octets.now (view value)) }
     ensures refused { IfErr result (λ fault. fault ≢ BinaryFault.OutOfMemory → (v : Plist) →

@@ -1,4 +1,5 @@
-//! The places of the keys of a long table in the order of their texts, where the heads of the texts tell it.
+//! The places of the keys of a long table in the order of their texts, where the heads of the texts
+//! tell it.
 ghost use Rattle.std.specs.Prelude.{◌≡◌, ◌<◌, IsTrue, IfOk, IfSome, length, map};
 ghost use Rattle.plist_binary.specs.RowOrder.{row_of, place_in, AreOrdered, HeadsAscend};
 
@@ -16,8 +17,8 @@ pub(crate) struct Row {
 // The keys of a table of up to so many are sorted themselves.
 const FEW: usize = 64;
 
-// The places of the keys in the order of their texts, if the keys are many and no two have the same head. Rows are
-// sorted in place of keys, which take more than three times the room.
+// The places of the keys in the order of their texts, if the keys are many and no two have the same
+// head. Rows are sorted in place of keys, which take more than three times the room.
 pub(crate) fn places_by_heads(alloc: Global, keys: &[Key]) -> Result<Option<Vec<u64>>, AllocError>
     ensures { IfOk result (λ told. IfSome told (λ places. AreOrdered keys.now places.items)) }
 {

@@ -19,8 +19,8 @@ use std::mem;
 // The keys of a table of up to so many are sorted by their texts alone.
 const FEW_KEYS: usize = 12;
 
-// A key of a table, its rank if it has one, and its place among the keys of the file. The head is 0 but while
-// the keys are sorted.
+// A key of a table, its rank if it has one, and its place among the keys of the file. The head is 0
+// but while the keys are sorted.
 #[derive(Clone, Copy)]
 pub(crate) struct Key<'a> {
     pub(crate) text: TextRef<'a>,
@@ -111,8 +111,8 @@ fn is_below(key: &Key, next: &Key) -> bool
     }
 }
 
-// The table of the keys, which ascend, each with the value at its place. The last key comes first: a key below
-// all others is found by one comparison in each node.
+// The table of the keys, which ascend, each with the value at its place. The last key comes first:
+// a key below all others is found by one comparison in each node.
 pub(crate) fn table(
     alloc: Global,
     keys: Vec<Key>,

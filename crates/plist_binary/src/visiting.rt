@@ -32,7 +32,8 @@ use plist_object::{Object, ObjectFault, Refs};
 use plist_value::{Budget, ScalarRef, TextRef};
 
 impl<'a, 'r> Walker<'a, 'r> {
-    // Reads the keys of the table, of which no two are equal. Those of the last table are not read again.
+    // Reads the keys of the table, of which no two are equal. Those of the last table are not read
+    // again.
     pub(crate) fn keys_apart(
         &self,
         states: &Vec<State>,

@@ -104,7 +104,8 @@ module _ (objects : List (List ℕ)) (some : 1 ≤ length objects)
   pub least_widths : HasLeastWidths (file_of objects)
   least_widths = widths_from (file_of objects) (length objects) table_place (trailer_of-file objects some each count_fits table_fits)
 
-  -- The octets from the object i on are its own, and those behind it, which reach up to the offset table.
+  -- The octets from the object i on are its own, and those behind it, which reach up to the offset
+  -- table.
   record IsAt (i : ℕ) : Type 0 where
     pub behind : List ℕ
     pub octets : octets_at (file_of objects) i ≡ Ok (get_or objects i [] ++ behind)

@@ -105,7 +105,8 @@ module _ (f : List ℕ) (all : List Plist) (entry : ℕ → ℕ) (holds : (k : �
       let first : first_place all k (value_at all k) ≡ p.0 = ap (first_place all k) here ∙ ap (first_place all p.0) (sym there) ∙ p.2 in
       (omega arith, sym (ap (λ n. count_below n (kept_places all)) first ∙ p.3))
 
-  -- where the entries meet the objects in order, each is the number of its place, and all objects were met at the end
+  -- where the entries meet the objects in order, each is the number of its place, and all objects
+  -- were met at the end
   forced-numbers : (entries : List ℕ) (k met after : ℕ) → k + length entries ≡ length all → AreNumbers entry k entries → met ≡ count_below k (kept_places all) → AreForced k → MeetsInOrder f met entries after → AreForced (length all) × (after ≡ length (kept_places all))
   forced-numbers [] k met after long own counted forced order =
       let end : k ≡ length all = omega arith in

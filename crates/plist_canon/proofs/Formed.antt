@@ -1,4 +1,5 @@
--- A file whose objects read as the places of a tree do, in the canonical spelling, and touch, is the canonical one.
+-- A file whose objects read as the places of a tree do, in the canonical spelling, and touch, is
+-- the canonical one.
 use Rattle.std.proofs.Common.{◌≡◌, ℕ, ◌<◌, List, [], length, get_or, sym, ap, ◌∙◌, subst, arith}
 use Rattle.std.proofs.lemmas.List.{length-map, get_or-map}
 use Rattle.plist_value.specs.Plist.{Plist, list, no_items, AreOctets}

@@ -1,4 +1,5 @@
--- The octets that an object of a file occupies, where they are the canonical spelling of what it holds.
+-- The octets that an object of a file occupies, where they are the canonical spelling of what it
+-- holds.
 use Rattle.std.proofs.Common.{◌≡◌, ℕ, ◌+◌, ◌-◌, ◌<◌, ◌≤◌, ltb, leb, ◌&&◌, Bool, true, false, cond, List, ◌++◌, length, take, drop, Result, Ok, Err, IsOk, refl, sym, ap, ◌∙◌, arith, length-append, length-drop, ltb-true, leb-true}
 use Rattle.std.proofs.lemmas.Bool.{and_parts}
 use Rattle.std.proofs.lemmas.List.{length-take-le}

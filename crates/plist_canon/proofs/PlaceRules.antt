@@ -19,8 +19,8 @@ use Rattle.plist_write.proofs.Trees.{length-preorder, Stands-front, Stands-rest,
 use Rattle.plist_canon.proofs.KeptPlaces.{is_made}
 use Rattle.plist_canon.proofs.Every.{every_append}
 
--- The file has the objects of the places of a tree: as many as there are places with an object of their own, and the
--- object of each place holds what stands there.
+-- The file has the objects of the places of a tree: as many as there are places with an object of
+-- their own, and the object of each place holds what stands there.
 pub record HasObjects (f : List ℕ) (all : List Plist) : Type 0 where
   pub counted : (trailer_of f).count ≡ length (kept_places all)
   pub reads : (k : ℕ) (v : Plist) → value_at all k ≡ v → k < length all → Holds f (number_in all k) (held_at (number_in all) k v)

@@ -17,8 +17,8 @@ use Rattle.plist_object.specs.References.{references_of}
 use Rattle.plist_canon.specs.Rules.{ReadsWithinLimits, FollowsRules, HasPlainTrailer, HasLeastWidths, Adjoins, IsSpelledCanonically, HasAscendingKeys, IsNoRepeat, Walk, visit, Walks, end, step, MeetsInOrder, IsNumberedInPreorder, held_by, begins, TurnsAt}
 use Rattle.plist_canon.proofs.Followed.{canonical_follows_rules}
 
--- The end of a file of fewer than 256 octets: the first octet of the slack, the width of a reference, how many objects
--- there are, and the place of the offset table.
+-- The end of a file of fewer than 256 octets: the first octet of the slack, the width of a
+-- reference, how many objects there are, and the place of the offset table.
 abbrev end_with : ℕ → ℕ → ℕ → ℕ → List ℕ
 end_with slack width count place =
     slack ∷ (replicate 5 0 ++ (1 ∷ width ∷ (replicate 7 0 ++ (count ∷ (replicate 15 0 ++ (place ∷ []))))))

@@ -21,8 +21,8 @@ use Rattle.plist_object.proofs.HeldRanges.{Holds-held}
 use Rattle.plist_canon.proofs.Entries.{AreNumbers, PlacesHold, AreNumbers-front, AreNumbers-rest, AreNumbers-own, PlacesHold-append, PlacesHold-at}
 use Rattle.plist_canon.proofs.KeyPairs.{pairs_of, put_texts, key_texts-pairs_of, preorder-pairs_of, places-pairs_of, AreItems-put_texts, ArePairs-pairs_of}
 
--- The walk from the object i meets these entries, and they are those of this value: with the entries as numbers,
--- each place's object holds what stands there.
+-- The walk from the object i meets these entries, and they are those of this value: with the
+-- entries as numbers, each place's object holds what stands there.
 pub record WalkedTree (f : List ℕ) (i : ℕ) (entries : List ℕ) : Type 0 where
   pub value : Plist
   pub valid : IsPlist value

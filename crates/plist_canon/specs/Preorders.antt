@@ -14,7 +14,8 @@ use Rattle.plist_canon.specs.declared.weights.Weight.TheVariants.{Container}
 use Rattle.plist_canon.specs.declared.preorder.Frame.{Frame}
 use Rattle.plist_canon.specs.declared.preorder.Visit.{Visit}
 
--- the references can be walked so that, where the objects below `met` were met, all are met in order
+-- the references can be walked so that, where the objects below `met` were met, all are met in
+-- order
 pub record CanFinish (f : List ℕ) (refs : List ℕ) (met : ℕ) : Type 0 where
   pub entries : List ℕ
   pub walks : Walks f refs entries

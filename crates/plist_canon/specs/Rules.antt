@@ -32,7 +32,8 @@ HoldTexts f refs [] = refs ≡ []
 HoldTexts f [] (units ∷ texts) = ⊥
 HoldTexts f (i ∷ refs) (units ∷ texts) = Holds f i (holds_scalar (text units)) × HoldTexts f refs texts
 
--- The object i reads, each of its references is the number of an object, and those to keys name texts.
+-- The object i reads, each of its references is the number of an object, and those to keys name
+-- texts.
 pub record IsWellRead (f : List ℕ) (i : ℕ) : Type 0 where
   pub held : Held
   pub holds : Holds f i held
@@ -54,8 +55,9 @@ pub record HasLeastWidths (f : List ℕ) : Type 0 where
   pub offset : (trailer_of f).offset_width ≡ least_width (trailer_of f).table
   pub reference : (trailer_of f).reference_width ≡ least_width (trailer_of f).count
 
--- C3 at i: the first object begins behind the header, each other one where the one before it ends, and the last one
--- ends where the offset table begins. The rule holds at i where an object that it speaks of does not read.
+-- C3 at i: the first object begins behind the header, each other one where the one before it ends,
+-- and the last one ends where the offset table begins. The rule holds at i where an object that it
+-- speaks of does not read.
 pub record Adjoins (f : List ℕ) (i : ℕ) : Type 0 where
   pub first : (start end : ℕ) → i ≡ 0 → span_of f i ≡ Ok (start, end) → start ≡ 8
   pub next : (before start middle begin end : ℕ) → i ≡ suc before → span_of f before ≡ Ok (start, middle) → span_of f i ≡ Ok (begin, end) → begin ≡ middle
@@ -65,7 +67,8 @@ pub record Adjoins (f : List ℕ) (i : ℕ) : Type 0 where
 abbrev pub IsSpelledCanonically : List ℕ → ℕ → Type 0
 IsSpelledCanonically f i = IsOk (object_at f i) → IsShortest f i
 
--- C5 at i: where the object i is a table and its keys are texts, each key is below the next, unit by unit.
+-- C5 at i: where the object i is a table and its keys are texts, each key is below the next, unit
+-- by unit.
 abbrev pub HasAscendingKeys : List ℕ → ℕ → Type 0
 HasAscendingKeys f i =
     (keys values : List ℕ) (texts : List (List ℕ)) → what_holds f i ≡ Ok (holds_table keys values) → HoldTexts f keys texts → IsStrictlySortedBy (slice_cmp nat_cmp) texts
@@ -84,14 +87,15 @@ mutual
     end : Walks f [] []
     step : (i : ℕ) (refs entries others : List ℕ) → Walk f i entries → Walks f refs others → Walks f (i ∷ refs) (entries ++ others)
 
--- Where the objects below `met` were met and no other, each entry is the next number not yet met, or the number of
--- a scalar already met; then the objects below `after` were met.
+-- Where the objects below `met` were met and no other, each entry is the next number not yet met,
+-- or the number of a scalar already met; then the objects below `after` were met.
 abbrev pub MeetsInOrder : List ℕ → ℕ → List ℕ → ℕ → Type 0
 MeetsInOrder f met [] after = met ≡ after
 MeetsInOrder f met (entry ∷ entries) after =
     ((entry ≡ met) × MeetsInOrder f (suc met) entries after) ⊎ ((entry < met) × HoldsScalar f entry × MeetsInOrder f met entries after)
 
--- C7: the walk from object 0 meets all objects in the order of their numbers, and only scalars again.
+-- C7: the walk from object 0 meets all objects in the order of their numbers, and only scalars
+-- again.
 pub record IsNumberedInPreorder (f : List ℕ) : Type 0 where
   pub entries : List ℕ
   pub walk : Walk f 0 entries
@@ -118,9 +122,9 @@ abbrev pub held_by : ℕ → List ℕ → List Reference
 held_by holder [] = []
 held_by holder (i ∷ refs) = record { holder = holder; number = i } ∷ held_by holder refs
 
--- The walk from object 0 in preorder, as long as each reference is the next number not yet met, or the number of a
--- scalar already met: it comes to where the objects below `met` were met and no other, and these references are left,
--- the next one first.
+-- The walk from object 0 in preorder, as long as each reference is the next number not yet met, or
+-- the number of a scalar already met: it comes to where the objects below `met` were met and no
+-- other, and these references are left, the next one first.
 pub data ComesTo (f : List ℕ) : ℕ → List Reference → Type 0 where
   begins : (held : Held) → Holds f 0 held → ComesTo f 1 (held_by 0 (references_of held))
   meets : (met holder : ℕ) (held : Held) (left : List Reference) → ComesTo f met (record { holder = holder; number = met } ∷ left) → Holds f met held → ComesTo f (suc met) (held_by met (references_of held) ++ left)
@@ -141,9 +145,10 @@ pub record LeavesOver (f : List ℕ) : Type 0 where
   pub comes : ComesTo f met []
   pub over : met < (trailer_of f).count
 
--- The rule of this number is false of the file, at this object. C0: the object is not well read; or all are, and the
--- value is not within the limits, at object 0. C1 and C2 at object 0, those from C3 to C6 at the object. C7 at the
--- object that holds the first bad reference of the walk, or at 0 where an object is left over.
+-- The rule of this number is false of the file, at this object. C0: the object is not well read; or
+-- all are, and the value is not within the limits, at object 0. C1 and C2 at object 0, those from
+-- C3 to C6 at the object. C7 at the object that holds the first bad reference of the walk, or at 0
+-- where an object is left over.
 pub data IsBroken (f : List ℕ) : ℕ → ℕ → Type 0 where
   breaks_c0 : (i : ℕ) → i < (trailer_of f).count → ¬ IsWellRead f i → IsBroken f 0 i
   breaks_limits : (v : Plist) → IsPlist v → Spells f 0 v → ¬ Fits v → IsBroken f 0 0

@@ -14,9 +14,9 @@ use byteorder::{BigEndian, ByteOrder};
 use plist_object::Object;
 use plist_value::{ScalarRef, TextRef};
 
-/// Whether the octets begin as the canonical spelling of what they hold, where that is plain. `false`
-/// says nothing: it is answered of whole numbers below 0 and from 2^63 on, and of texts with a unit
-/// above 7f.
+/// Whether the octets begin as the canonical spelling of what they hold, where that is plain.
+/// `false` says nothing: it is answered of whole numbers below 0 and from 2^63 on, and of texts
+/// with a unit above 7f.
 pub(crate) fn begins_plainly(octets: &[u8], object: &Object) -> bool
     ensures begins { IsTrue result → BeginsCanonically (held_of object.now) octets.now }
     ensures counted { IsCounted (held_of object.now) }

@@ -89,10 +89,11 @@ pub enum Verdict {
     Broken { rule: u8, object: u64 },
 }
 
-/// Whether the octets are the canonical file of a value within the limits. They are where eight rules hold,
-/// each of which speaks of the file alone (our profile):
+/// Whether the octets are the canonical file of a value within the limits. They are where eight
+/// rules hold, each of which speaks of the file alone (our profile):
 ///
-/// - 0: each object reads, its references are numbers of objects, those to keys name texts, and the value is
+/// - 0: each object reads, its references are numbers of objects, those to keys name texts, and the
+///   value is
 ///   within the limits;
 /// - 1: the first six octets of the trailer are zero, and the top object is 0;
 /// - 2: offsets and references have the least widths;
@@ -100,25 +101,26 @@ pub enum Verdict {
 /// - 4: each object has its canonical spelling;
 /// - 5: the keys of each table ascend, unit by unit;
 /// - 6: no two objects hold one scalar;
-/// - 7: the walk from object 0 in preorder meets the objects in the order of their numbers, and only scalars
+/// - 7: the walk from object 0 in preorder meets the objects in the order of their numbers, and
+///   only scalars
 ///   again.
 ///
-/// The rules are tested in this order: 1, 2, then object by object 0, 3, 4, 5 and 6, then 3 at the last object
-/// for the place of the offset table, then 7, and last 0 at object 0 for the limits. Rule 6 is broken at the
-/// later of two equal ones, and rule 7 at the container that holds the first bad reference of the walk, or at
-/// 0 where objects are left over.
+/// The rules are tested in this order: 1, 2, then object by object 0, 3, 4, 5 and 6, then 3 at the
+/// last object for the place of the offset table, then 7, and last 0 at object 0 for the limits.
+/// Rule 6 is broken at the later of two equal ones, and rule 7 at the container that holds the
+/// first bad reference of the walk, or at 0 where objects are left over.
 ///
-/// No value is built. It is linear in the file's size, but for sorting the texts of the keys once, and takes
-/// memory for the scalars that it has met, for the keys and for the path of the walk. So where the texts that
-/// tables name as keys overlap, and are together longer than the part of the file before the offset table,
-/// the first object that does not read, or does not stand where the one before it ends, is answered even if
-/// another rule is broken at an object before it.
+/// No value is built. It is linear in the file's size, but for sorting the texts of the keys once,
+/// and takes memory for the scalars that it has met, for the keys and for the path of the walk. So
+/// where the texts that tables name as keys overlap, and are together longer than the part of the
+/// file before the offset table, the first object that does not read, or does not stand where the
+/// one before it ends, is answered even if another rule is broken at an object before it.
 ///
 /// # Errors
 ///
 /// Where the octets do not have the layout: [`CheckFault::TooShort`] (1) for fewer than 42 octets,
-/// [`CheckFault::BadHeader`] (2) for another header, [`CheckFault::BadTrailer`] (3) for a trailer that does
-/// not fit; and [`CheckFault::OutOfMemory`] (60) where there is no memory.
+/// [`CheckFault::BadHeader`] (2) for another header, [`CheckFault::BadTrailer`] (3) for a trailer
+/// that does not fit; and [`CheckFault::OutOfMemory`] (60) where there is no memory.
 pub fn check(alloc: Global, octets: &[u8]) -> Result<Verdict, CheckFault>
     ensures fault { IfErr result (IsCheckFault octets.now) }
     ensures laid { IfOk result (λ _. IsLaid octets.now) }
@@ -129,9 +131,9 @@ pub fn check(alloc: Global, octets: &[u8]) -> Result<Verdict, CheckFault>
     check_with_hasher(alloc, FixedHasher::new(), octets)
 }
 
-/// The same as [`check`], whose scalars are hashed by what the builder makes. Where somebody else picks the files,
-/// hand it a [`RandomState`](std::hash::RandomState): scalars that were picked to collide under [`FixedHasher`]
-/// cost no more than others then.
+/// The same as [`check`], whose scalars are hashed by what the builder makes. Where somebody else
+/// picks the files, hand it a [`RandomState`](std::hash::RandomState): scalars that were picked to
+/// collide under [`FixedHasher`] cost no more than others then.
 ///
 /// # Errors
 ///

@@ -1,4 +1,5 @@
-//! Whether a binary file is the one canonical file of a property list; with it, how that file is made.
+//! Whether a binary file is the one canonical file of a property list; with it, how that file is
+//! made.
 #![tactic(auto)]
 
 mod beginning;

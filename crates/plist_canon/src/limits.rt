@@ -30,7 +30,8 @@ pub(crate) fn judge_limits(file: &BinFile, weights: &[Weight]) -> Result<(), Fla
     }
 }
 
-// What is left of the budget after the value that the object spells, which may be so many levels deep.
+// What is left of the budget after the value that the object spells, which may be so many levels
+// deep.
 #[cycle(limits)]
 fn charge(
     file: &BinFile,
@@ -84,7 +85,8 @@ fn charge_items(
     Some(left)
 }
 
-// The same as `charge`. A scalar has no references, so it is not read again, and is charged where the list is.
+// The same as `charge`. A scalar has no references, so it is not read again, and is charged where
+// the list is.
 #[cycle(limits)]
 #[inline(always)]
 fn charge_item(

@@ -13,8 +13,8 @@ use crate::weights::Weight;
 use plist_object::{BinFile, Object, Refs};
 use std::alloc::{AllocError, Global};
 
-// References on the path of the walk, and how many of them were visited: those of a list, or those of a
-// table to its keys or to its values.
+// References on the path of the walk, and how many of them were visited: those of a list, or those
+// of a table to its keys or to its values.
 #[derive(Clone, Copy)]
 struct Frame<'a> {
     owner: u64,
@@ -54,7 +54,8 @@ pub(crate) fn judge_order(alloc: Global, file: &BinFile, weights: &[Weight]) -> 
     }
 }
 
-// The object, which has this weight, is met for the first time. Its references are next, where it has some.
+// The object, which has this weight, is met for the first time. Its references are next, where it
+// has some.
 fn enter<'a>(
     file: &BinFile<'a>,
     number: u64,
@@ -106,7 +107,8 @@ fn next_visit(path: &mut Vec<Frame>, weights: &[Weight]) -> Result<Option<Visit>
     Ok(None)
 }
 
-// The first reference from the place on that is not to a scalar that was met, and the place behind it.
+// The first reference from the place on that is not to a scalar that was met, and the place behind
+// it.
 fn first_other(refs: &Refs, from: u64, weights: &[Weight]) -> Option<(u64, u64)>
     ensures known { IfSome result (λ p. ¬ IsKnown weights.now p.1) }
     ensures some { IfSome result

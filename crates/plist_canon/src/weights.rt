@@ -35,8 +35,8 @@ impl Weight {
         }
     }
 
-    /// What is left of the budget after one node and its payload: two octets for each unit. A container has
-    /// no payload of its own.
+    /// What is left of the budget after one node and its payload: two octets for each unit. A
+    /// container has no payload of its own.
     pub(crate) fn spend(self, left: Budget) -> Option<Budget>
         ensures left { IfSome result (Spends left 1 (payload_of_weight self)) }
         ensures over { IfNone result (IsOver left 1 (payload_of_weight self)) }
@@ -59,8 +59,8 @@ impl Weight {
     }
 }
 
-/// The weights of all objects, which read. They are told once the scalars that were met are freed, so that
-/// both are not held at a time.
+/// The weights of all objects, which read. They are told once the scalars that were met are freed,
+/// so that both are not held at a time.
 pub(crate) fn weigh_objects(alloc: Global, file: &BinFile) -> Result<Vec<Weight>, AllocError>
     requires { AllRead (octets_of file.now) }
     ensures { IfOk result (λ weights. AreAllWeights (octets_of file.now) weights.items) }

@@ -1,6 +1,6 @@
-//! The program `plistconv` over any files, input and output: its words, its answers and its statuses. With
-//! it all that the library offers: sources and sinks, what is loaded from them and converted between them,
-//! canonical files, refusals.
+//! The program `plistconv` over any files, input and output: its words, its answers and its
+//! statuses. With it all that the library offers: sources and sinks, what is loaded from them and
+//! converted between them, canonical files, refusals.
 #![tactic(auto)]
 
 pub use plist_devices::{

@@ -5,7 +5,8 @@ use Rattle.std.proofs.KnownBytes.{Consumes-trans}
 use Rattle.std.specs.Io.KnownBytes.{Consumes}
 use Rattle.plist_devices.specs.Source.{IsTake}
 
--- the octets taken so far and the front of the buffer are the first that were to come, and so many more
+-- the octets taken so far and the front of the buffer are the first that were to come, and so many
+-- more
 pub taken-more : {E : Type 0} (first middle last : Option (List ℕ)) (before after given : ℕ) (octets buffer : List ℕ)
     → Consumes first middle octets → IsTake {E = E} middle last before after (Ok given) buffer
     → Consumes first last (octets ++ take given buffer) × (length (octets ++ take given buffer) ≡ length octets + given)

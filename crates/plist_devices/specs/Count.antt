@@ -9,7 +9,8 @@ count_limit = 2 ^ 64 - 1
 abbrev pub one_more : ℕ → ℕ
 one_more count = min (count + 1) count_limit
 
--- A call that is answered leaves the count, which stands below the greatest. A call that fails counts one failure more.
+-- A call that is answered leaves the count, which stands below the greatest. A call that fails
+-- counts one failure more.
 abbrev pub Counts : {E : Type 0} → ℕ → ℕ → Result ℕ E → Type 0
 Counts before after result =
     MatchResult result (λ _. (before < count_limit) × (after ≡ before)) (λ _. after ≡ one_more before)

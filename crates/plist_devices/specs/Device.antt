@@ -3,8 +3,8 @@ use Rattle.std.specs.Prelude.{ℕ, List, Option, Result}
 use Rattle.std.specs.Io.{ReadsAtMost, WritesAtMost}
 use Rattle.std.specs.Io.KnownBytes.{ReadConsumes, WriteAppends}
 
--- What the library says of a read: the reader before and after it, the buffer as it leaves it, and its result.
--- It does not tell when a read fails.
+-- What the library says of a read: the reader before and after it, the buffer as it leaves it, and
+-- its result. It does not tell when a read fails.
 abbrev pub Reads : {R E : Type 0} → (R → Option (List ℕ)) → R → R → List ℕ → Result ℕ E → Type 0
 Reads remaining before after buffer result =
     ReadsAtMost result buffer × ReadConsumes (remaining before) (remaining after) result buffer

@@ -19,7 +19,8 @@ step_of sink = sink.step
 abbrev pub failures_of : ListSink → ℕ
 failures_of sink = sink.failures
 
--- a put of the piece fails: the room is reached and the piece is not empty, or the count stands at the greatest
+-- a put of the piece fails: the room is reached and the piece is not empty, or the count stands at
+-- the greatest
 abbrev pub FailsAt : ListSink → List ℕ → Type 0
 FailsAt sink piece =
     ((length (octets_taken sink) ≡ room_of sink) × (0 < length piece)) ⊎ (count_limit ≤ failures_of sink)

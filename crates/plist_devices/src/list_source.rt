@@ -22,8 +22,8 @@ impl<'a> ListSource<'a> {
     ghost use Rattle.plist_devices.specs.ListSource.{octets_left, step_of, failing_take};
     ghost use Rattle.plist_devices.specs.ListSource.{takes_made, failures_of, FailsNext};
 
-    /// A source of these octets that gives at most `step` of them per take. The take number `fail_at`,
-    /// counted from 1, fails, and so does any after number 2^64 - 1.
+    /// A source of these octets that gives at most `step` of them per take. The take number
+    /// `fail_at`, counted from 1, fails, and so does any after number 2^64 - 1.
     pub fn new(octets: &'a [u8], step: usize, fail_at: Option<u64>) -> ListSource<'a>
         requires { 0 < step }
         ensures octets { octets_left result ≡ octets.entry.now }

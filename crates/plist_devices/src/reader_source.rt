@@ -41,8 +41,8 @@ impl<D: Device> Source for ReaderSource<D> {
         ensures take { IsTake (octets_to_come D.remaining self.old)
             (octets_to_come D.remaining self.new)
             (failures_of self.old) (failures_of self.new) result into.new }
-        // It is one read of the device, and fails where that read does, or where the count stands at the
-        // greatest.
+        // It is one read of the device, and fails where that read does, or where the count stands
+        // at the greatest.
         ensures read { failures_of self.old < count_limit
             → D.read_gives (device_of self.old) (device_of self.new) into.new result }
     {

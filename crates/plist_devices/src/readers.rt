@@ -13,7 +13,8 @@ pub trait Device {
     // The octets still to come, where the device tells them.
     ghost remaining: { Self → Option (List ℕ) };
 
-    // What one read does: the device before and after it, the buffer as it leaves it, and its result.
+    // What one read does: the device before and after it, the buffer as it leaves it, and its
+    // result.
     ghost read_gives: { Self → Self → List ℕ → Result ℕ DeviceFault → Type 0 };
 
     /// One read of the device: the octets put in front of the buffer, or that the read failed.

@@ -7,8 +7,9 @@ use crate::DeviceFault;
 
 /// A device that takes octets, and counts the puts that failed.
 ///
-/// A device over memory tells the octets that it took. Of one that does not, as a file or a pipe, nothing is
-/// said of which octets it holds. A sink over a device that it borrows stays with that device.
+/// A device over memory tells the octets that it took. Of one that does not, as a file or a pipe,
+/// nothing is said of which octets it holds. A sink over a device that it borrows stays with that
+/// device.
 pub trait Sink {
     // The octets taken, where the device tells them.
     ghost taken: { Self → Option (List ℕ) };
@@ -22,9 +23,9 @@ pub trait Sink {
     // The greatest length of a piece that it was given, where the device tells it.
     ghost longest: { Self → ℕ } = { λ _. 0 };
 
-    /// Takes some of the octets at the front of the piece and answers how many: none only of an empty piece.
-    /// A put that fails takes none and counts one failure more; where the count stands at `u64::MAX` every
-    /// put fails.
+    /// Takes some of the octets at the front of the piece and answers how many: none only of an
+    /// empty piece. A put that fails takes none and counts one failure more; where the count stands
+    /// at `u64::MAX` every put fails.
     fn put(&mut self, piece: &[u8]) -> Result<usize, DeviceFault>
         ensures put { IsPut (taken self.old) (taken self.new)
             (failures self.old) (failures self.new) result piece.now }

@@ -7,8 +7,8 @@ use crate::writer_sink::put_on;
 use crate::{DeviceFault, Sink, WriteDevice};
 use std::io::Write;
 
-/// A writer of the library that is borrowed to print on. A write that fails, or takes none of a piece that
-/// is not empty, is a put that fails.
+/// A writer of the library that is borrowed to print on. A write that fails, or takes none of a
+/// piece that is not empty, is a put that fails.
 ///
 /// As [`WriterSink`](crate::WriterSink), but whoever lends the writer knows what was put on it.
 #[derive(Drop)]
@@ -46,8 +46,8 @@ impl<D: WriteDevice> Sink for Stream<'_, D> {
         ensures put { IsPut (octets_taken D.contents self.old) (octets_taken D.contents self.new)
             (failures_of self.old) (failures_of self.new) result piece.now }
         ensures same { device_of self.new ≡ device_of self.old }
-        // It is one write of the device, and fails where that write does, or where the count stands at the
-        // greatest.
+        // It is one write of the device, and fails where that write does, or where the count stands
+        // at the greatest.
         ensures write { failures_of self.old < count_limit
             → IsOneWrite D.write_gives (device_now self.old) (device_now self.new)
             piece.now result }

@@ -6,8 +6,8 @@ ghost use Rattle.plist_devices.specs.Sink.{IsOneWrite, IsPut};
 use crate::{DeviceFault, Sink, WriteDevice};
 use std::io::Write;
 
-/// A writer of the library as a sink. A write that fails, or takes none of a piece that is not empty, is a
-/// put that fails.
+/// A writer of the library as a sink. A write that fails, or takes none of a piece that is not
+/// empty, is a put that fails.
 ///
 /// It tells the octets taken where the writer does, as one into memory.
 #[derive(Debug, Drop)]
@@ -44,8 +44,8 @@ impl<D: WriteDevice> Sink for WriterSink<D> {
     fn put(&mut self, piece: &[u8]) -> Result<usize, DeviceFault>
         ensures put { IsPut (octets_taken D.contents self.old) (octets_taken D.contents self.new)
             (failures_of self.old) (failures_of self.new) result piece.now }
-        // It is one write of the device, and fails where that write does, or where the count stands at the
-        // greatest.
+        // It is one write of the device, and fails where that write does, or where the count stands
+        // at the greatest.
         ensures write { failures_of self.old < count_limit
             → IsOneWrite D.write_gives (device_of self.old) (device_of self.new) piece.now result }
     {

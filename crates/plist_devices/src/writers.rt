@@ -16,7 +16,8 @@ pub trait WriteDevice {
     // What one write does: the device before and after it, the piece, and its result.
     ghost write_gives: { Self → Self → List ℕ → Result ℕ DeviceFault → Type 0 };
 
-    /// One write to the device: how many octets it took of the front of the piece, or that the write failed.
+    /// One write to the device: how many octets it took of the front of the piece, or that the
+    /// write failed.
     fn write_once(&mut self, piece: &[u8]) -> Result<usize, DeviceFault>
         ensures within { WritesAtMost result piece.now }
         ensures octets { WriteAppends (contents self.old) (contents self.new) result piece.now }

@@ -18,16 +18,17 @@ IsEmpty held = IfSome held (λ octets. octets ≡ [])
 abbrev pub Leaves : Option (List ℕ) → Option (List ℕ) → ℕ → Type 0
 Leaves taken held left = (rest : List ℕ) × (length rest ≡ left) × Keeps taken (append_known held rest)
 
--- what is answered in place of what the conversion answered, where so many of the octets did not reach the device: it
--- failed, if some did not, and of octets that went out only those count that reached it
+-- what is answered in place of what the conversion answered, where so many of the octets did not
+-- reach the device: it failed, if some did not, and of octets that went out only those count that
+-- reached it
 abbrev pub reached : ℕ → Result ℕ Fault → Result ℕ Fault
 reached left (Ok count) = if count - left == count then Ok count else Err (WriteFailed (count - left))
 reached left (Err (WriteFailed count)) = Err (WriteFailed (count - left))
 reached left (Err (OutOfMemory count)) = Err (OutOfMemory (count - left))
 reached left (Err fault) = Err fault
 
--- The octets that were gathered were to be written: what was taken before, what the device holds now, what the
--- conversion answered, and what is answered.
+-- The octets that were gathered were to be written: what was taken before, what the device holds
+-- now, what the conversion answered, and what is answered.
 abbrev pub Finishes : Option (List ℕ) → Option (List ℕ) → Result ℕ Fault → Result ℕ Fault → Type 0
 Finishes taken held sent result = (left : ℕ) × Leaves taken held left × (result ≡ reached left sent)
 
@@ -48,8 +49,8 @@ pub record IsDelivered (form : Form) (octets : List ℕ) (old new : Option (List
   pub failures : ℕ
   pub written : IsWritten output old new 0 failures sent
 
--- what a device takes of the value that the octets spell, in a form: what it holds before, the same after, and what is
--- answered
+-- what a device takes of the value that the octets spell, in a form: what it holds before, the same
+-- after, and what is answered
 abbrev pub Delivers : Form → List ℕ → Option (List ℕ) → Option (List ℕ) → Result ℕ Fault → Type 0
 Delivers form octets old new result =
     IsUndelivered form octets old new result ⊎ IsDelivered form octets old new result

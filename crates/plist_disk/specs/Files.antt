@@ -41,8 +41,8 @@ SameFiles before after = Turns before after (λ old new. (path : FileName) → n
 abbrev pub SameBeside : FileName → Option Files → Option Files → Type 0
 SameBeside path before after = Turns before after (λ old new. (other : FileName) → other ≢ path → new other ≡ old other)
 
--- Why a file was not loaded: a device failed, and there is none where the disk tells; or it is too large; or there was
--- no memory.
+-- Why a file was not loaded: a device failed, and there is none where the disk tells; or it is too
+-- large; or there was no memory.
 abbrev pub IsUnloaded : Option Files → FileName → ℕ → ℕ → Fault → Type 0
 IsUnloaded files path before after ReadFailed = Lacks files path × (after ≡ one_more before)
 IsUnloaded files path before after InputTooLarge =
@@ -55,8 +55,9 @@ abbrev pub HoldsFront : Option Files → Option Files → FileName → List ℕ 
 HoldsFront before after path octets sent =
     Turns before after (λ old new. ((sent ≡ 0) × (new path ≡ old path)) ⊎ (new path ≡ Some (take sent octets)))
 
--- Storing: the files and the count of failures before it, the same after it, the path, the octets, and how many of
--- them were sent or the refusal. It is all of them that then stand at the path, or as many as the refusal tells.
+-- Storing: the files and the count of failures before it, the same after it, the path, the octets,
+-- and how many of them were sent or the refusal. It is all of them that then stand at the path, or
+-- as many as the refusal tells.
 pub record IsStored (files rest : Option Files) (before after : ℕ) (path : FileName) (octets : List ℕ) (result : Result ℕ WriteFault) : Type 0 where
   pub others : SameBeside path files rest
   pub count : IfOk result (λ sent. (sent ≡ length octets) × (after ≡ before))

@@ -20,7 +20,8 @@ room_of disk = disk.room
 abbrev pub failures_of : MemoryDisk → ℕ
 failures_of disk = disk.failures
 
--- The output for the octets is longer than the room of a file, and so much of it went out as there is room.
+-- The output for the octets is longer than the room of a file, and so much of it went out as there
+-- is room.
 pub record IsFull (form : Form) (octets : List ℕ) (room sent : ℕ) : Type 0 where
   pub output : List ℕ
   pub of : IsOutput form octets output

@@ -10,14 +10,14 @@ use std::alloc::Global;
 use std::hash::BuildHasher;
 use std::io::{BufWriter, Write};
 
-/// Sends the value that the octets spell, in this form, to the device behind the writer, which gathers them for
-/// long writes. Gives the device back, and answers how many octets it took. Scalars are hashed by what the builder
-/// makes.
+/// Sends the value that the octets spell, in this form, to the device behind the writer, which
+/// gathers them for long writes. Gives the device back, and answers how many octets it took.
+/// Scalars are hashed by what the builder makes.
 ///
 /// # Errors
 ///
-/// Those of [`convert_octets`](plist_transfer::convert_octets). After 51 and 60 the device took exactly the first
-/// `sent` octets, and after any other it took none.
+/// Those of [`convert_octets`](plist_transfer::convert_octets). After 51 and 60 the device took
+/// exactly the first `sent` octets, and after any other it took none.
 pub(crate) fn deliver<H: BuildHasher + Copy, W: Write + Drop>(
     alloc: Global,
     hasher: H,
@@ -40,8 +40,8 @@ pub(crate) fn deliver<H: BuildHasher + Copy, W: Write + Drop>(
     finish(writer, sent)
 }
 
-// Writes all that was gathered, where all was sent, and gives the device back. The device is written at once, so
-// what could not be written is what stays in the buffer.
+// Writes all that was gathered, where all was sent, and gives the device back. The device is
+// written at once, so what could not be written is what stays in the buffer.
 fn finish<W: Write + Drop>(
     gathered: BufWriter<W>,
     sent: Result<u64, Fault>,

@@ -15,8 +15,8 @@ use std::hash::BuildHasher;
 use std::io::BufWriter;
 use std::rt::Files;
 
-/// So many octets are gathered before they are written: a write of 4,096 octets costs several times as much for
-/// each of them.
+/// So many octets are gathered before they are written: a write of 4,096 octets costs several times
+/// as much for each of them.
 const GATHERED: usize = 262_144;
 
 /// The files of the host, by their paths. It tells nothing of what they hold.
@@ -43,9 +43,10 @@ impl<'a, R: Files> HostDisk<'a, R> {
 impl<'a, R: Files, H: BuildHasher + Copy> HostDisk<'a, R, H> {
     ghost use Rattle.plist_disk.specs.HostDisk.{failures_of};
 
-    /// The same as [`new`](HostDisk::new), where scalars are hashed by what the builder makes. Where somebody else
-    /// picks what is converted, hand it a [`RandomState`](std::hash::RandomState): scalars that were picked to
-    /// collide under [`FixedHasher`] cost no more than others then.
+    /// The same as [`new`](HostDisk::new), where scalars are hashed by what the builder makes.
+    /// Where somebody else picks what is converted, hand it a
+    /// [`RandomState`](std::hash::RandomState): scalars that were picked to collide under
+    /// [`FixedHasher`] cost no more than others then.
     pub fn with_hasher(rt: &'a R, hasher: H) -> HostDisk<'a, R, H>
         ensures { failures_of result ≡ 0 }
     {
@@ -105,7 +106,8 @@ impl<R: Files, H: BuildHasher + Copy> Disk for HostDisk<'_, R, H> {
     }
 }
 
-// The file at the path, as yet untouched. Where there is no memory to gather octets, each piece is a write.
+// The file at the path, as yet untouched. Where there is no memory to gather octets, each piece is
+// a write.
 fn file_at<'a, R: Files>(rt: &'a R, alloc: Global, path: &'a str) -> BufWriter<HostFile<'a, R>> {
     match BufWriter::with_capacity(alloc, GATHERED, HostFile::new(rt, path)) {
         Ok(writer) => writer,

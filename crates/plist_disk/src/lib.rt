@@ -1,4 +1,5 @@
-//! Files by path: what a disk does, a disk in memory that tells what it holds, and the files of the host.
+//! Files by path: what a disk does, a disk in memory that tells what it holds, and the files of the
+//! host.
 #![tactic(auto)]
 
 mod delivery;

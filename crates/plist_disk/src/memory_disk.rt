@@ -12,9 +12,9 @@ use std::alloc::{AllocError, Global};
 use std::collections::BTreeMap;
 use std::marker::Brand;
 
-/// A disk in memory, for tests and for whoever builds on it: it tells what stands at each path. Each file
-/// has room for so many octets, and takes at most `step` of them per put. 51 comes only where an output is
-/// longer than the room.
+/// A disk in memory, for tests and for whoever builds on it: it tells what stands at each path.
+/// Each file has room for so many octets, and takes at most `step` of them per put. 51 comes only
+/// where an output is longer than the room.
 #[derive(Drop)]
 pub struct MemoryDisk {
     files: BTreeMap<String, Vec<u8>>,
@@ -102,7 +102,8 @@ impl Disk for MemoryDisk {
             (failures_of self.old) (failures_of self.new) path.now result }
         ensures room { room_of self.new ≡ room_of self.old }
 
-        // A file takes no more than its room, and the device fails only where that does not suffice.
+        // A file takes no more than its room, and the device fails only where that does not
+        // suffice.
         ensures fits { IfOk result (λ count. count ≤ room_of self.old) }
         ensures full { IfErr result (IsFullAt form octets.items (room_of self.old)) }
     {

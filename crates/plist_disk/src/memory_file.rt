@@ -45,8 +45,8 @@ impl<K: Room> Sink for MemoryFile<K> {
     }
 }
 
-/// Sends the value that the octets spell, in this form, to an empty file with so much room, which takes at most
-/// `step` octets per put. Answers the file, and how many octets it has then.
+/// Sends the value that the octets spell, in this form, to an empty file with so much room, which
+/// takes at most `step` octets per put. Answers the file, and how many octets it has then.
 ///
 /// # Errors
 ///

@@ -140,8 +140,8 @@ length-file_with w r top objects =
     let parts = ap (λ n. w * n) count in
     simp length-append (omega (arith, entries, parts))
 
--- The numbers of a file are in their ranges: widths from 1 to 8 octets, a top that is one of the objects, objects of
--- an octet or more, offsets that their width holds.
+-- The numbers of a file are in their ranges: widths from 1 to 8 octets, a top that is one of the
+-- objects, objects of an octet or more, offsets that their width holds.
 pub record CanStand (w r top : ℕ) (objects : List (List ℕ)) : Type 0 where
   pub offset_width_least : 1 ≤ w
   pub offset_width_most : w ≤ 8

@@ -10,7 +10,8 @@ use Rattle.plist_draft.specs.Files.{trailer_with}
 use Rattle.plist_draft.specs.Stored.{draft_file}
 use Rattle.plist_draft.specs.Told.{SpellsIn}
 
--- the end of a file of fewer than 256 octets: how many objects there are, the top one, the place of the offset table
+-- the end of a file of fewer than 256 octets: how many objects there are, the top one, the place of
+-- the offset table
 end_of : ℕ → ℕ → ℕ → List ℕ
 end_of count top place =
     replicate 6 0 ++ (4 ∷ 4 ∷ (replicate 7 0 ++ (count ∷ (replicate 7 0 ++ (top ∷ (replicate 7 0 ++ (place ∷ [])))))))

@@ -96,7 +96,8 @@ puts_held octets places octets_after places_after held stored kept spelled place
       keeps = rw put (appending_keeps (helds_at octets places) (held ∷ []));
     }
 
--- the scalar that was put, the list of items that were told before, and the table of pairs that were
+-- the scalar that was put, the list of items that were told before, and the table of pairs that
+-- were
 module _ (octets places octets_after places_after : List ℕ) (number : ℕ) (next : number ≡ length places) where
   pub spells-scalar : (s : Scalar) → PutsHeld octets places octets_after places_after (holds_scalar s) → SpellsIn (helds_at octets_after places_after) number (scalar s)
   spells-scalar s puts = rw next puts.told

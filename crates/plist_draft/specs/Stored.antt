@@ -41,7 +41,8 @@ held_from octets place = held_or_none (object_in 4 (drop place octets))
 unfoldable pub helds_at : List ℕ → List ℕ → List Held
 helds_at octets places = map (held_from octets) places
 
--- The octets are the header and these objects one after another, and these are the places where they begin.
+-- The octets are the header and these objects one after another, and these are the places where
+-- they begin.
 pub record Stores (octets places : List ℕ) (helds : List Held) : Type 0 where
   pub spelled : octets ≡ header ++ concat (spellings helds)
   pub placed : places ≡ starts 8 (spellings helds)

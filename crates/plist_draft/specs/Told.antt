@@ -7,8 +7,8 @@ use Rattle.plist_object.specs.Layout.{trailer_of}
 use Rattle.plist_object.specs.Objects.{Held, holds_scalar, holds_list, holds_table}
 use Rattle.plist_object.specs.Places.{Holds}
 
--- The object i spells the value, where `Tells i held` says that the object i holds this. Of a table it holds the
--- pairs in any order.
+-- The object i spells the value, where `Tells i held` says that the object i holds this. Of a table
+-- it holds the pairs in any order.
 abbrev mutual
   pub SpellsBy : (ℕ → Held → Type 0) → ℕ → Plist → Type 0
   SpellsBy Tells i (scalar s) = Tells i (holds_scalar s)

@@ -20,8 +20,9 @@ use plist_object::{HEADER, put_scalar, put_short_list, put_short_table};
 use plist_value::ScalarRef;
 use std::alloc::{AllocError, Global};
 
-/// The header of a binary file and objects behind it, each reference in four octets. Objects are numbered from 0 in
-/// the order in which they are put, so an object is put behind those that it refers to.
+/// The header of a binary file and objects behind it, each reference in four octets. Objects are
+/// numbered from 0 in the order in which they are put, so an object is put behind those that it
+/// refers to.
 #[derive(Drop)]
 pub struct Draft {
     octets: Vec<u8>,
@@ -51,8 +52,8 @@ impl Draft {
     ///
     /// # Errors
     ///
-    /// Where there is no memory, or where there are 2^32 objects, or octets of them, or units or octets of the scalar.
-    /// The draft is then as it was.
+    /// Where there is no memory, or where there are 2^32 objects, or octets of them, or units or
+    /// octets of the scalar. The draft is then as it was.
     pub fn put_scalar(&mut self, scalar: &ScalarRef) -> Result<u32, AllocError>
         requires { IsScalar (content_of scalar.now) }
         ensures number { IfOk result (λ number. number ≡ length (objects self.old)) }
@@ -74,8 +75,8 @@ impl Draft {
     ///
     /// # Errors
     ///
-    /// Where there is no memory, or where there are 2^32 objects, or octets of them, or items. The draft is then as it
-    /// was.
+    /// Where there is no memory, or where there are 2^32 objects, or octets of them, or items. The
+    /// draft is then as it was.
     pub fn put_list(&mut self, items: &[u32]) -> Result<u32, AllocError>
         ensures number { IfOk result (λ number. number ≡ length (objects self.old)) }
         ensures put { OnOk result
@@ -93,13 +94,13 @@ impl Draft {
         Ok(number)
     }
 
-    /// Puts a table behind the objects, and answers its number. Its keys and its values are the objects with these
-    /// numbers, as many of the one as of the other: key k goes with value k.
+    /// Puts a table behind the objects, and answers its number. Its keys and its values are the
+    /// objects with these numbers, as many of the one as of the other: key k goes with value k.
     ///
     /// # Errors
     ///
-    /// Where there is no memory, or where there are 2^32 objects, or octets of them, or keys. The draft is then as it
-    /// was.
+    /// Where there is no memory, or where there are 2^32 objects, or octets of them, or keys. The
+    /// draft is then as it was.
     pub fn put_table(&mut self, keys: &[u32], values: &[u32]) -> Result<u32, AllocError>
         requires { length keys.now ≡ length values.now }
         ensures number { IfOk result (λ number. number ≡ length (objects self.old)) }

@@ -11,13 +11,13 @@ use plist_value::{ScalarRef, TextRef, Utf16, Value};
 use std::alloc::{AllocError, Global};
 use std::collections::BTreeMap;
 
-/// Puts the value behind the objects of the draft, each list and table behind what it holds, and answers the number of
-/// its object. Equal values become objects of their own.
+/// Puts the value behind the objects of the draft, each list and table behind what it holds, and
+/// answers the number of its object. Equal values become objects of their own.
 ///
 /// # Errors
 ///
-/// Where there is no memory, or where the draft refuses one of the objects. The draft then has those that were put
-/// before, behind those that it had.
+/// Where there is no memory, or where the draft refuses one of the objects. The draft then has
+/// those that were put before, behind those that it had.
 #[cycle(values)]
 pub fn put_value(alloc: Global, draft: &mut Draft, value: &Value) -> Result<u32, AllocError>
     ensures spells { IfOk result

@@ -2,7 +2,8 @@
 use Rattle.std.proofs.Common.{◌≡◌, ℕ, ◌+◌, ◌<◌, ◌≤◌, List, [], ◌∷◌, ◌++◌, length, get_or, drop, take, set, sym, ap, ◌∙◌, arith, length-append, append_assoc}
 use Rattle.std.proofs.lemmas.List.{drop_more, set_at, get_or_at, take-append-drop, length-take-le, drop_all, append-nil, length-drop, drop-set-lt}
 
--- From the first place on up to i there are these numbers, then what stood there at the start, and then other references.
+-- From the first place on up to i there are these numbers, then what stood there at the start, and
+-- then other references.
 pub record IsFilling (first i : ℕ) (start now done : List ℕ) : Type 0 where
   pub behind : List ℕ
   pub as_many : first + length done ≡ i

@@ -46,7 +46,8 @@ module _ (K C : Type 0) (content : K → C) (same : K → K → Bool) (decides :
     counted-after None enters =
         ap length enters.numbers_now ∙ length-pushed K C content same decides old.keys.keys old.numbers.items k next counted (sym enters.had_is) ∙ sym (ap length enters.keys_now)
 
-    -- the key is found under the number that it had, or under the next one, and all others as before
+    -- the key is found under the number that it had, or under the next one, and all others as
+    -- before
     pub number-after : (had : Option ℕ) → EntersKey same k next old new had → (q : K) → number_of_key same new q ≡ option_or (number_of_key same old q) (next_of k next q)
     number-after (Some n) enters q =
         let same_keys = enters.keys_now ∙ insert_key-known K C content same decides old.keys.keys old.numbers.items k n counted (sym enters.had_is) in

@@ -220,7 +220,8 @@ pub places_within : (f keys places : List ℕ) (n : ℕ) → length keys ≡ n �
 places_within f keys places n long order =
     subst (λ (m : ℕ). All (λ place. place < m) places) long order.placed.within
 
--- what stands at the places in turn, of the keys and then of the values, are the rows that spell the pairs of the table
+-- what stands at the places in turn, of the keys and then of the values, are the rows that spell
+-- the pairs of the table
 pub in_turn-places : (f keys values places : List ℕ) (rows : List (ℕ × ℕ)) (ps : Pairs) (old mid new : List ℕ) → length keys ≡ length values → IsOrder f keys places → SpellTable f keys values rows ps → mid ≡ old ++ map (slice_index keys) places → new ≡ mid ++ map (slice_index values) places → new ≡ old ++ in_turn rows
 in_turn-places f keys values places rows ps old mid new as_many order spell first second =
     let of_keys = map (slice_index keys) places in

@@ -39,7 +39,8 @@ IsShort r = is_long (content_of r) ≡ false
 abbrev pub HasRoom : {S H : Type 0} → Numbered S H → Type 0
 HasRoom known = length known.listed.items < 8
 
--- There is a number for each scalar of the set. Long data alone are listed, and none are in the set while the list has room.
+-- There is a number for each scalar of the set. Long data alone are listed, and none are in the set
+-- while the list has room.
 pub record IsNumbered {S H : Type 0} (known : Numbered S H) : Type 0 where
   pub counted : length known.hashed.numbers.items ≡ length known.hashed.keys.keys
   pub short_hashed : (r : ScalarRef) → IsShort r → number_listed known.listed.items (content_of r) ≡ None
@@ -56,7 +57,8 @@ pub record IsUnlisted {S H : Type 0} (known : Numbered S H) (r : ScalarRef) : Ty
   pub missed : number_listed known.listed.items (content_of r) ≡ None
   pub refused : HasRoom known → IsShort r
 
--- The scalar is found under the number that it had, and under the next one where it had none. All others are found as before.
+-- The scalar is found under the number that it had, and under the next one where it had none. All
+-- others are found as before.
 pub record Enters {S H : Type 0} (shown : ScalarRef) (next : ℕ) (old new : Numbered S H) (had : Option ℕ) : Type 0 where
   pub numbered : IsNumbered new
   pub had_is : had ≡ number_held old shown

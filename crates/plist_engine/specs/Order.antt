@@ -37,7 +37,8 @@ pub record ArePlaced (keys : List ℕ) (rows : List Row) : Type 0 where
   pub within : All (λ row. place_of row < length keys) rows
   pub moved : (values : List ℕ) → length keys ≡ length values → IsPermutation (zip keys values) (map (pair_at keys values) rows)
 
--- what is kept of the last table's keys, if anything is, is their order, and so it is of keys that were sorted before
+-- what is kept of the last table's keys, if anything is, is their order, and so it is of keys that
+-- were sorted before
 pub record IsOrdered (f : List ℕ) (order : KeyOrder) : Type 0 where
   pub last : IfSome order.last (λ keys. IsOrder f (numbers_of keys) order.places.items)
   pub sorted : AreSortedIfAny f order.sorted

@@ -1,4 +1,5 @@
--- What the objects of the canonical file hold, told by objects of another file and a list of references.
+-- What the objects of the canonical file hold, told by objects of another file and a list of
+-- references.
 use Rattle.std.specs.Prelude.{ℕ, ◌+◌, ◌≤◌, List, [], ◌∷◌, length, map, take, drop, Result, Ok, Err, ⊤}
 use Rattle.plist_object.specs.declared.object.ObjectFault.{ObjectFault}
 use Rattle.plist_object.specs.Objects.{Held, holds_scalar, holds_list, holds_table}

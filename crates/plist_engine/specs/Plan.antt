@@ -14,14 +14,16 @@ use Rattle.plist_engine.specs.Scalars.{number_stored, AreNew, AreNumbered}
 use Rattle.plist_engine.specs.declared.plan.Objects.{Objects}
 use Rattle.plist_engine.specs.declared.plan.Plan.{Plan}
 
--- The object i of the file holds the same scalar, a list of as many items, or a table of as many pairs.
+-- The object i of the file holds the same scalar, a list of as many items, or a table of as many
+-- pairs.
 abbrev pub IsLike : List ℕ → ℕ → Held → Type 0
 IsLike f i (holds_scalar s) = Holds f i (holds_scalar s)
 IsLike f i (holds_list refs) = (items : List ℕ) × (Holds f i (holds_list items) × (length refs ≡ length items))
 IsLike f i (holds_table keys values) =
     (held_keys : List ℕ) × ((held_values : List ℕ) × (Holds f i (holds_table held_keys held_values) × ((length keys ≡ length held_keys) × (length values ≡ length held_keys))))
 
--- These objects of the file, with these as their references in turn, are what the objects of another file hold.
+-- These objects of the file, with these as their references in turn, are what the objects of
+-- another file hold.
 abbrev pub StandFor : List ℕ → List ℕ → List ℕ → List Held → Type 0
 StandFor f [] refs [] = refs ≡ []
 StandFor f [] refs (h ∷ hs) = ⊥
@@ -35,7 +37,8 @@ pub record IsEmptyPlan {S H : Type 0} (plan : Plan S H) : Type 0 where
   pub none : plan.originals.items ≡ []
   pub no_references : plan.references.items ≡ []
 
--- the places below k are done: each scalar there is known by its number, and so many objects were found
+-- the places below k are done: each scalar there is known by its number, and so many objects were
+-- found
 pub record IsReady {S H : Type 0} (all : List Plist) (k : ℕ) (plan : Plan S H) : Type 0 where
   pub numbered : AreNumbered plan.scalars
   pub known : (s : ScalarRef) → number_stored plan.scalars s ≡ number_known all k (content_of s)
@@ -54,7 +57,8 @@ pub record Adds {S H : Type 0} (f : List ℕ) (front : ℕ) (all : List Plist) (
   pub ready : IsReady all (k + length part) new
   pub grows : Grows f front old new (found_in all k part)
 
--- The list `part` was done, wherever it stands, and these are the numbers of the places, which are counted from its own.
+-- The list `part` was done, wherever it stands, and these are the numbers of the places, which are
+-- counted from its own.
 pub record Walks {S H : Type 0} (f : List ℕ) (front : ℕ) (part : List Plist) (places : ℕ → List ℕ) (old new : Plan S H) (numbers : List ℕ) : Type 0 where
   pub numbered : (all : List Plist) (k : ℕ) → Stands all k part → IsReady all k old → numbers ≡ map (number_in all) (places k)
   pub adds : (all : List Plist) (k : ℕ) → Stands all k part → IsReady all k old → Adds f front all k part old new
@@ -131,7 +135,8 @@ pub record ItemsWalked {S H : Type 0} (f : List ℕ) (front : ℕ) (refs : List 
   pub spell : SpellItems f refs items
   pub walks : WalksItems f front items old new numbers
 
--- The objects from the first place on were walked: they gave way to their numbers, and references were added behind.
+-- The objects from the first place on were walked: they gave way to their numbers, and references
+-- were added behind.
 pub record AreWalked {S H : Type 0} (f : List ℕ) (first : ℕ) (old new : Plan S H) : Type 0 where
   pub numbers : List ℕ
   pub behind : List ℕ

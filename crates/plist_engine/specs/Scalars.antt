@@ -1,4 +1,5 @@
--- Scalars that have numbers: whole numbers that are not below 0 in a set of their own, and all others.
+-- Scalars that have numbers: whole numbers that are not below 0 in a set of their own, and all
+-- others.
 use Rattle.std.specs.Prelude.{◌≡◌, ℕ, pos, nat_eq, if◌then◌else◌, length, Option, Some, None}
 use Rattle.std.specs.Option.{option_or}
 use Rattle.plist_value.specs.Plist.{Scalar, whole}
@@ -33,7 +34,8 @@ pub record AreNew {S H : Type 0} (known : Scalars S H) : Type 0 where
   pub numbered : AreNumbered known
   pub unknown : (r : ScalarRef) → number_stored known r ≡ None
 
--- The scalar is found under the number that it had, and under the next one where it had none. All others are found as before.
+-- The scalar is found under the number that it had, and under the next one where it had none. All
+-- others are found as before.
 pub record EntersScalar {S H : Type 0} (shown : ScalarRef) (next : ℕ) (old new : Scalars S H) (had : Option ℕ) : Type 0 where
   pub numbered : AreNumbered new
   pub had_is : had ≡ number_stored old shown

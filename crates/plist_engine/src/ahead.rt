@@ -1,15 +1,17 @@
 //! Objects that are read soon, touched before.
 //!
-//! Keys are walked in their order, which need not be that of the file. An object is found through the offset table, so
-//! its marker waits for two places in memory, and all that is done with it waits for the marker. Where the markers of
-//! many objects are read and nothing else, the processor waits for all of them together.
+//! Keys are walked in their order, which need not be that of the file. An object is found through
+//! the offset table, so its marker waits for two places in memory, and all that is done with it
+//! waits for the marker. Where the markers of many objects are read and nothing else, the processor
+//! waits for all of them together.
 
 use plist_object::BinFile;
 
 // So many objects are touched at once.
 const AHEAD: usize = 16;
 
-// Objects whose numbers are no further apart stand close to one another in most files, and are not touched.
+// Objects whose numbers are no further apart stand close to one another in most files, and are not
+// touched.
 const FAR: u32 = 64;
 
 /// The markers of objects that were touched, added up: what is kept is read.
@@ -24,7 +26,8 @@ impl Ahead {
         Ahead { markers: 0 }
     }
 
-    /// Touches the objects from the place on, if they are scattered and none of them was touched so before.
+    /// Touches the objects from the place on, if they are scattered and none of them was touched so
+    /// before.
     pub(crate) fn look(&mut self, file: &BinFile, objects: &[u32], from: usize) {
         if from.is_multiple_of(AHEAD)
             && let Some(next) = objects.get(from..)

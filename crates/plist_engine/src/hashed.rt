@@ -27,8 +27,8 @@ impl<K: Eq + Hash + Drop, S: BuildHasher> Hashed<K, S> {
         }
     }
 
-    /// The number that the key has, if it has one. Else it has the next number from now on. There are at most
-    /// `most` keys.
+    /// The number that the key has, if it has one. Else it has the next number from now on. There
+    /// are at most `most` keys.
     pub(crate) fn enter(
         &mut self,
         key: K,
@@ -49,8 +49,9 @@ impl<K: Eq + Hash + Drop, S: BuildHasher> Hashed<K, S> {
     }
 }
 
-// How many keys there are likely to be: `MANY` stand among the first so many numbers, of which there will be at most
-// `most`. More room than that is slower to search, and a set for which it does not suffice grows.
+// How many keys there are likely to be: `MANY` stand among the first so many numbers, of which
+// there will be at most `most`. More room than that is slower to search, and a set for which it
+// does not suffice grows.
 fn likely(so_far: u32, most: usize) -> usize {
     most.saturating_mul(MANY) / (so_far as usize).max(MANY)
 }

@@ -1,4 +1,5 @@
-//! The canonical file of the value that a binary file spells, made from that file without the value.
+//! The canonical file of the value that a binary file spells, made from that file without the
+//! value.
 #![tactic(auto)]
 
 mod ahead;

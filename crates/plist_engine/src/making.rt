@@ -14,8 +14,8 @@ use plist_write::GrowingSink;
 use std::alloc::{AllocError, Global};
 use std::hash::BuildHasher;
 
-/// The canonical file of the value that the file spells, as one list. It goes over the objects that the value
-/// names, makes no value, and goes over the objects of the canonical file once more.
+/// The canonical file of the value that the file spells, as one list. It goes over the objects that
+/// the value names, makes no value, and goes over the objects of the canonical file once more.
 ///
 /// # Errors
 ///
@@ -28,8 +28,8 @@ pub fn canonical_of(alloc: Global, file: &BinFile) -> Result<Vec<u8>, AllocError
     canonical_of_sorted(alloc, file, None)
 }
 
-/// The same as [`canonical_of`], of a file of which these keys were sorted: they are not sorted again where they
-/// are met first.
+/// The same as [`canonical_of`], of a file of which these keys were sorted: they are not sorted
+/// again where they are met first.
 ///
 /// # Errors
 ///

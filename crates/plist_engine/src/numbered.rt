@@ -12,7 +12,8 @@ use std::hash::BuildHasher;
 // Data of so many octets are long.
 const LONG: usize = 65_536;
 
-// So many long data are listed. Each that comes later is compared with all of them, so they are few.
+// So many long data are listed. Each that comes later is compared with all of them, so they are
+// few.
 const MOST_LISTED: usize = 8;
 
 // Long data and their number.
@@ -22,8 +23,9 @@ struct Listed<'a> {
     number: u32,
 }
 
-/// The scalars that have numbers, and these. The first long data are listed, and are told by comparison, which
-/// ends at the first difference: a hash would read each of them whole. All others stand in a set.
+/// The scalars that have numbers, and these. The first long data are listed, and are told by
+/// comparison, which ends at the first difference: a hash would read each of them whole. All others
+/// stand in a set.
 #[derive(Drop)]
 pub(crate) struct Numbered<'a, S: BuildHasher> {
     listed: Vec<Listed<'a>>,
@@ -41,8 +43,8 @@ impl<'a, S: BuildHasher> Numbered<'a, S> {
         }
     }
 
-    /// The number that the scalar has, if it has one. Else it has the next number from now on. There are at most
-    /// `most` scalars.
+    /// The number that the scalar has, if it has one. Else it has the next number from now on.
+    /// There are at most `most` scalars.
     pub(crate) fn enter(
         &mut self,
         scalar: ScalarRef<'a>,

@@ -24,8 +24,9 @@ struct Row<'a> {
     place: u64,
 }
 
-/// The references to the keys of the table that came last, and their places in the order of their texts. The
-/// next table often has the same keys. Beside them stand the keys that were sorted before, if any were.
+/// The references to the keys of the table that came last, and their places in the order of their
+/// texts. The next table often has the same keys. Beside them stand the keys that were sorted
+/// before, if any were.
 #[derive(Drop)]
 pub struct KeyOrder<'a> {
     last: Option<Refs<'a>>,
@@ -48,8 +49,8 @@ impl<'a> KeyOrder<'a> {
         }
     }
 
-    /// Puts the references to the keys in the order of their texts, and then those to their values in the same
-    /// order, behind the references.
+    /// Puts the references to the keys in the order of their texts, and then those to their values
+    /// in the same order, behind the references.
     ///
     /// # Errors
     ///

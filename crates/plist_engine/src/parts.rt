@@ -9,8 +9,8 @@ use crate::objects::object_of;
 use plist_object::{BinFile, Object};
 use plist_write::Part;
 
-/// The object that stands for one of the file, with the first of the numbers as its references, and the
-/// numbers behind them.
+/// The object that stands for one of the file, with the first of the numbers as its references, and
+/// the numbers behind them.
 pub(crate) fn part_of<'a, 'b>(
     file: &BinFile<'a>,
     object: u64,

@@ -8,7 +8,8 @@ ghost use Rattle.plist_object.specs.Views.{numbers_of, octets_of};
 ghost use Rattle.plist_engine.specs.Order.{IsOrdered};
 ghost use Rattle.plist_engine.specs.Spelling.{IsTable, SpellTable, in_turn};
 ghost use Rattle.plist_engine.specs.Plan.{Begins, IsEmptyPlan, NumbersScalar};
-ghost use Rattle.plist_engine.specs.Plan.{KeepsNumber, KeepsScalar, IsRemembered, RemembersNumbers, remembered};
+ghost use Rattle.plist_engine.specs.Plan.{KeepsNumber, KeepsScalar, IsRemembered, RemembersNumbers};
+ghost use Rattle.plist_engine.specs.Plan.{remembered};
 
 use crate::order::{KeyOrder, push_all};
 use crate::scalars::Scalars;
@@ -18,8 +19,8 @@ use plist_write::short;
 use std::alloc::{AllocError, Global};
 use std::hash::BuildHasher;
 
-/// The objects of a canonical file: for each number the object of the file that holds what stands there, and
-/// the references of all containers, container after container.
+/// The objects of a canonical file: for each number the object of the file that holds what stands
+/// there, and the references of all containers, container after container.
 #[derive(Drop)]
 pub(crate) struct Objects {
     pub(crate) originals: Vec<u32>,
@@ -29,9 +30,9 @@ pub(crate) struct Objects {
 /// Stands for the number of an object that has none yet.
 const NO_NUMBER: u32 = u32::MAX;
 
-/// The objects so far, and the scalars among them with their numbers. Beside them stands a memo: the number of each
-/// object of the file that was met as a scalar which had one. It is made when there is the first: most scalars are
-/// met once.
+/// The objects so far, and the scalars among them with their numbers. Beside them stands a memo:
+/// the number of each object of the file that was met as a scalar which had one. It is made when
+/// there is the first: most scalars are met once.
 #[derive(Drop)]
 pub(crate) struct Plan<'a, S: BuildHasher> {
     scalars: Scalars<'a, S>,
@@ -42,8 +43,8 @@ pub(crate) struct Plan<'a, S: BuildHasher> {
 }
 
 impl<'a, S: BuildHasher + Copy> Plan<'a, S> {
-    /// Nothing was found of a file of so many objects. There is room for what most files take, and for no more
-    /// than a value within the limits has; where it is not used it costs nothing.
+    /// Nothing was found of a file of so many objects. There is room for what most files take, and
+    /// for no more than a value within the limits has; where it is not used it costs nothing.
     pub(crate) fn new(alloc: Global, hasher: S, count: u64) -> Result<Plan<'a, S>, AllocError>
         ensures empty { IfOk result IsEmptyPlan }
         ensures memo { IfOk result (λ plan. (i : ℕ) → remembered plan i ≡ NO_NUMBER) }
@@ -75,7 +76,8 @@ impl<'a, S: BuildHasher + Copy> Plan<'a, S> {
         Some(number)
     }
 
-    /// The number of the scalar that the object holds, which is kept for the next time if it is not new.
+    /// The number of the scalar that the object holds, which is kept for the next time if it is not
+    /// new.
     pub(crate) fn scalar(&mut self, object: u64, scalar: ScalarRef<'a>) -> Result<u32, AllocError>
         ensures numbers { IfOk result
             (NumbersScalar object (content_of scalar.entry) self.old self.new) }
@@ -136,8 +138,8 @@ impl<'a, S: BuildHasher + Copy> Plan<'a, S> {
         Ok(number)
     }
 
-    /// The number of a table, whose references are put behind the references: those to keys in the order of
-    /// their texts, and then those to their values in the same order.
+    /// The number of a table, whose references are put behind the references: those to keys in the
+    /// order of their texts, and then those to their values in the same order.
     pub(crate) fn begin_table(
         &mut self,
         alloc: Global,

@@ -9,8 +9,8 @@ use plist_value::ScalarRef;
 use std::alloc::{AllocError, Global};
 use std::hash::BuildHasher;
 
-/// The scalars that have numbers, and these. Whole numbers that are not below 0 have a set of their own, where
-/// they take a quarter of the room.
+/// The scalars that have numbers, and these. Whole numbers that are not below 0 have a set of their
+/// own, where they take a quarter of the room.
 #[derive(Drop)]
 pub(crate) struct Scalars<'a, S: BuildHasher> {
     naturals: Hashed<u64, S>,

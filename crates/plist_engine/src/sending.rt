@@ -25,15 +25,15 @@ use plist_write::{Pending, Sink, WriteFault, part_length, send_end, send_part};
 use std::alloc::Global;
 use std::hash::BuildHasher;
 
-/// Sends the canonical file of the value that the file spells, object after object, and answers how many
-/// octets it has. Neither that value nor its canonical file is in memory: no piece is longer than the longest
-/// object, or than 4,096 octets.
+/// Sends the canonical file of the value that the file spells, object after object, and answers how
+/// many octets it has. Neither that value nor its canonical file is in memory: no piece is longer
+/// than the longest object, or than 4,096 octets.
 ///
 /// # Errors
 ///
-/// [`WriteFault::WriteFailed`] (51) where the sink fails, and [`WriteFault::OutOfMemory`] (60) where there
-/// is no memory for the plan of the objects or for one of them. Exactly the first `sent` octets of the file
-/// went out then.
+/// [`WriteFault::WriteFailed`] (51) where the sink fails, and [`WriteFault::OutOfMemory`] (60)
+/// where there is no memory for the plan of the objects or for one of them. Exactly the first
+/// `sent` octets of the file went out then.
 pub fn write_canonical_of<W: Sink>(
     alloc: Global,
     file: &BinFile,
@@ -50,8 +50,8 @@ pub fn write_canonical_of<W: Sink>(
     write_canonical_of_sorted(alloc, file, None, out)
 }
 
-/// The same as [`write_canonical_of`], of a file of which these keys were sorted: they are not sorted again where
-/// they are met first.
+/// The same as [`write_canonical_of`], of a file of which these keys were sorted: they are not
+/// sorted again where they are met first.
 ///
 /// # Errors
 ///
@@ -74,9 +74,9 @@ pub fn write_canonical_of_sorted<'a, W: Sink>(
     write_canonical_of_with_hasher(alloc, FixedHasher::new(), file, sorted, out)
 }
 
-/// The same as [`write_canonical_of_sorted`], whose scalars are hashed by what the builder makes. Where somebody
-/// else picks the files, hand it a [`RandomState`](std::hash::RandomState): scalars that were picked to collide
-/// under [`FixedHasher`] cost no more than others then.
+/// The same as [`write_canonical_of_sorted`], whose scalars are hashed by what the builder makes.
+/// Where somebody else picks the files, hand it a [`RandomState`](std::hash::RandomState): scalars
+/// that were picked to collide under [`FixedHasher`] cost no more than others then.
 ///
 /// # Errors
 ///

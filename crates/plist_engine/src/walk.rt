@@ -83,7 +83,8 @@ fn walk<'a, S: BuildHasher + Copy>(
     }
 }
 
-// Walks the values of the objects among the references, from the first place on: each gives way to its number.
+// Walks the values of the objects among the references, from the first place on: each gives way to
+// its number.
 #[cycle(walk)]
 fn walk_children<'a, S: BuildHasher + Copy>(
     alloc: Global,

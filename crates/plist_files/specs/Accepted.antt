@@ -10,7 +10,8 @@ use Rattle.ostep_text.specs.Text.{IsText}
 abbrev pub begins_as_binary : List ℕ → Bool
 begins_as_binary octets = starts_with nat_eq octets (codes "bplist")
 
--- The octets are accepted, and spell the value: those that begin with `bplist` as a binary file, all others as a text.
+-- The octets are accepted, and spell the value: those that begin with `bplist` as a binary file,
+-- all others as a text.
 abbrev pub IsAccepted : List ℕ → Plist → Type 0
 IsAccepted octets v =
     ((begins_as_binary octets ≡ true) × IsBinary octets v) ⊎ ((begins_as_binary octets ≡ false) × IsText octets v)

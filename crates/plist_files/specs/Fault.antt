@@ -35,7 +35,8 @@ code_of fault = number_of (report_of fault).0
 abbrev pub fault_text : Fault → List ℕ
 fault_text fault = report_text (report_of fault)
 
--- the status with which the program ends for a number: 4 where a device failed, 5 where no memory was left, else 2
+-- the status with which the program ends for a number: 4 where a device failed, 5 where no memory
+-- was left, else 2
 abbrev pub status_for : ℕ → ℕ
 status_for code = if (code == 50) || (code == 51) then 4 else (if code == 60 then 5 else 2)
 

@@ -10,7 +10,8 @@ use Rattle.plist_files.specs.Accepted.{IsAccepted, begins_as_binary}
 abbrev pub OneValue : Type 0
 OneValue = (octets : List ℕ) (v w : Plist) → IsAccepted octets v → IsAccepted octets w → v ≡ w
 
--- the canonical file of a value within the limits begins with `bplist`, is accepted, and spells the value
+-- the canonical file of a value within the limits begins with `bplist`, is accepted, and spells the
+-- value
 abbrev pub CanonicalIsAccepted : Type 0
 CanonicalIsAccepted =
     (v : Plist) → IsPlist v → Fits v → (begins_as_binary (canon v) ≡ true) × IsAccepted (canon v) v
@@ -20,8 +21,8 @@ abbrev pub WrittenIsAccepted : Type 0
 WrittenIsAccepted =
     (v : Plist) (octets : List ℕ) → IsPlist v → Fits v → text_of v ≡ Some octets → IsAccepted octets v
 
--- Two canonical files are equal octet for octet exactly if the two values are; each is accepted, spells the value
--- that its source spells, and is its own canonical file.
+-- Two canonical files are equal octet for octet exactly if the two values are; each is accepted,
+-- spells the value that its source spells, and is its own canonical file.
 pub record IsHeadline (v w : Plist) : Type 0 where
   pub equal : (canon v ≡ canon w) ↔ (v ≡ w)
   pub accepted : IsAccepted (canon v) v

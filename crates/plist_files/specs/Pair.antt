@@ -8,7 +8,8 @@ use Rattle.plist_files.specs.Refusals.{IsRefused}
 use Rattle.plist_files.specs.declared.pairs.PairFault.{PairFault}
 use Rattle.plist_files.specs.declared.pairs.PairFault.TheVariants.{First, Second}
 
--- both are accepted, and the answer is whether their values, and so their canonical files, are equal
+-- both are accepted, and the answer is whether their values, and so their canonical files, are
+-- equal
 pub record IsPair (a b : List ℕ) (equal : Bool) : Type 0 where
   pub first : Plist
   pub second : Plist

@@ -15,7 +15,8 @@ pub record IsPrintOf (octets text : List ℕ) : Type 0 where
   pub accepted : IsAccepted octets value
   pub is : text ≡ printed value
 
--- The printed text goes out: all of it, or exactly a front, where the sink failed or memory ran out.
+-- The printed text goes out: all of it, or exactly a front, where the sink failed or memory ran
+-- out.
 pub record IsPrinted (octets : List ℕ) (old new : Option (List ℕ)) (before after : ℕ) (result : Result ℕ Fault) : Type 0 where
   pub text : List ℕ
   pub of : IsPrintOf octets text
@@ -23,7 +24,8 @@ pub record IsPrinted (octets : List ℕ) (old new : Option (List ℕ)) (before a
   pub is : result ≡ answer_of sent
   pub written : IsWritten text old new before after sent
 
--- what is done for octets that are to be printed: they are refused, and nothing goes out, or their text does
+-- what is done for octets that are to be printed: they are refused, and nothing goes out, or their
+-- text does
 abbrev pub Prints : List ℕ → Option (List ℕ) → Option (List ℕ) → ℕ → ℕ → Result ℕ Fault → Type 0
 Prints octets old new before after result =
     IsUnsent (IsRefused octets) old new before after result ⊎ IsPrinted octets old new before after result

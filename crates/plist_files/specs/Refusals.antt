@@ -10,8 +10,9 @@ use Rattle.plist_files.specs.Fault.{code_of}
 use Rattle.plist_files.specs.declared.faults.Fault.{Fault}
 use Rattle.plist_files.specs.declared.faults.Fault.TheVariants.{Binary, Text, NotInOpenStep, ReadFailed, WriteFailed, InputTooLarge, OutOfMemory}
 
--- The fault stands in the octets, at its place, and is of the form that they are read as. A want of memory says nothing
--- of them: it came before anything went out, and is told by its own name, not as a reader's.
+-- The fault stands in the octets, at its place, and is of the form that they are read as. A want of
+-- memory says nothing of them: it came before anything went out, and is told by its own name, not
+-- as a reader's.
 abbrev pub FaultStands : List ℕ → Fault → Type 0
 FaultStands octets (Binary binary.OutOfMemory) = ⊥
 FaultStands octets (Binary fault) = (begins_as_binary octets ≡ true) × of_binary.Stands octets fault
@@ -23,8 +24,8 @@ FaultStands octets ReadFailed = ⊥
 FaultStands octets (WriteFailed sent) = ⊥
 FaultStands octets InputTooLarge = ⊥
 
--- The octets are refused so: the fault stands, and with another number than that of a want of memory no value is
--- spelled.
+-- The octets are refused so: the fault stands, and with another number than that of a want of
+-- memory no value is spelled.
 pub record IsRefused (octets : List ℕ) (fault : Fault) : Type 0 where
   pub stands : FaultStands octets fault
   pub none : code_of fault ≢ 60 → (v : Plist) → IsAccepted octets v → ⊥

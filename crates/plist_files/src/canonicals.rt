@@ -18,8 +18,8 @@ use plist_value::{FixedHasher, Value};
 use std::alloc::Global;
 use std::hash::BuildHasher;
 
-/// The value that the octets spell: those that begin with `bplist` are read as a binary file, and all others
-/// as a text. It is within the limits.
+/// The value that the octets spell: those that begin with `bplist` are read as a binary file, and
+/// all others as a text. It is within the limits.
 ///
 /// # Errors
 ///
@@ -37,7 +37,8 @@ pub fn read_any(alloc: Global, octets: &[u8]) -> Result<Value, Fault>
     }
 }
 
-/// Whether the octets spell a value, which is not made: a text is read into a binary file, and that is judged.
+/// Whether the octets spell a value, which is not made: a text is read into a binary file, and that
+/// is judged.
 ///
 /// # Errors
 ///
@@ -71,8 +72,8 @@ pub(crate) fn file_of_text(alloc: Global, octets: &[u8]) -> Result<Vec<u8>, Faul
     }
 }
 
-/// Why the octets are refused, for whoever knows that they are and not why: what a text was read into may be refused
-/// in its place. Octets that spell a value are `OutOfMemory { sent: 0 }`.
+/// Why the octets are refused, for whoever knows that they are and not why: what a text was read
+/// into may be refused in its place. Octets that spell a value are `OutOfMemory { sent: 0 }`.
 pub fn refusal(alloc: Global, octets: &[u8]) -> Fault
     ensures { IsRefused octets.now result }
 {
@@ -89,8 +90,8 @@ pub fn begins_as_binary(octets: &[u8]) -> bool
     octets.starts_with(b"bplist")
 }
 
-/// The canonical file of the value that the octets spell, which is not made: the canonical file is planned and made
-/// from the binary file, or from the one that a text is read into.
+/// The canonical file of the value that the octets spell, which is not made: the canonical file is
+/// planned and made from the binary file, or from the one that a text is read into.
 ///
 /// # Errors
 ///
@@ -102,9 +103,9 @@ pub fn canonicalise(alloc: Global, octets: &[u8]) -> Result<Vec<u8>, Fault>
     canonicalise_with_hasher(alloc, FixedHasher::new(), octets)
 }
 
-/// The same as [`canonicalise`], where scalars are hashed by what the builder makes. Where somebody else picks the
-/// files, hand it a [`RandomState`](std::hash::RandomState): scalars that were picked to collide under
-/// [`FixedHasher`] cost no more than others then.
+/// The same as [`canonicalise`], where scalars are hashed by what the builder makes. Where somebody
+/// else picks the files, hand it a [`RandomState`](std::hash::RandomState): scalars that were
+/// picked to collide under [`FixedHasher`] cost no more than others then.
 ///
 /// # Errors
 ///
@@ -163,12 +164,13 @@ fn canonicalise_text<S: BuildHasher + Copy>(
     Ok(canonical_of_with_hasher(alloc, hasher, &file, sorted)?)
 }
 
-/// Whether the two octet lists spell equal values, which is whether their canonical files are equal. The
-/// first is read before the second; of equal octets no canonical file is made.
+/// Whether the two octet lists spell equal values, which is whether their canonical files are
+/// equal. The first is read before the second; of equal octets no canonical file is made.
 ///
 /// # Errors
 ///
-/// `First` with the first list's own refusal, `Second` with the second's where the first is accepted.
+/// `First` with the first list's own refusal, `Second` with the second's where the first is
+/// accepted.
 pub fn same_files(alloc: Global, a: &[u8], b: &[u8]) -> Result<bool, PairFault>
     ensures same { IfOk result (λ equal. IsPair a.now b.now equal) }
     ensures refused { IfErr result (IsRefusedPair a.now b.now) }

@@ -59,8 +59,8 @@ impl Fault {
         }
     }
 
-    /// The status with which the program ends: 4 where a device failed (50, 51), 5 where no memory was
-    /// left (60), and 2 for all others.
+    /// The status with which the program ends: 4 where a device failed (50, 51), 5 where no memory
+    /// was left (60), and 2 for all others.
     pub fn status(&self) -> u8
         ensures { result ≡ status_for (code_of self.now) }
     {

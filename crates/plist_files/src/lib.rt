@@ -1,5 +1,5 @@
-//! Property lists as octets: what is loaded from a source, the value that it spells, its canonical file and its
-//! printed text, and every refusal with its number and its printed line.
+//! Property lists as octets: what is loaded from a source, the value that it spells, its canonical
+//! file and its printed text, and every refusal with its number and its printed line.
 #![tactic(auto)]
 
 pub mod canonicals;

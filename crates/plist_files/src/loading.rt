@@ -18,15 +18,16 @@ const TAKE_SIZE: usize = 4096;
 /// Takes octets until the source has no more, and answers them all.
 ///
 /// A failing take is [`Fault::ReadFailed`] at once. More than [`MAX_INPUT`] octets are
-/// [`Fault::InputTooLarge`], and where no memory is left the fault is [`Fault::OutOfMemory`]. After a
-/// refusal the octets that were taken are gone from the source.
+/// [`Fault::InputTooLarge`], and where no memory is left the fault is [`Fault::OutOfMemory`]. After
+/// a refusal the octets that were taken are gone from the source.
 pub fn load<S: Source>(alloc: Global, from: &mut S) -> Result<Vec<u8>, Fault>
     ensures whole { IfOk result (λ octets.
         IfSome (S.remaining from.old) (λ all. octets.items ≡ all)) }
     ensures within { IfOk result (λ octets. vec_len octets ≤ MAX_INPUT) }
     ensures end { OnOk result (IsAtEnd (S.remaining from.new)) }
 
-    // A failure is counted in this call exactly where it is answered; then it is one, and else none.
+    // A failure is counted in this call exactly where it is answered; then it is one, and else
+    // none.
     ensures failed { IsErrOf result Fault.ReadFailed
         ↔ HasFailed (S.failures from.old) (S.failures from.new) }
     ensures at_once { IsErrOf result Fault.ReadFailed

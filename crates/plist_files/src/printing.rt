@@ -15,17 +15,19 @@ use plist_print::print_of;
 use plist_write::WriteFault;
 use std::alloc::Global;
 
-/// Sends the printed text of the value that the octets spell, in either form, and answers how many octets it has.
-/// Two values print the same exactly if they are equal (`plist_print::laws::print_tells_values_apart`).
+/// Sends the printed text of the value that the octets spell, in either form, and answers how many
+/// octets it has. Two values print the same exactly if they are equal
+/// (`plist_print::laws::print_tells_values_apart`).
 ///
-/// All of the octets are read before the first put. What is printed goes out piece by piece, and is never in memory as
-/// a whole. A binary file is printed from its octets, a text from the binary file that it is read into.
+/// All of the octets are read before the first put. What is printed goes out piece by piece, and is
+/// never in memory as a whole. A binary file is printed from its octets, a text from the binary
+/// file that it is read into.
 ///
 /// # Errors
 ///
-/// In this order: those of [`judge_any`]; `WriteFailed` (51) if the sink fails. Out of memory (60) may come before
-/// either of them. After 51 and 60 exactly the first `sent` octets of the printed text went out, and after any other
-/// the sink is untouched.
+/// In this order: those of [`judge_any`]; `WriteFailed` (51) if the sink fails. Out of memory (60)
+/// may come before either of them. After 51 and 60 exactly the first `sent` octets of the printed
+/// text went out, and after any other the sink is untouched.
 pub fn print<W: Sink>(alloc: Global, octets: &[u8], to: &mut W) -> Result<u64, Fault>
     ensures prints { Prints octets.now (W.taken to.old) (W.taken to.new)
         (W.failures to.old) (W.failures to.new) result }

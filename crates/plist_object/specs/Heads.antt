@@ -22,7 +22,8 @@ BeginsScalar (real8 xs) octets = Begins (35 ∷ []) octets
 BeginsScalar (moment xs) octets = Begins (51 ∷ []) octets
 BeginsScalar (bytes xs) octets = Begins (head 4 (length xs)) octets
 
--- the octets begin as the canonical spelling of what they hold: with the marker, and the count or the whole number
+-- the octets begin as the canonical spelling of what they hold: with the marker, and the count or
+-- the whole number
 abbrev pub BeginsCanonically : Held → List ℕ → Type 0
 BeginsCanonically (holds_scalar s) octets = BeginsScalar s octets
 BeginsCanonically (holds_list refs) octets = Begins (head 10 (length refs)) octets

@@ -1,5 +1,5 @@
--- The layout of a binary property list: the header, objects, the offset table, and a trailer of 32 octets
--- (CFBinaryPList.c; the bounds of the numbers are our profile).
+-- The layout of a binary property list: the header, objects, the offset table, and a trailer of 32
+-- octets (CFBinaryPList.c; the bounds of the numbers are our profile).
 use Rattle.std.specs.Prelude.{◌≡◌, ◌≢◌, ℕ, ◌+◌, ◌-◌, ◌*◌, ◌<◌, ◌≤◌, List, [], ◌∷◌, length, take, drop, slice_index}
 use Rattle.byteorder.specs.Endian.{big_number}
 use Rattle.plist_object.specs.declared.layout.LayoutFault.{LayoutFault}

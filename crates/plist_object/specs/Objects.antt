@@ -58,8 +58,8 @@ content unit low octets = do
   parts ← cut (counted.0 * unit) counted.1
   Ok (counted.0, parts.0, parts.1)
 
--- The number in all of the octets: two's complement in eight, else unsigned. Of sixteen octets the first
--- eight are zero.
+-- The number in all of the octets: two's complement in eight, else unsigned. Of sixteen octets the
+-- first eight are zero.
 abbrev pub whole_in : ℕ → List ℕ → Result ℤ ObjectFault
 whole_in n octets =
     if n == 16 then (if big_number 8 octets == 0 then Ok (pos (big_number 8 (drop 8 octets))) else Err WideInteger)
@@ -137,8 +137,8 @@ marked_object width high low octets =
     else (if high == 13 then table_object width low octets
     else Err BadMarker))))))))))
 
--- What the object that begins with these octets holds, and the octets behind it, or its first fault. The
--- octets reach up to the offset table, and references have so many octets.
+-- What the object that begins with these octets holds, and the octets behind it, or its first
+-- fault. The octets reach up to the offset table, and references have so many octets.
 abbrev pub object_in : ℕ → List ℕ → Result (Held × List ℕ) ObjectFault
 object_in width [] = Err CutObject
 object_in width (marker ∷ octets) = marked_object width (marker / 16) (marker % 16) octets

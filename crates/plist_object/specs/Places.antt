@@ -10,8 +10,8 @@ use Rattle.plist_object.specs.declared.object.ObjectFault.TheVariants.{BadOffset
 abbrev pub place_of : List ℕ → ℕ → ℕ
 place_of f i = let x = trailer_of f in big_number x.offset_width (drop (x.table + i * x.offset_width) f)
 
--- the octets from the place of the object i up to the offset table, where it is behind the header and before
--- the offset table
+-- the octets from the place of the object i up to the offset table, where it is behind the header
+-- and before the offset table
 unfoldable pub octets_at : List ℕ → ℕ → Result (List ℕ) ObjectFault
 octets_at f i =
     let place = place_of f i in

@@ -11,8 +11,8 @@ spelling_of width (holds_scalar s) = scalar_spelling s
 spelling_of width (holds_list refs) = list_spelling width refs
 spelling_of width (holds_table keys values) = table_spelling width keys values
 
--- The object i reads, and its octets are the canonical spelling of what it holds, each reference in the file's
--- width of a reference.
+-- The object i reads, and its octets are the canonical spelling of what it holds, each reference in
+-- the file's width of a reference.
 pub record IsShortest (f : List ℕ) (i : ℕ) : Type 0 where
   pub octets : List ℕ
   pub held : Held

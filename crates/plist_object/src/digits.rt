@@ -36,7 +36,8 @@ pub(crate) fn push_number(out: &mut Vec<u8>, n: u64, width: u8)
     }
 }
 
-// The same as `push_number`. A function of its own: to choose among all widths in each caller takes longer.
+// The same as `push_number`. A function of its own: to choose among all widths in each caller takes
+// longer.
 #[inline(never)]
 fn push_uncommon_number(out: &mut Vec<u8>, n: u64, width: u8)
     requires width_least { 1 ≤ width }

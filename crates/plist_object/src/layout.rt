@@ -14,16 +14,16 @@ use plist_value::{Place, Refusal, Report};
 use std::fmt;
 use thiserror::Error;
 
-/// Why octets do not have the layout of a binary property list (CFBinaryPList.c; the bounds and the order
-/// of the tests are our profile).
+/// Why octets do not have the layout of a binary property list (CFBinaryPList.c; the bounds and the
+/// order of the tests are our profile).
 #[derive(Clone, Copy, Debug, PartialEq, Eq, Error)]
 pub enum LayoutFault {
     /// 1: there are fewer than 42 octets.
     TooShort,
     /// 2: the first eight octets are not `bplist00`.
     BadHeader,
-    /// 3: a width is not 1 to 8, or there is no object, or the top object is none of them, or the offset
-    /// table does not lie between the objects and the trailer, as long as it has to be.
+    /// 3: a width is not 1 to 8, or there is no object, or the top object is none of them, or the
+    /// offset table does not lie between the objects and the trailer, as long as it has to be.
     BadTrailer,
 }
 
@@ -192,8 +192,8 @@ impl<'a> BinFile<'a> {
         slack
     }
 
-    /// The place of the object `n`, which is below `count`, in octets from the file's first: the entry of
-    /// the offset table.
+    /// The place of the object `n`, which is below `count`, in octets from the file's first: the
+    /// entry of the offset table.
     pub fn place(&self, n: u64) -> u64
         requires { n < (trailer_of (octets_of self.now)).count }
         ensures { result ≡ place_of (octets_of self.now) n }
@@ -202,8 +202,8 @@ impl<'a> BinFile<'a> {
         number_at(table, usize::from(self.trailer.offset_width), n as usize)
     }
 
-    /// The octet at the place of the object `n`, which is below `count`; or 0 where that is behind the objects. Of an
-    /// object that reads it is the marker.
+    /// The octet at the place of the object `n`, which is below `count`; or 0 where that is behind
+    /// the objects. Of an object that reads it is the marker.
     pub fn marker(&self, n: u64) -> u8
         requires { n < (trailer_of (octets_of self.now)).count }
         ensures { result ≡ marker_at (octets_of self.now) n }
@@ -227,8 +227,8 @@ impl<'a> BinFile<'a> {
         reading::held(octets, self.trailer.reference_width)
     }
 
-    /// The place of the first octet of the object `n`, which is below `count`, and that of the octet behind
-    /// its last; or its first fault.
+    /// The place of the first octet of the object `n`, which is below `count`, and that of the
+    /// octet behind its last; or its first fault.
     #[tactic(auto, unfolding(crate::specs::Places::span_of))]
     pub fn span(&self, n: u64) -> Result<(u64, u64), ObjectFault>
         requires { n < (trailer_of (octets_of self.now)).count }
@@ -241,8 +241,8 @@ impl<'a> BinFile<'a> {
         ))
     }
 
-    /// Whether the octets of the object `n`, which is below `count`, are the canonical spelling of what it
-    /// holds, with the file's width of a reference; or its first fault.
+    /// Whether the octets of the object `n`, which is below `count`, are the canonical spelling of
+    /// what it holds, with the file's width of a reference; or its first fault.
     #[tactic(auto, unfolding(crate::specs::Places::object_at))]
     pub fn is_shortest(&self, n: u64) -> Result<bool, ObjectFault>
         requires { n < (trailer_of (octets_of self.now)).count }

@@ -27,7 +27,8 @@ pub fn width_of(n: u64) -> u8
     }
 }
 
-/// How many octets the canonical spelling of a scalar has. A text or data has below 2^32 units or octets.
+/// How many octets the canonical spelling of a scalar has. A text or data has below 2^32 units or
+/// octets.
 pub fn scalar_length(scalar: &ScalarRef) -> u64
     requires { IsSmall (content_of scalar.now) }
     ensures { result ≡ length (scalar_spelling (content_of scalar.now)) }
@@ -49,8 +50,8 @@ fn fixed_length(octets: &[u8]) -> u64
     1 + octets.len() as u64
 }
 
-/// How many octets a list of so many references, each of so many octets, has. The width is 1, 2, 4 or 8,
-/// and the count below 2^32.
+/// How many octets a list of so many references, each of so many octets, has. The width is 1, 2, 4
+/// or 8, and the count below 2^32.
 pub fn list_length(count: u64, width: u8) -> u64
     requires width { IsWidth width }
     requires count { count < 2 ^ 32 }
@@ -59,8 +60,8 @@ pub fn list_length(count: u64, width: u8) -> u64
     head_length(count) + count * u64::from(width)
 }
 
-/// How many octets a table of so many pairs, with references of so many octets, has. The width is 1, 2, 4
-/// or 8, and the count below 2^32.
+/// How many octets a table of so many pairs, with references of so many octets, has. The width is
+/// 1, 2, 4 or 8, and the count below 2^32.
 pub fn table_length(count: u64, width: u8) -> u64
     requires width { IsWidth width }
     requires count { count < 2 ^ 32 }

@@ -1,5 +1,5 @@
-//! Binary property lists on borrowed octets: the layout of a file, what stands at a place, and the one
-//! canonical spelling of an object.
+//! Binary property lists on borrowed octets: the layout of a file, what stands at a place, and the
+//! one canonical spelling of an object.
 #![tactic(auto)]
 
 mod digits;

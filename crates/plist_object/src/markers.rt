@@ -26,8 +26,8 @@ pub(crate) const SET: u8 = 0xc;
 
 pub(crate) const TABLE: u8 = 0xd;
 
-// Markers that say all but the content: null, false and true, whole numbers of so many octets, reals of four and
-// of eight octets, and dates.
+// Markers that say all but the content: null, false and true, whole numbers of so many octets,
+// reals of four and of eight octets, and dates.
 pub(crate) const NULL: u8 = 0x00;
 
 pub(crate) const FALSE: u8 = 0x08;

@@ -17,8 +17,8 @@ pub enum Object<'a> {
     Table(Refs<'a>, Refs<'a>),
 }
 
-/// Why an object does not read (CFBinaryPList.c). Of several faults the first is given in this order: the
-/// place, the marker, a count behind it, that it is cut, its content (our profile).
+/// Why an object does not read (CFBinaryPList.c). Of several faults the first is given in this
+/// order: the place, the marker, a count behind it, that it is cut, its content (our profile).
 #[derive(Clone, Copy, Debug, PartialEq, Eq, Error)]
 pub enum ObjectFault {
     /// 4: its place is in the header, or not before the offset table.

@@ -21,8 +21,8 @@ use crate::markers::{
 use plist_value::{ScalarRef, TextRef};
 use std::alloc::AllocError;
 
-/// Puts the canonical spelling of a scalar behind the octets of `out`, which stay as they are where there
-/// is no memory. A text or data has below 2^32 units or octets.
+/// Puts the canonical spelling of a scalar behind the octets of `out`, which stay as they are where
+/// there is no memory. A text or data has below 2^32 units or octets.
 pub fn put_scalar(out: &mut Vec<u8>, scalar: &ScalarRef) -> Result<(), AllocError>
     requires { IsSmall (content_of scalar.now) }
     ensures ok { OnOk result
@@ -94,9 +94,9 @@ fn put_data(out: &mut Vec<u8>, octets: &[u8]) -> Result<(), AllocError>
     Ok(())
 }
 
-/// Puts a list, its references in so many octets each, behind the octets of `out`, which stay as they are
-/// where there is no memory. The width is 1, 2, 4 or 8; there are below 2^32 references, and each is below
-/// 256^width.
+/// Puts a list, its references in so many octets each, behind the octets of `out`, which stay as
+/// they are where there is no memory. The width is 1, 2, 4 or 8; there are below 2^32 references,
+/// and each is below 256^width.
 pub fn put_list(out: &mut Vec<u8>, width: u8, refs: &[u64]) -> Result<(), AllocError>
     requires width { IsWidth width }
     requires count { length refs.now < 2 ^ 32 }
@@ -110,8 +110,8 @@ pub fn put_list(out: &mut Vec<u8>, width: u8, refs: &[u64]) -> Result<(), AllocE
 }
 
 /// Puts a table, its references to keys and then those to values in so many octets each, behind the
-/// octets of `out`, which stay as they are where there is no memory. The width is 1, 2, 4 or 8; there are
-/// below 2^32 keys and as many values, and each reference is below 256^width.
+/// octets of `out`, which stay as they are where there is no memory. The width is 1, 2, 4 or 8;
+/// there are below 2^32 keys and as many values, and each reference is below 256^width.
 pub fn put_table(
     out: &mut Vec<u8>,
     width: u8,
@@ -168,8 +168,8 @@ pub fn put_short_table(
     Ok(())
 }
 
-/// Puts how data of so many octets begins, which is all that stands before these octets, behind the octets of
-/// `out`, which stay as they are where there is no memory.
+/// Puts how data of so many octets begins, which is all that stands before these octets, behind the
+/// octets of `out`, which stay as they are where there is no memory.
 pub fn put_data_head(out: &mut Vec<u8>, count: u64) -> Result<(), AllocError>
     ensures ok { OnOk result (out.new.items ≡ out.old.items ++ head 4 count) }
     ensures err { OnErr result (out.new.items ≡ out.old.items) }
@@ -179,8 +179,8 @@ pub fn put_data_head(out: &mut Vec<u8>, count: u64) -> Result<(), AllocError>
     Ok(())
 }
 
-/// Puts the number in so many octets behind the octets of `out`, which stay as they are where there is no
-/// memory. The width is 1, 2, 4 or 8, and the number is below 256^width.
+/// Puts the number in so many octets behind the octets of `out`, which stay as they are where there
+/// is no memory. The width is 1, 2, 4 or 8, and the number is below 256^width.
 pub fn put_number(out: &mut Vec<u8>, width: u8, n: u64) -> Result<(), AllocError>
     requires width { IsWidth width }
     requires fits { n < 256 ^ width }

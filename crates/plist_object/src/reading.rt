@@ -1,5 +1,5 @@
-//! What an object that begins with some octets holds, and the octets behind it. The octets reach up to the
-//! offset table.
+//! What an object that begins with some octets holds, and the octets behind it. The octets reach up
+//! to the offset table.
 ghost use Rattle.std.specs.Prelude.{◌≡◌, ◌≢◌, ◌+◌, ◌*◌, ◌<◌, ◌≤◌, ◌/◌, ◌%◌, length, IfOk};
 ghost use Rattle.byteorder.specs.Endian.{big_number};
 ghost use Rattle.plist_object.specs.Objects.{IsHeld, holds_scalar, cut, integer_length};
@@ -275,8 +275,8 @@ fn wide(octets: &[u8], low: u8) -> Read<'_, Object<'_>>
     Ok((Object::Scalar(ScalarRef::Text(text)), rest))
 }
 
-/// What the object that begins with these octets holds, its references of so many octets each, and the
-/// octets behind it.
+/// What the object that begins with these octets holds, its references of so many octets each, and
+/// the octets behind it.
 #[tactic(auto, unfolding(crate::specs::Objects::marked_object))]
 pub(crate) fn object(octets: &[u8], width: u8) -> Read<'_, Object<'_>>
     requires width_least { 1 ≤ width }
@@ -304,8 +304,8 @@ pub(crate) fn object(octets: &[u8], width: u8) -> Read<'_, Object<'_>>
     }
 }
 
-/// What the object that begins with these octets holds, its references of so many octets each. Each kind is answered
-/// where it is read, which is faster than to take it from `object`.
+/// What the object that begins with these octets holds, its references of so many octets each. Each
+/// kind is answered where it is read, which is faster than to take it from `object`.
 #[tactic(auto, unfolding(crate::specs::Objects::marked_object))]
 pub(crate) fn held(octets: &[u8], width: u8) -> Result<Object<'_>, ObjectFault>
     requires width_least { 1 ≤ width }

@@ -101,7 +101,8 @@ pub(crate) fn number_in(octets: &[u8], width: usize) -> u64
     }
 }
 
-// The same as `number_in`. A function of its own: to choose among all widths in each caller takes longer than to read.
+// The same as `number_in`. A function of its own: to choose among all widths in each caller takes
+// longer than to read.
 #[inline(never)]
 fn uncommon_number_in(octets: &[u8], width: usize) -> u64
     requires width_least { 1 ≤ width }

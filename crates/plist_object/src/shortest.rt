@@ -1,5 +1,5 @@
-//! Whether an object begins as the canonical spelling of what it holds: with the marker, and the count or
-//! the whole number, in the least width.
+//! Whether an object begins as the canonical spelling of what it holds: with the marker, and the
+//! count or the whole number, in the least width.
 ghost use Rattle.std.specs.Prelude.{◌≡◌, ◌<◌, ◌≤◌, ◌^◌, ◌↔◌, ◌+◌, ◌++◌};
 ghost use Rattle.std.specs.Prelude.{IsTrue, length, replicate, take};
 ghost use Rattle.byteorder.specs.Endian.{big_bytes};

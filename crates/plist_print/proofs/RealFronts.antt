@@ -263,7 +263,8 @@ single-format = record { positive = omega arith; halves = halves-4 }
 pub double-format : IsFormat double
 double-format = record { positive = omega arith; halves = halves-8 }
 
--- where printed reals are equal up to what ends digits, whatever their formats, so is what stands behind
+-- where printed reals are equal up to what ends digits, whatever their formats, so is what stands
+-- behind
 record Parts (f g : Format) (xs ys : List ℕ) (x y : List ℕ) : Type 0 where
   signs : nat_le f.sign (big_number f.octets xs) ≡ nat_le g.sign (big_number g.octets ys)
   left : Shape

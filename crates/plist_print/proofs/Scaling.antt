@@ -77,7 +77,8 @@ shortest-scaled k (suc more) digits x pos =
     ∙ ap (λ m. if reads_as x (10 ^ digits) (nearest x (10 ^ digits)) then Some (m, digits) else shortest (scaled k x) more (suc digits)) n
     ∙ ap (λ o. if reads_as x (10 ^ digits) (nearest x (10 ^ digits)) then Some (nearest x (10 ^ digits), digits) else o) rest
 
--- a real by its exponent and its digits, and its neighbours, counted in half of the step to the next
+-- a real by its exponent and its digits, and its neighbours, counted in half of the step to the
+-- next
 two-pow : (q : ℕ) → 2 ^ suc q ≡ 2 * 2 ^ q
 two-pow q = omega arith
 

@@ -3,7 +3,8 @@ use Rattle.std.specs.Prelude.{ℕ, zero, suc, ◌+◌, ◌-◌, ◌*◌, ◌/◌
 use Rattle.byteorder.specs.Endian.{big_number}
 use Rattle.plist_print.specs.Reals.{double, decimal_of, last_digits, printed_real}
 
--- A leap year of the proleptic Gregorian calendar: 4 divides it and, if it is a century, 400 does too.
+-- A leap year of the proleptic Gregorian calendar: 4 divides it and, if it is a century, 400 does
+-- too.
 abbrev pub is_leap : ℕ → Bool
 is_leap year = (year % 4 == 0) && (not (year % 100 == 0) || (year % 400 == 0))
 
@@ -27,11 +28,13 @@ abbrev pub last_such : (ℕ → Bool) → ℕ → ℕ
 last_such passes zero = 0
 last_such passes (suc n) = if passes (suc n) then suc n else last_such passes n
 
--- The year of a day, which is the last year that has begun by then, up to 9999. Day 0 is 0001-01-01.
+-- The year of a day, which is the last year that has begun by then, up to 9999. Day 0 is
+-- 0001-01-01.
 unfoldable pub year_of : ℕ → ℕ
 year_of day = last_such (λ year. nat_le (days_before year) day) 9999
 
--- The month of a day of the year, which is the last month that has begun by then. Day 0 is 1 January.
+-- The month of a day of the year, which is the last month that has begun by then. Day 0 is 1
+-- January.
 unfoldable pub month_of : ℕ → ℕ → ℕ
 month_of year day = last_such (λ month. nat_le (days_of_months year (month - 1)) day) 12
 
@@ -64,7 +67,8 @@ until_2001 = 86400 * days_before 2001
 abbrev pub until_10000 : ℕ
 until_10000 = 86400 * days_before 10000
 
--- seconds before 2001, or since, as seconds after 0001-01-01T00:00:00Z; none outside the years 1 to 9999
+-- seconds before 2001, or since, as seconds after 0001-01-01T00:00:00Z; none outside the years 1 to
+-- 9999
 abbrev pub second_at : Bool → ℕ → Option ℕ
 second_at true seconds = if nat_le seconds until_2001 then Some (until_2001 - seconds) else None
 second_at false seconds =

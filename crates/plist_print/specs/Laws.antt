@@ -7,7 +7,8 @@ use Rattle.plist_print.specs.Printed.{printed, printed_at}
 abbrev pub PrintTellsValuesApart : Type 0
 PrintTellsValuesApart = (v w : Plist) → IsPlist v → IsPlist w → (printed v ≡ printed w) ↔ (v ≡ w)
 
--- where two texts that begin with the prints of two values are the same, so are the values, and what stands behind
+-- where two texts that begin with the prints of two values are the same, so are the values, and
+-- what stands behind
 abbrev pub PrintIsKnownByItsFront : Type 0
 PrintIsKnownByItsFront =
     (level : ℕ) (v w : Plist) (r s : List ℕ) → IsPlist v → IsPlist w → printed_at level v ++ r ≡ printed_at level w ++ s → (v ≡ w) × (r ≡ s)

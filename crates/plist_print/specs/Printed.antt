@@ -24,14 +24,15 @@ abbrev pub indent : ℕ → List ℕ
 indent zero = []
 indent (suc level) = 32 ∷ 32 ∷ indent level
 
--- What stands behind an opening bracket: the closing one, or the lines between them and then the closing one on a
--- line of its own, indented as the line of the opening one.
+-- What stands behind an opening bracket: the closing one, or the lines between them and then the
+-- closing one on a line of its own, indented as the line of the opening one.
 abbrev pub closed : ℕ → ℕ → List ℕ → List ℕ
 closed level close [] = close ∷ 10 ∷ []
 closed level close (c ∷ lines) = 10 ∷ (c ∷ lines) ++ (indent level ++ (close ∷ 10 ∷ []))
 
--- A value up to the end of its last line, whose first line is indented by so many levels and has begun: a list is
--- `[`, a line for each item with its number before it, `]`; a table is `{`, a line for each key and value, `}`.
+-- A value up to the end of its last line, whose first line is indented by so many levels and has
+-- begun: a list is `[`, a line for each item with its number before it, `]`; a table is `{`, a line
+-- for each key and value, `}`.
 abbrev mutual
   pub printed_at : ℕ → Plist → List ℕ
   printed_at level (scalar s) = printed_scalar s ++ codes "\n"

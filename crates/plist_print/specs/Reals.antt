@@ -4,9 +4,9 @@ use Rattle.std.specs.Fmt.{sign_text}
 use Rattle.byteorder.specs.Endian.{big_number}
 use Rattle.plist_print.specs.Units.{printed_data}
 
--- A format: how many octets; the bit of the sign; the least bits of a real with all digits; the bits of infinity;
--- how many of the least reals above 0 make 1; and the exponents of the reals that are printed as decimals, from the
--- first up to but without the second.
+-- A format: how many octets; the bit of the sign; the least bits of a real with all digits; the
+-- bits of infinity; how many of the least reals above 0 make 1; and the exponents of the reals that
+-- are printed as decimals, from the first up to but without the second.
 pub record Format : Type 0 where
   pub octets : ℕ
   pub sign : ℕ
@@ -28,7 +28,8 @@ double = record { octets = 8; sign = 2 ^ 63; hidden = 2 ^ 52; infinite = 0x7ff0_
 unfoldable pub value_of : ℕ → ℕ → ℕ
 value_of hidden bits = if nat_lt bits hidden then bits else (hidden + bits % hidden) * 2 ^ (bits / hidden - 1)
 
--- A real among its neighbours: the next below it, itself, the next above it, and 1, each as a multiple of the same.
+-- A real among its neighbours: the next below it, itself, the next above it, and 1, each as a
+-- multiple of the same.
 pub record Placed : Type 0 where
   pub below : ℕ
   pub here : ℕ
@@ -39,13 +40,14 @@ pub record Placed : Type 0 where
 abbrev pub nearest : Placed → ℕ → ℕ
 nearest x over = (2 * (x.here * over) + x.unit) / (2 * x.unit)
 
--- n / over lies between the middles to the neighbours, so that it reads as the real, and n has at most 128 bits
+-- n / over lies between the middles to the neighbours, so that it reads as the real, and n has at
+-- most 128 bits
 abbrev pub reads_as : Placed → ℕ → ℕ → Bool
 reads_as x over n =
     nat_lt n (2 ^ 128) && (nat_le ((x.below + x.here) * over) (2 * (n * x.unit)) && nat_lt (2 * (n * x.unit)) ((x.here + x.above) * over))
 
--- The decimal of the fewest digits behind the point that reads as the real, as its numerator and how many these are:
--- of the next so many numbers of digits, from the one given on.
+-- The decimal of the fewest digits behind the point that reads as the real, as its numerator and
+-- how many these are: of the next so many numbers of digits, from the one given on.
 abbrev pub shortest : Placed → ℕ → ℕ → Option (ℕ × ℕ)
 shortest x zero digits = None
 shortest x (suc more) digits =

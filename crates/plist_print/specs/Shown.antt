@@ -12,7 +12,8 @@ decimal_in d = (d.numerator, d.digits)
 abbrev pub placed_of : Neighbours → Placed
 placed_of x = record { below = x.below; here = x.here; above = x.above; unit = x.unit }
 
--- a real by its exponent and its digits, and its neighbours, counted in half of the step to the next
+-- a real by its exponent and its digits, and its neighbours, counted in half of the step to the
+-- next
 abbrev pub halved : ℕ → ℕ → ℕ → Placed
 halved hidden t shift = record {
   below = if nat_lt 0 t then 2 * (hidden + t) - 2 else 2 * (hidden + t) - 1;

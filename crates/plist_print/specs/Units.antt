@@ -12,16 +12,16 @@ two_digits x = digit_char (x / 16) ∷ digit_char (x % 16) ∷ []
 abbrev pub printed_data : List ℕ → List ℕ
 printed_data xs = 60 ∷ (flat_map two_digits xs ++ codes ">")
 
--- A unit that is not seen, or that changes how others are seen: control characters, surrogates, direction marks,
--- line and paragraph separators, the byte order mark.
+-- A unit that is not seen, or that changes how others are seen: control characters, surrogates,
+-- direction marks, line and paragraph separators, the byte order mark.
 abbrev pub is_unseen : ℕ → Bool
 is_unseen unit =
     is_control unit || (is_in_range 0xd800 0xdfff unit
     || (is_in_range 0x200e 0x200f unit || (is_in_range 0x2028 0x202e unit
     || (is_in_range 0x2066 0x2069 unit || unit == 0xfeff))))
 
--- A unit that is in no pair: as an escape, as `\U` and four lower-case hexadecimal digits where it is not seen,
--- else as itself in UTF-8.
+-- A unit that is in no pair: as an escape, as `\U` and four lower-case hexadecimal digits where it
+-- is not seen, else as itself in UTF-8.
 unfoldable pub printed_unit : ℕ → List ℕ
 printed_unit unit =
     if unit == 34 then codes "\\\""

@@ -12,7 +12,8 @@ use crate::reals::{decimal_of_double, put_double, put_last_digits};
 use byteorder::{BigEndian, ByteOrder};
 use std::alloc::AllocError;
 
-// Seconds of a day, and from 0001-01-01T00:00:00Z to 2001-01-01T00:00:00Z and to 10000-01-01T00:00:00Z.
+// Seconds of a day, and from 0001-01-01T00:00:00Z to 2001-01-01T00:00:00Z and to
+// 10000-01-01T00:00:00Z.
 const DAY: u64 = 86_400;
 
 const UNTIL_2001: u64 = 63_113_904_000;
@@ -39,7 +40,8 @@ fn put_brackets(out: &mut Vec<u8>, octets: &[u8; 8]) -> Result<(), AllocError>
     Ok(out.push(b')')?)
 }
 
-// The seconds from 0001-01-01T00:00:00Z to a date, if they are whole and it lies in the years 1 to 9999.
+// The seconds from 0001-01-01T00:00:00Z to a date, if they are whole and it lies in the years 1 to
+// 9999.
 fn second_of(octets: &[u8; 8]) -> Option<u64>
     ensures value { result ≡ second_of octets.now }
     ensures within { IfSome result (λ second. second < until_10000) }

@@ -6,8 +6,9 @@ pub fn print_tells_values_apart()
     ensures { PrintTellsValuesApart }
 {}
 
-/// Wherever two printed texts of one level begin, with whatever follows them, they are the same octets up to their
-/// ends exactly if their values are equal: no printed text is the front of another.
+/// Wherever two printed texts of one level begin, with whatever follows them, they are the same
+/// octets up to their ends exactly if their values are equal: no printed text is the front of
+/// another.
 pub fn print_is_known_by_its_front()
     ensures { PrintIsKnownByItsFront }
 {}

@@ -23,8 +23,8 @@ const PIECE: usize = 4096;
 ///
 /// # Errors
 ///
-/// [`WriteFault::WriteFailed`] (51) where the sink fails, and [`WriteFault::OutOfMemory`] (60) where there is no
-/// memory for a piece, or where more than `u64::MAX` octets would go out.
+/// [`WriteFault::WriteFailed`] (51) where the sink fails, and [`WriteFault::OutOfMemory`] (60)
+/// where there is no memory for a piece, or where more than `u64::MAX` octets would go out.
 pub fn print_scalar<W: Sink>(
     scalar: &ScalarRef,
     pending: &mut Pending,

@@ -23,15 +23,15 @@ use plist_object::{BinFile, Object, Refs};
 use plist_write::{Pending, Sink, WriteFault};
 use std::alloc::{AllocError, Global};
 
-/// Sends the printed text of the value that the file spells, object after object, and answers how many octets it
-/// has. Neither that value nor the text is in memory: what is kept is the order of the keys of each table that is
-/// open, and a piece.
+/// Sends the printed text of the value that the file spells, object after object, and answers how
+/// many octets it has. Neither that value nor the text is in memory: what is kept is the order of
+/// the keys of each table that is open, and a piece.
 ///
 /// # Errors
 ///
-/// [`WriteFault::WriteFailed`] (51) where the sink fails, and [`WriteFault::OutOfMemory`] (60) where there is no
-/// memory for the order of a table's keys or for a piece, or where more than `u64::MAX` octets would go out.
-/// Exactly the first `sent` octets of the text went out then.
+/// [`WriteFault::WriteFailed`] (51) where the sink fails, and [`WriteFault::OutOfMemory`] (60)
+/// where there is no memory for the order of a table's keys or for a piece, or where more than
+/// `u64::MAX` octets would go out. Exactly the first `sent` octets of the text went out then.
 pub fn print_of<W: Sink>(alloc: Global, file: &BinFile, out: &mut W) -> Result<u64, WriteFault>
     requires { (v : Plist) × IsBinary (octets_of file.now) v }
     ensures written { (v : Plist) → IsBinary (octets_of file.now) v
@@ -57,8 +57,8 @@ struct Printer<'a> {
 }
 
 impl<'a> Printer<'a> {
-    // Sends the value that the object spells, or has it wait. Its first line is indented by so many levels, and has
-    // begun.
+    // Sends the value that the object spells, or has it wait. Its first line is indented by so many
+    // levels, and has begun.
     #[cycle(print)]
     fn value<W: Sink>(
         &self,
@@ -177,7 +177,8 @@ impl<'a> Printer<'a> {
             (numbers_of values.now) (MAX_DEPTH - (level + 1)) }
         requires ordered { IsOrdered (octets_of self.now.file) order.old }
         ensures goes { (rows : List (ℕ × ℕ)) (ps : Pairs)
-            → SpellTable (octets_of self.now.file) (numbers_of keys.now) (numbers_of values.now) rows ps
+            → SpellTable (octets_of self.now.file) (numbers_of keys.now) (numbers_of values.now)
+            rows ps
             → Goes (printed_at level (table ps)) pending.old pending.new
             (W.taken out.old) (W.taken out.new) (W.failures out.old) (W.failures out.new) result }
         ensures same { W.device out.new ≡ W.device out.old }
@@ -194,7 +195,8 @@ impl<'a> Printer<'a> {
         end_lines(level, b'}', pending, out)
     }
 
-    // The references to the keys in the order of their texts, and then those to their values in the same order.
+    // The references to the keys in the order of their texts, and then those to their values in the
+    // same order.
     fn in_turn(
         &self,
         order: &mut KeyOrder<'a>,
@@ -205,7 +207,8 @@ impl<'a> Printer<'a> {
             (numbers_of values.now) }
         requires ordered { IsOrdered (octets_of self.now.file) order.old }
         ensures turn { IfOk result (λ references. (rows : List (ℕ × ℕ)) (ps : Pairs)
-            → SpellTable (octets_of self.now.file) (numbers_of keys.now) (numbers_of values.now) rows ps
+            → SpellTable (octets_of self.now.file) (numbers_of keys.now) (numbers_of values.now)
+            rows ps
             → references.items ≡ in_turn rows) }
         ensures ordered { OnOk result (IsOrdered (octets_of self.now.file) order.new) }
     {
@@ -214,7 +217,8 @@ impl<'a> Printer<'a> {
         Ok(references)
     }
 
-    // Sends the lines of the pairs that the references spell, those to keys and then those to values, or has them wait.
+    // Sends the lines of the pairs that the references spell, those to keys and then those to
+    // values, or has them wait.
     #[cycle(print)]
     fn pairs<W: Sink>(
         &self,

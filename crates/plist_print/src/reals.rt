@@ -78,7 +78,8 @@ fn placed(hidden: u64, fraction: u64, shift: u32) -> Neighbours
     }
 }
 
-// The next real below one with these digits behind the first: it is half as far where there are none.
+// The next real below one with these digits behind the first: it is half as far where there are
+// none.
 fn below(here: u128, fraction: u64) -> u128
     requires { 2 ≤ here }
     ensures value { result ≡ (if nat_lt 0 fraction then here - 2 else here - 1) }

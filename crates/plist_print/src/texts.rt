@@ -62,7 +62,8 @@ fn digit(value: u8) -> u8
 // So many octets of data are printed at once.
 const CHUNK: usize = 1024;
 
-/// Some of the octets, from the first on, as digits behind what `out` has. It answers those behind them.
+/// Some of the octets, from the first on, as digits behind what `out` has. It answers those behind
+/// them.
 pub(crate) fn put_chunk<'a>(out: &mut Vec<u8>, octets: &'a [u8]) -> Result<&'a [u8], AllocError>
     requires { 0 < length octets.now }
     ensures octets { IfOk result (λ left. Puts out.old.items out.new.items
@@ -74,8 +75,9 @@ pub(crate) fn put_chunk<'a>(out: &mut Vec<u8>, octets: &'a [u8]) -> Result<&'a [
     Ok(left)
 }
 
-/// Some of the units from the place on, behind what `out` has: a run of those that are printed as they are, if the text
-/// is kept as ASCII, else one unit, or the two of a pair. It answers the place behind them.
+/// Some of the units from the place on, behind what `out` has: a run of those that are printed as
+/// they are, if the text is kept as ASCII, else one unit, or the two of a pair. It answers the
+/// place behind them.
 pub(crate) fn put_some(out: &mut Vec<u8>, text: &TextRef, place: usize) -> Result<usize, AllocError>
     requires { place < length (units_of text.now) }
     ensures octets { IfOk result (λ next. Puts out.old.items out.new.items
@@ -127,8 +129,8 @@ fn is_plain(octet: u8) -> bool
     true
 }
 
-// The unit at the place, with the one behind it if the two are a pair, behind what `out` has. It answers the place
-// behind them.
+// The unit at the place, with the one behind it if the two are a pair, behind what `out` has. It
+// answers the place behind them.
 fn put_unit(out: &mut Vec<u8>, text: &TextRef, place: usize) -> Result<usize, AllocError>
     requires { place < length (units_of text.now) }
     ensures octets { IfOk result (λ next. Puts out.old.items out.new.items

@@ -8,8 +8,8 @@ use Rattle.plist_program.specs.Answer.{Said}
 abbrev pub IsCut : Option (List ℕ) → Option (List ℕ) → List ℕ → Type 0
 IsCut old new text = (sent : ℕ) × (sent < length text) × Appends old new (take sent text)
 
--- A text that is printed ends with its status where it went out whole; else the device failed, once, and exactly a front
--- of it went out.
+-- A text that is printed ends with its status where it went out whole; else the device failed,
+-- once, and exactly a front of it went out.
 abbrev pub Prints : Option (List ℕ) → Option (List ℕ) → ℕ → ℕ → Said → ℕ → Type 0
 Prints old new before after s status =
     ((status ≡ s.status) × Appends old new s.text × (after ≡ before))

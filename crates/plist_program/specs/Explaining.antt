@@ -21,8 +21,8 @@ status_of_kind _ = 3
 abbrev pub said_of_kind : List ℕ → ErrorKind → Said
 said_of_kind text error = record { text = text; status = status_of_kind error }
 
--- A text for an error with this status: some text, and for a mistake in the words one that says that it is an error.
--- There is none for a want of memory.
+-- A text for an error with this status: some text, and for a mistake in the words one that says
+-- that it is an error. There is none for a want of memory.
 pub record IsExplanation (status : ℕ) (text : List ℕ) : Type 0 where
   pub memory : status ≢ 5
   pub some : text ≢ []
@@ -34,14 +34,15 @@ pub record IsTold (error : ErrorKind) (old new : Option (List ℕ)) (before afte
   pub explains : IsExplanation (status_of_kind error) text
   pub prints : Prints old new before after (said_of_kind text error) status
 
--- What is printed for an error: a text for it, or that no memory was left. It is that, where the error is a want of
--- memory.
+-- What is printed for an error: a text for it, or that no memory was left. It is that, where the
+-- error is a want of memory.
 abbrev pub Explains : ErrorKind → Option (List ℕ) → Option (List ℕ) → ℕ → ℕ → ℕ → Type 0
 Explains error old new before after status =
     IsTold error old new before after status ⊎ Prints old new before after no_memory status
 
--- The words are refused, or ask for help, by an error of one of the kinds that the parser has for them; the files are
--- as they were. It is want of memory, where the parser takes them and they ask for something.
+-- The words are refused, or ask for help, by an error of one of the kinds that the parser has for
+-- them; the files are as they were. It is want of memory, where the parser takes them and they ask
+-- for something.
 pub record IsExplained (words : List Text) (before after : State) (status : ℕ) : Type 0 where
   pub kinds : Kinds
   pub asked : Option Asked

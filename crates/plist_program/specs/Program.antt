@@ -57,8 +57,8 @@ abbrev pub IsRun : List Text → Input → Input → State → State → ℕ →
 IsRun words input rest before after status =
     IsObeyed words input rest before after status ⊎ IsRefusedRun words input rest before after status
 
--- A device of the call failed: the count of the input's failures, of the files' or of the output's rose, or stands at
--- the greatest.
+-- A device of the call failed: the count of the input's failures, of the files' or of the output's
+-- rose, or stands at the greatest.
 abbrev pub DeviceFailed : Input → Input → State → State → Type 0
 DeviceFailed input rest before after =
     HaveFailed input.failures rest.failures

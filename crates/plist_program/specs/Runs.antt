@@ -79,14 +79,15 @@ IsSameRun first second before after status =
     IsUnread first before after status ⊎ (IsSecondUnread first second before after status
     ⊎ (IsCompared first second before after status ⊎ IsWanting before after status))
 
--- how the program ends when so much of a file was sent: nothing more is printed behind the whole, else the line of the
--- refusal
+-- how the program ends when so much of a file was sent: nothing more is printed behind the whole,
+-- else the line of the refusal
 abbrev pub EndsSending : Option (List ℕ) → Option (List ℕ) → ℕ → ℕ → (WriteFault → Said) → Result ℕ WriteFault → ℕ → Type 0
 EndsSending old new before after line result status = MatchResult result
     (λ _. (status ≡ 0) × (new ≡ old) × (after ≡ before))
     (λ fault. Ends old new before after (line fault) status)
 
--- the path under which a refusal of a conversion is told: OUT where that cannot be written, and else IN
+-- the path under which a refusal of a conversion is told: OUT where that cannot be written, and
+-- else IN
 abbrev pub path_of_fault : FileName → FileName → Fault → FileName
 path_of_fault from to (refusal_kind.WriteFailed sent) = to
 path_of_fault from to _ = from
@@ -120,8 +121,9 @@ IsConvertRun form from to before after status =
 abbrev pub standard : FileName
 standard = codes "-"
 
--- The printed text of what stands at the path goes out, all of it or exactly a front, where printing failed or memory
--- ran out; and behind it, from what was printed and the failures of printing by then, the line of that.
+-- The printed text of what stands at the path goes out, all of it or exactly a front, where
+-- printing failed or memory ran out; and behind it, from what was printed and the failures of
+-- printing by then, the line of that.
 pub record IsPrintedRun (path : FileName) (before after : State) (status : ℕ) : Type 0 where
   pub octets : List ℕ
   pub stands : Holds before.files path octets
@@ -146,7 +148,8 @@ pub record IsTaken (input rest : Input) (octets : List ℕ) : Type 0 where
   pub all : IsInput input.to_come rest.to_come octets
   pub unfailed : rest.failures ≡ input.failures
 
--- why the input was not loaded: a take failed, once; or more than the greatest input was taken; or there was no memory
+-- why the input was not loaded: a take failed, once; or more than the greatest input was taken; or
+-- there was no memory
 abbrev pub IsUntaken : Input → Input → Fault → Type 0
 IsUntaken input rest refusal_kind.ReadFailed = rest.failures ≡ one_more input.failures
 IsUntaken input rest refusal_kind.InputTooLarge =
@@ -165,8 +168,9 @@ pub record IsUnfiltered (input rest : Input) (before after : State) (status : �
   pub cause : IsInputFault input rest fault
   pub ends : Ending before after (refusal standard fault) status
 
--- The canonical file of the input goes out, all of it or exactly a front, where printing failed or memory was wanting;
--- and behind it, from what was printed and the failures of printing by then, the line of that.
+-- The canonical file of the input goes out, all of it or exactly a front, where printing failed or
+-- memory was wanting; and behind it, from what was printed and the failures of printing by then,
+-- the line of that.
 pub record IsFiltered (input rest : Input) (before after : State) (status : ℕ) : Type 0 where
   pub octets : List ℕ
   pub taken : IsTaken input rest octets

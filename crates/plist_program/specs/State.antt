@@ -1,4 +1,5 @@
--- What the program sees and changes: files, standard output and the failures of both, and standard input.
+-- What the program sees and changes: files, standard output and the failures of both, and standard
+-- input.
 use Rattle.std.specs.Prelude.{ℕ, List, Option}
 use Rattle.plist_disk.specs.Files.{Files}
 use Rattle.plist_program.specs.Answer.{Said}

@@ -17,9 +17,9 @@ pub struct Answer {
     pub status: Status,
 }
 
-/// What `check` answers for these octets, which stand at the path: `canonical` and 0 exactly for the
-/// canonical file of a value within the limits; `broken C7 at object 0` and 1 with a rule that is false; the
-/// line of a refusal where the octets do not have the layout.
+/// What `check` answers for these octets, which stand at the path: `canonical` and 0 exactly for
+/// the canonical file of a value within the limits; `broken C7 at object 0` and 1 with a rule that
+/// is false; the line of a refusal where the octets do not have the layout.
 ///
 /// # Errors
 ///
@@ -30,9 +30,9 @@ pub fn check_answer(alloc: Global, path: &str, octets: &[u8]) -> Result<Answer, 
     check_answer_with_hasher(alloc, FixedHasher::new(), path, octets)
 }
 
-/// The same as [`check_answer`], where scalars are hashed by what the builder makes. Where somebody else picks the
-/// octets, hand it a [`RandomState`](std::hash::RandomState): scalars that were picked to collide under
-/// [`FixedHasher`] cost no more than others then.
+/// The same as [`check_answer`], where scalars are hashed by what the builder makes. Where somebody
+/// else picks the octets, hand it a [`RandomState`](std::hash::RandomState): scalars that were
+/// picked to collide under [`FixedHasher`] cost no more than others then.
 ///
 /// # Errors
 ///
@@ -54,8 +54,8 @@ pub fn check_answer_with_hasher<H: BuildHasher + Copy>(
     }
 }
 
-/// What `lint` answers for these octets, which stand at the path: `PATH: OK` and 0 where they are accepted,
-/// else the line of a fault that stands in them.
+/// What `lint` answers for these octets, which stand at the path: `PATH: OK` and 0 where they are
+/// accepted, else the line of a fault that stands in them.
 ///
 /// # Errors
 ///
@@ -69,9 +69,9 @@ pub fn lint_answer(alloc: Global, path: &str, octets: &[u8]) -> Result<Answer, A
     }
 }
 
-/// What `same` answers for the octets of two files: `equal` and 0 exactly where they spell equal values,
-/// `different` and 1 where they spell others, and the line of a refusal under the path of the file that is
-/// refused, the second only where the first is accepted.
+/// What `same` answers for the octets of two files: `equal` and 0 exactly where they spell equal
+/// values, `different` and 1 where they spell others, and the line of a refusal under the path of
+/// the file that is refused, the second only where the first is accepted.
 ///
 /// # Errors
 ///

@@ -17,13 +17,14 @@ use std::io::{Read, Write};
 use std::random::RandomSource;
 use std::rt::Files;
 
-/// The whole program over the files of the host: reads the words, of which the first is the program's name,
-/// does what they ask, and answers the exit status: 0 where it is done, 1 where two values differ or a file
-/// that was checked is not canonical, 2 where a file is refused, 3 where the words are not understood, 4
-/// where a file cannot be read or written or a line cannot be printed, 5 where no memory is left.
+/// The whole program over the files of the host: reads the words, of which the first is the
+/// program's name, does what they ask, and answers the exit status: 0 where it is done, 1 where two
+/// values differ or a file that was checked is not canonical, 2 where a file is refused, 3 where
+/// the words are not understood, 4 where a file cannot be read or written or a line cannot be
+/// printed, 5 where no memory is left.
 ///
-/// `input` and `output` are standard input and standard output. Answers, refusals and the texts of `clap`
-/// are printed on `output`.
+/// `input` and `output` are standard input and standard output. Answers, refusals and the texts of
+/// `clap` are printed on `output`.
 pub fn run<R: Files, I: Read, O: Write>(
     rt: &R,
     alloc: Global,
@@ -47,8 +48,9 @@ pub fn run<R: Files, I: Read, O: Write>(
     )
 }
 
-/// [`run`], where scalars are hashed by a [`RandomState`] that is made once, so that nobody can pick some that collide;
-/// if the system gives no random octets, by the fixed builder. What is answered is the same. It is what `main` calls.
+/// [`run`], where scalars are hashed by a [`RandomState`] that is made once, so that nobody can
+/// pick some that collide; if the system gives no random octets, by the fixed builder. What is
+/// answered is the same. It is what `main` calls.
 pub fn run_to_end<R: Files + RandomSource, I: Read, O: Write>(
     rt: &R,
     alloc: Global,
@@ -119,9 +121,10 @@ pub fn run_on<D: Disk, S: Source, W: Sink>(
     run_on_with_hasher(alloc, FixedHasher::new(), disk, words, input, output)
 }
 
-/// The same as [`run_on`], where scalars are hashed by what the builder makes. Where somebody else picks what is
-/// converted, compared or checked, hand it a [`RandomState`]: scalars that were picked to collide under
-/// [`FixedHasher`] cost no more than others then. What is stored the disk converts, by a builder of its own.
+/// The same as [`run_on`], where scalars are hashed by what the builder makes. Where somebody else
+/// picks what is converted, compared or checked, hand it a [`RandomState`]: scalars that were
+/// picked to collide under [`FixedHasher`] cost no more than others then. What is stored the disk
+/// converts, by a builder of its own.
 pub fn run_on_with_hasher<H: BuildHasher + Copy, D: Disk, S: Source, W: Sink>(
     alloc: Global,
     hasher: H,

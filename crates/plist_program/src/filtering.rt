@@ -14,8 +14,8 @@ use std::hash::BuildHasher;
 /// The path that stands for standard input and standard output in a line.
 pub(crate) const STANDARD: &str = "-";
 
-/// The canonical file of the input, to the output, object after object. All of the input is read before the
-/// first octet goes out. Scalars are hashed by what the builder makes.
+/// The canonical file of the input, to the output, object after object. All of the input is read
+/// before the first octet goes out. Scalars are hashed by what the builder makes.
 pub(crate) fn filter<H: BuildHasher + Copy, S: Source, W: Sink>(
     alloc: Global,
     hasher: H,

@@ -1,5 +1,5 @@
-//! What the program `plistconv` does, over any disk, input and output: for each word what is answered for
-//! the octets that were loaded, and the whole program.
+//! What the program `plistconv` does, over any disk, input and output: for each word what is
+//! answered for the octets that were loaded, and the whole program.
 #![tactic(auto)]
 
 pub mod answers;

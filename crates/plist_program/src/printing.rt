@@ -14,8 +14,8 @@ use plist_devices::Sink;
 use plist_files::{Fault, Status};
 use std::alloc::{AllocError, Global};
 
-/// Prints all octets, and counts what went out: [`Fault::WriteFailed`] tells how many were printed before
-/// the device failed.
+/// Prints all octets, and counts what went out: [`Fault::WriteFailed`] tells how many were printed
+/// before the device failed.
 pub(crate) fn send<W: Sink>(output: &mut W, octets: &[u8]) -> Result<(), Fault>
     ensures ok { OnOk result (Appends (W.taken output.old) (W.taken output.new) octets.now
         × (W.failures output.new ≡ W.failures output.old)) }
@@ -88,8 +88,8 @@ pub(crate) fn explain<W: Sink>(alloc: Global, error: &Error, output: &mut W) -> 
     }
 }
 
-/// Whether the text can be one of `clap`'s for an error with this status: that of a mistake says that it is an error.
-/// Where no memory was left, there is none.
+/// Whether the text can be one of `clap`'s for an error with this status: that of a mistake says
+/// that it is an error. Where no memory was left, there is none.
 fn explains(text: &str, status: Status) -> bool
     ensures { IsTrue result → IsExplanation (status_code status) text.now }
 {

@@ -1,6 +1,7 @@
 //! What each word of the program does with the files that it names.
 ghost use Rattle.std.specs.Prelude.{◌≡◌};
-ghost use Rattle.plist_program.specs.Runs.{IsCheckRun, IsConvertRun, IsLintRun, IsPrintRun, IsSameRun};
+ghost use Rattle.plist_program.specs.Runs.{IsCheckRun, IsConvertRun, IsLintRun, IsPrintRun};
+ghost use Rattle.plist_program.specs.Runs.{IsSameRun};
 ghost use Rattle.plist_program.specs.Runs.{path_of_fault};
 ghost use Rattle.plist_program.specs.State.{state};
 
@@ -89,8 +90,8 @@ pub(crate) fn compare_files<H: BuildHasher + Copy, D: Disk, W: Sink>(
     }
 }
 
-/// `convert FORM IN OUT`: OUT is created or emptied when the first octet goes to it, and so not where IN is
-/// refused.
+/// `convert FORM IN OUT`: OUT is created or emptied when the first octet goes to it, and so not
+/// where IN is refused.
 pub(crate) fn convert_file<D: Disk, W: Sink>(
     alloc: Global,
     disk: &mut D,
@@ -117,7 +118,8 @@ pub(crate) fn convert_file<D: Disk, W: Sink>(
     }
 }
 
-/// `print IN`: the printed text of the value, object after object. Nothing of it goes out unless IN is accepted.
+/// `print IN`: the printed text of the value, object after object. Nothing of it goes out unless IN
+/// is accepted.
 pub(crate) fn print_file<D: Disk, W: Sink>(
     alloc: Global,
     disk: &mut D,

@@ -29,8 +29,8 @@ pub struct Keys<'a> {
 }
 
 impl<'a> Keys<'a> {
-    /// The keys of the tables up to the last object. It ends before at the first object that does not read, at
-    /// the first key that is no text, and where the texts overlap.
+    /// The keys of the tables up to the last object. It ends before at the first object that does
+    /// not read, at the first key that is no text, and where the texts overlap.
     pub fn of_tables(alloc: Global, file: &BinFile<'a>, last: u64) -> Result<Keys<'a>, AllocError>
         ensures { IfOk result (λ keys. AreKeys (octets_of file.now) keys) }
     {
@@ -43,7 +43,8 @@ impl<'a> Keys<'a> {
         Ok(keys)
     }
 
-    /// The keys of all tables that read. It ends before the last where so much was read that objects overlap.
+    /// The keys of all tables that read. It ends before the last where so much was read that
+    /// objects overlap.
     pub fn of_file(alloc: Global, file: &BinFile<'a>) -> Result<Keys<'a>, AllocError>
         ensures { IfOk result (λ keys. AreKeys (octets_of file.now) keys) }
     {
@@ -148,8 +149,8 @@ impl<'a> Keys<'a> {
         Ok(!self.overlap())
     }
 
-    /// Whether more was read than the part of the file before the offset table holds, which only texts that
-    /// overlap can be.
+    /// Whether more was read than the part of the file before the offset table holds, which only
+    /// texts that overlap can be.
     pub fn overlap(&self) -> bool
         ensures { result ≡ is_none self.now.room }
     {

@@ -9,8 +9,8 @@ use plist_object::BinFile;
 use plist_value::TextRef;
 use std::alloc::{AllocError, Global};
 
-/// The ranks of some objects that hold texts: equal texts have one rank, and a lower text has a lower one.
-/// Which objects have a rank is not said: it is a memo.
+/// The ranks of some objects that hold texts: equal texts have one rank, and a lower text has a
+/// lower one. Which objects have a rank is not said: it is a memo.
 #[derive(Drop)]
 pub struct Ranks<'a> {
     of_objects: Vec<Option<u64>>,

@@ -2,8 +2,8 @@
 
 use plist_object::Refs;
 
-/// The references to the keys of a table, and their places among these references, counted from 0, in the order
-/// of the texts that they name. Contracts say of which file.
+/// The references to the keys of a table, and their places among these references, counted from 0,
+/// in the order of the texts that they name. Contracts say of which file.
 #[derive(Drop)]
 pub struct SortedKeys<'a> {
     pub refs: Refs<'a>,

@@ -1,5 +1,5 @@
-//! Texts that are read straight into binary files. Where such a file is accepted, its canonical file is the
-//! text's; where there is none, or it is refused, the text is refused.
+//! Texts that are read straight into binary files. Where such a file is accepted, its canonical
+//! file is the text's; where there is none, or it is refused, the text is refused.
 use crate::engine::canonical_file;
 use crate::texts::{SMALL_TEXTS, nested};
 use ostep_draft::draft_text;
@@ -49,8 +49,8 @@ fn prefixes_of_texts(rt: HostRuntime) -> Result<(), Fail> {
     Ok(())
 }
 
-// Texts that open so many lists and tables: lists, tables, tables with lists in them, and tables in one without
-// braces.
+// Texts that open so many lists and tables: lists, tables, tables with lists in them, and tables in
+// one without braces.
 fn deep_texts(alloc: Global, count: usize) -> Result<[Vec<u8>; 4], AllocError> {
     Ok([
         nested(alloc, b"(", b"a", b")", count)?,

@@ -1,4 +1,5 @@
-//! Drafts: their files octet by octet, the values that are read back, and that a refused put leaves a draft.
+//! Drafts: their files octet by octet, the values that are read back, and that a refused put leaves
+//! a draft.
 use ostep_text::read_text;
 use plist_binary::read;
 use plist_draft::{Draft, put_value};

@@ -92,8 +92,9 @@ fn each_rotation_has_one_file(rt: HostRuntime) -> Result<(), Fail> {
     Ok(())
 }
 
-// Two long data, equal or apart in the last octet, and more of one length than are told apart without a hash,
-// with repeats: the list of a file and the last octets of its data, and then those of the canonical file.
+// Two long data, equal or apart in the last octet, and more of one length than are told apart
+// without a hash, with repeats: the list of a file and the last octets of its data, and then those
+// of the canonical file.
 const LONG: [[&[u8]; 4]; 3] = [
     [&[0xa2, 1, 2], &[7, 7], &[0xa2, 1, 1], &[7]],
     [&[0xa2, 1, 2], &[7, 8], &[0xa2, 1, 2], &[7, 8]],
@@ -147,8 +148,8 @@ fn long_data_share_objects_where_all_octets_are_equal(rt: HostRuntime) -> Result
     Ok(())
 }
 
-// The file of a list of 10,000 numbers, those below 5,000 twice, in so many objects: where there are more than
-// 5,000, these numbers are spelled once more, in four octets.
+// The file of a list of 10,000 numbers, those below 5,000 twice, in so many objects: where there
+// are more than 5,000, these numbers are spelled once more, in four octets.
 fn file_of_numbers(alloc: Global, objects: u16) -> Result<Vec<u8>, AllocError> {
     let mut list = Vec::from_slice(alloc, &[0xaf, 0x11, 0x27, 0x10])?;
     for place in 0..10_000u16 {

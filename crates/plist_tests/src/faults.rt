@@ -1,5 +1,5 @@
-//! Each variant of each fault type, by its number and what is printed of it. A match has no wildcard, so that a variant
-//! that is missing, or one more, does not compile.
+//! Each variant of each fault type, by its number and what is printed of it. A match has no
+//! wildcard, so that a variant that is missing, or one more, does not compile.
 use ostep_lex::LexFault;
 use ostep_text::{TextFault, TextWriteFault};
 use plist_binary::BinaryFault;

@@ -105,8 +105,8 @@ pub(crate) fn small_files(alloc: Global) -> Result<Vec<Vec<u8>>, AllocError> {
     for (objects, width) in TOGETHER {
         files.push(file_of(alloc, objects, width)?)?;
     }
-    // Two texts of which one lies in the other, an object in the header, and a trailer that does not begin
-    // with zeros.
+    // Two texts of which one lies in the other, an object in the header, and a trailer that does
+    // not begin with zeros.
     files.push(file(alloc, b"\xa2\x01\x02RQa", &[8, 11, 12], 1)?)?;
     files.push(file(alloc, b"\x09", &[7], 1)?)?;
     files.push(marked(alloc)?)?;
@@ -141,8 +141,8 @@ fn zeros(alloc: Global, count: u8, offset_width: u8) -> Result<Vec<u8>, AllocErr
     draft.finish(offset_width, 1)
 }
 
-/// Canonical files of 288 to 2,598 octets: of 255 and 256 objects, of data just below and at the place 256,
-/// and of lists 512 deep.
+/// Canonical files of 288 to 2,598 octets: of 255 and 256 objects, of data just below and at the
+/// place 256, and of lists 512 deep.
 pub(crate) fn long_files(alloc: Global) -> Result<Vec<Vec<u8>>, AllocError> {
     let mut files = Vec::new(alloc);
     files.push(numbers(alloc, 254, 1)?)?;

@@ -229,7 +229,8 @@ fn long_text(alloc: Global) -> Result<Vec<u8>, Fail> {
     Ok(text)
 }
 
-/// A file of more octets than are gathered before they are written, of objects of a few octets each.
+/// A file of more octets than are gathered before they are written, of objects of a few octets
+/// each.
 #[test]
 fn writes_a_long_file(rt: HostRuntime) -> Result<(), Fail> {
     let text = long_text(rt.alloc())?;

@@ -1,4 +1,5 @@
-//! The judge and the reader where no row of octets shows them: keys that many tables share, and want of memory.
+//! The judge and the reader where no row of octets shows them: keys that many tables share, and
+//! want of memory.
 use plist_binary::{BinaryFault, judge, judge_keys, read};
 use plist_canon::{CheckFault, check};
 use std::alloc::{AllocError, Global};
@@ -8,9 +9,9 @@ use test_files::Draft;
 // A flag, and the three objects that no table names.
 const LAST_OBJECTS: [&[u8]; 4] = [b"\x09", b"\xd2\x1b\x1c\x19\x19", b"\x00", b"Q\xff"];
 
-// A list of twenty tables, all with two keys of forty units: objects 21 and this one. Objects 22 and 23 differ
-// from 21 in their last unit, and 24 does not. No table names the three objects after it, two of which do not
-// read.
+// A list of twenty tables, all with two keys of forty units: objects 21 and this one. Objects 22
+// and 23 differ from 21 in their last unit, and 24 does not. No table names the three objects after
+// it, two of which do not read.
 fn tables_that_share_keys(alloc: Global, second: u8) -> Result<Vec<u8>, AllocError> {
     let mut draft = Draft::new(alloc)?;
     let mut list = Vec::from_slice(alloc, &[0xaf, 0x10, 20])?;
@@ -60,8 +61,8 @@ fn keys_that_many_tables_share(rt: HostRuntime) -> Result<(), Fail> {
     Ok(())
 }
 
-// A text of so many units that all keys share, and one or two behind them: texts that ascend with the number. The
-// units rise from 88 to 107 in ASCII, and from 245 to 264.
+// A text of so many units that all keys share, and one or two behind them: texts that ascend with
+// the number. The units rise from 88 to 107 in ASCII, and from 245 to 264.
 fn key(alloc: Global, front: u8, number: u8) -> Result<Vec<u8>, AllocError> {
     let step = number / 2;
     let ascii = step < 20;
@@ -135,8 +136,9 @@ fn keys_of_a_long_table(rt: HostRuntime) -> Result<(), Fail> {
     Ok(())
 }
 
-// Two references to one empty list; a table with its keys not in order; a list that holds itself. As literals,
-// so that each allocation is one of the calls'. With the number of the refusal, 0 where there is none.
+// Two references to one empty list; a table with its keys not in order; a list that holds itself.
+// As literals, so that each allocation is one of the calls'. With the number of the refusal, 0
+// where there is none.
 const FILES: [(&[u8], u8); 3] = [
     (
         b"bplist00\xa2\x01\x01\xa0\x08\x0b\0\0\0\0\0\0\x01\x01\0\0\0\0\0\0\0\x02\0\0\0\0\0\0\0\

@@ -1,6 +1,7 @@
-//! All tests of what no row of `rows` spells: files that are made, devices that fail, each prefix of small files
-//! and texts, deep texts, want of memory, and the program over the files of the host and over a disk in memory.
-//! They stand in one crate, since a crate of tests loads the proofs of all that is below it.
+//! All tests of what no row of `rows` spells: files that are made, devices that fail, each prefix
+//! of small files and texts, deep texts, want of memory, and the program over the files of the host
+//! and over a disk in memory. They stand in one crate, since a crate of tests loads the proofs of
+//! all that is below it.
 #![tactic(auto)]
 
 #[cfg(test)]

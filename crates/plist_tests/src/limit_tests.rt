@@ -1,5 +1,5 @@
-//! Files that are made: the limits on depth, nodes and payload, as the judge, the reader and the check have them,
-//! and the widths of references and offsets.
+//! Files that are made: the limits on depth, nodes and payload, as the judge, the reader and the
+//! check have them, and the widths of references and offsets.
 use crate::engine::canonical_file;
 use crate::values::made;
 use plist_binary::{BinaryFault, judge, read};
@@ -78,7 +78,8 @@ fn heavy_keys(alloc: Global, last: u8) -> Result<Vec<u8>, AllocError> {
     draft.finish(4, 1)
 }
 
-// The list of the texts of the numbers below the count, of three digits each, with references of this width.
+// The list of the texts of the numbers below the count, of three digits each, with references of
+// this width.
 fn numbers(alloc: Global, count: u8, width: u8) -> Result<Vec<u8>, AllocError> {
     let mut list = Vec::from_slice(alloc, &[0xaf, 0x10, count])?;
     for number in 1..=u64::from(count) {
@@ -156,7 +157,8 @@ enum Answer {
     Refused(BinaryFault),
     /// All accept it, and it is the canonical file of the value that is read.
     Read,
-    /// It is accepted, and its own canonical file. Its value is not read here, since it takes much memory.
+    /// It is accepted, and its own canonical file. Its value is not read here, since it takes much
+    /// memory.
     Judged,
 }
 

@@ -9,7 +9,8 @@ use std::alloc::{AllocError, Global};
 use std::hash::{BuildHasher, RandomState};
 use std::test::Fail;
 
-// The status of a run and its output, where the input gives these octets, and fails at the take of this number.
+// The status of a run and its output, where the input gives these octets, and fails at the take of
+// this number.
 fn ran(
     alloc: Global,
     disk: &mut MemoryDisk,
@@ -39,7 +40,8 @@ const RUNS: [(&str, &str, u8); 8] = [
     ),
 ];
 
-// The words of the first run that is answered otherwise, where scalars are hashed by what the builder makes.
+// The words of the first run that is answered otherwise, where scalars are hashed by what the
+// builder makes.
 fn wrong<H: BuildHasher + Copy>(
     alloc: Global,
     hasher: H,

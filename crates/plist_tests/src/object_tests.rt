@@ -39,7 +39,8 @@ fn widths_and_lengths(rt: HostRuntime) -> Result<(), Fail> {
     Ok(())
 }
 
-// A list that names one empty list twice. The second offset is that of the offset table in the second file.
+// A list that names one empty list twice. The second offset is that of the offset table in the
+// second file.
 const LISTS: &[u8] = b"bplist00\xa2\x01\x01\xa0\x08\x0b\0\0\0\0\0\0\x01\x01\0\0\0\0\0\0\0\x02\
                        \0\0\0\0\0\0\0\0\0\0\0\0\0\0\0\x0c";
 
@@ -63,8 +64,8 @@ fn markers_of_objects(rt: HostRuntime) -> Result<(), Fail> {
     Ok(())
 }
 
-// Whether these octets stand in a list that held aa before the put. A refused put is an error, if the list holds
-// aa alone.
+// Whether these octets stand in a list that held aa before the put. A refused put is an error, if
+// the list holds aa alone.
 fn is_put(put: Result<(), AllocError>, out: &[u8], octets: &[u8]) -> Result<bool, AllocError> {
     match put {
         Ok(()) => Ok(out == octets),

@@ -24,9 +24,9 @@ fn lexed(alloc: Global, octets: &[u8]) -> u8 {
     tokens(alloc, octets).err().map_or(0, |fault| fault.code())
 }
 
-// Whether each refusal is one of those that its call may give. What begins as a binary file is too short
-// below 42 octets, and its layout is refused by the reader as it is by the check. A text without tokens is
-// refused by the reader as it is by the lexer.
+// Whether each refusal is one of those that its call may give. What begins as a binary file is too
+// short below 42 octets, and its layout is refused by the reader as it is by the check. A text
+// without tokens is refused by the reader as it is by the lexer.
 fn is_answered(alloc: Global, octets: &[u8]) -> bool {
     let [checked, read, lexed] = [
         checked(alloc, octets),

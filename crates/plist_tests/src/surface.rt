@@ -1,4 +1,5 @@
-//! The public surface, named item by item with its signature: what does not stand here so, does not compile.
+//! The public surface, named item by item with its signature: what does not stand here so, does not
+//! compile.
 ghost use Rattle.std.specs.Prelude.{◌<◌};
 ghost use Rattle.plist_object.specs.Layout.{trailer_of};
 ghost use Rattle.plist_object.specs.Views.{octets_of};

@@ -26,7 +26,8 @@ struct Sent {
     sink: ListSink,
 }
 
-// Converts the octets, from a source that fails at the take of this number, into a sink of this room.
+// Converts the octets, from a source that fails at the take of this number, into a sink of this
+// room.
 fn conversion(
     alloc: Global,
     octets: &[u8],
@@ -61,7 +62,8 @@ fn a_failing_take_leaves_the_sink_empty(rt: HostRuntime) -> Result<(), Fail> {
     Ok(())
 }
 
-// Whether a conversion into a sink of this room sends all, or as much as there is room for and a refusal.
+// Whether a conversion into a sink of this room sends all, or as much as there is room for and a
+// refusal.
 fn sends_a_front(
     alloc: Global,
     octets: &[u8],
@@ -301,7 +303,8 @@ fn the_trailer_is_a_piece_of_its_own_where_it_has_no_room(rt: HostRuntime) -> Re
     Ok(())
 }
 
-// Whether the sink holds the output: all of it, or as many octets as the answer says, where memory was wanting.
+// Whether the sink holds the output: all of it, or as many octets as the answer says, where memory
+// was wanting.
 pub(crate) fn is_front(answer: &Result<u64, Fault>, sink: &ListSink, whole: &[u8]) -> bool {
     let most = match answer {
         Ok(sent) if *sent == whole.len() as u64 => *sent,

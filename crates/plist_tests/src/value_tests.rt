@@ -200,7 +200,8 @@ fn copies_of_scalars(rt: HostRuntime) -> Result<(), Fail> {
     Ok(())
 }
 
-// Whether a map that holds the one scalar finds the other: the map of std, and the one in insertion order.
+// Whether a map that holds the one scalar finds the other: the map of std, and the one in insertion
+// order.
 fn finds<'a>(
     alloc: Global,
     held: ScalarRef<'a>,

@@ -28,6 +28,7 @@ pub record HasNoOutput (form : Form) (octets : List ℕ) (fault : Fault) : Type 
   pub none : output_of form value ≡ None
   pub is : fault ≡ NotInOpenStep
 
--- why there is nothing to write for octets: they are refused, or spell a value that cannot be written
+-- why there is nothing to write for octets: they are refused, or spell a value that cannot be
+-- written
 abbrev pub IsOutputFault : Form → List ℕ → Fault → Type 0
 IsOutputFault form octets fault = IsRefused octets fault ⊎ HasNoOutput form octets fault

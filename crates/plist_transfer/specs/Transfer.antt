@@ -17,7 +17,8 @@ abbrev pub NeedsNoMemory : Form → Result ℕ WriteFault → Type 0
 NeedsNoMemory OpenStep (Err (write.OutOfMemory sent)) = ⊥
 NeedsNoMemory _ _ = Unit {0}
 
--- The output for the octets goes out: all of it, or exactly a front, where the sink failed or memory was wanting.
+-- The output for the octets goes out: all of it, or exactly a front, where the sink failed or
+-- memory was wanting.
 pub record IsSent (form : Form) (octets : List ℕ) (old new : Option (List ℕ)) (before after : ℕ) (result : Result ℕ Fault) : Type 0 where
   pub output : List ℕ
   pub of : IsOutput form octets output
@@ -37,7 +38,8 @@ pub record IsInput (to_come rest : Option (List ℕ)) (octets : List ℕ) : Type
   pub end : IsAtEnd rest
   pub within : length octets ≤ MAX_INPUT
 
--- The source was not loaded, and nothing went out; or it was, and for its octets is done what has to be.
+-- The source was not loaded, and nothing went out; or it was, and for its octets is done what has
+-- to be.
 abbrev pub IsTransfer : Form → Option (List ℕ) → Option (List ℕ) → Option (List ℕ) → Option (List ℕ) → ℕ → ℕ → Result ℕ Fault → Type 0
 IsTransfer form to_come rest old new before after result =
     IsUnsent IsLoadFault old new before after result

@@ -26,20 +26,21 @@ use plist_write::WriteFault;
 use std::alloc::Global;
 use std::hash::BuildHasher;
 
-/// Loads a property list from the source, in either form, and sends its value to the sink: as the canonical
-/// file, or as the OpenStep text. Answers how many octets were sent.
+/// Loads a property list from the source, in either form, and sends its value to the sink: as the
+/// canonical file, or as the OpenStep text. Answers how many octets were sent.
 ///
-/// All of the source is loaded and read, and it is sure that the value can be written, before the first put.
-/// A text that was loaded is given up before that: its canonical file is sent from the binary file that it was read
-/// into. A binary file stays in memory, since its canonical file is sent from there.
+/// All of the source is loaded and read, and it is sure that the value can be written, before the
+/// first put. A text that was loaded is given up before that: its canonical file is sent from the
+/// binary file that it was read into. A binary file stays in memory, since its canonical file is
+/// sent from there.
 ///
 /// # Errors
 ///
-/// In this order: `ReadFailed` (50) where the source fails, or `InputTooLarge` (52) past [`MAX_INPUT`]
-/// octets; those of [`read_any`](plist_files::read_any); `NotInOpenStep` (40) where the value has no text;
-/// `WriteFailed` (51) where the sink fails. Want of memory (60) may come before any of them. After 51 and 60
-/// exactly the first `sent` octets of the output went out, and after any other the sink is untouched. The
-/// octets that were taken are gone from the source.
+/// In this order: `ReadFailed` (50) where the source fails, or `InputTooLarge` (52) past
+/// [`MAX_INPUT`] octets; those of [`read_any`](plist_files::read_any); `NotInOpenStep` (40) where
+/// the value has no text; `WriteFailed` (51) where the sink fails. Want of memory (60) may come
+/// before any of them. After 51 and 60 exactly the first `sent` octets of the output went out, and
+/// after any other the sink is untouched. The octets that were taken are gone from the source.
 pub fn convert<S: Source, W: Sink>(
     alloc: Global,
     from: &mut S,
@@ -51,7 +52,8 @@ pub fn convert<S: Source, W: Sink>(
     ensures untouched { IfErr result (λ fault. IsBeforePut fault → to.new ≡ to.old) }
     ensures same { W.device to.new ≡ W.device to.old }
 
-    // The source fails in this call exactly where that is answered; then it fails once, and else never.
+    // The source fails in this call exactly where that is answered; then it fails once, and else
+    // never.
     ensures failed { IsErrOf result Fault.ReadFailed
         ↔ HasFailed (S.failures from.old) (S.failures from.new) }
     ensures at_once { IsErrOf result Fault.ReadFailed
@@ -65,9 +67,9 @@ pub fn convert<S: Source, W: Sink>(
     convert_with_hasher(alloc, FixedHasher::new(), from, to, form)
 }
 
-/// The same as [`convert`], where scalars are hashed by what the builder makes. Where somebody else picks what is
-/// converted, hand it a [`RandomState`](std::hash::RandomState): scalars that were picked to collide under
-/// [`FixedHasher`] cost no more than others then.
+/// The same as [`convert`], where scalars are hashed by what the builder makes. Where somebody else
+/// picks what is converted, hand it a [`RandomState`](std::hash::RandomState): scalars that were
+/// picked to collide under [`FixedHasher`] cost no more than others then.
 ///
 /// # Errors
 ///
@@ -84,7 +86,8 @@ pub fn convert_with_hasher<H: BuildHasher + Copy, S: Source, W: Sink>(
     ensures untouched { IfErr result (λ fault. IsBeforePut fault → to.new ≡ to.old) }
     ensures same { W.device to.new ≡ W.device to.old }
 
-    // The source fails in this call exactly where that is answered; then it fails once, and else never.
+    // The source fails in this call exactly where that is answered; then it fails once, and else
+    // never.
     ensures failed { IsErrOf result Fault.ReadFailed
         ↔ HasFailed (S.failures from.old) (S.failures from.new) }
     ensures at_once { IsErrOf result Fault.ReadFailed
@@ -99,16 +102,18 @@ pub fn convert_with_hasher<H: BuildHasher + Copy, S: Source, W: Sink>(
     convert_octets_with_hasher(alloc, hasher, octets, to, form)
 }
 
-/// Sends the value that the octets spell, in either form, to the sink, and answers how many octets were sent.
+/// Sends the value that the octets spell, in either form, to the sink, and answers how many octets
+/// were sent.
 ///
-/// It is [`convert`] of octets that were loaded, and they are given up: those of a text before the first put,
-/// those of a binary file whose canonical file is asked for when that is sent.
+/// It is [`convert`] of octets that were loaded, and they are given up: those of a text before the
+/// first put, those of a binary file whose canonical file is asked for when that is sent.
 ///
 /// # Errors
 ///
-/// In this order: those of [`read_any`](plist_files::read_any); `NotInOpenStep` (40) where the value has no
-/// text; `WriteFailed` (51) where the sink fails. Want of memory (60) may come before any of them. After 51
-/// and 60 exactly the first `sent` octets of the output went out, and after any other the sink is untouched.
+/// In this order: those of [`read_any`](plist_files::read_any); `NotInOpenStep` (40) where the
+/// value has no text; `WriteFailed` (51) where the sink fails. Want of memory (60) may come before
+/// any of them. After 51 and 60 exactly the first `sent` octets of the output went out, and after
+/// any other the sink is untouched.
 pub fn convert_octets<W: Sink>(
     alloc: Global,
     octets: Vec<u8>,
@@ -123,8 +128,8 @@ pub fn convert_octets<W: Sink>(
     convert_octets_with_hasher(alloc, FixedHasher::new(), octets, to, form)
 }
 
-/// The same as [`convert_octets`], where scalars are hashed by what the builder makes, as [`convert_with_hasher`]
-/// says.
+/// The same as [`convert_octets`], where scalars are hashed by what the builder makes, as
+/// [`convert_with_hasher`] says.
 ///
 /// # Errors
 ///
@@ -189,7 +194,8 @@ fn write_file<H: BuildHasher + Copy, W: Sink>(
     Ok(write_judged(alloc, hasher, octets, sorted, to)?)
 }
 
-// The keys that are sorted while the octets are judged, which are a binary file of a value within the limits.
+// The keys that are sorted while the octets are judged, which are a binary file of a value within
+// the limits.
 fn sorted_keys<'a>(alloc: Global, octets: &'a [u8]) -> Result<Option<SortedKeys<'a>>, Fault>
     requires { begins octets.now ≡ true }
     ensures sorted { IfOk result (λ sorted. AreSortedIfAny octets.entry.now sorted) }
@@ -199,7 +205,8 @@ fn sorted_keys<'a>(alloc: Global, octets: &'a [u8]) -> Result<Option<SortedKeys<
     Ok(judge_keys(alloc, octets)?)
 }
 
-// The canonical file of what a binary file spells that was judged, by the keys that were sorted then.
+// The canonical file of what a binary file spells that was judged, by the keys that were sorted
+// then.
 fn write_judged<'a, H: BuildHasher + Copy, W: Sink>(
     alloc: Global,
     hasher: H,

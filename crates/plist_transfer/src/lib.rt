@@ -1,5 +1,5 @@
-//! From a source to a sink: a property list is loaded and read whole, and then its value goes out in one of
-//! the forms.
+//! From a source to a sink: a property list is loaded and read whole, and then its value goes out
+//! in one of the forms.
 #![tactic(auto)]
 
 mod converting;

@@ -12,9 +12,9 @@ use plist_files::{Fault, read_any};
 use plist_value::Value;
 use std::alloc::Global;
 
-/// The value that the octets spell, which are given up. Their block is first cut to an octet: once the C
-/// library has freed a large block, it takes blocks up to that size from its heap, where a vector that grows
-/// is copied and leaves holes.
+/// The value that the octets spell, which are given up. Their block is first cut to an octet: once
+/// the C library has freed a large block, it takes blocks up to that size from its heap, where a
+/// vector that grows is copied and leaves holes.
 pub(crate) fn value_of(alloc: Global, octets: Vec<u8>) -> Result<Value, Fault>
     ensures read { IfOk result (λ value. IsAccepted octets.items (view value)) }
     ensures fits { IfOk result (λ value. Fits (view value)) }

@@ -33,7 +33,8 @@ fed_units (a ∷ b ∷ c ∷ d ∷ rest) = fed.u64 (word a b c d) ++ fed_units r
 abbrev pub fed_wide : List ℕ → List (List ℕ)
 fed_wide units = fed.usize (length units) ++ (fed_units units ++ fed.u8 255)
 
--- Each eight units are the octets of one write. The last write has those that are left, zeros, and 128 and their number.
+-- Each eight units are the octets of one write. The last write has those that are left, zeros, and
+-- 128 and their number.
 abbrev pub fed_narrow : List ℕ → List (List ℕ)
 fed_narrow (a ∷ b ∷ c ∷ d ∷ e ∷ f ∷ g ∷ h ∷ rest) = (a ∷ b ∷ c ∷ d ∷ e ∷ f ∷ g ∷ h ∷ []) ∷ fed_narrow rest
 fed_narrow rest = (rest ++ (replicate (7 - length rest) 0 ++ ((128 + length rest) ∷ []))) ∷ []

@@ -18,7 +18,8 @@ abbrev mutual
   nodes_of_pairs no_pairs = 0
   nodes_of_pairs (pair key v ps) = 1 + nodes v + nodes_of_pairs ps
 
--- A scalar and an empty container have depth 1, any other container one more than the deepest in it.
+-- A scalar and an empty container have depth 1, any other container one more than the deepest in
+-- it.
 abbrev mutual
   pub depth : Plist → ℕ
   depth (scalar s) = 1

@@ -1,5 +1,5 @@
--- The values that property lists spell. Two values are equal exactly if they are the same term: a table is
--- its pairs in ascending order of their keys.
+-- The values that property lists spell. Two values are equal exactly if they are the same term: a
+-- table is its pairs in ascending order of their keys.
 use Rattle.std.specs.Prelude.{◌≡◌, ℕ, ◌<◌, ℤ, pos, negsuc, ◌≤ℤ◌, Bool, List, length, slice_index, ⊤}
 use Rattle.std.specs.declared.cmp.Ordering.TheVariants.{Less}
 use Rattle.std.specs.Ordering.{nat_cmp}
@@ -63,7 +63,8 @@ abbrev pub IsKeyBelow : List ℕ → Pairs → Type 0
 IsKeyBelow key no_pairs = ⊤
 IsKeyBelow key (pair next v ps) = slice_cmp nat_cmp key next ≡ Less
 
--- the term stands for a property list: numbers in their ranges, and the keys of each table strictly ascending
+-- the term stands for a property list: numbers in their ranges, and the keys of each table strictly
+-- ascending
 abbrev mutual
   pub IsPlist : Plist → Type 0
   IsPlist (scalar s) = IsScalar s

@@ -4,8 +4,9 @@ ghost use Rattle.plist_value.specs.Budget.{Spends, IsOver};
 
 use crate::{MAX_NODES, MAX_PAYLOAD};
 
-/// How many nodes, and how many octets of payload, may still be met. A node is a scalar, a container or a
-/// key; the payload is two octets for each UTF-16 unit of a text, and one for each octet of data.
+/// How many nodes, and how many octets of payload, may still be met. A node is a scalar, a
+/// container or a key; the payload is two octets for each UTF-16 unit of a text, and one for each
+/// octet of data.
 #[derive(Clone, Copy, Debug)]
 pub struct Budget {
     /// The nodes that are left.
@@ -51,8 +52,8 @@ impl Budget {
         })
     }
 
-    /// What is left after one node and its payload, or `None` exactly where there is no node left or too
-    /// little payload.
+    /// What is left after one node and its payload, or `None` exactly where there is no node left
+    /// or too little payload.
     pub fn spend(self, payload: u128) -> Option<Budget>
         ensures left { IfSome result (Spends self 1 payload) }
         ensures over { IfNone result (IsOver self 1 payload) }

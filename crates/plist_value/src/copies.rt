@@ -6,8 +6,8 @@ use crate::{Utf16, Value};
 use std::alloc::{AllocError, Global};
 use std::collections::BTreeMap;
 
-/// An equal value, in memory of its own. It copies each node once, looks up each key of a table among those
-/// before it, and recurses as deep as the value.
+/// An equal value, in memory of its own. It copies each node once, looks up each key of a table
+/// among those before it, and recurses as deep as the value.
 ///
 /// # Errors
 ///

@@ -1,5 +1,5 @@
-//! What a map may rest on: equality, order and hash are those of the content, however it is kept. Each law is
-//! the contract of a function that does nothing.
+//! What a map may rest on: equality, order and hash are those of the content, however it is kept.
+//! Each law is the contract of a function that does nothing.
 ghost use Rattle.std.specs.Ordering.{nat_cmp};
 ghost use Rattle.std.specs.Cmp.Lexicographic.{slice_cmp};
 ghost use Rattle.plist_value.specs.Laws.{IsEqualityOf, IsOrderOf, IsHashOf};
@@ -16,7 +16,8 @@ pub fn scalars_by_content()
     ensures hash { IsHashOf content_of ⟦<ScalarRef<'static> as Hash>⟧.hash_input }
 {}
 
-/// Borrowed texts are equal exactly where they have the same units, are ordered by them, and hash by them.
+/// Borrowed texts are equal exactly where they have the same units, are ordered by them, and hash
+/// by them.
 pub fn texts_by_units()
     ensures equality { IsEqualityOf units_of ⟦<TextRef<'static> as PartialEq>⟧.eq }
     ensures order { IsOrderOf units_of (slice_cmp nat_cmp) ⟦<TextRef<'static> as Ord>⟧.cmp }

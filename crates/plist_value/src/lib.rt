@@ -27,14 +27,14 @@ pub use utf16::Utf16;
 pub use value::Value;
 pub use whole::Whole;
 
-/// The greatest number of nodes of a value that is read or written: each scalar, each container and each
-/// key is one node.
+/// The greatest number of nodes of a value that is read or written: each scalar, each container and
+/// each key is one node.
 pub const MAX_NODES: u64 = 16_777_216;
 
-/// The greatest depth: a scalar or an empty container has depth 1, any other container one more than the
-/// deepest value in it.
+/// The greatest depth: a scalar or an empty container has depth 1, any other container one more
+/// than the deepest value in it.
 pub const MAX_DEPTH: u64 = 512;
 
-/// The greatest payload, in octets: two for each UTF-16 unit of a text, one for each octet of data, over
-/// the whole tree, keys included.
+/// The greatest payload, in octets: two for each UTF-16 unit of a text, one for each octet of data,
+/// over the whole tree, keys included.
 pub const MAX_PAYLOAD: u64 = 1_073_741_824;

@@ -13,8 +13,8 @@ use crate::{MAX_DEPTH, ScalarRef, TextRef, Utf16, Value};
 use std::collections::BTreeMap;
 
 /// Whether the value is within the limits: at most `MAX_NODES` nodes, `MAX_DEPTH` deep, and at most
-/// `MAX_PAYLOAD` octets of payload. It visits each node at most once and reads no text or data, stops where
-/// a limit is passed, recurses at most `MAX_DEPTH` deep, and takes no memory.
+/// `MAX_PAYLOAD` octets of payload. It visits each node at most once and reads no text or data,
+/// stops where a limit is passed, recurses at most `MAX_DEPTH` deep, and takes no memory.
 pub fn fits(value: &Value) -> bool
     ensures limits { IsTrue result ↔ Fits (view value.now) }
     ensures valid { OnTrue result (IsPlist (view value.now)) }

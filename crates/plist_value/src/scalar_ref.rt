@@ -11,8 +11,9 @@ ghost use Rattle.plist_value.specs.Scalars.{content_of};
 use crate::{TextRef, Value, Whole};
 use std::hash::{Hash, Hasher};
 
-/// A value that holds no other, borrowed from a `Value` or from the octets of a file. Two are equal where
-/// they are of one kind and have the same content, and then they hash alike; so they serve as keys of a map.
+/// A value that holds no other, borrowed from a `Value` or from the octets of a file. Two are equal
+/// where they are of one kind and have the same content, and then they hash alike; so they serve as
+/// keys of a map.
 #[derive(Clone, Copy, Debug)]
 pub enum ScalarRef<'a> {
     /// A list of UTF-16 units.
@@ -55,8 +56,8 @@ impl<'a> ScalarRef<'a> {
         }
     }
 
-    /// The payload in octets: two for each UTF-16 unit of a text, one for each octet of data, and none of any
-    /// other scalar. No text and no data is read.
+    /// The payload in octets: two for each UTF-16 unit of a text, one for each octet of data, and
+    /// none of any other scalar. No text and no data is read.
     pub fn payload(&self) -> u128
         ensures { result ≡ payload_of_scalar (content_of self.now) }
     {
@@ -120,8 +121,9 @@ impl<'a> Eq for ScalarRef<'a> {
     ghost laws = { on_equiv content_of scalar_eq-equiv };
 }
 
-/// By the content and the kind alone. The kind comes last: a hasher that takes eight octets at a time is fed whole
-/// words before it. Of a text the last octet is above all other kinds. Octets are fed in one write.
+/// By the content and the kind alone. The kind comes last: a hasher that takes eight octets at a
+/// time is fed whole words before it. Of a text the last octet is above all other kinds. Octets are
+/// fed in one write.
 impl<'a> Hash for ScalarRef<'a> {
     ghost hash_input = { λ scalar. fed_scalar (content_of scalar) };
 

@@ -1,6 +1,7 @@
 //! Texts that are borrowed.
 ghost use Rattle.std.specs.Prelude.{◌≡◌, ◌<◌, ◌≤◌, ◌+◌, ◌%◌, ◌↔◌, IsSome};
-ghost use Rattle.std.specs.Prelude.{IfSome, All, true, false, nat_eq, length, slice_index, drop, fold};
+ghost use Rattle.std.specs.Prelude.{IfSome, All, true, false, nat_eq, length, slice_index, drop};
+ghost use Rattle.std.specs.Prelude.{fold};
 ghost use Rattle.std.specs.Ordering.{nat_cmp, on, as_partial_cmp};
 ghost use Rattle.std.specs.Cmp.{partial_order_from_own_ties};
 ghost use Rattle.std.specs.Cmp.Lexicographic.{pointwise, slice_cmp, bytes_decides};
@@ -16,15 +17,16 @@ use crate::words::{compare, feed, feed_octets, word};
 use std::cmp::Ordering;
 use std::hash::{Hash, Hasher};
 
-/// A text that is borrowed: from UTF-16 units, or from the octets of a file. Texts are equal, ordered and
-/// hashed by their units, whichever way they are kept. That takes no memory and copies nothing: a comparison
-/// reads both up to their first difference, a hash reads all units once.
+/// A text that is borrowed: from UTF-16 units, or from the octets of a file. Texts are equal,
+/// ordered and hashed by their units, whichever way they are kept. That takes no memory and copies
+/// nothing: a comparison reads both up to their first difference, a hash reads all units once.
 #[derive(Clone, Copy, Debug)]
 pub struct TextRef<'a> {
     kept: Kept<'a>,
 }
 
-// How the units are kept: as they are, one in each octet below 128, or one in two octets, the high one first.
+// How the units are kept: as they are, one in each octet below 128, or one in two octets, the high
+// one first.
 #[derive(Clone, Copy, Debug)]
 enum Kept<'a> {
     Units(&'a [u16]),
@@ -46,7 +48,8 @@ impl<'a> TextRef<'a> {
         }
     }
 
-    /// The text whose units are these octets, or `None` exactly where an octet is above 7f. It reads them once.
+    /// The text whose units are these octets, or `None` exactly where an octet is above 7f. It
+    /// reads them once.
     pub fn of_ascii(octets: &'a [u8]) -> Option<TextRef<'a>>
         ensures ascii { IsSome result ↔ All (λ octet. octet < 128) octets.entry.now }
         ensures text { IfSome result (λ t. units_of t ≡ octets.entry.now) }
@@ -62,8 +65,8 @@ impl<'a> TextRef<'a> {
         })
     }
 
-    /// The text whose units stand in these octets two by two, the high octet first, or `None` exactly
-    /// where there is an odd number of octets.
+    /// The text whose units stand in these octets two by two, the high octet first, or `None`
+    /// exactly where there is an odd number of octets.
     pub fn of_wide(octets: &'a [u8]) -> Option<TextRef<'a>>
         ensures even { IsSome result ↔ (length octets.entry.now % 2 ≡ 0) }
         ensures text { IfSome result (λ t. units_of t ≡ wide_units octets.entry.now) }

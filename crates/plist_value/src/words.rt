@@ -36,7 +36,8 @@ pub(crate) fn feed<H: Hasher>(units: &[u16], state: &mut H)
     }
 }
 
-/// Feeds the octets, a unit in each, to the hasher: eight in each write, and in a last one those that are left.
+/// Feeds the octets, a unit in each, to the hasher: eight in each write, and in a last one those
+/// that are left.
 pub(crate) fn feed_octets<H: Hasher>(octets: &[u8], state: &mut H)
     ensures { state.new ≡ fold H.write state.old (fed_text octets.now) }
 {
@@ -87,7 +88,8 @@ fn unit_word(units: &[u16], i: usize) -> u64
     word(units[i], units[i + 1], units[i + 2], units[i + 3])
 }
 
-// Of the two pairs of units from the place `i` on, which are not both equal, where the first unequal one is.
+// Of the two pairs of units from the place `i` on, which are not both equal, where the first
+// unequal one is.
 #[inline(always)]
 fn unequal_pair(units: &[u16], others: &[u16], i: usize) -> usize
     requires length { i + 4 ≤ length units.now }
@@ -138,8 +140,8 @@ fn compare_from(units: &[u16], others: &[u16], start: usize) -> Ordering
     }
 }
 
-/// Unit by unit, a proper prefix first: four at a time while they are equal, and no branch tells which of
-/// four is not.
+/// Unit by unit, a proper prefix first: four at a time while they are equal, and no branch tells
+/// which of four is not.
 pub(crate) fn compare(units: &[u16], others: &[u16]) -> Ordering
     ensures { result ≡ slice_cmp nat_cmp units.now others.now }
 {

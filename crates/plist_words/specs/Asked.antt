@@ -1,4 +1,5 @@
--- What the words on the command line ask for, by the word that was entered and what stands in its places.
+-- What the words on the command line ask for, by the word that was entered and what stands in its
+-- places.
 use Rattle.std.specs.Prelude.{List, Option, Some, None, codes, option_and_then, option_map, if◌then◌else◌}
 use Rattle.std.specs.Str.{bytes_eq}
 use Rattle.clap.specs.Words.{Row, Text, first_of}

@@ -7,16 +7,16 @@ use Rattle.plist_words.specs.Asked.{Asked, asked_at, asked_by}
 use Rattle.plist_words.specs.CommandLine.{IsProgram}
 use Rattle.plist_words.specs.declared.request.Request.{Request}
 
--- What the program's parser makes of these words: the kinds that an error has, none where it takes them, and what
--- they then ask for.
+-- What the program's parser makes of these words: the kinds that an error has, none where it takes
+-- them, and what they then ask for.
 pub record IsParse (words : List Text) (kinds : Kinds) (asked : Option Asked) : Type 0 where
   pub app : App
   pub program : IsProgram app
   pub kinds_are : kinds ≡ fault_of app words
   pub asked_is : asked ≡ asked_at (subcommand_of app words)
 
--- What the words are read as: what they ask for, only where the parser takes them; an error of its kinds where it
--- does not; and else an error only where they ask for nothing, or no memory is left.
+-- What the words are read as: what they ask for, only where the parser takes them; an error of its
+-- kinds where it does not; and else an error only where they ask for nothing, or no memory is left.
 pub record IsReading (words : List Text) (result : Result Request Error) : Type 0 where
   pub kinds : Kinds
   pub asked : Option Asked

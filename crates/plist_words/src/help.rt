@@ -1,5 +1,5 @@
-//! The texts of `--help`: what the program and each of its words read, write and answer. No line is wider
-//! than 80 columns, and the help of the program has at most 30 lines.
+//! The texts of `--help`: what the program and each of its words read, write and answer. No line is
+//! wider than 80 columns, and the help of the program has at most 30 lines.
 
 /// What the program is for.
 pub(crate) const ABOUT: &str = "Converts Apple property lists to their canonical form";

@@ -15,8 +15,8 @@ use std::alloc::Global;
 ///
 /// # Errors
 ///
-/// Words that ask for nothing, or for help, are an error with the text to print. Where no memory is left,
-/// the kind of the error is `OutOfMemory`.
+/// Words that ask for nothing, or for help, are an error with the text to print. Where no memory is
+/// left, the kind of the error is `OutOfMemory`.
 pub fn read_words<'a>(alloc: Global, words: &'a [&'a str]) -> Result<Request<'a>, Error>
     ensures filter { length words.now < 2 → result ≡ Ok Request.Filter }
     ensures reading { 2 ≤ length words.now → IsReading (map (λ word. word.now) words.now) result }

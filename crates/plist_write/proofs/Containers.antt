@@ -1,4 +1,5 @@
--- The walk does a container when it does its children between the making and the filling of its slot.
+-- The walk does a container when it does its children between the making and the filling of its
+-- slot.
 use Rattle.std.proofs.Common.{◌≡◌, ℕ, zero, suc, ◌+◌, ◌<◌, ◌≤◌, List, [], ◌∷◌, ◌++◌, length, refl, sym, ap, subst, ◌∙◌, arith, add-one, set, length-append, append_assoc, length-set}
 use Rattle.std.proofs.lemmas.Bool.{eq-eqb}
 use Rattle.std.proofs.lemmas.List.{length-map, map-append}

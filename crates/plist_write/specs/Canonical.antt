@@ -8,15 +8,16 @@ use Rattle.plist_object.specs.Spelling.{least_width, references, scalar_spelling
 use Rattle.plist_write.specs.Tree.{preorder, key_texts, item_places, key_places, value_places}
 use Rattle.plist_write.specs.Sharing.{kept_places, number_among}
 
--- The octets of the object of the place k, which holds this value. A container refers to its children by their
--- numbers, each in so many octets.
+-- The octets of the object of the place k, which holds this value. A container refers to its
+-- children by their numbers, each in so many octets.
 abbrev pub object_octets : (ℕ → ℕ) → ℕ → ℕ → Plist → List ℕ
 object_octets number width k (scalar s) = scalar_spelling s
 object_octets number width k (list vs) = list_spelling width (map number (item_places (suc k) vs))
 object_octets number width k (table ps) =
     table_spelling width (map number (key_places (suc k) ps)) (map number (value_places (suc k + length (key_texts ps)) ps))
 
--- the objects of a tree in the order of their numbers; references have the least width that holds how many there are
+-- the objects of a tree in the order of their numbers; references have the least width that holds
+-- how many there are
 abbrev pub objects_of : List Plist → List (List ℕ)
 objects_of all =
     let kept = kept_places all in
@@ -28,8 +29,8 @@ abbrev pub starts : ℕ → List (List ℕ) → List ℕ
 starts k [] = []
 starts k (object ∷ objects) = k ∷ starts (k + length object) objects
 
--- The last 32 octets: six zero octets, the widths of an offset and of a reference, how many objects there are, the
--- number of the top object, which is 0, and the place of the offset table.
+-- The last 32 octets: six zero octets, the widths of an offset and of a reference, how many objects
+-- there are, the number of the top object, which is 0, and the place of the offset table.
 abbrev pub trailer_octets : ℕ → ℕ → List ℕ
 trailer_octets count place =
     replicate 6 0 ++ (least_width place ∷ least_width count ∷ (big_bytes 8 count ++ (big_bytes 8 0 ++ big_bytes 8 place)))

@@ -45,7 +45,8 @@ abbrev pub weights : List Held → ℕ
 weights [] = 0
 weights (h ∷ hs) = weight_of h + weights hs
 
--- objects of which a file can be made: there are below 2^32, each can be spelled, and all together are not long
+-- objects of which a file can be made: there are below 2^32, each can be spelled, and all together
+-- are not long
 pub record IsPlan (slots : List Slot) : Type 0 where
   pub few : length slots < 2 ^ 32
   pub spellable : CanSpellAll (least_width (length slots)) (held_by slots)

@@ -63,7 +63,8 @@ pub record IsEmptyPlan {S H : Type 0} (plan : Plan S H) : Type 0 where
   pub unknown : (s : ScalarRef) → number_held plan s ≡ None
   pub none : plan.slots.items ≡ []
 
--- the places below k are done: each scalar there is known by its number, and so many objects were found
+-- the places below k are done: each scalar there is known by its number, and so many objects were
+-- found
 pub record IsReady {S H : Type 0} (all : List Plist) (k : ℕ) (plan : Plan S H) : Type 0 where
   pub numbered : IsNumbered plan
   pub known : (s : ScalarRef) → number_held plan s ≡ number_known all k (content_of s)
@@ -74,7 +75,8 @@ pub record Adds {S H : Type 0} (all : List Plist) (k : ℕ) (part : List Plist) 
   pub ready : IsReady all (k + length part) new
   pub found : held_by new.slots.items ≡ held_by old.slots.items ++ found_in all k part
 
--- The list `part` was done, wherever it stands, and these are the numbers of the places, which are counted from its own.
+-- The list `part` was done, wherever it stands, and these are the numbers of the places, which are
+-- counted from its own.
 pub record Walks {S H : Type 0} (part : List Plist) (places : ℕ → List ℕ) (old new : Plan S H) (numbers : List ℕ) : Type 0 where
   pub numbered : (all : List Plist) (k : ℕ) → Stands all k part → IsReady all k old → numbers ≡ map (number_in all) (places k)
   pub adds : (all : List Plist) (k : ℕ) → Stands all k part → IsReady all k old → Adds all k part old new

@@ -38,14 +38,14 @@ abbrev pub IsShort : WriteFault → ℕ → ℕ → Type 0
 IsShort (WriteFailed sent) out all = out < all
 IsShort (OutOfMemory sent) out all = out ≤ all
 
--- The sink took the octets, so many had gone out before, and its failures are as before; or the call was refused
--- when it had taken a front of them.
+-- The sink took the octets, so many had gone out before, and its failures are as before; or the
+-- call was refused when it had taken a front of them.
 pub record Sends (octets : List ℕ) (sent : ℕ) (old new : Option (List ℕ)) (before after : ℕ) (result : Result ℕ WriteFault) : Type 0 where
   pub all : IfOk result (λ n. (n ≡ sent + length octets) × Appends old new octets × (after ≡ before))
   pub front : IfErr result (λ fault. (more : ℕ) × (sent_of fault ≡ sent + more) × IsShort fault more (length octets) × Appends old new (take more octets) × IsBlamed fault before after)
 
--- A call that sends a file whole answers how many octets it has, and the sink took them without a failure. Where it
--- is refused, exactly the front of the file went out that the fault tells.
+-- A call that sends a file whole answers how many octets it has, and the sink took them without a
+-- failure. Where it is refused, exactly the front of the file went out that the fault tells.
 pub record IsWritten (file : List ℕ) (old new : Option (List ℕ)) (before after : ℕ) (result : Result ℕ WriteFault) : Type 0 where
   pub count : IfOk result (λ n. n ≡ length file)
   pub whole : IfOk result (λ _. Appends old new file × (after ≡ before))

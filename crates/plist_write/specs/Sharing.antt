@@ -1,5 +1,5 @@
--- Which places of a tree have an object of their own, and how objects are numbered: a container has one, and
--- equal scalars share that of the first of them.
+-- Which places of a tree have an object of their own, and how objects are numbered: a container has
+-- one, and equal scalars share that of the first of them.
 use Rattle.std.specs.Prelude.{ℕ, suc, ◌==◌, nat_lt, if◌then◌else◌, Bool, false, List, [], ◌∷◌, slice_index_or}
 use Rattle.plist_value.specs.Plist.{Scalar, Plist, scalar, list, table, no_items}
 use Rattle.plist_value.specs.Equality.{scalar_eq}
@@ -15,14 +15,15 @@ abbrev pub least_place : Scalar → List Plist → ℕ
 least_place s [] = 0
 least_place s (v ∷ vs) = let later = suc (least_place s vs) in if is_scalar s v then 0 else later
 
--- The first place that shares its object with the place k, which holds v: k itself for a container, the least
--- place with an equal scalar for a scalar.
+-- The first place that shares its object with the place k, which holds v: k itself for a container,
+-- the least place with an equal scalar for a scalar.
 abbrev pub first_place : List Plist → ℕ → Plist → ℕ
 first_place all k (scalar s) = least_place s all
 first_place all k (list vs) = k
 first_place all k (table ps) = k
 
--- those of the places from k on, where `rest` stands, that have an object of their own, each with its value
+-- those of the places from k on, where `rest` stands, that have an object of their own, each with
+-- its value
 abbrev pub kept_from : List Plist → ℕ → List Plist → List (ℕ × Plist)
 kept_from all k [] = []
 kept_from all k (v ∷ rest) =
@@ -41,7 +42,7 @@ count_below n (p ∷ places) = let others = count_below n places in if nat_lt p.
 abbrev pub value_at : List Plist → ℕ → Plist
 value_at all k = slice_index_or all k (list no_items)
 
--- The number of the object of the place k: how many of the places that have an object of their own are below the
--- first that shares it.
+-- The number of the object of the place k: how many of the places that have an object of their own
+-- are below the first that shares it.
 abbrev pub number_among : List Plist → List (ℕ × Plist) → ℕ → ℕ
 number_among all kept k = let first = first_place all k (value_at all k) in count_below first kept

@@ -8,8 +8,8 @@ abbrev pub key_texts : Pairs → List Plist
 key_texts no_pairs = []
 key_texts (pair key v ps) = scalar (text key) ∷ key_texts ps
 
--- The tree in preorder: the value, and then the trees of its items, or its keys and then the trees of its
--- values. The places of a tree are counted from 0.
+-- The tree in preorder: the value, and then the trees of its items, or its keys and then the trees
+-- of its values. The places of a tree are counted from 0.
 abbrev mutual
   pub preorder : Plist → List Plist
   preorder (scalar s) = scalar s ∷ []
@@ -24,7 +24,8 @@ abbrev mutual
   preorder_values no_pairs = []
   preorder_values (pair key v ps) = preorder v ++ preorder_values ps
 
--- The places of items of which the first stands at k: each next one stands behind the tree of the one before.
+-- The places of items of which the first stands at k: each next one stands behind the tree of the
+-- one before.
 abbrev pub item_places : ℕ → Items → List ℕ
 item_places k no_items = []
 item_places k (item v vs) = k ∷ item_places (k + nodes v) vs

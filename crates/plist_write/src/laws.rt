@@ -11,8 +11,8 @@ pub fn canonical_tells_values_apart()
     ensures { CanonTellsValuesApart }
 {}
 
-/// The canonical file of a value within the limits has at most 40 octets, one for each octet of the payload,
-/// and 25 for each node.
+/// The canonical file of a value within the limits has at most 40 octets, one for each octet of the
+/// payload, and 25 for each node.
 pub fn canonical_is_short()
     ensures { CanonIsShort }
 {}

@@ -42,9 +42,9 @@ impl Sink for GrowingSink {
     }
 }
 
-/// The canonical file of a value that is within the limits: one file for each value, and a binary file of
-/// it (the layout of CFBinaryPList.c; which of the files it is, is our profile). It goes over the value
-/// once, and over its objects once more.
+/// The canonical file of a value that is within the limits: one file for each value, and a binary
+/// file of it (the layout of CFBinaryPList.c; which of the files it is, is our profile). It goes
+/// over the value once, and over its objects once more.
 ///
 /// # Errors
 ///

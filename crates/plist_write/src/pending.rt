@@ -1,5 +1,6 @@
 //! Octets on their way to a sink, in pieces.
-ghost use Rattle.std.specs.Prelude.{◌≡◌, ℕ, List, ◌+◌, ◌<◌, ◌≤◌, ◌-◌, ◌^◌, [], ◌∷◌, length, All, IfOk};
+ghost use Rattle.std.specs.Prelude.{◌≡◌, ℕ, List, ◌+◌, ◌<◌, ◌≤◌, ◌-◌, ◌^◌, [], ◌∷◌, length};
+ghost use Rattle.std.specs.Prelude.{All, IfOk};
 ghost use Rattle.std.specs.Prelude.{OnOk};
 ghost use Rattle.plist_value.specs.Plist.{bytes};
 ghost use Rattle.plist_object.specs.Sizes.{IsWidth};
@@ -32,12 +33,13 @@ pub struct Pending {
     pub sent: u64,
 }
 
-/// Sends one object, which has so many octets, or has it wait. Long data goes to the sink without a copy.
+/// Sends one object, which has so many octets, or has it wait. Long data goes to the sink without a
+/// copy.
 ///
 /// # Errors
 ///
-/// [`WriteFault::WriteFailed`] (51) where the sink fails, and [`WriteFault::OutOfMemory`] (60) where there is
-/// no memory for the object.
+/// [`WriteFault::WriteFailed`] (51) where the sink fails, and [`WriteFault::OutOfMemory`] (60)
+/// where there is no memory for the object.
 pub fn send_part<W: Sink>(
     width: u8,
     part: &Part,
@@ -79,7 +81,8 @@ fn send_data<W: Sink>(octets: &[u8], pending: &mut Pending, out: &mut W) -> Resu
     ensures goes { Goes (scalar_spelling (bytes octets.now)) pending.old pending.new
         (W.taken out.old) (W.taken out.new) (W.failures out.old) (W.failures out.new) result }
     ensures same { W.device out.new ≡ W.device out.old }
-    ensures pieces { (most : ℕ) → Allows most [] → length pending.old.octets.items + MOST_HEAD ≤ most
+    ensures pieces { (most : ℕ) → Allows most []
+        → length pending.old.octets.items + MOST_HEAD ≤ most
         → length octets.now ≤ most → W.longest out.old ≤ most
         → LeavesRoom most 0 pending.new (W.longest out.new) result }
 {
@@ -91,8 +94,8 @@ fn send_data<W: Sink>(octets: &[u8], pending: &mut Pending, out: &mut W) -> Resu
     Ok(())
 }
 
-/// Sends what stands behind the objects of a file, which begin at these places: the offset table and the
-/// trailer, and all that waits. It answers how many octets were sent in all.
+/// Sends what stands behind the objects of a file, which begin at these places: the offset table
+/// and the trailer, and all that waits. It answers how many octets were sent in all.
 ///
 /// # Errors
 ///

@@ -11,7 +11,8 @@ use plist_value::ScalarRef;
 use std::alloc::{AllocError, Global};
 use std::hash::BuildHasher;
 
-/// An object: a scalar, the numbers of a list's items, or those of a table's keys and of its values.
+/// An object: a scalar, the numbers of a list's items, or those of a table's keys and of its
+/// values.
 #[derive(Debug, Drop)]
 pub(crate) enum Slot<'a> {
     Scalar(ScalarRef<'a>),

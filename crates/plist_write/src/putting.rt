@@ -1,5 +1,6 @@
 //! The parts of a file, measured and put behind octets.
-ghost use Rattle.std.specs.Prelude.{◌≡◌, ◌+◌, ◌*◌, ◌<◌, ◌≤◌, ◌^◌, ◌++◌, ◌↔◌, length, IfOk, IsOk, OnOk};
+ghost use Rattle.std.specs.Prelude.{◌≡◌, ◌+◌, ◌*◌, ◌<◌, ◌≤◌, ◌^◌, ◌++◌, ◌↔◌, length, IfOk, IsOk};
+ghost use Rattle.std.specs.Prelude.{OnOk};
 ghost use Rattle.plist_value.specs.Limits.{payload_of_scalar};
 ghost use Rattle.plist_value.specs.Scalars.{content_of};
 ghost use Rattle.plist_object.specs.Sizes.{IsSmall, IsWidth};
@@ -15,7 +16,8 @@ use plist_object::{
 use plist_value::ScalarRef;
 use std::alloc::AllocError;
 
-/// An object: a scalar, the numbers of a list's items, or those of a table's keys and of its values.
+/// An object: a scalar, the numbers of a list's items, or those of a table's keys and of its
+/// values.
 #[derive(Clone, Copy)]
 pub enum Part<'a, 'b> {
     Scalar(ScalarRef<'a>),
@@ -23,8 +25,8 @@ pub enum Part<'a, 'b> {
     Table(&'b [u32], &'b [u32]),
 }
 
-/// The number in 32 bits. No number of a value within the limits passes them, nor that of an object of a file
-/// that is within the limit of input.
+/// The number in 32 bits. No number of a value within the limits passes them, nor that of an object
+/// of a file that is within the limit of input.
 ///
 /// # Errors
 ///
@@ -63,7 +65,8 @@ pub(crate) fn put_part(out: &mut Vec<u8>, width: u8, part: &Part) -> Result<(), 
     }
 }
 
-/// The trailer of a file with so many objects and its offset table at the place, behind the octets of `out`.
+/// The trailer of a file with so many objects and its offset table at the place, behind the octets
+/// of `out`.
 pub(crate) fn put_trailer(out: &mut Vec<u8>, count: u64, place: u64) -> Result<(), AllocError>
     ensures { OnOk result (out.new.items ≡ out.old.items ++ trailer_octets count place) }
 {
@@ -74,8 +77,8 @@ pub(crate) fn put_trailer(out: &mut Vec<u8>, count: u64, place: u64) -> Result<(
     Ok(())
 }
 
-// What follows does nothing when it runs: it carries facts that types keep, as the lengths of arrays, to the
-// proofs.
+// What follows does nothing when it runs: it carries facts that types keep, as the lengths of
+// arrays, to the proofs.
 
 /// An object has no more octets than its weight.
 pub(crate) fn weigh(width: u8, part: &Part)

@@ -52,7 +52,8 @@ impl WriteFault {
     }
 }
 
-/// The number and the name of the refusal, and how much was sent, as `51 WriteFailed after 10 octets`.
+/// The number and the name of the refusal, and how much was sent, as `51 WriteFailed after 10
+/// octets`.
 impl fmt::Display for WriteFault {
     ghost use Rattle.std.specs.Prelude.{Some};
     ghost use Rattle.plist_write.specs.Sending.{write_text};
@@ -65,15 +66,15 @@ impl fmt::Display for WriteFault {
     }
 }
 
-/// Sends the canonical file of a value that is within the limits, object after object, and answers how many
-/// octets it has. The file is never in memory as a whole: no piece is longer than the longest object, or
-/// than 4,096 octets.
+/// Sends the canonical file of a value that is within the limits, object after object, and answers
+/// how many octets it has. The file is never in memory as a whole: no piece is longer than the
+/// longest object, or than 4,096 octets.
 ///
 /// # Errors
 ///
-/// [`WriteFault::WriteFailed`] (51) where the sink fails, and [`WriteFault::OutOfMemory`] (60) where there
-/// is no memory for the plan of the objects or for one of them. Exactly the first `sent` octets of the file
-/// went out then.
+/// [`WriteFault::WriteFailed`] (51) where the sink fails, and [`WriteFault::OutOfMemory`] (60)
+/// where there is no memory for the plan of the objects or for one of them. Exactly the first
+/// `sent` octets of the file went out then.
 pub fn write_canonical<W: Sink>(
     alloc: Global,
     value: &Value,
@@ -89,9 +90,9 @@ pub fn write_canonical<W: Sink>(
     write_canonical_with_hasher(alloc, FixedHasher::new(), value, out)
 }
 
-/// The same as [`write_canonical`], whose scalars are hashed by what the builder makes. Where somebody else picks
-/// the values, hand it a [`RandomState`](std::hash::RandomState): scalars that were picked to collide under
-/// [`FixedHasher`] cost no more than others then.
+/// The same as [`write_canonical`], whose scalars are hashed by what the builder makes. Where
+/// somebody else picks the values, hand it a [`RandomState`](std::hash::RandomState): scalars that
+/// were picked to collide under [`FixedHasher`] cost no more than others then.
 ///
 /// # Errors
 ///

@@ -1,5 +1,5 @@
-//! The program `plistconv`: `plist_convert::run_to_end` over the words of the command line, standard input and
-//! standard output.
+//! The program `plistconv`: `plist_convert::run_to_end` over the words of the command line,
+//! standard input and standard output.
 #![tactic(auto)]
 
 use plist_convert::{Status, run_to_end};

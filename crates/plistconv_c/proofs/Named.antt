@@ -1,4 +1,5 @@
--- Each fault is named by its unit, its number and its place, up to faults that are told and printed alike.
+-- Each fault is named by its unit, its number and its place, up to faults that are told and printed
+-- alike.
 use Rattle.std.proofs.Common.{◌≡◌, ◌∙◌, ℕ, Some, refl, sym, ap, subst}
 use Rattle.std.proofs.lemmas.Option.{same_Some}
 use Rattle.plist_binary.specs.declared.fault.BinaryFault.TheVariants as binary

@@ -39,7 +39,8 @@ gathered_fault (WriteFailed sent) = OutOfMemory 0
 gathered_fault (OutOfMemory sent) = OutOfMemory 0
 gathered_fault fault = fault
 
--- the octets are refused, the refusal is told by its number and its place, and the buffer is as it was
+-- the octets are refused, the refusal is told by its number and its place, and the buffer is as it
+-- was
 pub record IsRefusedWhole (octets before after : List ℕ) (count : ℕ) (told : Refusal) (number : ℕ) : Type 0 where
   pub fault : Fault
   pub refused : IsRefused octets fault

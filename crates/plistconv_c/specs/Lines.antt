@@ -9,8 +9,8 @@ use Rattle.plistconv_c.specs.Given.{IsGiven}
 use Rattle.plistconv_c.specs.Refusals.{refusal_of}
 use Rattle.plistconv_c.specs.declared.refusals.Refusal.{Refusal}
 
--- The line of the fault that is told is given in the buffer. There is such a fault, and all that are told alike have
--- one line.
+-- The line of the fault that is told is given in the buffer. There is such a fault, and all that
+-- are told alike have one line.
 pub record IsLineGiven (path before after : List ℕ) (count : ℕ) (told : Refusal) : Type 0 where
   pub known : (fault : Fault) × ((input : ℕ) × (told ≡ refusal_of fault input))
   pub given : (fault : Fault) → (input : ℕ) → told ≡ refusal_of fault input

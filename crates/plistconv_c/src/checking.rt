@@ -24,13 +24,13 @@ pub struct Finding {
 }
 
 /// Whether the octets, a binary file, are canonical, and a broken rule where they are not. No value
-/// is built. Scalars are hashed under the key, or, where it is all zeros, under a fixed seed, for which somebody
-/// can pick scalars that collide.
+/// is built. Scalars are hashed under the key, or, where it is all zeros, under a fixed seed, for
+/// which somebody can pick scalars that collide.
 ///
 /// # Errors
 ///
-/// 1 to 3 where the octets do not have the layout of a binary file, and 60 where no memory was left; the
-/// finding is 0 throughout.
+/// 1 to 3 where the octets do not have the layout of a binary file, and 60 where no memory was
+/// left; the finding is 0 throughout.
 #[unsafe(no_mangle)]
 pub extern "C" fn plistconv_check(
     alloc: Global,

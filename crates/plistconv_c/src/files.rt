@@ -14,9 +14,10 @@ use plist_files::{
 };
 use std::alloc::Global;
 
-/// The canonical file of the value that the octets spell, at the head of the buffer. Where the buffer has
-/// no room for it, the buffer is as it was, and `length` is what is needed. Scalars are hashed under the key, or,
-/// where it is all zeros, under a fixed seed, for which somebody can pick scalars that collide.
+/// The canonical file of the value that the octets spell, at the head of the buffer. Where the
+/// buffer has no room for it, the buffer is as it was, and `length` is what is needed. Scalars are
+/// hashed under the key, or, where it is all zeros, under a fixed seed, for which somebody can pick
+/// scalars that collide.
 ///
 /// # Errors
 ///

@@ -4,7 +4,8 @@ ghost use Rattle.std.specs.Prelude.{◌≡◌, [], None, Some};
 use plist_devices::{DeviceFault, Sink};
 use std::alloc::Global;
 
-/// A sink that keeps all octets that it takes. A put fails only where there is no memory for the piece.
+/// A sink that keeps all octets that it takes. A put fails only where there is no memory for the
+/// piece.
 #[derive(Drop)]
 pub(crate) struct Gathering {
     pub(crate) octets: Vec<u8>,

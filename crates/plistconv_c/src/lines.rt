@@ -10,13 +10,14 @@ use plist_files::{Fault, line};
 use std::alloc::{AllocError, Global};
 
 /// The printed line of a refusal that a call told, without a line end, at the head of the buffer:
-/// `PATH: refused 14 DuplicateKey at octet 9`. The path stands in it as it is given, in whatever octets.
-/// Where the buffer has no room for the line, the buffer is as it was, and `length` is what is needed.
+/// `PATH: refused 14 DuplicateKey at octet 9`. The path stands in it as it is given, in whatever
+/// octets. Where the buffer has no room for the line, the buffer is as it was, and `length` is what
+/// is needed.
 ///
 /// # Errors
 ///
-/// 60 where no memory was left, and 255 where no call tells such a refusal; the buffer is as it was, and
-/// `length` is 0.
+/// 60 where no memory was left, and 255 where no call tells such a refusal; the buffer is as it
+/// was, and `length` is 0.
 #[unsafe(no_mangle)]
 pub extern "C" fn plistconv_line(
     alloc: Global,

@@ -10,8 +10,9 @@ use crate::giving::give;
 use plist_files::{Fault, print};
 use std::alloc::Global;
 
-/// The printed text of the value that the octets spell, at the head of the buffer. Two values print the same exactly
-/// if they are equal. If the buffer has no room for the text, it is as it was, and `length` is what is needed.
+/// The printed text of the value that the octets spell, at the head of the buffer. Two values print
+/// the same exactly if they are equal. If the buffer has no room for the text, it is as it was, and
+/// `length` is what is needed.
 ///
 /// # Errors
 ///
@@ -43,7 +44,8 @@ pub extern "C" fn plistconv_print(
     }
 }
 
-// The printed text of the value that the octets spell. Nothing of it has gone out if memory runs out.
+// The printed text of the value that the octets spell. Nothing of it has gone out if memory runs
+// out.
 fn printed_text(alloc: Global, octets: &[u8]) -> Result<Vec<u8>, Fault>
     ensures text { IfOk result (λ text. IsPrintOf octets.now text.items) }
     ensures refused { IfErr result (IsRefused octets.now) }

@@ -13,8 +13,8 @@ pub struct Refusal {
     pub place: u64,
     /// The number of the refusal.
     pub number: u8,
-    /// What `place` is: 0 nothing, 1 the number of an object, 2 an octet of the input, from 0 on, and 3 how
-    /// many octets had gone out.
+    /// What `place` is: 0 nothing, 1 the number of an object, 2 an octet of the input, from 0 on,
+    /// and 3 how many octets had gone out.
     pub unit: u8,
     /// Which of the call's inputs is refused, 1 or 2.
     pub input: u8,

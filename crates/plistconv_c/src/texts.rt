@@ -8,13 +8,13 @@ use ostep_text::{TextWriteFault, write_text};
 use plist_files::{Fault, read_any};
 use std::alloc::Global;
 
-/// The OpenStep text of the value that the octets spell, at the head of the buffer. Where the buffer has no
-/// room for it, the buffer is as it was, and `length` is what is needed.
+/// The OpenStep text of the value that the octets spell, at the head of the buffer. Where the
+/// buffer has no room for it, the buffer is as it was, and `length` is what is needed.
 ///
 /// # Errors
 ///
-/// The number of the refusal, 40 where the value has no text in this form; the buffer is as it was, and
-/// `length` is 0.
+/// The number of the refusal, 40 where the value has no text in this form; the buffer is as it was,
+/// and `length` is 0.
 #[unsafe(no_mangle)]
 pub extern "C" fn plistconv_text(
     alloc: Global,

@@ -38,8 +38,8 @@ fn answer_print(alloc: Global, name: &str, octets: &[u8]) -> Result<String, Allo
     }
 }
 
-// The trailer, and then each object: from where up to where it stands, whether it is spelled shortest, and
-// what it refers to.
+// The trailer, and then each object: from where up to where it stands, whether it is spelled
+// shortest, and what it refers to.
 fn answer_layout(alloc: Global, name: &str, octets: &[u8]) -> Result<String, AllocError> {
     let file = match BinFile::of(octets) {
         Ok(file) => file,
@@ -138,7 +138,8 @@ fn put_units(line: &mut String, text: &Utf16) -> Result<(), AllocError> {
     write!(line, "\"")
 }
 
-// How the fronts are refused, the whole octets among them: the length from which on each answer holds.
+// How the fronts are refused, the whole octets among them: the length from which on each answer
+// holds.
 fn answer_fronts(alloc: Global, name: &str, octets: &[u8]) -> Result<String, AllocError> {
     let mut line = format!(in alloc; "{name}:")?;
     let mut last = None;

@@ -1,7 +1,8 @@
 //! Rows: octets, what is asked of them, and the line that answers it.
 //!
-//! Standard input has a row in each line: `NAME QUESTION FORM OCTETS`, as [`row::Row::read`] says; `#` begins a
-//! comment. A line is printed for each row, which begins with its name. What must be printed stands in `stdout`.
+//! Standard input has a row in each line: `NAME QUESTION FORM OCTETS`, as [`row::Row::read`] says;
+//! `#` begins a comment. A line is printed for each row, which begins with its name. What must be
+//! printed stands in `stdout`.
 #![tactic(auto)]
 
 mod answers;

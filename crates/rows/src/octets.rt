@@ -1,5 +1,5 @@
-//! How octets are spelled in a row and in its answer: `%` and two digits stand for each octet but printable
-//! ASCII, and for `%`.
+//! How octets are spelled in a row and in its answer: `%` and two digits stand for each octet but
+//! printable ASCII, and for `%`.
 use percent_encoding::{
     AsciiSet, CONTROLS, PercentEncode, ascii_set, percent_decode, percent_encode,
 };

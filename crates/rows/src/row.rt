@@ -6,8 +6,8 @@ use test_files::{Draft, file};
 /// What is asked of octets.
 #[derive(Clone, Copy, Debug)]
 pub(crate) enum Question {
-    /// Which value they spell: its canonical file and its OpenStep text; of a binary file also whether it is
-    /// canonical.
+    /// Which value they spell: its canonical file and its OpenStep text; of a binary file also
+    /// whether it is canonical.
     Value,
     /// How their value is printed.
     Print,
@@ -44,8 +44,10 @@ impl<'a> Row<'a> {
     /// The row of a line `NAME QUESTION FORM OCTETS`, if it is one. The forms:
     ///
     /// - `text OCTETS`: these octets;
-    /// - `file WIDTH OBJECT ..`: the binary file of these objects, with references of so many octets;
-    /// - `laid WIDTH OBJECTS ENTRIES`: the binary file of these octets of objects and these entries of the
+    /// - `file WIDTH OBJECT ..`: the binary file of these objects, with references of so many
+    ///   octets;
+    /// - `laid WIDTH OBJECTS ENTRIES`: the binary file of these octets of objects and these entries
+    ///   of the
     ///   offset table, of one octet each.
     pub(crate) fn read(alloc: Global, line: &'a str) -> Result<Option<Row<'a>>, AllocError> {
         let Some((name, rest)) = line.split_once(' ') else {

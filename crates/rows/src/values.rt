@@ -1,4 +1,5 @@
-//! The value that octets spell, told by its canonical file and its OpenStep text, and how others are refused.
+//! The value that octets spell, told by its canonical file and its OpenStep text, and how others
+//! are refused.
 use crate::octets::shown;
 use ostep_text::write_text;
 use plist_canon::{Verdict, canonical, check};
@@ -8,7 +9,8 @@ use plist_files::{
 use std::alloc::{AllocError, Global};
 use std::fmt::Write;
 
-/// The line of the value, or of the refusal. Where calls answer otherwise than one another, the line says so.
+/// The line of the value, or of the refusal. Where calls answer otherwise than one another, the
+/// line says so.
 pub(crate) fn answer_value(alloc: Global, name: &str, octets: &[u8]) -> Result<String, AllocError> {
     let mut said = match read_any(alloc, octets) {
         Ok(value) => {

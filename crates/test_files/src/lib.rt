@@ -44,8 +44,8 @@ pub fn one(alloc: Global, object: &[u8]) -> Result<Vec<u8>, AllocError> {
     file(alloc, object, &[8], 1)
 }
 
-/// The binary file of these octets of objects, with these entries of the offset table, of one octet each, and
-/// this width of a reference.
+/// The binary file of these octets of objects, with these entries of the offset table, of one octet
+/// each, and this width of a reference.
 pub fn file(
     alloc: Global,
     objects: &[u8],
@@ -58,8 +58,8 @@ pub fn file(
     Ok(file)
 }
 
-/// The binary file of these objects, one behind the other, with offsets of one octet and this width of a
-/// reference.
+/// The binary file of these objects, one behind the other, with offsets of one octet and this width
+/// of a reference.
 pub fn file_of(
     alloc: Global,
     objects: &[&[u8]],
@@ -72,8 +72,8 @@ pub fn file_of(
     draft.finish(1, reference_width)
 }
 
-/// Ends a file with this offset table, these widths of an offset and of a reference, and this count of
-/// objects.
+/// Ends a file with this offset table, these widths of an offset and of a reference, and this count
+/// of objects.
 pub fn end(
     file: &mut Vec<u8>,
     table: &[u8],
@@ -85,8 +85,8 @@ pub fn end(
     put_trailer(file, widths, count, place)
 }
 
-/// Appends a trailer with these widths of an offset and of a reference, this count of objects and this place
-/// of the offset table.
+/// Appends a trailer with these widths of an offset and of a reference, this count of objects and
+/// this place of the offset table.
 pub fn put_trailer(
     file: &mut Vec<u8>,
     widths: [u8; 2],
@@ -100,7 +100,8 @@ pub fn put_trailer(
     file.extend_from_slice(&table.to_be_bytes())
 }
 
-/// Lists that each hold the next object, and one last object, so many in all, with widths of two octets.
+/// Lists that each hold the next object, and one last object, so many in all, with widths of two
+/// octets.
 pub fn chain(alloc: Global, count: u16, last: &[u8]) -> Result<Vec<u8>, AllocError> {
     let mut draft = Draft::new(alloc)?;
     for i in 1..count {
@@ -132,7 +133,8 @@ pub fn fan(alloc: Global, count: u32, object: &[u8]) -> Result<Vec<u8>, AllocErr
     draft.finish(4, 1)
 }
 
-/// Thirty lists that each hold the next object twice, and an empty one: 2^31 - 1 nodes in 31 objects.
+/// Thirty lists that each hold the next object twice, and an empty one: 2^31 - 1 nodes in 31
+/// objects.
 pub fn tower(alloc: Global) -> Result<Vec<u8>, AllocError> {
     let mut draft = Draft::new(alloc)?;
     for i in 1..31u8 {
