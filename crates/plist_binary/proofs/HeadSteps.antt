@@ -14,7 +14,7 @@ use Rattle.std.proofs.lemmas.Cmp.{nat_list_cmp_total}
 use Rattle.std.proofs.lemmas.List.{get_or-map, length-map, take-append-drop}
 use Rattle.std.proofs.lemmas.Map.Lookups.{exact_bytes}
 use Rattle.std.proofs.lemmas.List.Sorted.{IsPermutation-map, All-permutation}
-use Rattle.plist_ranks.proofs.Ranked.{less_from_lt}
+use Rattle.plist_object.proofs.Ranked.{less_from_lt}
 use Rattle.plist_binary.specs.declared.tables.Key.{Key}
 use Rattle.plist_binary.specs.Keys.{units_at}
 use Rattle.plist_binary.specs.Heads.{octet_of, behind, head_of, with_head, headless, IsHeaded, AreHeaded, AreHeadless}

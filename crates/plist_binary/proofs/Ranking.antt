@@ -13,9 +13,9 @@ use Rattle.plist_value.specs.Plist.{text}
 use Rattle.plist_object.specs.Objects.{holds_scalar}
 use Rattle.plist_object.specs.Places.{Holds}
 use Rattle.plist_object.proofs.Uniqueness.{same_held}
-use Rattle.plist_ranks.specs.declared.ranks.Ranks.{Ranks}
-use Rattle.plist_ranks.specs.Ranks.{AreRanks, rank_of, texts_of}
-use Rattle.plist_ranks.proofs.Ranked.{below_from_ranks, ranks_from_below, less_from_lt}
+use Rattle.plist_object.specs.declared.ranks.Ranks.{Ranks}
+use Rattle.plist_object.specs.Ranks.{AreRanks, rank_of, texts_of}
+use Rattle.plist_object.proofs.Ranked.{below_from_ranks, ranks_from_below, less_from_lt}
 use Rattle.plist_binary.specs.declared.tables.Key.{Key}
 use Rattle.plist_binary.specs.Keys.{units_at, IsRanked, AreRanked, AreRankedAlike, HasRank}
 

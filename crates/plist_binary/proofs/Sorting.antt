@@ -11,8 +11,8 @@ use Rattle.plist_value.specs.Plist.{text}
 use Rattle.plist_object.specs.Objects.{holds_scalar}
 use Rattle.plist_object.specs.Places.{what_holds}
 use Rattle.plist_object.specs.Spelled.{SpellItems}
-use Rattle.plist_ranks.specs.Order.{IsOrder, pair_of}
-use Rattle.plist_ranks.proofs.Orders.{IsOrder-rows}
+use Rattle.plist_object.specs.Order.{IsOrder, pair_of}
+use Rattle.plist_object.proofs.Orders.{IsOrder-rows}
 use Rattle.plist_binary.specs.declared.tables.Key.{Key}
 use Rattle.plist_binary.specs.Keys.{units_at, place_of, AreInPlace}
 use Rattle.plist_binary.specs.Readings.{texts}

@@ -12,7 +12,7 @@ use Rattle.plist_object.specs.Places.{Holds}
 use Rattle.plist_object.specs.Spelled.{SpellItems}
 use Rattle.plist_object.specs.Views.{numbers_of}
 use Rattle.plist_binary.specs.declared.fault.BinaryFault.{BinaryFault}
-use Rattle.plist_ranks.specs.Order.{AreSortedIfAny}
+use Rattle.plist_object.specs.Order.{AreSortedIfAny}
 use Rattle.plist_binary.specs.declared.known_keys.KnownKeys.{KnownKeys}
 use Rattle.plist_binary.specs.declared.known_keys.LastKeys.{LastKeys}
 use Rattle.plist_binary.specs.Readings.{ReadsItems, RefusesPairs, texts}

@@ -2,13 +2,12 @@
 //! order.
 ghost use Rattle.std.specs.Prelude.{◌≡◌, List, ℕ, map, IfOk, IfSome, OnOk};
 ghost use Rattle.plist_object.specs.Views.{numbers_of};
-ghost use Rattle.plist_ranks.specs.Order.{IsOrder};
+ghost use Rattle.plist_object.specs.Order.{IsOrder};
 ghost use Rattle.plist_binary.specs.Keys.{place_of};
 ghost use Rattle.plist_binary.specs.Recalls.{IsKnown, IsKnownLast, ReadsApart};
 
 use crate::tables::Key;
-use plist_object::Refs;
-use plist_ranks::SortedKeys;
+use plist_object::{Refs, SortedKeys};
 use plist_value::Budget;
 use std::alloc::{AllocError, Global};
 

@@ -11,7 +11,7 @@ ghost use Rattle.plist_object.specs.Layout.{trailer_of};
 ghost use Rattle.plist_object.specs.Objects.{IsHeld, holds_scalar};
 ghost use Rattle.plist_object.specs.Places.{what_holds};
 ghost use Rattle.plist_object.specs.Views.{Gives, held_of, numbers_of, octets_of};
-ghost use Rattle.plist_ranks.specs.Ranks.{AreRanks};
+ghost use Rattle.plist_object.specs.Ranks.{AreRanks};
 ghost use Rattle.plist_binary.specs.Begins.{IsBegun, IsEntered};
 ghost use Rattle.plist_binary.specs.Faults.{IsText};
 ghost use Rattle.plist_binary.specs.Keys.{units_at, AreInPlace, AreRanked};

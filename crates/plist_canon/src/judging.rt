@@ -5,7 +5,7 @@ ghost use Rattle.plist_object.specs.Layout.{trailer_of};
 ghost use Rattle.plist_object.specs.Objects.{IsHeld};
 ghost use Rattle.plist_object.specs.Places.{Holds, object_at, place_of, span_of};
 ghost use Rattle.plist_object.specs.Views.{held_of, octets_of};
-ghost use Rattle.plist_ranks.specs.Ranks.{AreRanks};
+ghost use Rattle.plist_object.specs.Ranks.{AreRanks};
 ghost use Rattle.plist_canon.specs.Rules.{HasPlainTrailer, HasLeastWidths, Adjoins};
 ghost use Rattle.plist_canon.specs.Rules.{IsSpelledCanonically, HasAscendingKeys, IsNoRepeat};
 ghost use Rattle.plist_canon.specs.Checking.{IsFlaw, RefersWell, IsEndBefore};
@@ -14,8 +14,7 @@ ghost use Rattle.plist_canon.specs.Checking.{Follows, IsJudged, HasMet};
 use crate::beginning::begins_plainly;
 use crate::references::{keys_ascend, refers_well};
 use crate::repeats::Repeats;
-use plist_object::{BinFile, Object, scalar_length, width_of};
-use plist_ranks::{Keys, Ranks};
+use plist_object::{BinFile, Keys, Object, Ranks, scalar_length, width_of};
 use std::alloc::{AllocError, AllocFailed, Global};
 use std::hash::BuildHasher;
 

@@ -3,13 +3,12 @@ ghost use Rattle.std.specs.Prelude.{◌≡◌, ◌<◌, ◌↔◌, IsTrue, EachI
 ghost use Rattle.plist_object.specs.Layout.{trailer_of};
 ghost use Rattle.plist_object.specs.Objects.{holds_table};
 ghost use Rattle.plist_object.specs.Views.{held_of, numbers_of, octets_of};
-ghost use Rattle.plist_ranks.specs.Ranks.{AreRanks};
+ghost use Rattle.plist_object.specs.Ranks.{AreRanks};
 ghost use Rattle.plist_canon.specs.Rules.{HoldsText};
 ghost use Rattle.plist_canon.specs.Checking.{RefersWell, AreInOrder, AscendInTurn};
 
 use crate::objects::text_of;
-use plist_object::{BinFile, Object, Refs};
-use plist_ranks::Ranks;
+use plist_object::{BinFile, Object, Ranks, Refs};
 
 /// Whether the references are numbers of objects, and those to keys name texts.
 pub(crate) fn refers_well(file: &BinFile, ranks: &Ranks, object: &Object) -> bool

@@ -22,8 +22,8 @@ use Rattle.plist_object.specs.Places.{Holds, what_holds}
 use Rattle.plist_object.specs.Spelled.{SpellPairs}
 use Rattle.plist_value.specs.Plist.{Scalar}
 use Rattle.plist_engine.specs.declared.order.Row.{Row}
-use Rattle.plist_ranks.specs.Order.{IsOrder, pair_of}
-use Rattle.plist_ranks.proofs.Orders.{IsOrder-rows}
+use Rattle.plist_object.specs.Order.{IsOrder, pair_of}
+use Rattle.plist_object.proofs.Orders.{IsOrder-rows}
 use Rattle.plist_engine.specs.Order.{ArePlaced, HoldsKey, by_text, pair_at, place_of, units_at}
 use Rattle.plist_engine.specs.Spelling.{HoldsText, IsTable, SpellTable, in_turn}
 

@@ -10,7 +10,7 @@ use Rattle.plist_value.specs.Texts.{units_of}
 use Rattle.plist_object.specs.Objects.{holds_scalar}
 use Rattle.plist_object.specs.Places.{Holds}
 use Rattle.plist_object.specs.Views.{numbers_of}
-use Rattle.plist_ranks.specs.Order.{AreSortedIfAny, IsOrder}
+use Rattle.plist_object.specs.Order.{AreSortedIfAny, IsOrder}
 use Rattle.plist_engine.specs.declared.order.Row.{Row}
 use Rattle.plist_engine.specs.declared.order.KeyOrder.{KeyOrder}
 

@@ -3,12 +3,11 @@ ghost use Rattle.std.specs.Prelude.{◌≡◌, IfOk};
 ghost use Rattle.plist_value.specs.Plist.{Plist};
 ghost use Rattle.plist_object.specs.Spelled.{IsBinary};
 ghost use Rattle.plist_object.specs.Views.{octets_of};
-ghost use Rattle.plist_ranks.specs.Order.{AreSortedIfAny};
+ghost use Rattle.plist_object.specs.Order.{AreSortedIfAny};
 ghost use Rattle.plist_write.specs.Canonical.{canon};
 
 use crate::sending::write_canonical_of_with_hasher;
-use plist_object::BinFile;
-use plist_ranks::SortedKeys;
+use plist_object::{BinFile, SortedKeys};
 use plist_value::FixedHasher;
 use plist_write::GrowingSink;
 use std::alloc::{AllocError, Global};

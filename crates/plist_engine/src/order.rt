@@ -5,14 +5,13 @@ ghost use Rattle.std.specs.List.{zip};
 ghost use Rattle.std.specs.List.Sorted.{IsSorted};
 ghost use Rattle.plist_value.specs.Plist.{Pairs};
 ghost use Rattle.plist_object.specs.Views.{numbers_of, octets_of};
-ghost use Rattle.plist_ranks.specs.Order.{AreSortedIfAny, IsOrder};
+ghost use Rattle.plist_object.specs.Order.{AreSortedIfAny, IsOrder};
 ghost use Rattle.plist_engine.specs.Order.{ArePlaced, HoldsKey, IsOrdered};
 ghost use Rattle.plist_engine.specs.Order.{by_text, pair_at, place_of};
 ghost use Rattle.plist_engine.specs.Spelling.{IsTable, SpellTable, in_turn};
 
 use crate::objects::text_of;
-use plist_object::{BinFile, Refs};
-use plist_ranks::SortedKeys;
+use plist_object::{BinFile, Refs, SortedKeys};
 use plist_value::TextRef;
 use plist_write::short;
 use std::alloc::{AllocError, Global};

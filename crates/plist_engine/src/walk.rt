@@ -3,7 +3,7 @@ ghost use Rattle.std.specs.Prelude.{◌≡◌, ◌≤◌, length, drop, IfOk, On
 ghost use Rattle.plist_value.specs.Plist.{Plist};
 ghost use Rattle.plist_object.specs.Spelled.{IsBinary};
 ghost use Rattle.plist_object.specs.Views.{octets_of};
-ghost use Rattle.plist_ranks.specs.Order.{AreSortedIfAny};
+ghost use Rattle.plist_object.specs.Order.{AreSortedIfAny};
 ghost use Rattle.plist_engine.specs.Spelling.{SpellsWithin, SpellWithin};
 ghost use Rattle.plist_engine.specs.Order.{IsOrdered};
 ghost use Rattle.plist_engine.specs.Plan.{AreObjectsOf, AreWalked, IsWalked, RemembersNumbers};
@@ -12,8 +12,7 @@ use crate::ahead::Ahead;
 use crate::objects::object_of;
 use crate::order::KeyOrder;
 use crate::plan::{Objects, Plan};
-use plist_object::{BinFile, Object};
-use plist_ranks::SortedKeys;
+use plist_object::{BinFile, Object, SortedKeys};
 use plist_value::MAX_DEPTH;
 use std::alloc::{AllocError, Global};
 use std::hash::BuildHasher;

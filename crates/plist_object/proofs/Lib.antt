@@ -10,3 +10,5 @@ pub mod ReadBack
 pub mod ReadReferences
 pub mod ReadScalars
 pub mod SameOctets
+pub mod Ranked
+pub mod Orders

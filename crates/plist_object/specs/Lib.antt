@@ -17,3 +17,5 @@ pub mod Codes
 pub mod Laws
 pub mod Shortest
 pub mod Heads
+pub mod Ranks
+pub mod Order

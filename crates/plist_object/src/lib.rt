@@ -1,18 +1,22 @@
-//! Binary property lists on borrowed octets: the layout of a file, what stands at a place, and the
-//! one canonical spelling of an object.
+//! Binary property lists on borrowed octets: the layout of a file, what stands at a place, the one
+//! canonical spelling of an object, and the order of the texts that tables name as keys.
 #![tactic(auto)]
 
 mod digits;
+pub mod keys;
 pub mod laws;
 pub mod layout;
 pub mod lengths;
 mod markers;
 pub mod object;
 pub mod puts;
+pub mod ranks;
 mod reading;
 pub mod refs;
 mod shortest;
+pub mod sorted;
 
+pub use keys::Keys;
 pub use layout::{BinFile, LayoutFault};
 pub use lengths::{list_length, scalar_length, table_length, width_of};
 pub use markers::HEADER;
@@ -20,4 +24,6 @@ pub use object::{Object, ObjectFault};
 pub use puts::{
     put_data_head, put_list, put_number, put_scalar, put_short_list, put_short_table, put_table,
 };
+pub use ranks::Ranks;
 pub use refs::Refs;
+pub use sorted::SortedKeys;

@@ -2,7 +2,7 @@
 ghost use Rattle.std.specs.Prelude.{◌≡◌, ◌<◌, ◌↔◌, true, length, IfErr, IfOk, OnOk, IsErrOf};
 ghost use Rattle.plist_value.specs.Plist.{Plist};
 ghost use Rattle.plist_object.specs.Spelled.{IsBinary};
-ghost use Rattle.plist_ranks.specs.Order.{AreSortedIfAny};
+ghost use Rattle.plist_object.specs.Order.{AreSortedIfAny};
 ghost use Rattle.plist_write.specs.Canonical.{canon};
 ghost use Rattle.plist_write.specs.Sending.{IsWritten};
 ghost use Rattle.plist_devices.specs.Count.{HasFailed, one_more};
@@ -19,8 +19,7 @@ use plist_binary::judge_keys;
 use plist_devices::{Sink, Source};
 use plist_engine::write_canonical_of_with_hasher;
 use plist_files::{Fault, Form, MAX_INPUT, begins_as_binary, load, refusal};
-use plist_object::BinFile;
-use plist_ranks::SortedKeys;
+use plist_object::{BinFile, SortedKeys};
 use plist_value::FixedHasher;
 use plist_write::WriteFault;
 use std::alloc::Global;

@@ -1,7 +1,7 @@
 use Rattle.std.proofs.Common.{ℕ, List, map, ap, subst, sym, ◌∙◌}
 use Rattle.std.proofs.lemmas.Result.{IfOk-weaker}
 use Rattle.plist_object.specs.Views.{octets_of, numbers_of}
-use Rattle.plist_ranks.specs.Order.{IsOrder}
+use Rattle.plist_object.specs.Order.{IsOrder}
 use Rattle.plist_engine.specs.Order.{place_of}
 use Rattle.plist_engine.proofs.Ordering.{order-sorted}
 use Rattle.plist_engine.proofs.order.places_of.Goals as goal

@@ -6,7 +6,7 @@ use Rattle.plist_value.specs.Texts.{units_of}
 use Rattle.plist_object.specs.Views.{octets_of, numbers_of}
 use Rattle.plist_binary.specs.declared.fault.BinaryFault.TheVariants.{BadReference}
 use Rattle.plist_binary.specs.Paths.{containers_of}
-use Rattle.plist_ranks.specs.Ranks.{texts_of}
+use Rattle.plist_object.specs.Ranks.{texts_of}
 use Rattle.plist_binary.specs.declared.tables.Key.{Key}
 use Rattle.plist_binary.specs.Heads.{AreHeadless}
 use Rattle.plist_binary.specs.Keys.{units_at, AreInPlace, IsRanked}

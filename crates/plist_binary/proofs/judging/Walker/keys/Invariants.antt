@@ -1,7 +1,7 @@
 use Rattle.std.proofs.Common.{take, map}
 use Rattle.std.specs.Prelude.{All}
 use Rattle.plist_object.specs.Views.{octets_of, numbers_of}
-use Rattle.plist_ranks.specs.Ranks.{texts_of}
+use Rattle.plist_object.specs.Ranks.{texts_of}
 use Rattle.plist_binary.specs.Heads.{AreHeadless}
 use Rattle.plist_binary.specs.Keys.{units_at, AreInPlace, IsRanked}
 use Rattle.plist_binary.specs.Readings.{ReadsItems, texts}

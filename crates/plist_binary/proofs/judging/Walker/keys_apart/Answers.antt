@@ -5,7 +5,7 @@ use Rattle.std.specs.List.Sorted.{IsPermutation}
 use Rattle.std.proofs.lemmas.List.Sorted.{IsPermutation-map}
 use Rattle.plist_object.specs.Views.{numbers_of, octets_of}
 use Rattle.plist_binary.specs.declared.tables.Key.{Key}
-use Rattle.plist_ranks.specs.Order.{IsOrder}
+use Rattle.plist_object.specs.Order.{IsOrder}
 use Rattle.plist_binary.specs.Keys.{units_at, place_of}
 use Rattle.plist_binary.specs.Paths.{containers_of}
 use Rattle.plist_binary.specs.Recalls.{RefusesTable}

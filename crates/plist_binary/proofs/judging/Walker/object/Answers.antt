@@ -1,6 +1,6 @@
 use Rattle.std.proofs.Common.{sym}
 use Rattle.plist_object.specs.Views.{octets_of}
-use Rattle.plist_ranks.proofs.Ranked.{ranked_holds}
+use Rattle.plist_object.proofs.Ranked.{ranked_holds}
 use Rattle.plist_binary.proofs.judging.Walker.object.Goals as goal
 
 pub returns : goal.returns

@@ -1,0 +1,229 @@
+-- The ranks of texts.
+use Rattle.std.proofs.Common.{◌≡◌, ℕ, zero, suc, ◌+◌, ◌-◌, add-one, ◌<◌, List, [], ◌∷◌, ◌++◌, length, get_or, sym, ap, subst, ◌∙◌, arith, inl, inr, refl, Some, None}
+use Rattle.std.specs.Prelude.{Option, slice_set, map, All, replicate, take, ◌==◌, Bool, true, false}
+use Rattle.std.specs.declared.cmp.Ordering.{Ordering}
+use Rattle.std.specs.declared.cmp.Ordering.TheVariants.{Less, Equal, Greater}
+use Rattle.std.specs.Ordering.{nat_cmp, ordering_then, ordering_reverse, is_lt}
+use Rattle.std.specs.Option.{is_some}
+use Rattle.std.specs.Cmp.Lexicographic.{slice_cmp}
+use Rattle.std.specs.List.Sorted.{IsSorted, IsStrictlySortedBy}
+use Rattle.std.proofs.lemmas.Bool.{cases_lt, cases_eq, true≢false}
+use Rattle.std.proofs.lemmas.Cmp.{nat_list_cmp_total, tied_itself}
+use Rattle.std.proofs.lemmas.List.{get_or-map, map-append, get_or_append_left, get_or_push, length_push, get_or-set_same, get_or-set_other, get_or-replicate, get_or_past, get_or_default, length-replicate}
+use Rattle.std.proofs.lemmas.Map.Keys.{Less-from_sorted, sorted_from_all_adjacent}
+use Rattle.std.proofs.lemmas.Option.{slice_get_within, get_or_from_slice_get}
+use Rattle.std.proofs.lemmas.Map.Lookups.{exact_bytes}
+use Rattle.plist_value.specs.Texts.{units_of}
+use Rattle.plist_value.specs.declared.text_ref.TextRef.{TextRef}
+use Rattle.plist_object.specs.Layout.{trailer_of}
+use Rattle.plist_object.specs.declared.ranks.Ranks.{Ranks}
+use Rattle.plist_object.specs.declared.keys.Key.{Key}
+use Rattle.plist_object.specs.Ranks.{HoldsText, HoldsKey, AreRanks, in_order, rank_of, text_of_rank, texts_of}
+
+irreflexive : (units : List ℕ) → slice_cmp nat_cmp units units ≡ Less → ⊥
+irreflexive units below = absurd (let tied = tied_itself nat_list_cmp_total units in let e : Less ≡ Equal = sym below ∙ tied in cc)
+
+-- of texts that ascend the lower has the lower rank
+pub below_from_ranks : (texts : List (List ℕ)) (first second : ℕ) → IsStrictlySortedBy (slice_cmp nat_cmp) texts → second < length texts → first < second → slice_cmp nat_cmp (get_or texts first []) (get_or texts second []) ≡ Less
+below_from_ranks texts first second ascending within below =
+    Less-from_sorted (slice_cmp nat_cmp) texts first second [] ascending below within
+
+pub ranks_from_below : (texts : List (List ℕ)) (first second : ℕ) → IsStrictlySortedBy (slice_cmp nat_cmp) texts → first < length texts → slice_cmp nat_cmp (get_or texts first []) (get_or texts second []) ≡ Less → first < second
+ranks_from_below texts first second ascending within less =
+    let one = get_or texts first [] in
+    let other = get_or texts second [] in
+    elim (cases_lt first second) [
+      | inl below ↦ below
+      | inr above ↦ elim (cases_lt second first) [
+        | inl before ↦ (
+            let more : slice_cmp nat_cmp other one ≡ Less = Less-from_sorted (slice_cmp nat_cmp) texts second first [] ascending before within in
+            absurd (irreflexive one (nat_list_cmp_total.trans one other one less more)))
+        | inr after ↦ (
+            let is : second ≡ first = omega arith in
+            let level : slice_cmp nat_cmp one one ≡ Less = subst (λ (n : ℕ). slice_cmp nat_cmp one (get_or texts n []) ≡ Less) is less in
+            absurd (irreflexive one level))
+      ]
+    ]
+
+-- an object with a rank holds the text of the rank
+pub ranked_holds : (f : List ℕ) (ranks : Ranks) (i rank : ℕ) (t : TextRef) → AreRanks f ranks → rank_of ranks i ≡ Some rank → text_of_rank ranks rank ≡ Some t → HoldsText f i (units_of t)
+ranked_holds f ranks i rank t sound is found =
+    let items = ranks.texts.items in
+    let within : rank < length items = slice_get_within items rank t found in
+    let at : get_or (texts_of ranks) rank [] ≡ units_of t = get_or-map units_of items rank t [] within ∙ ap units_of (get_or_from_slice_get items rank t t found) in
+    subst (λ (units : List ℕ). HoldsText f i units) at (sound.held i rank is)
+
+-- the ranks of the texts so far, of which the last has the greatest
+pub record RankedTo (f : List ℕ) (numbers : List (Option ℕ)) (texts : List (List ℕ)) (rank : ℕ) (last : List ℕ) : Type 0 where
+  pub ascending : IsStrictlySortedBy (slice_cmp nat_cmp) texts
+  pub long : length texts ≡ rank + 1
+  pub ends : get_or texts rank [] ≡ last
+  pub within : (i r : ℕ) → get_or numbers i None ≡ Some r → r < length texts
+  pub held : (i r : ℕ) → get_or numbers i None ≡ Some r → HoldsText f i (get_or texts r [])
+
+pub sorted_push : (texts : List (List ℕ)) (next : List ℕ) (rank : ℕ) → IsStrictlySortedBy (slice_cmp nat_cmp) texts → length texts ≡ rank + 1 → slice_cmp nat_cmp (get_or texts rank []) next ≡ Less → IsStrictlySortedBy (slice_cmp nat_cmp) (texts ++ next ∷ [])
+sorted_push texts next rank sorted long below =
+    let all = texts ++ next ∷ [] in
+    sorted_from_all_adjacent nat_list_cmp_total all [] (λ k less.
+    let longer : length all ≡ length texts + 1 = length_push texts next in
+    let here : get_or all k [] ≡ get_or texts k [] = get_or_append_left texts (next ∷ []) [] k (omega arith) in
+    elim (cases_lt k rank) [
+      | inl earlier ↦ (
+          let there : get_or all (k + 1) [] ≡ get_or texts (k + 1) [] = get_or_append_left texts (next ∷ []) [] (k + 1) (omega arith) in
+          rw (here, there) (Less-from_sorted (slice_cmp nat_cmp) texts k (k + 1) [] sorted (omega arith) (omega arith)))
+      | inr late ↦ (
+          let is : rank ≡ k = omega arith in
+          let there : get_or all (k + 1) [] ≡ next = get_or_push texts next [] (k + 1) (omega arith) in
+          rw (here, there) (subst (λ (n : ℕ). slice_cmp nat_cmp (get_or texts n []) next ≡ Less) is below))
+    ])
+
+-- one number more was given, and the others are as they were
+numbered : (P : ℕ → ℕ → Type 0) (numbers : List (Option ℕ)) (object rank i r : ℕ) → object < length numbers → (get_or numbers i None ≡ Some r → P i r) → P object rank → get_or (slice_set numbers object (Some rank)) i None ≡ Some r → P i r
+numbered P numbers object rank i r within old new is =
+    elim (cases_eq i object) [
+      | inl same ↦ (
+          let at : get_or (slice_set numbers object (Some rank)) object None ≡ Some rank = get_or-set_same numbers object (Some rank) None within in
+          let found : Some rank ≡ Some r = sym at ∙ subst (λ (n : ℕ). get_or (slice_set numbers object (Some rank)) n None ≡ Some r) same is in
+          let equal : rank ≡ r = cc in
+          subst (λ (n : ℕ). P n r) (sym same) (subst (λ (n : ℕ). P object n) equal new))
+      | inr other ↦ old (sym (get_or-set_other numbers object i (Some rank) None other) ∙ is)
+    ]
+
+pub ranked_same : (f : List ℕ) (numbers : List (Option ℕ)) (texts : List (List ℕ)) (rank object : ℕ) (last : List ℕ) → RankedTo f numbers texts rank last → object < length numbers → HoldsText f object last → RankedTo f (slice_set numbers object (Some rank)) texts rank last
+ranked_same f numbers texts rank object last ranked within holds = record {
+  ascending = ranked.ascending;
+  long = ranked.long;
+  ends = ranked.ends;
+  within = λ i r. numbered (λ _ n. n < length texts) numbers object rank i r within (ranked.within i r) (omega (arith, ranked.long));
+  held = λ i r. numbered (λ j n. HoldsText f j (get_or texts n [])) numbers object rank i r within (ranked.held i r) (rw ranked.ends holds);
+}
+
+pub ranked_next : (f : List ℕ) (numbers : List (Option ℕ)) (before : List (List ℕ)) (rank object : ℕ) (last next : List ℕ) → RankedTo f numbers before rank last → object < length numbers → slice_cmp nat_cmp last next ≡ Less → HoldsText f object next → RankedTo f (slice_set numbers object (Some (rank + 1))) (before ++ next ∷ []) (rank + 1) next
+ranked_next f numbers before rank object last next ranked within below holds =
+    let texts = before ++ next ∷ [] in
+    let longer : length texts ≡ length before + 1 = length_push before next in
+    let ends : get_or texts (rank + 1) [] ≡ next = get_or_push before next [] (rank + 1) ranked.long in
+    record {
+      ascending = sorted_push before next rank ranked.ascending ranked.long (rw ranked.ends below);
+      long = omega (arith, longer, ranked.long);
+      ends = ends;
+      within = λ i r. numbered (λ _ n. n < length texts) numbers object (rank + 1) i r within (λ is. omega (arith, longer, ranked.within i r is)) (omega (arith, longer, ranked.long));
+      held = λ i r. numbered (λ j n. HoldsText f j (get_or texts n [])) numbers object (rank + 1) i r within
+          (λ is. rw (get_or_append_left before (next ∷ []) [] r (ranked.within i r is)) (ranked.held i r is))
+          (rw ends holds);
+    }
+
+not_above : (o p : Ordering) → o ≡ ordering_reverse p → is_lt p ≡ false → (o ≡ Less → ⊥) → o ≡ Equal
+not_above o Less is order apart = absurd cc
+not_above o Equal is order apart = is
+not_above o Greater is order apart = absurd (apart is)
+
+first_order : (o p : Ordering) → is_lt (ordering_then o p) ≡ false → is_lt o ≡ false
+first_order Less p order = order
+first_order Equal p order = refl
+first_order Greater p order = refl
+
+-- texts in order of which the first is not below the second are equal
+pub equal_texts : (last next : List ℕ) (rest : Ordering) → is_lt (ordering_then (slice_cmp nat_cmp next last) rest) ≡ false → (slice_cmp nat_cmp last next ≡ Less → ⊥) → last ≡ next
+equal_texts last next rest order apart =
+    exact_bytes last next (not_above (slice_cmp nat_cmp last next) (slice_cmp nat_cmp next last) (nat_list_cmp_total.antisymm last next) (first_order (slice_cmp nat_cmp next last) rest order) apart)
+
+pub less_from_lt : (o : Ordering) → is_lt o ≡ true → o ≡ Less
+less_from_lt Less is = refl
+less_from_lt Equal is = absurd (true≢false (sym is))
+less_from_lt Greater is = absurd (true≢false (sym is))
+
+-- the key at i is not below the text before it
+pub not_below : (keys : List Key) (i : ℕ) (before : TextRef) (d : Key) → IsSorted in_order keys → i < length keys → ((e : Key) → before ≡ (get_or keys (i - 1) e).text) → (slice_cmp nat_cmp (units_of before) (units_of (get_or keys i d).text) ≡ Less → ⊥) → units_of before ≡ units_of (get_or keys i d).text
+not_below keys zero before d sorted within at apart = ap units_of (at d)
+not_below keys (suc i) before d sorted within at apart =
+    let one_less : suc i - 1 ≡ i = omega arith in
+    let last = get_or keys i d in
+    let next = get_or keys (suc i) d in
+    let is : before ≡ last.text = subst (λ (n : ℕ). before ≡ (get_or keys n d).text) one_less (at d) in
+    let order : is_lt (in_order (get_or keys (i + 1) d) last) ≡ false = sorted i d (omega arith) (omega arith) in
+    let here : is_lt (in_order next last) ≡ false = subst (λ (n : ℕ). is_lt (in_order (get_or keys n d) last) ≡ false) (add-one i) order in
+    let other : slice_cmp nat_cmp (units_of last.text) (units_of next.text) ≡ Less → ⊥ = subst (λ (t : TextRef). slice_cmp nat_cmp (units_of t) (units_of next.text) ≡ Less → ⊥) is apart in
+    ap units_of is ∙ equal_texts (units_of last.text) (units_of next.text) (nat_cmp next.object last.object) here other
+
+-- the object of a key has a place among the numbers
+pub object_within : (f : List ℕ) (numbers : List (Option ℕ)) (long : ℕ) (keys : List Key) (i : ℕ) (d : Key) → long ≡ length numbers → length numbers ≡ (trailer_of f).count → All (HoldsKey f) keys → i < length keys → (get_or keys i d).object < long
+object_within f numbers long keys i d all counted held within =
+    let holds = held i d within in
+    let listed = holds.0.listed in
+    omega (arith, counted, all)
+
+pub ranked_above : (f : List ℕ) (numbers : List (Option ℕ)) (texts after : List TextRef) (keys : List Key) (i rank now : ℕ) (before : TextRef) (d : Key) (above : Bool) → length numbers ≡ (trailer_of f).count → All (HoldsKey f) keys → i < length keys → RankedTo f numbers (map units_of texts) rank (units_of before) → above ≡ is_lt (slice_cmp nat_cmp (units_of before) (units_of (get_or keys i d).text)) → above ≡ true → now ≡ rank + 1 → after ≡ texts ++ (get_or keys i d).text ∷ [] → RankedTo f (slice_set numbers (get_or keys i d).object (Some now)) (map units_of after) now (units_of (get_or keys i d).text)
+ranked_above f numbers texts after keys i rank now before d above counted held within ranked test answer is pushed =
+    let key = get_or keys i d in
+    let holds = held i d within in
+    let listed = holds.0.listed in
+    let below = less_from_lt (slice_cmp nat_cmp (units_of before) (units_of key.text)) (sym test ∙ answer) in
+    let all : map units_of after ≡ map units_of texts ++ units_of key.text ∷ [] = ap (λ (ts : List TextRef). map units_of ts) pushed ∙ map-append units_of texts (key.text ∷ []) in
+    let next = ranked_next f numbers (map units_of texts) rank key.object (units_of before) (units_of key.text) ranked (omega arith) below holds in
+    let there = subst (λ (n : ℕ). RankedTo f (slice_set numbers key.object (Some n)) (map units_of texts ++ units_of key.text ∷ []) n (units_of key.text)) (sym is) next in
+    subst (λ (l : List (List ℕ)). RankedTo f (slice_set numbers key.object (Some now)) l now (units_of key.text)) (sym all) there
+
+pub ranked_level : (f : List ℕ) (numbers : List (Option ℕ)) (texts after : List TextRef) (keys : List Key) (i rank now : ℕ) (before : TextRef) (d : Key) (above : Bool) → length numbers ≡ (trailer_of f).count → All (HoldsKey f) keys → IsSorted in_order keys → ((e : Key) → before ≡ (get_or keys (i - 1) e).text) → i < length keys → RankedTo f numbers (map units_of texts) rank (units_of before) → above ≡ is_lt (slice_cmp nat_cmp (units_of before) (units_of (get_or keys i d).text)) → above ≡ false → now ≡ rank → after ≡ texts → RankedTo f (slice_set numbers (get_or keys i d).object (Some now)) (map units_of after) now (units_of (get_or keys i d).text)
+ranked_level f numbers texts after keys i rank now before d above counted held sorted at within ranked test answer is kept =
+    let key = get_or keys i d in
+    let holds = held i d within in
+    let listed = holds.0.listed in
+    let same = not_below keys i before d sorted within at (λ less. true≢false (sym (ap is_lt less) ∙ sym test ∙ answer)) in
+    let here : RankedTo f numbers (map units_of texts) rank (units_of key.text) = subst (λ (units : List ℕ). RankedTo f numbers (map units_of texts) rank units) same ranked in
+    let there = subst (λ (n : ℕ). RankedTo f (slice_set numbers key.object (Some n)) (map units_of texts) n (units_of key.text)) (sym is) (ranked_same f numbers (map units_of texts) rank key.object (units_of key.text) here (omega arith) holds) in
+    subst (λ (ts : List TextRef). RankedTo f (slice_set numbers key.object (Some now)) (map units_of ts) now (units_of key.text)) (sym kept) there
+
+pub at_last : (keys : List Key) (i : ℕ) (d e : Key) → i < length keys → (get_or keys i d).text ≡ (get_or keys (i + 1 - 1) e).text
+at_last keys i d e within =
+    let is : i ≡ i + 1 - 1 = omega arith in
+    ap (λ (key : Key). key.text) (get_or_default keys i d e within) ∙ ap (λ (n : ℕ). (get_or keys n e).text) is
+
+abbrev pub no_rank : Option ℕ
+no_rank = None
+
+-- no object has a rank yet
+none_made : (n i : ℕ) → get_or (replicate n no_rank) i no_rank ≡ no_rank
+none_made n i =
+    elim (cases_lt i n) [
+      | inl within ↦ get_or-replicate n i no_rank no_rank within
+      | inr past ↦ get_or_past (replicate n no_rank) i no_rank (omega (arith, length-replicate n no_rank))
+    ]
+
+take_none : (n : ℕ) (old : List (Option ℕ)) → old ≡ [] → take n old ≡ []
+take_none zero [] empty = refl
+take_none (suc n) [] empty = refl
+take_none n (o ∷ old) empty = absurd cc
+
+pub all_none : (numbers old : List (Option ℕ)) (n k : ℕ) → numbers ≡ take n old ++ replicate k no_rank → old ≡ [] → (i : ℕ) → get_or numbers i no_rank ≡ no_rank
+all_none numbers old n k is empty i =
+    let made : numbers ≡ [] ++ replicate k no_rank = is ∙ ap (λ (front : List (Option ℕ)). front ++ replicate k no_rank) (take_none n old empty) in
+    ap (λ (all : List (Option ℕ)). get_or all i no_rank) made ∙ none_made k i
+
+pub some_key : (n : ℕ) → false ≡ (n == 0) → 0 < n
+some_key zero test = absurd (true≢false (sym test))
+some_key (suc n) test = omega arith
+
+ranked_one : (f : List ℕ) (numbers : List (Option ℕ)) (units : List ℕ) → ((i : ℕ) → get_or numbers i None ≡ None) → RankedTo f numbers (units ∷ []) 0 units
+unfolding IsStrictlySortedBy
+ranked_one f numbers units none = record {
+  ascending = (tt, tt);
+  long = refl;
+  ends = refl;
+  within = λ i r is. absurd (let no = none i in let e : None ≡ Some r = sym no ∙ is in cc);
+  held = λ i r is. absurd (let no = none i in let e : None ≡ Some r = sym no ∙ is in cc);
+}
+
+pub ranked_first : (f : List ℕ) (numbers : List (Option ℕ)) (before texts : List TextRef) (first : TextRef) → texts ≡ before ++ first ∷ [] → before ≡ [] → ((i : ℕ) → get_or numbers i None ≡ None) → RankedTo f numbers (map units_of texts) 0 (units_of first)
+ranked_first f numbers before texts first pushed empty none =
+    let is : texts ≡ first ∷ [] = pushed ∙ ap (λ (ts : List TextRef). ts ++ first ∷ []) empty in
+    subst (λ (ts : List TextRef). RankedTo f numbers (map units_of ts) 0 (units_of first)) (sym is) (ranked_one f numbers (units_of first) none)
+
+-- there is no rank at all
+pub no_ranks : (f : List ℕ) (ranks : Ranks) → ranks.of_objects.items ≡ [] → ranks.texts.items ≡ [] → AreRanks f ranks
+unfolding IsStrictlySortedBy
+no_ranks f ranks none no_texts = record {
+  ascending = subst (λ (ts : List TextRef). IsStrictlySortedBy (slice_cmp nat_cmp) (map units_of ts)) (sym no_texts) tt;
+  within = λ i r is. absurd (let e : None ≡ Some r = ap (λ (numbers : List (Option ℕ)). get_or numbers i None) (sym none) ∙ is in cc);
+  held = λ i r is. absurd (let e : None ≡ Some r = ap (λ (numbers : List (Option ℕ)). get_or numbers i None) (sym none) ∙ is in cc);
+}

@@ -1,0 +1,34 @@
+-- The keys of a table in the order of their texts.
+use Rattle.std.specs.Prelude.{◌≡◌, ℕ, ◌<◌, List, Option, All, IfSome, Ok, length, map, slice_index}
+use Rattle.std.specs.Ordering.{nat_cmp}
+use Rattle.std.specs.Cmp.Lexicographic.{slice_cmp}
+use Rattle.std.specs.List.{zip}
+use Rattle.std.specs.List.Sorted.{IsPermutation, IsStrictlySortedBy}
+use Rattle.plist_value.specs.Plist.{text}
+use Rattle.plist_object.specs.Objects.{holds_scalar}
+use Rattle.plist_object.specs.Places.{what_holds}
+use Rattle.plist_object.specs.Views.{numbers_of}
+use Rattle.plist_object.specs.declared.sorted.SortedKeys.{SortedKeys}
+
+-- what stands at a place of two lists
+abbrev pub pair_of : List ℕ → List ℕ → ℕ → ℕ × ℕ
+pair_of keys values place = (slice_index keys place, slice_index values place)
+
+-- there is one place for each of the keys, whatever their values are
+pub record ArePlaces (keys places : List ℕ) : Type 0 where
+  pub within : All (λ place. place < length keys) places
+  pub moved : (values : List ℕ) → length keys ≡ length values → IsPermutation (zip keys values) (map (pair_of keys values) places)
+
+-- the places of the keys in the order of their texts, of which each is below the next
+pub record IsOrder (f keys places : List ℕ) : Type 0 where
+  pub texts : List (List ℕ)
+  pub placed : ArePlaces keys places
+  pub held : map (λ place. what_holds f (slice_index keys place)) places ≡ map (λ units. Ok (holds_scalar (text units))) texts
+  pub ascend : IsStrictlySortedBy (slice_cmp nat_cmp) texts
+
+abbrev pub AreSorted : List ℕ → SortedKeys → Type 0
+AreSorted f keys = IsOrder f (numbers_of keys.refs) keys.places.items
+
+-- of the keys of a table, if they are those of one
+abbrev pub AreSortedIfAny : List ℕ → Option SortedKeys → Type 0
+AreSortedIfAny f keys = IfSome keys (AreSorted f)

@@ -1,0 +1,185 @@
+//! The texts that tables name as keys.
+ghost use Rattle.std.specs.Prelude.{◌≡◌, ◌<◌, IfOk, OnOk, IfSome};
+ghost use Rattle.std.specs.Option.{is_none};
+ghost use Rattle.plist_value.specs.Texts.{units_of};
+ghost use Rattle.plist_object.specs.Layout.{trailer_of};
+ghost use Rattle.plist_object.specs.Views.{octets_of};
+ghost use Rattle.plist_object.specs.Ranks.{AreKeys, AreRanks, HoldsText};
+
+use crate::layout::BinFile;
+use crate::object::{Object, ObjectFault};
+use crate::ranks::{Ranks, ranks_in_order};
+use crate::refs::Refs;
+use plist_value::{ScalarRef, TextRef};
+use std::alloc::{AllocError, Global};
+
+// A text and the object that holds it.
+#[derive(Clone, Copy, PartialEq, Eq, PartialOrd, Ord)]
+pub(crate) struct Key<'a> {
+    pub(crate) text: TextRef<'a>,
+    pub(crate) object: u64,
+}
+
+/// The texts that tables name as keys, each object once.
+#[derive(Drop)]
+pub struct Keys<'a> {
+    entries: Vec<Key<'a>>,
+    seen: Vec<bool>,
+    // How many octets may be read still, if not too many were.
+    room: Option<u64>,
+}
+
+impl<'a> Keys<'a> {
+    /// The keys of the tables up to the last object. It ends before at the first object that does
+    /// not read, at the first key that is no text, and where the texts overlap.
+    pub fn of_tables(alloc: Global, file: &BinFile<'a>, last: u64) -> Result<Keys<'a>, AllocError>
+        ensures { IfOk result (λ keys. AreKeys (octets_of file.now) keys) }
+    {
+        let mut keys = Keys::none(alloc, file, file.table())?;
+        for i in 0..file.count() {
+            if i > last || !keys.add_table(file, i)? {
+                return Ok(keys);
+            }
+        }
+        Ok(keys)
+    }
+
+    /// The keys of all tables that read. It ends before the last where so much was read that
+    /// objects overlap.
+    pub fn of_file(alloc: Global, file: &BinFile<'a>) -> Result<Keys<'a>, AllocError>
+        ensures { IfOk result (λ keys. AreKeys (octets_of file.now) keys) }
+    {
+        let mut keys = Keys::none(alloc, file, file.table().saturating_mul(4))?;
+        for i in 0..file.count() {
+            if keys.overlap() {
+                return Ok(keys);
+            }
+            keys.look(file, i)?;
+        }
+        Ok(keys)
+    }
+
+    // None yet, where so many octets may be read.
+    fn none(alloc: Global, file: &BinFile<'a>, room: u64) -> Result<Keys<'a>, AllocError>
+        ensures { IfOk result (λ keys. AreKeys (octets_of file.now) keys) }
+    {
+        let mut seen = Vec::new(alloc);
+        seen.resize(file.count() as usize, false)?;
+        Ok(Keys {
+            entries: Vec::new(alloc),
+            seen,
+            room: Some(room),
+        })
+    }
+
+    // Adds the keys of the object, if it is a table.
+    fn look(&mut self, file: &BinFile<'a>, i: u64) -> Result<(), AllocError>
+        requires listed { i < (trailer_of (octets_of file.now)).count }
+        requires keys { AreKeys (octets_of file.now) self.old }
+        ensures { OnOk result (AreKeys (octets_of file.now) self.new) }
+    {
+        let read = match file.object(i) {
+            Ok(Object::Table(keys, _)) => return self.look_at_all(file, &keys),
+            Ok(Object::Scalar(ScalarRef::Text(text))) => text.len() as u64,
+            Err(ObjectFault::NotAscii) => file.table() / 8,
+            _ => 0,
+        };
+        self.room = less(self.room, read);
+        Ok(())
+    }
+
+    // Adds the keys that are texts. One that is none may have been read up to the offset table.
+    fn look_at_all(&mut self, file: &BinFile<'a>, keys: &Refs) -> Result<(), AllocError>
+        requires { AreKeys (octets_of file.now) self.old }
+        ensures { OnOk result (AreKeys (octets_of file.now) self.new) }
+    {
+        self.room = less(self.room, keys.len());
+        for k in 0..keys.len() {
+            if self.overlap() {
+                return Ok(());
+            }
+            let added = self.add(file, keys.get(k))?;
+            let read = if added { 0 } else { file.table() / 8 };
+            self.room = less(self.room, read);
+        }
+        Ok(())
+    }
+
+    // Whether the object reads, and its keys, if it is a table, were added.
+    fn add_table(&mut self, file: &BinFile<'a>, i: u64) -> Result<bool, AllocError>
+        requires listed { i < (trailer_of (octets_of file.now)).count }
+        requires keys { AreKeys (octets_of file.now) self.old }
+        ensures { OnOk result (AreKeys (octets_of file.now) self.new) }
+    {
+        match file.object(i) {
+            Ok(Object::Table(keys, _)) => self.add_all(file, &keys),
+            Ok(_) => Ok(true),
+            Err(_) => Ok(false),
+        }
+    }
+
+    fn add_all(&mut self, file: &BinFile<'a>, keys: &Refs) -> Result<bool, AllocError>
+        requires { AreKeys (octets_of file.now) self.old }
+        ensures { OnOk result (AreKeys (octets_of file.now) self.new) }
+    {
+        for k in 0..keys.len() {
+            if !self.add(file, keys.get(k))? {
+                return Ok(false);
+            }
+        }
+        Ok(true)
+    }
+
+    // Whether the object holds a text, which is then among the keys, and the texts do not overlap.
+    fn add(&mut self, file: &BinFile<'a>, object: u64) -> Result<bool, AllocError>
+        requires { AreKeys (octets_of file.now) self.old }
+        ensures { OnOk result (AreKeys (octets_of file.now) self.new) }
+    {
+        if object >= file.count() {
+            return Ok(false);
+        }
+        if self.seen[object as usize] {
+            return Ok(true);
+        }
+        let Some(text) = text_of(file, object) else {
+            return Ok(false);
+        };
+        self.seen[object as usize] = true;
+        self.room = less(self.room, text.len() as u64);
+        self.entries.push(Key { text, object })?;
+        Ok(!self.overlap())
+    }
+
+    /// Whether more was read than the part of the file before the offset table holds, which only
+    /// texts that overlap can be.
+    pub fn overlap(&self) -> bool
+        ensures { result ≡ is_none self.now.room }
+    {
+        self.room.is_none()
+    }
+
+    /// The ranks of the texts.
+    pub fn ranks(&mut self, alloc: Global, file: &BinFile<'a>) -> Result<Ranks<'a>, AllocError>
+        requires { AreKeys (octets_of file.now) self.old }
+        ensures { IfOk result (λ ranks. AreRanks (octets_of file.now) ranks) }
+    {
+        self.entries.sort_unstable();
+        ranks_in_order(alloc, file, &self.entries)
+    }
+}
+
+// What may be read after so many octets more, if they were not too many.
+fn less(room: Option<u64>, read: u64) -> Option<u64> {
+    room?.checked_sub(read)
+}
+
+// The text that the object holds, if it holds one.
+fn text_of<'a>(file: &BinFile<'a>, object: u64) -> Option<TextRef<'a>>
+    requires { object < (trailer_of (octets_of file.now)).count }
+    ensures { IfSome result (λ t. HoldsText (octets_of file.now) object (units_of t)) }
+{
+    match file.object(object) {
+        Ok(Object::Scalar(ScalarRef::Text(text))) => Some(text),
+        _ => None,
+    }
+}

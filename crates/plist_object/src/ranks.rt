@@ -1,0 +1,78 @@
+//! The ranks of objects that hold texts.
+ghost use Rattle.std.specs.Prelude.{◌≡◌, ℕ, List, All, IfOk};
+ghost use Rattle.std.specs.List.Sorted.{IsSorted};
+ghost use Rattle.plist_object.specs.Views.{octets_of};
+ghost use Rattle.plist_object.specs.Ranks.{HoldsKey, AreRanks, in_order, rank_of, text_of_rank};
+
+use crate::keys::Key;
+use crate::layout::BinFile;
+use plist_value::TextRef;
+use std::alloc::{AllocError, Global};
+
+/// The ranks of some objects that hold texts: equal texts have one rank, and a lower text has a
+/// lower one. Which objects have a rank is not said: it is a memo.
+#[derive(Drop)]
+pub struct Ranks<'a> {
+    of_objects: Vec<Option<u64>>,
+    texts: Vec<TextRef<'a>>,
+}
+
+impl<'a> Ranks<'a> {
+    /// No object has a rank.
+    pub fn none(alloc: Global) -> Ranks<'a>
+        ensures { (f : List ℕ) → AreRanks f result }
+    {
+        Ranks {
+            of_objects: Vec::new(alloc),
+            texts: Vec::new(alloc),
+        }
+    }
+
+    /// The rank of the object, if it has one.
+    pub fn get(&self, object: u64) -> Option<u64>
+        ensures { result ≡ rank_of self.now object }
+    {
+        if object < self.of_objects.len() as u64 {
+            self.of_objects[object as usize]
+        } else {
+            None
+        }
+    }
+
+    /// The text of the rank, if it is one.
+    pub fn text(&self, rank: u64) -> Option<TextRef<'a>>
+        ensures { result ≡ text_of_rank self.now rank }
+    {
+        self.texts.get(rank as usize).copied()
+    }
+}
+
+/// The ranks of texts that stand in their order.
+pub(crate) fn ranks_in_order<'a>(
+    alloc: Global,
+    file: &BinFile<'a>,
+    keys: &[Key<'a>],
+) -> Result<Ranks<'a>, AllocError>
+    requires held { All (HoldsKey (octets_of file.now)) keys.now }
+    requires sorted { IsSorted in_order keys.now }
+    ensures { IfOk result (λ ranks. AreRanks (octets_of file.now) ranks) }
+{
+    if keys.is_empty() {
+        return Ok(Ranks::none(alloc));
+    }
+    let mut of_objects = Vec::new(alloc);
+    of_objects.resize(file.count() as usize, None)?;
+    let mut texts = Vec::new(alloc);
+    let mut rank = 0;
+    let mut before = keys[0].text;
+    texts.push(before)?;
+    for key in keys {
+        if before < key.text {
+            rank += 1;
+            texts.push(key.text)?;
+        }
+        of_objects[key.object as usize] = Some(rank);
+        before = key.text;
+    }
+    Ok(Ranks { of_objects, texts })
+}
