@@ -15,7 +15,7 @@
 PREFIX ?= /usr/local
 SECONDS ?= 60
 SEED ?= 1
-VERSION := $(shell sed -n 's/.*\.version("\(.*\)").*/\1/p' crates/plist_words/src/commands.rt)
+VERSION := $(shell sed -n 's/.*\.version("\(.*\)").*/\1/p' crates/plist_convert/src/commands.rt)
 
 .PHONY: all help test around edits fuzz recipes new-user words bench hostile growths install uninstall clean
 all: plistconv

@@ -13,7 +13,7 @@ files = $(shell find $(wildcard $(addprefix crates/$(1)/,src specs proofs)))
 
 # (expanded once, when the first crate is about to be proved)
 FIRST = $(eval FIRST :=)$(if $(shell command -v $(RT) 2> /dev/null),,$(error \
-  There is no $(RT) on the path: README.md, Set-up, says what it is))$(if $(wildcard out/plist_files.proved),,$(info \
+  There is no $(RT) on the path: README.md, Set-up, says what it is))$(if $(wildcard out/plist_forms.proved),,$(info \
   The toolchain builds only what it has proved. The first build proves every crate below the program: some 30)$(info \
   processor minutes, on $(JOBS) processors. Broken off, it goes on where it was.))
 

@@ -12,7 +12,7 @@ What stands in backticks in a page is checked where its form tells what it is:
 - in docs/PROOFS.md, ARCHITECTURE.md and DECISIONS.md a name with `_` (`put_scalar`): some crate has it.
 Words in capitals stand for others (`crates/NAME/src`), and what has them is passed over.
 Besides:
-- the README's graph (lines `plist_disk → plist_transfer → plist_files`) is that of crates.txt: what a crate reaches by
+- the README's graph (lines `plist_convert → plist_forms → plist_canon`) is that of crates.txt: what a crate reaches by
   its arrows is what it reaches by crates.txt. The crates of tests are left out;
 - docs/ARCHITECTURE.md has a row for each crate, and its layers have each crate once, none above what it stands on;
 - docs/FORMATS.md has each refusal with its number and its name, and the limits as the code has them, SECURITY.md too;
@@ -213,7 +213,7 @@ def number_faults():
     code = re.findall(r"(?m)^number_of (\w+) = (\d+)$", read("crates/plist_value/specs/Refusals.antt"))
     if table != {int(number): name for name, number in code}:
         yield "FORMATS.md: its refusals are not those of plist_value/specs/Refusals.antt"
-    constants = "".join(read(f"crates/{file}.rt") for file in ("plist_value/src/lib", "plist_files/src/loading"))
+    constants = "".join(read(f"crates/{file}.rt") for file in ("plist_value/src/lib", "plist_forms/src/loading"))
     for name, number in re.findall(r"pub const (MAX_\w+): u64 = ([\d_]+);", constants):
         for page in ("docs/FORMATS.md", "SECURITY.md"):
             if number.replace("_", ",") not in read(page):
@@ -222,7 +222,7 @@ def number_faults():
 
 def version_faults():
     """The places where another version stands than in the program."""
-    version = re.search(r'\.version\("([^"]+)"\)', read("crates/plist_words/src/commands.rt"))[1]
+    version = re.search(r'\.version\("([^"]+)"\)', read("crates/plist_convert/src/commands.rt"))[1]
     if f"\n## {version}\n" not in read("CHANGELOG.md"):
         yield f"CHANGELOG.md: nothing of version {version}"
     for file, before in (

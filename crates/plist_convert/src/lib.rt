@@ -3,11 +3,33 @@
 //! converted between them, canonical files, refusals.
 #![tactic(auto)]
 
+pub mod answers;
+mod commands;
+mod delivery;
+pub mod disks;
+mod entry;
+mod filtering;
+mod help;
+pub mod host_disk;
+mod host_file;
+pub mod memory_disk;
+mod memory_file;
+mod printing;
+mod reading;
+mod request;
+mod verdicts;
+mod words;
+
+pub use disks::Disk;
+pub use entry::{run, run_on, run_on_with_hasher, run_to_end};
+pub use host_disk::HostDisk;
+pub use memory_disk::MemoryDisk;
 pub use plist_devices::{
     DeviceFault, ListSink, ListSource, ReaderSource, Sink, Source, Stream, WriterSink,
 };
-pub use plist_files::{
-    Fault, Form, MAX_INPUT, PairFault, Status, canonicalise, laws, line, load, read_any, same_files,
+pub use plist_forms::{
+    Fault, Form, MAX_INPUT, PairFault, Status, canonicalise, convert, laws, line, load, read_any,
+    same_files,
 };
-pub use plist_program::{run, run_to_end};
-pub use plist_transfer::convert;
+pub use reading::read_words;
+pub use request::Request;

@@ -1,6 +1,6 @@
 //! The deepest list that a text may spell.
 use crate::texts::nested;
-use plist_files::canonicalise;
+use plist_forms::canonicalise;
 use std::test::Fail;
 use test_files::chain;
 

@@ -5,7 +5,7 @@ use crate::texts::{SMALL_TEXTS, nested};
 use ostep_draft::draft_text;
 use plist_binary::judge;
 use plist_canon::canonical;
-use plist_files::read_any;
+use plist_forms::read_any;
 use std::alloc::{AllocError, Global};
 use std::test::Fail;
 

@@ -3,7 +3,7 @@ use crate::chance::NoChance;
 use crate::host_tests::{holds, put_files, remove_files, status_of};
 use crate::words::words_of;
 use crate::worked_files::{TABLE, WRITTEN_TEXT};
-use plist_program::run_to_end;
+use plist_convert::run_to_end;
 use std::fs;
 use std::test::Fail;
 

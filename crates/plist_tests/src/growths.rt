@@ -5,7 +5,7 @@ use ostep_text::{TextFault, TextWriteFault, read_text, write_text};
 use plist_binary::{BinaryFault, read};
 use plist_canon::{CheckFault, ListSink, Verdict, WriteFault, canonical, check, write_canonical};
 use plist_devices::ListSource;
-use plist_files::{Fault, PairFault, canonicalise, line, load, read_any, same_files};
+use plist_forms::{Fault, PairFault, canonicalise, line, load, read_any, same_files};
 use plist_value::{Utf16, Value, copy, fits, same};
 use std::alloc::{AllocError, Global};
 use std::test::Fail;

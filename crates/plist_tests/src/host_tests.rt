@@ -3,7 +3,7 @@ use crate::words::words_of;
 use crate::worked_files::{
     REAL4, REAL8, TABLE, TABLE_TEXT, TRUE, TWICE, UNSORTED, VALUES_FIRST, WRITTEN_TEXT,
 };
-use plist_program::run;
+use plist_convert::run;
 use std::alloc::{AllocError, Global};
 use std::fs;
 use std::io::{self, Read, Write};

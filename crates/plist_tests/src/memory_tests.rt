@@ -1,9 +1,8 @@
 //! The whole program over a disk, an input and an output in memory.
 use crate::words::words_of;
 use crate::worked_files::{TABLE, UNSORTED};
+use plist_convert::{Disk, MemoryDisk, run_on, run_on_with_hasher};
 use plist_devices::{ListSink, ListSource};
-use plist_disk::{Disk, MemoryDisk};
-use plist_program::{run_on, run_on_with_hasher};
 use plist_value::FixedHasher;
 use std::alloc::{AllocError, Global};
 use std::hash::{BuildHasher, RandomState};

@@ -3,7 +3,7 @@ use crate::files::{long_files, small_files};
 use crate::texts::{SMALL_TEXTS, nested};
 use ostep_lex::tokens;
 use plist_canon::check;
-use plist_files::read_any;
+use plist_forms::read_any;
 use std::alloc::Global;
 use std::test::Fail;
 

@@ -1,7 +1,7 @@
 //! Prints to sinks that fail, and where memory runs out.
 use crate::transfer_tests::is_front;
 use plist_devices::{ListSink, Sink};
-use plist_files::{Fault, canonicalise, print};
+use plist_forms::{Fault, canonicalise, print};
 use std::alloc::{AllocError, Global};
 use std::test::Fail;
 use test_files::file;

@@ -2,7 +2,7 @@
 use plist_convert::{
     DeviceFault, Fault, Form, ListSink, ListSource, Sink, Source, canonicalise, convert,
 };
-use plist_transfer::convert_octets;
+use plist_forms::convert_octets;
 use std::alloc::{AllocError, Global};
 use std::ops::Range;
 use std::test::Fail;

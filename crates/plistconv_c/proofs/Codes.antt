@@ -5,8 +5,8 @@ use Rattle.plist_value.specs.declared.refusals.Refusal.{Refusal}
 use Rattle.plist_value.specs.declared.refusals.Refusal.TheVariants as refusal
 use Rattle.plist_canon.specs.Codes.{check_code, check_report}
 use Rattle.plist_canon.specs.declared.checking.CheckFault.{CheckFault}
-use Rattle.plist_files.specs.Fault.{code_of, report_of}
-use Rattle.plist_files.specs.declared.faults.Fault.{Fault}
+use Rattle.plist_forms.specs.Fault.{code_of, report_of}
+use Rattle.plist_forms.specs.declared.faults.Fault.{Fault}
 
 above : (refusal : Refusal) → 0 < number_of refusal
 above refusal.TooShort = lit< tt

@@ -1,13 +1,13 @@
 -- From what a print ensures to what is gathered of it.
 use Rattle.std.proofs.Common.{inl, inr, refl, sym, subst, Err, List, [], Ok, Option, Result, Some, ℕ, ◌∙◌, ◌≡◌, ◌≢◌}
 use Rattle.plist_value.specs.Plist.{Plist}
-use Rattle.plist_files.specs.Accepted.{IsAccepted}
-use Rattle.plist_files.specs.Fault.{write_fault_for}
-use Rattle.plist_files.specs.Printed.{IsPrintOf, Prints}
-use Rattle.plist_files.specs.Refusals.{IsRefused}
-use Rattle.plist_files.specs.Sent.{answer_of}
-use Rattle.plist_files.specs.declared.faults.Fault.{Fault}
-use Rattle.plist_files.specs.declared.faults.Fault.TheVariants.{Binary, Text, NotInOpenStep, ReadFailed, WriteFailed, InputTooLarge, OutOfMemory}
+use Rattle.plist_forms.specs.Accepted.{IsAccepted}
+use Rattle.plist_forms.specs.Fault.{write_fault_for}
+use Rattle.plist_forms.specs.Printed.{IsPrintOf, Prints}
+use Rattle.plist_forms.specs.Refusals.{IsRefused}
+use Rattle.plist_forms.specs.Sent.{answer_of}
+use Rattle.plist_forms.specs.declared.faults.Fault.{Fault}
+use Rattle.plist_forms.specs.declared.faults.Fault.TheVariants.{Binary, Text, NotInOpenStep, ReadFailed, WriteFailed, InputTooLarge, OutOfMemory}
 use Rattle.plist_write.specs.Sending.{IsWritten}
 use Rattle.plist_write.specs.declared.sending.WriteFault.{WriteFault}
 use Rattle.plist_write.specs.declared.sending.WriteFault.TheVariants as write

@@ -4,9 +4,9 @@ use Rattle.std.proofs.Common.{◌≡◌, ◌∙◌, ℕ, Some, refl, sym, ap, su
 use Rattle.std.proofs.lemmas.Option.{same_Some}
 use Rattle.plist_binary.specs.declared.fault.BinaryFault.TheVariants as binary
 use Rattle.ostep_text.specs.declared.fault.TextFault.TheVariants as text
-use Rattle.plist_files.specs.Fault.{code_of, fault_text, report_of}
-use Rattle.plist_files.specs.declared.faults.Fault.{Fault}
-use Rattle.plist_files.specs.declared.faults.Fault.TheVariants.{Binary, Text, NotInOpenStep, ReadFailed, WriteFailed, InputTooLarge, OutOfMemory}
+use Rattle.plist_forms.specs.Fault.{code_of, fault_text, report_of}
+use Rattle.plist_forms.specs.declared.faults.Fault.{Fault}
+use Rattle.plist_forms.specs.declared.faults.Fault.TheVariants.{Binary, Text, NotInOpenStep, ReadFailed, WriteFailed, InputTooLarge, OutOfMemory}
 use Rattle.plistconv_c.specs.Lines.{fault_at}
 use Rattle.plistconv_c.specs.Refusals.{place_of, refusal_of, unit_of}
 use Rattle.plistconv_c.specs.declared.refusals.Refusal.{Refusal}

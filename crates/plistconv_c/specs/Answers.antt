@@ -7,13 +7,13 @@ use Rattle.plist_canon.specs.Locality.{IsCanonical}
 use Rattle.plist_canon.specs.declared.checking.CheckFault.{CheckFault}
 use Rattle.plist_canon.specs.declared.checking.Verdict.{Verdict}
 use Rattle.plist_canon.specs.declared.checking.Verdict.TheVariants.{Canonical, Broken}
-use Rattle.plist_files.specs.Accepted.{IsAccepted, IsCanonicalOf}
-use Rattle.plist_files.specs.Fault.{check_fault_for}
-use Rattle.plist_files.specs.Pair.{IsPair}
-use Rattle.plist_files.specs.Printed.{IsPrintOf}
-use Rattle.plist_files.specs.Refusals.{IsRefused}
-use Rattle.plist_files.specs.declared.faults.Fault.{Fault}
-use Rattle.plist_files.specs.declared.faults.Fault.TheVariants.{OutOfMemory, WriteFailed}
+use Rattle.plist_forms.specs.Accepted.{IsAccepted, IsCanonicalOf}
+use Rattle.plist_forms.specs.Fault.{check_fault_for}
+use Rattle.plist_forms.specs.Pair.{IsPair}
+use Rattle.plist_forms.specs.Printed.{IsPrintOf}
+use Rattle.plist_forms.specs.Refusals.{IsRefused}
+use Rattle.plist_forms.specs.declared.faults.Fault.{Fault}
+use Rattle.plist_forms.specs.declared.faults.Fault.TheVariants.{OutOfMemory, WriteFailed}
 use Rattle.plistconv_c.specs.Given.{IsGiven}
 use Rattle.plistconv_c.specs.Refusals.{no_refusal, refusal_of}
 use Rattle.plistconv_c.specs.declared.checking.Finding.{Finding}

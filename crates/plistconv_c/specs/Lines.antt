@@ -2,9 +2,9 @@
 use Rattle.std.specs.Prelude.{◌≡◌, ◌⊎◌, ◌==◌, ℕ, List, Option, Some, None, if◌then◌else◌}
 use Rattle.plist_binary.specs.declared.fault.BinaryFault.TheVariants as binary
 use Rattle.ostep_text.specs.declared.fault.TextFault.TheVariants as text
-use Rattle.plist_files.specs.Line.{line_of}
-use Rattle.plist_files.specs.declared.faults.Fault.{Fault}
-use Rattle.plist_files.specs.declared.faults.Fault.TheVariants.{Binary, Text, NotInOpenStep, ReadFailed, WriteFailed, InputTooLarge, OutOfMemory}
+use Rattle.plist_forms.specs.Line.{line_of}
+use Rattle.plist_forms.specs.declared.faults.Fault.{Fault}
+use Rattle.plist_forms.specs.declared.faults.Fault.TheVariants.{Binary, Text, NotInOpenStep, ReadFailed, WriteFailed, InputTooLarge, OutOfMemory}
 use Rattle.plistconv_c.specs.Given.{IsGiven}
 use Rattle.plistconv_c.specs.Refusals.{refusal_of}
 use Rattle.plistconv_c.specs.declared.refusals.Refusal.{Refusal}

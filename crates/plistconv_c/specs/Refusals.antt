@@ -2,8 +2,8 @@
 use Rattle.std.specs.Prelude.{ℕ}
 use Rattle.plist_value.specs.declared.refusals.Place.{Place}
 use Rattle.plist_value.specs.declared.refusals.Place.TheVariants.{Nowhere, Object, Octet, After}
-use Rattle.plist_files.specs.Fault.{code_of, report_of}
-use Rattle.plist_files.specs.declared.faults.Fault.{Fault}
+use Rattle.plist_forms.specs.Fault.{code_of, report_of}
+use Rattle.plist_forms.specs.declared.faults.Fault.{Fault}
 use Rattle.plistconv_c.specs.declared.refusals.Refusal.{Refusal}
 
 -- what a place is: 0 nothing, 1 an object, 2 an octet of the input, 3 how many octets had gone out

@@ -2,10 +2,10 @@
 use Rattle.std.specs.Prelude.{◌≡◌, ℕ, List, Some, None}
 use Rattle.plist_value.specs.Plist.{Plist}
 use Rattle.ostep_text.specs.Written.{text_of}
-use Rattle.plist_files.specs.Accepted.{IsAccepted}
-use Rattle.plist_files.specs.Refusals.{IsRefused}
-use Rattle.plist_files.specs.declared.faults.Fault.{Fault}
-use Rattle.plist_files.specs.declared.faults.Fault.TheVariants.{NotInOpenStep}
+use Rattle.plist_forms.specs.Accepted.{IsAccepted}
+use Rattle.plist_forms.specs.Refusals.{IsRefused}
+use Rattle.plist_forms.specs.declared.faults.Fault.{Fault}
+use Rattle.plist_forms.specs.declared.faults.Fault.TheVariants.{NotInOpenStep}
 use Rattle.plistconv_c.specs.Given.{IsGiven}
 use Rattle.plistconv_c.specs.Refusals.{no_refusal, refusal_of}
 use Rattle.plistconv_c.specs.declared.refusals.Refusal.{Refusal}

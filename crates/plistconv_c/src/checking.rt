@@ -8,7 +8,7 @@ ghost use Rattle.plistconv_c.specs.Answers.{IsChecked, IsUnchecked, finding_of};
 use crate::Refusal;
 use crate::keys::keyed_hasher;
 use plist_canon::{CheckFault, Verdict, check, check_with_hasher};
-use plist_files::Fault;
+use plist_forms::Fault;
 use std::alloc::Global;
 
 /// What a check finds.

@@ -7,7 +7,7 @@ ghost use Rattle.plistconv_c.specs.Refusals.{refusal_of};
 use crate::Refusal;
 use ostep_text::TextFault;
 use plist_binary::BinaryFault;
-use plist_files::Fault;
+use plist_forms::Fault;
 
 // The fault that is told, where there is one. Of faults that are told alike it is one.
 pub(crate) fn fault_of(refusal: &Refusal) -> Option<Fault>

@@ -1,15 +1,15 @@
 //! The canonical file of octets, and whether two spell the same.
 ghost use Rattle.std.specs.Prelude.{◌≡◌, ◌≢◌, IfOk, IfErr};
-ghost use Rattle.plist_files.specs.Accepted.{IsCanonicalOf};
-ghost use Rattle.plist_files.specs.Pair.{IsPair, IsRefusedPair as IsRefusedOf};
-ghost use Rattle.plist_files.specs.Refusals.{IsRefused};
+ghost use Rattle.plist_forms.specs.Accepted.{IsCanonicalOf};
+ghost use Rattle.plist_forms.specs.Pair.{IsPair, IsRefusedPair as IsRefusedOf};
+ghost use Rattle.plist_forms.specs.Refusals.{IsRefused};
 ghost use Rattle.plistconv_c.specs.Answers.{IsCanonicalGiven, IsCompared};
 ghost use Rattle.plistconv_c.specs.Answers.{IsRefusedPair, IsRefusedWhole};
 
 use crate::Refusal;
 use crate::giving::give;
 use crate::keys::keyed_hasher;
-use plist_files::{
+use plist_forms::{
     Fault, PairFault, canonicalise, canonicalise_with_hasher, same_files, same_files_with_hasher,
 };
 use std::alloc::Global;

@@ -1,4 +1,4 @@
-//! The C library: what `plist_files` offers, over buffers of the caller.
+//! The C library: what `plist_forms` offers, over buffers of the caller.
 //!
 //! Each call answers 0, or the number of the refusal, which it also tells in a [`Refusal`]. Calls
 //! share nothing. `include/plistconv.h` says the same in C.

@@ -1,12 +1,12 @@
 //! The printed line of a refusal.
 ghost use Rattle.std.specs.Prelude.{◌≡◌, ◌≢◌, IfOk};
-ghost use Rattle.plist_files.specs.Line.{line_of};
+ghost use Rattle.plist_forms.specs.Line.{line_of};
 ghost use Rattle.plistconv_c.specs.Lines.{IsLineGiven, IsNoLine};
 
 use crate::Refusal;
 use crate::faults::fault_of;
 use crate::giving::give;
-use plist_files::{Fault, line};
+use plist_forms::{Fault, line};
 use std::alloc::{AllocError, Global};
 
 /// The printed line of a refusal that a call told, without a line end, at the head of the buffer:

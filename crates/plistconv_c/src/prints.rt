@@ -1,13 +1,13 @@
 //! The printed text of a value.
 ghost use Rattle.std.specs.Prelude.{◌≡◌, ◌≢◌, IfOk, IfErr};
-ghost use Rattle.plist_files.specs.Printed.{IsPrintOf};
-ghost use Rattle.plist_files.specs.Refusals.{IsRefused};
+ghost use Rattle.plist_forms.specs.Printed.{IsPrintOf};
+ghost use Rattle.plist_forms.specs.Refusals.{IsRefused};
 ghost use Rattle.plistconv_c.specs.Answers.{IsPrintGiven, IsRefusedWhole, gathered_fault};
 
 use crate::Refusal;
 use crate::gathering::Gathering;
 use crate::giving::give;
-use plist_files::{Fault, print};
+use plist_forms::{Fault, print};
 use std::alloc::Global;
 
 /// The printed text of the value that the octets spell, at the head of the buffer. Two values print

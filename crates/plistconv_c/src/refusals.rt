@@ -2,7 +2,7 @@
 ghost use Rattle.std.specs.Prelude.{◌≡◌};
 ghost use Rattle.plistconv_c.specs.Refusals.{no_refusal, place_of, refusal_of, unit_of};
 
-use plist_files::Fault;
+use plist_forms::Fault;
 use plist_value::Place;
 
 /// Why a call was refused: all are 0 where it was not.

@@ -5,7 +5,7 @@ ghost use Rattle.plistconv_c.specs.Texts.{IsTextGiven, IsTextRefused};
 use crate::Refusal;
 use crate::giving::give;
 use ostep_text::{TextWriteFault, write_text};
-use plist_files::{Fault, read_any};
+use plist_forms::{Fault, read_any};
 use std::alloc::Global;
 
 /// The OpenStep text of the value that the octets spell, at the head of the buffer. Where the

@@ -8,7 +8,7 @@ use crate::row::{Question, Row};
 use crate::values::answer_value;
 use ostep_lex::{Token, TokenKind, open, tokens};
 use plist_devices::ListSink;
-use plist_files::{judge_any, print, read_any};
+use plist_forms::{judge_any, print, read_any};
 use plist_object::{BinFile, Object, Refs};
 use plist_value::Utf16;
 use std::alloc::{AllocError, Global};

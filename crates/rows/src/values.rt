@@ -3,7 +3,7 @@
 use crate::octets::shown;
 use ostep_text::write_text;
 use plist_canon::{Verdict, canonical, check};
-use plist_files::{
+use plist_forms::{
     Fault, PairFault, begins_as_binary, canonicalise, judge_any, line, read_any, same_files,
 };
 use std::alloc::{AllocError, Global};

@@ -1,8 +1,8 @@
 use Rattle.std.proofs.Common.{◌∙◌, sym, ap, refl, subst}
 use Rattle.plist_value.specs.Plist.{Plist}
-use Rattle.plist_files.specs.Accepted.{IsAccepted}
-use Rattle.plist_files.specs.Pair.{IsRefusedPair}
-use Rattle.plist_files.specs.Refusals.{IsRefused}
+use Rattle.plist_forms.specs.Accepted.{IsAccepted}
+use Rattle.plist_forms.specs.Pair.{IsRefusedPair}
+use Rattle.plist_forms.specs.Refusals.{IsRefused}
 use Rattle.plistconv_c.specs.Answers.{second_refused}
 use Rattle.plistconv_c.specs.declared.refusals.Refusal.{Refusal}
 use Rattle.plistconv_c.proofs.files.plistconv_same.Goals as goal

@@ -1,5 +1,5 @@
 use Rattle.std.proofs.Common.{◌≡◌, ◌++◌, ◌∙◌, ℕ, List, codes, refl, sym, ap, subst, inr}
-use Rattle.plist_files.specs.Line.{line_of}
+use Rattle.plist_forms.specs.Line.{line_of}
 use Rattle.plistconv_c.specs.Given.{IsGiven}
 use Rattle.plistconv_c.proofs.Named.{printed_alike}
 use Rattle.plistconv_c.proofs.lines.plistconv_line.Goals as goal

@@ -1,8 +1,8 @@
 use Rattle.std.proofs.Common.{rules, ◌≡◌, None, ◌∙◌, sym, ap, refl}
 use Rattle.plist_value.specs.View.{view}
 use Rattle.ostep_text.specs.Written.{text_of}
-use Rattle.plist_files.specs.Refusals.{IsRefused}
-use Rattle.plist_files.specs.declared.faults.Fault.TheVariants.{OutOfMemory}
+use Rattle.plist_forms.specs.Refusals.{IsRefused}
+use Rattle.plist_forms.specs.declared.faults.Fault.TheVariants.{OutOfMemory}
 use Rattle.plistconv_c.specs.Texts.{no_text, unread}
 use Rattle.plistconv_c.specs.declared.refusals.Refusal.{Refusal}
 use Rattle.plistconv_c.proofs.texts.plistconv_text.Goals as goal

@@ -1,0 +1,328 @@
+-- The program ends with 4 only where a device failed.
+use Rattle.std.proofs.Common.{arith, inl, inr, sym, Err, List, Ok, Option, Result, ℕ, ◌∙◌, ◌≡◌, ◌⊎◌}
+use Rattle.std.specs.Prelude.{◌≢◌, ◌<◌, ◌≤◌, Bool, true, false}
+use Rattle.std.proofs.lemmas.Bool.{cases_lt}
+use Rattle.clap.specs.Words.{Text}
+use Rattle.clap.specs.declared.error.ErrorKind.{ErrorKind}
+use Rattle.clap.specs.declared.error.ErrorKind.TheVariants as kind
+use Rattle.plist_binary.specs.Codes.{fault_code}
+use Rattle.plist_binary.specs.declared.fault.BinaryFault.{BinaryFault}
+use Rattle.plist_binary.specs.declared.fault.BinaryFault.TheVariants as binary
+use Rattle.plist_devices.specs.Count.{one_more}
+use Rattle.ostep_text.specs.Fault as of_text
+use Rattle.ostep_text.specs.declared.fault.TextFault.{TextFault}
+use Rattle.ostep_text.specs.declared.fault.TextFault.TheVariants as text
+use Rattle.plist_canon.specs.declared.checking.CheckFault.{CheckFault}
+use Rattle.plist_canon.specs.declared.checking.CheckFault.TheVariants as check
+use Rattle.plist_canon.specs.declared.checking.Verdict.{Verdict}
+use Rattle.plist_canon.specs.declared.checking.Verdict.TheVariants as verdict
+use Rattle.plist_forms.specs.Fault.{check_fault_for, code_of, status_for, write_fault_for}
+use Rattle.plist_forms.specs.Refusals.{FaultStands}
+use Rattle.plist_forms.specs.declared.faults.Fault.{Fault}
+use Rattle.plist_forms.specs.declared.faults.Fault.TheVariants.{Binary, Text as OfText, NotInOpenStep, ReadFailed, WriteFailed, InputTooLarge, OutOfMemory}
+use Rattle.plist_forms.specs.declared.pairs.PairFault.{PairFault}
+use Rattle.plist_forms.specs.declared.pairs.PairFault.TheVariants.{First, Second}
+use Rattle.plist_forms.specs.Pair.{IsRefusedPair}
+use Rattle.plist_write.specs.Sending.{IsWritten}
+use Rattle.plist_write.specs.declared.sending.WriteFault.{WriteFault}
+use Rattle.plist_write.specs.declared.sending.WriteFault.TheVariants as write
+use Rattle.plist_forms.specs.Output.{IsOutputFault}
+use Rattle.plist_convert.specs.Files.{FileName, IsStored, IsUnloaded}
+use Rattle.plist_convert.specs.Asked.{Asked, Filters, Converts, Compares, Lints, Checks}
+use Rattle.plist_convert.specs.Asked as asked
+use Rattle.plist_forms.specs.declared.forms.Form.{Form}
+use Rattle.plist_convert.specs.Answer.{IsCheckAnswer, IsLintAnswer, IsOutputRefusal, IsRefusedAnswer, IsSameAnswer, Said, Says, equality_said, pair_refusal, refusal}
+use Rattle.plist_convert.specs.Ending.{Ends, HaveFailed, Prints, no_memory}
+use Rattle.plist_convert.specs.Explaining.{Explains, said_of_kind, status_of_kind}
+use Rattle.plist_convert.specs.Program.{DeviceFailed, IsAskedRun, IsRun}
+use Rattle.plist_convert.specs.Runs.{EndsSending, IsAnswered, IsCheckRun, IsConvertRun, IsFileRun, IsFiltered, IsFilterRun, IsInputFault, IsLintRun, IsPrintRun, IsSameRun, IsUnread, IsWanting, refusal_between, standard}
+use Rattle.plist_convert.specs.State.{Ending, Input, State}
+use Rattle.plist_convert.specs.Verdicts.{verdict_status_for}
+
+-- numbers that are not 4
+no_0 : ◌≢◌ {A = ℕ} 0 4
+no_0 e = omega (arith, e)
+
+no_1 : ◌≢◌ {A = ℕ} 1 4
+no_1 e = omega (arith, e)
+
+no_2 : ◌≢◌ {A = ℕ} 2 4
+no_2 e = omega (arith, e)
+
+no_3 : ◌≢◌ {A = ℕ} 3 4
+no_3 e = omega (arith, e)
+
+no_5 : ◌≢◌ {A = ℕ} 5 4
+no_5 e = omega (arith, e)
+
+-- no refusal of octets has the status of a device
+
+binary_quiet : (fault : BinaryFault) → status_for (fault_code fault) ≢ 4
+binary_quiet binary.TooShort = no_2
+binary_quiet binary.BadHeader = no_2
+binary_quiet binary.BadTrailer = no_2
+binary_quiet (binary.BadOffset i) = no_2
+binary_quiet (binary.BadReference i) = no_2
+binary_quiet (binary.CutObject i) = no_2
+binary_quiet (binary.BadMarker i) = no_2
+binary_quiet (binary.NullObject i) = no_2
+binary_quiet (binary.UidObject i) = no_2
+binary_quiet (binary.SetObject i) = no_2
+binary_quiet (binary.NotAscii i) = no_2
+binary_quiet (binary.WideInteger i) = no_2
+binary_quiet (binary.KeyNotText i) = no_2
+binary_quiet (binary.DuplicateKey i) = no_2
+binary_quiet (binary.Cycle i) = no_2
+binary_quiet (binary.TooDeep i) = no_2
+binary_quiet (binary.TooManyNodes i) = no_2
+binary_quiet (binary.TooMuchPayload i) = no_2
+binary_quiet binary.OutOfMemory = no_5
+
+text_quiet : (fault : TextFault) → status_for (of_text.code_of fault) ≢ 4
+text_quiet (text.DuplicateKey octet) = no_2
+text_quiet (text.TooDeep octet) = no_2
+text_quiet (text.TooManyNodes octet) = no_2
+text_quiet (text.TooMuchPayload octet) = no_2
+text_quiet (text.BadUtf8 octet) = no_2
+text_quiet (text.XmlForm octet) = no_2
+text_quiet (text.UnexpectedCharacter octet) = no_2
+text_quiet (text.UnclosedString octet) = no_2
+text_quiet (text.UnclosedComment octet) = no_2
+text_quiet (text.BadEscape octet) = no_2
+text_quiet (text.OctalRange octet) = no_2
+text_quiet (text.OddData octet) = no_2
+text_quiet (text.BadData octet) = no_2
+text_quiet (text.Expected octet) = no_2
+text_quiet (text.Junk octet) = no_2
+text_quiet (text.BadUtf16 octet) = no_2
+text_quiet text.OutOfMemory = no_5
+
+stands_quiet : (octets : List ℕ) (fault : Fault) → FaultStands octets fault → status_for (code_of fault) ≢ 4
+stands_quiet octets (Binary fault) stands = binary_quiet fault
+stands_quiet octets (OfText fault) stands = text_quiet fault
+stands_quiet octets NotInOpenStep stands = absurd stands
+stands_quiet octets ReadFailed stands = absurd stands
+stands_quiet octets (WriteFailed sent) stands = absurd stands
+stands_quiet octets InputTooLarge stands = absurd stands
+stands_quiet octets (OutOfMemory sent) stands = no_5
+
+-- no answer to octets has it
+
+says_quiet : (s t : Said) → Says s t → t.status ≢ 4 → s.status ≢ 4
+says_quiet s t says quiet four = quiet (sym says.1 ∙ four)
+
+refused_quiet : (path octets : List ℕ) (s : Said) → IsRefusedAnswer path octets s → s.status ≢ 4
+refused_quiet path octets s answer = says_quiet s _ answer.says (stands_quiet octets answer.fault answer.refused.stands)
+
+verdict_quiet : (v : Verdict) → verdict_status_for v ≢ 4
+verdict_quiet verdict.Canonical = no_0
+verdict_quiet (verdict.Broken rule i) = no_1
+
+check_fault_quiet : (fault : CheckFault) → status_for (code_of (check_fault_for fault)) ≢ 4
+check_fault_quiet check.TooShort = no_2
+check_fault_quiet check.BadHeader = no_2
+check_fault_quiet check.BadTrailer = no_2
+check_fault_quiet check.OutOfMemory = no_5
+
+check_quiet : (path octets : List ℕ) (s : Said) → IsCheckAnswer path octets s → s.status ≢ 4
+check_quiet path octets s (inl judged) = says_quiet s _ judged.says (verdict_quiet judged.verdict)
+check_quiet path octets s (inr unchecked) = says_quiet s _ unchecked.says (check_fault_quiet unchecked.fault)
+
+lint_quiet : (path octets : List ℕ) (s : Said) → IsLintAnswer path octets s → s.status ≢ 4
+lint_quiet path octets s (inl accepted) = says_quiet s _ accepted.says no_0
+lint_quiet path octets s (inr refused) = refused_quiet path octets s refused
+
+equality_quiet : (equal : Bool) → (equality_said equal).status ≢ 4
+equality_quiet true = no_0
+equality_quiet false = no_1
+
+pair_quiet : (first second a b : List ℕ) (fault : PairFault) → IsRefusedPair a b fault → (pair_refusal first second fault).status ≢ 4
+pair_quiet first second a b (First fault) refused = stands_quiet a fault refused.stands
+pair_quiet first second a b (Second fault) refused = stands_quiet b fault refused.1.1.stands
+
+same_quiet : (first second a b : List ℕ) (s : Said) → IsSameAnswer first second a b s → s.status ≢ 4
+same_quiet first second a b s (inl compared) = says_quiet s _ compared.says (equality_quiet compared.equal)
+same_quiet first second a b s (inr refused) = says_quiet s _ refused.says (pair_quiet first second a b refused.fault refused.refused)
+
+output_quiet : (form : Form) (octets : List ℕ) (fault : Fault) → IsOutputFault form octets fault → status_for (code_of fault) ≢ 4
+output_quiet form octets fault (inl refused) = stands_quiet octets fault refused.stands
+output_quiet form octets fault (inr none) = rw none.is no_2
+
+output_refusal_quiet : (form : Form) (path octets : List ℕ) (s : Said) → IsOutputRefusal form path octets s → s.status ≢ 4
+output_refusal_quiet form path octets s answer = says_quiet s _ answer.says (output_quiet form octets answer.fault answer.cause)
+
+kind_quiet : (error : ErrorKind) → status_of_kind error ≢ 4
+kind_quiet kind.DisplayHelp = no_0
+kind_quiet kind.DisplayVersion = no_0
+kind_quiet kind.OutOfMemory = no_5
+kind_quiet _ = no_3
+
+-- a line that is printed ends with it only where its own status is that, or printing failed
+
+failed_once : (before after : ℕ) → after ≡ one_more before → HaveFailed before after
+failed_once before after once = elim (cases_lt before 18446744073709551615) [
+  | inl below ↦ inl (omega (arith, once, below))
+  | inr top ↦ inr (omega (arith, once, top))
+]
+
+prints_blamed : (old new : Option (List ℕ)) (before after : ℕ) (s : Said) (status : ℕ) → s.status ≢ 4
+    → Prints old new before after s status → status ≡ 4 → HaveFailed before after
+prints_blamed old new before after s status quiet (inl usual) four = absurd (quiet (sym usual.0 ∙ four))
+prints_blamed old new before after s status quiet (inr failed) four = failed_once before after failed.2
+
+ends_blamed : (old new : Option (List ℕ)) (before after : ℕ) (s : Said) (status : ℕ) → s.status ≢ 4
+    → Ends old new before after s status → status ≡ 4 → HaveFailed before after
+ends_blamed old new before after s status quiet (inl usual) four = prints_blamed old new before after s status quiet usual four
+ends_blamed old new before after s status quiet (inr memory) four = prints_blamed old new before after no_memory status no_5 memory four
+
+-- a device of the disk or of the output failed
+abbrev Failed : State → State → Type 0
+Failed before after = HaveFailed before.disk_failures after.disk_failures ⊎ HaveFailed before.print_failures after.print_failures
+
+ending_blamed : (before after : State) (s : Said) (status : ℕ) → s.status ≢ 4 → Ending before after s status → status ≡ 4 → Failed before after
+ending_blamed before after s status quiet ends four = inr (ends_blamed _ _ _ _ s status quiet ends four)
+
+unread_by : (path : FileName) (before after : State) (status : ℕ) (fault : Fault)
+    → IsUnloaded before.files path before.disk_failures after.disk_failures fault → Ending before after (refusal path fault) status
+    → status ≡ 4 → Failed before after
+unread_by path before after status ReadFailed cause ends four = inl (failed_once _ _ cause.1)
+unread_by path before after status InputTooLarge cause ends four = ending_blamed before after (refusal path InputTooLarge) status no_2 ends four
+unread_by path before after status (OutOfMemory sent) cause ends four = ending_blamed before after (refusal path (OutOfMemory sent)) status no_5 ends four
+unread_by path before after status _ cause ends four = absurd cause
+
+unread_blamed : (path : FileName) (before after : State) (status : ℕ) → IsUnread path before after status → status ≡ 4 → Failed before after
+unread_blamed path before after status run four = unread_by path before after status run.fault run.cause run.ends four
+
+answered_blamed : (Answers : List ℕ → Said → Type 0) (path : FileName) (before after : State) (status : ℕ)
+    → ((octets : List ℕ) (s : Said) → Answers octets s → s.status ≢ 4) → IsAnswered Answers path before after status
+    → status ≡ 4 → Failed before after
+answered_blamed Answers path before after status quiet run four =
+    ending_blamed before after run.said status (quiet run.octets run.said run.answers) run.ends four
+
+wanting_blamed : (before after : State) (status : ℕ) → IsWanting before after status → status ≡ 4 → Failed before after
+wanting_blamed before after status run four = inr (prints_blamed _ _ _ _ no_memory status no_5 run.ends four)
+
+file_blamed : (Answers : List ℕ → Said → Type 0) (path : FileName) (before after : State) (status : ℕ)
+    → ((octets : List ℕ) (s : Said) → Answers octets s → s.status ≢ 4) → IsFileRun Answers path before after status
+    → status ≡ 4 → Failed before after
+file_blamed Answers path before after status quiet (inl unread) four = unread_blamed path before after status unread four
+file_blamed Answers path before after status quiet (inr (inl answered)) four = answered_blamed Answers path before after status quiet answered four
+file_blamed Answers path before after status quiet (inr (inr wanting)) four = wanting_blamed before after status wanting four
+
+check_blamed : (path : FileName) (before after : State) (status : ℕ) → IsCheckRun path before after status → status ≡ 4 → Failed before after
+unfolding IsCheckRun
+check_blamed path before after status run four = file_blamed (IsCheckAnswer path) path before after status (check_quiet path) run four
+
+lint_blamed : (path : FileName) (before after : State) (status : ℕ) → IsLintRun path before after status → status ≡ 4 → Failed before after
+unfolding IsLintRun
+lint_blamed path before after status run four = file_blamed (IsLintAnswer path) path before after status (lint_quiet path) run four
+
+same_blamed : (first second : FileName) (before after : State) (status : ℕ) → IsSameRun first second before after status → status ≡ 4 → Failed before after
+unfolding IsSameRun
+same_blamed first second before after status (inl unread) four = unread_blamed first before after status unread four
+same_blamed first second before after status (inr (inl unread)) four = unread_blamed second before after status unread.unread four
+same_blamed first second before after status (inr (inr (inl run))) four =
+    ending_blamed before after run.said status (same_quiet first second run.a run.b run.said run.answers) run.ends four
+same_blamed first second before after status (inr (inr (inr wanting))) four = wanting_blamed before after status wanting four
+
+stored_by : (from to : FileName) (file : List ℕ) (before after : State) (status : ℕ) (result : Result ℕ WriteFault)
+    → IsStored before.files after.files before.disk_failures after.disk_failures to file result
+    → EndsSending before.printed after.printed before.print_failures after.print_failures (λ fault. refusal_between from to (write_fault_for fault)) result status
+    → status ≡ 4 → Failed before after
+stored_by from to file before after status (Ok sent) stored ends four = absurd (no_0 (sym ends.0 ∙ four))
+stored_by from to file before after status (Err (write.WriteFailed sent)) stored ends four = inl (failed_once _ _ stored.front.1)
+stored_by from to file before after status (Err (write.OutOfMemory sent)) stored ends four = ending_blamed before after (refusal from (OutOfMemory sent)) status no_5 ends four
+
+convert_blamed : (form : Form) (from to : FileName) (before after : State) (status : ℕ) → IsConvertRun form from to before after status
+    → status ≡ 4 → Failed before after
+unfolding IsConvertRun
+convert_blamed form from to before after status (inl unread) four = unread_blamed from before after status unread four
+convert_blamed form from to before after status (inr (inl refused)) four = answered_blamed (IsOutputRefusal form from) from before after status (output_refusal_quiet form from) refused four
+convert_blamed form from to before after status (inr (inr run)) four =
+    stored_by from to run.file before after status run.stored.result run.stored.stored run.stored.ends four
+
+-- without words
+
+unloaded_by : (input rest : Input) (before after : State) (status : ℕ) (fault : Fault) → IsInputFault input rest fault
+    → Ending before after (refusal standard fault) status → status ≡ 4 → DeviceFailed input rest before after
+unloaded_by input rest before after status fault (inr refused) ends four =
+    inr (ending_blamed before after (refusal standard fault) status (stands_quiet refused.0 fault refused.2.stands) ends four)
+unloaded_by input rest before after status ReadFailed (inl once) ends four = inl (failed_once _ _ once)
+unloaded_by input rest before after status InputTooLarge (inl load) ends four = inr (ending_blamed before after (refusal standard InputTooLarge) status no_2 ends four)
+unloaded_by input rest before after status (OutOfMemory sent) (inl load) ends four = inr (ending_blamed before after (refusal standard (OutOfMemory sent)) status no_5 ends four)
+unloaded_by input rest before after status _ (inl load) ends four = absurd load
+
+later : (before middle after : ℕ) → middle ≡ one_more before → before < 18446744073709551615 → (after ≡ middle) ⊎ (after ≡ one_more middle) → before < after
+later before middle after once below (inl same) = omega (arith, once, below, same)
+later before middle after once below (inr more) = omega (arith, once, below, more)
+
+latest : (before middle after : ℕ) → middle ≡ one_more before → 18446744073709551615 ≤ before → (after ≡ middle) ⊎ (after ≡ one_more middle) → 18446744073709551615 ≤ after
+latest before middle after once top (inl same) = omega (arith, once, top, same)
+latest before middle after once top (inr more) = omega (arith, once, top, more)
+
+failed_twice : (before middle after : ℕ) → middle ≡ one_more before → (after ≡ middle) ⊎ (after ≡ one_more middle) → HaveFailed before after
+failed_twice before middle after once more = elim (cases_lt before 18446744073709551615) [
+  | inl below ↦ inl (later before middle after once below more)
+  | inr top ↦ inr (latest before middle after once top more)
+]
+
+-- a failure of printing stands, whatever became of the line of that
+line_failed : (old new : Option (List ℕ)) (before middle after : ℕ) (s : Said) (status : ℕ) → middle ≡ one_more before
+    → Ends old new middle after s status → HaveFailed before after
+line_failed old new before middle after s status failed (inl (inl usual)) = failed_twice before middle after failed (inl usual.2)
+line_failed old new before middle after s status failed (inl (inr unprinted)) = failed_twice before middle after failed (inr unprinted.2)
+line_failed old new before middle after s status failed (inr (inl memory)) = failed_twice before middle after failed (inl memory.2)
+line_failed old new before middle after s status failed (inr (inr unprinted)) = failed_twice before middle after failed (inr unprinted.2)
+
+sending_blamed : (line : WriteFault → Said) (file : List ℕ) (old mid new : Option (List ℕ)) (before middle after status : ℕ) (sent : Result ℕ WriteFault)
+    → ((n : ℕ) → (line (write.OutOfMemory n)).status ≢ 4) → IsWritten file old mid before middle sent
+    → EndsSending mid new middle after line sent status → status ≡ 4 → HaveFailed before after
+sending_blamed line file old mid new before middle after status (Ok n) quiet written ends four = absurd (no_0 (sym ends.0 ∙ four))
+sending_blamed line file old mid new before middle after status (Err (write.WriteFailed n)) quiet written ends four =
+    line_failed mid new before middle after (line (write.WriteFailed n)) status written.front.1 ends
+sending_blamed line file old mid new before middle after status (Err (write.OutOfMemory n)) quiet written ends four =
+    rw written.front.1 at (ends_blamed mid new middle after (line (write.OutOfMemory n)) status (quiet n) ends four)
+
+print_blamed : (path : FileName) (before after : State) (status : ℕ) → IsPrintRun path before after status → status ≡ 4 → Failed before after
+unfolding IsPrintRun
+print_blamed path before after status (inl unread) four = unread_blamed path before after status unread four
+print_blamed path before after status (inr (inl refused)) four = answered_blamed (IsRefusedAnswer path) path before after status (refused_quiet path) refused four
+print_blamed path before after status (inr (inr run)) four =
+    inr (sending_blamed (λ fault. refusal_between path standard (write_fault_for fault)) run.text before.printed run.printed after.printed before.print_failures run.failures after.print_failures status run.sent (λ n. no_5) run.written run.ends four)
+
+filtered_blamed : (input rest : Input) (before after : State) (status : ℕ) → IsFiltered input rest before after status → status ≡ 4
+    → DeviceFailed input rest before after
+filtered_blamed input rest before after status run four =
+    inr (inr (sending_blamed (λ fault. refusal standard (write_fault_for fault)) run.file before.printed run.printed after.printed before.print_failures run.failures after.print_failures status run.sent (λ n. no_5) run.written run.ends four))
+
+filter_blamed : (input rest : Input) (before after : State) (status : ℕ) → IsFilterRun input rest before after status → status ≡ 4
+    → DeviceFailed input rest before after
+unfolding IsFilterRun
+filter_blamed input rest before after status (inl run) four = unloaded_by input rest before after status run.fault run.cause run.ends four
+filter_blamed input rest before after status (inr run) four = filtered_blamed input rest before after status run four
+
+asked_blamed : (it : Asked) (input rest : Input) (before after : State) (status : ℕ) → IsAskedRun it input rest before after status
+    → status ≡ 4 → DeviceFailed input rest before after
+unfolding IsAskedRun
+asked_blamed Filters input rest before after status run four = filter_blamed input rest before after status run.1 four
+asked_blamed (Converts form from to) input rest before after status run four = inr (convert_blamed form from to before after status run.1 four)
+asked_blamed (Compares first second) input rest before after status run four = inr (same_blamed first second before after status run.1 four)
+asked_blamed (Lints path) input rest before after status run four = inr (lint_blamed path before after status run.1 four)
+asked_blamed (Checks path) input rest before after status run four = inr (check_blamed path before after status run.1 four)
+asked_blamed (asked.Prints path) input rest before after status run four = inr (print_blamed path before after status run.1 four)
+
+-- words that are refused
+
+explains_blamed : (old new : Option (List ℕ)) (before after : ℕ) (error : ErrorKind) (status : ℕ) → Explains error old new before after status
+    → status ≡ 4 → HaveFailed before after
+explains_blamed old new before after error status (inl told) four =
+    prints_blamed old new before after (said_of_kind told.text error) status (kind_quiet error) told.prints four
+explains_blamed old new before after error status (inr memory) four =
+    prints_blamed old new before after no_memory status no_5 memory four
+
+-- 4 is the status only where a device failed
+pub blamed : (words : List Text) (input rest : Input) (before after : State) (status : ℕ) → IsRun words input rest before after status
+    → status ≡ 4 → DeviceFailed input rest before after
+blamed words input rest before after status (inl obeyed) four = asked_blamed obeyed.it input rest before after status obeyed.done four
+blamed words input rest before after status (inr refused) four =
+    inr (inr (explains_blamed _ _ _ _ refused.explained.error status refused.explained.ends four))

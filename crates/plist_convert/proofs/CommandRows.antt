@@ -1,0 +1,119 @@
+-- Worked rows of the command line: what these words ask for, and the kinds of error of others.
+use Rattle.std.proofs.Common.{ℕ, ap, codes, map, refl, List, Option, Some, [], ◌∷◌, ◌∙◌, ◌≡◌}
+use Rattle.std.specs.Borrow.{Bor}
+use Rattle.clap.specs.Words.{App, Kinds, Text, fault_of, subcommand_of}
+use Rattle.clap.proofs.OnLiterals.{clap_on_literals}
+use Rattle.clap.specs.declared.error.ErrorKind.TheVariants as kind
+use Rattle.plist_convert.specs.Asked.{Asked, Checks, Compares, Converts, Lints, Prints, asked_at}
+use Rattle.plist_convert.specs.CommandLine.{NamesForms, program}
+use Rattle.plist_convert.specs.Reading.{IsParse}
+use Rattle.plist_forms.specs.declared.forms.Form.TheVariants.{Binary1, OpenStep}
+use Rattle.plist_convert.proofs.CommandLine.{forms_at}
+
+named_forms : (forms : Bor (List (Bor Text))) → NamesForms forms
+    → (p : ℕ × ℕ) × (q : ℕ × ℕ) × (r : ℕ × ℕ) × (forms ≡ forms_at p q r)
+named_forms forms named = go forms.now refl named
+  where
+    go : (ns : List (Bor Text)) → forms.now ≡ ns → map (λ name. name.now) ns ≡ codes "binary1" ∷ (codes "openstep" ∷ [])
+        → (p : ℕ × ℕ) × (q : ℕ × ℕ) × (r : ℕ × ℕ) × (forms ≡ forms_at p q r)
+    go [] is e = let no : [] ≡ codes "binary1" ∷ (codes "openstep" ∷ []) = e in cc
+    go (x ∷ []) is e = let no : x.now ∷ [] ≡ codes "binary1" ∷ (codes "openstep" ∷ []) = e in cc
+    go (x ∷ y ∷ []) is e =
+        let both : x.now ∷ (y.now ∷ []) ≡ codes "binary1" ∷ (codes "openstep" ∷ []) = e in
+        let first : x.now ≡ codes "binary1" = cc in
+        let second : y.now ≡ codes "openstep" = cc in
+        let listed : forms ≡ record { ref_ptr = forms.ref_ptr; now = x ∷ (y ∷ []) } = ap (λ ns. record { ref_ptr = forms.ref_ptr; now = ns }) is in (
+          forms.ref_ptr,
+          x.ref_ptr,
+          y.ref_ptr,
+          listed
+              ∙ ap (λ t. record { ref_ptr = forms.ref_ptr; now = record { ref_ptr = x.ref_ptr; now = t } ∷ (y ∷ []) }) first
+              ∙ ap (λ t. record { ref_ptr = forms.ref_ptr; now = record { ref_ptr = x.ref_ptr; now = codes "binary1" } ∷ (record { ref_ptr = y.ref_ptr; now = t } ∷ []) }) second,
+        )
+    go (x ∷ y ∷ z ∷ ns) is e =
+        let no : x.now ∷ (y.now ∷ (z.now ∷ map (λ name. name.now) ns)) ≡ codes "binary1" ∷ (codes "openstep" ∷ []) = e in
+        cc
+
+-- the words are taken, and ask for this
+abbrev pub AsksFor : List Text → Asked → Type 0
+AsksFor words it = (kinds : Kinds) (asked : Option Asked) → IsParse words kinds asked → (kinds ≡ []) × (asked ≡ Some it)
+
+-- the words are refused with an error of one of these kinds
+abbrev pub FailsAs : List Text → Kinds → Type 0
+FailsAs words expected = (kinds : Kinds) (asked : Option Asked) → IsParse words kinds asked → kinds ≡ expected
+
+fails : (words : List Text) (expected : Kinds) → ((p q r : ℕ × ℕ) → fault_of (program (forms_at p q r)) words ≡ expected)
+    → FailsAs words expected
+fails words expected each kinds asked parse =
+    let names = named_forms parse.program.forms parse.program.named in
+    parse.kinds_are ∙ ap (λ a. fault_of a words) parse.program.is
+    ∙ ap (λ forms. fault_of (program forms) words) names.3 ∙ each names.0 names.1 names.2
+
+asks : (words : List Text) (it : Asked) → ((p q r : ℕ × ℕ) → fault_of (program (forms_at p q r)) words ≡ [])
+    → ((p q r : ℕ × ℕ) → asked_at (subcommand_of (program (forms_at p q r)) words) ≡ Some it) → AsksFor words it
+asks words it taken each kinds asked parse =
+    let names = named_forms parse.program.forms parse.program.named in (
+      fails words [] taken kinds asked parse,
+      parse.asked_is ∙ ap (λ a. asked_at (subcommand_of a words)) parse.program.is
+          ∙ ap (λ forms. asked_at (subcommand_of (program forms) words)) names.3 ∙ each names.0 names.1 names.2,
+    )
+
+version : FailsAs (codes "plistconv" ∷ (codes "--version" ∷ [])) (kind.DisplayVersion ∷ [])
+unfolding clap_on_literals
+version = fails _ _ (λ p q r. refl)
+
+help : FailsAs (codes "plistconv" ∷ (codes "--help" ∷ [])) (kind.DisplayHelp ∷ [])
+unfolding clap_on_literals
+help = fails _ _ (λ p q r. refl)
+
+help-check : FailsAs (codes "plistconv" ∷ (codes "check" ∷ (codes "-h" ∷ []))) (kind.DisplayHelp ∷ [])
+unfolding clap_on_literals
+help-check = fails _ _ (λ p q r. refl)
+
+no-such-word : FailsAs (codes "plistconv" ∷ (codes "turn" ∷ (codes "a" ∷ []))) (kind.UnknownArgument ∷ (kind.InvalidSubcommand ∷ []))
+unfolding clap_on_literals
+no-such-word = fails _ _ (λ p q r. refl)
+
+no-such-form : FailsAs (codes "plistconv" ∷ (codes "convert" ∷ (codes "binary2" ∷ (codes "a" ∷ (codes "b" ∷ []))))) (kind.InvalidValue ∷ [])
+unfolding clap_on_literals
+no-such-form = fails _ _ (λ p q r. refl)
+
+no-out : FailsAs (codes "plistconv" ∷ (codes "convert" ∷ (codes "binary1" ∷ (codes "a" ∷ [])))) (kind.MissingRequiredArgument ∷ [])
+unfolding clap_on_literals
+no-out = fails _ _ (λ p q r. refl)
+
+no-second : FailsAs (codes "plistconv" ∷ (codes "same" ∷ (codes "a" ∷ []))) (kind.MissingRequiredArgument ∷ [])
+unfolding clap_on_literals
+no-second = fails _ _ (λ p q r. refl)
+
+no-subcommand : FailsAs (codes "plistconv" ∷ (codes "--" ∷ [])) (kind.MissingSubcommand ∷ [])
+unfolding clap_on_literals
+no-subcommand = fails _ _ (λ p q r. refl)
+
+to-binary : AsksFor (codes "plistconv" ∷ (codes "convert" ∷ (codes "binary1" ∷ (codes "a" ∷ (codes "b" ∷ []))))) (Converts Binary1 (codes "a") (codes "b"))
+unfolding clap_on_literals
+to-binary = asks _ _ (λ p q r. refl) (λ p q r. refl)
+
+to-text : AsksFor (codes "plistconv" ∷ (codes "convert" ∷ (codes "openstep" ∷ (codes "a" ∷ (codes "b" ∷ []))))) (Converts OpenStep (codes "a") (codes "b"))
+unfolding clap_on_literals
+to-text = asks _ _ (λ p q r. refl) (λ p q r. refl)
+
+compares : AsksFor (codes "plistconv" ∷ (codes "same" ∷ (codes "a" ∷ (codes "b" ∷ [])))) (Compares (codes "a") (codes "b"))
+unfolding clap_on_literals
+compares = asks _ _ (λ p q r. refl) (λ p q r. refl)
+
+lints : AsksFor (codes "plistconv" ∷ (codes "lint" ∷ (codes "a" ∷ []))) (Lints (codes "a"))
+unfolding clap_on_literals
+lints = asks _ _ (λ p q r. refl) (λ p q r. refl)
+
+checks : AsksFor (codes "plistconv" ∷ (codes "check" ∷ (codes "a" ∷ []))) (Checks (codes "a"))
+unfolding clap_on_literals
+checks = asks _ _ (λ p q r. refl) (λ p q r. refl)
+
+prints : AsksFor (codes "plistconv" ∷ (codes "print" ∷ (codes "a" ∷ []))) (Prints (codes "a"))
+unfolding clap_on_literals
+prints = asks _ _ (λ p q r. refl) (λ p q r. refl)
+
+a-path-behind-two-lines : AsksFor (codes "plistconv" ∷ (codes "check" ∷ (codes "--" ∷ (codes "-x" ∷ [])))) (Checks (codes "-x"))
+unfolding clap_on_literals
+a-path-behind-two-lines = asks _ _ (λ p q r. refl) (λ p q r. refl)

@@ -1,0 +1,98 @@
+-- From what a load and a store ensure to a conversion.
+use Rattle.std.proofs.Common.{inl, inr, refl, Err, List, Ok, Option, Result, ℕ, ◌∙◌, ◌≡◌}
+use Rattle.plist_forms.specs.Fault.{write_fault_for}
+use Rattle.plist_forms.specs.Refusals.{IsRefused}
+use Rattle.plist_forms.specs.declared.faults.Fault.{Fault}
+use Rattle.plist_forms.specs.declared.faults.Fault.TheVariants.{Binary, Text, NotInOpenStep, ReadFailed, WriteFailed, InputTooLarge, OutOfMemory}
+use Rattle.plist_forms.specs.declared.forms.Form.{Form}
+use Rattle.plist_write.specs.declared.sending.WriteFault.{WriteFault}
+use Rattle.plist_forms.specs.Output.{IsOutputFault}
+use Rattle.plist_forms.specs.Sent.{answer_of}
+use Rattle.plist_convert.specs.Files.{FileName, Holds, IsOutputStored, SameFiles, Stores}
+use Rattle.plist_convert.specs.Ending.{Ends}
+use Rattle.plist_convert.specs.Runs.{EndsSending, IsConverted, IsConvertRun, path_of_fault, refusal_between}
+use Rattle.plist_convert.specs.State.{State}
+use Rattle.plist_convert.proofs.Disks.{same_trans, stored_before}
+
+-- nothing more is printed behind what was stored whole
+pub stored_whole : (from to : FileName) (sent : Result ℕ WriteFault) (n : ℕ) (printed : Option (List ℕ)) (failures : ℕ) → Ok n ≡ answer_of sent
+    → EndsSending printed printed failures failures (λ fault. refusal_between from to (write_fault_for fault)) sent 0
+stored_whole from to (Ok m) n printed failures is = (refl, refl, refl)
+stored_whole from to (Err fault) n printed failures is = absurd cc
+
+-- the line of what was not
+pub stored_front : (from to : FileName) (sent : Result ℕ WriteFault) (fault : Fault) (old new : Option (List ℕ)) (before after status : ℕ)
+    → Err fault ≡ answer_of sent → Ends old new before after (refusal_between from to fault) status
+    → EndsSending old new before after (λ f. refusal_between from to (write_fault_for f)) sent status
+stored_front from to (Ok m) fault old new before after status is ends = absurd cc
+stored_front from to (Err f) fault old new before after status is ends =
+    let same : fault ≡ write_fault_for f = cc in
+    rw same at ends
+
+-- what is stored after a load is stored from before it
+store_before : (form : Form) (octets : List ℕ) (from to : FileName) (before middle after : State) (status : ℕ) (result : Result ℕ Fault)
+    → Holds before.files from octets → SameFiles before.files middle.files → middle.disk_failures ≡ before.disk_failures
+    → (goes : IsOutputStored form octets middle.files after.files middle.disk_failures after.disk_failures to result)
+    → EndsSending before.printed after.printed before.print_failures after.print_failures (λ fault. refusal_between from to (write_fault_for fault)) goes.sent status
+    → IsConverted form from to before after status
+store_before form octets from to before middle after status result stands kept unfailed goes ends = record {
+  octets = octets;
+  stands = stands;
+  file = goes.output;
+  of = goes.of;
+  stored = record {
+    result = goes.sent;
+    stored = stored_before before.files middle.files after.files before.disk_failures middle.disk_failures after.disk_failures to goes.output goes.sent kept unfailed goes.stored;
+    ends = ends;
+  };
+  memory = goes.memory;
+}
+
+pub converted : (form : Form) (octets : List ℕ) (from to : FileName) (before middle after : State) (n : ℕ)
+    → Holds before.files from octets → SameFiles before.files middle.files → middle.disk_failures ≡ before.disk_failures
+    → after.printed ≡ before.printed → after.print_failures ≡ before.print_failures
+    → Stores form octets middle.files after.files middle.disk_failures after.disk_failures to (Ok n)
+    → IsConvertRun form from to before after 0
+unfolding IsConvertRun
+converted form octets from to before middle after n stands kept unfailed printed failures (inl unsent) = absurd (let is = unsent.is in cc)
+converted form octets from to before middle after n stands kept unfailed printed failures (inr goes) =
+    inr (inr (store_before form octets from to before middle after 0 (Ok n) stands kept unfailed goes
+    (rw (printed, failures) (stored_whole from to goes.sent n before.printed before.print_failures goes.is))))
+
+-- a refusal of octets is told under their own path
+pub refused_under : (octets : List ℕ) (from to : FileName) (fault : Fault) → IsRefused octets fault
+    → path_of_fault from to fault ≡ from
+refused_under octets from to (WriteFailed sent) refused = absurd refused.stands
+refused_under octets from to (Binary fault) refused = refl
+refused_under octets from to (Text fault) refused = refl
+refused_under octets from to NotInOpenStep refused = refl
+refused_under octets from to ReadFailed refused = refl
+refused_under octets from to InputTooLarge refused = refl
+refused_under octets from to (OutOfMemory sent) refused = refl
+
+told_under : (form : Form) (octets : List ℕ) (from to : FileName) (fault : Fault) → IsOutputFault form octets fault
+    → path_of_fault from to fault ≡ from
+told_under form octets from to fault (inl refused) = refused_under octets from to fault refused
+told_under form octets from to fault (inr none) = rw none.is refl
+
+pub unconverted : (form : Form) (octets : List ℕ) (from to : FileName) (before middle after : State) (status : ℕ) (fault : Fault)
+    → Holds before.files from octets → SameFiles before.files middle.files → middle.disk_failures ≡ before.disk_failures
+    → Stores form octets middle.files after.files middle.disk_failures after.disk_failures to (Err fault)
+    → Ends before.printed after.printed before.print_failures after.print_failures (refusal_between from to fault) status
+    → IsConvertRun form from to before after status
+unfolding IsConvertRun
+unconverted form octets from to before middle after status fault stands kept unfailed (inl unsent) ends =
+    let same : unsent.fault ≡ fault = (let is = unsent.is in cc) in
+    let cause : IsOutputFault form octets fault = rw same at unsent.cause in
+    inr (inl (record {
+      octets = octets;
+      stands = stands;
+      said = refusal_between from to fault;
+      answers = record { fault = fault; cause = cause; says = rw (told_under form octets from to fault cause) (refl, refl) };
+      kept = same_trans before.files middle.files after.files kept unsent.kept;
+      unfailed = unsent.unfailed ∙ unfailed;
+      ends = ends;
+    }))
+unconverted form octets from to before middle after status fault stands kept unfailed (inr goes) ends =
+    inr (inr (store_before form octets from to before middle after status (Err fault) stands kept unfailed goes
+    (stored_front from to goes.sent fault before.printed after.printed before.print_failures after.print_failures status goes.is ends)))

@@ -1,0 +1,15 @@
+pub mod Begun
+pub mod Blame
+pub mod Conversions
+pub mod Disks
+pub mod Judged
+pub mod Prints
+pub mod Runs
+pub mod Transfers
+pub mod CommandLine
+pub mod Parsed
+pub mod CommandRows
+pub mod Stored
+pub mod Delivered
+pub mod Handed
+pub mod Rooms

@@ -1,0 +1,77 @@
+-- From what the parts of a word ensure to its run.
+use Rattle.std.proofs.Common.{inl, inr, refl, Err, List, Ok, Result, ℕ, ◌≡◌, ◌⊎◌}
+use Rattle.std.specs.Prelude.{◌≤◌, IfOk, MatchResult, length}
+use Rattle.std.specs.declared.alloc.AllocError.{AllocError}
+use Rattle.clap.specs.Words.{Text, kind_of}
+use Rattle.clap.specs.declared.Error.{Error}
+use Rattle.plist_convert.specs.Files.{FileName, Holds, SameFiles}
+use Rattle.plist_convert.specs.Reading.{IsReading}
+use Rattle.plist_convert.specs.declared.answers.Answer.{Answer}
+use Rattle.plist_convert.specs.Answer.{IsSameAnswer, Said, said_of}
+use Rattle.plist_convert.specs.Ending.{Prints, no_memory}
+use Rattle.plist_convert.specs.Explaining.{Explains}
+use Rattle.plist_convert.specs.Program.{IsRefusedRun}
+use Rattle.plist_convert.specs.Runs.{IsCompared, IsFileRun, IsWanting}
+use Rattle.plist_convert.specs.State.{Input, State}
+
+-- what printing an answer ensures
+abbrev pub Gives : State → State → Result Answer AllocError → ℕ → Type 0
+Gives before after answer status = MatchResult answer
+    (λ a. Prints before.printed after.printed before.print_failures after.print_failures (said_of a) status)
+    (λ _. Prints before.printed after.printed before.print_failures after.print_failures no_memory status)
+
+pub file_answered : (Answers : List ℕ → Said → Type 0) (path : FileName) (before after : State) (status : ℕ) (octets : List ℕ)
+    (answer : Result Answer AllocError) → Holds before.files path octets → SameFiles before.files after.files
+    → after.disk_failures ≡ before.disk_failures → IfOk answer (λ a. Answers octets (said_of a)) → Gives before after answer status
+    → IsFileRun Answers path before after status
+file_answered Answers path before after status octets (Ok a) holds kept unfailed answers prints = inr (inl (record {
+  octets = octets;
+  stands = holds;
+  said = said_of a;
+  answers = answers;
+  kept = kept;
+  unfailed = unfailed;
+  ends = inl prints;
+}))
+file_answered Answers path before after status octets (Err e) holds kept unfailed answers prints =
+    inr (inr (record { kept = kept; unfailed = unfailed; ends = prints }))
+
+pub files_compared : (first second : FileName) (before after : State) (status : ℕ) (a b : List ℕ) (answer : Result Answer AllocError)
+    → Holds before.files first a → Holds before.files second b → SameFiles before.files after.files
+    → after.disk_failures ≡ before.disk_failures → IfOk answer (λ r. IsSameAnswer first second a b (said_of r))
+    → Gives before after answer status
+    → IsCompared first second before after status ⊎ IsWanting before after status
+files_compared first second before after status a b (Ok r) holds_a holds_b kept unfailed answers prints = inl (record {
+  a = a;
+  b = b;
+  first_stands = holds_a;
+  second_stands = holds_b;
+  said = said_of r;
+  answers = answers;
+  kept = kept;
+  unfailed = unfailed;
+  ends = inl prints;
+})
+files_compared first second before after status a b (Err e) holds_a holds_b kept unfailed answers prints =
+    inr (record { kept = kept; unfailed = unfailed; ends = prints })
+
+-- the words are refused
+pub refused_run : (words : List Text) (input : Input) (before after : State) (error : Error) (status : ℕ) → 2 ≤ length words
+    → IsReading words (Err error) → after.files ≡ before.files → after.disk_failures ≡ before.disk_failures
+    → Explains (kind_of error) before.printed after.printed before.print_failures after.print_failures status
+    → IsRefusedRun words input input before after status
+refused_run words input before after error status many r files failures ends = record {
+  many = many;
+  untouched = refl;
+  explained = record {
+    kinds = r.kinds;
+    asked = r.asked;
+    parse = r.parse;
+    error = kind_of error;
+    among = r.refused;
+    nothing = r.nothing;
+    files = files;
+    disk_failures = failures;
+    ends = ends;
+  };
+}

@@ -1,0 +1,5 @@
+use Rattle.std.proofs.Common.{refl}
+use Rattle.plist_convert.proofs.host_disk.HostDisk.with_hasher.Goals as goal
+
+pub returns : goal.returns
+returns g c = refl

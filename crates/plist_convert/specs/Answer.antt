@@ -1,0 +1,113 @@
+-- What is answered for octets that were loaded: the line that is printed, and the status.
+use Rattle.std.specs.Prelude.{◌≡◌, ◌↔◌, ◌⊎◌, ◌++◌, ℕ, Bool, List, codes, if◌then◌else◌, string_bytes}
+use Rattle.plist_value.specs.Plist.{Plist}
+use Rattle.plist_object.specs.Layout.{IsLaid}
+use Rattle.plist_canon.specs.Checking.{IsCheckFault, IsVerdict}
+use Rattle.plist_canon.specs.Locality.{IsCanonical}
+use Rattle.plist_canon.specs.declared.checking.CheckFault.{CheckFault}
+use Rattle.plist_canon.specs.declared.checking.Verdict.{Verdict}
+use Rattle.plist_canon.specs.declared.checking.Verdict.TheVariants.{Canonical}
+use Rattle.plist_forms.specs.Accepted.{IsAccepted}
+use Rattle.plist_forms.specs.Fault.{check_fault_for, code_of, status_for}
+use Rattle.plist_forms.specs.Line.{line_of}
+use Rattle.plist_forms.specs.Pair.{IsPair, IsRefusedPair}
+use Rattle.plist_forms.specs.Refusals.{IsRefused}
+use Rattle.plist_forms.specs.Status.{status_code}
+use Rattle.plist_forms.specs.declared.faults.Fault.{Fault}
+use Rattle.plist_forms.specs.declared.forms.Form.{Form}
+use Rattle.plist_forms.specs.declared.pairs.PairFault.{PairFault}
+use Rattle.plist_forms.specs.declared.pairs.PairFault.TheVariants.{First, Second}
+use Rattle.plist_forms.specs.Output.{IsOutputFault}
+use Rattle.plist_convert.specs.Verdicts.{verdict_status_for, verdict_text}
+use Rattle.plist_convert.specs.declared.answers.Answer.{Answer}
+
+-- a text that is printed, and the status with which the program ends
+pub record Said : Type 0 where
+  pub text : List ℕ
+  pub status : ℕ
+
+-- what an answer says
+abbrev pub said_of : Answer → Said
+said_of answer = record { text = string_bytes answer.text; status = status_code answer.status }
+
+-- this line with a line end, and this status
+abbrev pub said : List ℕ → ℕ → Said
+said line status = record { text = line ++ codes "\n"; status = status }
+
+-- the line and the status of a refusal
+abbrev pub refusal : List ℕ → Fault → Said
+refusal path fault = said (line_of path fault) (status_for (code_of fault))
+
+abbrev pub verdict_said : Verdict → Said
+verdict_said verdict = said (verdict_text verdict) (verdict_status_for verdict)
+
+abbrev pub accepted_said : List ℕ → Said
+accepted_said path = said (path ++ codes ": OK") 0
+
+abbrev pub equality_said : Bool → Said
+equality_said equal = if equal then said (codes "equal") 0 else said (codes "different") 1
+
+-- the refusal of one of two files, under the path of that file
+abbrev pub pair_refusal : List ℕ → List ℕ → PairFault → Said
+pair_refusal first second (First fault) = refusal first fault
+pair_refusal first second (Second fault) = refusal second fault
+
+-- two that say the same
+abbrev pub Says : Said → Said → Type 0
+Says s t = (s.text ≡ t.text) × (s.status ≡ t.status)
+
+-- the line of the verdict that holds of the octets
+pub record IsJudged (octets : List ℕ) (s : Said) : Type 0 where
+  pub verdict : Verdict
+  pub laid : IsLaid octets
+  pub stands : IsVerdict octets verdict
+  pub canonical : (verdict ≡ Canonical) ↔ IsCanonical octets
+  pub says : Says s (verdict_said verdict)
+
+-- the line of a fault of the layout, or of a want of memory
+pub record IsUnchecked (octets path : List ℕ) (s : Said) : Type 0 where
+  pub fault : CheckFault
+  pub stands : IsCheckFault octets fault
+  pub says : Says s (refusal path (check_fault_for fault))
+
+-- what `check` answers
+abbrev pub IsCheckAnswer : List ℕ → List ℕ → Said → Type 0
+IsCheckAnswer path octets s = IsJudged octets s ⊎ IsUnchecked octets path s
+
+-- the line of a refusal of the octets
+pub record IsRefusedAnswer (path octets : List ℕ) (s : Said) : Type 0 where
+  pub fault : Fault
+  pub refused : IsRefused octets fault
+  pub says : Says s (refusal path fault)
+
+-- the line of octets for which nothing can be written in this form
+pub record IsOutputRefusal (form : Form) (path octets : List ℕ) (s : Said) : Type 0 where
+  pub fault : Fault
+  pub cause : IsOutputFault form octets fault
+  pub says : Says s (refusal path fault)
+
+-- the line of octets that spell a value
+pub record IsAcceptedAnswer (path octets : List ℕ) (s : Said) : Type 0 where
+  pub value : Plist
+  pub accepted : IsAccepted octets value
+  pub says : Says s (accepted_said path)
+
+-- what `lint` answers
+abbrev pub IsLintAnswer : List ℕ → List ℕ → Said → Type 0
+IsLintAnswer path octets s = IsAcceptedAnswer path octets s ⊎ IsRefusedAnswer path octets s
+
+-- the word for two values that are equal, or are not
+pub record IsComparison (a b : List ℕ) (s : Said) : Type 0 where
+  pub equal : Bool
+  pub pair : IsPair a b equal
+  pub says : Says s (equality_said equal)
+
+-- the line of a refusal of one of two octet lists
+pub record IsRefusedComparison (first second a b : List ℕ) (s : Said) : Type 0 where
+  pub fault : PairFault
+  pub refused : IsRefusedPair a b fault
+  pub says : Says s (pair_refusal first second fault)
+
+-- what `same` answers
+abbrev pub IsSameAnswer : List ℕ → List ℕ → List ℕ → List ℕ → Said → Type 0
+IsSameAnswer first second a b s = IsComparison a b s ⊎ IsRefusedComparison first second a b s

@@ -1,0 +1,72 @@
+-- What the words on the command line ask for, by the word that was entered and what stands in its
+-- places.
+use Rattle.std.specs.Prelude.{List, Option, Some, None, codes, option_and_then, option_map, if◌then◌else◌}
+use Rattle.std.specs.Str.{bytes_eq}
+use Rattle.clap.specs.Words.{Row, Text, first_of}
+use Rattle.plist_forms.specs.declared.forms.Form.{Form}
+use Rattle.plist_forms.specs.declared.forms.Form.TheVariants.{Binary1, OpenStep}
+use Rattle.plist_convert.specs.declared.request.Request.{Request}
+use Rattle.plist_convert.specs.declared.request.Request.TheVariants as request
+
+-- one thing that is asked for, with its paths
+pub data Asked : Type 0 where
+  Filters : Asked
+  Converts : Form → Text → Text → Asked
+  Compares : Text → Text → Asked
+  Lints : Text → Asked
+  Checks : Text → Asked
+  Prints : Text → Asked
+
+-- what a request asks for
+abbrev pub asked_by : Request → Asked
+asked_by request.Filter = Filters
+asked_by (request.Convert form from to) = Converts form from.now to.now
+asked_by (request.Same first second) = Compares first.now second.now
+asked_by (request.Lint path) = Lints path.now
+asked_by (request.Check path) = Checks path.now
+asked_by (request.Print path) = Prints path.now
+
+-- the form of this name
+abbrev pub form_of : Text → Option Form
+form_of name =
+    if bytes_eq name (codes "binary1") then Some Binary1
+    else if bytes_eq name (codes "openstep") then Some OpenStep
+    else None
+
+abbrev pub converts : Option Form → Option Text → Option Text → Option Asked
+converts (Some form) (Some from) (Some to) = Some (Converts form from to)
+converts _ _ _ = None
+
+abbrev pub compares : Option Text → Option Text → Option Asked
+compares (Some first) (Some second) = Some (Compares first second)
+compares _ _ = None
+
+-- what each word asks for, by what stands in its places
+abbrev pub convert_at : List Row → Option Asked
+convert_at rows =
+    converts (option_and_then form_of (first_of (codes "FORM") rows)) (first_of (codes "IN") rows)
+    (first_of (codes "OUT") rows)
+
+abbrev pub same_at : List Row → Option Asked
+same_at rows = compares (first_of (codes "A") rows) (first_of (codes "B") rows)
+
+abbrev pub lint_at : List Row → Option Asked
+lint_at rows = option_map Lints (first_of (codes "IN") rows)
+
+abbrev pub check_at : List Row → Option Asked
+check_at rows = option_map Checks (first_of (codes "IN") rows)
+
+abbrev pub print_at : List Row → Option Asked
+print_at rows = option_map Prints (first_of (codes "IN") rows)
+
+abbrev pub asked_in : Text → List Row → Option Asked
+asked_in word rows =
+    if bytes_eq word (codes "convert") then convert_at rows
+    else if bytes_eq word (codes "same") then same_at rows
+    else if bytes_eq word (codes "lint") then lint_at rows
+    else if bytes_eq word (codes "check") then check_at rows
+    else if bytes_eq word (codes "print") then print_at rows
+    else None
+
+abbrev pub asked_at : Option (Text × List Row) → Option Asked
+asked_at = option_and_then (λ entered. asked_in entered.0 entered.1)

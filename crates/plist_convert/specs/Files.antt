@@ -1,0 +1,94 @@
+-- Which path holds which octets, and what loading and storing do to that.
+use Rattle.std.specs.Prelude.{◌≡◌, ◌≢◌, ◌⊎◌, ⊤, ℕ, ◌<◌, List, length, take, None, Option, Some, Result, Err, IfErr, IfOk, IfSome}
+use Rattle.plist_devices.specs.Count.{one_more}
+use Rattle.plist_forms.specs.declared.faults.Fault.{Fault}
+use Rattle.plist_forms.specs.declared.faults.Fault.TheVariants.{ReadFailed, WriteFailed, InputTooLarge, OutOfMemory}
+use Rattle.plist_forms.specs.declared.forms.Form.{Form}
+use Rattle.plist_forms.specs.declared.loading.TheConstants.{MAX_INPUT}
+use Rattle.plist_write.specs.declared.sending.WriteFault.{WriteFault}
+use Rattle.plist_write.specs.Sending.{IsBlamed, IsShort, sent_of}
+use Rattle.plist_forms.specs.Output.{IsOutput, IsOutputFault}
+use Rattle.plist_forms.specs.Sent.{answer_of}
+use Rattle.plist_forms.specs.Transfer.{NeedsNoMemory}
+
+-- a path, as its octets
+abbrev pub FileName : Type 0
+FileName = List ℕ
+
+-- what stands at each path: octets, or nothing
+abbrev pub Files : Type 0
+Files = FileName → Option (List ℕ)
+
+-- the octets stand at the path, where the disk tells
+abbrev pub Holds : Option Files → FileName → List ℕ → Type 0
+Holds files path octets = IfSome files (λ at. at path ≡ Some octets)
+
+-- nothing stands at the path, where the disk tells
+abbrev pub Lacks : Option Files → FileName → Type 0
+Lacks files path = IfSome files (λ at. at path ≡ None)
+
+-- a disk that tells goes on to tell, and P holds of what it told and what it tells
+abbrev pub Turns : Option Files → Option Files → (Files → Files → Type 0) → Type 0
+Turns None after P = ⊤
+Turns (Some old) None P = ⊥
+Turns (Some old) (Some new) P = P old new
+
+-- every path holds what it held
+abbrev pub SameFiles : Option Files → Option Files → Type 0
+SameFiles before after = Turns before after (λ old new. (path : FileName) → new path ≡ old path)
+
+-- every path but one holds what it held
+abbrev pub SameBeside : FileName → Option Files → Option Files → Type 0
+SameBeside path before after = Turns before after (λ old new. (other : FileName) → other ≢ path → new other ≡ old other)
+
+-- Why a file was not loaded: a device failed, and there is none where the disk tells; or it is too
+-- large; or there was no memory.
+abbrev pub IsUnloaded : Option Files → FileName → ℕ → ℕ → Fault → Type 0
+IsUnloaded files path before after ReadFailed = Lacks files path × (after ≡ one_more before)
+IsUnloaded files path before after InputTooLarge =
+    IfSome files (λ at. (octets : List ℕ) × ((at path ≡ Some octets) × (MAX_INPUT < length octets))) × (after ≡ before)
+IsUnloaded files path before after (OutOfMemory sent) = (sent ≡ 0) × (after ≡ before)
+IsUnloaded files path before after _ = ⊥
+
+-- so many of the octets stand at the path, or it is as it was where none do
+abbrev pub HoldsFront : Option Files → Option Files → FileName → List ℕ → ℕ → Type 0
+HoldsFront before after path octets sent =
+    Turns before after (λ old new. ((sent ≡ 0) × (new path ≡ old path)) ⊎ (new path ≡ Some (take sent octets)))
+
+-- Storing: the files and the count of failures before it, the same after it, the path, the octets,
+-- and how many of them were sent or the refusal. It is all of them that then stand at the path, or
+-- as many as the refusal tells.
+pub record IsStored (files rest : Option Files) (before after : ℕ) (path : FileName) (octets : List ℕ) (result : Result ℕ WriteFault) : Type 0 where
+  pub others : SameBeside path files rest
+  pub count : IfOk result (λ sent. (sent ≡ length octets) × (after ≡ before))
+  pub whole : IfOk result (λ _. Turns files rest (λ old new. new path ≡ Some octets))
+  pub within : IfErr result (λ fault. IsShort fault (sent_of fault) (length octets))
+  pub front : IfErr result (λ fault. HoldsFront files rest path octets (sent_of fault) × IsBlamed fault before after)
+
+-- The count of failures after a file was sent so: one more where the device failed.
+abbrev pub CountsFailure : ℕ → ℕ → Result ℕ Fault → Type 0
+CountsFailure before after (Err (WriteFailed sent)) = after ≡ one_more before
+CountsFailure before after _ = after ≡ before
+
+-- Nothing is stored, for this cause: no file changes, and no device fails.
+pub record IsUnstored (Cause : Fault → Type 0) (files rest : Option Files) (before after : ℕ) (result : Result ℕ Fault) : Type 0 where
+  pub fault : Fault
+  pub is : result ≡ Err fault
+  pub cause : Cause fault
+  pub kept : SameFiles files rest
+  pub unfailed : after ≡ before
+
+-- The output for the octets is stored, as far as a refusal lets it.
+pub record IsOutputStored (form : Form) (octets : List ℕ) (files rest : Option Files) (before after : ℕ) (path : FileName) (result : Result ℕ Fault) : Type 0 where
+  pub output : List ℕ
+  pub of : IsOutput form octets output
+  pub sent : Result ℕ WriteFault
+  pub is : result ≡ answer_of sent
+  pub memory : NeedsNoMemory form sent
+  pub stored : IsStored files rest before after path output sent
+
+-- what is done to store the value that the octets spell, in a form
+abbrev pub Stores : Form → List ℕ → Option Files → Option Files → ℕ → ℕ → FileName → Result ℕ Fault → Type 0
+Stores form octets files rest before after path result =
+    IsUnstored (IsOutputFault form octets) files rest before after result
+    ⊎ IsOutputStored form octets files rest before after path result

@@ -1,0 +1,14 @@
+pub mod Answer
+pub mod Ending
+pub mod Explaining
+pub mod Program
+pub mod Runs
+pub mod State
+pub mod Verdicts
+pub mod Asked
+pub mod CommandLine
+pub mod Reading
+pub mod Delivery
+pub mod Files
+pub mod HostDisk
+pub mod MemoryDisk

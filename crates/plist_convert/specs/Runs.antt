@@ -1,0 +1,188 @@
+-- What each word of the program does, before and after.
+use Rattle.std.specs.Prelude.{◌≡◌, ◌⊎◌, ℕ, ◌<◌, List, length, Option, Result, MatchResult, codes}
+use Rattle.plist_devices.specs.Count.{one_more}
+use Rattle.plist_forms.specs.Accepted.{IsCanonicalOf}
+use Rattle.plist_forms.specs.Fault.{write_fault_for}
+use Rattle.plist_forms.specs.Load.{Takes}
+use Rattle.plist_forms.specs.Printed.{IsPrintOf}
+use Rattle.plist_forms.specs.Refusals.{IsRefused}
+use Rattle.plist_forms.specs.declared.faults.Fault.{Fault}
+use Rattle.plist_forms.specs.declared.faults.Fault.TheVariants as refusal_kind
+use Rattle.plist_forms.specs.declared.forms.Form.{Form}
+use Rattle.plist_forms.specs.declared.loading.TheConstants.{MAX_INPUT}
+use Rattle.plist_write.specs.Sending.{IsWritten}
+use Rattle.plist_write.specs.declared.sending.WriteFault.{WriteFault}
+use Rattle.plist_forms.specs.Output.{IsOutput}
+use Rattle.plist_forms.specs.Transfer.{IsInput, NeedsNoMemory}
+use Rattle.plist_convert.specs.Files.{FileName, Holds, IsStored, IsUnloaded, SameFiles}
+use Rattle.plist_convert.specs.Answer.{IsCheckAnswer, IsLintAnswer, IsOutputRefusal, IsRefusedAnswer, IsSameAnswer, Said, refusal}
+use Rattle.plist_convert.specs.Ending.{Ends}
+use Rattle.plist_convert.specs.State.{Ending, Input, State, Wanting}
+
+-- The file at the path is not loaded, and the line of that is printed.
+pub record IsUnread (path : FileName) (before after : State) (status : ℕ) : Type 0 where
+  pub fault : Fault
+  pub cause : IsUnloaded before.files path before.disk_failures after.disk_failures fault
+  pub kept : SameFiles before.files after.files
+  pub ends : Ending before after (refusal path fault) status
+
+-- What is answered for the octets at the path is printed.
+pub record IsAnswered (Answers : List ℕ → Said → Type 0) (path : FileName) (before after : State) (status : ℕ) : Type 0 where
+  pub octets : List ℕ
+  pub stands : Holds before.files path octets
+  pub said : Said
+  pub answers : Answers octets said
+  pub kept : SameFiles before.files after.files
+  pub unfailed : after.disk_failures ≡ before.disk_failures
+  pub ends : Ending before after said status
+
+-- No memory was left for what is answered.
+pub record IsWanting (before after : State) (status : ℕ) : Type 0 where
+  pub kept : SameFiles before.files after.files
+  pub unfailed : after.disk_failures ≡ before.disk_failures
+  pub ends : Wanting before after status
+
+-- A word that answers for one file.
+abbrev pub IsFileRun : (List ℕ → Said → Type 0) → FileName → State → State → ℕ → Type 0
+IsFileRun Answers path before after status =
+    IsUnread path before after status ⊎ (IsAnswered Answers path before after status ⊎ IsWanting before after status)
+
+-- `check IN`
+unfoldable pub IsCheckRun : FileName → State → State → ℕ → Type 0
+IsCheckRun path = IsFileRun (IsCheckAnswer path) path
+
+-- `lint IN`
+unfoldable pub IsLintRun : FileName → State → State → ℕ → Type 0
+IsLintRun path = IsFileRun (IsLintAnswer path) path
+
+-- The first file is loaded, and the second is not.
+pub record IsSecondUnread (first second : FileName) (before after : State) (status : ℕ) : Type 0 where
+  pub octets : List ℕ
+  pub stands : Holds before.files first octets
+  pub unread : IsUnread second before after status
+
+-- What is answered for the octets at the two paths is printed.
+pub record IsCompared (first second : FileName) (before after : State) (status : ℕ) : Type 0 where
+  pub a : List ℕ
+  pub b : List ℕ
+  pub first_stands : Holds before.files first a
+  pub second_stands : Holds before.files second b
+  pub said : Said
+  pub answers : IsSameAnswer first second a b said
+  pub kept : SameFiles before.files after.files
+  pub unfailed : after.disk_failures ≡ before.disk_failures
+  pub ends : Ending before after said status
+
+-- `same A B`
+unfoldable pub IsSameRun : FileName → FileName → State → State → ℕ → Type 0
+IsSameRun first second before after status =
+    IsUnread first before after status ⊎ (IsSecondUnread first second before after status
+    ⊎ (IsCompared first second before after status ⊎ IsWanting before after status))
+
+-- how the program ends when so much of a file was sent: nothing more is printed behind the whole,
+-- else the line of the refusal
+abbrev pub EndsSending : Option (List ℕ) → Option (List ℕ) → ℕ → ℕ → (WriteFault → Said) → Result ℕ WriteFault → ℕ → Type 0
+EndsSending old new before after line result status = MatchResult result
+    (λ _. (status ≡ 0) × (new ≡ old) × (after ≡ before))
+    (λ fault. Ends old new before after (line fault) status)
+
+-- the path under which a refusal of a conversion is told: OUT where that cannot be written, and
+-- else IN
+abbrev pub path_of_fault : FileName → FileName → Fault → FileName
+path_of_fault from to (refusal_kind.WriteFailed sent) = to
+path_of_fault from to _ = from
+
+-- the line of a refusal of a conversion
+abbrev pub refusal_between : FileName → FileName → Fault → Said
+refusal_between from to fault = refusal (path_of_fault from to fault) fault
+
+-- The octets go to a path, as far as a refusal lets them. No other file changes.
+pub record IsStoreRun (from to : FileName) (file : List ℕ) (before after : State) (status : ℕ) : Type 0 where
+  pub result : Result ℕ WriteFault
+  pub stored : IsStored before.files after.files before.disk_failures after.disk_failures to file result
+  pub ends : EndsSending before.printed after.printed before.print_failures after.print_failures (λ fault. refusal_between from to (write_fault_for fault)) result status
+
+-- What is written for what stands at one path goes to the other.
+pub record IsConverted (form : Form) (from to : FileName) (before after : State) (status : ℕ) : Type 0 where
+  pub octets : List ℕ
+  pub stands : Holds before.files from octets
+  pub file : List ℕ
+  pub of : IsOutput form octets file
+  pub stored : IsStoreRun from to file before after status
+  pub memory : NeedsNoMemory form stored.result
+
+-- `convert FORM IN OUT`
+unfoldable pub IsConvertRun : Form → FileName → FileName → State → State → ℕ → Type 0
+IsConvertRun form from to before after status =
+    IsUnread from before after status ⊎ (IsAnswered (IsOutputRefusal form from) from before after status
+    ⊎ IsConverted form from to before after status)
+
+-- the path that stands for standard input and standard output in a line
+abbrev pub standard : FileName
+standard = codes "-"
+
+-- The printed text of what stands at the path goes out, all of it or exactly a front, where
+-- printing failed or memory ran out; and behind it, from what was printed and the failures of
+-- printing by then, the line of that.
+pub record IsPrintedRun (path : FileName) (before after : State) (status : ℕ) : Type 0 where
+  pub octets : List ℕ
+  pub stands : Holds before.files path octets
+  pub kept : SameFiles before.files after.files
+  pub unfailed : after.disk_failures ≡ before.disk_failures
+  pub text : List ℕ
+  pub of : IsPrintOf octets text
+  pub sent : Result ℕ WriteFault
+  pub printed : Option (List ℕ)
+  pub failures : ℕ
+  pub written : IsWritten text before.printed printed before.print_failures failures sent
+  pub ends : EndsSending printed after.printed failures after.print_failures (λ fault. refusal_between path standard (write_fault_for fault)) sent status
+
+-- `print IN`
+unfoldable pub IsPrintRun : FileName → State → State → ℕ → Type 0
+IsPrintRun path before after status =
+    IsUnread path before after status ⊎ (IsAnswered (IsRefusedAnswer path) path before after status
+    ⊎ IsPrintedRun path before after status)
+
+-- The octets are all of the input, which was taken to its end without a failure.
+pub record IsTaken (input rest : Input) (octets : List ℕ) : Type 0 where
+  pub all : IsInput input.to_come rest.to_come octets
+  pub unfailed : rest.failures ≡ input.failures
+
+-- why the input was not loaded: a take failed, once; or more than the greatest input was taken; or
+-- there was no memory
+abbrev pub IsUntaken : Input → Input → Fault → Type 0
+IsUntaken input rest refusal_kind.ReadFailed = rest.failures ≡ one_more input.failures
+IsUntaken input rest refusal_kind.InputTooLarge =
+    Takes input.to_come rest.to_come (λ taken. MAX_INPUT < length taken) × (rest.failures ≡ input.failures)
+IsUntaken input rest (refusal_kind.OutOfMemory sent) = (sent ≡ 0) × (rest.failures ≡ input.failures)
+IsUntaken input rest _ = ⊥
+
+-- why there is no canonical file of the input: it was not loaded, or it is refused
+abbrev pub IsInputFault : Input → Input → Fault → Type 0
+IsInputFault input rest fault =
+    IsUntaken input rest fault ⊎ ((octets : List ℕ) × IsTaken input rest octets × IsRefused octets fault)
+
+-- The input is refused, and the line of that is all that is printed.
+pub record IsUnfiltered (input rest : Input) (before after : State) (status : ℕ) : Type 0 where
+  pub fault : Fault
+  pub cause : IsInputFault input rest fault
+  pub ends : Ending before after (refusal standard fault) status
+
+-- The canonical file of the input goes out, all of it or exactly a front, where printing failed or
+-- memory was wanting; and behind it, from what was printed and the failures of printing by then,
+-- the line of that.
+pub record IsFiltered (input rest : Input) (before after : State) (status : ℕ) : Type 0 where
+  pub octets : List ℕ
+  pub taken : IsTaken input rest octets
+  pub file : List ℕ
+  pub canonical : IsCanonicalOf octets file
+  pub sent : Result ℕ WriteFault
+  pub printed : Option (List ℕ)
+  pub failures : ℕ
+  pub written : IsWritten file before.printed printed before.print_failures failures sent
+  pub ends : EndsSending printed after.printed failures after.print_failures (λ fault. refusal standard (write_fault_for fault)) sent status
+
+-- without words
+unfoldable pub IsFilterRun : Input → Input → State → State → ℕ → Type 0
+IsFilterRun input rest before after status =
+    IsUnfiltered input rest before after status ⊎ IsFiltered input rest before after status

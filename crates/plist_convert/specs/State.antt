@@ -1,0 +1,37 @@
+-- What the program sees and changes: files, standard output and the failures of both, and standard
+-- input.
+use Rattle.std.specs.Prelude.{ℕ, List, Option}
+use Rattle.plist_convert.specs.Files.{Files}
+use Rattle.plist_convert.specs.Answer.{Said}
+use Rattle.plist_convert.specs.Ending.{Ends, Prints, no_memory}
+
+pub record State : Type 0 where
+  pub files : Option Files
+  pub disk_failures : ℕ
+  pub printed : Option (List ℕ)
+  pub print_failures : ℕ
+
+abbrev pub state : Option Files → ℕ → Option (List ℕ) → ℕ → State
+state files disk_failures printed print_failures = record {
+  files = files;
+  disk_failures = disk_failures;
+  printed = printed;
+  print_failures = print_failures;
+}
+
+-- standard input: the octets to come, where it tells them, and how many takes failed
+pub record Input : Type 0 where
+  pub to_come : Option (List ℕ)
+  pub failures : ℕ
+
+abbrev pub input_of : Option (List ℕ) → ℕ → Input
+input_of to_come failures = record { to_come = to_come; failures = failures }
+
+-- the program ends so, or no memory was left to make the line
+abbrev pub Ending : State → State → Said → ℕ → Type 0
+Ending before after s status = Ends before.printed after.printed before.print_failures after.print_failures s status
+
+-- no memory was left to make the line
+abbrev pub Wanting : State → State → ℕ → Type 0
+Wanting before after status =
+    Prints before.printed after.printed before.print_failures after.print_failures no_memory status

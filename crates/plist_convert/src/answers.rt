@@ -1,0 +1,152 @@
+//! What is answered for octets that were loaded.
+ghost use Rattle.std.specs.Prelude.{◌≡◌, ◌++◌, IfOk, codes, string_bytes};
+ghost use Rattle.plist_convert.specs.Answer.{IsCheckAnswer, IsLintAnswer, IsSameAnswer, Says};
+ghost use Rattle.plist_convert.specs.Answer.{accepted_said, equality_said, refusal, said_of};
+
+use crate::verdicts::{verdict_line, verdict_status};
+use plist_canon::check_with_hasher;
+use plist_forms::{Fault, PairFault, Status, judge_any, line, same_files_with_hasher};
+use plist_value::FixedHasher;
+use std::alloc::{AllocError, Global};
+use std::hash::BuildHasher;
+
+/// A line that is printed, with its line end, and the status with which the program ends.
+#[derive(Debug, Drop)]
+pub struct Answer {
+    pub text: String,
+    pub status: Status,
+}
+
+/// What `check` answers for these octets, which stand at the path: `canonical` and 0 exactly for
+/// the canonical file of a value within the limits; `broken C7 at object 0` and 1 with a rule that
+/// is false; the line of a refusal where the octets do not have the layout.
+///
+/// # Errors
+///
+/// Where no memory is left for the line.
+pub fn check_answer(alloc: Global, path: &str, octets: &[u8]) -> Result<Answer, AllocError>
+    ensures { IfOk result (λ answer. IsCheckAnswer path.now octets.now (said_of answer)) }
+{
+    check_answer_with_hasher(alloc, FixedHasher::new(), path, octets)
+}
+
+/// The same as [`check_answer`], where scalars are hashed by what the builder makes. Where somebody
+/// else picks the octets, hand it a [`RandomState`](std::hash::RandomState): scalars that were
+/// picked to collide under [`FixedHasher`] cost no more than others then.
+///
+/// # Errors
+///
+/// Where no memory is left for the line.
+pub fn check_answer_with_hasher<H: BuildHasher + Copy>(
+    alloc: Global,
+    hasher: H,
+    path: &str,
+    octets: &[u8],
+) -> Result<Answer, AllocError>
+    ensures { IfOk result (λ answer. IsCheckAnswer path.now octets.now (said_of answer)) }
+{
+    match check_with_hasher(alloc, hasher, octets) {
+        Ok(verdict) => {
+            let line = verdict_line(alloc, verdict)?;
+            told(alloc, line.as_str(), verdict_status(verdict))
+        }
+        Err(fault) => refused(alloc, path, &Fault::from(fault)),
+    }
+}
+
+/// What `lint` answers for these octets, which stand at the path: `PATH: OK` and 0 where they are
+/// accepted, else the line of a fault that stands in them.
+///
+/// # Errors
+///
+/// Where no memory is left for the line.
+pub fn lint_answer(alloc: Global, path: &str, octets: &[u8]) -> Result<Answer, AllocError>
+    ensures { IfOk result (λ answer. IsLintAnswer path.now octets.now (said_of answer)) }
+{
+    match judge_any(alloc, octets) {
+        Ok(()) => accepted(alloc, path),
+        Err(fault) => refused(alloc, path, &fault),
+    }
+}
+
+/// What `same` answers for the octets of two files: `equal` and 0 exactly where they spell equal
+/// values, `different` and 1 where they spell others, and the line of a refusal under the path of
+/// the file that is refused, the second only where the first is accepted.
+///
+/// # Errors
+///
+/// Where no memory is left for the line.
+pub fn same_answer(
+    alloc: Global,
+    first: &str,
+    second: &str,
+    a: &[u8],
+    b: &[u8],
+) -> Result<Answer, AllocError>
+    ensures { IfOk result (λ answer.
+        IsSameAnswer first.now second.now a.now b.now (said_of answer)) }
+{
+    same_answer_with_hasher(alloc, FixedHasher::new(), first, second, a, b)
+}
+
+/// The same as [`same_answer`], where scalars are hashed by what the builder makes, as
+/// [`check_answer_with_hasher`] says.
+///
+/// # Errors
+///
+/// Where no memory is left for the line.
+pub fn same_answer_with_hasher<H: BuildHasher + Copy>(
+    alloc: Global,
+    hasher: H,
+    first: &str,
+    second: &str,
+    a: &[u8],
+    b: &[u8],
+) -> Result<Answer, AllocError>
+    ensures { IfOk result (λ answer.
+        IsSameAnswer first.now second.now a.now b.now (said_of answer)) }
+{
+    match same_files_with_hasher(alloc, hasher, a, b) {
+        Ok(equal) => equality(alloc, equal),
+        Err(PairFault::First(fault)) => refused(alloc, first, &fault),
+        Err(PairFault::Second(fault)) => refused(alloc, second, &fault),
+    }
+}
+
+/// The line of a refusal, and its status.
+///
+/// # Errors
+///
+/// Where no memory is left for the line.
+pub fn refused(alloc: Global, path: &str, fault: &Fault) -> Result<Answer, AllocError>
+    ensures { IfOk result (λ answer. Says (said_of answer) (refusal path.now fault.now)) }
+{
+    let line = line(alloc, path, fault)?;
+    told(alloc, line.as_str(), fault.end_status())
+}
+
+fn accepted(alloc: Global, path: &str) -> Result<Answer, AllocError>
+    ensures { IfOk result (λ answer. Says (said_of answer) (accepted_said path.now)) }
+{
+    let line = format!(in alloc; "{path}: OK")?;
+    told(alloc, line.as_str(), Status::Done)
+}
+
+fn equality(alloc: Global, equal: bool) -> Result<Answer, AllocError>
+    ensures { IfOk result (λ answer. Says (said_of answer) (equality_said equal)) }
+{
+    if equal {
+        told(alloc, "equal", Status::Done)
+    } else {
+        told(alloc, "different", Status::Differs)
+    }
+}
+
+/// The line with a line end, and the status.
+pub(crate) fn told(alloc: Global, line: &str, status: Status) -> Result<Answer, AllocError>
+    ensures text { IfOk result (λ answer. string_bytes answer.text ≡ line.now ++ codes "\n") }
+    ensures status { IfOk result (λ answer. answer.status ≡ status) }
+{
+    let text = format!(in alloc; "{line}\n")?;
+    Ok(Answer { text, status })
+}

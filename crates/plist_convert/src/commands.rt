@@ -1,0 +1,94 @@
+//! The command line, as `clap` is told of it.
+ghost use Rattle.std.specs.Prelude.{◌≡◌, IfOk, codes, false};
+ghost use Rattle.clap.specs.Words.{app_of, new_app, rule_of};
+ghost use Rattle.plist_convert.specs.CommandLine.{IsConvert, IsProgram, file_word, one_file};
+ghost use Rattle.plist_convert.specs.CommandLine.{program_top, same as same_line};
+
+use crate::help;
+use clap::{Arg, Command};
+use std::alloc::{AllocError, Global};
+
+static FORMS: [&str; 2] = ["binary1", "openstep"];
+
+/// The command line of the program.
+pub(crate) fn program<'a>(alloc: Global) -> Result<Command<'a>, AllocError>
+    ensures { IfOk result (λ command. IsProgram (app_of command)) }
+{
+    top(alloc)
+        .subcommand(convert(alloc)?)?
+        .subcommand(same(alloc)?)?
+        .subcommand(lint(alloc)?)?
+        .subcommand(check(alloc)?)?
+        .subcommand(print(alloc)?)
+}
+
+fn top<'a>(alloc: Global) -> Command<'a>
+    ensures { app_of result ≡ program_top }
+{
+    word(alloc, "plistconv", help::ABOUT, help::AFTER)
+        .version("0.2.0")
+        .subcommand_required(true)
+}
+
+fn convert<'a>(alloc: Global) -> Result<Command<'a>, AllocError>
+    ensures { IfOk result (λ command. IsConvert (app_of command)) }
+{
+    let form = place(alloc, "FORM", "The form to write").value_parser(FORMS.as_slice());
+    word(alloc, "convert", help::CONVERT_ABOUT, help::CONVERT_AFTER)
+        .arg(form)?
+        .arg(place(alloc, "IN", "The file to read"))?
+        .arg(place(alloc, "OUT", "The file to write"))
+}
+
+fn same<'a>(alloc: Global) -> Result<Command<'a>, AllocError>
+    ensures { IfOk result (λ command. app_of command ≡ same_line) }
+{
+    word(alloc, "same", help::SAME_ABOUT, help::SAME_AFTER)
+        .arg(place(alloc, "A", "The one file"))?
+        .arg(place(alloc, "B", "The other file"))
+}
+
+fn lint<'a>(alloc: Global) -> Result<Command<'a>, AllocError>
+    ensures { IfOk result (λ command. app_of command ≡ one_file (codes "lint")) }
+{
+    word(alloc, "lint", help::LINT_ABOUT, help::LINT_AFTER).arg(place(
+        alloc,
+        "IN",
+        "The file to read",
+    ))
+}
+
+fn check<'a>(alloc: Global) -> Result<Command<'a>, AllocError>
+    ensures { IfOk result (λ command. app_of command ≡ one_file (codes "check")) }
+{
+    word(alloc, "check", help::CHECK_ABOUT, help::CHECK_AFTER).arg(place(
+        alloc,
+        "IN",
+        "The file to read",
+    ))
+}
+
+fn print<'a>(alloc: Global) -> Result<Command<'a>, AllocError>
+    ensures { IfOk result (λ command. app_of command ≡ one_file (codes "print")) }
+{
+    word(alloc, "print", help::PRINT_ABOUT, help::PRINT_AFTER).arg(place(
+        alloc,
+        "IN",
+        "The file to read",
+    ))
+}
+
+/// A word of the program, with its help.
+fn word<'a>(alloc: Global, name: &'a str, about: &'a str, after: &'a str) -> Command<'a>
+    ensures { app_of result ≡ new_app name.entry.now }
+{
+    Command::new(alloc, name).about(about).after_help(after)
+}
+
+/// A word that has to stand in its place.
+fn place<'a>(alloc: Global, id: &'a str, text: &'a str) -> Arg<'a>
+    ensures rule { rule_of result ≡ file_word id.entry.now }
+    ensures local { result.global ≡ false }
+{
+    Arg::new(alloc, id).required(true).help(text)
+}

@@ -1,0 +1,115 @@
+//! The files of the host.
+ghost use Rattle.std.specs.Prelude.{◌≡◌, IfErr};
+ghost use Rattle.plist_forms.specs.Load.{IsLoadFault};
+
+use crate::delivery::deliver;
+use crate::disks::{Disk, failures_after};
+use crate::host_file::HostFile;
+use plist_devices::ReaderSource;
+use plist_forms::{Fault, Form, load};
+use plist_value::FixedHasher;
+use std::alloc::Global;
+use std::fs;
+use std::hash::BuildHasher;
+use std::io::BufWriter;
+use std::rt::Files;
+
+/// So many octets are gathered before they are written: a write of 4,096 octets costs several times
+/// as much for each of them.
+const GATHERED: usize = 262_144;
+
+/// The files of the host, by their paths. It tells nothing of what they hold.
+///
+/// What it stores is converted, and scalars are hashed by what the builder makes.
+#[derive(Drop)]
+pub struct HostDisk<'a, R, H = FixedHasher> {
+    rt: &'a R,
+    hasher: H,
+    failures: u64,
+}
+
+impl<'a, R: Files> HostDisk<'a, R> {
+    ghost use Rattle.plist_convert.specs.HostDisk.{failures_of};
+
+    /// The files that this runtime reaches.
+    pub fn new(rt: &'a R) -> HostDisk<'a, R>
+        ensures { failures_of result ≡ 0 }
+    {
+        HostDisk::with_hasher(rt, FixedHasher::new())
+    }
+}
+
+impl<'a, R: Files, H: BuildHasher + Copy> HostDisk<'a, R, H> {
+    ghost use Rattle.plist_convert.specs.HostDisk.{failures_of};
+
+    /// The same as [`new`](HostDisk::new), where scalars are hashed by what the builder makes.
+    /// Where somebody else picks what is converted, hand it a
+    /// [`RandomState`](std::hash::RandomState): scalars that were picked to collide under
+    /// [`FixedHasher`] cost no more than others then.
+    pub fn with_hasher(rt: &'a R, hasher: H) -> HostDisk<'a, R, H>
+        ensures { failures_of result ≡ 0 }
+    {
+        HostDisk {
+            rt,
+            hasher,
+            failures: 0,
+        }
+    }
+
+    fn octets_at(&self, alloc: Global, path: &str) -> Result<Vec<u8>, Fault>
+        ensures { IfErr result IsLoadFault }
+    {
+        match fs::open(self.rt, path) {
+            Ok(device) => load(alloc, &mut ReaderSource::new(device)),
+            Err(_) => Err(Fault::ReadFailed),
+        }
+    }
+}
+
+impl<R: Files, H: BuildHasher + Copy> Disk for HostDisk<'_, R, H> {
+    ghost use Rattle.std.specs.Prelude.{None};
+    ghost use Rattle.plist_convert.specs.HostDisk.{failures_of};
+
+    ghost files = { λ _. None };
+
+    ghost failures = { failures_of };
+
+    fn load(&mut self, alloc: Global, path: &str) -> Result<Vec<u8>, Fault> {
+        let octets = self.octets_at(alloc, path);
+        if let Err(Fault::ReadFailed) = octets {
+            self.failures = self.failures.saturating_add(1);
+        }
+        octets
+    }
+
+    fn store(
+        &mut self,
+        alloc: Global,
+        path: &str,
+        octets: Vec<u8>,
+        form: Form,
+    ) -> Result<u64, Fault> {
+        let (_, stored) = deliver(
+            alloc,
+            self.hasher,
+            file_at(self.rt, alloc, path),
+            octets,
+            form,
+        );
+        self.failures = failures_after(self.failures, &stored);
+        stored
+    }
+
+    fn failures(&self) -> u64 {
+        self.failures
+    }
+}
+
+// The file at the path, as yet untouched. Where there is no memory to gather octets, each piece is
+// a write.
+fn file_at<'a, R: Files>(rt: &'a R, alloc: Global, path: &'a str) -> BufWriter<HostFile<'a, R>> {
+    match BufWriter::with_capacity(alloc, GATHERED, HostFile::new(rt, path)) {
+        Ok(writer) => writer,
+        Err(_) => BufWriter::with_capacity(alloc, 0, HostFile::new(rt, path)).unwrap(),
+    }
+}

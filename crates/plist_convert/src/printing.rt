@@ -1,0 +1,119 @@
+//! Printing: octets, lines, and how the program ends for them.
+ghost use Rattle.std.specs.Prelude.{◌≡◌, ◌<◌, ℕ, MatchResult, OnOk, IfErr, IsTrue, length, take};
+ghost use Rattle.std.specs.Io.KnownBytes.{Appends};
+ghost use Rattle.clap.specs.Words.{kind_of};
+ghost use Rattle.plist_devices.specs.Count.{one_more};
+ghost use Rattle.plist_forms.specs.Status.{status_code};
+ghost use Rattle.plist_convert.specs.Answer.{refusal, said_of};
+ghost use Rattle.plist_convert.specs.Ending.{Ends, Prints, no_memory as no_memory_said};
+ghost use Rattle.plist_convert.specs.Explaining.{Explains, IsExplanation, status_of_kind};
+
+use crate::answers::{Answer, refused};
+use clap::error::{Error, ErrorKind};
+use plist_devices::Sink;
+use plist_forms::{Fault, Status};
+use std::alloc::{AllocError, Global};
+
+/// Prints all octets, and counts what went out: [`Fault::WriteFailed`] tells how many were printed
+/// before the device failed.
+pub(crate) fn send<W: Sink>(output: &mut W, octets: &[u8]) -> Result<(), Fault>
+    ensures ok { OnOk result (Appends (W.taken output.old) (W.taken output.new) octets.now
+        × (W.failures output.new ≡ W.failures output.old)) }
+    ensures err { IfErr result (λ fault. (sent : ℕ) × (fault ≡ Fault.WriteFailed sent)
+        × (sent < length octets.now)
+        × Appends (W.taken output.old) (W.taken output.new) (take sent octets.now)
+        × (W.failures output.new ≡ one_more (W.failures output.old))) }
+    ensures same { W.device output.new ≡ W.device output.old }
+{
+    let mut sent = 0;
+    while sent < octets.len() {
+        match output.put(&octets[sent..]) {
+            Ok(taken) => sent += taken,
+            Err(_) => return Err(Fault::WriteFailed { sent: sent as u64 }),
+        }
+    }
+    Ok(())
+}
+
+/// Prints the text, and answers the status, or that it could not be printed.
+pub(crate) fn print<W: Sink>(output: &mut W, text: &str, status: Status) -> u8
+    ensures ends { Prints (W.taken output.old) (W.taken output.new)
+        (W.failures output.old) (W.failures output.new)
+        (record { text = text.now; status = status_code status }) result }
+    ensures same { W.device output.new ≡ W.device output.old }
+{
+    match send(output, text.as_bytes()) {
+        Ok(()) => status.code(),
+        Err(_) => Status::DeviceFailed.code(),
+    }
+}
+
+/// Prints an answer, and answers its status.
+pub(crate) fn give<W: Sink>(output: &mut W, answer: Result<Answer, AllocError>) -> u8
+    ensures ends { MatchResult answer
+        (λ answer. Prints (W.taken output.old) (W.taken output.new)
+        (W.failures output.old) (W.failures output.new) (said_of answer) result)
+        (λ _. Prints (W.taken output.old) (W.taken output.new)
+        (W.failures output.old) (W.failures output.new) no_memory_said result) }
+    ensures same { W.device output.new ≡ W.device output.old }
+{
+    match answer {
+        Ok(answer) => print(output, answer.text.as_str(), answer.status),
+        Err(_) => report_no_memory(output),
+    }
+}
+
+/// Prints the line of a refusal, and answers its status.
+pub(crate) fn report<W: Sink>(alloc: Global, path: &str, fault: &Fault, output: &mut W) -> u8
+    ensures ends { Ends (W.taken output.old) (W.taken output.new)
+        (W.failures output.old) (W.failures output.new) (refusal path.now fault.now) result }
+    ensures same { W.device output.new ≡ W.device output.old }
+{
+    match refused(alloc, path, fault) {
+        Ok(answer) => print(output, answer.text.as_str(), answer.status),
+        Err(_) => report_no_memory(output),
+    }
+}
+
+/// Prints what `clap` says of the words, and answers the status.
+pub(crate) fn explain<W: Sink>(alloc: Global, error: &Error, output: &mut W) -> u8
+    ensures ends { Explains (kind_of error.now) (W.taken output.old) (W.taken output.new)
+        (W.failures output.old) (W.failures output.new) result }
+    ensures same { W.device output.new ≡ W.device output.old }
+{
+    let status = status_of(error);
+    match format!(in alloc; "{error}") {
+        Ok(text) if explains(text.as_str(), status) => print(output, text.as_str(), status),
+        _ => report_no_memory(output),
+    }
+}
+
+/// Whether the text can be one of `clap`'s for an error with this status: that of a mistake says
+/// that it is an error. Where no memory was left, there is none.
+fn explains(text: &str, status: Status) -> bool
+    ensures { IsTrue result → IsExplanation (status_code status) text.now }
+{
+    match status {
+        Status::NoMemory => false,
+        Status::BadWords => text.as_bytes().starts_with(b"error: "),
+        _ => !text.is_empty(),
+    }
+}
+
+fn status_of(error: &Error) -> Status
+    ensures { status_code result ≡ status_of_kind (kind_of error.now) }
+{
+    match error.kind() {
+        ErrorKind::OutOfMemory => Status::NoMemory,
+        ErrorKind::DisplayHelp | ErrorKind::DisplayVersion => Status::Done,
+        _ => Status::BadWords,
+    }
+}
+
+fn report_no_memory<W: Sink>(output: &mut W) -> u8
+    ensures ends { Prints (W.taken output.old) (W.taken output.new)
+        (W.failures output.old) (W.failures output.new) no_memory_said result }
+    ensures same { W.device output.new ≡ W.device output.old }
+{
+    print(output, "refused 60 OutOfMemory\n", Status::NoMemory)
+}

@@ -1,0 +1,30 @@
+//! How the verdict of a check is printed.
+ghost use Rattle.std.specs.Prelude.{◌≡◌, IfOk, string_bytes};
+ghost use Rattle.plist_forms.specs.Status.{status_code};
+ghost use Rattle.plist_convert.specs.Verdicts.{verdict_status_for, verdict_text};
+
+use plist_canon::Verdict;
+use plist_forms::Status;
+use std::alloc::{AllocError, Global};
+
+/// The line of a verdict, without a line end: `canonical`, or `broken C7 at object 0`.
+pub(crate) fn verdict_line(alloc: Global, verdict: Verdict) -> Result<String, AllocError>
+    ensures { IfOk result (λ text. string_bytes text ≡ verdict_text verdict) }
+{
+    match verdict {
+        Verdict::Canonical => format!(in alloc; "canonical"),
+        Verdict::Broken { rule, object } => {
+            format!(in alloc; "broken C{rule} at object {object}")
+        }
+    }
+}
+
+/// The status with which the program ends: 0 for a canonical file, and 1 for any other.
+pub(crate) fn verdict_status(verdict: Verdict) -> Status
+    ensures { status_code result ≡ verdict_status_for verdict }
+{
+    match verdict {
+        Verdict::Canonical => Status::Done,
+        Verdict::Broken { .. } => Status::Differs,
+    }
+}

@@ -1,0 +1,155 @@
+//! What each word of the program does with the files that it names.
+ghost use Rattle.std.specs.Prelude.{◌≡◌};
+ghost use Rattle.plist_convert.specs.Runs.{IsCheckRun, IsConvertRun, IsLintRun, IsPrintRun};
+ghost use Rattle.plist_convert.specs.Runs.{IsSameRun};
+ghost use Rattle.plist_convert.specs.Runs.{path_of_fault};
+ghost use Rattle.plist_convert.specs.State.{state};
+
+use crate::answers::{check_answer_with_hasher, lint_answer, same_answer_with_hasher};
+use crate::disks::Disk;
+use crate::filtering::STANDARD;
+use crate::printing::{give, report};
+use plist_devices::Sink;
+use plist_forms::{Fault, Form, Status, print};
+use std::alloc::Global;
+use std::hash::BuildHasher;
+
+/// `check IN`.
+pub(crate) fn check_file<H: BuildHasher + Copy, D: Disk, W: Sink>(
+    alloc: Global,
+    hasher: H,
+    disk: &mut D,
+    path: &str,
+    output: &mut W,
+) -> u8
+    ensures run { IsCheckRun path.now
+        (state (D.files disk.old) (D.failures disk.old)
+        (W.taken output.old) (W.failures output.old))
+        (state (D.files disk.new) (D.failures disk.new)
+        (W.taken output.new) (W.failures output.new))
+        result }
+    ensures same { W.device output.new ≡ W.device output.old }
+{
+    match disk.load(alloc, path) {
+        Ok(octets) => give(
+            output,
+            check_answer_with_hasher(alloc, hasher, path, octets.as_slice()),
+        ),
+        Err(fault) => report(alloc, path, &fault, output),
+    }
+}
+
+/// `lint IN`.
+pub(crate) fn lint_file<D: Disk, W: Sink>(
+    alloc: Global,
+    disk: &mut D,
+    path: &str,
+    output: &mut W,
+) -> u8
+    ensures run { IsLintRun path.now
+        (state (D.files disk.old) (D.failures disk.old)
+        (W.taken output.old) (W.failures output.old))
+        (state (D.files disk.new) (D.failures disk.new)
+        (W.taken output.new) (W.failures output.new))
+        result }
+    ensures same { W.device output.new ≡ W.device output.old }
+{
+    match disk.load(alloc, path) {
+        Ok(octets) => give(output, lint_answer(alloc, path, octets.as_slice())),
+        Err(fault) => report(alloc, path, &fault, output),
+    }
+}
+
+/// `same A B`: loads A, then B, and only then reads them.
+pub(crate) fn compare_files<H: BuildHasher + Copy, D: Disk, W: Sink>(
+    alloc: Global,
+    hasher: H,
+    disk: &mut D,
+    first: &str,
+    second: &str,
+    output: &mut W,
+) -> u8
+    ensures run { IsSameRun first.now second.now
+        (state (D.files disk.old) (D.failures disk.old)
+        (W.taken output.old) (W.failures output.old))
+        (state (D.files disk.new) (D.failures disk.new)
+        (W.taken output.new) (W.failures output.new))
+        result }
+    ensures same { W.device output.new ≡ W.device output.old }
+{
+    let a = match disk.load(alloc, first) {
+        Ok(octets) => octets,
+        Err(fault) => return report(alloc, first, &fault, output),
+    };
+    match disk.load(alloc, second) {
+        Ok(b) => give(
+            output,
+            same_answer_with_hasher(alloc, hasher, first, second, a.as_slice(), b.as_slice()),
+        ),
+        Err(fault) => report(alloc, second, &fault, output),
+    }
+}
+
+/// `convert FORM IN OUT`: OUT is created or emptied when the first octet goes to it, and so not
+/// where IN is refused.
+pub(crate) fn convert_file<D: Disk, W: Sink>(
+    alloc: Global,
+    disk: &mut D,
+    form: Form,
+    from: &str,
+    to: &str,
+    output: &mut W,
+) -> u8
+    ensures run { IsConvertRun form from.now to.now
+        (state (D.files disk.old) (D.failures disk.old)
+        (W.taken output.old) (W.failures output.old))
+        (state (D.files disk.new) (D.failures disk.new)
+        (W.taken output.new) (W.failures output.new))
+        result }
+    ensures same { W.device output.new ≡ W.device output.old }
+{
+    let octets = match disk.load(alloc, from) {
+        Ok(octets) => octets,
+        Err(fault) => return report(alloc, from, &fault, output),
+    };
+    match disk.store(alloc, to, octets, form) {
+        Ok(_) => Status::Done.code(),
+        Err(fault) => report(alloc, path_of(&fault, from, to), &fault, output),
+    }
+}
+
+/// `print IN`: the printed text of the value, object after object. Nothing of it goes out unless IN
+/// is accepted.
+pub(crate) fn print_file<D: Disk, W: Sink>(
+    alloc: Global,
+    disk: &mut D,
+    path: &str,
+    output: &mut W,
+) -> u8
+    ensures run { IsPrintRun path.now
+        (state (D.files disk.old) (D.failures disk.old)
+        (W.taken output.old) (W.failures output.old))
+        (state (D.files disk.new) (D.failures disk.new)
+        (W.taken output.new) (W.failures output.new))
+        result }
+    ensures same { W.device output.new ≡ W.device output.old }
+{
+    let octets = match disk.load(alloc, path) {
+        Ok(octets) => octets,
+        Err(fault) => return report(alloc, path, &fault, output),
+    };
+    match print(alloc, octets.as_slice(), output) {
+        Ok(_) => Status::Done.code(),
+        Err(fault) => report(alloc, path_of(&fault, path, STANDARD), &fault, output),
+    }
+}
+
+/// The path under which a refusal is told of what goes from one path to another.
+fn path_of<'a>(fault: &Fault, from: &'a str, to: &'a str) -> &'a str
+    ensures { result.now ≡ path_of_fault from.now to.now fault.now }
+{
+    match fault {
+        Fault::WriteFailed { .. } => to,
+        _ => from,
+    }
+}

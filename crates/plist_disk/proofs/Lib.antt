@@ -1,4 +1,0 @@
-pub mod Stored
-pub mod Delivered
-pub mod Handed
-pub mod Rooms

@@ -1,5 +1,0 @@
-use Rattle.std.proofs.Common.{refl}
-use Rattle.plist_disk.proofs.host_disk.HostDisk.with_hasher.Goals as goal
-
-pub returns : goal.returns
-returns g c = refl

@@ -1,4 +1,0 @@
-pub mod Delivery
-pub mod Files
-pub mod HostDisk
-pub mod MemoryDisk

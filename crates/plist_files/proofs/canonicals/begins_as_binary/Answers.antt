@@ -1,4 +1,0 @@
-use Rattle.plist_files.proofs.canonicals.begins_as_binary.Goals as goal
-
-pub returns : goal.returns
-returns c = c.starts_with.ensures.value

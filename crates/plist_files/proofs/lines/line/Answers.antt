@@ -1,4 +1,0 @@
-use Rattle.plist_files.proofs.lines.line.Goals as goal
-
-pub returns : goal.returns
-returns c = c.format.ensures.ok

@@ -1,8 +1,0 @@
--- The printed line of a refusal.
-use Rattle.std.specs.Prelude.{ℕ, List, ◌++◌, codes}
-use Rattle.plist_files.specs.Fault.{fault_text}
-use Rattle.plist_files.specs.declared.faults.Fault.{Fault}
-
--- the path, and what the refusal prints
-abbrev pub line_of : List ℕ → Fault → List ℕ
-line_of path fault = path ++ (codes ": refused " ++ fault_text fault)

@@ -1,0 +1,33 @@
+-- What holds of all accepted octets.
+use Rattle.std.specs.Prelude.{◌≡◌, ◌↔◌, true, List, Some, ℕ}
+use Rattle.plist_value.specs.Plist.{Plist, IsPlist}
+use Rattle.plist_value.specs.Limits.{Fits}
+use Rattle.plist_write.specs.Canonical.{canon}
+use Rattle.ostep_text.specs.Written.{text_of}
+use Rattle.plist_forms.specs.Accepted.{IsAccepted, begins_as_binary}
+
+-- no octets spell two values
+abbrev pub OneValue : Type 0
+OneValue = (octets : List ℕ) (v w : Plist) → IsAccepted octets v → IsAccepted octets w → v ≡ w
+
+-- the canonical file of a value within the limits begins with `bplist`, is accepted, and spells the
+-- value
+abbrev pub CanonicalIsAccepted : Type 0
+CanonicalIsAccepted =
+    (v : Plist) → IsPlist v → Fits v → (begins_as_binary (canon v) ≡ true) × IsAccepted (canon v) v
+
+-- where a value within the limits has an OpenStep text, that text is accepted, and spells the value
+abbrev pub WrittenIsAccepted : Type 0
+WrittenIsAccepted =
+    (v : Plist) (octets : List ℕ) → IsPlist v → Fits v → text_of v ≡ Some octets → IsAccepted octets v
+
+-- Two canonical files are equal octet for octet exactly if the two values are; each is accepted,
+-- spells the value that its source spells, and is its own canonical file.
+pub record IsHeadline (v w : Plist) : Type 0 where
+  pub equal : (canon v ≡ canon w) ↔ (v ≡ w)
+  pub accepted : IsAccepted (canon v) v
+  pub own : (u : Plist) → IsAccepted (canon v) u → canon u ≡ canon v
+
+abbrev pub Headline : Type 0
+Headline =
+    (a b : List ℕ) (v w : Plist) → IsAccepted a v → IsAccepted b w → IsHeadline v w

@@ -1,0 +1,12 @@
+pub mod Accepted
+pub mod Fault
+pub mod Laws
+pub mod Line
+pub mod Load
+pub mod Pair
+pub mod Printed
+pub mod Refusals
+pub mod Sent
+pub mod Status
+pub mod Output
+pub mod Transfer

@@ -1,0 +1,31 @@
+-- What is refused, and what a refusal says of the octets.
+use Rattle.std.specs.Prelude.{◌≡◌, ◌≢◌, true, false, ℕ, List}
+use Rattle.plist_value.specs.Plist.{Plist}
+use Rattle.plist_binary.specs.Faults as of_binary
+use Rattle.plist_binary.specs.declared.fault.BinaryFault.TheVariants as binary
+use Rattle.ostep_text.specs.Stands as of_text
+use Rattle.ostep_text.specs.declared.fault.TextFault.TheVariants as text
+use Rattle.plist_forms.specs.Accepted.{IsAccepted, begins_as_binary}
+use Rattle.plist_forms.specs.Fault.{code_of}
+use Rattle.plist_forms.specs.declared.faults.Fault.{Fault}
+use Rattle.plist_forms.specs.declared.faults.Fault.TheVariants.{Binary, Text, NotInOpenStep, ReadFailed, WriteFailed, InputTooLarge, OutOfMemory}
+
+-- The fault stands in the octets, at its place, and is of the form that they are read as. A want of
+-- memory says nothing of them: it came before anything went out, and is told by its own name, not
+-- as a reader's.
+abbrev pub FaultStands : List ℕ → Fault → Type 0
+FaultStands octets (Binary binary.OutOfMemory) = ⊥
+FaultStands octets (Binary fault) = (begins_as_binary octets ≡ true) × of_binary.Stands octets fault
+FaultStands octets (Text text.OutOfMemory) = ⊥
+FaultStands octets (Text fault) = (begins_as_binary octets ≡ false) × of_text.Stands octets fault
+FaultStands octets (OutOfMemory sent) = sent ≡ 0
+FaultStands octets NotInOpenStep = ⊥
+FaultStands octets ReadFailed = ⊥
+FaultStands octets (WriteFailed sent) = ⊥
+FaultStands octets InputTooLarge = ⊥
+
+-- The octets are refused so: the fault stands, and with another number than that of a want of
+-- memory no value is spelled.
+pub record IsRefused (octets : List ℕ) (fault : Fault) : Type 0 where
+  pub stands : FaultStands octets fault
+  pub none : code_of fault ≢ 60 → (v : Plist) → IsAccepted octets v → ⊥

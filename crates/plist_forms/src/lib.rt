@@ -1,0 +1,30 @@
+//! Property lists of either form as octets: what is loaded from a source, the value that it spells,
+//! its canonical file and its printed text, every refusal with its number and its printed line, and
+//! conversions from a source to a sink.
+#![tactic(auto)]
+
+pub mod canonicals;
+mod converting;
+pub mod faults;
+pub mod forms;
+pub mod laws;
+pub mod lines;
+pub mod loading;
+pub mod pairs;
+pub mod printing;
+mod sending;
+pub mod statuses;
+mod texts;
+
+pub use canonicals::{
+    begins_as_binary, canonicalise, canonicalise_with_hasher, judge_any, read_any, refusal,
+    same_files, same_files_with_hasher,
+};
+pub use converting::{convert, convert_octets, convert_octets_with_hasher, convert_with_hasher};
+pub use faults::Fault;
+pub use forms::Form;
+pub use lines::line;
+pub use loading::{MAX_INPUT, load};
+pub use pairs::PairFault;
+pub use printing::print;
+pub use statuses::Status;

@@ -1,0 +1,54 @@
+//! All that a source gives, as one list.
+ghost use Rattle.std.specs.Prelude.{◌≡◌, ◌<◌, ◌≤◌, ◌↔◌, length, vec_len};
+ghost use Rattle.std.specs.Prelude.{IsErrOf, IfOk, IfErr, IfSome, OnOk};
+ghost use Rattle.std.specs.Io.KnownBytes.{IsAtEnd};
+ghost use Rattle.plist_devices.specs.Count.{HasFailed, one_more};
+ghost use Rattle.plist_forms.specs.Load.{IsLoadFault, Takes};
+
+use crate::Fault;
+use plist_devices::Source;
+use std::alloc::Global;
+
+/// The greatest number of octets of one input: 2^32 - 1.
+pub const MAX_INPUT: u64 = 4_294_967_295;
+
+/// How many octets one take asks for.
+const TAKE_SIZE: usize = 4096;
+
+/// Takes octets until the source has no more, and answers them all.
+///
+/// A failing take is [`Fault::ReadFailed`] at once. More than [`MAX_INPUT`] octets are
+/// [`Fault::InputTooLarge`], and where no memory is left the fault is [`Fault::OutOfMemory`]. After
+/// a refusal the octets that were taken are gone from the source.
+pub fn load<S: Source>(alloc: Global, from: &mut S) -> Result<Vec<u8>, Fault>
+    ensures whole { IfOk result (λ octets.
+        IfSome (S.remaining from.old) (λ all. octets.items ≡ all)) }
+    ensures within { IfOk result (λ octets. vec_len octets ≤ MAX_INPUT) }
+    ensures end { OnOk result (IsAtEnd (S.remaining from.new)) }
+
+    // A failure is counted in this call exactly where it is answered; then it is one, and else
+    // none.
+    ensures failed { IsErrOf result Fault.ReadFailed
+        ↔ HasFailed (S.failures from.old) (S.failures from.new) }
+    ensures at_once { IsErrOf result Fault.ReadFailed
+        → S.failures from.new ≡ one_more (S.failures from.old) }
+    ensures kept { ¬ IsErrOf result Fault.ReadFailed
+        → S.failures from.new ≡ S.failures from.old }
+
+    ensures too_large { Takes (S.remaining from.old) (S.remaining from.new)
+        (λ taken. IsErrOf result Fault.InputTooLarge ↔ (MAX_INPUT < length taken)) }
+    ensures faults { IfErr result IsLoadFault }
+{
+    let mut octets = Vec::new(alloc);
+    let mut buffer = [0u8; TAKE_SIZE];
+    'takes: loop {
+        let given = from.take(&mut buffer[..])?;
+        if given == 0 {
+            return Ok(octets);
+        }
+        if (octets.len() + given) as u64 > MAX_INPUT {
+            return Err(Fault::InputTooLarge);
+        }
+        octets.extend_from_slice(&buffer[..given])?;
+    }
+}

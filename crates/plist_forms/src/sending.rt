@@ -1,0 +1,25 @@
+//! Octets in memory, to a sink.
+ghost use Rattle.std.specs.Prelude.{◌≡◌};
+ghost use Rattle.plist_write.specs.Sending.{IsWritten};
+ghost use Rattle.plist_forms.specs.declared.forms.Form.TheVariants.{OpenStep};
+ghost use Rattle.plist_forms.specs.Transfer.{NeedsNoMemory};
+
+use plist_devices::Sink;
+use plist_write::WriteFault;
+
+/// Sends all of the octets, in as many puts as the sink asks for, and answers how many they are.
+pub(crate) fn send<W: Sink>(octets: &[u8], to: &mut W) -> Result<u64, WriteFault>
+    ensures written { IsWritten octets.now (W.taken to.old) (W.taken to.new)
+        (W.failures to.old) (W.failures to.new) result }
+    ensures memory { NeedsNoMemory OpenStep result }
+    ensures same { W.device to.new ≡ W.device to.old }
+{
+    let mut sent = 0;
+    while sent < octets.len() {
+        match to.put(&octets[sent..]) {
+            Ok(taken) => sent += taken,
+            Err(_) => return Err(WriteFault::WriteFailed { sent: sent as u64 }),
+        }
+    }
+    Ok(sent as u64)
+}
