@@ -91,6 +91,7 @@ pub(crate) fn judge_file<'a>(
     };
     match walker.short() {
         Ok(sorted) => Ok(sorted),
+        Err(BinaryFault::OutOfMemory) => Err(BinaryFault::OutOfMemory),
         Err(BinaryFault::TooMuchPayload { .. }) => {
             let ranks = Keys::of_file(alloc, &file)?.ranks(alloc, &file)?;
             let ranks = &ranks;

@@ -48,7 +48,7 @@ pub fn check_answer_with_hasher<H: BuildHasher + Copy>(
     match check_with_hasher(alloc, hasher, octets) {
         Ok(verdict) => {
             let line = verdict_line(alloc, verdict)?;
-            told(alloc, line.as_str(), verdict_status(verdict))
+            told(line, verdict_status(verdict))
         }
         Err(fault) => refused(alloc, path, &Fault::from(fault)),
     }
@@ -122,31 +122,33 @@ pub fn refused(alloc: Global, path: &str, fault: &Fault) -> Result<Answer, Alloc
     ensures { IfOk result (λ answer. Says (said_of answer) (refusal path.now fault.now)) }
 {
     let line = line(alloc, path, fault)?;
-    told(alloc, line.as_str(), fault.end_status())
+    told(line, fault.end_status())
 }
 
 fn accepted(alloc: Global, path: &str) -> Result<Answer, AllocError>
     ensures { IfOk result (λ answer. Says (said_of answer) (accepted_said path.now)) }
 {
     let line = format!(in alloc; "{path}: OK")?;
-    told(alloc, line.as_str(), Status::Done)
+    told(line, Status::Done)
 }
 
 fn equality(alloc: Global, equal: bool) -> Result<Answer, AllocError>
     ensures { IfOk result (λ answer. Says (said_of answer) (equality_said equal)) }
 {
     if equal {
-        told(alloc, "equal", Status::Done)
+        told(String::from_str(alloc, "equal")?, Status::Done)
     } else {
-        told(alloc, "different", Status::Differs)
+        told(String::from_str(alloc, "different")?, Status::Differs)
     }
 }
 
 /// The line with a line end, and the status.
-pub(crate) fn told(alloc: Global, line: &str, status: Status) -> Result<Answer, AllocError>
-    ensures text { IfOk result (λ answer. string_bytes answer.text ≡ line.now ++ codes "\n") }
+fn told(line: String, status: Status) -> Result<Answer, AllocError>
+    ensures text { IfOk result (λ answer.
+        string_bytes answer.text ≡ string_bytes line.entry ++ codes "\n") }
     ensures status { IfOk result (λ answer. answer.status ≡ status) }
 {
-    let text = format!(in alloc; "{line}\n")?;
+    let mut text = line;
+    text.push('\n')?;
     Ok(Answer { text, status })
 }

@@ -1,8 +1,6 @@
-//! Printing: octets, lines, and how the program ends for them.
-ghost use Rattle.std.specs.Prelude.{◌≡◌, ◌<◌, ℕ, MatchResult, OnOk, IfErr, IsTrue, length, take};
-ghost use Rattle.std.specs.Io.KnownBytes.{Appends};
+//! Printing: lines, and how the program ends for them.
+ghost use Rattle.std.specs.Prelude.{◌≡◌, MatchResult, IsTrue};
 ghost use Rattle.clap.specs.Words.{kind_of};
-ghost use Rattle.plist_devices.specs.Count.{one_more};
 ghost use Rattle.plist_forms.specs.Status.{status_code};
 ghost use Rattle.plist_convert.specs.Answer.{refusal, said_of};
 ghost use Rattle.plist_convert.specs.Ending.{Ends, Prints, no_memory as no_memory_said};
@@ -10,30 +8,9 @@ ghost use Rattle.plist_convert.specs.Explaining.{Explains, IsExplanation, status
 
 use crate::answers::{Answer, refused};
 use clap::error::{Error, ErrorKind};
-use plist_devices::Sink;
+use plist_devices::{Sink, put_all};
 use plist_forms::{Fault, Status};
 use std::alloc::{AllocError, Global};
-
-/// Prints all octets, and counts what went out: [`Fault::WriteFailed`] tells how many were printed
-/// before the device failed.
-pub(crate) fn send<W: Sink>(output: &mut W, octets: &[u8]) -> Result<(), Fault>
-    ensures ok { OnOk result (Appends (W.taken output.old) (W.taken output.new) octets.now
-        × (W.failures output.new ≡ W.failures output.old)) }
-    ensures err { IfErr result (λ fault. (sent : ℕ) × (fault ≡ Fault.WriteFailed sent)
-        × (sent < length octets.now)
-        × Appends (W.taken output.old) (W.taken output.new) (take sent octets.now)
-        × (W.failures output.new ≡ one_more (W.failures output.old))) }
-    ensures same { W.device output.new ≡ W.device output.old }
-{
-    let mut sent = 0;
-    while sent < octets.len() {
-        match output.put(&octets[sent..]) {
-            Ok(taken) => sent += taken,
-            Err(_) => return Err(Fault::WriteFailed { sent: sent as u64 }),
-        }
-    }
-    Ok(())
-}
 
 /// Prints the text, and answers the status, or that it could not be printed.
 pub(crate) fn print<W: Sink>(output: &mut W, text: &str, status: Status) -> u8
@@ -42,7 +19,7 @@ pub(crate) fn print<W: Sink>(output: &mut W, text: &str, status: Status) -> u8
         (record { text = text.now; status = status_code status }) result }
     ensures same { W.device output.new ≡ W.device output.old }
 {
-    match send(output, text.as_bytes()) {
+    match put_all(text.as_bytes(), output) {
         Ok(()) => status.code(),
         Err(_) => Status::DeviceFailed.code(),
     }

@@ -5,6 +5,7 @@
 mod faults;
 pub mod list_sink;
 pub mod list_source;
+pub mod putting;
 pub mod reader_source;
 pub mod readers;
 pub mod sinks;
@@ -16,6 +17,7 @@ pub mod writers;
 pub use faults::DeviceFault;
 pub use list_sink::ListSink;
 pub use list_source::ListSource;
+pub use putting::put_all;
 pub use reader_source::ReaderSource;
 pub use readers::Device;
 pub use sinks::Sink;

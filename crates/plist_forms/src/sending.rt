@@ -4,7 +4,7 @@ ghost use Rattle.plist_write.specs.Sending.{IsWritten};
 ghost use Rattle.plist_forms.specs.declared.forms.Form.TheVariants.{OpenStep};
 ghost use Rattle.plist_forms.specs.Transfer.{NeedsNoMemory};
 
-use plist_devices::Sink;
+use plist_devices::{Sink, put_all};
 use plist_write::WriteFault;
 
 /// Sends all of the octets, in as many puts as the sink asks for, and answers how many they are.
@@ -14,12 +14,8 @@ pub(crate) fn send<W: Sink>(octets: &[u8], to: &mut W) -> Result<u64, WriteFault
     ensures memory { NeedsNoMemory OpenStep result }
     ensures same { W.device to.new ≡ W.device to.old }
 {
-    let mut sent = 0;
-    while sent < octets.len() {
-        match to.put(&octets[sent..]) {
-            Ok(taken) => sent += taken,
-            Err(_) => return Err(WriteFault::WriteFailed { sent: sent as u64 }),
-        }
+    match put_all(octets, to) {
+        Ok(()) => Ok(octets.len() as u64),
+        Err(taken) => Err(WriteFault::WriteFailed { sent: taken as u64 }),
     }
-    Ok(sent as u64)
 }

@@ -1,5 +1,5 @@
 //! Writers of the library as sinks.
-use plist_devices::{DeviceFault, Sink, Stream, WriterSink};
+use plist_devices::{DeviceFault, Sink, Stream, WriterSink, put_all};
 use std::io::{self, Write};
 use std::test::Fail;
 
@@ -78,6 +78,7 @@ fn a_write_that_fails_or_takes_nothing_is_counted(rt: HostRuntime) -> Result<(),
     let mut sink = WriterSink::new(Broken);
     assert!(rt; wrong_put(&mut sink, &BROKEN).is_none());
     assert!(rt; sink.failures() == 2);
+    assert!(rt; put_all(b"abc", &mut WriterSink::new(Narrow { room: 1 })) == Err(1));
     let mut broken = Broken;
     let mut stream = Stream::new(&mut broken);
     assert!(rt; stream.put(b"abc") == Err(DeviceFault));
