@@ -5,7 +5,7 @@
 ## make uninstall             removes what both have installed
 ## make test                  the gate: every proof, all tests, and what stands around them (see CONTRIBUTING.md)
 ## make around                the gate without the proofs, over what is built
-## make edits [CRATE=NAME]    tries the mutants that the gate leaves out
+## make mutants [CRATE=NAME]  tries the mutants that the gate leaves out
 ## make fuzz [SECONDS=60] [SEED=1]   compares the program with a second reading of the formats
 ## make recipes, examples, words, new-user   try the recipes and the README, the bindings, words that are not UTF-8,
 ##                            and what a new user does on a clean checkout
@@ -17,7 +17,7 @@ SECONDS ?= 60
 SEED ?= 1
 VERSION := $(shell sed -n 's/.*\.version("\(.*\)").*/\1/p' crates/plist_convert/src/commands.rt)
 
-.PHONY: all help test around edits fuzz recipes new-user words bench hostile growths install uninstall clean
+.PHONY: all help test around mutants fuzz recipes new-user words bench hostile growths install uninstall clean
 all: plistconv
 
 include build.mk
@@ -35,8 +35,8 @@ test:
 around: plistconv lib
 	@scripts/gate.sh --around
 
-edits:
-	scripts/edits.sh $(CRATE)
+mutants:
+	scripts/mutants.sh $(CRATE)
 
 fuzz: plistconv
 	python3 fuzz/rows.py

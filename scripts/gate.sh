@@ -138,7 +138,7 @@ if [ -x "$program" ]; then
         begun library 1500 bash -c 'library "$PLISTCONV_LIBDIR"'
     fi
 
-    step 'stale edits' 900 bash -c 'needs python3 && scripts/stale_edits.py'
+    step 'stale mutants' 900 bash -c 'needs python3 && scripts/stale_mutants.py'
     step 'names in the pages' 900 bash -c 'needs python3 && scripts/docs.py'
     step 'rows against the second reading' 900 bash -c 'needs python3 && python3 fuzz/rows.py'
     step README 900 recipes/readme

@@ -1,9 +1,9 @@
 #!/usr/bin/env python3
-"""scripts/stale_edits.py [NAME..]: says in a second which edits no longer apply.
+"""scripts/stale_mutants.py [NAME..]: says in a second which mutants no longer apply.
 
-Of each edit in crates/NAME/must-fail/ and crates/NAME/edits/ (of every crate, with no NAME) each `old:` text has
-to stand exactly once in the edit's file, as the pairs before it left that file, and its `new:` text has to change
-it. Two edits of one crate that make the same change are named too. Fails where one edit is stale.
+Of each mutant in crates/NAME/must-fail/ and crates/NAME/edits/ (of every crate, with no NAME) each `old:` text has
+to stand exactly once in the mutant's file, as the pairs before it left that file, and its `new:` text has to change
+it. Two mutants of one crate that make the same change are named too. Fails where one mutant is stale.
 """
 
 import sys
@@ -12,10 +12,10 @@ from pathlib import Path
 CRATES = Path(__file__).resolve().parent.parent / "crates"
 
 
-def pairs(edit):
+def pairs(mutant):
     """The file of each pair of texts, with what the pair takes away and what it puts there."""
     file = old = None
-    for line in edit.read_text(encoding="utf-8").splitlines():
+    for line in mutant.read_text(encoding="utf-8").splitlines():
         word, _, text = line.partition(": ")
         if word == "file":
             file = text
@@ -24,13 +24,13 @@ def pairs(edit):
         elif word == "new" or line == "new:":
             yield file, old, text
         elif line.strip():
-            raise ValueError(f"no line of an edit: {line}")
+            raise ValueError(f"no line of a mutant: {line}")
 
 
-def change(crate, edit):
-    """The files that the edit makes, or a ValueError that says why it does not apply."""
+def change(crate, mutant):
+    """The files that the mutant makes, or a ValueError that says why it does not apply."""
     made = {}
-    for file, old, new in pairs(edit):
+    for file, old, new in pairs(mutant):
         text = made.get(file)
         if text is None:
             path = crate / (file or "")
@@ -51,17 +51,17 @@ def main(names):
     found = stale = 0
     for crate in [CRATES / name for name in names] or sorted(CRATES.iterdir()):
         changes = {}
-        for edit in sorted([*crate.glob("must-fail/*.edit"), *crate.glob("edits/*.edit")]):
+        for mutant in sorted([*crate.glob("must-fail/*.edit"), *crate.glob("edits/*.edit")]):
             found += 1
-            name = edit.relative_to(CRATES)
+            name = mutant.relative_to(CRATES)
             try:
-                other = changes.setdefault(change(crate, edit), name)
+                other = changes.setdefault(change(crate, mutant), name)
                 if other != name:
                     raise ValueError(f"makes the same change as {other}")
             except ValueError as fault:
                 stale += 1
                 print(f"{name}: {fault}")
-    print(f"{found} edits, {stale} stale")
+    print(f"{found} mutants, {stale} stale")
     return 1 if stale else 0
 
 

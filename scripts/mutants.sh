@@ -1,11 +1,11 @@
 #!/usr/bin/env bash
-# scripts/edits.sh [NAME..]: tries the edits crates/NAME/edits/*.edit, which the gate leaves out, on a copy of the
+# scripts/mutants.sh [NAME..]: tries the mutants crates/NAME/edits/*.edit, which the gate leaves out, on a copy of the
 # tree: the prover must refuse each. With no NAME, those of every crate that has some. As many crates run side by
-# side as there are processors (or JOBS). It prints one line a crate, and fails where one edit is not refused, or
-# no longer applies: scripts/stale_edits.py says which those are in a second, of the edits of the gate too.
+# side as there are processors (or JOBS). It prints one line a crate, and fails where one mutant is not refused, or
+# no longer applies: scripts/stale_mutants.py says which those are in a second, of the mutants of the gate too.
 set -u
 cd "$(dirname "$0")/.." || exit 2
-scripts/stale_edits.py "$@" || exit 1
+scripts/stale_mutants.py "$@" || exit 1
 
 names=("$@")
 if [ ${#names[@]} -eq 0 ]; then
@@ -15,7 +15,7 @@ if [ ${#names[@]} -eq 0 ]; then
 fi
 for name in "${names[@]}"; do
     if ! compgen -G "crates/$name/edits/*.edit" > /dev/null; then
-        echo "edits: $name has none in crates/$name/edits" >&2
+        echo "mutants: $name has none in crates/$name/edits" >&2
         exit 2
     fi
 done
@@ -29,25 +29,25 @@ for name in "${names[@]}"; do
     mv "$copy/crates/$name/edits" "$copy/crates/$name/must-fail"
 done
 
-# The libraries that edits are tried over, one after another: those tried side by side would build them at once.
+# The libraries that mutants are tried over, one after another: those tried side by side would build them at once.
 for name in "${names[@]}"; do
     sed -n "s/^$name\( [^:]*\)\?://p" crates.txt
 done | tr ' ' '\n' | sort -u | while read -r library; do
     [ -d "$copy/crates/$library/src" ] || continue
     (cd "$copy/crates/$library" && rt lib) > "$copy/$library.lib.log" 2>&1 && continue
-    echo "edits: $library is not proved" >&2
+    echo "mutants: $library is not proved" >&2
     tail -n 5 "$copy/$library.lib.log" >&2
     exit 1
 done || exit 1
 
-# Tries the edits of one crate, and prints how many were refused, with what was said of the others.
+# Tries the mutants of one crate, and prints how many were refused, with what was said of the others.
 try() {
     local wanted refused
     wanted=$(find "$copy/crates/$1/must-fail" -name '*.edit' | wc -l)
     (cd "$copy" && rt must-fail "$1") > "$copy/$1.log" 2>&1
     refused=$(grep -c ': refused, as it must be' "$copy/$1.log")
-    echo "$1: $refused of $wanted edits refused"
-    # An edit that takes away a name is refused for that, and not for what it means.
+    echo "$1: $refused of $wanted mutants refused"
+    # A mutant that takes away a name is refused for that, and not for what it means.
     sed -n 's/^rt: must-fail \([^:]*\): refused.*only because a proof file names.*/    \1 takes away what a proof names/p' \
         "$copy/$1.log"
     [ "$refused" -eq "$wanted" ] && return 0
