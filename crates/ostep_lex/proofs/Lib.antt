@@ -18,6 +18,7 @@ pub mod WhiteSteps
 pub mod TextLemmas
 pub mod LawProofs
 pub mod LexerSteps
+pub mod PlainSteps
 pub mod SpanLemmas
 pub mod EncodingLemmas
 pub mod SourceLemmas

@@ -50,6 +50,13 @@ pub record StandsBehind (octets : List ℕ) (tokens : List Placed) (cursor : Cur
   pub before : BeginsWithTokens octets tokens (ahead cursor)
   pub places : places_in cursor ≡ places_of octets
 
+-- behind whatever tokens of an input the old cursor stands, the new one stands behind one more,
+-- which is this lexeme
+pub record AddsToken (lexeme : Lexeme) (old new : Cursor) : Type 0 where
+  pub token : Placed
+  pub is : token.lexeme ≡ lexeme
+  pub stands : (octets : List ℕ) (tokens : List Placed) → StandsBehind octets tokens old → StandsBehind octets (tokens ++ token ∷ []) new
+
 -- whether the text begins with the character
 abbrev pub begins_with : ℕ → List ℕ → Bool
 begins_with c [] = false

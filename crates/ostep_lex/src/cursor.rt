@@ -1,5 +1,6 @@
 //! A place in an input, passed by value.
-ghost use Rattle.std.specs.Prelude.{◌≡◌, false, [], ◌∷◌, ◌≤◌, MatchOption, IfOk, IfErr, length};
+ghost use Rattle.std.specs.Prelude.{◌≡◌, false, [], ◌∷◌, ◌≤◌, length};
+ghost use Rattle.std.specs.Prelude.{MatchOption, IfSome, IfOk, IfErr};
 ghost use Rattle.ostep_lex.specs.Source.{IsWhole, octets_in};
 
 use crate::fault::LexFault;
@@ -19,7 +20,8 @@ pub struct Cursor<'a> {
 
 impl<'a> Cursor<'a> {
     ghost use Rattle.ostep_lex.specs.Cursor.{ahead, place_at, SameInput, begins_with};
-    ghost use Rattle.ostep_lex.specs.Cursor.{SkipsStretch, StretchAppends, PassesPairs};
+    ghost use Rattle.ostep_lex.specs.Cursor.{PassesStretch, SkipsStretch, StretchAppends};
+    ghost use Rattle.ostep_lex.specs.Cursor.{PassesPairs};
     ghost use Rattle.ostep_lex.specs.Cursor.{Holds, IsBadUtf8, IsBadUtf16};
     ghost use Rattle.ostep_lex.specs.Encoding.{utf8, StopsBehind};
     ghost use Rattle.ostep_lex.specs.Source.{encoding_by};
@@ -59,6 +61,23 @@ impl<'a> Cursor<'a> {
             source: self.source.behind_stretch(class),
             end: self.end,
         }
+    }
+
+    /// The octets of the longest stretch of the class at the cursor, one for each of its characters,
+    /// and the cursor behind it. None of UTF-16.
+    #[inline(always)]
+    #[tactic(auto, unfolding(crate::specs::Cursor::ahead, crate::specs::Cursor::places_in))]
+    pub(crate) fn plain_stretch(self, class: Class) -> Option<(&'a [u8], Cursor<'a>)>
+        ensures { IfSome result (λ found. PassesStretch class self.entry found.0.now found.1) }
+    {
+        let (octets, source) = self.source.plain_stretch(class)?;
+        Some((
+            octets,
+            Cursor {
+                source,
+                end: self.end,
+            },
+        ))
     }
 
     /// Appends the characters of the longest stretch of the class at the cursor, and answers the

@@ -1,11 +1,12 @@
 //! The octets that are still to be read, and the characters at their front.
-ghost use Rattle.std.specs.Prelude.{◌≡◌, ◌+◌, ◌++◌, [], ◌∷◌, ◌<◌, MatchOption, IfOk, length, chars};
+ghost use Rattle.std.specs.Prelude.{◌≡◌, ◌+◌, ◌++◌, [], ◌∷◌, ◌<◌, length, chars};
+ghost use Rattle.std.specs.Prelude.{MatchOption, IfSome, IfOk};
 ghost use Rattle.std.specs.Char.{IsScalar};
 ghost use Rattle.ostep_lex.specs.Encoding.{BeginsWith, BeginsWithNone};
 ghost use Rattle.ostep_lex.specs.Encoding.{spelling, utf8};
 ghost use Rattle.ostep_lex.specs.Source.{unit_octets, encoding_by, FrontsOf};
 ghost use Rattle.ostep_lex.specs.Source.{characters_in, encoding_in, octets_in, IsWhole, Leads};
-ghost use Rattle.ostep_lex.specs.Stretch.{PassesLead, AppendsStretch};
+ghost use Rattle.ostep_lex.specs.Stretch.{LeadsStretch, PassesLead, AppendsStretch};
 ghost use Rattle.ostep_lex.specs.Pairs.{AppendsLead};
 
 use crate::pairs::push_front;
@@ -139,6 +140,22 @@ impl<'a> Source<'a> {
             Source::Utf16(order, octets) => {
                 Source::Utf16(order, behind_units(class, order, octets))
             }
+        }
+    }
+
+    /// The octets of the longest stretch of the class at the front of UTF-8, one for each of its
+    /// characters, and what is to be read behind it. None of UTF-16.
+    #[inline(always)]
+    pub fn plain_stretch(self, class: Class) -> Option<(&'a [u8], Source<'a>)>
+        requires { IsWhole self }
+        ensures { IfSome result (λ found. LeadsStretch class self.entry found.0.now found.1) }
+    {
+        match self {
+            Source::Utf8(text) => {
+                let (front, behind) = stretch(text, class);
+                Some((front, Source::Utf8(behind)))
+            }
+            Source::Utf16(..) => None,
         }
     }
 
