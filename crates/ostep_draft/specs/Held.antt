@@ -1,9 +1,11 @@
 -- What becomes of the objects of a draft: none changes when others are put behind it, and the file
 -- holds each.
-use Rattle.std.specs.Prelude.{ℕ, ◌<◌, List, length}
-use Rattle.plist_object.specs.Objects.{Held}
+use Rattle.std.specs.Prelude.{◌≡◌, ℕ, ◌<◌, List, length}
+use Rattle.plist_value.specs.Plist.{text}
+use Rattle.plist_object.specs.Objects.{Held, holds_scalar}
 use Rattle.plist_object.specs.Places.{Holds}
 use Rattle.plist_draft.specs.Told.{Tells}
+use Rattle.ostep_lex.specs.Lexeme.{Lexeme, text as string}
 
 -- each old object stands among the new ones under its number
 abbrev pub AllRemain : List Held → List Held → Type 0
@@ -18,3 +20,9 @@ pub record Puts (old new : List Held) (held : Held) (number : ℕ) : Type 0 wher
   pub tells : Tells new number held
   pub within : number < length new
   pub kept : AllRemain old new
+
+-- the lexeme is a string, and its text was put under this number
+pub record PutsString (lexeme : Lexeme) (old new : List Held) (number : ℕ) : Type 0 where
+  pub units : List ℕ
+  pub is : lexeme ≡ string units
+  pub put : Puts old new (holds_scalar (text units)) number

@@ -78,7 +78,7 @@ impl<'a> Reader<'a> {
         ensures read { (octets : List ℕ) → StandsBehind octets [] self.old.cursor
             → IfOk result (λ top. DraftsText octets top (objects self.new.draft)) }
     {
-        let first = self.expect()?;
+        let first = self.expect_first()?;
         let top = self.value(first, MAX_DEPTH)?;
         let None = self.next()? else {
             return Err(NoDraft);
@@ -93,14 +93,9 @@ impl<'a> Reader<'a> {
             → IfOk result (λ top. DraftsText octets top (objects self.new.draft)) }
     {
         let mut rows = Rows::new(self.alloc);
-        while let Some(token) = self.next()? {
-            match token.kind {
-                TokenKind::Text(key) => {
-                    let row = self.row(&key, BARE_LEVELS)?;
-                    rows.push(row)?;
-                }
-                _ => return Err(NoDraft),
-            }
+        while let Some(key) = self.next_first()? {
+            let row = self.row(key, BARE_LEVELS)?;
+            rows.push(row)?;
         }
         self.put_table(&rows)
     }

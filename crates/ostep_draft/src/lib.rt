@@ -7,6 +7,7 @@
 
 pub mod draft;
 mod failure;
+mod first;
 mod reader;
 mod rows;
 mod values;

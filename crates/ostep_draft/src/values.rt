@@ -2,44 +2,68 @@
 ghost use Rattle.std.specs.Prelude.{◌≡◌, ◌≤◌, ◌<◌, ◌∷◌, ◌++◌, [], ℕ, List, length, IfOk};
 ghost use Rattle.std.specs.Result.{OnOk};
 ghost use Rattle.plist_draft.specs.View.{objects};
-ghost use Rattle.ostep_lex.specs.Lexeme.{Placed, placed, lexeme_of, text as string};
+ghost use Rattle.ostep_lex.specs.Lexeme.{Placed, placed, lexeme_of};
 ghost use Rattle.ostep_lex.specs.Lexeme.{paren_close, brace_close};
 ghost use Rattle.ostep_lex.specs.Cursor.{ahead, StandsBehind};
+ghost use Rattle.ostep_draft.specs.First.{first_lexeme, IsValid};
 ghost use Rattle.ostep_draft.specs.Held.{AllRemain};
 ghost use Rattle.ostep_draft.specs.Drafted.{DraftsValue, DraftsEnded, DraftsItems};
 ghost use Rattle.ostep_draft.specs.Drafted.{DraftsRow, DraftsRows};
 
 use crate::failure::NoDraft;
+use crate::first::First;
 use crate::reader::Reader;
 use crate::rows::Rows;
 use ostep_lex::{Token, TokenKind};
-use plist_value::Utf16;
+use plist_value::TextRef;
 
 impl<'a> Reader<'a> {
     // Puts the value that begins with the token, of at most so many levels, and answers its number.
     #[cycle(value)]
-    pub(crate) fn value(&mut self, first: Token, levels: u64) -> Result<u32, NoDraft>
+    #[inline(always)]
+    pub(crate) fn value(&mut self, first: First<'_>, levels: u64) -> Result<u32, NoDraft>
+        requires { IsValid first }
         ensures shorter { OnOk result
             (length (ahead self.new.cursor) ≤ length (ahead self.old.cursor)) }
         ensures kept { OnOk result (AllRemain (objects self.old.draft) (objects self.new.draft)) }
         ensures within { IfOk result (λ number. number < length (objects self.new.draft)) }
-        ensures read { (octets : List ℕ) (tokens : List Placed)
-            → StandsBehind octets (tokens ++ placed first ∷ []) self.old.cursor
-            → IfOk result (λ number. DraftsValue octets tokens (lexeme_of first.kind) number
+        ensures read { (octets : List ℕ) (tokens : List Placed) (at : Placed)
+            → at.lexeme ≡ first_lexeme first.entry
+            → StandsBehind octets (tokens ++ at ∷ []) self.old.cursor
+            → IfOk result (λ number. DraftsValue octets tokens at.lexeme number
             (objects self.new.draft) self.new.cursor) }
     {
         if levels == 0 {
             return Err(NoDraft);
         }
+        match first {
+            First::Plain(text) => self.put_text(text),
+            First::Other(token) => self.token_value(token, levels - 1),
+        }
+    }
+
+    // The same, where what lies in the value has at most so many levels.
+    #[cycle(value)]
+    fn token_value(&mut self, first: Token, levels: u64) -> Result<u32, NoDraft>
+        ensures shorter { OnOk result
+            (length (ahead self.new.cursor) ≤ length (ahead self.old.cursor)) }
+        ensures kept { OnOk result (AllRemain (objects self.old.draft) (objects self.new.draft)) }
+        ensures within { IfOk result (λ number. number < length (objects self.new.draft)) }
+        ensures read { (octets : List ℕ) (tokens : List Placed) (at : Placed)
+            → at.lexeme ≡ lexeme_of first.kind
+            → StandsBehind octets (tokens ++ at ∷ []) self.old.cursor
+            → IfOk result (λ number. DraftsValue octets tokens at.lexeme number
+            (objects self.new.draft) self.new.cursor) }
+    {
         match first.kind {
-            TokenKind::Text(text) => self.put_text(&text),
+            TokenKind::Text(text) => self.put_text(TextRef::of_units(text.units())),
             TokenKind::Octets(octets) => self.put_data(&octets),
             TokenKind::ParenOpen => {
-                let items = self.items(levels - 1)?;
+                let items = self.items(levels)?;
                 self.put_list(&items)
             }
             TokenKind::BraceOpen => {
-                let rows = self.rows(levels - 1)?;
+                let rows = self.rows(levels)?;
                 self.put_table(&rows)
             }
             _ => Err(NoDraft),
@@ -59,8 +83,8 @@ impl<'a> Reader<'a> {
     {
         let mut items = Vec::new(self.alloc);
         loop {
-            let first = self.expect()?;
-            if let TokenKind::ParenClose = first.kind {
+            let first = self.expect_first()?;
+            if first.ends_list() {
                 return Ok(items);
             }
             let item = self.value(first, levels)?;
@@ -89,30 +113,30 @@ impl<'a> Reader<'a> {
     {
         let mut rows = Rows::new(self.alloc);
         loop {
-            let token = self.expect()?;
-            match token.kind {
-                TokenKind::BraceClose => return Ok(rows),
-                TokenKind::Text(key) => {
-                    let row = self.row(&key, levels)?;
-                    rows.push(row)?;
-                }
-                _ => return Err(NoDraft),
+            let key = self.expect_first()?;
+            if key.ends_table() {
+                return Ok(rows);
             }
+            let row = self.row(key, levels)?;
+            rows.push(row)?;
         }
     }
 
-    // Puts a row, behind its key, and answers the numbers of its key and of its value.
+    // Puts a row, behind its key, which is to be a string, and answers the numbers of its key and of
+    // its value.
     #[cycle(value)]
-    pub(crate) fn row(&mut self, key: &Utf16, levels: u64) -> Result<(u32, u32), NoDraft>
+    pub(crate) fn row(&mut self, key: First<'_>, levels: u64) -> Result<(u32, u32), NoDraft>
+        requires { IsValid key }
         ensures shorter { OnOk result
             (length (ahead self.new.cursor) ≤ length (ahead self.old.cursor)) }
         ensures kept { OnOk result (AllRemain (objects self.old.draft) (objects self.new.draft)) }
         ensures read { (octets : List ℕ) (tokens : List Placed) (at : Placed)
-            → at.lexeme ≡ string key.now → StandsBehind octets (tokens ++ at ∷ []) self.old.cursor
+            → at.lexeme ≡ first_lexeme key.entry
+            → StandsBehind octets (tokens ++ at ∷ []) self.old.cursor
             → IfOk result (λ row. DraftsRow octets tokens row
             (objects self.new.draft) self.new.cursor) }
     {
-        let number = self.put_text(key)?;
+        let number = self.put_string(key)?;
         let behind = self.expect_mark('=')?;
         match behind.kind {
             TokenKind::Equals => {
@@ -135,7 +159,7 @@ impl<'a> Reader<'a> {
             → IfOk result (λ number. DraftsEnded octets tokens number
             (objects self.new.draft) self.new.cursor) }
     {
-        let first = self.expect()?;
+        let first = self.expect_first()?;
         let value = self.value(first, levels)?;
         let behind = self.expect_mark(';')?;
         match behind.kind {

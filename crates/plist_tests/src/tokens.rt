@@ -1,5 +1,5 @@
 //! Tokens a step at a time, and with memory refused.
-use ostep_lex::{LexFault, next_mark, next_token, open, tokens};
+use ostep_lex::{LexFault, next_mark, next_plain, next_token, open, tokens};
 use std::alloc::Global;
 use std::test::Fail;
 
@@ -48,6 +48,28 @@ fn a_mark_behind_white_alone(rt: HostRuntime) -> Result<(), Fail> {
     assert_eq!(rt; mark_of(b"; =", '=')?, None);
     assert_eq!(rt; mark_of(b"/**/=", '=')?, None);
     assert_eq!(rt; mark_of(b"a", 'a')?, None);
+    Ok(())
+}
+
+// The units of the string that stands first, if it is read as octets, and the place behind it.
+fn plain_of(octets: &[u8]) -> Result<Option<(&[u8], usize)>, LexFault> {
+    match next_plain(open(octets)?) {
+        Some((text, behind)) => Ok(text.octets().map(|units| (units, behind.place()))),
+        None => Ok(None),
+    }
+}
+
+#[test]
+fn a_string_where_it_stands(rt: HostRuntime) -> Result<(), Fail> {
+    assert_eq!(rt; plain_of(b" \ta-1/$;")?, Some((b"a-1/$".as_slice(), 7)));
+    assert_eq!(rt; plain_of(b"\"a 'b' \"c")?, Some((b"a 'b' ".as_slice(), 8)));
+    assert_eq!(rt; plain_of(b"'\"'")?, Some((b"\"".as_slice(), 3)));
+    assert_eq!(rt; plain_of(b"''")?, Some((b"".as_slice(), 2)));
+    assert_eq!(rt; plain_of(b"\"a\\n\"")?, None);
+    assert_eq!(rt; plain_of("\"\u{e9}\"".as_bytes())?, None);
+    assert_eq!(rt; plain_of(b"\"a")?, None);
+    assert_eq!(rt; plain_of(b"{a=b;}")?, None);
+    assert_eq!(rt; plain_of(b"\xfe\xff\0a")?, None);
     Ok(())
 }
 

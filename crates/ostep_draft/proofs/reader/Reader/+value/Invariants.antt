@@ -8,19 +8,22 @@ use Rattle.ostep_draft.proofs.reader.Reader.+value.Given as goal
 
 -- by the levels, with what calls before what is called
 abbrev pub decreases-value : goal.decreases-value
-decreases-value l = 4 * l.levels
+decreases-value l = 5 * l.levels
+
+abbrev pub decreases-token_value : goal.decreases-token_value
+decreases-token_value l = 5 * l.levels + 4
 
 abbrev pub decreases-items : goal.decreases-items
-decreases-items l = 4 * l.levels + 1
+decreases-items l = 5 * l.levels + 1
 
 abbrev pub decreases-rows : goal.decreases-rows
-decreases-rows l = 4 * l.levels + 3
+decreases-rows l = 5 * l.levels + 3
 
 abbrev pub decreases-row : goal.decreases-row
-decreases-row l = 4 * l.levels + 2
+decreases-row l = 5 * l.levels + 2
 
 abbrev pub decreases-row_value : goal.decreases-row_value
-decreases-row_value l = 4 * l.levels + 1
+decreases-row_value l = 5 * l.levels + 1
 
 abbrev pub decreases-items-loop-items : goal.decreases-items-loop-items
 decreases-items-loop-items l = length (ahead l.self.cursor)

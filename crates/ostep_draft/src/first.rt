@@ -1,0 +1,39 @@
+//! Tokens, as a value or a row begins with them.
+ghost use Rattle.std.specs.Prelude.{◌≡◌};
+ghost use Rattle.std.specs.Bool.{OnTrue};
+ghost use Rattle.ostep_lex.specs.Lexeme.{paren_close, brace_close};
+ghost use Rattle.ostep_draft.specs.First.{first_lexeme};
+
+use ostep_lex::{Token, TokenKind};
+use plist_value::TextRef;
+
+// A token: the text of a string that was read where it stands, or any token.
+#[derive(Drop)]
+pub(crate) enum First<'a> {
+    Plain(TextRef<'a>),
+    Other(Token),
+}
+
+impl<'a> First<'a> {
+    // Whether it is the parenthesis that ends a list.
+    #[inline(always)]
+    pub(crate) fn ends_list(&self) -> bool
+        ensures { OnTrue result (first_lexeme self.now ≡ paren_close) }
+    {
+        match self {
+            First::Plain(_) => false,
+            First::Other(token) => matches!(token.kind, TokenKind::ParenClose),
+        }
+    }
+
+    // Whether it is the brace that ends a table.
+    #[inline(always)]
+    pub(crate) fn ends_table(&self) -> bool
+        ensures { OnTrue result (first_lexeme self.now ≡ brace_close) }
+    {
+        match self {
+            First::Plain(_) => false,
+            First::Other(token) => matches!(token.kind, TokenKind::BraceClose),
+        }
+    }
+}
