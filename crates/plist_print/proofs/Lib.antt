@@ -14,3 +14,5 @@ pub mod Enclosing
 pub mod Turns
 pub mod Ending
 pub mod Plain
+pub mod Fewest
+pub mod Padding

@@ -1,5 +1,5 @@
 -- What the values of the code stand for.
-use Rattle.std.specs.Prelude.{◌≡◌, ℕ, ◌+◌, ◌-◌, ◌*◌, ◌^◌, Bool, true, false, List, ◌++◌, nat_lt, if◌then◌else◌}
+use Rattle.std.specs.Prelude.{◌≡◌, ℕ, ◌+◌, ◌-◌, ◌*◌, ◌^◌, ◌<◌, ◌≤◌, Bool, true, false, List, ◌++◌, nat_lt, if◌then◌else◌}
 use Rattle.plist_value.specs.Plist.{Scalar, text, bytes}
 use Rattle.plist_print.specs.Reals.{Placed}
 use Rattle.plist_print.specs.declared.kept.Decimal.{Decimal}
@@ -21,6 +21,12 @@ halved hidden t shift = record {
   above = 2 * (hidden + t) + 2;
   unit = 2 ^ shift;
 }
+
+-- No multiple of 1 / over lies between the middles to the neighbours, so that none reads as the
+-- real.
+abbrev pub IsUnread : Placed → ℕ → Type 0
+IsUnread x over =
+    (n : ℕ) → (x.below + x.here) * over ≤ 2 * (n * x.unit) → 2 * (n * x.unit) < (x.here + x.above) * over → ⊥
 
 -- neither a text nor data
 abbrev pub is_short : Scalar → Bool

@@ -7,8 +7,9 @@ ghost use Rattle.plist_print.specs.Dates.{printed_time, printed_moment, second_a
 ghost use Rattle.plist_print.specs.Dates.{until_10000, second_of, in_brackets, printed_date};
 ghost use Rattle.plist_print.specs.Shown.{decimal_in};
 
+use crate::digits::{ones, tens};
 use crate::kept::{DayOfMonth, Decimal};
-use crate::reals::{decimal_of_double, put_double, put_last_digits};
+use crate::reals::{decimal_of_double, put_double};
 use byteorder::{BigEndian, ByteOrder};
 use std::alloc::AllocError;
 
@@ -102,8 +103,8 @@ fn put_day(out: &mut Vec<u8>, day: u64) -> Result<(), AllocError>
     ensures { OnOk result (out.new.items ≡ out.old.items ++ printed_day day) }
 {
     let year = year_of(day);
-    put_last_digits(out, u128::from(year), 4)?;
-    out.push(b'-')?;
+    let century = year / 100;
+    out.extend_from_slice(&[tens(century), ones(century), tens(year), ones(year), b'-'])?;
     put_month(out, year, day - days_before(year))
 }
 
@@ -139,10 +140,8 @@ fn put_month(out: &mut Vec<u8>, year: u64, day: u64) -> Result<(), AllocError>
     requires { day < days_of_months year 12 }
     ensures { OnOk result (out.new.items ≡ out.old.items ++ printed_month year day) }
 {
-    let found = day_of_month(year, day);
-    put_last_digits(out, u128::from(found.month), 2)?;
-    out.push(b'-')?;
-    put_last_digits(out, u128::from(found.day), 2)
+    let DayOfMonth { month, day } = day_of_month(year, day);
+    out.extend_from_slice(&[tens(month), ones(month), b'-', tens(day), ones(day)])
 }
 
 fn day_of_month(year: u64, day: u64) -> DayOfMonth
@@ -187,9 +186,15 @@ fn put_time(out: &mut Vec<u8>, second: u64) -> Result<(), AllocError>
     requires { second < 86_400 }
     ensures { OnOk result (out.new.items ≡ out.old.items ++ printed_time second) }
 {
-    put_last_digits(out, u128::from(second / 3600), 2)?;
-    out.push(b':')?;
-    put_last_digits(out, u128::from(second / 60 % 60), 2)?;
-    out.push(b':')?;
-    put_last_digits(out, u128::from(second % 60), 2)
+    let (hour, minute, second) = (second / 3600, second / 60 % 60, second % 60);
+    out.extend_from_slice(&[
+        tens(hour),
+        ones(hour),
+        b':',
+        tens(minute),
+        ones(minute),
+        b':',
+        tens(second),
+        ones(second),
+    ])
 }

@@ -1,5 +1,5 @@
 //! What is known of a real while it is printed.
-ghost use Rattle.std.specs.Prelude.{◌<◌, ◌≤◌, ◌^◌};
+ghost use Rattle.std.specs.Prelude.{◌≡◌, ◌<◌, ◌≤◌, ◌^◌};
 
 // A decimal: its numerator, and how many digits stand behind the point.
 #[derive(Clone, Copy)]
@@ -9,13 +9,16 @@ pub(crate) struct Decimal {
     ghost few: { digits ≤ 21 },
 }
 
-// A real among its neighbours, and 1, each as a multiple of one number.
+// A real among its neighbours, and 1, each as a multiple of one number: 1 is 2 to the shift.
 #[derive(Clone, Copy)]
 pub(crate) struct Neighbours {
-    pub(crate) below: u128,
-    pub(crate) here: u128,
-    pub(crate) above: u128,
+    pub(crate) below: u64,
+    pub(crate) here: u64,
+    pub(crate) above: u64,
     pub(crate) unit: u128,
+    pub(crate) shift: u32,
+    ghost power: { unit ≡ 2 ^ shift },
+    ghost shift_small: { shift ≤ 126 },
     ghost some: { 0 < unit },
     ghost unit_small: { unit ≤ 2 ^ 126 },
     ghost here_small: { here ≤ 2 ^ 54 },

@@ -4,6 +4,7 @@
 #![tactic(auto)]
 
 mod dates;
+mod digits;
 mod heads;
 mod kept;
 pub mod laws;

@@ -10,7 +10,7 @@ ghost use Rattle.plist_print.specs.Shown.{is_short};
 
 use crate::dates::put_date;
 use crate::reals::{put_double, put_single};
-use crate::texts::{put_chunk, put_some};
+use crate::texts::{put_chunk, put_data, put_some, put_text};
 use itoa::Buffer;
 use plist_value::{ScalarRef, TextRef};
 use plist_write::{Pending, Sink, WriteFault, flush};
@@ -18,6 +18,9 @@ use std::alloc::AllocError;
 
 /// So many octets go out at once.
 const PIECE: usize = 4096;
+
+/// A text or data of so many units or octets goes into a piece whole.
+pub(crate) const SHORT: usize = 256;
 
 /// Sends the text of a scalar, or has it wait. No piece is much longer than 4,096 octets.
 ///
@@ -81,6 +84,27 @@ fn put_short(out: &mut Vec<u8>, scalar: &ScalarRef) -> Result<(), AllocError>
             put_date(out, octets)
         }
         ScalarRef::Text(_) | ScalarRef::Bytes(_) => unreachable!(),
+    }
+}
+
+/// Whether the scalar is a text or data that is too long for one piece.
+pub(crate) fn is_long(scalar: &ScalarRef) -> bool {
+    match scalar {
+        ScalarRef::Text(text) => text.len() > SHORT,
+        ScalarRef::Bytes(octets) => octets.len() > SHORT,
+        _ => false,
+    }
+}
+
+/// The scalar, behind what `out` has.
+pub(crate) fn put_scalar(out: &mut Vec<u8>, scalar: &ScalarRef) -> Result<(), AllocError>
+    ensures { OnOk result (out.new.items
+        ≡ out.old.items ++ printed_scalar (content_of scalar.now)) }
+{
+    match scalar {
+        ScalarRef::Text(text) => put_text(out, text),
+        ScalarRef::Bytes(octets) => put_data(out, octets),
+        _ => put_short(out, scalar),
     }
 }
 

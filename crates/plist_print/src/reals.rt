@@ -1,25 +1,24 @@
 //! Reals as they are printed.
 ghost use Rattle.std.specs.Prelude.{◌≡◌, ◌+◌, ◌-◌, ◌*◌, ◌^◌, ◌<◌, ◌≤◌, ◌++◌, ◌==◌, ◌&&◌};
-ghost use Rattle.std.specs.Prelude.{OnOk, None, Some};
+ghost use Rattle.std.specs.Prelude.{IsFalse, OnOk, None, Some};
 ghost use Rattle.std.specs.Prelude.{codes, if◌then◌else◌, nat_le, nat_lt};
 ghost use Rattle.std.specs.Option.{option_map};
 ghost use Rattle.plist_print.specs.Units.{printed_data};
 ghost use Rattle.plist_print.specs.Reals.{single, double, nearest, reads_as, shortest, decimal_of};
-ghost use Rattle.plist_print.specs.Reals.{last_digits, printed_decimal, printed_finite};
-ghost use Rattle.plist_print.specs.Reals.{printed_real};
-ghost use Rattle.plist_print.specs.Shown.{decimal_in, halved, placed_of};
+ghost use Rattle.plist_print.specs.Reals.{printed_finite, printed_real};
+ghost use Rattle.plist_print.specs.Shown.{IsUnread, decimal_in, halved, placed_of};
 
+use crate::digits::{power_of_ten, put_decimal};
 use crate::kept::{Decimal, Neighbours};
 use crate::texts::put_digits;
 use byteorder::{BigEndian, ByteOrder};
-use itoa::Buffer;
 use std::alloc::AllocError;
 
 // The decimal of the fewest digits behind the point that reads as the real, of at most 21.
 fn shortest(real: &Neighbours) -> Option<Decimal>
     ensures { option_map decimal_in result ≡ shortest (placed_of real.now) 21 1 }
 {
-    for digits in 1..22 {
+    for digits in first_digits(real)..22 {
         match numerator_at(real, power_of_ten(digits)) {
             Some(numerator) => return Some(Decimal { numerator, digits }),
             None => {}
@@ -28,31 +27,90 @@ fn shortest(real: &Neighbours) -> Option<Decimal>
     None
 }
 
+// So many digits behind the point to begin with: no decimal of fewer reads as the real.
+fn first_digits(real: &Neighbours) -> u32
+    ensures some { 1 ≤ result }
+    ensures few { result ≤ 21 }
+    ensures same { shortest (placed_of real.now) (22 - result) result
+        ≡ shortest (placed_of real.now) 21 1 }
+{
+    if real.here.trailing_zeros() >= real.shift {
+        return 1;
+    }
+    let likely = likely_digits(real.shift);
+    if !can_read(real, power_of_ten(likely)) {
+        return likely + 1;
+    }
+    first_within(real, likely)
+}
+
+// Most reals of this shift have so many digits behind the point and one or two more, if they were
+// not short decimals before they were rounded.
+fn likely_digits(shift: u32) -> u32
+    requires { shift ≤ 126 }
+    ensures some { 1 ≤ result }
+    ensures few { result ≤ 20 }
+{
+    (shift * 77 / 256).clamp(2, 21) - 1
+}
+
+// The same as `first_digits`, where it is known that so many are enough.
+fn first_within(real: &Neighbours, enough: u32) -> u32
+    requires some { 1 ≤ enough }
+    requires few { enough ≤ 21 }
+    ensures some { 1 ≤ result }
+    ensures few { result ≤ 21 }
+    ensures same { shortest (placed_of real.now) (22 - result) result
+        ≡ shortest (placed_of real.now) 21 1 }
+{
+    let mut least = 1;
+    let mut most = enough;
+    while least < most {
+        let middle = (least + most) / 2;
+        if can_read(real, power_of_ten(middle)) {
+            most = middle;
+        } else {
+            least = middle + 1;
+        }
+    }
+    least
+}
+
+// Whether a numerator over so much can read as the real: where it is false, none does over less
+// either.
+fn can_read(real: &Neighbours, over: u128) -> bool
+    requires { over ≤ 10 ^ 21 }
+    ensures { IsFalse result → IsUnread (placed_of real.now) over }
+{
+    let last = product(real.here + real.above, over).saturating_sub(1) >> (real.shift + 1);
+    product(real.below + real.here, over) <= last * (2 * real.unit)
+}
+
 // The numerator that is nearest to the real, if it reads as the real.
 fn numerator_at(real: &Neighbours, over: u128) -> Option<u128>
     requires { over ≤ 10 ^ 21 }
     ensures { result ≡ (if reads_as (placed_of real.now) over (nearest (placed_of real.now) over)
         then Some (nearest (placed_of real.now) over) else None) }
 {
-    let twice = 2 * real.unit;
     let total = 2 * product(real.here, over) + real.unit;
-    let middle = total - total % twice;
+    let numerator = total >> (real.shift + 1);
+    let middle = numerator * (2 * real.unit);
     let low = product(real.below + real.here, over);
     let high = product(real.here + real.above, over);
     if is_between(low, middle, high) {
-        Some(total / twice)
+        Some(numerator)
     } else {
         None
     }
 }
 
-fn product(value: u128, over: u128) -> u128
+fn product(value: u64, over: u128) -> u128
     requires value { value ≤ 2 ^ 56 }
     requires over { over ≤ 10 ^ 21 }
     ensures value { result ≡ value * over }
     ensures small { result ≤ 2 ^ 56 * 10 ^ 21 }
 {
-    value * over
+    u128::from(value) * over
 }
 
 fn is_between(low: u128, middle: u128, high: u128) -> bool
@@ -69,18 +127,19 @@ fn placed(hidden: u64, fraction: u64, shift: u32) -> Neighbours
     requires shift { shift ≤ 126 }
     ensures { placed_of result ≡ halved hidden fraction shift }
 {
-    let here = 2 * (hidden as u128 + fraction as u128);
+    let here = 2 * (hidden + fraction);
     Neighbours {
         below: below(here, fraction),
         here,
         above: here + 2,
         unit: power_of_two(shift),
+        shift,
     }
 }
 
 // The next real below one with these digits behind the first: it is half as far where there are
 // none.
-fn below(here: u128, fraction: u64) -> u128
+fn below(here: u64, fraction: u64) -> u64
     requires { 2 ≤ here }
     ensures value { result ≡ (if nat_lt 0 fraction then here - 2 else here - 1) }
     ensures small { result ≤ here }
@@ -213,42 +272,4 @@ fn put_octets(out: &mut Vec<u8>, word: &[u8], octets: &[u8]) -> Result<(), Alloc
     out.push(b'<')?;
     put_digits(out, octets)?;
     Ok(out.push(b'>')?)
-}
-
-fn put_decimal(out: &mut Vec<u8>, decimal: Decimal) -> Result<(), AllocError>
-    ensures { OnOk result (out.new.items
-        ≡ out.old.items ++ printed_decimal decimal.numerator decimal.digits) }
-{
-    let whole = decimal.numerator / power_of_ten(decimal.digits);
-    let mut buffer = Buffer::new();
-    out.extend_from_slice(buffer.format(whole).as_bytes())?;
-    out.push(b'.')?;
-    put_last_digits(out, decimal.numerator, decimal.digits)
-}
-
-// The last decimal digits of the number, so many.
-pub(crate) fn put_last_digits(
-    out: &mut Vec<u8>,
-    number: u128,
-    digits: u32,
-) -> Result<(), AllocError>
-    requires { digits ≤ 21 }
-    ensures { OnOk result (out.new.items ≡ out.old.items ++ last_digits digits number) }
-{
-    let mut left = digits;
-    while left > 0 {
-        left -= 1;
-        let digit = number / power_of_ten(left) % 10;
-        out.push(b'0' + digit as u8)?;
-    }
-    Ok(())
-}
-
-fn power_of_ten(digits: u32) -> u128
-    requires { digits ≤ 21 }
-    ensures value { result ≡ 10 ^ digits }
-    ensures some { 0 < result }
-    ensures small { result ≤ 10 ^ 21 }
-{
-    10_u128.pow(digits)
 }

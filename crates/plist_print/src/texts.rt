@@ -6,7 +6,8 @@ ghost use Rattle.std.specs.Char.{digit_char, encode_utf8};
 ghost use Rattle.std.specs.Char.Utf16.{is_high_surrogate, is_low_surrogate, surrogate_pair_char};
 ghost use Rattle.plist_value.specs.Texts.{units_of};
 ghost use Rattle.plist_print.specs.Shown.{Puts};
-ghost use Rattle.plist_print.specs.Units.{is_unseen, printed_unit, printed_units, two_digits};
+ghost use Rattle.plist_print.specs.Units.{is_unseen, printed_data, printed_text, printed_unit};
+ghost use Rattle.plist_print.specs.Units.{printed_units, two_digits};
 
 use plist_value::TextRef;
 use std::alloc::AllocError;
@@ -75,6 +76,35 @@ pub(crate) fn put_chunk<'a>(out: &mut Vec<u8>, octets: &'a [u8]) -> Result<&'a [
     Ok(left)
 }
 
+/// The text between quotes, behind what `out` has.
+pub(crate) fn put_text(out: &mut Vec<u8>, text: &TextRef) -> Result<(), AllocError>
+    ensures { OnOk result (out.new.items ≡ out.old.items ++ printed_text (units_of text.now)) }
+{
+    out.push(b'"')?;
+    put_units(out, text)?;
+    Ok(out.push(b'"')?)
+}
+
+// All units, behind what `out` has.
+fn put_units(out: &mut Vec<u8>, text: &TextRef) -> Result<(), AllocError>
+    ensures { OnOk result (out.new.items ≡ out.old.items ++ printed_units (units_of text.now)) }
+{
+    let mut place = 0;
+    while place < text.len() {
+        place = put_some(out, text, place)?;
+    }
+    Ok(())
+}
+
+/// The data between brackets, behind what `out` has.
+pub(crate) fn put_data(out: &mut Vec<u8>, octets: &[u8]) -> Result<(), AllocError>
+    ensures { OnOk result (out.new.items ≡ out.old.items ++ printed_data octets.now) }
+{
+    out.push(b'<')?;
+    put_digits(out, octets)?;
+    Ok(out.push(b'>')?)
+}
+
 /// Some of the units from the place on, behind what `out` has: a run of those that are printed as
 /// they are, if the text is kept as ASCII, else one unit, or the two of a pair. It answers the
 /// place behind them.
@@ -108,11 +138,26 @@ fn plain_length(octets: &[u8]) -> usize
         ≡ take result octets.now ++ printed_units (drop result octets.now) }
 {
     let most = octets.len().min(RUN);
+    if are_plain(&octets[..most]) {
+        return most;
+    }
     let mut length = 0;
     while length < most && is_plain(octets[length]) {
         length += 1;
     }
     length
+}
+
+// Whether all octets, as units, are printed as they are. It looks at all of them, many at a time.
+fn are_plain(octets: &[u8]) -> bool
+    ensures { IsTrue result → (units : List ℕ)
+        → printed_units (octets.now ++ units) ≡ octets.now ++ printed_units units }
+{
+    let mut plain = true;
+    for octet in octets {
+        plain &= is_plain(*octet);
+    }
+    plain
 }
 
 // Whether the octet, as a unit, is printed as it is.
@@ -141,6 +186,10 @@ fn put_unit(out: &mut Vec<u8>, text: &TextRef, place: usize) -> Result<usize, Al
 {
     let length = text.len();
     let unit = text.unit(place);
+    if unit < 0x7f && is_plain(unit as u8) {
+        out.push(unit as u8)?;
+        return Ok(place + 1);
+    }
     if place + 1 < length {
         let next = text.unit(place + 1);
         if is_high(unit) && is_low(next) {

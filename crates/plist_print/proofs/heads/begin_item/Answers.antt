@@ -1,6 +1,6 @@
 use Rattle.std.proofs.Common.{refl}
 use Rattle.plist_write.specs.declared.pending.Pending.{Pending}
-use Rattle.plist_write.proofs.Gathering.{Gathers-put, Stops-no_memory, Goes-err, Goes-after}
+use Rattle.plist_write.proofs.Gathering.{Gathers-put, Stops-no_memory, Goes-err, Goes-ok}
 use Rattle.plist_print.specs.Printing.{item_head}
 use Rattle.plist_print.proofs.heads.begin_item.Goals as goal
 
@@ -15,4 +15,4 @@ returns-clause-goes g c =
     let p = c.args.pending.now in
     let head = item_head c.args.level c.args.index in
     let q : Pending = record { octets = c.put_item_head.new.out; sent = p.sent } in
-    Goes-after head p q c.settle.new.pending _ _ _ _ _ _ c.settle.result (Gathers-put head p q _ _ c.in-Ok.ensures refl) c.settle.ensures.goes
+    Goes-ok head p q _ _ _ _ (Gathers-put head p q _ _ c.in-Ok.ensures refl)

@@ -1,17 +1,19 @@
-use Rattle.std.proofs.Common.{◌++◌}
-use Rattle.std.specs.Prelude.{codes}
+use Rattle.std.proofs.Common.{refl}
 use Rattle.plist_value.specs.Texts.{units_of}
-use Rattle.plist_print.specs.Units.{printed_text}
-use Rattle.plist_print.specs.Printed.{indent}
-use Rattle.std.proofs.lemmas.Result.{err_from_is_err_and}
-use Rattle.plist_print.proofs.Steps.{Goes-then, Goes-not}
+use Rattle.plist_write.specs.declared.pending.Pending.{Pending}
+use Rattle.plist_write.proofs.Gathering.{Gathers-put, Stops-no_memory, Goes-err, Goes-ok}
+use Rattle.plist_print.specs.Printing.{pair_head}
 use Rattle.plist_print.proofs.heads.begin_pair.Goals as goal
 
-pub returns-in_err-begin_line-clause-goes : goal.returns-in_err-begin_line-clause-goes
-returns-in_err-begin_line-clause-goes g c =
-    let e = err_from_is_err_and c.from_residual.result c.from_residual.ensures.1 in
-    rw (e.1, e.2) (Goes-not (indent c.args.level) (printed_text (units_of c.args.key.now) ++ codes " => ") c.args.pending.now _ _ _ _ _ _ c.in_err-begin_line.ensures.goes.stopped)
+pub returns-in_default-clause-goes : goal.returns-in_default-clause-goes
+returns-in_default-clause-goes g c =
+    let p = c.args.pending.now in
+    let head = pair_head c.args.level (units_of c.args.key.now) in
+    Goes-err head p _ _ _ _ _ _ (Stops-no_memory head p _ _)
 
 pub returns-clause-goes : goal.returns-clause-goes
 returns-clause-goes g c =
-    Goes-then (indent c.args.level) (printed_text (units_of c.args.key.now) ++ codes " => ") c.args.pending.now c.begin_line.new.pending c.print_key.new.pending _ _ _ _ _ _ c.print_key.result c.in_ok-begin_line.ensures.goes.done c.print_key.ensures.goes
+    let p = c.args.pending.now in
+    let head = pair_head c.args.level (units_of c.args.key.now) in
+    let q : Pending = record { octets = c.put_pair_head.new.out; sent = p.sent } in
+    Goes-ok head p q _ _ _ _ (Gathers-put head p q _ _ c.in-Ok.ensures refl)

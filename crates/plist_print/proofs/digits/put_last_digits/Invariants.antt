@@ -1,6 +1,6 @@
 use Rattle.std.proofs.Common.{◌≡◌, ◌≤◌, ◌++◌}
 use Rattle.plist_print.specs.Reals.{last_digits}
-use Rattle.plist_print.proofs.reals.put_last_digits.Given as goal
+use Rattle.plist_print.proofs.digits.put_last_digits.Given as goal
 
 -- with the digits that are left, all is written
 abbrev pub invariant-loop-left : goal.invariant-loop-left

@@ -1,0 +1,56 @@
+-- From how many digits behind the point on a decimal is looked for.
+use Rattle.std.proofs.Common.{◌≡◌, ℕ, zero, suc, ◌+◌, ◌-◌, ◌*◌, ◌/◌, ◌^◌, ◌<◌, ◌≤◌, true, false, Option, Some, None, refl, sym, ap, subst, ◌∙◌, arith, inl, inr}
+use Rattle.std.specs.Prelude.{if◌then◌else◌}
+use Rattle.std.proofs.lemmas.Bool.{cases_Bool}
+use Rattle.std.proofs.lemmas.Nat.{mul-le, le-div, pow-add}
+use Rattle.std.proofs.Math.Nat.{mul-lt-mul_of_pos_right}
+use Rattle.plist_print.specs.Reals.{Placed, nearest, reads_as, shortest}
+use Rattle.plist_print.specs.Shown.{IsUnread}
+use Rattle.plist_print.proofs.Neighbours.{Between, between}
+use Rattle.plist_print.proofs.Deciding.{tried, some-power, shortest-more}
+
+-- where none over more reads, none over less does
+less-unread : (x : Placed) (digits more n : ℕ) → IsUnread x (10 ^ (digits + more)) → reads_as x (10 ^ digits) n ≡ true → ⊥
+less-unread x digits more n unread reads =
+    let p = between x (10 ^ digits) n reads in
+    let m = 10 ^ more in
+    let pos = some-power more in
+    let over : 10 ^ (digits + more) ≡ 10 ^ digits * m = pow-add 10 digits more in
+    let low : (x.below + x.here) * 10 ^ digits * m ≤ 2 * (n * x.unit) * m = mul-le ((x.below + x.here) * 10 ^ digits) m (2 * (n * x.unit)) m p.from (omega arith) in
+    let high : 2 * (n * x.unit) * m < (x.here + x.above) * 10 ^ digits * m = mul-lt-mul_of_pos_right p.to pos in
+    let middle : 2 * (n * x.unit) * m ≡ 2 * (n * m * x.unit) = grind arith in
+    let left : (x.below + x.here) * 10 ^ (digits + more) ≡ (x.below + x.here) * 10 ^ digits * m = ap (λ o. (x.below + x.here) * o) over ∙ grind arith in
+    let right : (x.here + x.above) * 10 ^ (digits + more) ≡ (x.here + x.above) * 10 ^ digits * m = ap (λ o. (x.here + x.above) * o) over ∙ grind arith in
+    unread (n * m) (omega arith) (omega arith)
+
+unread-tried : (x : Placed) (digits k : ℕ) → digits ≤ k → IsUnread x (10 ^ k) → None ≡ tried x (10 ^ digits)
+unread-tried x digits k le unread = elim (cases_Bool (reads_as x (10 ^ digits) (nearest x (10 ^ digits)))) [
+  | inl is ↦ absurd (
+      let all : digits + (k - digits) ≡ k = omega arith in
+      less-unread x digits (k - digits) (nearest x (10 ^ digits)) (subst (λ (n : ℕ). IsUnread x (10 ^ n)) (sym all) unread) is
+      )
+  | inr not ↦ rw not refl
+]
+
+skipped : (x : Placed) (k more : ℕ) → more ≤ k → k < 22 → IsUnread x (10 ^ k) → shortest x (22 - (k - more)) (k - more) ≡ shortest x (22 - (k + 1)) (k + 1)
+skipped x k zero le few unread =
+    let same : k - 0 ≡ k = omega arith in
+    ap (λ d. shortest x (22 - d) d) same ∙ shortest-more x (10 ^ k) k refl few (unread-tried x k k (omega arith) unread)
+skipped x k (suc more) le few unread =
+    let d = k - suc more in
+    let next : d + 1 ≡ k - more = omega arith in
+    shortest-more x (10 ^ d) d refl (omega arith) (unread-tried x d k (omega arith) unread) ∙ ap (λ n. shortest x (22 - n) n) next ∙ skipped x k more (omega arith) few unread
+
+-- where none over so much reads, more digits are needed
+pub shortest-skipped : (x : Placed) (over digits k : ℕ) → over ≡ 10 ^ k → digits ≤ k → k < 22 → IsUnread x over → shortest x (22 - (k + 1)) (k + 1) ≡ shortest x (22 - digits) digits
+shortest-skipped x over digits k power le few unread =
+    let all : k - (k - digits) ≡ digits = omega arith in
+    sym (sym (ap (λ d. shortest x (22 - d) d) all) ∙ skipped x k (k - digits) (omega arith) few (subst (λ (o : ℕ). IsUnread x o) power unread))
+
+-- where the last numerator below the upper middle is too small, none reads
+pub unread-last : (x : Placed) (over high last : ℕ) → 0 < x.unit → high ≡ (x.here + x.above) * over → last ≡ (high - 1) / (2 * x.unit) → last * (2 * x.unit) < (x.below + x.here) * over → IsUnread x over
+unread-last x over high last pos is near small = λ n low upper.
+    let turned : n * (2 * x.unit) ≡ 2 * (n * x.unit) = grind arith in
+    let within : n ≤ (high - 1) / (2 * x.unit) = le-div n (high - 1) (2 * x.unit) (omega arith) (omega arith) in
+    let most : n * (2 * x.unit) ≤ last * (2 * x.unit) = mul-le n (2 * x.unit) last (2 * x.unit) (omega arith) (omega arith) in
+    omega arith
