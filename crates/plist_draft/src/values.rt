@@ -1,7 +1,7 @@
 //! Values put into a draft.
-ghost use Rattle.std.specs.Prelude.{◌≡◌, IfOk, length};
+ghost use Rattle.std.specs.Prelude.{◌≡◌, IfOk, OnOk, length};
 ghost use Rattle.std.specs.List.{zip};
-ghost use Rattle.plist_value.specs.Plist.{list, table};
+ghost use Rattle.plist_value.specs.Plist.{AreItems, ArePairs, IsPlist, list, table};
 ghost use Rattle.plist_value.specs.View.{view, view_items, view_pairs};
 ghost use Rattle.plist_draft.specs.Told.{Keeps, SpellsIn, SpellItemsIn, SpellPairsIn};
 ghost use Rattle.plist_draft.specs.View.{objects};
@@ -22,6 +22,7 @@ use std::collections::BTreeMap;
 pub fn put_value(alloc: Global, draft: &mut Draft, value: &Value) -> Result<u32, AllocError>
     ensures spells { IfOk result
         (λ number. SpellsIn (objects draft.new) number (view value.now)) }
+    ensures valid { OnOk result (IsPlist (view value.now)) }
     ensures kept { Keeps (objects draft.old) (objects draft.new) }
 {
     match value {
@@ -36,6 +37,7 @@ pub fn put_value(alloc: Global, draft: &mut Draft, value: &Value) -> Result<u32,
 fn put_list(alloc: Global, draft: &mut Draft, items: &Vec<Value>) -> Result<u32, AllocError>
     ensures spells { IfOk result
         (λ number. SpellsIn (objects draft.new) number (list (view_items items.now.items))) }
+    ensures valid { OnOk result (AreItems (view_items items.now.items)) }
     ensures kept { Keeps (objects draft.old) (objects draft.new) }
 {
     let items = put_items(alloc, draft, items)?;
@@ -51,6 +53,7 @@ fn put_table(
 ) -> Result<u32, AllocError>
     ensures spells { IfOk result
         (λ number. SpellsIn (objects draft.new) number (table (view_pairs pairs.now.entries))) }
+    ensures valid { OnOk result (ArePairs (view_pairs pairs.now.entries)) }
     ensures kept { Keeps (objects draft.old) (objects draft.new) }
 {
     let (keys, values) = put_pairs(alloc, draft, pairs)?;
@@ -62,6 +65,7 @@ fn put_table(
 fn put_items(alloc: Global, draft: &mut Draft, items: &Vec<Value>) -> Result<Vec<u32>, AllocError>
     ensures spells { IfOk result (λ numbers.
         SpellItemsIn (objects draft.new) numbers.items (view_items items.now.items)) }
+    ensures valid { OnOk result (AreItems (view_items items.now.items)) }
     ensures kept { Keeps (objects draft.old) (objects draft.new) }
 {
     let mut numbers = Vec::with_capacity(alloc, items.len())?;
@@ -80,6 +84,7 @@ fn put_pairs(
 ) -> Result<(Vec<u32>, Vec<u32>), AllocError>
     ensures spells { IfOk result (λ numbers. SpellPairsIn (objects draft.new)
         (zip numbers.0.items numbers.1.items) (view_pairs pairs.now.entries)) }
+    ensures valid { OnOk result (ArePairs (view_pairs pairs.now.entries)) }
     ensures same { IfOk result (λ numbers. length numbers.0.items ≡ length numbers.1.items) }
     ensures kept { Keeps (objects draft.old) (objects draft.new) }
 {

@@ -1,8 +1,13 @@
-use Rattle.std.proofs.Common.{rules, ◌≡◌, ℕ, ◌+◌, ◌<◌, ◌≤◌, ap, sym, subst, ◌∙◌, List, length, get_or, drop}
+use Rattle.std.proofs.Common.{rules, ◌≡◌, ℕ, ◌+◌, ◌<◌, ◌≤◌, ap, sym, subst, ◌∙◌, List, ◌∷◌, length, get_or, drop}
+use Rattle.std.specs.Ordering.{nat_cmp}
+use Rattle.std.specs.Cmp.Lexicographic.{slice_cmp}
+use Rattle.std.specs.List.Sorted.{IsStrictlySortedBy}
+use Rattle.std.specs.Map.{keys_of}
 use Rattle.std.proofs.lemmas.List.{drop_more, drop_all}
-use Rattle.plist_value.specs.Plist.{text, scalar, no_items, item}
+use Rattle.plist_value.specs.Plist.{text, scalar, Items, no_items, item, AreItems, AreUnits, ArePairs}
 use Rattle.plist_value.specs.View.{view, view_items, view_pairs}
 use Rattle.plist_value.specs.declared.value.Value.{Value}
+use Rattle.plist_value.proofs.Keys.{IsKeyBelow-ordered}
 use Rattle.plist_draft.specs.Told.{SpellsIn}
 use Rattle.plist_draft.specs.View.{objects}
 use Rattle.plist_draft.proofs.Valued.{Keeps-both, items-next, items-end, pairs-next, pairs-end, table-put}
@@ -26,6 +31,7 @@ put_items-loop-item-preserved t c =
     record {
       kept = Keeps-both _ _ _ c.loop-item.invariant.kept c.put_value.ensures.kept;
       left = items-next _ _ _ _ c.in_ok-put_value.field-0 (view element) _ _ _ c.put_value.ensures.kept c.in_ok-put_value.ensures.spells first c.in_ok-push.ensures.items c.loop-item.invariant.left;
+      valid = λ rest. c.loop-item.invariant.valid (subst (λ (vs : Items). AreItems vs) (sym first) (c.in_ok-put_value.ensures.valid, rest));
     }
 
 pub put_items-returns-clause-spells : goal.put_items-returns-clause-spells
@@ -36,12 +42,19 @@ put_items-returns-clause-spells t c =
 pub put_pairs-loop-key-preserved : goal.put_pairs-loop-key-preserved
 put_pairs-loop-key-preserved t c =
     let units = c.of_units-text.ensures.text ∙ c.units.ensures in
+    let left = c.next.new.self in
+    let step : c.loop-key.key-iterator ≡ (c.in-Some.key.now, c.in-Some.value.now) ∷ left = c.in-Some.ensures.steps in
+    let ordered = subst (λ (ps : List (List ℕ × Value)). IsStrictlySortedBy (slice_cmp nat_cmp) (keys_of ps)) step c.loop-key.invariant.ordered in
+    let below = IsKeyBelow-ordered c.in-Some.key.now c.in-Some.value.now left ordered in
+    let are_units : AreUnits c.in-Some.key.now = subst (λ (us : List ℕ). AreUnits us) units c.of_units-text.ensures.valid in
     let key = subst (λ (us : List ℕ). SpellsIn (objects c.put_scalar.new.self) c.in_ok-put_scalar.field-0 (scalar (text us))) units c.in_ok-put_scalar.ensures.spells in
     record {
       can = tt;
       finite = tt;
       kept = Keeps-both _ _ _ c.loop-key.invariant.kept (Keeps-both _ _ _ c.put_scalar.ensures.kept c.put_value.ensures.kept);
       left = pairs-next _ _ _ _ _ _ _ c.in_ok-put_scalar.field-0 c.in_ok-put_value.field-0 c.in-Some.key.now (view c.in-Some.value.now) _ _ _ c.put_scalar.ensures.kept key c.put_value.ensures.kept c.in_ok-put_value.ensures.spells (ap view_pairs c.in-Some.ensures.steps) c.in_ok-push.ensures.items c.in_ok-push-2.ensures.items c.loop-key.invariant.left;
+      ordered = below.1;
+      valid = λ rest. c.loop-key.invariant.valid (subst (λ (ps : List (List ℕ × Value)). ArePairs (view_pairs ps)) (sym step) (are_units, c.in_ok-put_value.ensures.valid, below.0, rest));
     }
 
 pub put_pairs-returns-clause-spells : goal.put_pairs-returns-clause-spells

@@ -1,4 +1,9 @@
 use Rattle.std.proofs.Common.{drop}
+use Rattle.std.specs.Ordering.{nat_cmp}
+use Rattle.std.specs.Cmp.Lexicographic.{slice_cmp}
+use Rattle.std.specs.List.Sorted.{IsStrictlySortedBy}
+use Rattle.std.specs.Map.{keys_of}
+use Rattle.plist_value.specs.Plist.{AreItems, ArePairs}
 use Rattle.plist_value.specs.View.{view_items, view_pairs}
 use Rattle.plist_draft.specs.Told.{Keeps}
 use Rattle.plist_draft.specs.View.{objects}
@@ -9,6 +14,7 @@ abbrev pub invariant-put_items-loop-item : goal.invariant-put_items-loop-item
 invariant-put_items-loop-item l = record {
   kept : Keeps (objects l.fn.draft) (objects l.draft);
   left : ItemsLeft (objects l.draft) l.numbers.items (view_items (drop l.item-index l.items.items)) (view_items l.items.items);
+  valid : AreItems (view_items (drop l.item-index l.items.items)) → AreItems (view_items l.items.items);
 }
 
 abbrev pub invariant-put_pairs-loop-key : goal.invariant-put_pairs-loop-key
@@ -17,4 +23,6 @@ invariant-put_pairs-loop-key l = record {
   finite : (goal.iterator-put_pairs-loop-key).is_finite l.key-iterator;
   kept : Keeps (objects l.fn.draft) (objects l.draft);
   left : PairsLeft (objects l.draft) l.keys.items l.values.items (view_pairs l.key-iterator) (view_pairs l.pairs.entries);
+  ordered : IsStrictlySortedBy (slice_cmp nat_cmp) (keys_of l.key-iterator);
+  valid : ArePairs (view_pairs l.key-iterator) → ArePairs (view_pairs l.pairs.entries);
 }
