@@ -1,5 +1,5 @@
 -- A scalar is as small as its spelling.
-use Rattle.std.proofs.Common.{◌≡◌, ℕ, ◌+◌, ◌<◌, ltb, Bool, true, false, cond, List, ◌++◌, length, arith, length-append}
+use Rattle.std.proofs.Common.{ℕ, ◌<◌, ltb, Bool, true, false, cond, List, ◌++◌, length, arith, length-append}
 use Rattle.std.specs.List.{list_all}
 use Rattle.plist_value.specs.Plist.{Scalar, text, whole, flag, real4, real8, moment, bytes}
 use Rattle.plist_object.specs.Sizes.{IsSmall}

@@ -4,9 +4,9 @@ use Rattle.std.specs.Prelude.{⊤}
 use Rattle.std.proofs.lemmas.List.{get_or_at}
 use Rattle.plist_value.specs.Plist.{Plist}
 use Rattle.plist_object.specs.Places.{Holds}
-use Rattle.plist_write.specs.Sharing.{value_at}
-use Rattle.plist_write.specs.Plan.{Stands, held_at}
-use Rattle.plist_write.proofs.Trees.{Stands-tail, Stands-all}
+use Rattle.plist_engine.specs.Sharing.{value_at}
+use Rattle.plist_engine.specs.Found.{Stands, held_at}
+use Rattle.plist_engine.proofs.Trees.{Stands-tail, Stands-all}
 
 -- the places from k on have the entries as their numbers
 abbrev pub AreNumbers : (ℕ → ℕ) → ℕ → List ℕ → Type 0

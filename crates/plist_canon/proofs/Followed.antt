@@ -8,17 +8,17 @@ use Rattle.plist_object.specs.Spelled.{Spells}
 use Rattle.plist_object.proofs.Uniqueness.{same_value}
 use Rattle.plist_object.specs.Shortest.{spelling_of}
 use Rattle.plist_object.specs.Spelling.{least_width}
-use Rattle.plist_write.specs.Tree.{preorder}
-use Rattle.plist_write.specs.Sharing.{kept_places, value_at}
-use Rattle.plist_write.specs.Canonical.{objects_of, file_of, canon}
-use Rattle.plist_write.specs.Plan.{Stands, held_at, number_in}
+use Rattle.plist_engine.specs.Tree.{preorder}
+use Rattle.plist_engine.specs.Sharing.{kept_places, value_at}
+use Rattle.plist_engine.specs.Canonical.{objects_of, file_of, canon}
+use Rattle.plist_engine.specs.Found.{Stands, held_at, number_in}
 use Rattle.plist_canon.specs.Rules.{FollowsRules, IsNumberedInPreorder}
-use Rattle.plist_write.proofs.Trees.{Stands-all}
-use Rattle.plist_write.proofs.Sound.{IsSound, EachSound, EachSound-tree, EachSound-at, sound_from_Fits}
-use Rattle.plist_write.proofs.Sizes.{total}
-use Rattle.plist_write.proofs.Reading.{object_in-octets}
-use Rattle.plist_write.proofs.Found.{octets-held}
-use Rattle.plist_write.proofs.Binary.{number-fits, length-objects_of, objects-at, objects-some, some-objects, count-fits, table-fits, place-holds, trailer, tree-some, few, light, canon-spells, canon-laid}
+use Rattle.plist_engine.proofs.Trees.{Stands-all}
+use Rattle.plist_engine.proofs.Sound.{IsSound, EachSound, EachSound-tree, EachSound-at, sound_from_Fits}
+use Rattle.plist_engine.proofs.Sizes.{total}
+use Rattle.plist_engine.proofs.Reading.{object_in-octets}
+use Rattle.plist_engine.proofs.Found.{octets-held}
+use Rattle.plist_engine.proofs.Binary.{number-fits, length-objects_of, objects-at, objects-some, some-objects, count-fits, table-fits, place-holds, trailer, tree-some, few, light, canon-spells, canon-laid}
 use Rattle.plist_canon.proofs.Standing.{EachStands-tree, EachStands-at}
 use Rattle.plist_canon.proofs.KeptPlaces.{is_made}
 use Rattle.plist_canon.proofs.PlaceRules.{HasObjects, well_read, ascending, no_repeat}

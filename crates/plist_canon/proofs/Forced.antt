@@ -7,12 +7,12 @@ use Rattle.plist_object.specs.Layout.{trailer_of}
 use Rattle.plist_object.specs.Objects.{holds_scalar}
 use Rattle.plist_object.specs.Places.{Holds}
 use Rattle.plist_canon.specs.Rules.{HoldsScalar, IsNoRepeat, MeetsInOrder, FollowsRules}
-use Rattle.plist_write.specs.Tree.{preorder}
-use Rattle.plist_write.specs.Sharing.{least_place, first_place, kept_from, kept_places, count_below, value_at}
-use Rattle.plist_write.specs.Plan.{held_at, number_in}
-use Rattle.plist_write.proofs.Numbering.{least_place-le, least_place-holds, first_place-le, first_place-holds, first_place-first, count_below-none}
-use Rattle.plist_write.proofs.Counting.{count-kept, count-shared}
-use Rattle.plist_write.proofs.Reading.{count_below-le}
+use Rattle.plist_engine.specs.Tree.{preorder}
+use Rattle.plist_engine.specs.Sharing.{least_place, first_place, kept_from, kept_places, count_below, value_at}
+use Rattle.plist_engine.specs.Found.{held_at, number_in}
+use Rattle.plist_engine.proofs.Numbering.{least_place-le, least_place-holds, first_place-le, first_place-holds, first_place-first, count_below-none}
+use Rattle.plist_engine.proofs.Counting.{count-kept, count-shared}
+use Rattle.plist_engine.proofs.Reading.{count_below-le}
 use Rattle.plist_canon.proofs.KeptPlaces.{is_made}
 use Rattle.plist_object.proofs.Uniqueness.{same_held}
 use Rattle.plist_canon.proofs.Entries.{AreNumbers, AreNumbers-own, AreNumbers-same, PlacesHold-at}

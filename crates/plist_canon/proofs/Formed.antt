@@ -7,12 +7,12 @@ use Rattle.plist_object.specs.Layout.{trailer_of, IsLaid}
 use Rattle.plist_object.specs.Places.{Holds}
 use Rattle.plist_object.specs.Shortest.{spelling_of}
 use Rattle.plist_object.specs.Spelling.{least_width}
-use Rattle.plist_write.specs.Tree.{preorder}
-use Rattle.plist_write.specs.Sharing.{kept_places, value_at}
-use Rattle.plist_write.specs.Canonical.{object_octets, objects_of, file_of, canon}
-use Rattle.plist_write.specs.Plan.{held_at, number_in}
+use Rattle.plist_engine.specs.Tree.{preorder}
+use Rattle.plist_engine.specs.Sharing.{kept_places, value_at}
+use Rattle.plist_engine.specs.Canonical.{object_octets, objects_of, file_of, canon}
+use Rattle.plist_engine.specs.Found.{held_at, number_in}
 use Rattle.plist_canon.specs.Rules.{HasPlainTrailer, HasLeastWidths, Adjoins, IsSpelledCanonically}
-use Rattle.plist_write.proofs.Found.{octets-held}
+use Rattle.plist_engine.proofs.Found.{octets-held}
 use Rattle.plist_canon.proofs.KeptPlaces.{is_made}
 use Rattle.plist_canon.proofs.Occupied.{Occupies, occupies}
 use Rattle.plist_canon.proofs.Filed.{file_of-is}

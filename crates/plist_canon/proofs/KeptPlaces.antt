@@ -2,9 +2,9 @@
 use Rattle.std.proofs.Common.{◌≡◌, ℕ, zero, suc, ◌+◌, ◌<◌, eqb, true, false, List, [], ◌∷◌, length, get_or, refl, sym, ap, ◌∙◌, inl, inr, arith, lt-ltb}
 use Rattle.std.proofs.lemmas.Bool.{le-ltb, eqb-true, cases_Bool}
 use Rattle.plist_value.specs.Plist.{Plist, list, no_items}
-use Rattle.plist_write.specs.Sharing.{first_place, kept_from, kept_places, count_below, value_at}
-use Rattle.plist_write.specs.Plan.{number_in}
-use Rattle.plist_write.proofs.Numbering.{count_below-none, number-entry}
+use Rattle.plist_engine.specs.Sharing.{first_place, kept_from, kept_places, count_below, value_at}
+use Rattle.plist_engine.specs.Found.{number_in}
+use Rattle.plist_engine.proofs.Numbering.{count_below-none, number-entry}
 
 -- The object i is made at the place `from + offset`, where `rest` stands from the place `from` on.
 record IsMadeIn (all : List Plist) (from : ℕ) (rest : List Plist) (i : ℕ) : Type 0 where

@@ -4,8 +4,8 @@ use Rattle.std.specs.Cmp.Lexicographic.{slice_cmp}
 use Rattle.std.specs.List.Sorted.{IsStrictlySortedBy}
 use Rattle.plist_value.specs.Plist.{text, Plist, scalar, Items, no_items, item, Pairs, no_pairs, pair, AreItems, ArePairs, IsKeyBelow}
 use Rattle.plist_value.specs.Limits.{nodes}
-use Rattle.plist_write.specs.Tree.{key_texts, preorder, preorder_items, preorder_values, item_places, key_places, value_places}
-use Rattle.plist_write.proofs.Sizes.{item_count}
+use Rattle.plist_engine.specs.Tree.{key_texts, preorder, preorder_items, preorder_values, item_places, key_places, value_places}
+use Rattle.plist_engine.proofs.Sizes.{item_count}
 
 abbrev pub pairs_of : List (List ℕ) → Items → Pairs
 pairs_of [] vs = no_pairs

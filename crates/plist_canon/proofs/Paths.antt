@@ -1,17 +1,17 @@
 -- The path of the walk, as its last references are visited.
-use Rattle.std.proofs.Common.{◌≡◌, ℕ, suc, ◌<◌, List, [], ◌∷◌, ◌++◌, length, drop, true, false, refl, sym, ap, subst, ◌∙◌, append_assoc, arith, length-append, Some, None}
+use Rattle.std.proofs.Common.{◌≡◌, ℕ, suc, ◌<◌, List, [], ◌∷◌, ◌++◌, length, drop, true, false, refl, sym, ap, subst, ◌∙◌, append_assoc, arith, Some, None}
 use Rattle.std.specs.Prelude.{◌↔◌, ◌≢◌}
 use Rattle.std.proofs.lemmas.List.{append-nil}
 use Rattle.plist_object.specs.Layout.{trailer_of}
 use Rattle.plist_object.specs.Objects.{Held, holds_scalar, holds_list, holds_table}
-use Rattle.plist_object.specs.Places.{Holds, what_holds}
+use Rattle.plist_object.specs.Places.{Holds}
 use Rattle.plist_object.specs.Views.{numbers_of}
 use Rattle.plist_object.specs.declared.refs.Refs.{Refs}
 use Rattle.plist_canon.specs.declared.preorder.Frame.{Frame}
 use Rattle.plist_canon.specs.declared.preorder.Visit.{Visit}
 use Rattle.plist_object.specs.References.{references_of}
 use Rattle.plist_canon.specs.Rules.{HoldsScalar, IsWellRead, IsNumberedInPreorder, Reference, held_by, ComesTo, begins, meets, TurnsAt, IsBroken, breaks_c7, leaves_over}
-use Rattle.plist_canon.specs.Preorders.{CanFinish, part_of, part_read, numbers, frame_left, path_left, new_frame, IsKnown, LeadsTo, LeadsOn, visited, Visits, Enters, IsWalking}
+use Rattle.plist_canon.specs.Preorders.{CanFinish, part_of, numbers, frame_left, path_left, new_frame, IsKnown, LeadsTo, LeadsOn, visited, Visits, Enters, IsWalking}
 use Rattle.plist_canon.specs.declared.weights.Weight.{Weight}
 use Rattle.plist_canon.specs.Weights.{AreWeights}
 use Rattle.plist_canon.proofs.Weighing.{scalar-Weighs}

@@ -1,5 +1,5 @@
 -- Objects that begin as the canonical spelling of what they hold.
-use Rattle.std.proofs.Common.{◌≡◌, ℕ, suc, ◌+◌, ◌-◌, ◌*◌, ◌<◌, ◌≤◌, arith, Bool, true, cond, List, ◌∷◌, ◌++◌, length, take, drop, Result, Ok, Err, refl, sym, ap, subst, ◌∙◌}
+use Rattle.std.proofs.Common.{◌≡◌, ℕ, suc, ◌+◌, ◌-◌, ◌*◌, ◌<◌, ◌≤◌, arith, Bool, true, cond, List, ◌∷◌, length, take, drop, Result, Ok, Err, refl, sym, ap, subst, ◌∙◌}
 use Rattle.std.specs.Prelude.{nat_lt, IsOk, MatchResult}
 use Rattle.std.specs.List.{list_all}
 use Rattle.byteorder.specs.Endian.{big_bytes, big_number}
@@ -15,7 +15,7 @@ use Rattle.plist_object.specs.Places.{Holds, octets_at, object_at, what_holds, p
 use Rattle.plist_object.specs.Shortest.{IsShortest}
 use Rattle.plist_object.proofs.SameOctets.{AreOctets-drop, big_bytes-big_number}
 use Rattle.plist_object.proofs.CanonicalHeads.{shortest_iff}
-use Rattle.plist_canon.proofs.Occupied.{IsPlaced, is_placed}
+use Rattle.plist_canon.proofs.Occupied.{is_placed}
 
 -- a marker, and the number in so many octets behind it
 pub begins_number : (marker n width : ℕ) (octets digits : List ℕ) → octets ≡ marker ∷ digits → AreOctets octets → width ≤ length digits → big_number width digits ≡ n → Begins (marker ∷ big_bytes width n) octets

@@ -12,7 +12,7 @@ use Rattle.plist_object.specs.Objects.{Held, holds_scalar, holds_list, object_in
 use Rattle.plist_object.specs.Places.{octets_at, object_at, what_holds, span_of, Holds}
 use Rattle.plist_object.specs.Shortest.{spelling_of, IsShortest}
 use Rattle.plist_object.proofs.Uniqueness.{same_held}
-use Rattle.plist_write.specs.Canonical.{canon}
+use Rattle.plist_engine.specs.Canonical.{canon}
 use Rattle.plist_object.specs.References.{references_of}
 use Rattle.plist_canon.specs.Rules.{ReadsWithinLimits, FollowsRules, HasPlainTrailer, HasLeastWidths, Adjoins, IsSpelledCanonically, HasAscendingKeys, IsNoRepeat, Walk, visit, Walks, end, step, MeetsInOrder, IsNumberedInPreorder, held_by, begins, TurnsAt}
 use Rattle.plist_canon.proofs.Followed.{canonical_follows_rules}

@@ -2,9 +2,9 @@
 use Rattle.std.proofs.Common.{◌≡◌, ℕ, zero, suc, ◌+◌, ◌<◌, List, [], ◌∷◌, ◌++◌, length, refl, subst, arith, add-zero}
 use Rattle.std.specs.Prelude.{⊤}
 use Rattle.plist_value.specs.Plist.{text, Plist, scalar, list, table, Items, no_items, item, Pairs, no_pairs, pair}
-use Rattle.plist_write.specs.Tree.{key_texts, preorder, preorder_items, preorder_values}
-use Rattle.plist_write.specs.Sharing.{value_at}
-use Rattle.plist_write.proofs.Trees.{Stands, Stands-front, Stands-rest, Stands-tail}
+use Rattle.plist_engine.specs.Tree.{key_texts, preorder, preorder_items, preorder_values}
+use Rattle.plist_engine.specs.Sharing.{value_at}
+use Rattle.plist_engine.proofs.Trees.{Stands, Stands-front, Stands-rest, Stands-tail}
 
 -- the tree of each of these values, which stand from the place k on, stands at its place
 abbrev pub EachStands : List Plist → ℕ → List Plist → Type 0

@@ -6,7 +6,7 @@ use Rattle.plist_value.specs.Plist.{AreOctets}
 use Rattle.plist_object.specs.Layout.{trailer_of, number_before_end}
 use Rattle.plist_object.specs.Spelling.{least_width}
 use Rattle.plist_object.proofs.SameOctets.{big_bytes-big_number, AreOctets-drop}
-use Rattle.plist_write.specs.Canonical.{trailer_octets}
+use Rattle.plist_engine.specs.Canonical.{trailer_octets}
 use Rattle.plist_canon.specs.Rules.{HasPlainTrailer, HasLeastWidths}
 
 -- 32 octets are their parts

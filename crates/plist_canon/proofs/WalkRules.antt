@@ -3,13 +3,13 @@ use Rattle.std.proofs.Common.{◌≡◌, ℕ, suc, ◌+◌, ◌<◌, ◌≤◌, 
 use Rattle.std.proofs.lemmas.Bool.{cond_both, cases_lt, le-ltb}
 use Rattle.plist_value.specs.Plist.{text, Plist, scalar, list, table, Items, no_items, item, Pairs, no_pairs, pair}
 use Rattle.plist_object.specs.Objects.{holds_scalar}
-use Rattle.plist_write.specs.Tree.{key_texts, preorder, preorder_items, preorder_values, item_places, key_places, value_places}
-use Rattle.plist_write.specs.Sharing.{first_place, kept_from, kept_places, count_below, value_at}
-use Rattle.plist_write.specs.Plan.{Stands, held_at, number_in}
+use Rattle.plist_engine.specs.Tree.{key_texts, preorder, preorder_items, preorder_values, item_places, key_places, value_places}
+use Rattle.plist_engine.specs.Sharing.{first_place, kept_from, kept_places, count_below, value_at}
+use Rattle.plist_engine.specs.Found.{Stands, held_at, number_in}
 use Rattle.plist_canon.specs.Rules.{HoldsScalar, Walk, visit, Walks, end, step, MeetsInOrder, IsNumberedInPreorder}
-use Rattle.plist_write.proofs.Numbering.{count_below-none, first_place-le, first_place-holds, first_place-first, number-top}
-use Rattle.plist_write.proofs.Counting.{count-kept, count-shared}
-use Rattle.plist_write.proofs.Trees.{length-preorder, Stands-front, Stands-rest, Stands-tail, Stands-head, Stands-tree, Stands-all}
+use Rattle.plist_engine.proofs.Numbering.{count_below-none, first_place-le, first_place-holds, first_place-first, number-top}
+use Rattle.plist_engine.proofs.Counting.{count-kept, count-shared}
+use Rattle.plist_engine.proofs.Trees.{length-preorder, Stands-front, Stands-rest, Stands-tail, Stands-head, Stands-tree, Stands-all}
 use Rattle.plist_canon.proofs.PlaceRules.{HasObjects}
 
 -- the numbers of the places from k on, where these values stand

@@ -10,12 +10,12 @@ use Rattle.plist_object.specs.Places.{Holds}
 use Rattle.plist_object.specs.Spelled.{Spells}
 use Rattle.plist_object.specs.References.{references_of}
 use Rattle.plist_canon.specs.Rules.{keys_of, HoldsText, HoldTexts, IsWellRead, HasAscendingKeys, Walk, visit, Walks, end, step}
-use Rattle.plist_write.specs.Plan.{held_at}
-use Rattle.plist_write.specs.Sharing.{value_at}
-use Rattle.plist_write.specs.Tree.{key_texts, preorder, preorder_items, preorder_values, item_places, key_places, value_places}
-use Rattle.plist_write.proofs.Trees.{length-preorder, length-key_places, Stands-all}
-use Rattle.plist_write.proofs.Sizes.{item_count}
-use Rattle.plist_write.proofs.Spelled.{Spells-tree}
+use Rattle.plist_engine.specs.Found.{held_at}
+use Rattle.plist_engine.specs.Sharing.{value_at}
+use Rattle.plist_engine.specs.Tree.{key_texts, preorder, preorder_items, preorder_values, item_places, key_places, value_places}
+use Rattle.plist_engine.proofs.Trees.{length-preorder, length-key_places, Stands-all}
+use Rattle.plist_engine.proofs.Sizes.{item_count}
+use Rattle.plist_engine.proofs.Spelled.{Spells-tree}
 use Rattle.plist_object.proofs.Uniqueness.{same_held}
 use Rattle.plist_object.proofs.HeldRanges.{Holds-held}
 use Rattle.plist_canon.proofs.Entries.{AreNumbers, PlacesHold, AreNumbers-front, AreNumbers-rest, AreNumbers-own, PlacesHold-append, PlacesHold-at}

@@ -12,9 +12,8 @@ mod preorder;
 mod references;
 mod repeats;
 mod weights;
+mod writing;
 
 pub use checking::{CheckFault, Verdict, check, check_with_hasher};
-pub use plist_write::{
-    DeviceFault, ListSink, Sink, WriteFault, canonical, canonical_with_hasher, write_canonical,
-    write_canonical_with_hasher,
-};
+pub use plist_engine::{DeviceFault, ListSink, Sink, WriteFault};
+pub use writing::{canonical, canonical_with_hasher, write_canonical, write_canonical_with_hasher};

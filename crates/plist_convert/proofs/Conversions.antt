@@ -5,7 +5,7 @@ use Rattle.plist_forms.specs.Refusals.{IsRefused}
 use Rattle.plist_forms.specs.declared.faults.Fault.{Fault}
 use Rattle.plist_forms.specs.declared.faults.Fault.TheVariants.{Binary, Text, NotInOpenStep, ReadFailed, WriteFailed, InputTooLarge, OutOfMemory}
 use Rattle.plist_forms.specs.declared.forms.Form.{Form}
-use Rattle.plist_write.specs.declared.sending.WriteFault.{WriteFault}
+use Rattle.plist_engine.specs.declared.faults.WriteFault.{WriteFault}
 use Rattle.plist_forms.specs.Output.{IsOutputFault}
 use Rattle.plist_forms.specs.Sent.{answer_of}
 use Rattle.plist_convert.specs.Files.{FileName, Holds, IsOutputStored, SameFiles, Stores}

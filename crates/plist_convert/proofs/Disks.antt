@@ -5,8 +5,8 @@ use Rattle.plist_devices.specs.Count.{one_more}
 use Rattle.plist_forms.specs.declared.faults.Fault.{Fault}
 use Rattle.plist_forms.specs.declared.faults.Fault.TheVariants.{InputTooLarge, OutOfMemory, ReadFailed}
 use Rattle.plist_forms.specs.declared.loading.TheConstants.{MAX_INPUT}
-use Rattle.plist_write.specs.declared.sending.WriteFault.{WriteFault}
-use Rattle.plist_write.specs.Sending.{IsBlamed, sent_of}
+use Rattle.plist_engine.specs.declared.faults.WriteFault.{WriteFault}
+use Rattle.plist_engine.specs.Sending.{IsBlamed, sent_of}
 use Rattle.plist_convert.specs.Files.{FileName, Files, Holds, IsStored, IsUnloaded, Lacks, SameBeside, SameFiles, Turns}
 
 -- what turns from the files in between turns from those before

@@ -4,8 +4,8 @@ use Rattle.std.specs.Io.KnownBytes.{Keeps, append_known}
 use Rattle.plist_forms.specs.declared.faults.Fault.{Fault}
 use Rattle.plist_forms.specs.declared.faults.Fault.TheVariants.{OutOfMemory, WriteFailed}
 use Rattle.plist_forms.specs.declared.forms.Form.{Form}
-use Rattle.plist_write.specs.Sending.{IsWritten}
-use Rattle.plist_write.specs.declared.sending.WriteFault.{WriteFault}
+use Rattle.plist_engine.specs.Sending.{IsWritten}
+use Rattle.plist_engine.specs.declared.faults.WriteFault.{WriteFault}
 use Rattle.plist_forms.specs.Output.{IsOutput, IsOutputFault}
 use Rattle.plist_forms.specs.Sent.{answer_of}
 use Rattle.plist_forms.specs.Transfer.{NeedsNoMemory}

@@ -10,8 +10,8 @@ use Rattle.plist_forms.specs.declared.faults.Fault.{Fault}
 use Rattle.plist_forms.specs.declared.faults.Fault.TheVariants as refusal_kind
 use Rattle.plist_forms.specs.declared.forms.Form.{Form}
 use Rattle.plist_forms.specs.declared.loading.TheConstants.{MAX_INPUT}
-use Rattle.plist_write.specs.Sending.{IsWritten}
-use Rattle.plist_write.specs.declared.sending.WriteFault.{WriteFault}
+use Rattle.plist_engine.specs.Sending.{IsWritten}
+use Rattle.plist_engine.specs.declared.faults.WriteFault.{WriteFault}
 use Rattle.plist_forms.specs.Output.{IsOutput}
 use Rattle.plist_forms.specs.Transfer.{IsInput, NeedsNoMemory}
 use Rattle.plist_convert.specs.Files.{FileName, Holds, IsStored, IsUnloaded, SameFiles}

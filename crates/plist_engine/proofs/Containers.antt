@@ -1,14 +1,15 @@
 -- The walk does a container when it does its children, which give way to their numbers.
-use Rattle.std.proofs.Common.{◌≡◌, ℕ, suc, ◌+◌, List, [], ◌∷◌, ◌++◌, length, drop, map, refl, sym, ap, subst, ◌∙◌, arith, add-one, length-append, append_assoc}
+use Rattle.std.proofs.Common.{◌≡◌, ℕ, suc, ◌+◌, ◌<◌, List, [], ◌∷◌, ◌++◌, length, drop, map, refl, sym, ap, subst, ◌∙◌, arith, add-one, length-append, append_assoc}
+use Rattle.std.proofs.lemmas.Bool.{eq-eqb}
 use Rattle.std.proofs.lemmas.List.{length-map, map-append, drop_all, drop_at}
-use Rattle.plist_value.specs.Plist.{Plist, list, table, Items, Pairs, IsContainer}
+use Rattle.plist_value.specs.Plist.{Scalar, Plist, scalar, list, table, Items, Pairs, IsContainer}
 use Rattle.plist_object.specs.Objects.{holds_list, holds_table}
 use Rattle.plist_object.specs.Places.{Holds}
-use Rattle.plist_write.specs.Tree.{key_texts, preorder, preorder_items, preorder_values, key_places, value_places}
-use Rattle.plist_write.specs.Plan.{Stands, held_at, number_in, found_in}
-use Rattle.plist_write.proofs.Trees.{Stands-tail, length-key_places, length-value_places}
-use Rattle.plist_write.proofs.Counting.{count-kept, known-still}
-use Rattle.plist_write.proofs.Containers.{here, own, no_scalar, number_is, found_is}
+use Rattle.plist_engine.specs.Tree.{key_texts, preorder, preorder_items, preorder_values, key_places, value_places}
+use Rattle.plist_engine.specs.Found.{Stands, held_at, number_in, found_in}
+use Rattle.plist_engine.specs.Sharing.{least_place, first_place, kept_places, count_below, value_at}
+use Rattle.plist_engine.proofs.Trees.{Stands-tail, Stands-head, length-key_places, length-value_places}
+use Rattle.plist_engine.proofs.Counting.{count-kept, least_place-at, known-still}
 use Rattle.plist_engine.specs.declared.plan.Plan.{Plan}
 use Rattle.plist_object.specs.References.{references_of}
 use Rattle.plist_engine.specs.Plan.{IsLike, IsReady, Grows, Adds, WalksTree, WalksItems, Begins}
@@ -19,12 +20,40 @@ pub record Filled {S H : Type 0} (objects numbers behind : List ℕ) (old done :
   pub as_many : length numbers ≡ length objects
   pub filled : done.references.items ≡ old.references.items ++ (numbers ++ behind)
 
+-- a container has an object of its own
+container-first : (all : List Plist) (k : ℕ) (v : Plist) → IsContainer v → first_place all k v ≡ k
+container-first all k (scalar s) h = absurd h
+container-first all k (list vs) h = refl
+container-first all k (table ps) h = refl
+
 module _ (v : Plist) (container : IsContainer v) (part : List Plist) (tree : preorder v ≡ v ∷ part) (all : List Plist) (k : ℕ) (stands : Stands all k (preorder v)) where
+  stands_open : Stands all k (v ∷ part)
+  stands_open = rw tree at stands
+
+  here : (value_at all k ≡ v) × (k < length all)
+  here = Stands-head v part stands_open
+
+  own : first_place all k v ≡ k
+  own = container-first all k v container
+
+  no_scalar : (q : Scalar) → least_place q all ≡ k → ⊥
+  no_scalar q e =
+      let below = here.1 in
+      let at = least_place-at q all (omega arith) in
+      let is : v ≡ scalar q = sym here.0 ∙ ap (value_at all) (sym e) ∙ at in
+      subst IsContainer is container
+
+  number_is : number_in all k ≡ count_below k (kept_places all)
+  number_is = ap (λ u. count_below (first_place all k u) (kept_places all)) here.0 ∙ ap (λ n. count_below n (kept_places all)) own
+
+  found_is : found_in all k (v ∷ part) ≡ held_at (number_in all) k v ∷ found_in all (suc k) part
+  found_is = rw (eq-eqb _ _ own) refl
+
   below_ready : {S H : Type 0} → (i : ℕ) (objects : List ℕ) (old mid : Plan S H) (number : ℕ) → Begins i objects old mid number → IsReady all k old → IsReady all (suc k) mid
   below_ready i objects old mid number begins ready = record {
     numbered = rw begins.scalars_kept ready.numbered;
-    known = λ q. rw begins.scalars_kept (ready.known q ∙ sym (known-still all k _ (no_scalar v container part tree all k stands _)));
-    counted = ap length begins.original_added ∙ length-append old.originals.items _ ∙ add-one _ ∙ ap suc ready.counted ∙ sym (count-kept all k v (here v container part tree all k stands).0 (here v container part tree all k stands).1 (own v container part tree all k stands));
+    known = λ q. rw begins.scalars_kept (ready.known q ∙ sym (known-still all k _ (no_scalar _)));
+    counted = ap length begins.original_added ∙ length-append old.originals.items _ ∙ add-one _ ∙ ap suc ready.counted ∙ sym (count-kept all k v here.0 here.1 own);
   }
 
   grown : {S H : Type 0} → (f : List ℕ) (i : ℕ) (objects numbers behind : List ℕ) (old mid done : Plan S H) (number : ℕ) → Begins i objects old mid number → Filled objects numbers behind old done → Grows f (length mid.references.items) mid done (found_in all (suc k) part) → IsLike f i (held_at (number_in all) k v) → references_of (held_at (number_in all) k v) ≡ numbers → Grows f 0 old done (found_in all k (v ∷ part))
@@ -34,7 +63,7 @@ module _ (v : Plist) (container : IsContainer v) (part : List Plist) (tree : pre
       let left : drop front done.references.items ≡ behind = ap (drop front) (filled.filled ∙ sym (append_assoc old.references.items numbers behind)) ∙ drop_at (old.references.items ++ numbers) behind front size in
       let nothing : drop front mid.references.items ≡ [] = drop_all front mid.references.items (omega arith) in
       let same : behind ≡ g.references = sym left ∙ g.references_added ∙ ap (λ rs. rs ++ g.references) nothing in
-      rw (found_is v container part tree all k stands) (record {
+      rw found_is (record {
         originals = i ∷ g.originals;
         references = numbers ++ behind;
         originals_added = g.originals_added ∙ ap (λ os. os ++ g.originals) begins.original_added ∙ append_assoc old.originals.items (i ∷ []) g.originals;

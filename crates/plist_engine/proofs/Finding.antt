@@ -4,17 +4,18 @@ use Rattle.std.proofs.lemmas.List.{length-map}
 use Rattle.plist_value.specs.Plist.{Plist}
 use Rattle.plist_object.specs.Spelled.{IsBinary}
 use Rattle.plist_object.specs.Spelling.{least_width}
-use Rattle.plist_write.specs.Tree.{preorder}
-use Rattle.plist_write.specs.Sharing.{first_place, kept_places, value_at}
-use Rattle.plist_write.specs.Canonical.{file_of, objects_of, canon}
-use Rattle.plist_write.specs.Plan.{number_in, found_in}
-use Rattle.plist_write.specs.Pieces.{CanSpellAll}
-use Rattle.plist_write.proofs.Binary.{canon-length}
-use Rattle.plist_write.proofs.Found.{IsModest, modest_tree, spellable_all, octets-all}
-use Rattle.plist_write.proofs.Reading.{count_below-le}
-use Rattle.plist_write.proofs.Sizes.{length-kept}
-use Rattle.plist_write.proofs.Trees.{length-preorder}
-use Rattle.plist_write.proofs.Widths.{least_width-holds}
+use Rattle.plist_engine.specs.Tree.{preorder}
+use Rattle.plist_engine.specs.Sharing.{first_place, kept_places, value_at}
+use Rattle.plist_engine.specs.Canonical.{file_of, objects_of, canon}
+use Rattle.plist_engine.specs.Found.{number_in, found_in}
+use Rattle.plist_engine.specs.Pieces.{CanSpellAll}
+use Rattle.plist_engine.proofs.Binary.{canon-length}
+use Rattle.plist_engine.proofs.Found.{spellable_all, octets-all}
+use Rattle.plist_engine.proofs.Reading.{count_below-le}
+use Rattle.plist_engine.proofs.Sizes.{length-kept}
+use Rattle.plist_engine.proofs.Sound.{EachSound-tree, sound_from_Fits}
+use Rattle.plist_engine.proofs.Trees.{length-preorder}
+use Rattle.plist_engine.proofs.Widths.{least_width-holds}
 use Rattle.plist_engine.specs.declared.plan.Objects.{Objects}
 use Rattle.plist_engine.specs.Plan.{AreObjectsOf}
 use Rattle.plist_engine.specs.Parts.{helds_of, AreSound, octets_for}
@@ -47,8 +48,8 @@ module _ (f : List ℕ) (v : Plist) (binary : IsBinary f v) (objects : Objects) 
   pub spellable-objects : CanSpellAll (least_width (length objects.originals.items)) (helds_of f objects.originals.items objects.references.items)
   spellable-objects =
       let all = preorder v in
-      let modest : IsModest v = record { nodes_fit = binary.fits.nodes_fit; payload_fits = binary.fits.payload_fits } in
-      rw (long, helds) (spellable_all all (number_in all) (least_width (length (kept_places all))) below 0 all (modest_tree v modest))
+      let sound = EachSound-tree v (sound_from_Fits v binary.valid binary.fits) in
+      rw (long, helds) (spellable_all all (number_in all) (least_width (length (kept_places all))) below 0 all sound)
 
   pub are-objects : octets_for (least_width (length objects.originals.items)) f objects.originals.items objects.references.items ≡ objects_of (preorder v)
   are-objects =

@@ -6,7 +6,7 @@ use Rattle.std.proofs.lemmas.List.Sorted.{length_permutation}
 use Rattle.plist_value.specs.Plist.{text, scalar, Items, no_items, item, Pairs, no_pairs, pair, AreItems, ArePairs}
 use Rattle.plist_value.specs.Limits.{nodes, depth_of_items, depth_of_pairs}
 use Rattle.plist_object.specs.Spelled.{SpellItems, SpellPairs}
-use Rattle.plist_write.specs.Tree.{key_texts, preorder, preorder_items, preorder_values, item_places, key_places, value_places}
+use Rattle.plist_engine.specs.Tree.{key_texts, preorder, preorder_items, preorder_values, item_places, key_places, value_places}
 use Rattle.plist_engine.specs.Spelling.{in_turn}
 
 -- the values

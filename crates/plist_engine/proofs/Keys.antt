@@ -4,7 +4,7 @@ use Rattle.std.specs.Bool.{Decides}
 use Rattle.std.specs.List.{position_or_len}
 use Rattle.std.specs.Option.{option_or}
 use Rattle.std.proofs.lemmas.Bool.{cases_Bool, true≢false}
-use Rattle.plist_write.proofs.Held.{insert_key-known, length-pushed, number-pushed}
+use Rattle.plist_engine.proofs.Held.{insert_key-known, length-pushed, number-pushed}
 use Rattle.plist_engine.specs.declared.hashed.Hashed.{Hashed}
 use Rattle.plist_engine.specs.Hashed.{number_of_key, EntersKey}
 

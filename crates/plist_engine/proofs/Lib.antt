@@ -1,3 +1,22 @@
+mod Rows
+pub mod Numbering
+pub mod Trees
+pub mod Spelled
+pub mod Sound
+pub mod Sizes
+pub mod Widths
+pub mod File
+pub mod Octets
+pub mod Reading
+pub mod Binary
+pub mod Counting
+pub mod Held
+pub mod Found
+pub mod Sends
+pub mod Gathering
+pub mod FileSteps
+pub mod PlaceSteps
+pub mod Shortness
 pub mod Keys
 pub mod Numbers
 pub mod Storing

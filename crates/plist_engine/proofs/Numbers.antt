@@ -8,7 +8,7 @@ use Rattle.plist_value.specs.Equality.{scalar_eq}
 use Rattle.plist_value.specs.EqualityLaws.{scalar_eq-Decides}
 use Rattle.plist_value.specs.Scalars.{content_of}
 use Rattle.plist_value.specs.declared.scalar_ref.ScalarRef.{ScalarRef}
-use Rattle.plist_write.proofs.Held.{scalars-decide}
+use Rattle.plist_engine.proofs.Held.{scalars-decide}
 use Rattle.plist_engine.specs.declared.numbered.Listed.{Listed}
 use Rattle.plist_engine.specs.declared.numbered.Numbered.{Numbered}
 use Rattle.plist_engine.specs.Hashed.{EntersKey}

@@ -1,11 +1,12 @@
 -- The objects, one after another.
-use Rattle.std.proofs.Common.{◌≡◌, ℕ, ◌+◌, ◌<◌, ◌≤◌, List, [], ◌∷◌, length, get_or, drop, sym, ap, subst, ◌∙◌, arith, length-append}
+use Rattle.std.proofs.Common.{◌≡◌, ℕ, ◌+◌, ◌<◌, ◌≤◌, List, [], ◌∷◌, ◌++◌, length, get_or, drop, sym, ap, subst, ◌∙◌, arith, length-append, append_assoc}
 use Rattle.std.specs.List.{concat}
-use Rattle.std.proofs.lemmas.List.{drop_more, drop_all}
+use Rattle.std.proofs.lemmas.List.{drop_more, drop_all, append-nil}
 use Rattle.plist_object.specs.Shortest.{spelling_of}
-use Rattle.plist_write.specs.Pieces.{CanSpellAll, held_in_part}
-use Rattle.plist_write.specs.declared.putting.Part.{Part}
-use Rattle.plist_engine.specs.Parts.{held_at, reference_count, renumbered, helds_of, AreSound, octets_for}
+use Rattle.plist_engine.specs.Canonical.{starts}
+use Rattle.plist_engine.specs.Pieces.{CanSpellAll, held_in_part}
+use Rattle.plist_engine.specs.declared.putting.Part.{Part}
+use Rattle.plist_engine.specs.Parts.{held_in, reference_count, renumbered, helds_of, AreSound, octets_for}
 
 -- what is left behind the object i
 pub record Step (width : ℕ) (f start : List ℕ) (i : ℕ) (numbers behind octets : List ℕ) : Type 0 where
@@ -13,7 +14,7 @@ pub record Step (width : ℕ) (f start : List ℕ) (i : ℕ) (numbers behind oct
   pub spellable : CanSpellAll width (helds_of f (drop (i + 1) start) behind)
   pub split : octets_for width f (drop i start) numbers ≡ octets ∷ octets_for width f (drop (i + 1) start) behind
 
-pub step : (width : ℕ) (f start : List ℕ) (i x : ℕ) (numbers behind : List ℕ) (part : Part) → i < length start → x ≡ get_or start i x → held_in_part part ≡ renumbered (held_at f x) numbers → behind ≡ drop (reference_count (held_at f x)) numbers → AreSound f (drop i start) numbers → CanSpellAll width (helds_of f (drop i start) numbers) → Step width f start i numbers behind (spelling_of width (held_in_part part))
+pub step : (width : ℕ) (f start : List ℕ) (i x : ℕ) (numbers behind : List ℕ) (part : Part) → i < length start → x ≡ get_or start i x → held_in_part part ≡ renumbered (held_in f x) numbers → behind ≡ drop (reference_count (held_in f x)) numbers → AreSound f (drop i start) numbers → CanSpellAll width (helds_of f (drop i start) numbers) → Step width f start i numbers behind (spelling_of width (held_in_part part))
 step width f start i x numbers behind part h is is_part is_behind sound spellable =
     let split : drop i start ≡ x ∷ drop (i + 1) start = drop_more start i x h ∙ ap (λ y. y ∷ drop (i + 1) start) (sym is) in
     let left = drop (i + 1) start in
@@ -22,7 +23,7 @@ step width f start i x numbers behind part h is is_part is_behind sound spellabl
     record {
       sound = subst (λ (rs : List ℕ). AreSound f left rs) (sym is_behind) both.1.1;
       spellable = subst (λ (rs : List ℕ). CanSpellAll width (helds_of f left rs)) (sym is_behind) can.1;
-      split = ap (λ os. octets_for width f os numbers) split ∙ ap (λ rs. spelling_of width (renumbered (held_at f x) numbers) ∷ octets_for width f left rs) (sym is_behind) ∙ ap (λ held. spelling_of width held ∷ octets_for width f left behind) (sym is_part);
+      split = ap (λ os. octets_for width f os numbers) split ∙ ap (λ rs. spelling_of width (renumbered (held_in f x) numbers) ∷ octets_for width f left rs) (sym is_behind) ∙ ap (λ held. spelling_of width held ∷ octets_for width f left behind) (sym is_part);
     }
 
 pub measured-next : (place size all : ℕ) (octets : List ℕ) (left rest : List (List ℕ)) → size ≡ length octets → left ≡ octets ∷ rest → place + length (concat left) ≡ all → (place + size + length (concat rest) ≡ all) × (size ≤ length (concat left))
@@ -31,3 +32,18 @@ measured-next place size all octets left rest long split measured =
 
 pub none-left : (width : ℕ) (f start : List ℕ) (i : ℕ) (numbers : List ℕ) → length start ≤ i → octets_for width f (drop i start) numbers ≡ []
 none-left width f start i numbers past = ap (λ os. octets_for width f os numbers) (drop_all i start past)
+
+pub split-next : (done octets all : List ℕ) (left rest : List (List ℕ)) → left ≡ octets ∷ rest → done ++ concat left ≡ all → (done ++ octets) ++ concat rest ≡ all
+split-next done octets all left rest split so_far =
+    append_assoc done octets (concat rest) ∙ ap (λ os. done ++ concat os) (sym split) ∙ so_far
+
+pub split-end : (done all : List ℕ) (left : List (List ℕ)) → left ≡ [] → done ++ concat left ≡ all → done ≡ all
+split-end done all left none so_far = sym (append-nil done) ∙ ap (λ os. done ++ concat os) (sym none) ∙ so_far
+
+pub placed-next : (places pushed : List ℕ) (place size : ℕ) (octets : List ℕ) (left rest all : List (List ℕ)) → pushed ≡ places ++ (place ∷ []) → size ≡ length octets → left ≡ octets ∷ rest → places ++ starts place left ≡ starts 8 all → pushed ++ starts (place + size) rest ≡ starts 8 all
+placed-next places pushed place size octets left rest all added long split so_far =
+    ap (λ ps. ps ++ starts (place + size) rest) added ∙ append_assoc places (place ∷ []) (starts (place + size) rest) ∙ ap (λ n. places ++ (place ∷ starts (place + n) rest)) long ∙ ap (λ os. places ++ starts place os) (sym split) ∙ so_far
+
+pub placed-end : (places : List ℕ) (place : ℕ) (left all : List (List ℕ)) → left ≡ [] → places ++ starts place left ≡ starts 8 all → places ≡ starts 8 all
+placed-end places place left all none so_far =
+    sym (append-nil places) ∙ ap (λ os. places ++ starts place os) (sym none) ∙ so_far

@@ -1,23 +1,22 @@
 -- What objects hold, told by the objects of another file.
 use Rattle.std.proofs.Common.{◌≡◌, ℕ, suc, ◌+◌, ◌≤◌, List, [], ◌∷◌, ◌++◌, length, take, drop, refl, sym, ap, subst, ◌∙◌, arith, length-append, append_assoc}
-use Rattle.std.proofs.lemmas.List.{length-map, take_at, drop_at}
+use Rattle.std.proofs.lemmas.List.{take_at, drop_at}
 use Rattle.plist_object.specs.Objects.{Held, holds_scalar, holds_list, holds_table}
 use Rattle.plist_object.specs.Places.{Holds}
-use Rattle.plist_object.specs.Shortest.{spelling_of}
 use Rattle.plist_object.specs.References.{references_of}
 use Rattle.plist_engine.specs.Plan.{IsLike, StandFor}
-use Rattle.plist_engine.specs.Parts.{held_or_none, held_at, reference_count, renumbered, helds_of, AreSound, octets_for}
+use Rattle.plist_engine.specs.Parts.{held_or_none, held_in, reference_count, renumbered, helds_of, AreSound}
 use Rattle.plist_engine.specs.Spelling.{IsRead}
 
-pub held-is : (f : List ℕ) (i : ℕ) (held : Held) → Holds f i held → held_at f i ≡ held
+pub held-is : (f : List ℕ) (i : ℕ) (held : Held) → Holds f i held → held_in f i ≡ held
 held-is f i held holds = ap held_or_none holds.reads
 
 -- what stands for an object, with its references in front of others
 record Renumbers (f : List ℕ) (i : ℕ) (h : Held) (behind : List ℕ) : Type 0 where
   read : IsRead f i
-  same : renumbered (held_at f i) (references_of h ++ behind) ≡ h
-  rest : drop (reference_count (held_at f i)) (references_of h ++ behind) ≡ behind
-  enough : reference_count (held_at f i) ≤ length (references_of h ++ behind)
+  same : renumbered (held_in f i) (references_of h ++ behind) ≡ h
+  rest : drop (reference_count (held_in f i)) (references_of h ++ behind) ≡ behind
+  enough : reference_count (held_in f i) ≤ length (references_of h ++ behind)
 
 renumbers : (f : List ℕ) (i : ℕ) (h : Held) (behind : List ℕ) → IsLike f i h → Renumbers f i h behind
 renumbers f i (holds_scalar s) behind like =
@@ -65,8 +64,8 @@ helds-are f (i ∷ originals) refs (h ∷ hs) a =
     let behind = a.1.0 in
     let split : refs ≡ references_of h ++ behind = a.1.1.0 in
     let one = renumbers f i h behind a.0 in
-    let n = reference_count (held_at f i) in
-    ap (λ rs. renumbered (held_at f i) rs ∷ helds_of f originals (drop n rs)) split ∙ ap (λ x. x ∷ helds_of f originals (drop n (references_of h ++ behind))) one.same ∙ ap (λ rs. h ∷ helds_of f originals rs) one.rest ∙ ap (λ xs. h ∷ xs) (helds-are f originals behind hs a.1.1.1)
+    let n = reference_count (held_in f i) in
+    ap (λ rs. renumbered (held_in f i) rs ∷ helds_of f originals (drop n rs)) split ∙ ap (λ x. x ∷ helds_of f originals (drop n (references_of h ++ behind))) one.same ∙ ap (λ rs. h ∷ helds_of f originals rs) one.rest ∙ ap (λ xs. h ∷ xs) (helds-are f originals behind hs a.1.1.1)
 
 pub sound-are : (f originals refs : List ℕ) (hs : List Held) → StandFor f originals refs hs → AreSound f originals refs
 sound-are f [] refs hs a = tt
@@ -75,15 +74,11 @@ sound-are f (i ∷ originals) refs (h ∷ hs) a =
     let behind = a.1.0 in
     let split : refs ≡ references_of h ++ behind = a.1.1.0 in
     let one = renumbers f i h behind a.0 in
-    let n = reference_count (held_at f i) in
+    let n = reference_count (held_in f i) in
     let rest = sound-are f originals behind hs a.1.1.1 in
     subst (λ (rs : List ℕ). AreSound f (i ∷ originals) rs) (sym split) (one.read, (one.enough, subst (λ (rs : List ℕ). AreSound f originals rs) (sym one.rest) rest))
 
 pub length-helds : (f originals refs : List ℕ) → length (helds_of f originals refs) ≡ length originals
 length-helds f [] refs = refl
 length-helds f (i ∷ originals) refs =
-    ap suc (length-helds f originals (drop (reference_count (held_at f i)) refs))
-
-pub length-octets : (width : ℕ) (f originals refs : List ℕ) → length (octets_for width f originals refs) ≡ length originals
-length-octets width f originals refs =
-    length-map (helds_of f originals refs) (spelling_of width) ∙ length-helds f originals refs
+    ap suc (length-helds f originals (drop (reference_count (held_in f i)) refs))

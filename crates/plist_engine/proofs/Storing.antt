@@ -10,7 +10,7 @@ use Rattle.plist_value.specs.Scalars.{content_of}
 use Rattle.plist_value.specs.declared.scalar_ref.ScalarRef.{ScalarRef}
 use Rattle.plist_engine.specs.declared.scalars.Scalars.{Scalars}
 use Rattle.plist_engine.specs.Hashed.{number_of_key, EntersKey}
-use Rattle.plist_engine.specs.Numbered.{number_held, Enters}
+use Rattle.plist_engine.specs.Numbered.{number_held}
 use Rattle.plist_engine.specs.Scalars.{natural_in, number_by, number_stored, AreNumbered, EntersScalar}
 use Rattle.plist_engine.proofs.Keys.{or_none, counted-after, number-after}
 use Rattle.plist_engine.proofs.Numbers.{is_same, same-number}
@@ -108,20 +108,5 @@ module _ {S H : Type 0} (shown : ScalarRef) (n next : ℕ) (old new : Scalars S 
     each = λ r. elim (cases-natural (natural_in (content_of r))) [
       | inl none ↦ (let apart : scalar_eq (content_of shown) (content_of r) ≡ false = differ shown r (λ e. let t : Some n ≡ None = sym natural ∙ e ∙ none in cc) in rw (by-other new r none, by-other old r none, same_others, apart) (sym (or_none (number_held old.others r))))
       | inr some ↦ rw (by-natural new r some.0 some.1, by-natural old r some.0 some.1, naturals-same shown r n some.0 natural some.1) (naturals_now some.0)
-    ];
-  }
-
--- another scalar was entered
-module _ {S H : Type 0} (shown : ScalarRef) (next : ℕ) (old new : Scalars S H) (had : Option ℕ) (other : natural_in (content_of shown) ≡ None) (numbered : AreNumbered old) (same_naturals : new.naturals ≡ old.naturals) (enters : Enters shown next old.others new.others had) where
-  pub enters-other : EntersScalar shown next old new had
-  enters-other = record {
-    numbered = record {
-      counted = rw same_naturals numbered.counted;
-      others = enters.numbered;
-    };
-    had_is = enters.had_is ∙ sym (by-other old shown other);
-    each = λ r. elim (cases-natural (natural_in (content_of r))) [
-      | inl none ↦ rw (by-other new r none, by-other old r none) (enters.each r)
-      | inr some ↦ (let apart : scalar_eq (content_of shown) (content_of r) ≡ false = differ shown r (λ e. let t : None ≡ Some some.0 = sym other ∙ e ∙ some.1 in cc) in rw (by-natural new r some.0 some.1, by-natural old r some.0 some.1, same_naturals, apart) (sym (or_none (number_of_key nat_eq old.naturals some.0))))
     ];
   }

@@ -6,7 +6,7 @@ use Rattle.plist_object.specs.Objects.{holds_scalar, holds_list, holds_table}
 use Rattle.plist_object.specs.Places.{Holds}
 use Rattle.plist_object.specs.Spelled.{SpellItems}
 use Rattle.plist_object.proofs.Uniqueness.{same_items}
-use Rattle.plist_write.specs.Tree.{preorder}
+use Rattle.plist_engine.specs.Tree.{preorder}
 use Rattle.plist_engine.specs.declared.plan.Plan.{Plan}
 use Rattle.plist_engine.specs.Spelling.{SpellTable, in_turn}
 use Rattle.plist_engine.specs.Plan.{WalksItems, Begins, NumbersScalar, IsWalked, ItemsWalked, AreWalked}

@@ -1,26 +1,40 @@
 -- The walk does a tree when it does its parts.
-use Rattle.std.proofs.Common.{◌≡◌, ℕ, suc, ◌+◌, ◌≤◌, List, [], ◌∷◌, ◌++◌, length, drop, Some, None, refl, sym, ap, subst, ◌∙◌, inl, inr, arith, cond, add-one, add-zero, length-append}
-use Rattle.std.proofs.lemmas.Bool.{true≢false, le-ltb, eq-eqb, ne_eqb, cases_Bool}
+use Rattle.std.proofs.Common.{◌≡◌, ℕ, suc, ◌+◌, ◌<◌, ◌≤◌, eqb, true, false, List, [], ◌∷◌, ◌++◌, length, drop, map, Some, None, refl, sym, ap, subst, ◌∙◌, inl, inr, arith, cond, add-one, add-zero, length-append, lt-ltb}
+use Rattle.std.proofs.lemmas.Bool.{true≢false, le-ltb, eq-eqb, ne_eqb, cases_Bool, cases_lt}
 use Rattle.std.proofs.lemmas.List.{map-append, append-nil}
-use Rattle.plist_value.specs.Plist.{Plist, scalar, Items, item}
+use Rattle.plist_value.specs.Plist.{Scalar, Plist, scalar, Items, item}
 use Rattle.plist_value.specs.Equality.{scalar_eq}
 use Rattle.plist_value.specs.EqualityLaws.{scalar_eq-Decides}
 use Rattle.plist_value.specs.Scalars.{content_of}
 use Rattle.plist_value.specs.declared.scalar_ref.ScalarRef.{ScalarRef}
 use Rattle.plist_object.specs.Objects.{holds_scalar}
 use Rattle.plist_object.specs.Places.{Holds}
-use Rattle.plist_write.specs.Tree.{preorder, preorder_items, item_places}
-use Rattle.plist_write.specs.Sharing.{least_place, kept_places, count_below}
-use Rattle.plist_write.specs.Plan.{number_in, found_in, number_known}
+use Rattle.plist_engine.specs.Tree.{preorder, preorder_items, item_places}
+use Rattle.plist_engine.specs.Sharing.{least_place, first_place, kept_from, kept_places, count_below, value_at}
+use Rattle.plist_engine.specs.Found.{Stands, held_at, number_in, found_in, number_known}
 use Rattle.plist_engine.specs.declared.plan.Plan.{Plan}
 use Rattle.plist_engine.specs.Scalars.{number_stored, AreNumbered, EntersScalar}
 use Rattle.plist_engine.specs.Plan.{IsReady, Grows, Adds, Walks, WalksTree, WalksScalar, WalksItems, IsEmptyPlan, StandFor}
-use Rattle.plist_write.proofs.Numbering.{count_below-none}
-use Rattle.plist_write.proofs.Trees.{length-preorder, Stands-front, Stands-rest, Stands-all}
-use Rattle.plist_write.proofs.Counting.{count-kept, count-shared, known-still, known-now}
-use Rattle.plist_write.proofs.Walking.{found_in-append, here, number_is, same_scalar, known-before, unknown-first}
+use Rattle.plist_engine.proofs.Numbering.{least_place-le, count_below-none}
+use Rattle.plist_engine.proofs.Trees.{length-preorder, Stands-front, Stands-rest, Stands-head, Stands-all}
+use Rattle.plist_engine.proofs.Counting.{count-kept, count-shared, least_place-at, known-still, known-now}
 use Rattle.plist_engine.proofs.Storing.{entered-had, entered-kept, entered-unknown, entered-added}
 use Rattle.plist_engine.proofs.Growing.{Grows-none, Grows-append, Grows-lift, Grows-scalar}
+
+-- what is found in one part, and then in another
+kept_from-append : (all : List Plist) (k : ℕ) (xs ys : List Plist) → kept_from all k (xs ++ ys) ≡ kept_from all k xs ++ kept_from all (k + length xs) ys
+kept_from-append all k [] ys = rw add-zero refl
+kept_from-append all k (x ∷ xs) ys =
+    let others = kept_from-append all (suc k) xs ys in
+    let moved : suc k + length xs ≡ k + suc (length xs) = omega arith in
+    elim (eqb (first_place all k x) k) as (λ t. cond t ((k, x) ∷ kept_from all (suc k) (xs ++ ys)) (kept_from all (suc k) (xs ++ ys)) ≡ cond t ((k, x) ∷ kept_from all (suc k) xs) (kept_from all (suc k) xs) ++ kept_from all (k + suc (length xs)) ys) [
+      | true ↦ ap (λ ps. (k, x) ∷ ps) (rw (moved) at others)
+      | false ↦ rw (moved) at others
+    ]
+
+pub found_in-append : (all : List Plist) (k : ℕ) (xs ys : List Plist) → found_in all k (xs ++ ys) ≡ found_in all k xs ++ found_in all (k + length xs) ys
+found_in-append all k xs ys =
+    ap (map (λ p. held_at (number_in all) p.0 p.1)) (kept_from-append all k xs ys) ∙ map-append _ (kept_from all k xs) _
 
 -- nothing to do
 pub Walks-none : {S H : Type 0} → (f : List ℕ) (front : ℕ) (plan : Plan S H) → Walks f front [] (λ k. []) plan plan []
@@ -65,6 +79,38 @@ Walks-lift f front part places old mid new ns x within same_scalars same_origina
         grows = Grows-lift f front old mid new (found_in all k part) done.grows within same_originals same_references;
       };
 }
+
+-- a scalar at its place: it was met before, or it is the first
+module _ (s : Scalar) (all : List Plist) (k : ℕ) (stands : Stands all k (scalar s ∷ [])) where
+  here : (value_at all k ≡ scalar s) × (k < length all)
+  here = Stands-head (scalar s) [] stands
+
+  before : least_place s all ≤ k
+  before = least_place-le s all k here.0
+
+  number_is : number_in all k ≡ count_below (least_place s all) (kept_places all)
+  number_is = ap (λ v. count_below (first_place all k v) (kept_places all)) here.0
+
+  same_scalar : (q : Scalar) → least_place q all ≡ k → q ≡ s
+  same_scalar q e =
+      let below = here.1 in
+      let at = least_place-at q all (omega arith) in
+      let is : scalar q ≡ scalar s = sym at ∙ ap (value_at all) e ∙ here.0 in
+      cc
+
+  known-before : (n : ℕ) → number_known all k s ≡ Some n → (least_place s all < k) × (n ≡ count_below (least_place s all) (kept_places all))
+  known-before n known =
+      elim (cases_lt (least_place s all) k) [
+        | inl below ↦ (below, let e = rw (lt-ltb (least_place s all) k below) at known in cc)
+        | inr above ↦ (let e : None ≡ Some n = rw (le-ltb (least_place s all) k above) at known in cc)
+      ]
+
+  unknown-first : number_known all k s ≡ None → least_place s all ≡ k
+  unknown-first unknown =
+      elim (cases_lt (least_place s all) k) [
+        | inl below ↦ (let e = rw (lt-ltb (least_place s all) k below) at unknown in cc)
+        | inr above ↦ (let b = before in omega arith)
+      ]
 
 -- a scalar that is known
 pub Walks-known : {S H : Type 0} → (f : List ℕ) (r : ScalarRef) (old new : Plan S H) (n next : ℕ) → (AreNumbered old.scalars → EntersScalar r next old.scalars new.scalars (Some n)) → new.originals ≡ old.originals → new.references ≡ old.references → WalksScalar f 0 (content_of r) old new n

@@ -1,3 +1,16 @@
+pub use Rattle.plist_value.specs.Plist
+pub use Rattle.plist_value.specs.Limits
+pub use Rattle.plist_object.specs.Spelled
+pub use Rattle.plist_devices.specs.Sink
+pub use Rattle.plist_devices.specs.ListSink
+pub mod Tree
+pub mod Sharing
+pub mod Canonical
+pub mod Laws
+pub mod Found
+pub mod Pieces
+pub mod Sending
+pub mod Pending
 pub mod Spelling
 pub mod Hashed
 pub mod Numbered

@@ -13,8 +13,8 @@ abbrev pub held_or_none : Result Held ObjectFault → Held
 held_or_none (Ok held) = held
 held_or_none (Err e) = holds_list []
 
-abbrev pub held_at : List ℕ → ℕ → Held
-held_at f i = held_or_none (what_holds f i)
+abbrev pub held_in : List ℕ → ℕ → Held
+held_in f i = held_or_none (what_holds f i)
 
 -- how many references are held
 abbrev pub reference_count : Held → ℕ
@@ -33,13 +33,13 @@ renumbered (holds_table keys values) refs =
 abbrev pub helds_of : List ℕ → List ℕ → List ℕ → List Held
 helds_of f [] refs = []
 helds_of f (i ∷ originals) refs =
-    renumbered (held_at f i) refs ∷ helds_of f originals (drop (reference_count (held_at f i)) refs)
+    renumbered (held_in f i) refs ∷ helds_of f originals (drop (reference_count (held_in f i)) refs)
 
 -- each object reads, and there are as many references as they want
 abbrev pub AreSound : List ℕ → List ℕ → List ℕ → Type 0
 AreSound f [] refs = ⊤
 AreSound f (i ∷ originals) refs =
-    IsRead f i × ((reference_count (held_at f i) ≤ length refs) × AreSound f originals (drop (reference_count (held_at f i)) refs))
+    IsRead f i × ((reference_count (held_in f i) ≤ length refs) × AreSound f originals (drop (reference_count (held_in f i)) refs))
 
 -- the octets of each object
 abbrev pub octets_for : ℕ → List ℕ → List ℕ → List ℕ → List (List ℕ)

@@ -7,9 +7,9 @@ use Rattle.plist_object.specs.Objects.{Held, holds_scalar, holds_list, holds_tab
 use Rattle.plist_object.specs.Places.{Holds}
 use Rattle.plist_object.specs.References.{references_of}
 use Rattle.plist_object.specs.Spelled.{Spells, SpellItems}
-use Rattle.plist_write.specs.Tree.{preorder, preorder_items, item_places}
-use Rattle.plist_write.specs.Sharing.{kept_places, count_below}
-use Rattle.plist_write.specs.Plan.{Stands, number_in, found_in, number_known}
+use Rattle.plist_engine.specs.Tree.{preorder, preorder_items, item_places}
+use Rattle.plist_engine.specs.Sharing.{kept_places, count_below}
+use Rattle.plist_engine.specs.Found.{Stands, number_in, found_in, number_known}
 use Rattle.plist_engine.specs.Scalars.{number_stored, AreNew, AreNumbered}
 use Rattle.plist_engine.specs.declared.plan.Objects.{Objects}
 use Rattle.plist_engine.specs.declared.plan.Plan.{Plan}

@@ -1,18 +1,25 @@
-//! The canonical file of the value that a binary file spells, made from that file without the
-//! value.
+//! The canonical binary file of each property list, as octets or piece by piece to a sink. It is
+//! made from any binary file that spells the list, without the list.
 #![tactic(auto)]
 
 mod ahead;
+pub mod faults;
 mod hashed;
+pub mod laws;
 mod making;
 mod numbered;
 pub mod objects;
 pub mod order;
 mod parts;
+pub mod pending;
 mod plan;
+mod putting;
 mod scalars;
 pub mod sending;
 mod walk;
 
+pub use faults::WriteFault;
 pub use making::{canonical_of, canonical_of_sorted, canonical_of_with_hasher};
+pub use pending::{Pending, flush};
+pub use plist_devices::{DeviceFault, ListSink, Sink};
 pub use sending::{write_canonical_of, write_canonical_of_sorted, write_canonical_of_with_hasher};

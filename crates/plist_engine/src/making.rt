@@ -1,20 +1,54 @@
 //! The canonical file of the value that a file spells, as octets.
-ghost use Rattle.std.specs.Prelude.{◌≡◌, IfOk};
+ghost use Rattle.std.specs.Prelude.{◌≡◌, None, Some, IfOk};
 ghost use Rattle.plist_value.specs.Plist.{Plist};
 ghost use Rattle.plist_object.specs.Spelled.{IsBinary};
 ghost use Rattle.plist_object.specs.Views.{octets_of};
 ghost use Rattle.plist_object.specs.Order.{AreSortedIfAny};
-ghost use Rattle.plist_write.specs.Canonical.{canon};
+ghost use Rattle.plist_engine.specs.Canonical.{canon};
 
 use crate::sending::write_canonical_of_with_hasher;
+use crate::{DeviceFault, Sink};
 use plist_object::{BinFile, SortedKeys};
 use plist_value::FixedHasher;
-use plist_write::GrowingSink;
 use std::alloc::{AllocError, Global};
 use std::hash::BuildHasher;
 
+/// A sink into memory that grows.
+#[derive(Drop)]
+struct GrowingSink {
+    octets: Vec<u8>,
+    failures: u64,
+}
+
+impl Sink for GrowingSink {
+    ghost taken = { λ sink. Some sink.octets.items };
+
+    ghost failures = { λ sink. sink.failures };
+
+    ghost device = { λ _. None };
+
+    fn put(&mut self, piece: &[u8]) -> Result<usize, DeviceFault> {
+        if self.failures == u64::MAX {
+            return Err(DeviceFault);
+        }
+        match self.octets.extend_from_slice(piece) {
+            Ok(()) => Ok(piece.len()),
+            Err(_) => {
+                self.failures += 1;
+                Err(DeviceFault)
+            }
+        }
+    }
+
+    fn failures(&self) -> u64 {
+        self.failures
+    }
+}
+
 /// The canonical file of the value that the file spells, as one list. It goes over the objects that
 /// the value names, makes no value, and goes over the objects of the canonical file once more.
+/// So one file is made for each value: it is a binary file of it (the layout of CFBinaryPList.c;
+/// which of those files it is, is our profile).
 ///
 /// # Errors
 ///

@@ -11,9 +11,9 @@ ghost use Rattle.plist_engine.specs.Order.{by_text, pair_at, place_of};
 ghost use Rattle.plist_engine.specs.Spelling.{IsTable, SpellTable, in_turn};
 
 use crate::objects::text_of;
+use crate::putting::short;
 use plist_object::{BinFile, Refs, SortedKeys};
 use plist_value::TextRef;
-use plist_write::short;
 use std::alloc::{AllocError, Global};
 
 // A key of a table, and its place among the table's references.

@@ -2,12 +2,12 @@
 ghost use Rattle.std.specs.Prelude.{◌≡◌, ◌≤◌, length, drop};
 ghost use Rattle.plist_object.specs.Views.{octets_of};
 ghost use Rattle.plist_engine.specs.Spelling.{IsRead};
-ghost use Rattle.plist_write.specs.Pieces.{held_in_part};
-ghost use Rattle.plist_engine.specs.Parts.{held_at, reference_count, renumbered};
+ghost use Rattle.plist_engine.specs.Pieces.{held_in_part};
+ghost use Rattle.plist_engine.specs.Parts.{held_in, reference_count, renumbered};
 
 use crate::objects::object_of;
+use crate::putting::Part;
 use plist_object::{BinFile, Object};
-use plist_write::Part;
 
 /// The object that stands for one of the file, with the first of the numbers as its references, and
 /// the numbers behind them.
@@ -17,12 +17,12 @@ pub(crate) fn part_of<'a, 'b>(
     numbers: &'b [u32],
 ) -> (Part<'a, 'b>, &'b [u32])
     requires read { IsRead (octets_of file.now) object }
-    requires numbers { reference_count (held_at (octets_of file.now) object)
+    requires numbers { reference_count (held_in (octets_of file.now) object)
         ≤ length numbers.now }
     ensures part { held_in_part result.0
-        ≡ renumbered (held_at (octets_of file.now) object) numbers.entry.now }
+        ≡ renumbered (held_in (octets_of file.now) object) numbers.entry.now }
     ensures behind { result.1.now
-        ≡ drop (reference_count (held_at (octets_of file.now) object)) numbers.entry.now }
+        ≡ drop (reference_count (held_in (octets_of file.now) object)) numbers.entry.now }
 {
     match object_of(file, object) {
         Object::Scalar(scalar) => (Part::Scalar(scalar), numbers),

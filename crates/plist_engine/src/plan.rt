@@ -12,10 +12,10 @@ ghost use Rattle.plist_engine.specs.Plan.{KeepsNumber, KeepsScalar, IsRemembered
 ghost use Rattle.plist_engine.specs.Plan.{remembered};
 
 use crate::order::{KeyOrder, push_all};
+use crate::putting::short;
 use crate::scalars::Scalars;
 use plist_object::{BinFile, Refs};
 use plist_value::{MAX_NODES, ScalarRef};
-use plist_write::short;
 use std::alloc::{AllocError, Global};
 use std::hash::BuildHasher;
 

@@ -7,20 +7,22 @@ ghost use Rattle.plist_object.specs.Spelled.{IsBinary};
 ghost use Rattle.plist_object.specs.Spelling.{least_width};
 ghost use Rattle.plist_object.specs.Views.{octets_of};
 ghost use Rattle.plist_object.specs.Order.{AreSortedIfAny};
-ghost use Rattle.plist_write.specs.Canonical.{canon, file_of, objects_of, starts};
-ghost use Rattle.plist_write.specs.Pieces.{CanSpellAll};
-ghost use Rattle.plist_write.specs.Sending.{ArePieces, IsWritten, Sends};
-ghost use Rattle.plist_write.specs.Tree.{preorder};
+ghost use Rattle.plist_engine.specs.Canonical.{canon, file_of, objects_of, starts};
+ghost use Rattle.plist_engine.specs.Pieces.{CanSpellAll};
+ghost use Rattle.plist_engine.specs.Sending.{ArePieces, IsWritten, Sends};
+ghost use Rattle.plist_engine.specs.Tree.{preorder};
 ghost use Rattle.plist_engine.specs.Parts.{AreSound, helds_of, octets_planned};
-ghost use Rattle.plist_write.specs.Pending.{Goes, KeepsShort};
+ghost use Rattle.plist_engine.specs.Pending.{Goes, KeepsShort};
 
 use crate::ahead::Ahead;
 use crate::parts::part_of;
+use crate::pending::{Pending, send_end, send_part};
 use crate::plan::Objects;
+use crate::putting::part_length;
 use crate::walk::objects_of;
+use crate::{Sink, WriteFault};
 use plist_object::{BinFile, HEADER, SortedKeys, width_of};
 use plist_value::FixedHasher;
-use plist_write::{Pending, Sink, WriteFault, part_length, send_end, send_part};
 use std::alloc::Global;
 use std::hash::BuildHasher;
 

@@ -1,7 +1,7 @@
 -- Two octet lists that are compared by the values that they spell.
 use Rattle.std.specs.Prelude.{◌≡◌, ◌↔◌, ℕ, List, Bool, IsTrue}
 use Rattle.plist_value.specs.Plist.{Plist}
-use Rattle.plist_write.specs.Canonical.{canon}
+use Rattle.plist_engine.specs.Canonical.{canon}
 use Rattle.plist_forms.specs.Accepted.{IsAccepted}
 use Rattle.plist_forms.specs.Fault.{code_of}
 use Rattle.plist_forms.specs.Refusals.{IsRefused}

@@ -3,8 +3,8 @@ ghost use Rattle.std.specs.Prelude.{◌≡◌, ◌<◌, ◌↔◌, true, length,
 ghost use Rattle.plist_value.specs.Plist.{Plist};
 ghost use Rattle.plist_object.specs.Spelled.{IsBinary};
 ghost use Rattle.plist_object.specs.Order.{AreSortedIfAny};
-ghost use Rattle.plist_write.specs.Canonical.{canon};
-ghost use Rattle.plist_write.specs.Sending.{IsWritten};
+ghost use Rattle.plist_engine.specs.Canonical.{canon};
+ghost use Rattle.plist_engine.specs.Sending.{IsWritten};
 ghost use Rattle.plist_devices.specs.Count.{HasFailed, one_more};
 ghost use Rattle.plist_forms.specs.Accepted.{begins_as_binary as begins};
 ghost use Rattle.plist_forms.specs.Load.{Takes};
@@ -21,10 +21,9 @@ use crate::texts::text_of;
 use ostep_draft::draft_text;
 use plist_binary::judge_keys;
 use plist_devices::{Sink, Source};
-use plist_engine::write_canonical_of_with_hasher;
+use plist_engine::{WriteFault, write_canonical_of_with_hasher};
 use plist_object::{BinFile, SortedKeys};
 use plist_value::FixedHasher;
-use plist_write::WriteFault;
 use std::alloc::Global;
 use std::hash::BuildHasher;
 

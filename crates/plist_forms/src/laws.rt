@@ -16,7 +16,7 @@ pub fn one_value()
 pub fn canonical_is_accepted()
     ensures { CanonicalIsAccepted }
 {
-    plist_write::laws::canonical_spells_its_value();
+    plist_engine::laws::canonical_spells_its_value();
 }
 
 /// Where a value within the limits has an OpenStep text, that text is accepted, and spells the
@@ -35,5 +35,5 @@ pub fn headline()
 {
     one_value();
     canonical_is_accepted();
-    plist_write::laws::canonical_tells_values_apart();
+    plist_engine::laws::canonical_tells_values_apart();
 }

@@ -2,7 +2,7 @@
 ghost use Rattle.std.specs.Prelude.{◌≡◌, IfErr};
 ghost use Rattle.plist_value.specs.Plist.{Plist};
 ghost use Rattle.plist_object.specs.Spelled.{IsBinary};
-ghost use Rattle.plist_write.specs.Sending.{IsWritten};
+ghost use Rattle.plist_engine.specs.Sending.{IsWritten};
 ghost use Rattle.plist_print.specs.Printed.{printed};
 ghost use Rattle.plist_forms.specs.Printed.{Prints};
 ghost use Rattle.plist_forms.specs.Sent.{IsBeforePut};
@@ -10,9 +10,9 @@ ghost use Rattle.plist_forms.specs.Sent.{IsBeforePut};
 use crate::canonicals::{begins_as_binary, file_of_text};
 use crate::{Fault, judge_any};
 use plist_devices::Sink;
+use plist_engine::WriteFault;
 use plist_object::BinFile;
 use plist_print::print_of;
-use plist_write::WriteFault;
 use std::alloc::Global;
 
 /// Sends the printed text of the value that the octets spell, in either form, and answers how many

@@ -1,11 +1,11 @@
 //! Octets in memory, to a sink.
 ghost use Rattle.std.specs.Prelude.{◌≡◌};
-ghost use Rattle.plist_write.specs.Sending.{IsWritten};
+ghost use Rattle.plist_engine.specs.Sending.{IsWritten};
 ghost use Rattle.plist_forms.specs.declared.forms.Form.TheVariants.{OpenStep};
 ghost use Rattle.plist_forms.specs.Transfer.{NeedsNoMemory};
 
 use plist_devices::{Sink, put_all};
-use plist_write::WriteFault;
+use plist_engine::WriteFault;
 
 /// Sends all of the octets, in as many puts as the sink asks for, and answers how many they are.
 pub(crate) fn send<W: Sink>(octets: &[u8], to: &mut W) -> Result<u64, WriteFault>

@@ -8,10 +8,10 @@ use Rattle.plist_object.specs.Objects.{holds_scalar, holds_list, holds_table}
 use Rattle.plist_object.specs.Places.{Holds}
 use Rattle.plist_object.specs.Spelled.{Spells, SpellItems, SpellPairs}
 use Rattle.plist_object.proofs.Uniqueness.{same_held}
-use Rattle.plist_write.specs.declared.sending.WriteFault.{WriteFault}
-use Rattle.plist_write.specs.declared.pending.Pending.{Pending}
-use Rattle.plist_write.specs.Pending.{Gathers, Stops, Goes}
-use Rattle.plist_write.proofs.Gathering.{Gathers-same, Gathers-append}
+use Rattle.plist_engine.specs.declared.faults.WriteFault.{WriteFault}
+use Rattle.plist_engine.specs.declared.pending.Pending.{Pending}
+use Rattle.plist_engine.specs.Pending.{Gathers, Stops, Goes}
+use Rattle.plist_engine.proofs.Gathering.{Gathers-same, Gathers-append}
 use Rattle.plist_engine.specs.Spelling.{SpellTable}
 use Rattle.plist_engine.proofs.Flat.{length-rows, length-keys}
 use Rattle.plist_print.specs.Printed.{indent, printed_scalar, printed_at, printed_items, printed_pairs}

@@ -1,12 +1,12 @@
 -- A text that went whole, or a front of it.
 use Rattle.std.proofs.Common.{◌≡◌, ℕ, List, [], ◌++◌, Option, Result, Ok, Err, subst}
 use Rattle.std.proofs.lemmas.List.{append-nil}
-use Rattle.plist_write.specs.declared.sending.WriteFault.{WriteFault}
-use Rattle.plist_write.specs.declared.pending.Pending.{Pending}
-use Rattle.plist_write.specs.Pending.{Gathers, Stops}
-use Rattle.plist_write.specs.Sending.{IsWritten, Sends}
-use Rattle.plist_write.proofs.Gathering.{Gathers-keep, Gathers-all, Stops-all, Stops-next}
-use Rattle.plist_write.proofs.Sends.{is_written}
+use Rattle.plist_engine.specs.declared.faults.WriteFault.{WriteFault}
+use Rattle.plist_engine.specs.declared.pending.Pending.{Pending}
+use Rattle.plist_engine.specs.Pending.{Gathers, Stops}
+use Rattle.plist_engine.specs.Sending.{IsWritten, Sends}
+use Rattle.plist_engine.proofs.Gathering.{Gathers-keep, Gathers-all, Stops-all, Stops-next}
+use Rattle.plist_engine.proofs.Sends.{is_written}
 
 -- nothing waited before it
 module _ (octets : List ℕ) (p : Pending) (none : p.octets.items ≡ []) (begins : p.sent ≡ 0) where

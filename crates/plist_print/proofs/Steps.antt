@@ -1,10 +1,10 @@
 -- Octets that are put one piece after another.
 use Rattle.std.proofs.Common.{◌≡◌, ℕ, List, [], ◌++◌, Option, Result, Ok, Err, sym, ap, ◌∙◌, append_assoc}
-use Rattle.plist_write.specs.declared.sending.WriteFault.{WriteFault}
-use Rattle.plist_write.specs.declared.sending.WriteFault.TheVariants.{OutOfMemory}
-use Rattle.plist_write.specs.declared.pending.Pending.{Pending}
-use Rattle.plist_write.specs.Pending.{Gathers, Stops, Goes}
-use Rattle.plist_write.proofs.Gathering.{Gathers-put, Gathers-append, Gathers-keep, Stops-front, Stops-behind, Stops-none, Stops-next, Stops-no_memory, Goes-err}
+use Rattle.plist_engine.specs.declared.faults.WriteFault.{WriteFault}
+use Rattle.plist_engine.specs.declared.faults.WriteFault.TheVariants.{OutOfMemory}
+use Rattle.plist_engine.specs.declared.pending.Pending.{Pending}
+use Rattle.plist_engine.specs.Pending.{Gathers, Stops, Goes}
+use Rattle.plist_engine.proofs.Gathering.{Gathers-put, Gathers-append, Gathers-keep, Stops-front, Stops-behind, Stops-none, Stops-next, Stops-no_memory, Goes-err}
 use Rattle.plist_print.specs.Shown.{Puts}
 
 -- some octets went, and then others

@@ -2,7 +2,7 @@
 ghost use Rattle.std.specs.Prelude.{◌≡◌, ◌∷◌, ◌++◌, [], codes, OnOk};
 ghost use Rattle.plist_value.specs.Scalars.{content_of};
 ghost use Rattle.plist_value.specs.Texts.{units_of};
-ghost use Rattle.plist_write.specs.Pending.{Goes};
+ghost use Rattle.plist_engine.specs.Pending.{Goes};
 ghost use Rattle.plist_print.specs.Units.{printed_text};
 ghost use Rattle.plist_print.specs.Printed.{indent, printed_scalar};
 ghost use Rattle.plist_print.specs.Printing.{item_head, pair_head};
@@ -10,8 +10,8 @@ ghost use Rattle.plist_print.specs.Printing.{item_head, pair_head};
 use crate::lines::{SHORT, is_long, print_scalar, print_text, put, put_scalar, settle};
 use crate::texts::put_text;
 use itoa::Buffer;
+use plist_engine::{Pending, Sink, WriteFault};
 use plist_value::{ScalarRef, TextRef};
-use plist_write::{Pending, Sink, WriteFault};
 use std::alloc::AllocError;
 
 /// Sends the line of a scalar, or has it wait.

@@ -3,7 +3,7 @@ ghost use Rattle.std.specs.Prelude.{◌≡◌, ◌++◌, [], codes, flat_map, tr
 ghost use Rattle.plist_value.specs.Plist.{bytes};
 ghost use Rattle.plist_value.specs.Scalars.{content_of};
 ghost use Rattle.plist_value.specs.Texts.{units_of};
-ghost use Rattle.plist_write.specs.Pending.{Goes};
+ghost use Rattle.plist_engine.specs.Pending.{Goes};
 ghost use Rattle.plist_print.specs.Units.{printed_data, printed_text, printed_units, two_digits};
 ghost use Rattle.plist_print.specs.Printed.{printed_scalar};
 ghost use Rattle.plist_print.specs.Shown.{is_short};
@@ -12,8 +12,8 @@ use crate::dates::put_date;
 use crate::reals::{put_double, put_single};
 use crate::texts::{put_chunk, put_data, put_some, put_text};
 use itoa::Buffer;
+use plist_engine::{Pending, Sink, WriteFault, flush};
 use plist_value::{ScalarRef, TextRef};
-use plist_write::{Pending, Sink, WriteFault, flush};
 use std::alloc::AllocError;
 
 /// So many octets go out at once.

@@ -7,8 +7,8 @@ ghost use Rattle.plist_object.specs.Objects.{holds_scalar};
 ghost use Rattle.plist_object.specs.Places.{Holds};
 ghost use Rattle.plist_object.specs.Spelled.{IsBinary, Spells, SpellItems, SpellPairs};
 ghost use Rattle.plist_object.specs.Views.{numbers_of, octets_of};
-ghost use Rattle.plist_write.specs.Pending.{Goes};
-ghost use Rattle.plist_write.specs.Sending.{IsWritten};
+ghost use Rattle.plist_engine.specs.Pending.{Goes};
+ghost use Rattle.plist_engine.specs.Sending.{IsWritten};
 ghost use Rattle.plist_engine.specs.Order.{IsOrdered};
 ghost use Rattle.plist_engine.specs.Spelling.{HoldsText, IsTable, SpellTable};
 ghost use Rattle.plist_engine.specs.Spelling.{SpellsWithin, SpellWithin, in_turn};
@@ -19,8 +19,8 @@ use crate::heads::{begin_item, begin_pair, end_lines, print_line};
 use crate::lines::{put, send_all};
 use plist_engine::objects::{object_of, text_of};
 use plist_engine::order::KeyOrder;
+use plist_engine::{Pending, Sink, WriteFault};
 use plist_object::{BinFile, Object, Refs};
-use plist_write::{Pending, Sink, WriteFault};
 use std::alloc::{AllocError, Global};
 
 /// Sends the printed text of the value that the file spells, object after object, and answers how

@@ -8,9 +8,9 @@ use Rattle.plist_forms.specs.Refusals.{IsRefused}
 use Rattle.plist_forms.specs.Sent.{answer_of}
 use Rattle.plist_forms.specs.declared.faults.Fault.{Fault}
 use Rattle.plist_forms.specs.declared.faults.Fault.TheVariants.{Binary, Text, NotInOpenStep, ReadFailed, WriteFailed, InputTooLarge, OutOfMemory}
-use Rattle.plist_write.specs.Sending.{IsWritten}
-use Rattle.plist_write.specs.declared.sending.WriteFault.{WriteFault}
-use Rattle.plist_write.specs.declared.sending.WriteFault.TheVariants as write
+use Rattle.plist_engine.specs.Sending.{IsWritten}
+use Rattle.plist_engine.specs.declared.faults.WriteFault.{WriteFault}
+use Rattle.plist_engine.specs.declared.faults.WriteFault.TheVariants as write
 use Rattle.plistconv_c.specs.Answers.{gathered_fault}
 
 whole_text : (text gathered : List ℕ) (failures n : ℕ) (sent : Result ℕ WriteFault) → Ok n ≡ answer_of sent

@@ -1,7 +1,5 @@
 use Rattle.std.proofs.Common.{sym, ◌∙◌}
 use Rattle.plist_value.specs.Texts.{units_of}
-use Rattle.plist_object.specs.Heads.{Begins}
-use Rattle.plist_object.specs.Spelling.{head}
 use Rattle.plist_object.proofs.Ascii.{ascii_decides}
 use Rattle.plist_canon.proofs.Plainly.{begins_ascii}
 use Rattle.plist_canon.proofs.beginning.begins_text.Goals as goal

@@ -1,4 +1,4 @@
-use Rattle.std.proofs.Common.{◌≡◌, Ok, IsOk, refl, sym, ap, subst, ◌∙◌}
+use Rattle.std.proofs.Common.{◌≡◌, Ok, refl, sym, ◌∙◌}
 use Rattle.plist_object.specs.Views.{octets_of}
 use Rattle.plist_object.specs.Places.{place_of, span_of}
 use Rattle.plist_canon.proofs.Judges.{same_span, span-starts}

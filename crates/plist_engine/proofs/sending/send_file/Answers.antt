@@ -3,11 +3,11 @@ use Rattle.std.specs.List.{concat}
 use Rattle.std.proofs.lemmas.Result.{err_from_is_err_and}
 use Rattle.plist_object.specs.Spelling.{least_width}
 use Rattle.plist_object.specs.Views.{octets_of}
-use Rattle.plist_write.specs.Canonical.{file_of, starts}
-use Rattle.plist_write.specs.Pending.{AreBefore}
-use Rattle.plist_write.specs.declared.pending.Pending.{Pending}
-use Rattle.plist_write.proofs.FileSteps.{file-length, file-stops, file-goes}
-use Rattle.plist_write.proofs.Shortness.{allows_none}
+use Rattle.plist_engine.specs.Canonical.{file_of, starts}
+use Rattle.plist_engine.specs.Pending.{AreBefore}
+use Rattle.plist_engine.specs.declared.pending.Pending.{Pending}
+use Rattle.plist_engine.proofs.FileSteps.{file-length, file-stops, file-goes}
+use Rattle.plist_engine.proofs.Shortness.{allows_none}
 use Rattle.plist_engine.specs.declared.plan.Objects.{Objects}
 use Rattle.plist_engine.specs.Parts.{octets_planned}
 use Rattle.plist_engine.proofs.sending.send_file.Goals as goal

@@ -4,11 +4,10 @@ use Rattle.std.proofs.lemmas.List.{length-drop}
 use Rattle.std.proofs.lemmas.Result.{err_from_is_err_and}
 use Rattle.plist_object.specs.Shortest.{spelling_of}
 use Rattle.plist_object.specs.Views.{octets_of}
-use Rattle.plist_write.specs.Pieces.{held_in_part}
+use Rattle.plist_engine.specs.Pieces.{held_in_part}
 use Rattle.plist_engine.specs.Parts.{octets_for, octets_planned}
-use Rattle.plist_write.proofs.Gathering.{Gathers-append, Gathers-same, Stops-front, Stops-next, Goes-err, room-left}
-use Rattle.plist_write.proofs.Parts.{split-next, split-end, placed-next, placed-end}
-use Rattle.plist_engine.proofs.ObjectSteps.{step, measured-next, none-left}
+use Rattle.plist_engine.proofs.Gathering.{Gathers-append, Gathers-same, Stops-front, Stops-next, Goes-err, room-left}
+use Rattle.plist_engine.proofs.ObjectSteps.{step, measured-next, none-left, split-next, split-end, placed-next, placed-end}
 use Rattle.plist_engine.proofs.sending.send_objects.Goals as goal
 
 pub send_part-requires-clause-room : goal.send_part-requires-clause-room

@@ -1,11 +1,11 @@
 use Rattle.std.proofs.Common.{◌≡◌, ℕ, ◌+◌, ◌≤◌, List, ◌++◌, length, drop, vec_len, vec_capacity}
 use Rattle.std.specs.List.{concat}
 use Rattle.plist_object.specs.Views.{octets_of}
-use Rattle.plist_write.specs.Canonical.{starts}
-use Rattle.plist_write.specs.Pieces.{CanSpellAll}
+use Rattle.plist_engine.specs.Canonical.{starts}
+use Rattle.plist_engine.specs.Pieces.{CanSpellAll}
 use Rattle.plist_engine.specs.Parts.{AreSound, helds_of, octets_for, octets_planned}
-use Rattle.plist_write.specs.Sending.{Allows}
-use Rattle.plist_write.specs.Pending.{Gathers, IsShort}
+use Rattle.plist_engine.specs.Sending.{Allows}
+use Rattle.plist_engine.specs.Pending.{Gathers, IsShort}
 use Rattle.plist_engine.proofs.sending.send_objects.Given as goal
 
 -- those that are done and those that are left are all

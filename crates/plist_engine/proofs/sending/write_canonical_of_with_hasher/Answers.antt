@@ -1,9 +1,9 @@
 use Rattle.std.proofs.Common.{◌≡◌, ℕ, List, Option, Result, sym, subst}
 use Rattle.plist_object.specs.Views.{octets_of}
-use Rattle.plist_write.specs.Canonical.{canon}
-use Rattle.plist_write.specs.declared.sending.WriteFault.{WriteFault}
-use Rattle.plist_write.specs.Sending.{IsWritten, Sends}
-use Rattle.plist_write.proofs.Sends.{Sends-no_memory, is_written}
+use Rattle.plist_engine.specs.Canonical.{canon}
+use Rattle.plist_engine.specs.declared.faults.WriteFault.{WriteFault}
+use Rattle.plist_engine.specs.Sending.{IsWritten, Sends}
+use Rattle.plist_engine.proofs.Sends.{Sends-no_memory, is_written}
 use Rattle.plist_engine.proofs.Finding.{are-objects, few-objects, sound-objects, spellable-objects, is-canon, short-objects}
 use Rattle.plist_engine.proofs.sending.write_canonical_of_with_hasher.Goals as goal
 

@@ -1,6 +1,6 @@
 use Rattle.std.proofs.Common.{refl}
-use Rattle.plist_write.specs.declared.pending.Pending.{Pending}
-use Rattle.plist_write.proofs.Gathering.{Gathers-put, Stops-no_memory, Goes-err, Goes-ok}
+use Rattle.plist_engine.specs.declared.pending.Pending.{Pending}
+use Rattle.plist_engine.proofs.Gathering.{Gathers-put, Stops-no_memory, Goes-err, Goes-ok}
 use Rattle.plist_print.specs.Printing.{item_head}
 use Rattle.plist_print.proofs.heads.begin_item.Goals as goal
 

@@ -1,6 +1,6 @@
 use Rattle.std.proofs.Common.{◌≡◌, ℕ, List, ◌++◌, length}
 use Rattle.std.specs.Prelude.{flat_map}
-use Rattle.plist_write.specs.Pending.{Gathers}
+use Rattle.plist_engine.specs.Pending.{Gathers}
 use Rattle.plist_print.specs.Units.{two_digits}
 use Rattle.plist_print.proofs.lines.print_digits.Given as goal
 

@@ -1,7 +1,7 @@
 use Rattle.std.proofs.Common.{refl}
 use Rattle.plist_value.specs.Scalars.{content_of}
-use Rattle.plist_write.specs.declared.pending.Pending.{Pending}
-use Rattle.plist_write.proofs.Gathering.{Gathers-put, Stops-no_memory, Goes-err, Goes-after}
+use Rattle.plist_engine.specs.declared.pending.Pending.{Pending}
+use Rattle.plist_engine.proofs.Gathering.{Gathers-put, Stops-no_memory, Goes-err, Goes-after}
 use Rattle.plist_print.specs.Printed.{printed_scalar}
 use Rattle.plist_print.proofs.lines.print_short.Goals as goal
 

@@ -1,6 +1,6 @@
 use Rattle.std.proofs.Common.{◌≡◌, ◌≤◌, ◌-◌, ℕ, List, ◌++◌, drop, length}
 use Rattle.plist_value.specs.Texts.{units_of}
-use Rattle.plist_write.specs.Pending.{Gathers}
+use Rattle.plist_engine.specs.Pending.{Gathers}
 use Rattle.plist_print.specs.Units.{printed_units}
 use Rattle.plist_print.proofs.lines.print_units.Given as goal
 

@@ -1,6 +1,6 @@
 use Rattle.std.proofs.Common.{refl}
-use Rattle.plist_write.specs.declared.pending.Pending.{Pending}
-use Rattle.plist_write.proofs.Gathering.{Gathers-put, Stops-no_memory, Goes-err, Goes-after}
+use Rattle.plist_engine.specs.declared.pending.Pending.{Pending}
+use Rattle.plist_engine.proofs.Gathering.{Gathers-put, Stops-no_memory, Goes-err, Goes-after}
 use Rattle.plist_print.proofs.lines.put.Goals as goal
 
 pub returns-in_default-clause-goes : goal.returns-in_default-clause-goes

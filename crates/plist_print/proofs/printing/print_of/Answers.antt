@@ -2,7 +2,7 @@ use Rattle.std.proofs.Common.{ℕ, refl, sym, subst}
 use Rattle.std.proofs.lemmas.Result.{err_from_is_err_and}
 use Rattle.plist_object.specs.Spelled.{Spells}
 use Rattle.plist_object.specs.Views.{octets_of}
-use Rattle.plist_write.specs.declared.pending.Pending.{Pending}
+use Rattle.plist_engine.specs.declared.pending.Pending.{Pending}
 use Rattle.plist_print.specs.Printed.{printed}
 use Rattle.plist_print.proofs.Ending.{ends_early, ends_last, ends_whole}
 use Rattle.plist_print.proofs.printing.print_of.Goals as goal

@@ -9,7 +9,7 @@ use Rattle.plist_object.specs.Objects.{holds_scalar}
 use Rattle.plist_object.specs.Places.{Holds}
 use Rattle.plist_object.specs.Spelled.{Spells}
 use Rattle.plist_object.specs.Views.{octets_of, numbers_of}
-use Rattle.plist_write.proofs.Gathering.{Gathers-same, Stops-behind, Goes-ok}
+use Rattle.plist_engine.proofs.Gathering.{Gathers-same, Stops-behind, Goes-ok}
 use Rattle.plist_engine.specs.Spelling.{SpellsWithin, SpellWithin, HoldsText}
 use Rattle.plist_engine.proofs.Within.{read_within, levels_within, items_within, table_within, value_within}
 use Rattle.plist_print.specs.Printed.{printed_at, printed_items, printed_pairs}

@@ -3,7 +3,7 @@ use Rattle.plist_value.specs.Plist.{Items, Pairs, AreItems, ArePairs}
 use Rattle.plist_value.specs.declared.TheConstants.{MAX_DEPTH}
 use Rattle.plist_object.specs.Spelled.{SpellItems, SpellPairs}
 use Rattle.plist_object.specs.Views.{octets_of, numbers_of}
-use Rattle.plist_write.specs.Pending.{Gathers}
+use Rattle.plist_engine.specs.Pending.{Gathers}
 use Rattle.plist_engine.specs.Order.{IsOrdered}
 use Rattle.plist_engine.specs.Spelling.{in_turn}
 use Rattle.plist_print.proofs.PrintSteps.{items_before, pairs_before}

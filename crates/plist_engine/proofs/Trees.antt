@@ -1,0 +1,72 @@
+-- The places of a tree, and what stands at them.
+use Rattle.std.proofs.Common.{◌≡◌, ℕ, suc, ◌+◌, ◌<◌, List, [], ◌∷◌, ◌++◌, length, refl, sym, ap, ◌∙◌, arith, length-append, append_assoc}
+use Rattle.std.proofs.lemmas.List.{get_or_at, append-nil}
+use Rattle.plist_value.specs.Plist.{Plist, scalar, list, table, Items, no_items, item, Pairs, no_pairs, pair}
+use Rattle.plist_value.specs.Limits.{nodes, nodes_of_items, nodes_of_pairs}
+use Rattle.plist_engine.specs.Tree.{key_texts, preorder, preorder_items, preorder_values, key_places, value_places}
+use Rattle.plist_engine.specs.Sharing.{value_at}
+pub use Rattle.plist_engine.specs.Found.{Stands}
+
+-- a tree has a place for each node
+mutual
+  pub length-preorder : (v : Plist) → length (preorder v) ≡ nodes v
+  length-preorder (scalar s) = refl
+  length-preorder (list vs) = let items = length-preorder_items vs in omega arith
+  length-preorder (table ps) = let pairs = length-pairs ps in rw length-append (omega arith)
+
+  pub length-preorder_items : (vs : Items) → length (preorder_items vs) ≡ nodes_of_items vs
+  length-preorder_items no_items = refl
+  length-preorder_items (item v vs) =
+      let first = length-preorder v in let others = length-preorder_items vs in rw length-append (omega arith)
+
+  pub length-pairs : (ps : Pairs) → length (key_texts ps) + length (preorder_values ps) ≡ nodes_of_pairs ps
+  length-pairs no_pairs = refl
+  length-pairs (pair key v ps) =
+      let first = length-preorder v in let others = length-pairs ps in rw length-append (omega arith)
+
+pub length-key_places : (k : ℕ) (ps : Pairs) → length (key_places k ps) ≡ length (key_texts ps)
+length-key_places k no_pairs = refl
+length-key_places k (pair key v ps) = let others = length-key_places (suc k) ps in omega arith
+
+pub length-value_places : (k : ℕ) (ps : Pairs) → length (value_places k ps) ≡ length (key_texts ps)
+length-value_places k no_pairs = refl
+length-value_places k (pair key v ps) = let others = length-value_places (k + nodes v) ps in omega arith
+
+-- so does its front, and what is behind that
+pub Stands-front : {X : Type 0} {all : List X} {k : ℕ} (xs ys : List X) → Stands all k (xs ++ ys) → Stands all k xs
+Stands-front xs ys h =
+    record { before = h.before; after = ys ++ h.after; whole = h.whole ∙ ap (λ zs. h.before ++ zs) (append_assoc xs ys h.after); place = h.place }
+
+pub Stands-rest : {X : Type 0} {all : List X} {k : ℕ} (xs ys : List X) (n : ℕ) → length xs ≡ n → Stands all k (xs ++ ys) → Stands all (k + n) ys
+Stands-rest xs ys n long h =
+    record {
+      before = h.before ++ xs;
+      after = h.after;
+      whole = h.whole ∙ ap (λ zs. h.before ++ zs) (append_assoc xs ys h.after) ∙ sym (append_assoc h.before xs (ys ++ h.after));
+      place = rw length-append (omega arith);
+    }
+
+pub Stands-tail : {X : Type 0} {all : List X} {k : ℕ} (x : X) (xs : List X) → Stands all k (x ∷ xs) → Stands all (suc k) xs
+Stands-tail x xs h =
+    record {
+      before = h.before ++ (x ∷ []);
+      after = h.after;
+      whole = h.whole ∙ sym (append_assoc h.before (x ∷ []) (xs ++ h.after));
+      place = rw length-append (omega arith);
+    }
+
+pub Stands-all : {X : Type 0} (xs : List X) → Stands xs 0 xs
+Stands-all xs = record { before = []; after = []; whole = sym (append-nil xs); place = refl }
+
+-- what a list has at the place of its head
+pub Stands-head : {all : List Plist} {k : ℕ} (v : Plist) (vs : List Plist) → Stands all k (v ∷ vs) → (value_at all k ≡ v) × (k < length all)
+Stands-head v vs h = rw (h.whole, length-append) (get_or_at h.before v (vs ++ h.after) (list no_items) _ h.place, omega arith)
+
+-- a tree begins with its value
+pub preorder-head : (v : Plist) → (rest : List Plist) × (preorder v ≡ v ∷ rest)
+preorder-head (scalar s) = ([], refl)
+preorder-head (list vs) = (preorder_items vs, refl)
+preorder-head (table ps) = (key_texts ps ++ preorder_values ps, refl)
+
+pub Stands-tree : {all : List Plist} {k : ℕ} (v : Plist) → Stands all k (preorder v) → (value_at all k ≡ v) × (k < length all)
+Stands-tree v h = let head = preorder-head v in Stands-head v head.0 (rw head.1 at h)

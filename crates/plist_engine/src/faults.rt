@@ -1,0 +1,49 @@
+//! Why a file was not sent whole.
+ghost use Rattle.std.specs.Prelude.{◌≡◌};
+ghost use Rattle.plist_engine.specs.Sending.{write_code, write_report};
+
+use plist_value::{Place, Refusal, Report};
+use std::fmt;
+use thiserror::Error;
+
+/// Why a file was not sent whole. Exactly its first `sent` octets went out.
+#[derive(Clone, Copy, Debug, PartialEq, Eq, Error)]
+pub enum WriteFault {
+    /// 51: the sink failed.
+    WriteFailed { sent: u64 },
+    /// 60: no memory was left.
+    OutOfMemory { sent: u64 },
+}
+
+impl WriteFault {
+    /// The number of the refusal: 51 or 60.
+    pub fn code(&self) -> u8
+        ensures { result ≡ write_code self.now }
+    {
+        self.report().0.number()
+    }
+
+    // Which refusal it is, and what it names.
+    fn report(&self) -> Report
+        ensures { result ≡ write_report self.now }
+    {
+        match *self {
+            WriteFault::WriteFailed { sent } => Report(Refusal::WriteFailed, Place::After(sent)),
+            WriteFault::OutOfMemory { sent } => Report(Refusal::OutOfMemory, Place::After(sent)),
+        }
+    }
+}
+
+/// The number and the name of the refusal, and how much was sent, as `51 WriteFailed after 10
+/// octets`.
+impl fmt::Display for WriteFault {
+    ghost use Rattle.std.specs.Prelude.{Some};
+    ghost use Rattle.plist_engine.specs.Sending.{write_text};
+
+    ghost output = { λ fault. Some (write_text fault) };
+
+    fn fmt<W: fmt::Write>(&self, f: &mut fmt::Formatter<W>) -> fmt::Result {
+        let report = self.report();
+        write!(f, "{report}")
+    }
+}

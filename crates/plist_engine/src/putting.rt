@@ -1,0 +1,74 @@
+//! The parts of a file, measured and put behind octets.
+ghost use Rattle.std.specs.Prelude.{◌≡◌, ◌<◌, ◌^◌, ◌++◌, ◌↔◌, length, IfOk, IsOk, OnOk};
+ghost use Rattle.plist_object.specs.Sizes.{IsWidth};
+ghost use Rattle.plist_object.specs.Shortest.{spelling_of};
+ghost use Rattle.plist_engine.specs.Canonical.{trailer_octets};
+ghost use Rattle.plist_engine.specs.Pieces.{CanSpell, held_in_part};
+
+use plist_object::{
+    list_length, put_number, put_scalar, put_short_list, put_short_table, scalar_length,
+    table_length, width_of,
+};
+use plist_value::ScalarRef;
+use std::alloc::AllocError;
+
+/// An object: a scalar, the numbers of a list's items, or those of a table's keys and of its
+/// values.
+#[derive(Clone, Copy)]
+pub(crate) enum Part<'a, 'b> {
+    Scalar(ScalarRef<'a>),
+    List(&'b [u32]),
+    Table(&'b [u32], &'b [u32]),
+}
+
+/// The number in 32 bits. No number of a value within the limits passes them, nor that of an object
+/// of a file that is within the limit of input.
+///
+/// # Errors
+///
+/// Where the number is 2^32 or above: there is no memory for so many objects.
+pub(crate) fn short(number: u64) -> Result<u32, AllocError>
+    ensures value { IfOk result (λ short. short ≡ number) }
+    ensures fits { IsOk result ↔ number < 2 ^ 32 }
+{
+    u32::try_from(number).map_err(|_| AllocError)
+}
+
+/// How many octets the object has, where its references have so many octets each.
+pub(crate) fn part_length(width: u8, part: &Part) -> u64
+    requires width { IsWidth width }
+    requires spellable { CanSpell width (held_in_part part.now) }
+    ensures { result ≡ length (spelling_of width (held_in_part part.now)) }
+{
+    match part {
+        Part::Scalar(scalar) => scalar_length(scalar),
+        Part::List(items) => list_length(items.len() as u64, width),
+        Part::Table(keys, _) => table_length(keys.len() as u64, width),
+    }
+}
+
+/// The object, behind the octets of `out`.
+pub(crate) fn put_part(out: &mut Vec<u8>, width: u8, part: &Part) -> Result<(), AllocError>
+    requires width { IsWidth width }
+    requires spellable { CanSpell width (held_in_part part.now) }
+    ensures { OnOk result
+        (out.new.items ≡ out.old.items ++ spelling_of width (held_in_part part.now)) }
+{
+    match part {
+        Part::Scalar(scalar) => put_scalar(out, scalar),
+        Part::List(items) => put_short_list(out, width, items),
+        Part::Table(keys, values) => put_short_table(out, width, keys, values),
+    }
+}
+
+/// The trailer of a file with so many objects and its offset table at the place, behind the octets
+/// of `out`.
+pub(crate) fn put_trailer(out: &mut Vec<u8>, count: u64, place: u64) -> Result<(), AllocError>
+    ensures { OnOk result (out.new.items ≡ out.old.items ++ trailer_octets count place) }
+{
+    out.extend_from_slice(&[0, 0, 0, 0, 0, 0, width_of(place), width_of(count)])?;
+    put_number(out, 8, count)?;
+    put_number(out, 8, 0)?;
+    put_number(out, 8, place)?;
+    Ok(())
+}
