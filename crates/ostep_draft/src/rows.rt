@@ -4,6 +4,9 @@ ghost use Rattle.std.specs.Result.{OnOk};
 
 use std::alloc::{AllocError, Global};
 
+/// For how many rows there is room as soon as there is one, so that small tables grow once.
+const LEAST_ROOM: usize = 8;
+
 /// The keys and the values of rows, in the order of the text: key k goes with value k.
 #[derive(Drop)]
 pub(crate) struct Rows {
@@ -29,8 +32,12 @@ impl Rows {
         ensures values { OnOk result
             (self.new.values.items ≡ self.old.values.items ++ row.1 ∷ []) }
     {
-        self.keys.reserve(1)?;
-        self.values.reserve(1)?;
+        if self.keys.len() == self.keys.capacity() {
+            self.keys.reserve(LEAST_ROOM)?;
+        }
+        if self.values.len() == self.values.capacity() {
+            self.values.reserve(LEAST_ROOM)?;
+        }
         self.keys.push_reserved(row.0);
         self.values.push_reserved(row.1);
         Ok(())

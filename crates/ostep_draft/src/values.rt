@@ -122,8 +122,8 @@ impl<'a> Reader<'a> {
         }
     }
 
-    // Puts a row, behind its key, which is to be a string, and answers the numbers of its key and of
-    // its value.
+    // Puts a row, behind its key, which is to be a string, and answers the numbers of its key and
+    // of its value.
     #[cycle(value)]
     pub(crate) fn row(&mut self, key: First<'_>, levels: u64) -> Result<(u32, u32), NoDraft>
         requires { IsValid key }

@@ -63,8 +63,8 @@ impl<'a> Cursor<'a> {
         }
     }
 
-    /// The octets of the longest stretch of the class at the cursor, one for each of its characters,
-    /// and the cursor behind it. None of UTF-16.
+    /// The octets of the longest stretch of the class at the cursor, one for each of its
+    /// characters, and the cursor behind it. None of UTF-16.
     #[inline(always)]
     #[tactic(auto, unfolding(crate::specs::Cursor::ahead, crate::specs::Cursor::places_in))]
     pub(crate) fn plain_stretch(self, class: Class) -> Option<(&'a [u8], Cursor<'a>)>

@@ -49,10 +49,10 @@ fn plain_here(cursor: Cursor<'_>) -> Option<(&[u8], Cursor<'_>)>
     }
 }
 
-/// The text of the next token, whose units stand in the input as octets, and the cursor behind the
-/// token. None where the next token is no string, or one that `next_token` has to read: where it is
-/// not in UTF-8, where a character is not ASCII or an escape, where a comment stands before it, and
-/// where it begins with `/`. It takes no memory.
+/// The text of the next token and the cursor behind the token, where this is a string of ASCII
+/// characters that stand for themselves, in UTF-8, and white alone stands before it. It is not
+/// copied, and takes less work than `next_token`. None says nothing: `next_token` reads on from
+/// there, and alone it reads a string that begins with `/`.
 #[inline(always)]
 pub fn next_plain(cursor: Cursor<'_>) -> Option<(TextRef<'_>, Cursor<'_>)>
     // Where the cursor stands behind tokens of an input, this is one more.
