@@ -14,6 +14,7 @@ ghost use Rattle.plist_engine.specs.Pending.{AreBefore, Goes, KeepsShort, Leaves
 
 use crate::putting::{Part, put_part, put_trailer};
 use crate::{Sink, WriteFault};
+use plist_devices::put_all;
 use plist_object::{put_data_head, put_number, width_of};
 use plist_value::ScalarRef;
 
@@ -208,7 +209,7 @@ pub fn flush<W: Sink>(pending: &mut Pending, out: &mut W) -> Result<(), WriteFau
     Ok(())
 }
 
-// One piece, in as many puts as the sink asks for.
+// One piece, behind so many octets.
 fn send<W: Sink>(piece: &[u8], sent: u64, out: &mut W) -> Result<u64, WriteFault>
     requires { sent + length piece.now < 2 ^ 64 }
     ensures sends { Sends piece.now sent (W.taken out.old) (W.taken out.new)
@@ -216,14 +217,10 @@ fn send<W: Sink>(piece: &[u8], sent: u64, out: &mut W) -> Result<u64, WriteFault
     ensures same { W.device out.new ≡ W.device out.old }
     ensures longest { IsLongest (W.longest out.old) (W.longest out.new) (length piece.now) }
 {
-    let mut done = 0;
-    while done < piece.len() {
-        match out.put(&piece[done..]) {
-            Ok(taken) => done += taken,
-            Err(_) => return Err(WriteFault::WriteFailed {
-                sent: sent + done as u64,
-            }),
-        }
+    match put_all(piece, out) {
+        Ok(()) => Ok(sent + piece.len() as u64),
+        Err(taken) => Err(WriteFault::WriteFailed {
+            sent: sent + taken as u64,
+        }),
     }
-    Ok(sent + done as u64)
 }
