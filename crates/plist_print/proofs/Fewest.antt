@@ -1,12 +1,11 @@
 -- From how many digits behind the point on a decimal is looked for.
-use Rattle.std.proofs.Common.{◌≡◌, ℕ, zero, suc, ◌+◌, ◌-◌, ◌*◌, ◌/◌, ◌^◌, ◌<◌, ◌≤◌, true, false, Option, Some, None, refl, sym, ap, subst, ◌∙◌, arith, inl, inr}
-use Rattle.std.specs.Prelude.{if◌then◌else◌}
+use Rattle.std.proofs.Common.{◌≡◌, ℕ, zero, suc, ◌+◌, ◌-◌, ◌*◌, ◌/◌, ◌^◌, ◌<◌, ◌≤◌, true, None, refl, sym, ap, subst, ◌∙◌, arith, inl, inr}
 use Rattle.std.proofs.lemmas.Bool.{cases_Bool}
 use Rattle.std.proofs.lemmas.Nat.{mul-le, le-div, pow-add}
 use Rattle.std.proofs.Math.Nat.{mul-lt-mul_of_pos_right}
 use Rattle.plist_print.specs.Reals.{Placed, nearest, reads_as, shortest}
 use Rattle.plist_print.specs.Shown.{IsUnread}
-use Rattle.plist_print.proofs.Neighbours.{Between, between}
+use Rattle.plist_print.proofs.Neighbours.{between}
 use Rattle.plist_print.proofs.Deciding.{tried, some-power, shortest-more}
 
 -- where none over more reads, none over less does

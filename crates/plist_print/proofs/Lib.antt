@@ -16,3 +16,4 @@ pub mod Ending
 pub mod Plain
 pub mod Fewest
 pub mod Padding
+pub mod HexDigits

@@ -212,7 +212,8 @@ impl<'a> Printer<'a> {
             → references.items ≡ in_turn rows) }
         ensures ordered { OnOk result (IsOrdered (octets_of self.now.file) order.new) }
     {
-        let mut references = Vec::new(self.alloc);
+        let count = keys.len().saturating_mul(2);
+        let mut references = Vec::with_capacity(self.alloc, count as usize)?;
         order.push_sorted(self.alloc, &self.file, keys, values, &mut references)?;
         Ok(references)
     }

@@ -42,6 +42,9 @@ fn push_octet(out: &mut Vec<u8>, octet: u8)
     out.push_reserved(digit(octet % 16));
 }
 
+// The hexadecimal digits in their order.
+static DIGITS: [u8; 16] = *b"0123456789abcdef";
+
 // The two hexadecimal digits of an octet.
 fn digits_of(octet: u8) -> [u8; 2]
     ensures { result ≡ two_digits octet }
@@ -53,11 +56,7 @@ fn digit(value: u8) -> u8
     requires { value < 16 }
     ensures { result ≡ digit_char value }
 {
-    if value < 10 {
-        b'0' + value
-    } else {
-        b'a' + (value - 10)
-    }
+    DIGITS[value as usize]
 }
 
 // So many octets of data are printed at once.
@@ -89,9 +88,25 @@ pub(crate) fn put_text(out: &mut Vec<u8>, text: &TextRef) -> Result<(), AllocErr
 fn put_units(out: &mut Vec<u8>, text: &TextRef) -> Result<(), AllocError>
     ensures { OnOk result (out.new.items ≡ out.old.items ++ printed_units (units_of text.now)) }
 {
+    match text.octets() {
+        Some(octets) if are_plain(octets) => out.extend_from_slice(octets),
+        _ => put_each(out, text),
+    }
+}
+
+// The same, unit by unit.
+fn put_each(out: &mut Vec<u8>, text: &TextRef) -> Result<(), AllocError>
+    ensures { OnOk result (out.new.items ≡ out.old.items ++ printed_units (units_of text.now)) }
+{
     let mut place = 0;
     while place < text.len() {
-        place = put_some(out, text, place)?;
+        let unit = text.unit(place);
+        if unit < 0x7f && is_plain(unit as u8) {
+            out.push(unit as u8)?;
+            place += 1;
+        } else {
+            place = put_unit(out, text, place)?;
+        }
     }
     Ok(())
 }
@@ -186,10 +201,6 @@ fn put_unit(out: &mut Vec<u8>, text: &TextRef, place: usize) -> Result<usize, Al
 {
     let length = text.len();
     let unit = text.unit(place);
-    if unit < 0x7f && is_plain(unit as u8) {
-        out.push(unit as u8)?;
-        return Ok(place + 1);
-    }
     if place + 1 < length {
         let next = text.unit(place + 1);
         if is_high(unit) && is_low(next) {
