@@ -37,7 +37,7 @@ fn alike(first: &TextRef, text: &TextRef, most: usize) -> usize
     }
 }
 
-// The same of octets, of which most often all are shared.
+// How many octets at the front both share, of so many at most: usually all.
 fn alike_octets(octets: &[u8], others: &[u8], most: usize) -> usize
     requires { (most ≤ length octets.now) × (most ≤ length others.now) }
     ensures within { result ≤ most }

@@ -210,7 +210,7 @@ impl<'a, 'r> Walker<'a, 'r> {
         self.walk(states, known, path, object, levels, left)
     }
 
-    // The same of an object that is not known to fit: what its value takes is kept.
+    // Walks an object that is not in the memo, and records what its value takes.
     #[cycle(walk)]
     fn walk(
         &self,
@@ -245,7 +245,7 @@ impl<'a, 'r> Walker<'a, 'r> {
         Ok(deep)
     }
 
-    // The same of what the object holds, which is open if it is a container.
+    // The depth of what the object holds, which is marked as open if it is a container.
     #[cycle(walk)]
     fn content(
         &self,

@@ -49,7 +49,7 @@ pub(crate) fn sort(keys: &mut [Key]) -> bool
     ascend(keys)
 }
 
-// Likewise: the texts are read again only where two heads are equal.
+// Whether no two of many keys are equal: texts are read again only where two heads are equal.
 fn sort_by_heads(keys: &mut [Key]) -> bool
     requires some { 0 < length keys.old }
     requires headless { AreHeadless keys.old }

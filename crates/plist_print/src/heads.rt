@@ -34,7 +34,7 @@ pub(crate) fn print_line<W: Sink>(
     settle(pending, out)
 }
 
-// The same of a scalar that is too long for one piece.
+// Prints a scalar that is too long for one piece, and the end of its line.
 fn print_long_line<W: Sink>(
     scalar: &ScalarRef,
     pending: &mut Pending,
@@ -95,7 +95,7 @@ pub(crate) fn begin_pair<W: Sink>(
     Ok(())
 }
 
-// The same of a key that is too long for one piece.
+// Begins a pair whose key is too long for one piece.
 fn begin_long_pair<W: Sink>(
     key: &TextRef,
     level: u64,

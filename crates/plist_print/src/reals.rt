@@ -184,7 +184,7 @@ pub(crate) fn decimal_of_double(bits: u64) -> Option<Decimal>
     shortest(&placed(0x10_0000_0000_0000, fraction, shift))
 }
 
-// Likewise of four octets.
+// The decimal of a real of four octets, without its sign.
 fn decimal_of_single(bits: u32) -> Option<Decimal>
     ensures { option_map decimal_in result ≡ decimal_of single bits }
 {
