@@ -6,3 +6,4 @@ pub mod Printed
 pub mod Shown
 pub mod Printing
 pub mod Laws
+pub mod Known

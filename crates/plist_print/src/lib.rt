@@ -7,6 +7,7 @@ mod dates;
 mod digits;
 mod heads;
 mod kept;
+mod known;
 pub mod laws;
 pub mod lines;
 pub mod printing;

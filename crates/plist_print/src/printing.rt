@@ -9,16 +9,16 @@ ghost use Rattle.plist_object.specs.Spelled.{IsBinary, Spells, SpellItems, Spell
 ghost use Rattle.plist_object.specs.Views.{numbers_of, octets_of};
 ghost use Rattle.plist_engine.specs.Pending.{Goes};
 ghost use Rattle.plist_engine.specs.Sending.{IsWritten};
-ghost use Rattle.plist_engine.specs.Order.{IsOrdered};
 ghost use Rattle.plist_engine.specs.Spelling.{HoldsText, IsTable, SpellTable};
 ghost use Rattle.plist_engine.specs.Spelling.{SpellsWithin, SpellWithin, in_turn};
+ghost use Rattle.plist_print.specs.Known.{IsSeen};
 ghost use Rattle.plist_print.specs.Printed.{printed, printed_at, printed_items, printed_pairs};
 ghost use Rattle.plist_print.specs.Printing.{PairsWithin, TableWithin, item_lines, pair_lines};
 
 use crate::heads::{begin_item, begin_pair, end_lines, print_line};
+use crate::known::Seen;
 use crate::lines::{put, send_all};
-use plist_engine::objects::{object_of, text_of};
-use plist_engine::order::KeyOrder;
+use plist_engine::objects::object_of;
 use plist_engine::{Pending, Sink, WriteFault};
 use plist_object::{BinFile, Object, Refs};
 use std::alloc::{AllocError, Global};
@@ -40,12 +40,12 @@ pub fn print_of<W: Sink>(alloc: Global, file: &BinFile, out: &mut W) -> Result<u
     ensures same { W.device out.new ≡ W.device out.old }
 {
     let printer = Printer { alloc, file: *file };
-    let mut order = KeyOrder::new(alloc, None);
+    let mut seen = Seen::new(alloc);
     let mut pending = Pending {
         octets: Vec::new(alloc),
         sent: 0,
     };
-    printer.value(&mut order, file.top(), 0, &mut pending, out)?;
+    printer.value(&mut seen, file.top(), 0, &mut pending, out)?;
     send_all(&mut pending, out)?;
     Ok(pending.sent)
 }
@@ -62,24 +62,24 @@ impl<'a> Printer<'a> {
     #[cycle(print)]
     fn value<W: Sink>(
         &self,
-        order: &mut KeyOrder<'a>,
+        seen: &mut Seen<'a>,
         object: u64,
         level: u64,
         pending: &mut Pending,
         out: &mut W,
     ) -> Result<(), WriteFault>
         requires spells { SpellsWithin (octets_of self.now.file) object (MAX_DEPTH - level) }
-        requires ordered { IsOrdered (octets_of self.now.file) order.old }
+        requires seen { IsSeen (octets_of self.now.file) seen.old }
         ensures goes { (v : Plist) → IsPlist v → Spells (octets_of self.now.file) object v
             → Goes (printed_at level v) pending.old pending.new
             (W.taken out.old) (W.taken out.new) (W.failures out.old) (W.failures out.new) result }
         ensures same { W.device out.new ≡ W.device out.old }
-        ensures ordered { OnOk result (IsOrdered (octets_of self.now.file) order.new) }
+        ensures seen { OnOk result (IsSeen (octets_of self.now.file) seen.new) }
     {
         match object_of(&self.file, object) {
             Object::Scalar(scalar) => print_line(&scalar, pending, out),
-            Object::List(items) => self.list(order, &items, level, pending, out),
-            Object::Table(keys, values) => self.table(order, &keys, &values, level, pending, out),
+            Object::List(items) => self.list(seen, &items, level, pending, out),
+            Object::Table(keys, values) => self.table(seen, &keys, &values, level, pending, out),
         }
     }
 
@@ -87,7 +87,7 @@ impl<'a> Printer<'a> {
     #[cycle(print)]
     fn list<W: Sink>(
         &self,
-        order: &mut KeyOrder<'a>,
+        seen: &mut Seen<'a>,
         items: &Refs,
         level: u64,
         pending: &mut Pending,
@@ -96,19 +96,19 @@ impl<'a> Printer<'a> {
         requires below { level < MAX_DEPTH }
         requires spell { SpellWithin (octets_of self.now.file) (numbers_of items.now)
             (MAX_DEPTH - (level + 1)) }
-        requires ordered { IsOrdered (octets_of self.now.file) order.old }
+        requires seen { IsSeen (octets_of self.now.file) seen.old }
         ensures goes { (vs : Items) → AreItems vs
             → SpellItems (octets_of self.now.file) (numbers_of items.now) vs
             → Goes (printed_at level (list vs)) pending.old pending.new
             (W.taken out.old) (W.taken out.new) (W.failures out.old) (W.failures out.new) result }
         ensures same { W.device out.new ≡ W.device out.old }
-        ensures ordered { OnOk result (IsOrdered (octets_of self.now.file) order.new) }
+        ensures seen { OnOk result (IsSeen (octets_of self.now.file) seen.new) }
     {
         if items.is_empty() {
             return put(b"[]\n", pending, out);
         }
         put(b"[\n", pending, out)?;
-        self.items(order, items, level + 1, pending, out)?;
+        self.items(seen, items, level + 1, pending, out)?;
         end_lines(level, b']', pending, out)
     }
 
@@ -116,7 +116,7 @@ impl<'a> Printer<'a> {
     #[cycle(print)]
     fn items<W: Sink>(
         &self,
-        order: &mut KeyOrder<'a>,
+        seen: &mut Seen<'a>,
         items: &Refs,
         level: u64,
         pending: &mut Pending,
@@ -124,16 +124,16 @@ impl<'a> Printer<'a> {
     ) -> Result<(), WriteFault>
         requires spell { SpellWithin (octets_of self.now.file) (numbers_of items.now)
             (MAX_DEPTH - level) }
-        requires ordered { IsOrdered (octets_of self.now.file) order.old }
+        requires seen { IsSeen (octets_of self.now.file) seen.old }
         ensures goes { (vs : Items) → AreItems vs
             → SpellItems (octets_of self.now.file) (numbers_of items.now) vs
             → Goes (printed_items level 0 vs) pending.old pending.new
             (W.taken out.old) (W.taken out.new) (W.failures out.old) (W.failures out.new) result }
         ensures same { W.device out.new ≡ W.device out.old }
-        ensures ordered { OnOk result (IsOrdered (octets_of self.now.file) order.new) }
+        ensures seen { OnOk result (IsSeen (octets_of self.now.file) seen.new) }
     {
         for i in 0..items.len() {
-            self.item(order, items.get(i), i, level, pending, out)?;
+            self.item(seen, items.get(i), i, level, pending, out)?;
         }
         Ok(())
     }
@@ -142,7 +142,7 @@ impl<'a> Printer<'a> {
     #[cycle(print)]
     fn item<W: Sink>(
         &self,
-        order: &mut KeyOrder<'a>,
+        seen: &mut Seen<'a>,
         object: u64,
         index: u64,
         level: u64,
@@ -150,22 +150,22 @@ impl<'a> Printer<'a> {
         out: &mut W,
     ) -> Result<(), WriteFault>
         requires spells { SpellsWithin (octets_of self.now.file) object (MAX_DEPTH - level) }
-        requires ordered { IsOrdered (octets_of self.now.file) order.old }
+        requires seen { IsSeen (octets_of self.now.file) seen.old }
         ensures goes { (v : Plist) → IsPlist v → Spells (octets_of self.now.file) object v
             → Goes (item_lines level index v) pending.old pending.new
             (W.taken out.old) (W.taken out.new) (W.failures out.old) (W.failures out.new) result }
         ensures same { W.device out.new ≡ W.device out.old }
-        ensures ordered { OnOk result (IsOrdered (octets_of self.now.file) order.new) }
+        ensures seen { OnOk result (IsSeen (octets_of self.now.file) seen.new) }
     {
         begin_item(level, index, pending, out)?;
-        self.value(order, object, level, pending, out)
+        self.value(seen, object, level, pending, out)
     }
 
     // Sends the table of the keys and values that the references spell, or has it wait.
     #[cycle(print)]
     fn table<W: Sink>(
         &self,
-        order: &mut KeyOrder<'a>,
+        seen: &mut Seen<'a>,
         keys: &Refs<'a>,
         values: &Refs,
         level: u64,
@@ -175,23 +175,23 @@ impl<'a> Printer<'a> {
         requires below { level < MAX_DEPTH }
         requires spell { TableWithin (octets_of self.now.file) (numbers_of keys.now)
             (numbers_of values.now) (MAX_DEPTH - (level + 1)) }
-        requires ordered { IsOrdered (octets_of self.now.file) order.old }
+        requires seen { IsSeen (octets_of self.now.file) seen.old }
         ensures goes { (rows : List (ℕ × ℕ)) (ps : Pairs)
             → SpellTable (octets_of self.now.file) (numbers_of keys.now) (numbers_of values.now)
             rows ps
             → Goes (printed_at level (table ps)) pending.old pending.new
             (W.taken out.old) (W.taken out.new) (W.failures out.old) (W.failures out.new) result }
         ensures same { W.device out.new ≡ W.device out.old }
-        ensures ordered { OnOk result (IsOrdered (octets_of self.now.file) order.new) }
+        ensures seen { OnOk result (IsSeen (octets_of self.now.file) seen.new) }
     {
         if keys.is_empty() {
             return put(b"{}\n", pending, out);
         }
-        let Ok(references) = self.in_turn(order, keys, values) else {
+        let Ok(references) = self.in_turn(seen, keys, values) else {
             return Err(WriteFault::OutOfMemory { sent: pending.sent });
         };
         put(b"{\n", pending, out)?;
-        self.pairs(order, &references, level + 1, pending, out)?;
+        self.pairs(seen, &references, level + 1, pending, out)?;
         end_lines(level, b'}', pending, out)
     }
 
@@ -199,22 +199,23 @@ impl<'a> Printer<'a> {
     // same order.
     fn in_turn(
         &self,
-        order: &mut KeyOrder<'a>,
+        seen: &mut Seen<'a>,
         keys: &Refs<'a>,
         values: &Refs,
     ) -> Result<Vec<u32>, AllocError>
         requires table { IsTable (octets_of self.now.file) (numbers_of keys.now)
             (numbers_of values.now) }
-        requires ordered { IsOrdered (octets_of self.now.file) order.old }
+        requires seen { IsSeen (octets_of self.now.file) seen.old }
         ensures turn { IfOk result (λ references. (rows : List (ℕ × ℕ)) (ps : Pairs)
             → SpellTable (octets_of self.now.file) (numbers_of keys.now) (numbers_of values.now)
             rows ps
             → references.items ≡ in_turn rows) }
-        ensures ordered { OnOk result (IsOrdered (octets_of self.now.file) order.new) }
+        ensures seen { OnOk result (IsSeen (octets_of self.now.file) seen.new) }
     {
         let count = keys.len().saturating_mul(2);
         let mut references = Vec::with_capacity(self.alloc, count as usize)?;
-        order.push_sorted(self.alloc, &self.file, keys, values, &mut references)?;
+        seen.order
+            .push_sorted(self.alloc, &self.file, keys, values, &mut references)?;
         Ok(references)
     }
 
@@ -223,26 +224,26 @@ impl<'a> Printer<'a> {
     #[cycle(print)]
     fn pairs<W: Sink>(
         &self,
-        order: &mut KeyOrder<'a>,
+        seen: &mut Seen<'a>,
         references: &[u32],
         level: u64,
         pending: &mut Pending,
         out: &mut W,
     ) -> Result<(), WriteFault>
         requires spell { PairsWithin (octets_of self.now.file) references.now (MAX_DEPTH - level) }
-        requires ordered { IsOrdered (octets_of self.now.file) order.old }
+        requires seen { IsSeen (octets_of self.now.file) seen.old }
         ensures goes { (rows : List (ℕ × ℕ)) (ps : Pairs) → references.now ≡ in_turn rows
             → ArePairs ps → SpellPairs (octets_of self.now.file) rows ps
             → Goes (printed_pairs level ps) pending.old pending.new
             (W.taken out.old) (W.taken out.new) (W.failures out.old) (W.failures out.new) result }
         ensures same { W.device out.new ≡ W.device out.old }
-        ensures ordered { OnOk result (IsOrdered (octets_of self.now.file) order.new) }
+        ensures seen { OnOk result (IsSeen (octets_of self.now.file) seen.new) }
     {
         let count = references.len() / 2;
         for i in 0..count {
             let key = u64::from(references[i]);
             let object = u64::from(references[count + i]);
-            self.pair(order, key, object, level, pending, out)?;
+            self.pair(seen, key, object, level, pending, out)?;
         }
         Ok(())
     }
@@ -251,7 +252,7 @@ impl<'a> Printer<'a> {
     #[cycle(print)]
     fn pair<W: Sink>(
         &self,
-        order: &mut KeyOrder<'a>,
+        seen: &mut Seen<'a>,
         key: u64,
         object: u64,
         level: u64,
@@ -260,17 +261,17 @@ impl<'a> Printer<'a> {
     ) -> Result<(), WriteFault>
         requires key { HoldsText (octets_of self.now.file) key }
         requires spells { SpellsWithin (octets_of self.now.file) object (MAX_DEPTH - level) }
-        requires ordered { IsOrdered (octets_of self.now.file) order.old }
+        requires seen { IsSeen (octets_of self.now.file) seen.old }
         ensures goes { (units : List ℕ) (v : Plist)
             → Holds (octets_of self.now.file) key (holds_scalar (text units))
             → IsPlist v → Spells (octets_of self.now.file) object v
             → Goes (pair_lines level units v) pending.old pending.new
             (W.taken out.old) (W.taken out.new) (W.failures out.old) (W.failures out.new) result }
         ensures same { W.device out.new ≡ W.device out.old }
-        ensures ordered { OnOk result (IsOrdered (octets_of self.now.file) order.new) }
+        ensures seen { OnOk result (IsSeen (octets_of self.now.file) seen.new) }
     {
-        let text = text_of(&self.file, key);
+        let text = seen.keys.text_of(&self.file, key);
         begin_pair(&text, level, pending, out)?;
-        self.value(order, object, level, pending, out)
+        self.value(seen, object, level, pending, out)
     }
 }

@@ -26,3 +26,6 @@ returns-clause-written g c = λ v binary.
     let spells = subst (λ (i : ℕ). Spells (octets_of c.args.file.now) i v) (sym c.top.ensures.value) binary.spells in
     let p : Pending = record { octets = c.new.result; sent = 0 } in
     ends_whole (printed v) p c.new.ensures.items refl c.value.new.pending c.send_all.new.pending _ _ _ _ _ _ (c.in_ok-value.ensures.goes v binary.valid spells).done c.in_ok-send_all.ensures.goes.done c.in_ok-send_all.ensures.none
+
+pub value-requires-clause-seen : goal.value-requires-clause-seen
+value-requires-clause-seen g c = c.new-seen.ensures (octets_of c.args.file.now)

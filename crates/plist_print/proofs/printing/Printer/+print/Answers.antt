@@ -32,7 +32,7 @@ value-list-requires g t c κs within =
     let below : c.args.level < MAX_DEPTH = omega arith in
     let less : MAX_DEPTH - c.args.level - 1 ≡ MAX_DEPTH - (c.args.level + 1) = omega arith in
     let inside = items_within f c.args.object (MAX_DEPTH - c.args.level) refs c.requires.spells c.in-List.ensures.holds in
-    (omega (arith, c.decreases, some), (within, (below, (subst (λ (n : ℕ). SpellWithin f refs n) less inside, c.requires.ordered))))
+    (omega (arith, c.decreases, some), (within, (below, (subst (λ (n : ℕ). SpellWithin f refs n) less inside, c.requires.seen))))
 
 pub value-table-requires : goal.value-table-requires
 value-table-requires g t c κs within =
@@ -55,7 +55,7 @@ value-table-requires g t c κs within =
               spell = inside.spell;
               deep = omega (arith, inside.deep);
             },
-            c.requires.ordered,
+            c.requires.seen,
           ),
         ),
       ),
@@ -112,7 +112,7 @@ items-item-requires g t c κs within =
     let i = c.loop-i.i in
     let below : i < length refs = omega (arith, c.loop-i-test.true, c.len-i-end.ensures) in
     let one = value_within f refs (MAX_DEPTH - c.args.level) i c.requires.spell below in
-    (omega (arith, c.decreases), (within, (subst (λ (n : ℕ). SpellsWithin f n (MAX_DEPTH - c.args.level)) (sym c.get.ensures) one, c.loop-i.invariant.ordered)))
+    (omega (arith, c.decreases), (within, (subst (λ (n : ℕ). SpellsWithin f n (MAX_DEPTH - c.args.level)) (sym c.get.ensures) one, c.loop-i.invariant.seen)))
 
 pub items-returns-in_err-item-clause-goes : goal.items-returns-in_err-item-clause-goes
 items-returns-in_err-item-clause-goes g t c = λ vs valid spell.
@@ -140,7 +140,7 @@ items-loop-i-preserved g t c = record {
       let more : items_before c.args.level 0 i vs ++ item_lines c.args.level i at.value ≡ items_before c.args.level 0 (i + 1) vs = sym at.more ∙ ap (λ k. items_before c.args.level 0 k vs) (sym (add-one i)) in
       next_gathers (items_before c.args.level 0 i vs) (item_lines c.args.level i at.value) (items_before c.args.level 0 (i + 1) vs) c.args.pending.now c.loop-i.pending c.item.new.pending _ _ _ _ _ _ more (c.loop-i.invariant.gathers vs valid spell) (c.in_ok-item.ensures.goes at.value at.valid spells).done;
   same = c.in_ok-item.ensures.same ∙ c.loop-i.invariant.same;
-  ordered = c.in_ok-item.ensures.ordered;
+  seen = c.in_ok-item.ensures.seen;
 }
 
 pub items-returns-clause-goes : goal.items-returns-clause-goes
@@ -189,7 +189,7 @@ table-pairs-requires g t c κs within =
             valid = all.spell.valid;
             deep = all.deep;
           },
-          c.in-Ok.ensures.ordered,
+          c.in-Ok.ensures.seen,
         ),
       ),
     )
@@ -224,7 +224,7 @@ pairs-pair-requires g t c κs within =
     let key = c.from-key.ensures ∙ turn_key refs all.rows all.turn i below in
     let named = subst (λ (n : ℕ). HoldsText f n) (sym key) (record { units = at.key; holds = at.named }) in
     let one = subst (λ (n : ℕ). SpellsWithin f n (MAX_DEPTH - c.args.level)) (sym c.from-object.ensures) (turn_within f refs (MAX_DEPTH - c.args.level) (length refs / 2 + i) all far) in
-    (omega (arith, c.decreases), (within, (named, (one, c.loop-i.invariant.ordered))))
+    (omega (arith, c.decreases), (within, (named, (one, c.loop-i.invariant.seen))))
 
 pub pairs-returns-in_err-pair-clause-goes : goal.pairs-returns-in_err-pair-clause-goes
 pairs-returns-in_err-pair-clause-goes g t c = λ rows ps turn valid spell.
@@ -256,7 +256,7 @@ pairs-loop-i-preserved g t c = record {
       let more : pairs_before c.args.level i ps ++ pair_lines c.args.level at.key at.value ≡ pairs_before c.args.level (i + 1) ps = sym at.more ∙ ap (λ k. pairs_before c.args.level k ps) (sym (add-one i)) in
       next_gathers (pairs_before c.args.level i ps) (pair_lines c.args.level at.key at.value) (pairs_before c.args.level (i + 1) ps) c.args.pending.now c.loop-i.pending c.pair.new.pending _ _ _ _ _ _ more (c.loop-i.invariant.gathers rows ps turn valid spell) (c.in_ok-pair.ensures.goes at.key at.value named at.valid spells).done;
   same = c.in_ok-pair.ensures.same ∙ c.loop-i.invariant.same;
-  ordered = c.in_ok-pair.ensures.ordered;
+  seen = c.in_ok-pair.ensures.seen;
 }
 
 pub pairs-returns-clause-goes : goal.pairs-returns-clause-goes
@@ -271,13 +271,13 @@ pub pair-returns-in_err-begin_pair-clause-goes : goal.pair-returns-in_err-begin_
 pair-returns-in_err-begin_pair-clause-goes g t c = λ units v named valid spells.
     let e = err_from_is_err_and c.from_residual.result c.from_residual.ensures.1 in
     let seen = units_of c.text_of-text.result in
-    let same = text_seen (octets_of c.args.self.now.file) c.args.key seen units c.text_of-text.ensures named in
+    let same = text_seen (octets_of c.args.self.now.file) c.args.key seen units c.text_of-text.ensures.text named in
     let is = ap (λ us. pair_lines c.args.level us v) same in
     rw (e.1, e.2) (Goes-same (pair_lines c.args.level seen v) (pair_lines c.args.level units v) c.args.pending.now _ _ _ _ _ _ is (Goes-not (pair_head c.args.level seen) (printed_at c.args.level v) c.args.pending.now _ _ _ _ _ _ c.in_err-begin_pair.ensures.goes.stopped))
 
 pub pair-returns-clause-goes : goal.pair-returns-clause-goes
 pair-returns-clause-goes g t c = λ units v named valid spells.
     let seen = units_of c.text_of-text.result in
-    let same = text_seen (octets_of c.args.self.now.file) c.args.key seen units c.text_of-text.ensures named in
+    let same = text_seen (octets_of c.args.self.now.file) c.args.key seen units c.text_of-text.ensures.text named in
     let is = ap (λ us. pair_lines c.args.level us v) same in
     Goes-same (pair_lines c.args.level seen v) (pair_lines c.args.level units v) c.args.pending.now c.value.new.pending _ _ _ _ c.value.result is (Goes-then (pair_head c.args.level seen) (printed_at c.args.level v) c.args.pending.now c.begin_pair.new.pending c.value.new.pending _ _ _ _ _ _ c.value.result c.in_ok-begin_pair.ensures.goes.done (c.value.ensures.goes v valid spells))

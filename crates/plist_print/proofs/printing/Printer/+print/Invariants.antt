@@ -4,7 +4,7 @@ use Rattle.plist_value.specs.declared.TheConstants.{MAX_DEPTH}
 use Rattle.plist_object.specs.Spelled.{SpellItems, SpellPairs}
 use Rattle.plist_object.specs.Views.{octets_of, numbers_of}
 use Rattle.plist_engine.specs.Pending.{Gathers}
-use Rattle.plist_engine.specs.Order.{IsOrdered}
+use Rattle.plist_print.specs.Known.{IsSeen}
 use Rattle.plist_engine.specs.Spelling.{in_turn}
 use Rattle.plist_print.proofs.PrintSteps.{items_before, pairs_before}
 use Rattle.plist_print.proofs.printing.Printer.+print.Given as goal
@@ -36,7 +36,7 @@ abbrev pub invariant-items-loop-i : goal.invariant-items-loop-i
 invariant-items-loop-i g l = record {
   gathers : (vs : Items) → AreItems vs → SpellItems (octets_of l.self.file) (numbers_of l.items) vs → Gathers (items_before l.level 0 l.i vs) l.fn.pending l.pending (g.W.Sink.taken l.fn.out) (g.W.Sink.taken l.out) (g.W.Sink.failures l.fn.out) (g.W.Sink.failures l.out);
   same : g.W.Sink.device l.out ≡ g.W.Sink.device l.fn.out;
-  ordered : IsOrdered (octets_of l.self.file) l.order;
+  seen : IsSeen (octets_of l.self.file) l.seen;
 }
 
 -- the lines of the pairs before this one went
@@ -44,5 +44,5 @@ abbrev pub invariant-pairs-loop-i : goal.invariant-pairs-loop-i
 invariant-pairs-loop-i g l = record {
   gathers : (rows : List (ℕ × ℕ)) (ps : Pairs) → l.references ≡ in_turn rows → ArePairs ps → SpellPairs (octets_of l.self.file) rows ps → Gathers (pairs_before l.level l.i ps) l.fn.pending l.pending (g.W.Sink.taken l.fn.out) (g.W.Sink.taken l.out) (g.W.Sink.failures l.fn.out) (g.W.Sink.failures l.out);
   same : g.W.Sink.device l.out ≡ g.W.Sink.device l.fn.out;
-  ordered : IsOrdered (octets_of l.self.file) l.order;
+  seen : IsSeen (octets_of l.self.file) l.seen;
 }
