@@ -25,7 +25,7 @@ use std::alloc::{AllocError, Global};
 
 /// Sends the printed text of the value that the file spells, object after object, and answers how
 /// many octets it has. Neither that value nor the text is in memory: what is kept is the order of
-/// the keys of each table that is open, and a piece.
+/// the keys of each table that is open, where up to 64 keys stand in the file, and a piece.
 ///
 /// # Errors
 ///
