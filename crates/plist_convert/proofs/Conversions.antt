@@ -12,7 +12,7 @@ use Rattle.plist_convert.specs.Files.{FileName, Holds, IsOutputStored, SameFiles
 use Rattle.plist_convert.specs.Ending.{Ends}
 use Rattle.plist_convert.specs.Runs.{EndsSending, IsConverted, IsConvertRun, path_of_fault, refusal_between}
 use Rattle.plist_convert.specs.State.{State}
-use Rattle.plist_convert.proofs.Disks.{same_trans, stored_before}
+use Rattle.plist_convert.proofs.FilesBefore.{same_trans, stored_before}
 
 -- nothing more is printed behind what was stored whole
 pub stored_whole : (from to : FileName) (sent : Result ℕ WriteFault) (n : ℕ) (printed : Option (List ℕ)) (failures : ℕ) → Ok n ≡ answer_of sent

@@ -1,7 +1,7 @@
 pub mod Begun
 pub mod Blame
 pub mod Conversions
-pub mod Disks
+pub mod FilesBefore
 pub mod Judged
 pub mod Prints
 pub mod Runs

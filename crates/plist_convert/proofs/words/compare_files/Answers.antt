@@ -3,7 +3,7 @@ use Rattle.std.specs.Prelude.{IfOk}
 use Rattle.plist_convert.specs.Answer.{IsSameAnswer, said_of}
 use Rattle.plist_convert.specs.Runs.{IsSameRun}
 use Rattle.plist_convert.specs.State.{state}
-use Rattle.plist_convert.proofs.Disks.{holds_before, same_trans, unloaded_before}
+use Rattle.plist_convert.proofs.FilesBefore.{holds_before, same_trans, unloaded_before}
 use Rattle.plist_convert.proofs.Runs.{files_compared}
 use Rattle.plist_convert.proofs.words.compare_files.Goals as goal
 
