@@ -145,7 +145,7 @@ fn equality(alloc: Global, equal: bool) -> Result<Answer, AllocError>
 /// The line with a line end, and the status.
 fn told(line: String, status: Status) -> Result<Answer, AllocError>
     ensures text { IfOk result (λ answer.
-        string_bytes answer.text ≡ string_bytes line.entry ++ codes "\n") }
+        string_bytes answer.text ≡ string_bytes line ++ codes "\n") }
     ensures status { IfOk result (λ answer. answer.status ≡ status) }
 {
     let mut text = line;
