@@ -8,6 +8,7 @@ ghost use Rattle.ostep_lex.specs.Cursor.{PassesQuoted, PassesRun, PassesToken};
 
 use crate::character::{is_quote, is_run};
 use crate::cursor::Cursor;
+use crate::gap::gap;
 use crate::stretch::Class;
 use plist_value::TextRef;
 
@@ -50,9 +51,9 @@ fn plain_here(cursor: Cursor<'_>) -> Option<(&[u8], Cursor<'_>)>
 }
 
 /// The text of the next token and the cursor behind the token, where this is a string of ASCII
-/// characters that stand for themselves, in UTF-8, and white alone stands before it. It is not
-/// copied, and takes less work than `next_token`. None says nothing: `next_token` reads on from
-/// there, and alone it reads a string that begins with `/`.
+/// characters that stand for themselves, in UTF-8. It is not copied, and takes less work than
+/// `next_token`. None says nothing: `next_token` reads on from there, and alone it reads a string
+/// that begins with `/`.
 #[inline(always)]
 pub fn next_plain(cursor: Cursor<'_>) -> Option<(TextRef<'_>, Cursor<'_>)>
     // Where the cursor stands behind tokens of an input, this is one more.
@@ -63,7 +64,9 @@ pub fn next_plain(cursor: Cursor<'_>) -> Option<(TextRef<'_>, Cursor<'_>)>
     ensures shorter { IfSome result (λ found.
         length (ahead found.1) < length (ahead cursor.entry)) }
 {
-    let start = cursor.behind_stretch(Class::White);
+    let Ok(start) = gap(cursor) else {
+        return None;
+    };
     let (octets, end) = plain_here(start)?;
     let text = TextRef::of_ascii(octets)?;
     Some((text, end))
