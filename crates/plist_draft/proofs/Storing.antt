@@ -4,14 +4,16 @@ use Rattle.std.specs.List.{AllByRecursion, concat, zip}
 use Rattle.std.specs.List.Sorted.{IsPermutation}
 use Rattle.std.proofs.lemmas.List.{drop_at, append-nil, map-append, length-map}
 use Rattle.std.proofs.lemmas.List.Folds.{concat-append}
-use Rattle.plist_value.specs.Plist.{AllUnder, Scalar, scalar, Items, list, Pairs, table}
+use Rattle.std.proofs.lemmas.Option.{slice_get-map}
+use Rattle.plist_value.specs.Plist.{AllUnder, Scalar, IsScalar, scalar, Items, list, Pairs, table}
 use Rattle.plist_object.specs.Layout.{header}
 use Rattle.plist_object.specs.Objects.{Held, holds_scalar, holds_list, holds_table, object_in}
 use Rattle.plist_object.specs.Shortest.{spelling_of}
+use Rattle.plist_object.specs.Sizes.{IsSmall}
 use Rattle.plist_object.proofs.ReadReferences.{AllFit, object_in-list, object_in-table}
 use Rattle.plist_object.proofs.ReadScalars.{object_in-scalar}
 use Rattle.plist_draft.specs.Files.{starts}
-use Rattle.plist_draft.specs.Stored.{IsKept, spellings, held_from, helds_at, Stores}
+use Rattle.plist_draft.specs.Stored.{IsKept, spellings, held_from, helds_at, Stores, StandsAgain}
 use Rattle.plist_draft.specs.Told.{Tells, Keeps, SpellsIn, SpellItemsIn, SpellPairsIn}
 use Rattle.plist_draft.proofs.Telling.{appending_keeps, Tells-last}
 
@@ -117,3 +119,9 @@ helds_at-none octets places none = rw none refl
 pub stores_none : (octets places : List ℕ) → octets ≡ header → places ≡ [] → Stores octets places (helds_at octets places)
 stores_none octets places begun none =
     rw (helds_at-none octets places none) (record { spelled = begun; placed = none; kept = tt })
+
+-- an object that begins with the spelling of a scalar holds this
+pub held-again : (octets places : List ℕ) (number : ℕ) (s : Scalar) → IsScalar s → IsSmall s → StandsAgain octets places number (spelling_of 4 (holds_scalar s)) → Tells (helds_at octets places) number (holds_scalar s)
+unfolding helds_at
+held-again octets places number s valid small again =
+    rw (slice_get-map (held_from octets) places number, again.placed, again.stands, object_in-kept (holds_scalar s) again.behind (valid, small)) refl

@@ -1,5 +1,5 @@
 -- Objects that stand one after another behind the header of a file.
-use Rattle.std.specs.Prelude.{◌≡◌, ℕ, ◌<◌, ◌^◌, List, [], ◌++◌, length, map, drop, Result, Ok, Err}
+use Rattle.std.specs.Prelude.{◌≡◌, ℕ, ◌<◌, ◌^◌, List, [], ◌++◌, length, map, drop, slice_get, Some, Result, Ok, Err}
 use Rattle.std.specs.List.{AllByRecursion, concat}
 use Rattle.plist_value.specs.Plist.{AllUnder, IsScalar}
 use Rattle.plist_object.specs.declared.object.ObjectFault.{ObjectFault}
@@ -51,3 +51,10 @@ pub record Stores (octets places : List ℕ) (helds : List Held) : Type 0 where
 -- octets and places are those of the objects that they hold
 abbrev pub IsDraft : List ℕ → List ℕ → Type 0
 IsDraft octets places = Stores octets places (helds_at octets places)
+
+-- where the object with the number begins, these octets stand
+pub record StandsAgain (octets places : List ℕ) (number : ℕ) (spelled : List ℕ) : Type 0 where
+  pub place : ℕ
+  pub behind : List ℕ
+  pub placed : slice_get places number ≡ Some place
+  pub stands : drop place octets ≡ spelled ++ behind

@@ -1,7 +1,7 @@
 //! A binary file that grows.
 ghost use Rattle.std.specs.Prelude.{◌≡◌, ◌+◌, ◌<◌, ◌≤◌, ◌^◌, ◌++◌, ◌∷◌, []};
 ghost use Rattle.std.specs.Prelude.{ℕ, List, length, vec_len, vec_capacity};
-ghost use Rattle.std.specs.Prelude.{IfOk, OnOk, OnErr};
+ghost use Rattle.std.specs.Prelude.{IfOk, OnOk, OnErr, ◌⊎◌};
 ghost use Rattle.std.specs.List.{zip};
 ghost use Rattle.std.specs.List.Sorted.{IsPermutation};
 ghost use Rattle.plist_value.specs.Plist.{Plist, Items, Pairs, IsPlist, IsScalar};
@@ -10,12 +10,14 @@ ghost use Rattle.plist_value.specs.Limits.{Fits};
 ghost use Rattle.plist_value.specs.Scalars.{content_of};
 ghost use Rattle.plist_object.specs.Objects.{holds_scalar, holds_list, holds_table};
 ghost use Rattle.plist_object.specs.Sizes.{IsSmall};
+ghost use Rattle.plist_object.specs.Spelling.{scalar_spelling};
 ghost use Rattle.plist_object.specs.Spelled.{IsBinary};
 ghost use Rattle.plist_draft.specs.Stored.{AreKept, IsDraft, draft_file};
 ghost use Rattle.plist_draft.specs.OneProof.{IsDraft-prop};
 ghost use Rattle.plist_draft.specs.Told.{SpellsIn, SpellItemsIn, SpellPairsIn, Keeps, Shows};
 
 use crate::ends::{are_octets, put_places, put_trailer};
+use crate::recent::{Recent, hash_of};
 use plist_object::{HEADER, put_scalar, put_short_list, put_short_table};
 use plist_value::ScalarRef;
 use std::alloc::{AllocError, Global};
@@ -27,6 +29,7 @@ use std::alloc::{AllocError, Global};
 pub struct Draft {
     octets: Vec<u8>,
     places: Vec<u32>,
+    recent: Recent,
     ghost laid: { IsDraft octets.items places.items } by { IsDraft-prop octets.items places.items },
 }
 
@@ -45,6 +48,7 @@ impl Draft {
         Ok(Draft {
             octets,
             places: Vec::new(alloc),
+            recent: Recent::new(alloc),
         })
     }
 
@@ -64,9 +68,38 @@ impl Draft {
         ensures kept { Keeps (objects self.old) (objects self.new) }
         ensures refused { OnErr result (objects self.new ≡ objects self.old) }
     {
-        is_small(scalar)?;
         let (number, place) = self.begin()?;
-        put_scalar(&mut self.octets, scalar)?;
+        spell(&mut self.octets, scalar)?;
+        self.places.push_reserved(place);
+        Ok(number)
+    }
+
+    /// Puts a scalar as [`Draft::put_scalar`] does, or answers the number of an equal one that was
+    /// put of late. Of scalars that are put often, few objects stand in the draft.
+    ///
+    /// # Errors
+    ///
+    /// Those of [`Draft::put_scalar`], and where there is no memory for what was put of late. The
+    /// draft is then as it was.
+    pub fn share_scalar(&mut self, scalar: &ScalarRef) -> Result<u32, AllocError>
+        requires { IsScalar (content_of scalar.now) }
+        ensures put { OnOk result ((objects self.new ≡ objects self.old) ⊎ (objects self.new
+            ≡ objects self.old ++ (holds_scalar (content_of scalar.now) ∷ []))) }
+        ensures spells { IfOk result (λ number.
+            SpellsIn (objects self.new) number (one_scalar (content_of scalar.now))) }
+        ensures kept { Keeps (objects self.old) (objects self.new) }
+        ensures refused { OnErr result (objects self.new ≡ objects self.old) }
+    {
+        self.recent.prepare(self.places.len())?;
+        let (number, place) = self.begin()?;
+        spell(&mut self.octets, scalar)?;
+        let (before, spelled) = self.octets.split_at(place as usize);
+        let hash = hash_of(spelled);
+        if let Some(known) = self.recent.find_again(hash, spelled, before, &self.places) {
+            self.octets.truncate(place as usize);
+            return Ok(known);
+        }
+        self.recent.keep(hash, number);
         self.places.push_reserved(place);
         Ok(number)
     }
@@ -133,7 +166,11 @@ impl Draft {
         ensures shows { IfOk result (λ octets. top < length (objects self)
             → Shows octets.items top (objects self)) }
     {
-        let Draft { mut octets, places } = self;
+        let Draft {
+            mut octets,
+            places,
+            ..
+        } = self;
         let count = places.len() as u64;
         let place = octets.len() as u64;
         octets.reserve_exact(4 * places.len() + 32)?;
@@ -172,6 +209,17 @@ fn are_kept(refs: &[u32]) -> Result<(), AllocError>
 {
     short(refs.len())?;
     Ok(())
+}
+
+// Puts the spelling of a scalar that is small behind the octets.
+fn spell(octets: &mut Vec<u8>, scalar: &ScalarRef) -> Result<(), AllocError>
+    ensures small { OnOk result (IsSmall (content_of scalar.now)) }
+    ensures ok { OnOk result
+        (octets.new.items ≡ octets.old.items ++ scalar_spelling (content_of scalar.now)) }
+    ensures err { OnErr result (octets.new.items ≡ octets.old.items) }
+{
+    is_small(scalar)?;
+    put_scalar(octets, scalar)
 }
 
 // Whether a text has below 2^32 units, and data below 2^32 octets.

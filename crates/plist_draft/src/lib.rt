@@ -5,6 +5,7 @@
 pub mod draft;
 mod ends;
 pub mod laws;
+mod recent;
 pub mod values;
 
 pub use draft::Draft;
