@@ -131,7 +131,7 @@ impl<'a> Reader<'a> {
         ensures cursor { self.new.cursor ≡ self.old.cursor }
     {
         let scalar = ScalarRef::Text(text);
-        Ok(self.draft.put_scalar(&scalar)?)
+        Ok(self.draft.share_scalar(&scalar)?)
     }
 
     // Puts the text of a string, and answers its number.
