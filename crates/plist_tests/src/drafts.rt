@@ -21,6 +21,10 @@ fn put_text(draft: &mut Draft, units: &[u16]) -> Result<u32, AllocError> {
     draft.put_scalar(&ScalarRef::Text(TextRef::of_units(units)))
 }
 
+fn share_text(draft: &mut Draft, units: &[u16]) -> Result<u32, AllocError> {
+    draft.share_scalar(&ScalarRef::Text(TextRef::of_units(units)))
+}
+
 fn one_text(alloc: Global) -> Result<Vec<u8>, AllocError> {
     let mut draft = Draft::new(alloc)?;
     let top = put_text(&mut draft, &[0x61])?;
@@ -53,6 +57,21 @@ fn drafts_are_finished(rt: HostRuntime) -> Result<(), Fail> {
     Ok(())
 }
 
+#[test]
+fn equal_scalars_are_one_object(rt: HostRuntime) -> Result<(), Fail> {
+    let mut draft = Draft::new(rt.alloc())?;
+    let a = share_text(&mut draft, &[0x61])?;
+    let b = share_text(&mut draft, &[0x62])?;
+    assert_eq!(rt; [a, b], [0, 1]);
+    assert_eq!(rt; share_text(&mut draft, &[0x61])?, a);
+    assert_eq!(rt; draft.share_scalar(&ScalarRef::Bytes(b"a"))?, 2);
+    assert_eq!(rt; put_text(&mut draft, &[0x61])?, 3);
+    let top = draft.put_table(&[b, a], &[a, b])?;
+    let table = draft.finish(top)?;
+    assert!(rt; is_file_of(rt.alloc(), table.as_slice(), b"{a=b;b=a;}")?);
+    Ok(())
+}
+
 // The file of what is put behind one string, or of that string, where the put is refused.
 fn finished(draft: Draft, put: Result<u32, AllocError>) -> Result<(Vec<u8>, bool), AllocError> {
     match put {
@@ -80,10 +99,14 @@ fn is_table_put(alloc: Global) -> Result<bool, Fail> {
     is_file_of(alloc, octets.as_slice(), text)
 }
 
-fn is_scalar_put(alloc: Global) -> Result<bool, Fail> {
+fn is_scalar_put(alloc: Global, is_shared: bool) -> Result<bool, Fail> {
     let mut draft = Draft::new(alloc)?;
     put_text(&mut draft, &[0x61])?;
-    let put = put_text(&mut draft, &[0x62]);
+    let put = if is_shared {
+        share_text(&mut draft, &[0x62])
+    } else {
+        put_text(&mut draft, &[0x62])
+    };
     let (octets, is_put) = finished(draft, put)?;
     let text: &[u8] = if is_put { b"b" } else { b"a" };
     is_file_of(alloc, octets.as_slice(), text)
@@ -92,7 +115,8 @@ fn is_scalar_put(alloc: Global) -> Result<bool, Fail> {
 // Also where memory is refused from outside.
 #[test]
 fn a_refused_put_leaves_the_draft(rt: HostRuntime) -> Result<(), Fail> {
-    assert!(rt; is_scalar_put(rt.alloc())?);
+    assert!(rt; is_scalar_put(rt.alloc(), false)?);
+    assert!(rt; is_scalar_put(rt.alloc(), true)?);
     assert!(rt; is_list_put(rt.alloc())?);
     assert!(rt; is_table_put(rt.alloc())?);
     Ok(())

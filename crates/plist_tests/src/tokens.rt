@@ -63,11 +63,16 @@ fn plain_of(octets: &[u8]) -> Result<Option<(&[u8], usize)>, LexFault> {
 fn a_string_where_it_stands(rt: HostRuntime) -> Result<(), Fail> {
     assert_eq!(rt; plain_of(b" \ta-1/$;")?, Some((b"a-1/$".as_slice(), 7)));
     assert_eq!(rt; plain_of(b"\"a 'b' \"c")?, Some((b"a 'b' ".as_slice(), 8)));
+    assert_eq!(rt;
+        plain_of(b" /* 'a' */ // b\n c ")?,
+        Some((b"c".as_slice(), 18))
+    );
     assert_eq!(rt; plain_of(b"'\"'")?, Some((b"\"".as_slice(), 3)));
     assert_eq!(rt; plain_of(b"''")?, Some((b"".as_slice(), 2)));
     assert_eq!(rt; plain_of(b"\"a\\n\"")?, None);
     assert_eq!(rt; plain_of("\"\u{e9}\"".as_bytes())?, None);
     assert_eq!(rt; plain_of(b"\"a")?, None);
+    assert_eq!(rt; plain_of(b"/* a")?, None);
     assert_eq!(rt; plain_of(b"{a=b;}")?, None);
     assert_eq!(rt; plain_of(b"\xfe\xff\0a")?, None);
     Ok(())
