@@ -6,6 +6,7 @@
 ## make test                  the gate: every proof, all tests, and what stands around them (see CONTRIBUTING.md)
 ## make around                the gate without the proofs, over what is built
 ## make mutants [CRATE=NAME]  tries the mutants that the gate leaves out
+## make plant [CRATE=NAME]    lists wrong bodies that contracts let through
 ## make fuzz [SECONDS=60] [SEED=1]   compares the program with a second reading of the formats
 ## make recipes, examples, words, new-user   try the recipes and the README, the bindings, words that are not UTF-8,
 ##                            and what a new user does on a clean checkout
@@ -17,7 +18,7 @@ SECONDS ?= 60
 SEED ?= 1
 VERSION := $(shell sed -n 's/.*\.version("\(.*\)").*/\1/p' crates/plist_convert/src/commands.rt)
 
-.PHONY: all help test around mutants fuzz recipes new-user words bench hostile growths install uninstall clean
+.PHONY: all help test around mutants plant fuzz recipes new-user words bench hostile growths install uninstall clean
 all: plistconv
 
 include build.mk
@@ -37,6 +38,9 @@ around: plistconv lib
 
 mutants:
 	scripts/mutants.sh $(CRATE)
+
+plant:
+	scripts/plant.sh $(CRATE)
 
 fuzz: plistconv
 	python3 fuzz/rows.py

@@ -5,6 +5,7 @@
 # no longer applies: scripts/stale_mutants.py says which those are in a second, of the mutants of the gate too.
 set -u
 cd "$(dirname "$0")/.." || exit 2
+. scripts/copy.sh
 scripts/stale_mutants.py "$@" || exit 1
 
 names=("$@")
@@ -20,25 +21,13 @@ for name in "${names[@]}"; do
     fi
 done
 
-copy=$(mktemp -d)
-trap 'rm -rf "$copy"' EXIT
-cp -r crates.txt crates "$copy/"
-[ -f HANDLES ] && cp HANDLES "$copy/"
+copied
 for name in "${names[@]}"; do
     rm -rf "$copy/crates/$name/must-fail"
     mv "$copy/crates/$name/edits" "$copy/crates/$name/must-fail"
 done
 
-# The libraries that mutants are tried over, one after another: those tried side by side would build them at once.
-for name in "${names[@]}"; do
-    sed -n "s/^$name\( [^:]*\)\?://p" crates.txt
-done | tr ' ' '\n' | sort -u | while read -r library; do
-    [ -d "$copy/crates/$library/src" ] || continue
-    (cd "$copy/crates/$library" && rt lib) > "$copy/$library.lib.log" 2>&1 && continue
-    echo "mutants: $library is not proved" >&2
-    tail -n 5 "$copy/$library.lib.log" >&2
-    exit 1
-done || exit 1
+proved_below "${names[@]}" || exit 1
 
 # Tries the mutants of one crate, and prints how many were refused, with what was said of the others.
 try() {
@@ -55,6 +44,5 @@ try() {
     return 1
 }
 export -f try
-export copy
 
 printf '%s\n' "${names[@]}" | xargs -P "${JOBS:-$(nproc)}" -I NAME bash -c 'try NAME'
