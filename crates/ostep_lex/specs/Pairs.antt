@@ -31,13 +31,13 @@ pub record AppendsPairs (octets more text behind : List ℕ) : Type 0 where
   pub split : text ≡ digits ++ behind
   pub appended : more ≡ octets ++ values
 
--- the same of a text
+-- pairs of digits stand at the front of a text, and their octets are appended
 pub record AppendsFront (octets more text behind : List ℕ) : Type 0 where
   pub passes : AppendsPairs octets more text behind
   pub characters : chars text ≡ passes.digits ++ chars behind
   pub utf8 : IsUtf8 behind
 
--- the same of what is still to be read
+-- pairs of digits stand at the front of what is still to be read, and their octets are appended
 pub record AppendsLead (octets more : List ℕ) (source behind : Source) : Type 0 where
   pub passes : AppendsPairs octets more (characters_in source) (characters_in behind)
   pub whole : IsWhole behind

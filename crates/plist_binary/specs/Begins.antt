@@ -53,14 +53,15 @@ pub record IsBegun (f before : List ℕ) (i : ℕ) (whole left : Budget) : Type 
   pub begins : Begins f before i nodes payload
   pub spent : Spends whole nodes payload left
 
--- likewise what comes before the container j, and j itself
+-- what comes before the container j, and j itself, took from the whole budget what is gone
 pub record IsEntered (f before : List ℕ) (j : ℕ) (whole left : Budget) : Type 0 where
   pub nodes : ℕ
   pub payload : ℕ
   pub begins : Begins f before j nodes payload
   pub spent : Spends whole (1 + nodes) payload left
 
--- likewise what comes before these references, which the container j holds one behind another
+-- what comes before these references, which the container j holds one behind another, took from
+-- the whole budget what is gone
 pub record AreNext (f before : List ℕ) (j : ℕ) (refs : List ℕ) (whole left : Budget) : Type 0 where
   pub nodes : ℕ
   pub payload : ℕ

@@ -35,7 +35,7 @@ abbrev pub IsHeaded : ℕ → List ℕ → Key → Type 0
 IsHeaded front first key =
     (take front (units_at key) ≡ take front first) × (key.head ≡ head_of 8 (drop front (units_at key)))
 
--- likewise all keys
+-- all keys share so many units with the first, and have the heads of what stands behind them
 pub record AreHeaded (keys : List Key) : Type 0 where
   pub front : ℕ
   pub first : List ℕ

@@ -34,7 +34,7 @@ pub record AreRanked (keys : List Key) : Type 0 where
   pub ascending : IsStrictlySortedBy (slice_cmp nat_cmp) texts
   pub each : All (IsRanked texts) keys
 
--- likewise the ranks of two
+-- the ranks of two keys are places among ascending texts
 abbrev pub AreRankedAlike : Key → Key → Type 0
 AreRankedAlike key next = AreRanked (key ∷ next ∷ [])
 

@@ -15,7 +15,7 @@ pub record Charges (f : List ℕ) (i levels : ℕ) (before after : Budget) : Typ
 abbrev pub Exceeds : List ℕ → ℕ → ℕ → Budget → Type 0
 Exceeds f i levels before = (v : Plist) → IsPlist v → Spells f i v → depth v ≤ levels → IsOver before (nodes v) (payload v)
 
--- the same of the values that references name
+-- the values that the references name are spent, and none is too deep
 pub record ChargesItems (f refs : List ℕ) (levels : ℕ) (before after : Budget) : Type 0 where
   pub spent : (vs : Items) → AreItems vs → SpellItems f refs vs → Spends before (nodes_of_items vs) (payload_of_items vs) after
   pub deep : (vs : Items) → AreItems vs → SpellItems f refs vs → depth_of_items vs ≤ levels

@@ -60,7 +60,7 @@ pub record LeadsTo (weights : List Weight) (refs left : List ℕ) : Type 0 where
   pub known : AllByRecursion (IsKnown weights) passed
   pub split : refs ≡ passed ++ left
 
--- the same of references with their holders
+-- the references, each with its holder, lead past known ones to those that are left
 pub record LeadsOn (weights : List Weight) (refs left : List Reference) : Type 0 where
   pub passed : List Reference
   pub known : AllByRecursion (λ reference. IsKnown weights reference.number) passed

@@ -45,7 +45,7 @@ zip-last [] (z ∷ zs) x y same = absurd (omega arith)
 zip-last (z ∷ zs) [] x y same = absurd (omega arith)
 zip-last (w ∷ ws) (z ∷ zs) x y same = ap (λ (rows : List (ℕ × ℕ)). (w, z) ∷ rows) (zip-last ws zs x y (omega arith))
 
--- the same of pairs
+-- once the pairs that are left are spelled behind those that were put, all are
 pub record PairsLeft (helds : List Held) (keys values : List ℕ) (left all : Pairs) : Type 0 where
   pub same : length keys ≡ length values
   pub ends : (later : List Held) (rest : List (ℕ × ℕ)) → Keeps helds later → SpellPairsIn later rest left → SpellPairsIn later (zip keys values ++ rest) all

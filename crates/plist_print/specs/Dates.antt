@@ -74,13 +74,13 @@ second_at true seconds = if nat_le seconds until_2001 then Some (until_2001 - se
 second_at false seconds =
     if nat_lt (until_2001 + seconds) until_10000 then Some (until_2001 + seconds) else None
 
--- the same of a decimal, if it ends in `.0`
+-- the second that a decimal names, if it ends in `.0`
 abbrev pub whole_second : Bool → Option (ℕ × ℕ) → Option ℕ
 whole_second negative None = None
 whole_second negative (Some d) =
     if (d.1 == 1) && (d.0 % 10 == 0) then second_at negative (d.0 / 10) else None
 
--- the same of the octets of a date
+-- the second that the octets of a date name
 unfoldable pub second_of : List ℕ → Option ℕ
 second_of xs =
     let bits = big_number 8 xs in
