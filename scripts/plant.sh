@@ -23,8 +23,8 @@ plant() {
         tail -n 5 "$copy/$1.log" | sed 's/^/    /'
         return 1
     }
-    sed -n "s/^plants crate=//p" "$copy/$1.log"
-    grep -E '^(proves|no-ensures)' "$copy/$1.log" | sed 's/^/    /'
+    # (each line names its crate, since those of several come at once)
+    sed -n -e "s/^plants crate=//p" -e "s/^\(proves\|no-ensures\)/    $1: \1/p" "$copy/$1.log"
     return 0
 }
 export -f plant
