@@ -24,7 +24,8 @@ pub fn texts_by_units()
     ensures hash { IsHashOf units_of ⟦<TextRef<'static> as Hash>⟧.hash_input }
 {}
 
-/// The same of texts that own their units.
+/// Texts that own their units are equal exactly where they have the same units, are ordered by
+/// them, and hash by them.
 pub fn owned_texts_by_units()
     ensures equality { IsEqualityOf (λ units. units) ⟦<Utf16 as PartialEq>⟧.eq }
     ensures order { IsOrderOf (λ units. units) (slice_cmp nat_cmp) ⟦<Utf16 as Ord>⟧.cmp }
