@@ -26,3 +26,21 @@ is_kept_as_octets (Wide octets) = false
 
 abbrev pub is_ascii_kept : TextRef → Bool
 is_ascii_kept t = is_kept_as_octets t.kept
+
+-- whether they are kept as they are
+abbrev pub is_kept_as_units : Kept → Bool
+is_kept_as_units (Units units) = true
+is_kept_as_units (Ascii text) = false
+is_kept_as_units (Wide octets) = false
+
+abbrev pub is_units_kept : TextRef → Bool
+is_units_kept t = is_kept_as_units t.kept
+
+-- whether they are kept in two octets each
+abbrev pub is_kept_as_pairs : Kept → Bool
+is_kept_as_pairs (Units units) = false
+is_kept_as_pairs (Ascii text) = false
+is_kept_as_pairs (Wide octets) = true
+
+abbrev pub is_wide_kept : TextRef → Bool
+is_wide_kept t = is_kept_as_pairs t.kept

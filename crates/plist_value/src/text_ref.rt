@@ -11,7 +11,8 @@ ghost use Rattle.plist_value.specs.Narrow.{are_narrow};
 ghost use Rattle.plist_value.specs.Hashes.{fed_narrow, fed_text, fed_units, fed_wide};
 ghost use Rattle.plist_value.specs.Hashes.{pair_from, seven_and, word_from};
 ghost use Rattle.std.proofs.Common.{rules};
-ghost use Rattle.plist_value.specs.Texts.{units_of, wide_units, is_ascii_kept};
+ghost use Rattle.plist_value.specs.Texts.{units_of, wide_units};
+ghost use Rattle.plist_value.specs.Texts.{is_ascii_kept, is_units_kept, is_wide_kept};
 
 use crate::words::{compare, feed, feed_octets, word};
 use std::cmp::Ordering;
@@ -41,7 +42,7 @@ impl<'a> TextRef<'a> {
     pub fn of_units(units: &'a [u16]) -> TextRef<'a>
         ensures text { units_of result ≡ units.entry.now }
         ensures valid { AreUnits (units_of result) }
-        ensures kept { is_ascii_kept result ≡ false }
+        ensures kept { is_units_kept result ≡ true }
     {
         TextRef {
             kept: Kept::Units(units),
@@ -71,7 +72,7 @@ impl<'a> TextRef<'a> {
         ensures even { IsSome result ↔ (length octets.entry.now % 2 ≡ 0) }
         ensures text { IfSome result (λ t. units_of t ≡ wide_units octets.entry.now) }
         ensures valid { IfSome result (λ t. AreUnits (units_of t)) }
-        ensures kept { IfSome result (λ t. is_ascii_kept t ≡ false) }
+        ensures kept { IfSome result (λ t. is_wide_kept t ≡ true) }
     {
         if octets.len() % 2 == 0 {
             Some(TextRef {
@@ -120,6 +121,29 @@ impl<'a> TextRef<'a> {
     {
         match self.kept {
             Kept::Ascii(text) => Some(text.as_bytes()),
+            _ => None,
+        }
+    }
+
+    /// The units of a text that is kept as units: exactly a text that `of_units` made has some.
+    pub fn units(&self) -> Option<&'a [u16]>
+        ensures text { IfSome result (λ units. units_of self.now ≡ units.now) }
+        ensures kept { IsSome result ↔ (is_units_kept self.now ≡ true) }
+    {
+        match self.kept {
+            Kept::Units(units) => Some(units),
+            _ => None,
+        }
+    }
+
+    /// The octets of a text that is kept in two octets a unit, the high one first: exactly a text
+    /// that `of_wide` made has some.
+    pub fn wide_octets(&self) -> Option<&'a [u8]>
+        ensures text { IfSome result (λ octets. units_of self.now ≡ wide_units octets.now) }
+        ensures kept { IsSome result ↔ (is_wide_kept self.now ≡ true) }
+    {
+        match self.kept {
+            Kept::Wide(octets) => Some(octets),
             _ => None,
         }
     }
@@ -259,14 +283,12 @@ fn is_narrow(text: &TextRef) -> bool
     ensures { result ≡ are_narrow (units_of text.now) }
 {
     let text = *text;
-    let mut most = 0;
     for i in 0..text.len() {
-        let unit = text.unit(i);
-        if unit > most {
-            most = unit;
+        if text.unit(i) >= 256 {
+            return false;
         }
     }
-    most < 256
+    true
 }
 
 // However it is kept; the octets of a slice are fed faster.

@@ -1,9 +1,8 @@
-use Rattle.std.proofs.Common.{◌≡◌, ◌&&◌, nat_lt, drop}
+use Rattle.std.proofs.Common.{◌≡◌, drop}
 use Rattle.plist_value.specs.Narrow.{are_narrow}
 use Rattle.plist_value.specs.Texts.{units_of}
 use Rattle.plist_value.proofs.text_ref.is_narrow.Given as goal
 
--- the greatest of those before, and all that follow, decide
+-- all that follow decide
 abbrev pub invariant-loop-i : goal.invariant-loop-i
-invariant-loop-i l =
-    (nat_lt l.most 256 && are_narrow (drop l.i (units_of l.text))) ≡ are_narrow (units_of l.text)
+invariant-loop-i l = are_narrow (drop l.i (units_of l.text)) ≡ are_narrow (units_of l.text)
