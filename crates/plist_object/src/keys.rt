@@ -7,6 +7,7 @@ ghost use Rattle.plist_object.specs.Views.{octets_of};
 ghost use Rattle.plist_object.specs.Ranks.{AreKeys, AreRanks, HoldsText};
 
 use crate::layout::BinFile;
+use crate::markers::TABLE;
 use crate::object::{Object, ObjectFault};
 use crate::ranks::{Ranks, ranks_in_order};
 use crate::refs::Refs;
@@ -30,7 +31,7 @@ pub struct Keys<'a> {
 }
 
 impl<'a> Keys<'a> {
-    /// The keys of the tables up to the last object. It ends before at the first object that does
+    /// The keys of the tables up to the last object. It ends before at the first table that does
     /// not read, at the first key that is no text, and where the texts overlap.
     pub fn of_tables(alloc: Global, file: &BinFile<'a>, last: u64) -> Result<Keys<'a>, AllocError>
         ensures { IfOk result (λ keys. AreKeys (octets_of file.now) keys) }
@@ -105,16 +106,18 @@ impl<'a> Keys<'a> {
         Ok(())
     }
 
-    // Whether the object reads, and its keys, if it is a table, were added.
+    // Whether the object is no table, or reads and its keys were added.
     fn add_table(&mut self, file: &BinFile<'a>, i: u64) -> Result<bool, AllocError>
         requires listed { i < (trailer_of (octets_of file.now)).count }
         requires keys { AreKeys (octets_of file.now) self.old }
         ensures { OnOk result (AreKeys (octets_of file.now) self.new) }
     {
+        if file.marker(i) / 16 != TABLE {
+            return Ok(true);
+        }
         match file.object(i) {
             Ok(Object::Table(keys, _)) => self.add_all(file, &keys),
-            Ok(_) => Ok(true),
-            Err(_) => Ok(false),
+            _ => Ok(false),
         }
     }
 

@@ -116,12 +116,10 @@ pub(crate) fn is_ascii(text: &TextRef) -> bool
         return octets.is_ascii();
     }
     let text = *text;
-    let mut most = 0;
     for i in 0..text.len() {
-        let unit = text.unit(i);
-        if unit > most {
-            most = unit;
+        if text.unit(i) >= 128 {
+            return false;
         }
     }
-    most < 128
+    true
 }

@@ -1,10 +1,11 @@
 //! Objects in their canonical spelling.
 ghost use Rattle.std.specs.Prelude.{◌≡◌, ◌+◌, ◌*◌, ◌<◌, ◌≤◌, ◌^◌, [], ◌∷◌, ◌++◌};
-ghost use Rattle.std.specs.Prelude.{ℕ, List, length, All, OnOk, OnErr, nat_lt, replicate, true};
+ghost use Rattle.std.specs.Prelude.{ℕ, List, length, All, OnOk, OnErr, IfSome};
+ghost use Rattle.std.specs.Prelude.{nat_lt, replicate, true};
 ghost use Rattle.std.specs.List.{list_all};
 ghost use Rattle.byteorder.specs.Endian.{big_bytes};
 ghost use Rattle.plist_value.specs.Plist.{IsWhole};
-ghost use Rattle.plist_value.specs.Texts.{units_of};
+ghost use Rattle.plist_value.specs.Texts.{units_of, wide_units};
 ghost use Rattle.plist_value.specs.Scalars.{content_of};
 ghost use Rattle.plist_object.specs.Appending.{Appends, HasRoom};
 ghost use Rattle.plist_object.specs.Sizes.{IsSmall, IsWidth};
@@ -335,8 +336,49 @@ fn push_ascii(out: &mut Vec<u8>, text: &TextRef)
     }
 }
 
-// Each unit in two octets.
+// Each unit in two octets. What is kept so is copied.
 fn push_wide(out: &mut Vec<u8>, text: &TextRef)
+    requires { HasRoom out.old (length (references 2 (units_of text.now))) }
+    ensures { Appends out.old out.new (references 2 (units_of text.now)) }
+{
+    if let Some(octets) = wide_spelling(text) {
+        push_octets(out, octets);
+    } else if let Some(units) = text.units() {
+        push_units(out, units);
+    } else {
+        push_each(out, text);
+    }
+}
+
+// The octets of a text that is kept in two octets a unit.
+fn wide_spelling<'a>(text: &TextRef<'a>) -> Option<&'a [u8]>
+    ensures { IfSome result (λ octets. octets.now ≡ references 2 (units_of text.now)) }
+{
+    pairs(text.wide_octets()?)
+}
+
+// The octets, if they spell the units that stand in them two by two: none is left over.
+fn pairs(octets: &[u8]) -> Option<&[u8]>
+    ensures { IfSome result (λ pairs. pairs.now ≡ references 2 (wide_units octets.now)) }
+{
+    if octets.len() % 2 == 0 {
+        Some(octets)
+    } else {
+        None
+    }
+}
+
+fn push_units(out: &mut Vec<u8>, units: &[u16])
+    requires { HasRoom out.old (length (references 2 units.now)) }
+    ensures { Appends out.old out.new (references 2 units.now) }
+{
+    for unit in units {
+        push_two(out, *unit);
+    }
+}
+
+// However the text is kept.
+fn push_each(out: &mut Vec<u8>, text: &TextRef)
     requires { HasRoom out.old (length (references 2 (units_of text.now))) }
     ensures { Appends out.old out.new (references 2 (units_of text.now)) }
 {

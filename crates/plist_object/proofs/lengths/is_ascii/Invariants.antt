@@ -1,9 +1,9 @@
-use Rattle.std.proofs.Common.{◌≡◌, ◌&&◌, nat_lt, drop}
+use Rattle.std.proofs.Common.{◌≡◌, nat_lt, drop}
 use Rattle.std.specs.List.{list_all}
 use Rattle.plist_value.specs.Texts.{units_of}
 use Rattle.plist_object.proofs.lengths.is_ascii.Given as goal
 
--- the greatest of those before, and all that follow, decide
+-- all that follow decide
 abbrev pub invariant-loop-i : goal.invariant-loop-i
 invariant-loop-i l =
-    (nat_lt l.most 128 && list_all (λ unit. nat_lt unit 128) (drop l.i (units_of l.text))) ≡ list_all (λ unit. nat_lt unit 128) (units_of l.text)
+    list_all (λ unit. nat_lt unit 128) (drop l.i (units_of l.text)) ≡ list_all (λ unit. nat_lt unit 128) (units_of l.text)
