@@ -75,7 +75,8 @@ impl Draft {
     }
 
     /// Puts a scalar as [`Draft::put_scalar`] does, or answers the number of an equal one that was
-    /// put of late. Of scalars that are put often, few objects stand in the draft.
+    /// put of late. Of scalars that are put often, few objects stand in the draft; where few are
+    /// put again, many are put without a look.
     ///
     /// # Errors
     ///
@@ -90,6 +91,9 @@ impl Draft {
         ensures kept { Keeps (objects self.old) (objects self.new) }
         ensures refused { OnErr result (objects self.new ≡ objects self.old) }
     {
+        if self.recent.passes_over() {
+            return self.put_scalar(scalar);
+        }
         self.recent.prepare(self.places.len())?;
         let (number, place) = self.begin()?;
         spell(&mut self.octets, scalar)?;
@@ -97,6 +101,7 @@ impl Draft {
         let hash = hash_of(spelled);
         if let Some(known) = self.recent.find_again(hash, spelled, before, &self.places) {
             self.octets.truncate(place as usize);
+            self.recent.hit();
             return Ok(known);
         }
         self.recent.keep(hash, number);

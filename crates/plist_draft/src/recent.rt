@@ -13,6 +13,12 @@ const LEAST: usize = 64;
 /// The greatest number of slots, in 128 KiB.
 const MOST: usize = 16_384;
 
+/// After so many scalars that were not found it is asked whether to look at all.
+const MISSES: u32 = 4_096;
+
+/// So many scalars are passed over where few were found.
+const PASSES: u32 = 65_536;
+
 /// Stands in a slot that nothing came to: no object has this number.
 const NOTHING: Entry = Entry {
     number: u32::MAX,
@@ -27,11 +33,17 @@ struct Entry {
 }
 
 /// The numbers of scalars, each in the slot that a hash of its octets gives. A slot has the last
-/// that came to it, so what is not found may have been put all the same.
+/// that came to it, so what is not found may have been put all the same. Where few are found, the
+/// next scalars are passed over: to look costs more than an object that stands twice.
 #[derive(Drop)]
 pub(crate) struct Recent {
     slots: Vec<Entry>,
     mask: u64,
+    // Of the scalars that were looked for of late, how many were found, and how many not.
+    found: u32,
+    missed: u32,
+    // How many scalars are still passed over.
+    passes: u32,
 }
 
 impl Recent {
@@ -40,7 +52,19 @@ impl Recent {
         Recent {
             slots: Vec::new(alloc),
             mask: 0,
+            found: 0,
+            missed: 0,
+            passes: 0,
         }
+    }
+
+    /// Whether the next scalar is to be put without a look.
+    pub(crate) fn passes_over(&mut self) -> bool {
+        if self.passes == 0 {
+            return false;
+        }
+        self.passes -= 1;
+        true
     }
 
     /// Takes room for the scalars of so many objects. Where it grows, what was kept is given up.
@@ -89,8 +113,28 @@ impl Recent {
         }
     }
 
-    /// Keeps the number of a scalar with this hash.
+    /// Counts a scalar that was found.
+    pub(crate) fn hit(&mut self) {
+        self.found = self.found.saturating_add(1);
+    }
+
+    // Counts a scalar that was not found. Where fewer than one of eight were, the next are passed
+    // over.
+    fn miss(&mut self) {
+        self.missed = self.missed.saturating_add(1);
+        if self.missed < MISSES {
+            return;
+        }
+        if self.found < MISSES / 8 {
+            self.passes = PASSES;
+        }
+        self.found = 0;
+        self.missed = 0;
+    }
+
+    /// Keeps the number of a scalar with this hash, which was not found.
     pub(crate) fn keep(&mut self, hash: u64, number: u32) {
+        self.miss();
         let slot = self.slot_of(hash);
         if slot < self.slots.len() {
             self.slots[slot] = Entry {

@@ -29,8 +29,8 @@ returns-in-Some-clause-spells c =
     subst (λ xs. Tells (helds_at xs c.begin.new.self.places.items) c.in-Some.known (holds_scalar (content_of c.args.scalar.now))) (sym kept)
     (held-again octets c.begin.new.self.places.items c.in-Some.known (content_of c.args.scalar.now) c.requires c.in_ok-spell.ensures.small again)
 
-pub invariant_of-self-2 : goal.invariant_of-self-2
-invariant_of-self-2 c = record { laid = (puts (goal.at.invariant_of-self-2 c).After-push_reserved).stored }
+pub invariant_of-self-3 : goal.invariant_of-self-3
+invariant_of-self-3 c = record { laid = (puts (goal.at.invariant_of-self-3 c).After-push_reserved).stored }
 
 pub returns-clause-put : goal.returns-clause-put
 returns-clause-put c = inr (puts (goal.at.returns-clause-put c).After-push_reserved).put
