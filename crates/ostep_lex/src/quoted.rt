@@ -182,6 +182,25 @@ fn push_raw<'a>(
     cursor.push_stretch(Class::Raw(mark), units)
 }
 
+/// Appends what of such a stretch stands behind this character. Behind one that is not ASCII mostly
+/// another follows, so none is looked for.
+#[inline(always)]
+fn push_raw_behind<'a>(
+    units: &mut Vec<u16>,
+    mark: char,
+    c: char,
+    cursor: Cursor<'a>,
+) -> Result<Cursor<'a>, AllocError>
+    ensures { IfOk result
+        (StretchAppends (Raw mark) units.old.items units.new.items cursor.entry) }
+{
+    if c.is_ascii() {
+        push_raw(units, mark, cursor)
+    } else {
+        Ok(cursor)
+    }
+}
+
 /// The units of the string behind its quote, which stands at the place `start`, and the cursor
 /// behind the quote that closes it.
 pub fn quoted(
@@ -201,7 +220,7 @@ pub fn quoted(
             return Ok((units, behind));
         }
         let end = push_piece(&mut units, start, rest, c, behind)?;
-        rest = push_raw(&mut units, mark, end)?;
+        rest = push_raw_behind(&mut units, mark, c, end)?;
     }
     Err(LexFault::UnclosedString { octet: start })
 }
