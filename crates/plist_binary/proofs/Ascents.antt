@@ -19,12 +19,13 @@ abbrev pub AscendTo : ℕ → List (List ℕ) → Type 0
 AscendTo n keys =
     (k : ℕ) → k + 1 < n → slice_cmp nat_cmp (get_or keys k []) (get_or keys (k + 1) []) ≡ Less
 
-pub ascend_more : {A : Type 0} (g : A → List ℕ) (xs : List A) (i : ℕ) (d e : A) (answer : Bool) → 1 ≤ i → i < length xs → (IsTrue answer ↔ (slice_cmp nat_cmp (g (get_or xs (i - 1) d)) (g (get_or xs i e)) ≡ Less)) → answer ≡ true → AscendTo i (map g xs) → AscendTo (i + 1) (map g xs)
-ascend_more g xs i d e answer some within says is below k h =
+-- one more that is below the next
+pub ascend_next : {A : Type 0} (g : A → List ℕ) (xs : List A) (i : ℕ) (d e : A) → 1 ≤ i → i < length xs → slice_cmp nat_cmp (g (get_or xs (i - 1) d)) (g (get_or xs i e)) ≡ Less → AscendTo i (map g xs) → AscendTo (i + 1) (map g xs)
+ascend_next g xs i d e some within less below k h =
     let keys = map g xs in
     let lower : get_or keys (i - 1) [] ≡ g (get_or xs (i - 1) d) = get_or-map g xs (i - 1) d [] (omega arith) in
     let upper : get_or keys i [] ≡ g (get_or xs i e) = get_or-map g xs i e [] within in
-    let last : slice_cmp nat_cmp (get_or keys (i - 1) []) (get_or keys i []) ≡ Less = ap (λ us. slice_cmp nat_cmp us (get_or keys i [])) lower ∙ ap (λ us. slice_cmp nat_cmp (g (get_or xs (i - 1) d)) us) upper ∙ says.0 is in
+    let last : slice_cmp nat_cmp (get_or keys (i - 1) []) (get_or keys i []) ≡ Less = ap (λ us. slice_cmp nat_cmp us (get_or keys i [])) lower ∙ ap (λ us. slice_cmp nat_cmp (g (get_or xs (i - 1) d)) us) upper ∙ less in
     ⊎_elim
     (λ (before : k + 1 < i). below k before)
     (λ (here : i ≤ k + 1).
@@ -32,6 +33,10 @@ ascend_more g xs i d e answer some within says is below k h =
     let under : i - 1 ≡ k = omega arith in
     subst (λ (n : ℕ). slice_cmp nat_cmp (get_or keys n []) (get_or keys (k + 1) []) ≡ Less) under (subst (λ (n : ℕ). slice_cmp nat_cmp (get_or keys (i - 1) []) (get_or keys n []) ≡ Less) at last))
     (cases_lt (k + 1) i)
+
+pub ascend_more : {A : Type 0} (g : A → List ℕ) (xs : List A) (i : ℕ) (d e : A) (answer : Bool) → 1 ≤ i → i < length xs → (IsTrue answer ↔ (slice_cmp nat_cmp (g (get_or xs (i - 1) d)) (g (get_or xs i e)) ≡ Less)) → answer ≡ true → AscendTo i (map g xs) → AscendTo (i + 1) (map g xs)
+ascend_more g xs i d e answer some within says is below =
+    ascend_next g xs i d e some within (says.0 is) below
 
 pub not_ascending : {A : Type 0} (g : A → List ℕ) (xs : List A) (i : ℕ) (d e : A) (answer : Bool) → 1 ≤ i → i < length xs → (IsTrue answer ↔ (slice_cmp nat_cmp (g (get_or xs (i - 1) d)) (g (get_or xs i e)) ≡ Less)) → answer ≡ false → IsStrictlySortedBy (slice_cmp nat_cmp) (map g xs) → ⊥
 not_ascending g xs i d e answer some within says is sorted =

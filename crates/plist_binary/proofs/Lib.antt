@@ -27,4 +27,5 @@ pub mod Sorting
 pub mod Monotone
 pub mod HeadSteps
 pub mod RowSteps
+pub mod RowTexts
 pub mod WorkedHeads

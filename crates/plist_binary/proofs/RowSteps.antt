@@ -70,7 +70,8 @@ unfolding IsStrictlySortedBy
 ascend_by_heads front first [] shared heads = tt
 ascend_by_heads front first (key ∷ keys) shared heads = ascend_from front first (key ∷ keys) key shared heads
 
-places_of_rows : (front : ℕ) (keys : List Key) → map place_of keys ≡ map place_in (map (row_of front) keys)
+-- rows have the places of their keys
+pub places_of_rows : (front : ℕ) (keys : List Key) → map place_of keys ≡ map place_in (map (row_of front) keys)
 places_of_rows front [] = refl
 places_of_rows front (key ∷ keys) = ap (λ (ps : List ℕ). place_of key ∷ ps) (places_of_rows front keys)
 

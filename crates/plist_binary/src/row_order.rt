@@ -1,15 +1,23 @@
 //! The places of the keys of a long table in the order of their texts, where the heads of the texts
 //! tell it.
 ghost use Rattle.std.specs.Prelude.{◌≡◌, ◌<◌, IsTrue, IfOk, IfSome, length, map};
-ghost use Rattle.plist_binary.specs.RowOrder.{row_of, place_in, AreOrdered, HeadsAscend};
+ghost use Rattle.std.specs.Ordering.{nat_cmp};
+ghost use Rattle.std.specs.Cmp.Lexicographic.{slice_cmp};
+ghost use Rattle.std.specs.List.Sorted.{IsPermutation};
+ghost use Rattle.plist_binary.specs.Keys.{place_of, AreInPlace};
+ghost use Rattle.plist_binary.specs.RowOrder.{row_of, place_in, text_at};
+ghost use Rattle.plist_binary.specs.RowOrder.{AreOrdered, HeadsAscend, TextsAscend};
 
 use crate::heads;
 use crate::tables::{Key, have_ranks};
 use std::alloc::{AllocError, Global};
+use std::cmp::Ordering;
 
-// The head of a key's text behind what all keys share, and the place of the key.
+// A head of a key's text, and the place of the key. Rows whose heads were equal so far stand in a
+// run, which is known by the number of its first row.
 #[derive(Clone, Copy)]
 pub(crate) struct Row {
+    run: u64,
     head: u64,
     place: u64,
 }
@@ -17,9 +25,16 @@ pub(crate) struct Row {
 // The keys of a table of up to so many are sorted themselves.
 const FEW: usize = 64;
 
-// The places of the keys in the order of their texts, if the keys are many and no two have the same
-// head. Rows are sorted in place of keys, which take more than three times the room.
+// A head is of so many units.
+const HEAD_UNITS: usize = 8;
+
+// So many heads of a key are looked at: the first behind what all keys share.
+const MOST_HEADS: usize = 8;
+
+// The places of the keys in the order of their texts, if the keys are many and their heads tell
+// that order. Rows are sorted in place of keys, which take more than twice the room.
 pub(crate) fn places_by_heads(alloc: Global, keys: &[Key]) -> Result<Option<Vec<u64>>, AllocError>
+    requires { AreInPlace keys.now }
     ensures { IfOk result (λ told. IfSome told (λ places. AreOrdered keys.now places.items)) }
 {
     if keys.len() <= FEW || have_ranks(keys) {
@@ -30,21 +45,42 @@ pub(crate) fn places_by_heads(alloc: Global, keys: &[Key]) -> Result<Option<Vec<
     let mut rows = rows_of(alloc, keys, front)?;
     rows.sort_unstable_by_key(|row| row.head);
     let sorted = rows.as_slice();
-    if !ascend(sorted) {
+    if ascend(sorted) {
+        return Ok(Some(places_of(alloc, sorted)?));
+    }
+    places_by_more_heads(alloc, keys, rows, front)
+}
+
+// The same for rows in the order of their first heads, of which some are equal.
+fn places_by_more_heads(
+    alloc: Global,
+    keys: &[Key],
+    rows: Vec<Row>,
+    front: usize,
+) -> Result<Option<Vec<u64>>, AllocError>
+    requires placed { AreInPlace keys.now }
+    requires moved { IsPermutation (map place_of keys.now) (map place_in rows.items) }
+    ensures { IfOk result (λ told. IfSome told (λ places. AreOrdered keys.now places.items)) }
+{
+    let mut rows = rows;
+    order_runs(keys, &mut rows, front);
+    let sorted = rows.as_slice();
+    if !texts_ascend(keys, sorted) {
         return Ok(None);
     }
     Ok(Some(places_of(alloc, sorted)?))
 }
 
-// The rows of the keys as they stand, with heads behind so many units.
+// The rows of the keys as they stand, with heads behind so many units, in one run.
 fn rows_of(alloc: Global, keys: &[Key], front: usize) -> Result<Vec<Row>, AllocError>
     ensures { IfOk result (λ rows. rows.items ≡ map (row_of front) keys.now) }
 {
     let mut rows = Vec::with_capacity(alloc, keys.len())?;
     for key in keys {
+        let run = 0;
         let head = heads::head(&key.text, front);
         let place = key.place as u64;
-        rows.push(Row { head, place })?;
+        rows.push(Row { run, head, place })?;
     }
     Ok(rows)
 }
@@ -59,6 +95,91 @@ fn ascend(rows: &[Row]) -> bool
         }
     }
     true
+}
+
+// Puts the rows of equal heads, which stand together, in the order of the heads that follow.
+fn order_runs(keys: &[Key], rows: &mut Vec<Row>, front: usize)
+    ensures { IsPermutation (map place_in rows.old.items) (map place_in rows.new.items) }
+{
+    let mut front = front;
+    for _ in 1..MOST_HEADS {
+        if !mark_runs(&mut *rows) {
+            return;
+        }
+        front = front.saturating_add(HEAD_UNITS);
+        read_heads(keys, &mut *rows, front);
+        rows.sort_unstable_by_key(|row| (row.run, row.head));
+    }
+}
+
+// Puts the rows of equal runs and heads into a run of their own, and says whether one of these has
+// two rows.
+fn mark_runs(rows: &mut Vec<Row>) -> bool
+    ensures { map place_in rows.new.items ≡ map place_in rows.old.items }
+{
+    let mut before = (u64::MAX, 0);
+    let mut run = 0;
+    let mut tied = false;
+    for i in 0..rows.len() {
+        let row = rows[i];
+        let now = (row.run, row.head);
+        if now == before {
+            tied = true;
+        } else {
+            run = i as u64;
+        }
+        before = now;
+        rows[i].run = run;
+    }
+    tied
+}
+
+// Gives the rows the heads of their keys behind so many units.
+fn read_heads(keys: &[Key], rows: &mut Vec<Row>, front: usize)
+    ensures { map place_in rows.new.items ≡ map place_in rows.old.items }
+{
+    for i in 0..rows.len() {
+        let head = next_head(keys, &*rows, i, front);
+        rows[i].head = head;
+    }
+}
+
+// The head of a row's key behind so many units, or 0 where the row is alone in its run.
+fn next_head(keys: &[Key], rows: &Vec<Row>, i: usize, front: usize) -> u64
+    requires { i < length rows.now.items }
+{
+    let row = rows[i];
+    let is_first = row.run == i as u64;
+    let is_last = i + 1 == rows.len() || rows[i + 1].run != row.run;
+    if is_first && is_last {
+        return 0;
+    }
+    match keys.get(row.place as usize) {
+        Some(key) => heads::head(&key.text, front),
+        None => 0,
+    }
+}
+
+// Whether the key of each row is below that of the next.
+fn texts_ascend(keys: &[Key], rows: &[Row]) -> bool
+    ensures { IsTrue result → TextsAscend keys.now rows.now }
+{
+    for i in 1..rows.len() {
+        if !is_below(keys, &rows[i - 1], &rows[i]) {
+            return false;
+        }
+    }
+    true
+}
+
+fn is_below(keys: &[Key], row: &Row, next: &Row) -> bool
+    ensures { IsTrue result → slice_cmp nat_cmp (text_at keys.now row.now)
+        (text_at keys.now next.now) ≡ Ordering.Less }
+{
+    match (keys.get(row.place as usize), keys.get(next.place as usize)) {
+        (Some(key), Some(above)) => key.text < above.text,
+        _ => false,
+    }
 }
 
 fn places_of(alloc: Global, rows: &[Row]) -> Result<Vec<u64>, AllocError>

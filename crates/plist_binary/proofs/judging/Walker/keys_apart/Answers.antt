@@ -6,7 +6,7 @@ use Rattle.std.proofs.lemmas.List.Sorted.{IsPermutation-map}
 use Rattle.plist_object.specs.Views.{numbers_of, octets_of}
 use Rattle.plist_binary.specs.declared.tables.Key.{Key}
 use Rattle.plist_object.specs.Order.{IsOrder}
-use Rattle.plist_binary.specs.Keys.{units_at, place_of}
+use Rattle.plist_binary.specs.Keys.{units_at, place_of, AreInPlace}
 use Rattle.plist_binary.specs.Paths.{containers_of}
 use Rattle.plist_binary.specs.Recalls.{RefusesTable}
 use Rattle.plist_binary.specs.RowOrder.{AreOrdered}
@@ -22,6 +22,10 @@ use Rattle.plist_binary.proofs.judging.Walker.keys_apart.Goals as goal
 sorted_keys : (keys written sorted : List Key) → written ≡ keys → IsPermutation written sorted → IsPermutation (map units_at keys) (map units_at sorted)
 sorted_keys keys written sorted same moved =
     IsPermutation-map units_at keys sorted (subst (λ (xs : List Key). IsPermutation xs sorted) same moved)
+
+pub places_by_heads-requires : goal.places_by_heads-requires
+places_by_heads-requires c =
+    subst AreInPlace (sym c.as_slice.ensures.value) c.in_ok-keys.ensures.placed
 
 pub returns-in_err-keys-clause-refused : goal.returns-in_err-keys-clause-refused
 returns-in_err-keys-clause-refused c =

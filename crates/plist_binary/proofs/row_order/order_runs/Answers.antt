@@ -1,0 +1,17 @@
+use Rattle.std.proofs.Common.{List, ℕ, map, subst, sym}
+use Rattle.std.specs.List.Sorted.{IsPermutation}
+use Rattle.std.proofs.lemmas.List.Sorted.{IsPermutation-refl}
+use Rattle.plist_binary.specs.RowOrder.{place_in}
+use Rattle.plist_binary.proofs.RowTexts.{sorted_again}
+use Rattle.plist_binary.proofs.row_order.order_runs.Goals as goal
+
+pub loop-init : goal.loop-init
+loop-init c = IsPermutation-refl (map place_in c.args.rows.now.items)
+
+pub returns-then-not-mark_runs : goal.returns-then-not-mark_runs
+returns-then-not-mark_runs c =
+    subst (λ (ps : List ℕ). IsPermutation (map place_in c.args.rows.now.items) ps) (sym c.mark_runs.ensures) c.loop.invariant
+
+pub loop-preserved : goal.loop-preserved
+loop-preserved c =
+    sorted_again (map place_in c.args.rows.now.items) c.loop.rows.items c.mark_runs.new.rows.items c.read_heads.new.rows.items c.sort_unstable_by_key.new.self.items c.loop.invariant c.mark_runs.ensures c.read_heads.ensures c.sort_unstable_by_key.ensures.permutation
