@@ -72,6 +72,24 @@ fn equal_scalars_are_one_object(rt: HostRuntime) -> Result<(), Fail> {
     Ok(())
 }
 
+// Of texts that are put once few would be found: many that follow are put without a look, and then
+// equal ones are found again.
+#[test]
+fn few_equal_scalars_are_not_looked_for(rt: HostRuntime) -> Result<(), Fail> {
+    let mut draft = Draft::new(rt.alloc())?;
+    for i in 0..5_000u16 {
+        share_text(&mut draft, &[i, 0x61])?;
+    }
+    assert_eq!(rt; share_text(&mut draft, &[0x61])?, 5_000);
+    assert_eq!(rt; share_text(&mut draft, &[0x61])?, 5_001);
+    for _ in 0..66_000u32 {
+        share_text(&mut draft, &[0x61])?;
+    }
+    let b = share_text(&mut draft, &[0x62])?;
+    assert_eq!(rt; share_text(&mut draft, &[0x62])?, b);
+    Ok(())
+}
+
 // The file of what is put behind one string, or of that string, where the put is refused.
 fn finished(draft: Draft, put: Result<u32, AllocError>) -> Result<(Vec<u8>, bool), AllocError> {
     match put {

@@ -61,16 +61,39 @@ fn keys_that_many_tables_share(rt: HostRuntime) -> Result<(), Fail> {
     Ok(())
 }
 
-// A text of so many units that all keys share, and one or two behind them: texts that ascend with
-// the number. The units rise from 88 to 107 in ASCII, and from 245 to 264.
-fn key(alloc: Global, front: u8, number: u8) -> Result<Vec<u8>, AllocError> {
+// How the keys of a long table begin: with so many units, of which so many keys share the first one
+// and all keys the others.
+#[derive(Clone, Copy)]
+struct Beginning {
+    sharing: u8,
+    units: u8,
+}
+
+impl Beginning {
+    // The unit at a place among the first.
+    fn unit(self, place: u8, number: u8) -> u16 {
+        if place == 0 {
+            0x61 + u16::from(number / self.sharing.max(1))
+        } else {
+            0x61
+        }
+    }
+}
+
+// A text that begins so, and one or two units behind: texts that ascend with the number. The last
+// units rise from 88 to 107 in ASCII, and from 245 to 264.
+fn key(alloc: Global, first: Beginning, number: u8) -> Result<Vec<u8>, AllocError> {
     let step = number / 2;
     let ascii = step < 20;
     let last = if ascii { 88 } else { 225 } + u16::from(step);
-    let count = front.saturating_add(1 + number % 2);
+    let count = first.units.saturating_add(1 + number % 2);
     let mut key = Vec::from_slice(alloc, &[if ascii { 0x5f } else { 0x6f }, 0x10, count])?;
     for i in 0..count {
-        let unit = if i < front { 0x61 } else { last };
+        let unit = if i < first.units {
+            first.unit(i, number)
+        } else {
+            last
+        };
         let [high, low] = unit.to_be_bytes();
         if !ascii {
             key.push(high)?;
@@ -81,7 +104,7 @@ fn key(alloc: Global, front: u8, number: u8) -> Result<Vec<u8>, AllocError> {
 }
 
 // One table of eighty keys that are not in order; the last but one is this number.
-fn long_table(alloc: Global, front: u8, last: u8) -> Result<Vec<u8>, AllocError> {
+fn long_table(alloc: Global, first: Beginning, last: u8) -> Result<Vec<u8>, AllocError> {
     let mut table = Vec::from_slice(alloc, &[0xdf, 0x10, 80])?;
     for i in 1..81u8 {
         table.push(i)?;
@@ -91,15 +114,15 @@ fn long_table(alloc: Global, front: u8, last: u8) -> Result<Vec<u8>, AllocError>
     draft.put(table.as_slice())?;
     for i in 0..80u16 {
         let number = if i == 78 { last } else { (i * 37 % 80) as u8 };
-        draft.put(key(alloc, front, number)?.as_slice())?;
+        draft.put(key(alloc, first, number)?.as_slice())?;
     }
     draft.put(b"\x09")?;
     draft.finish(2, 1)
 }
 
-// Whether the keys of a long table with this front are put in their order.
-fn is_in_order(alloc: Global, front: u8) -> Result<bool, AllocError> {
-    let octets = long_table(alloc, front, 6)?;
+// Whether the keys of a long table that begin so are put in their order.
+fn is_in_order(alloc: Global, first: Beginning) -> Result<bool, AllocError> {
+    let octets = long_table(alloc, first, 6)?;
     let Ok(Some(sorted)) = judge_keys(alloc, octets.as_slice()) else {
         return Ok(false);
     };
@@ -111,20 +134,32 @@ fn is_in_order(alloc: Global, front: u8) -> Result<bool, AllocError> {
     Ok(true)
 }
 
-// Whether a long table with this front that has one key twice is refused.
-fn is_refused(alloc: Global, front: u8) -> Result<bool, AllocError> {
-    let twice = long_table(alloc, front, 7)?;
+// Whether a long table whose keys begin so and that has one key twice is refused.
+fn is_refused(alloc: Global, first: Beginning) -> Result<bool, AllocError> {
+    let twice = long_table(alloc, first, 7)?;
     let answer = judge(alloc, twice.as_slice());
     Ok(answer == Err(BinaryFault::DuplicateKey { object: 0 }))
 }
 
-const FRONTS: [u8; 8] = [0, 1, 40, 62, 63, 64, 65, 90];
+// How many keys share their first unit, and how many units they begin with: fewer than are compared
+// at a time, as many, and more than the keys are sorted by.
+const BEGINNINGS: [(u8, &[u8]); 3] = [
+    (80, &[0, 1, 40, 62, 63, 64, 65, 90]),
+    (8, &[1, 7, 8, 9, 16, 63, 64, 65, 90]),
+    (2, &[1, 8, 17, 90]),
+];
 
-// The first front of which a table is answered otherwise.
-fn wrong_front(alloc: Global) -> Result<Option<u8>, AllocError> {
-    for front in &FRONTS {
-        if !is_in_order(alloc, *front)? || !is_refused(alloc, *front)? {
-            return Ok(Some(*front));
+// The first beginning of which a table is answered otherwise.
+fn wrong_beginning(alloc: Global) -> Result<Option<(u8, u8)>, AllocError> {
+    for (sharing, counts) in &BEGINNINGS {
+        for units in counts.iter() {
+            let first = Beginning {
+                sharing: *sharing,
+                units: *units,
+            };
+            if !is_in_order(alloc, first)? || !is_refused(alloc, first)? {
+                return Ok(Some((*sharing, *units)));
+            }
         }
     }
     Ok(None)
@@ -132,7 +167,7 @@ fn wrong_front(alloc: Global) -> Result<Option<u8>, AllocError> {
 
 #[test]
 fn keys_of_a_long_table(rt: HostRuntime) -> Result<(), Fail> {
-    assert_eq!(rt; wrong_front(rt.alloc())?, None);
+    assert_eq!(rt; wrong_beginning(rt.alloc())?, None);
     Ok(())
 }
 
