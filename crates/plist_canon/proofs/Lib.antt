@@ -23,6 +23,7 @@ pub mod Visiting
 pub mod Leading
 pub mod Paths
 pub mod Judges
+pub mod Meeting
 pub mod TableParts
 pub mod Spending
 pub mod Ranked

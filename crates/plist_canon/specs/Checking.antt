@@ -1,10 +1,10 @@
 -- What a check of a file answers, and what its parts say.
-use Rattle.std.specs.Prelude.{◌≡◌, ◌↔◌, ◌⊎◌, ℕ, zero, suc, ◌<◌, length, slice_index, Bool, true, not, List, Ok, ⊤}
+use Rattle.std.specs.Prelude.{◌≡◌, ◌↔◌, ◌⊎◌, ℕ, zero, suc, ◌<◌, nat_eq, length, slice_index, Bool, true, not, if◌then◌else◌, List, Ok, Option, Some, None, ⊤}
 use Rattle.std.specs.List.{AllByRecursion}
 use Rattle.std.specs.declared.cmp.Ordering.TheVariants.{Less}
 use Rattle.std.specs.Ordering.{nat_cmp, on}
 use Rattle.std.specs.Cmp.Lexicographic.{slice_cmp}
-use Rattle.indexmap.specs.IndexSet.{contains}
+use Rattle.indexmap.specs.IndexSet.{IndexSet, contains}
 use Rattle.plist_value.specs.Plist.{Scalar, text}
 use Rattle.plist_value.specs.Equality.{scalar_eq}
 use Rattle.plist_value.specs.Scalars.{content_of}
@@ -14,6 +14,7 @@ use Rattle.plist_object.specs.Objects.{Held, holds_scalar}
 use Rattle.plist_object.specs.declared.layout.LayoutFault.TheVariants as layout
 use Rattle.plist_object.specs.Places.{Holds, what_holds, span_of}
 use Rattle.plist_object.specs.References.{references_of}
+use Rattle.plist_engine.specs.Scalars.{natural_in}
 use Rattle.plist_canon.specs.Rules.{keys_of, HoldsText, IsWellRead, IsSpelledCanonically, HasAscendingKeys, IsNoRepeat, FollowsRules, IsBroken}
 use Rattle.plist_canon.specs.declared.checking.CheckFault.{CheckFault}
 use Rattle.plist_canon.specs.declared.checking.CheckFault.TheVariants as fault
@@ -85,9 +86,19 @@ pub record IsJudged (f : List ℕ) (i : ℕ) : Type 0 where
   pub ascending : HasAscendingKeys f i
   pub single : IsNoRepeat f i
 
+-- whether the natural number was met; or where there is none, an equal scalar among the others
+abbrev pub was_met_as : {S H : Type 0} → Repeats S H → ScalarRef → Option ℕ → Bool
+was_met_as repeats s (Some n) = contains nat_eq repeats.naturals n
+was_met_as repeats s None = contains (on content_of scalar_eq) repeats.others s
+
 -- whether an equal scalar was met
 abbrev pub was_met : {S H : Type 0} → Repeats S H → ScalarRef → Bool
-was_met repeats s = contains (on content_of scalar_eq) repeats.met s
+was_met repeats s = was_met_as repeats s (natural_in (content_of s))
+
+-- the set has the key now, and had it before unless this is the first
+pub record Keeps {K H : Type 0} (eq : K → K → Bool) (key : K) (old new : IndexSet K H) (first : Bool) : Type 0 where
+  pub answer : first ≡ not (contains eq old key)
+  pub each : (q : K) → contains eq new q ≡ (if eq key q then true else contains eq old q)
 
 -- one scalar more was met, for the first time or not
 pub record Meets {S H : Type 0} (s : ScalarRef) (old new : Repeats S H) (first : Bool) : Type 0 where

@@ -100,7 +100,7 @@ pub(crate) fn judge_objects<S: BuildHasher + Copy>(
     ensures err { IfErr result (IsFlaw (octets_of file.now)) }
 {
     let ranks = rank_keys(alloc, file)?;
-    let mut repeats = Repeats::new(alloc, hasher);
+    let mut repeats = Repeats::new(alloc, hasher, file.count() as usize);
     let mut end = 8;
     for i in 0..file.count() {
         end = judge_object(objects, file, i, end, &ranks, &mut repeats)?;
@@ -186,7 +186,7 @@ fn judge_places(file: &BinFile) -> Placed
 }
 
 // The rules of the object, where the one before it ends at the place; and where the object ends.
-fn judge_object<'a, S: BuildHasher>(
+fn judge_object<'a, S: BuildHasher + Copy>(
     objects: &[u8],
     file: &BinFile<'a>,
     i: u64,
@@ -326,7 +326,7 @@ fn judge_keys(file: &BinFile, ranks: &Ranks, i: u64, object: &Object) -> Result<
 }
 
 // Rule 6 of the object.
-fn judge_repeat<'a, S: BuildHasher>(
+fn judge_repeat<'a, S: BuildHasher + Copy>(
     file: &BinFile<'a>,
     i: u64,
     object: &Object<'a>,
@@ -339,7 +339,7 @@ fn judge_repeat<'a, S: BuildHasher>(
     ensures err { IfErr result (IsFlaw (octets_of file.now)) }
 {
     if let Object::Scalar(scalar) = object {
-        if !repeats.meet(*scalar)? {
+        if !repeats.meet(*scalar, i as usize)? {
             return Err(Flaw::at(6, i));
         }
     }
