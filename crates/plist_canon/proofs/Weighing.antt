@@ -48,8 +48,8 @@ pub scalar-Weighs : (f : List ℕ) (i : ℕ) (weight : Weight) → Weighs f i we
 scalar-Weighs f i weight weighs scalar =
     ap is_scalar_weight (Weighs-held f i weight (holds_scalar scalar.0) weighs scalar.1) ∙ scalar-weight scalar.0
 
-pub AreWeights-more : (f : List ℕ) (weights : List Weight) (number : ℕ) (weight : Weight) → AreWeights f weights → length weights ≡ number → Weighs f number weight → AreWeights f (weights ++ (weight ∷ []))
-AreWeights-more f weights number weight weighed counted weighs i below =
+weights-more : (f : List ℕ) (weights : List Weight) (number : ℕ) (weight : Weight) → AreWeights f weights → length weights ≡ number → Weighs f number weight → AreWeights f (weights ++ (weight ∷ []))
+weights-more f weights number weight weighed counted weighs i below =
     elim (cases_lt i (length weights)) [
       | inl before ↦ rw (get_or_append_left weights (weight ∷ []) Container i before) (weighed i before)
       | inr past ↦ (
@@ -58,9 +58,16 @@ AreWeights-more f weights number weight weighed counted weighs i below =
           rw (get_or_push weights weight Container i is) (subst (λ (k : ℕ). Weighs f k weight) (sym counted ∙ is) weighs))
     ]
 
-pub length-more : (weights : List Weight) (number : ℕ) (weight : Weight) → length weights ≡ number → length (weights ++ (weight ∷ [])) ≡ number + 1
-length-more weights number weight counted =
-    let long = length-append weights (weight ∷ []) in omega arith
+-- the weight of one object more was pushed
+pub AreWeights-more : (f : List ℕ) (weights pushed : List Weight) (number : ℕ) (weight : Weight) → pushed ≡ weights ++ (weight ∷ []) → AreWeights f weights → length weights ≡ number → Weighs f number weight → AreWeights f pushed
+AreWeights-more f weights pushed number weight is weighed counted weighs =
+    subst (λ (ws : List Weight). AreWeights f ws) (sym is) (weights-more f weights number weight weighed counted weighs)
+
+pub length-more : (weights pushed : List Weight) (number : ℕ) (weight : Weight) → pushed ≡ weights ++ (weight ∷ []) → length weights ≡ number → length pushed ≡ number + 1
+length-more weights pushed number weight is counted =
+    let long = length-append weights (weight ∷ []) in
+    let same : length pushed ≡ length (weights ++ (weight ∷ [])) = ap length is in
+    omega arith
 
 pub AreAllWeights-at : (f : List ℕ) (weights : List Weight) → AreAllWeights f weights → (i : ℕ) → i < (trailer_of f).count → Weighs f i (slice_index_or weights i Container)
 AreAllWeights-at f weights all i below =

@@ -11,7 +11,6 @@ ghost use Rattle.plist_canon.specs.Codes.{check_code, check_report};
 use crate::judging::{Flaw, judge_objects, judge_trailer};
 use crate::limits::judge_limits;
 use crate::preorder::judge_order;
-use crate::weights::weigh_objects;
 use plist_object::{BinFile, LayoutFault};
 use plist_value::{FixedHasher, Place, Refusal, Report};
 use std::alloc::Global;
@@ -171,8 +170,7 @@ fn judge<S: BuildHasher + Copy>(
 {
     judge_trailer(file)?;
     let objects = &octets[..file.table() as usize];
-    judge_objects(alloc, hasher, objects, file)?;
-    let weights = weigh_objects(alloc, file)?;
+    let weights = judge_objects(alloc, hasher, objects, file)?;
     judge_order(alloc, file, &weights)?;
     judge_limits(file, &weights)
 }

@@ -10,10 +10,12 @@ ghost use Rattle.plist_canon.specs.Rules.{HasPlainTrailer, HasLeastWidths, Adjoi
 ghost use Rattle.plist_canon.specs.Rules.{IsSpelledCanonically, HasAscendingKeys, IsNoRepeat};
 ghost use Rattle.plist_canon.specs.Checking.{IsFlaw, RefersWell, IsEndBefore};
 ghost use Rattle.plist_canon.specs.Checking.{Follows, IsJudged, HasMet};
+ghost use Rattle.plist_canon.specs.Weights.{Weighs, AreAllWeights};
 
 use crate::beginning::begins_plainly;
 use crate::references::{keys_ascend, refers_well};
 use crate::repeats::Repeats;
+use crate::weights::Weight;
 use plist_object::{BinFile, Keys, Object, Ranks, scalar_length, width_of};
 use std::alloc::{AllocError, AllocFailed, Global};
 use std::hash::BuildHasher;
@@ -85,27 +87,34 @@ fn has_least_widths(file: &BinFile) -> bool
 }
 
 /// Rules 0, 3, 4, 5 and 6 of each object in turn, but for the limits; then the place of the offset
-/// table. All objects stand in these octets before the table.
+/// table. All objects stand in these octets before the table. What the limits ask of each object is
+/// answered.
 pub(crate) fn judge_objects<S: BuildHasher + Copy>(
     alloc: Global,
     hasher: S,
     objects: &[u8],
     file: &BinFile,
-) -> Result<(), Flaw>
+) -> Result<Vec<Weight>, Flaw>
     requires { objects.now ≡ take (trailer_of (octets_of file.now)).table (octets_of file.now) }
     ensures judged { OnOk result
         ((i : ℕ) → i < (trailer_of (octets_of file.now)).count → IsJudged (octets_of file.now) i) }
     ensures adjoin { OnOk result
         ((i : ℕ) → i < (trailer_of (octets_of file.now)).count → Adjoins (octets_of file.now) i) }
+    ensures weights { IfOk result
+        (λ weights. AreAllWeights (octets_of file.now) weights.items) }
     ensures err { IfErr result (IsFlaw (octets_of file.now)) }
 {
     let ranks = rank_keys(alloc, file)?;
     let mut repeats = Repeats::new(alloc, hasher, file.count() as usize);
+    let mut weights = Vec::new(alloc);
     let mut end = 8;
     for i in 0..file.count() {
-        end = judge_object(objects, file, i, end, &ranks, &mut repeats)?;
+        let judged = judge_object(objects, file, i, end, &ranks, &mut repeats)?;
+        weights.push(judged.weight)?;
+        end = judged.end;
     }
-    judge_table(file, end)
+    judge_table(file, end)?;
+    Ok(weights)
 }
 
 // Rule 3 at the last object: the offset table stands where all objects end.
@@ -185,7 +194,14 @@ fn judge_places(file: &BinFile) -> Placed
     }
 }
 
-// The rules of the object, where the one before it ends at the place; and where the object ends.
+// What is told of an object of which the rules hold: where it ends, and what the limits ask of it.
+#[derive(Clone, Copy)]
+struct Judged {
+    end: u64,
+    weight: Weight,
+}
+
+// The rules of the object, where the one before it ends at the place.
 fn judge_object<'a, S: BuildHasher + Copy>(
     objects: &[u8],
     file: &BinFile<'a>,
@@ -193,7 +209,7 @@ fn judge_object<'a, S: BuildHasher + Copy>(
     place: u64,
     ranks: &Ranks,
     repeats: &mut Repeats<'a, S>,
-) -> Result<u64, Flaw>
+) -> Result<Judged, Flaw>
     requires objects { objects.now
         ≡ take (trailer_of (octets_of file.now)).table (octets_of file.now) }
     requires listed { i < (trailer_of (octets_of file.now)).count }
@@ -201,7 +217,9 @@ fn judge_object<'a, S: BuildHasher + Copy>(
     requires ranks { AreRanks (octets_of file.now) ranks.now }
     requires met { HasMet (octets_of file.now) i repeats.old }
     ensures judged { IfOk result (λ _. IsJudged (octets_of file.now) i) }
-    ensures ends { IfOk result (λ end. span_of (octets_of file.now) i ≡ Ok (place, end)) }
+    ensures ends { IfOk result
+        (λ judged. span_of (octets_of file.now) i ≡ Ok (place, judged.end)) }
+    ensures weighs { IfOk result (λ judged. Weighs (octets_of file.now) i judged.weight) }
     ensures met { IfOk result (λ _. HasMet (octets_of file.now) (suc i) repeats.new) }
     ensures err { IfErr result (IsFlaw (octets_of file.now)) }
 {
@@ -210,7 +228,10 @@ fn judge_object<'a, S: BuildHasher + Copy>(
     judge_spelling(objects, file, i, place, &object)?;
     judge_keys(file, ranks, i, &object)?;
     judge_repeat(file, i, &object, repeats)?;
-    Ok(end_of(file, i, &object))
+    Ok(Judged {
+        end: end_of(file, i, &object),
+        weight: Weight::of(&object),
+    })
 }
 
 // Rule 0 of the object: what it holds.

@@ -1,15 +1,11 @@
 //! What the limits ask of an object.
-ghost use Rattle.std.specs.Prelude.{◌≡◌, IfOk, IfSome, IfNone};
+ghost use Rattle.std.specs.Prelude.{◌≡◌, IfSome, IfNone};
 ghost use Rattle.plist_value.specs.Budget.{Spends, IsOver};
-ghost use Rattle.plist_object.specs.Views.{held_of, octets_of};
-ghost use Rattle.plist_canon.specs.Checking.{AllRead};
+ghost use Rattle.plist_object.specs.Views.{held_of};
 ghost use Rattle.plist_canon.specs.Weights.{weight_of, is_scalar_weight, payload_of_weight};
-ghost use Rattle.plist_canon.specs.Weights.{AreAllWeights};
 
-use crate::objects::object_of;
-use plist_object::{BinFile, Object};
+use plist_object::Object;
 use plist_value::{Budget, ScalarRef};
-use std::alloc::{AllocError, Global};
 
 /// What the limits ask of an object besides its references.
 #[derive(Clone, Copy)]
@@ -57,17 +53,4 @@ impl Weight {
             Weight::Container => false,
         }
     }
-}
-
-/// The weights of all objects, which read. They are told once the scalars that were met are freed,
-/// so that both are not held at a time.
-pub(crate) fn weigh_objects(alloc: Global, file: &BinFile) -> Result<Vec<Weight>, AllocError>
-    requires { AllRead (octets_of file.now) }
-    ensures { IfOk result (λ weights. AreAllWeights (octets_of file.now) weights.items) }
-{
-    let mut weights = Vec::new(alloc);
-    for i in 0..file.count() {
-        weights.push(Weight::of(&object_of(file, i)))?;
-    }
-    Ok(weights)
 }

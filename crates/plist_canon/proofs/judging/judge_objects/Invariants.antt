@@ -1,6 +1,7 @@
-use Rattle.std.proofs.Common.{ℕ, ◌<◌}
+use Rattle.std.proofs.Common.{◌≡◌, ℕ, ◌<◌, length}
 use Rattle.plist_object.specs.Views.{octets_of}
 use Rattle.plist_canon.specs.Checking.{IsJudged, IsEndBefore, HasMet}
+use Rattle.plist_canon.specs.Weights.{AreWeights}
 use Rattle.plist_canon.proofs.judging.judge_objects.Given as goal
 
 abbrev pub invariant-loop-i : goal.invariant-loop-i
@@ -10,4 +11,6 @@ invariant-loop-i g l =
       judged : (j : ℕ) → j < l.i → IsJudged f j;
       ends : IsEndBefore f l.i l.end;
       met : HasMet f l.i l.repeats;
+      weighed : AreWeights f l.weights.items;
+      counted : length l.weights.items ≡ l.i;
     }
