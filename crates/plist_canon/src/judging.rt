@@ -229,7 +229,7 @@ fn judge_object<'a, S: BuildHasher + Copy>(
     judge_keys(file, ranks, i, &object)?;
     judge_repeat(file, i, &object, repeats)?;
     Ok(Judged {
-        end: end_of(file, i, &object),
+        end: end_of(file, i, place, &object),
         weight: Weight::of(&object),
     })
 }
@@ -266,14 +266,15 @@ fn judge_start(file: &BinFile, i: u64, place: u64) -> Result<(), Flaw>
     Ok(())
 }
 
-// Where an object ends that stands in its canonical spelling.
-fn end_of(file: &BinFile, i: u64, object: &Object) -> u64
+// Where an object ends that begins at the place, in its canonical spelling.
+fn end_of(file: &BinFile, i: u64, place: u64, object: &Object) -> u64
+    requires starts { place_of (octets_of file.now) i ≡ place }
     requires holds { Holds (octets_of file.now) i (held_of object.now) }
     requires spelled { IsSpelledCanonically (octets_of file.now) i }
-    ensures { span_of (octets_of file.now) i ≡ Ok (place_of (octets_of file.now) i, result) }
+    ensures { span_of (octets_of file.now) i ≡ Ok (place, result) }
 {
     match object {
-        Object::Scalar(scalar) if file.table() < 1 << 32 => file.place(i) + scalar_length(scalar),
+        Object::Scalar(scalar) if file.table() < 1 << 32 => place + scalar_length(scalar),
         _ => end_read(file, i),
     }
 }

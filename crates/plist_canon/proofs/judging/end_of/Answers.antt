@@ -25,7 +25,7 @@ overflow_add-result c =
     let table : (trailer_of f).table ≤ length f = rw c.table.ensures.value at c.table.ensures.within in
     let holds = rw c.in-Scalar.is at c.requires.holds in
     let occupied : Occupies f c.args.i (scalar_spelling s) = occupies f c.args.i (holds_scalar s) table holds c.requires.spelled in
-    omega (arith, occupied.within, c.if-table.true, c.table.ensures.value, c.place.ensures, c.scalar_length.ensures)
+    omega (arith, occupied.within, c.if-table.true, c.table.ensures.value, c.requires.starts, c.scalar_length.ensures)
 
 pub returns-in-Scalar : goal.returns-in-Scalar
 returns-in-Scalar c =
@@ -34,7 +34,7 @@ returns-in-Scalar c =
     let table : (trailer_of f).table ≤ length f = rw c.table.ensures.value at c.table.ensures.within in
     let holds = rw c.in-Scalar.is at c.requires.holds in
     let occupied : Occupies f c.args.i (scalar_spelling s) = occupies f c.args.i (holds_scalar s) table holds c.requires.spelled in
-    rw (c.place.ensures, c.scalar_length.ensures) occupied.span
+    rw (← c.requires.starts, c.scalar_length.ensures) occupied.span
 
 pub end_read-requires-clause-reads : goal.end_read-requires-clause-reads
 end_read-requires-clause-reads c = Holds-reads (octets_of c.args.file.now) c.args.i (held_of c.args.object.now) c.requires.holds
