@@ -1,18 +1,19 @@
 -- Rows that keep their places, and rows in the order of the texts of their keys.
-use Rattle.std.proofs.Common.{◌≡◌, ℕ, zero, suc, ◌<◌, List, [], ◌∷◌, length, get_or, set, map, refl, sym, ap, ◌∙◌, subst, arith}
+use Rattle.std.proofs.Common.{◌≡◌, ℕ, zero, suc, ◌<◌, List, [], ◌∷◌, ◌++◌, length, get_or, set, map, take, drop, refl, sym, ap, ◌∙◌, subst, arith}
 use Rattle.std.specs.Prelude.{All}
 use Rattle.std.specs.declared.cmp.Ordering.TheVariants.{Less}
 use Rattle.std.specs.Ordering.{nat_cmp}
 use Rattle.std.specs.Cmp.Lexicographic.{slice_cmp}
 use Rattle.std.specs.List.Sorted.{IsPermutation, IsStrictlySortedBy}
-use Rattle.std.proofs.lemmas.List.{get_or-map}
-use Rattle.std.proofs.lemmas.List.Sorted.{All-permutation, IsPermutation-map, IsPermutation-trans}
+use Rattle.std.proofs.lemmas.List.{get_or-map, take-append-drop}
+use Rattle.std.proofs.lemmas.List.Sorted.{All-permutation, IsPermutation-append_left, IsPermutation-append_right, IsPermutation-map, IsPermutation-trans}
 use Rattle.plist_binary.specs.declared.row_order.Row.{Row}
 use Rattle.plist_binary.specs.declared.tables.Key.{Key}
 use Rattle.plist_binary.specs.Keys.{units_at, place_of, AreInPlace}
 use Rattle.plist_binary.specs.RowOrder.{row_of, place_in, text_at, AreOrdered, TextsAscend}
 use Rattle.plist_binary.proofs.RowSteps.{places_of_rows}
 use Rattle.plist_binary.proofs.Rows.{pull}
+use Rattle.plist_binary.proofs.Sorting.{seen_sorted}
 
 -- a row is changed, and keeps its place
 pub same_places : (rows : List Row) (i : ℕ) (row d : Row) → i < length rows → place_in row ≡ place_in (get_or rows i d) → map place_in (set rows i row) ≡ map place_in rows
@@ -27,11 +28,21 @@ pub moved_places : (front : ℕ) (keys : List Key) (rows : List Row) → IsPermu
 moved_places front keys rows moved =
     subst (λ (ps : List ℕ). IsPermutation ps (map place_in rows)) (sym (places_of_rows front keys)) (IsPermutation-map place_in (map (row_of front) keys) rows moved)
 
+-- rows of which a part is sorted
+pub part_moved : (start n : ℕ) (rows part : List Row) → IsPermutation (take n (drop start rows)) part → IsPermutation rows (take start rows ++ (part ++ drop n (drop start rows)))
+part_moved start n rows part moved =
+    let others = drop n (drop start rows) in
+    let whole : take start rows ++ (take n (drop start rows) ++ others) ≡ rows = ap (λ (rs : List Row). take start rows ++ rs) (take-append-drop n (drop start rows)) ∙ take-append-drop start rows in
+    let all = IsPermutation-append_right (take start rows) (take n (drop start rows) ++ others) (part ++ others) (IsPermutation-append_left others (take n (drop start rows)) part moved) in
+    subst (λ (rs : List Row). IsPermutation rs (take start rows ++ (part ++ others))) whole all
+
 -- rows that are sorted once more
-pub sorted_again : (places : List ℕ) (rows marked read sorted : List Row) → IsPermutation places (map place_in rows) → map place_in marked ≡ map place_in rows → map place_in read ≡ map place_in marked → IsPermutation read sorted → IsPermutation places (map place_in sorted)
-sorted_again places rows marked read sorted moved same again order =
+pub sorted_again : (n : ℕ) (places : List ℕ) (rows marked read written sorted seen : List Row) → IsPermutation places (map place_in rows) → map place_in marked ≡ map place_in rows → map place_in read ≡ map place_in marked → n ≡ length read → written ≡ read → IsPermutation written sorted → seen ≡ take n (sorted ++ drop (length sorted) read) → IsPermutation places (map place_in seen)
+sorted_again n places rows marked read written sorted seen moved same again long is order last =
+    let now : seen ≡ sorted = seen_sorted n read written sorted seen long is order last in
     let before : IsPermutation places (map place_in read) = subst (λ (ps : List ℕ). IsPermutation places ps) (sym (again ∙ same)) moved in
-    IsPermutation-trans places (map place_in read) (map place_in sorted) before (IsPermutation-map place_in read sorted order)
+    let after : IsPermutation read seen = subst (λ (rs : List Row). IsPermutation rs seen) is (subst (λ (rs : List Row). IsPermutation written rs) (sym now) order) in
+    IsPermutation-trans places (map place_in read) (map place_in seen) before (IsPermutation-map place_in read seen after)
 
 -- the text that is read at a row's place
 read_text : (keys : List Key) (row : Row) (key : Key) → row.place < length keys → key ≡ get_or keys row.place key → text_at keys row ≡ units_at key

@@ -73,7 +73,7 @@ IsOrder-read f refs keys sorted spell placed moved ascend =
     IsOrder-rows place_of units_at f refs sorted (places_within_moved keys sorted (length refs) as_many placed moved) (λ values equal. let pairs = IsPermutation-map (λ key. pair_of refs values (place_of key)) keys sorted moved in subst (λ (ps : List (ℕ × ℕ)). IsPermutation ps (map (λ key. pair_of refs values (place_of key)) sorted)) (sym (zip_from 0 keys refs values refs values as_many equal stand (whole refs) (whole values))) pairs) (All-permutation (HoldsKey f refs) keys sorted moved held) ascend
 
 -- a list that was sorted in place
-pub seen_sorted : (n : ℕ) (keys written sorted seen : List Key) → n ≡ length keys → written ≡ keys → IsPermutation written sorted → seen ≡ take n (sorted ++ drop (length sorted) keys) → seen ≡ sorted
+pub seen_sorted : {A : Type 0} (n : ℕ) (keys written sorted seen : List A) → n ≡ length keys → written ≡ keys → IsPermutation written sorted → seen ≡ take n (sorted ++ drop (length sorted) keys) → seen ≡ sorted
 seen_sorted n keys written sorted seen all first moved last =
     let long : length sorted ≡ length keys = length_permutation written sorted moved ∙ ap length first in
     last ∙ take_at sorted (drop (length sorted) keys) n (omega arith)

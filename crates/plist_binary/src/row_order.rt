@@ -1,6 +1,6 @@
 //! The places of the keys of a long table in the order of their texts, where the heads of the texts
 //! tell it.
-ghost use Rattle.std.specs.Prelude.{◌≡◌, ◌<◌, IsTrue, IfOk, IfSome, length, map};
+ghost use Rattle.std.specs.Prelude.{◌≡◌, ◌<◌, ◌≤◌, IsTrue, IfOk, IfSome, length, map};
 ghost use Rattle.std.specs.Ordering.{nat_cmp};
 ghost use Rattle.std.specs.Cmp.Lexicographic.{slice_cmp};
 ghost use Rattle.std.specs.List.Sorted.{IsPermutation};
@@ -10,6 +10,7 @@ ghost use Rattle.plist_binary.specs.RowOrder.{AreOrdered, HeadsAscend, TextsAsce
 
 use crate::heads;
 use crate::tables::{Key, have_ranks};
+use plist_value::TextRef;
 use std::alloc::{AllocError, Global};
 use std::cmp::Ordering;
 
@@ -25,10 +26,13 @@ pub(crate) struct Row {
 // The keys of a table of up to so many are sorted themselves.
 const FEW: usize = 64;
 
-// A head is of so many units.
+// A head is of so many octets, one for each unit.
 const HEAD_UNITS: usize = 8;
 
-// So many heads of a key are looked at: the first behind what all keys share.
+// A wide head is of so many units.
+const WIDE_UNITS: usize = 4;
+
+// So many heads of a key are read: the first behind what all keys share.
 const MOST_HEADS: usize = 8;
 
 // The places of the keys in the order of their texts, if the keys are many and their heads tell
@@ -101,14 +105,49 @@ fn ascend(rows: &[Row]) -> bool
 fn order_runs(keys: &[Key], rows: &mut Vec<Row>, front: usize)
     ensures { IsPermutation (map place_in rows.old.items) (map place_in rows.new.items) }
 {
-    let mut front = front;
+    let wide = are_cut_off(rows);
+    let step = if wide { WIDE_UNITS } else { HEAD_UNITS };
+    let mut front = if wide {
+        front
+    } else {
+        front.saturating_add(step)
+    };
     for _ in 1..MOST_HEADS {
         if !mark_runs(&mut *rows) {
             return;
         }
-        front = front.saturating_add(HEAD_UNITS);
-        read_heads(keys, &mut *rows, front);
-        rows.sort_unstable_by_key(|row| (row.run, row.head));
+        read_heads(keys, &mut *rows, front, wide);
+        sort_runs(rows.as_mut_slice());
+        front = front.saturating_add(step);
+    }
+}
+
+// Whether a head ends with a unit that is cut off: behind that, heads of octets tell nothing.
+fn are_cut_off(rows: &[Row]) -> bool {
+    rows.iter().any(|row| row.head % 256 == 255)
+}
+
+// Sorts the rows of each run by their heads.
+fn sort_runs(rows: &mut [Row])
+    ensures { IsPermutation rows.old rows.new }
+{
+    let mut start = 0;
+    for end in 1..rows.len() {
+        if rows[end].run != rows[start].run {
+            sort_run(&mut *rows, start, end);
+            start = end;
+        }
+    }
+    let end = rows.len();
+    sort_run(rows, start, end);
+}
+
+fn sort_run(rows: &mut [Row], start: usize, end: usize)
+    requires { (start ≤ end) × (end ≤ length rows.old) }
+    ensures { IsPermutation rows.old rows.new }
+{
+    if end - start > 1 {
+        rows[start..end].sort_unstable_by_key(|row| row.head);
     }
 }
 
@@ -135,17 +174,17 @@ fn mark_runs(rows: &mut Vec<Row>) -> bool
 }
 
 // Gives the rows the heads of their keys behind so many units.
-fn read_heads(keys: &[Key], rows: &mut Vec<Row>, front: usize)
+fn read_heads(keys: &[Key], rows: &mut Vec<Row>, front: usize, wide: bool)
     ensures { map place_in rows.new.items ≡ map place_in rows.old.items }
 {
     for i in 0..rows.len() {
-        let head = next_head(keys, &*rows, i, front);
+        let head = next_head(keys, &*rows, i, front, wide);
         rows[i].head = head;
     }
 }
 
 // The head of a row's key behind so many units, or 0 where the row is alone in its run.
-fn next_head(keys: &[Key], rows: &Vec<Row>, i: usize, front: usize) -> u64
+fn next_head(keys: &[Key], rows: &Vec<Row>, i: usize, front: usize, wide: bool) -> u64
     requires { i < length rows.now.items }
 {
     let row = rows[i];
@@ -155,9 +194,25 @@ fn next_head(keys: &[Key], rows: &Vec<Row>, i: usize, front: usize) -> u64
         return 0;
     }
     match keys.get(row.place as usize) {
+        Some(key) if wide => wide_head(&key.text, front),
         Some(key) => heads::head(&key.text, front),
         None => 0,
     }
+}
+
+// The units of the text behind so many, as one number: where there is none it is 0.
+fn wide_head(text: &TextRef, front: usize) -> u64 {
+    let mut head = 0;
+    for i in 0..WIDE_UNITS {
+        let place = front.saturating_add(i);
+        let unit = if place < text.len() {
+            text.unit(place)
+        } else {
+            0
+        };
+        head = (head << 16) | u64::from(unit);
+    }
+    head
 }
 
 // Whether the key of each row is below that of the next.

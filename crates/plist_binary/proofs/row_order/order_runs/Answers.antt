@@ -1,4 +1,4 @@
-use Rattle.std.proofs.Common.{List, ℕ, map, subst, sym}
+use Rattle.std.proofs.Common.{List, ℕ, map, subst, sym, refl, arith}
 use Rattle.std.specs.List.Sorted.{IsPermutation}
 use Rattle.std.proofs.lemmas.List.Sorted.{IsPermutation-refl}
 use Rattle.plist_binary.specs.RowOrder.{place_in}
@@ -14,4 +14,5 @@ returns-then-not-mark_runs c =
 
 pub loop-preserved : goal.loop-preserved
 loop-preserved c =
-    sorted_again (map place_in c.args.rows.now.items) c.loop.rows.items c.mark_runs.new.rows.items c.read_heads.new.rows.items c.sort_unstable_by_key.new.self.items c.loop.invariant c.mark_runs.ensures c.read_heads.ensures c.sort_unstable_by_key.ensures.permutation
+    let read = c.read_heads.new.rows in
+    sorted_again read.len (map place_in c.args.rows.now.items) c.loop.rows.items c.mark_runs.new.rows.items read.items c.as_mut_slice.result.now c.sort_runs.new.rows _ c.loop.invariant c.mark_runs.ensures c.read_heads.ensures (omega (arith, read.ok.0)) c.as_mut_slice.ensures.value c.sort_runs.ensures refl
