@@ -12,7 +12,7 @@ use Rattle.plist_binary.specs.Keys.{units_at, place_of}
 -- the head of what stands behind so many units at the front of the key, and its place, in the first
 -- run
 abbrev pub row_of : ℕ → Key → Row
-row_of front key = record { run = 0; head = head_of 8 (drop front (units_at key)); place = key.place }
+row_of front key = record { head = head_of 8 (drop front (units_at key)); run = 0; place = key.place }
 
 abbrev pub place_in : Row → ℕ
 place_in row = row.place

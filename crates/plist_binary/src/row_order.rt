@@ -1,6 +1,6 @@
 //! The places of the keys of a long table in the order of their texts, where the heads of the texts
 //! tell it.
-ghost use Rattle.std.specs.Prelude.{◌≡◌, ◌<◌, ◌≤◌, IsTrue, IfOk, IfSome, length, map};
+ghost use Rattle.std.specs.Prelude.{◌≡◌, ◌<◌, ◌≤◌, ◌^◌, IsTrue, IfOk, IfSome, length, map};
 ghost use Rattle.std.specs.Ordering.{nat_cmp};
 ghost use Rattle.std.specs.Cmp.Lexicographic.{slice_cmp};
 ghost use Rattle.std.specs.List.Sorted.{IsPermutation};
@@ -15,16 +15,19 @@ use std::alloc::{AllocError, Global};
 use std::cmp::Ordering;
 
 // A head of a key's text, and the place of the key. Rows whose heads were equal so far stand in a
-// run, which is known by the number of its first row.
+// run, and have its number.
 #[derive(Clone, Copy)]
 pub(crate) struct Row {
-    run: u64,
     head: u64,
-    place: u64,
+    run: u32,
+    place: u32,
 }
 
 // The keys of a table of up to so many are sorted themselves.
 const FEW: usize = 64;
+
+// The places of more keys do not fit a row.
+const MANY: usize = 4_294_967_295;
 
 // A head is of so many octets, one for each unit.
 const HEAD_UNITS: usize = 8;
@@ -36,12 +39,12 @@ const WIDE_UNITS: usize = 4;
 const MOST_HEADS: usize = 8;
 
 // The places of the keys in the order of their texts, if the keys are many and their heads tell
-// that order. Rows are sorted in place of keys, which take more than twice the room.
+// that order. Rows are sorted in place of keys, which take more than three times the room.
 pub(crate) fn places_by_heads(alloc: Global, keys: &[Key]) -> Result<Option<Vec<u64>>, AllocError>
     requires { AreInPlace keys.now }
     ensures { IfOk result (λ told. IfSome told (λ places. AreOrdered keys.now places.items)) }
 {
-    if keys.len() <= FEW || have_ranks(keys) {
+    if keys.len() <= FEW || keys.len() > MANY || have_ranks(keys) {
         return Ok(None);
     }
     let first = keys[0].text;
@@ -77,14 +80,16 @@ fn places_by_more_heads(
 
 // The rows of the keys as they stand, with heads behind so many units, in one run.
 fn rows_of(alloc: Global, keys: &[Key], front: usize) -> Result<Vec<Row>, AllocError>
+    requires placed { AreInPlace keys.now }
+    requires within { length keys.now < 2 ^ 32 }
     ensures { IfOk result (λ rows. rows.items ≡ map (row_of front) keys.now) }
 {
     let mut rows = Vec::with_capacity(alloc, keys.len())?;
     for key in keys {
-        let run = 0;
         let head = heads::head(&key.text, front);
-        let place = key.place as u64;
-        rows.push(Row { run, head, place })?;
+        let run = 0;
+        let place = key.place as u32;
+        rows.push(Row { head, run, place })?;
     }
     Ok(rows)
 }
@@ -156,8 +161,8 @@ fn sort_run(rows: &mut [Row], start: usize, end: usize)
 fn mark_runs(rows: &mut Vec<Row>) -> bool
     ensures { map place_in rows.new.items ≡ map place_in rows.old.items }
 {
-    let mut before = (u64::MAX, 0);
-    let mut run = 0;
+    let mut before = (u32::MAX, 0);
+    let mut run: u32 = 0;
     let mut tied = false;
     for i in 0..rows.len() {
         let row = rows[i];
@@ -165,7 +170,7 @@ fn mark_runs(rows: &mut Vec<Row>) -> bool
         if now == before {
             tied = true;
         } else {
-            run = i as u64;
+            run = run.wrapping_add(1);
         }
         before = now;
         rows[i].run = run;
@@ -188,7 +193,7 @@ fn next_head(keys: &[Key], rows: &Vec<Row>, i: usize, front: usize, wide: bool) 
     requires { i < length rows.now.items }
 {
     let row = rows[i];
-    let is_first = row.run == i as u64;
+    let is_first = i == 0 || rows[i - 1].run != row.run;
     let is_last = i + 1 == rows.len() || rows[i + 1].run != row.run;
     if is_first && is_last {
         return 0;
@@ -242,7 +247,7 @@ fn places_of(alloc: Global, rows: &[Row]) -> Result<Vec<u64>, AllocError>
 {
     let mut places = Vec::with_capacity(alloc, rows.len())?;
     for row in rows {
-        places.push(row.place)?;
+        places.push(u64::from(row.place))?;
     }
     Ok(places)
 }
