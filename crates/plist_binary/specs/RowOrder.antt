@@ -9,8 +9,8 @@ use Rattle.plist_binary.specs.declared.tables.Key.{Key}
 use Rattle.plist_binary.specs.Heads.{head_of}
 use Rattle.plist_binary.specs.Keys.{units_at, place_of}
 
--- the head of what stands behind so many units at the front of the key, and its place, in the first
--- run
+-- the head of what stands behind so many units at the front of the key, and its place; all rows are
+-- in one run
 abbrev pub row_of : ℕ → Key → Row
 row_of front key = record { head = head_of 8 (drop front (units_at key)); run = 0; place = key.place }
 

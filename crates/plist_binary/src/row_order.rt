@@ -32,7 +32,7 @@ const MANY: usize = 4_294_967_295;
 // A head is of so many octets, one for each unit.
 const HEAD_UNITS: usize = 8;
 
-// A wide head is of so many units.
+// A wide head is of so many units, none of which is cut off.
 const WIDE_UNITS: usize = 4;
 
 // So many heads of a key are read: the first behind what all keys share.
@@ -127,7 +127,7 @@ fn order_runs(keys: &[Key], rows: &mut Vec<Row>, front: usize)
     }
 }
 
-// Whether a head ends with a unit that is cut off: behind that, heads of octets tell nothing.
+// Whether a head may end with a unit that is cut off, behind which heads of octets tell nothing.
 fn are_cut_off(rows: &[Row]) -> bool {
     rows.iter().any(|row| row.head % 256 == 255)
 }
@@ -178,7 +178,7 @@ fn mark_runs(rows: &mut Vec<Row>) -> bool
     tied
 }
 
-// Gives the rows the heads of their keys behind so many units.
+// Gives the rows the heads of their keys behind so many units, wide ones or others.
 fn read_heads(keys: &[Key], rows: &mut Vec<Row>, front: usize, wide: bool)
     ensures { map place_in rows.new.items ≡ map place_in rows.old.items }
 {
@@ -205,7 +205,7 @@ fn next_head(keys: &[Key], rows: &Vec<Row>, i: usize, front: usize, wide: bool) 
     }
 }
 
-// The units of the text behind so many, as one number: where there is none it is 0.
+// The wide head of the text behind so many units: it has 0 for a unit that is not there.
 fn wide_head(text: &TextRef, front: usize) -> u64 {
     let mut head = 0;
     for i in 0..WIDE_UNITS {

@@ -1,5 +1,4 @@
-use Rattle.std.proofs.Common.{List, ℕ, map, subst, sym, ap, ◌∙◌}
-use Rattle.std.specs.List.Sorted.{IsPermutation}
+use Rattle.std.proofs.Common.{List, map, subst, ap, ◌∙◌}
 use Rattle.std.proofs.lemmas.List.Sorted.{IsPermutation-trans}
 use Rattle.plist_binary.specs.declared.row_order.Row.{Row}
 use Rattle.plist_binary.specs.Keys.{place_of}
