@@ -11,5 +11,6 @@ pub mod Locality
 pub mod Checking
 pub mod Codes
 pub mod Weights
+pub mod Small
 pub mod Preorders
 pub mod Charges

@@ -13,6 +13,7 @@ ghost use Rattle.plist_canon.specs.Checking.{Follows, IsJudged, HasMet};
 ghost use Rattle.plist_canon.specs.Weights.{Weighs, AreAllWeights};
 
 use crate::beginning::begins_plainly;
+use crate::lengths::{is_width, spelled_length};
 use crate::references::{keys_ascend, refers_well};
 use crate::repeats::Repeats;
 use crate::weights::Weight;
@@ -270,12 +271,29 @@ fn judge_start(file: &BinFile, i: u64, place: u64) -> Result<(), Flaw>
 fn end_of(file: &BinFile, i: u64, place: u64, object: &Object) -> u64
     requires starts { place_of (octets_of file.now) i ≡ place }
     requires holds { Holds (octets_of file.now) i (held_of object.now) }
+    requires valid { IsHeld (held_of object.now) }
     requires spelled { IsSpelledCanonically (octets_of file.now) i }
     ensures { span_of (octets_of file.now) i ≡ Ok (place, result) }
 {
     match object {
         Object::Scalar(scalar) if file.table() < 1 << 32 => place + scalar_length(scalar),
-        _ => end_read(file, i),
+        _ => end_of_any(file, i, place, object),
+    }
+}
+
+// The same, also of a list or a table, and in a file of 2^32 octets and more.
+fn end_of_any(file: &BinFile, i: u64, place: u64, object: &Object) -> u64
+    requires starts { place_of (octets_of file.now) i ≡ place }
+    requires holds { Holds (octets_of file.now) i (held_of object.now) }
+    requires valid { IsHeld (held_of object.now) }
+    requires spelled { IsSpelledCanonically (octets_of file.now) i }
+    ensures { span_of (octets_of file.now) i ≡ Ok (place, result) }
+{
+    let width = file.reference_width();
+    if file.table() < 1 << 32 && is_width(width) {
+        place + spelled_length(object, width)
+    } else {
+        end_read(file, i)
     }
 }
 

@@ -6,6 +6,7 @@ mod beginning;
 pub mod checking;
 mod judging;
 pub mod laws;
+mod lengths;
 mod limits;
 mod objects;
 mod preorder;

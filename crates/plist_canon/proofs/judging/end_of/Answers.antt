@@ -3,9 +3,8 @@ use Rattle.plist_value.specs.Scalars.{content_of}
 use Rattle.plist_object.specs.Layout.{trailer_of}
 use Rattle.plist_object.specs.Objects.{holds_scalar}
 use Rattle.plist_object.specs.Spelling.{scalar_spelling}
-use Rattle.plist_object.specs.Views.{held_of, octets_of}
+use Rattle.plist_object.specs.Views.{octets_of}
 use Rattle.plist_canon.proofs.Ending.{small-spelled}
-use Rattle.plist_canon.proofs.Judges.{Holds-reads}
 use Rattle.plist_canon.proofs.Occupied.{Occupies, occupies}
 use Rattle.plist_canon.proofs.judging.end_of.Goals as goal
 
@@ -35,6 +34,3 @@ returns-in-Scalar c =
     let holds = rw c.in-Scalar.is at c.requires.holds in
     let occupied : Occupies f c.args.i (scalar_spelling s) = occupies f c.args.i (holds_scalar s) table holds c.requires.spelled in
     rw (← c.requires.starts, c.scalar_length.ensures) occupied.span
-
-pub end_read-requires-clause-reads : goal.end_read-requires-clause-reads
-end_read-requires-clause-reads c = Holds-reads (octets_of c.args.file.now) c.args.i (held_of c.args.object.now) c.requires.holds
