@@ -58,8 +58,8 @@ fn natural_in(scalar: ScalarRef) -> Option<u64>
     }
 }
 
-// Whether the set had no equal key, of which it has one from now on. There were so many objects, and
-// there will be at most `most`.
+// Whether the set had no equal key, of which it has one from now on. There were so many objects,
+// and there will be at most `most`.
 fn keep<K: Eq + Hash + Drop, S: BuildHasher>(
     set: &mut IndexSet<K, S>,
     key: K,
