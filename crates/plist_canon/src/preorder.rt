@@ -1,6 +1,6 @@
 //! The walk in preorder from object 0.
 ghost use Rattle.std.specs.Prelude.{◌≡◌, ◌↔◌, ◌<◌, ◌∷◌, ◌++◌, [], drop};
-ghost use Rattle.std.specs.Prelude.{IfOk, IfErr, IfSome, IfNone, OnOk, IsTrue};
+ghost use Rattle.std.specs.Prelude.{IfErr, IfSome, IfNone, OnOk, IsTrue};
 ghost use Rattle.plist_object.specs.Views.{numbers_of, octets_of};
 ghost use Rattle.plist_canon.specs.Rules.{IsNumberedInPreorder, IsWellRead};
 ghost use Rattle.plist_canon.specs.Checking.{IsFlaw, AllRead};
@@ -40,7 +40,7 @@ pub(crate) fn judge_order(alloc: Global, file: &BinFile, weights: &[Weight]) -> 
     enter(file, 0, weights[0], &mut path)?;
     for number in 1..file.count() {
         let met = &weights[..number as usize];
-        match next_visit(&mut path, met)? {
+        match next_visit(&mut path, met) {
             Some(visit) if visit.reference == number => {
                 enter(file, number, weights[number as usize], &mut path)?;
             }
@@ -48,7 +48,7 @@ pub(crate) fn judge_order(alloc: Global, file: &BinFile, weights: &[Weight]) -> 
             None => return Err(Flaw::at(7, 0)),
         }
     }
-    match next_visit(&mut path, weights)? {
+    match next_visit(&mut path, weights) {
         Some(visit) => Err(Flaw::at(7, visit.owner)),
         None => Ok(()),
     }
@@ -94,17 +94,17 @@ fn push_part<'a>(path: &mut Vec<Frame<'a>>, owner: u64, refs: Refs<'a>) -> Resul
 }
 
 // The next reference but those to scalars that were met.
-fn next_visit(path: &mut Vec<Frame>, weights: &[Weight]) -> Result<Option<Visit>, AllocError>
-    ensures visits { IfOk result (Visits weights.now path.old.items path.new.items) }
+fn next_visit(path: &mut Vec<Frame>, weights: &[Weight]) -> Option<Visit>
+    ensures visits { Visits weights.now path.old.items path.new.items result }
 {
     while let Some(frame) = path.pop() {
         if let Some((done, reference)) = first_other(&frame.refs, frame.done, weights) {
             let owner = frame.owner;
-            path.push(Frame { done, ..frame })?;
-            return Ok(Some(Visit { owner, reference }));
+            path.push_reserved(Frame { done, ..frame });
+            return Some(Visit { owner, reference });
         }
     }
-    Ok(None)
+    None
 }
 
 // The first reference from the place on that is not to a scalar that was met, and the place behind

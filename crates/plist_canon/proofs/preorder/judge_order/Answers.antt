@@ -19,7 +19,7 @@ returns-in-Some-2-clause-err c =
     let l = c.loop-number in
     let weights = take l.number c.args.weights.now in
     let front = AreAllWeights-front f c.args.weights.now l.number c.requires.weights (omega (arith, c.loop-number-test.true, c.count-number-end.ensures)) in
-    let visits : Visits weights l.path.items c.next_visit.new.path.items (Some c.in-Some.visit) = rw c.in-Some.is at c.in_ok-visit.ensures.visits in
+    let visits : Visits weights l.path.items c.next_visit.new.path.items (Some c.in-Some.visit) = rw c.in-Some.is at c.next_visit.ensures.visits in
     rw c.at.ensures
     (IsWalking-other f l.number l.path.items c.next_visit.new.path.items weights front.0 front.1 l.invariant c.in-Some.visit visits c.if-visit-number.false)
 
@@ -30,7 +30,7 @@ returns-in-None-clause-err c =
     let weights = take l.number c.args.weights.now in
     let below : l.number < (trailer_of f).count = omega (arith, c.loop-number-test.true, c.count-number-end.ensures) in
     let front = AreAllWeights-front f c.args.weights.now l.number c.requires.weights (omega arith) in
-    let visits : Visits weights l.path.items c.next_visit.new.path.items None = rw c.in-None.is at c.in_ok-visit.ensures.visits in
+    let visits : Visits weights l.path.items c.next_visit.new.path.items None = rw c.in-None.is at c.next_visit.ensures.visits in
     rw c.at-in-None.ensures
     (IsWalking-none f l.number l.path.items c.next_visit.new.path.items weights front.0 front.1 l.invariant visits below)
 
@@ -41,20 +41,20 @@ loop-number-preserved c =
     let weights = take l.number c.args.weights.now in
     let below : l.number < (trailer_of f).count = omega (arith, c.loop-number-test.true, c.count-number-end.ensures) in
     let front = AreAllWeights-front f c.args.weights.now l.number c.requires.weights (omega arith) in
-    let visits : Visits weights l.path.items c.next_visit.new.path.items (Some c.in-Some.visit) = rw c.in-Some.is at c.in_ok-visit.ensures.visits in
+    let visits : Visits weights l.path.items c.next_visit.new.path.items (Some c.in-Some.visit) = rw c.in-Some.is at c.next_visit.ensures.visits in
     rw add-one
     (IsWalking-step f l.number l.path.items c.next_visit.new.path.items weights front.0 front.1 l.invariant c.in-Some.visit c.enter-in-Some.new.path.items visits c.if-visit-number.true (c.requires.read l.number below) c.in_ok-enter-in-Some.ensures)
 
-pub returns-in-Some-3-clause-err : goal.returns-in-Some-3-clause-err
-returns-in-Some-3-clause-err c =
+pub returns-in-Some-next_visit-clause-err : goal.returns-in-Some-next_visit-clause-err
+returns-in-Some-next_visit-clause-err c =
     let f = octets_of c.args.file.now in
     let l = c.loop-number in
     let weights = c.args.weights.now in
     let some = c.args.file.now.laid.trailed.some_object in
     let all : l.number ≡ (trailer_of f).count = omega (arith, c.loop-number-test.false, c.count-number-end.ensures, l.auto.number-end) in
-    let visits : Visits weights l.path.items c.next_visit-2.new.path.items (Some c.in-Some-3.visit) = rw c.in-Some-3.is at c.in_ok-visit-2.ensures.visits in
-    rw c.at-in-Some-3.ensures
-    (IsWalking-over f l.number l.path.items c.next_visit-2.new.path.items weights c.requires.weights.each (c.requires.weights.all ∙ sym all) l.invariant c.in-Some-3.visit visits all)
+    let visits : Visits weights l.path.items c.next_visit-2.new.path.items (Some c.in-Some-next_visit.visit) = rw c.in-Some-next_visit.is at c.next_visit-2.ensures.visits in
+    rw c.at-in-Some-next_visit.ensures
+    (IsWalking-over f l.number l.path.items c.next_visit-2.new.path.items weights c.requires.weights.each (c.requires.weights.all ∙ sym all) l.invariant c.in-Some-next_visit.visit visits all)
 
 pub returns-clause-ok : goal.returns-clause-ok
 returns-clause-ok c =
@@ -63,5 +63,5 @@ returns-clause-ok c =
     let weights = c.args.weights.now in
     let some = c.args.file.now.laid.trailed.some_object in
     let all : l.number ≡ (trailer_of f).count = omega (arith, c.loop-number-test.false, c.count-number-end.ensures, l.auto.number-end) in
-    let visits : Visits weights l.path.items c.next_visit-2.new.path.items None = rw c.in-None-2.is at c.in_ok-visit-2.ensures.visits in
+    let visits : Visits weights l.path.items c.next_visit-2.new.path.items None = rw c.in-None-next_visit.is at c.next_visit-2.ensures.visits in
     IsWalking-done f l.number l.path.items c.next_visit-2.new.path.items weights c.requires.weights.each (c.requires.weights.all ∙ sym all) l.invariant visits all

@@ -11,7 +11,7 @@ returns-in-Some-first_other c =
     let refs = path_left c.args.path.now.items in
     record {
       visits = (
-        LeadsOn-visited c.args.weights.now refs c.loop-frame.path.items c.pop.new.self.items c.push.new.self.items c.in-Some.frame c.in-Some-first_other.done c.in-Some-first_other.reference c.in-Some.ensures.items c.in_ok-push.ensures.items c.loop-frame.invariant c.in-Some-first_other.ensures.some,
+        LeadsOn-visited c.args.weights.now refs c.loop-frame.path.items c.pop.new.self.items c.push_reserved.new.self.items c.in-Some.frame c.in-Some-first_other.done c.in-Some-first_other.reference c.in-Some.ensures.items c.push_reserved.ensures.items c.loop-frame.invariant c.in-Some-first_other.ensures.some,
         c.in-Some-first_other.ensures.known,
       );
     }
