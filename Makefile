@@ -58,6 +58,7 @@ words: plistconv
 
 bench: plistconv
 	python3 bench/bench.py ./plistconv --plot docs/benchmarks.svg
+	python3 bench/checks.py ./plistconv
 	python3 bench/print.py ./plistconv
 
 hostile: plistconv

@@ -120,9 +120,9 @@ class Targets:
             octets, found = self.figures[name, scale]
             self.line(f"{name}: memory of the input's", found[OURS][1] / octets, most)
 
-    def growth(self, name):
+    def growth(self, name, most):
         if name in self.growths:
-            self.line(f"{name}: time of that of a sixteenth of the octets", self.growths[name], 18)
+            self.line(f"{name}: time of that of a sixteenth of the octets", self.growths[name], most)
 
 
 def growth(measure, words, made, name, turns):
@@ -141,16 +141,18 @@ def growth(measure, words, made, name, turns):
 def targets(figures, growths):
     """Prints each target; how many are missed."""
     said = Targets(figures, growths)
-    for name, time, memory in (("mixed", .12, 3.5), ("keys", .35, 4), ("numbers", .25, 4)):
+    for name, time, memory in (("mixed", .09, 3.5), ("keys", .3, 4), ("numbers", .2, 4)):
         said.time(name, CRATE, time)
         said.memory(name, memory)
-    said.time("data", COPY, 1.3)
+    said.time("data", COPY, 1.1)
     said.memory("data", 1.1)
+    for name, time in (("project", .12), ("strings", .14), ("strings16", .14)):
+        said.time(name, OPENSTEP, time)
+        said.memory(name, 4)
+    for name in files.BINARY:
+        said.growth(name, 18)
     for name in files.TEXTS:
-        said.time(name, OPENSTEP, .25)
-        said.memory(name, 16)
-    for name in (*files.BINARY, *files.TEXTS):
-        said.growth(name)
+        said.growth(name, 17.5)
     return said.missed
 
 
