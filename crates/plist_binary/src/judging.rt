@@ -1,6 +1,7 @@
 //! The judge of binary property lists: it answers all refusals of the reader, and makes no value.
 ghost use Rattle.std.specs.Prelude.{◌≡◌, ◌≢◌, ◌+◌, ◌<◌, ◌≤◌, ◌∷◌, length, map, max, IfOk, IfErr};
 ghost use Rattle.std.specs.Prelude.{OnOk, IfSome};
+ghost use Rattle.std.proofs.Props.{props};
 ghost use Rattle.plist_value.specs.Plist.{Plist};
 ghost use Rattle.plist_object.specs.Layout.{IsLaid, trailer_of};
 ghost use Rattle.plist_object.specs.Objects.{holds_table};
@@ -115,6 +116,7 @@ pub(crate) struct Walker<'a, 'r> {
     // What a value may take in all.
     pub(crate) whole: Budget,
     ghost laid: { IsLaid (octets_of file) },
+    ghost ranked: { AreRanks (octets_of file) ranks.now } by { Prim.hlevel props },
 }
 
 impl<'a, 'r> Walker<'a, 'r> {
@@ -122,7 +124,6 @@ impl<'a, 'r> Walker<'a, 'r> {
     // it refuses may be a value.
     fn short(&self) -> Result<Option<SortedKeys<'a>>, BinaryFault>
         requires whole { self.now.whole ≡ limits }
-        requires ranked { AreRanks (octets_of self.now.file) self.now.ranks.now }
         ensures passed { OnOk result (PassesTop (octets_of self.now.file)) }
         ensures sorted { IfOk result (AreSortedIfAny (octets_of self.now.file)) }
     {
@@ -145,7 +146,6 @@ impl<'a, 'r> Walker<'a, 'r> {
     // Whether the top object spells a value within the limits.
     fn top(&self) -> Result<Option<SortedKeys<'a>>, BinaryFault>
         requires whole { self.now.whole ≡ limits }
-        requires ranked { AreRanks (octets_of self.now.file) self.now.ranks.now }
         ensures passed { OnOk result (PassesTop (octets_of self.now.file)) }
         ensures refused { IfErr result (Refuses (octets_of self.now.file) limits
             (trailer_of (octets_of self.now.file)).top MAX_DEPTH limits) }
@@ -161,7 +161,6 @@ impl<'a, 'r> Walker<'a, 'r> {
     fn depth(&self, known: &mut KnownKeys<'a>, left: &mut Budget) -> Result<u64, BinaryFault>
         requires whole { self.now.whole ≡ left.old }
         requires limits { IsWithinLimits left.old }
-        requires ranked { AreRanks (octets_of self.now.file) self.now.ranks.now }
         requires known { IsKnown (octets_of self.now.file) known.old }
         ensures passed { IfOk result (λ deep. Passes (octets_of self.now.file)
             (trailer_of (octets_of self.now.file)).top MAX_DEPTH left.old deep left.new) }
@@ -193,7 +192,6 @@ impl<'a, 'r> Walker<'a, 'r> {
         requires states { AreStates (octets_of self.now.file) (containers_of path.now)
             states.old.items }
         requires limits { IsWithinLimits left.old }
-        requires ranked { AreRanks (octets_of self.now.file) self.now.ranks.now }
         requires known { IsKnown (octets_of self.now.file) known.old }
         ensures passed { IfOk result (λ deep. Passes (octets_of self.now.file) object levels
             left.old deep left.new) }
@@ -228,7 +226,6 @@ impl<'a, 'r> Walker<'a, 'r> {
         requires states { AreStates (octets_of self.now.file) (containers_of path.now)
             states.old.items }
         requires limits { IsWithinLimits left.old }
-        requires ranked { AreRanks (octets_of self.now.file) self.now.ranks.now }
         requires known { IsKnown (octets_of self.now.file) known.old }
         ensures passed { IfOk result (λ deep. Passes (octets_of self.now.file) object levels
             left.old deep left.new) }
@@ -263,7 +260,6 @@ impl<'a, 'r> Walker<'a, 'r> {
         requires states { AreStates (octets_of self.now.file) (containers_of path.now)
             states.old.items }
         requires limits { IsWithinLimits left.old }
-        requires ranked { AreRanks (octets_of self.now.file) self.now.ranks.now }
         requires known { IsKnown (octets_of self.now.file) known.old }
         ensures passed { IfOk result (λ deep. Passes (octets_of self.now.file) object levels
             left.old deep left.new) }
@@ -309,7 +305,6 @@ impl<'a, 'r> Walker<'a, 'r> {
         requires states { AreStates (octets_of self.now.file) (container ∷ containers_of before.now)
             states.old.items }
         requires limits { IsWithinLimits left.old }
-        requires ranked { AreRanks (octets_of self.now.file) self.now.ranks.now }
         requires known { IsKnown (octets_of self.now.file) known.old }
         ensures passed { IfOk result (λ deep. PassesItems (octets_of self.now.file)
             (numbers_of refs.entry) levels left.old deep left.new) }
@@ -351,7 +346,6 @@ impl<'a, 'r> Walker<'a, 'r> {
         requires states { AreStates (octets_of self.now.file) (table ∷ containers_of before.now)
             states.old.items }
         requires limits { IsWithinLimits left.old }
-        requires ranked { AreRanks (octets_of self.now.file) self.now.ranks.now }
         requires known { IsKnown (octets_of self.now.file) known.old }
         ensures passed { IfOk result (λ deep. PassesPairs (octets_of self.now.file)
             (numbers_of keys.entry) (numbers_of values.entry) levels left.old deep left.new) }

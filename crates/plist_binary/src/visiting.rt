@@ -50,7 +50,6 @@ impl<'a, 'r> Walker<'a, 'r> {
         requires depth { length (containers_of before.now) + 1 + levels ≡ MAX_DEPTH }
         requires states { AreStates (octets_of self.now.file) (table ∷ containers_of before.now)
             states.now.items }
-        requires ranked { AreRanks (octets_of self.now.file) self.now.ranks.now }
         requires known { IsKnown (octets_of self.now.file) known.old }
         ensures read { OnOk result (ReadsApart (octets_of self.now.file) (numbers_of refs.entry)
             levels left.old left.new) }
@@ -94,7 +93,6 @@ impl<'a, 'r> Walker<'a, 'r> {
         requires depth { length (containers_of before.now) + 1 + levels ≡ MAX_DEPTH }
         requires states { AreStates (octets_of self.now.file) (table ∷ containers_of before.now)
             states.now.items }
-        requires ranked { AreRanks (octets_of self.now.file) self.now.ranks.now }
         ensures read { IfOk result (λ keys. ReadsItems (octets_of self.now.file)
             (numbers_of refs.entry) levels left.old (texts (map units_at keys.items)) left.new) }
         ensures placed { IfOk result (λ keys. AreInPlace keys.items) }
@@ -136,7 +134,6 @@ impl<'a, 'r> Walker<'a, 'r> {
         requires depth { length (containers_of before.now) + 1 + levels ≡ MAX_DEPTH }
         requires states { AreStates (octets_of self.now.file) (table ∷ containers_of before.now)
             states.now.items }
-        requires ranked { AreRanks (octets_of self.now.file) self.now.ranks.now }
         ensures read { IfOk result (λ key. Reads (octets_of self.now.file) object levels left.old
             (scalar_value (text (units_of key))) left.new) }
         ensures refused { IfErr result (RefusesKey (octets_of self.now.file) self.now.whole object
@@ -180,7 +177,6 @@ impl<'a, 'r> Walker<'a, 'r> {
         requires depth { length (containers_of path.now) + levels ≡ MAX_DEPTH }
         requires states { AreStates (octets_of self.now.file) (containers_of path.now)
             states.now.items }
-        requires ranked { AreRanks (octets_of self.now.file) self.now.ranks.now }
         ensures held { IfOk result (λ held. what_holds (octets_of self.now.file) object ≡ Ok
             (held_of held)) }
         ensures valid { IfOk result (λ held. IsHeld (held_of held)) }
@@ -207,7 +203,6 @@ impl<'a, 'r> Walker<'a, 'r> {
     // What the object holds: the text of its rank where it has one, which is not read again.
     fn object(&self, object: u64) -> Result<Object<'a>, ObjectFault>
         requires listed { object < (trailer_of (octets_of self.now.file)).count }
-        requires ranked { AreRanks (octets_of self.now.file) self.now.ranks.now }
         ensures read { Gives held_of result (what_holds (octets_of self.now.file) object) }
         ensures valid { IfOk result (λ held. IsHeld (held_of held)) }
     {

@@ -78,7 +78,7 @@ content-items-requires t c =
     let path = containers_of c.args.path.now in
     let entered = IsEntered-begun f path c.args.object c.args.self.now.whole c.args.left.now c.enter.new.left c.requires.begun c.in_ok-scalar.ensures.spent in
     let next = AreNext-items f path c.args.object refs c.args.self.now.whole c.enter.new.left entered record { listed = c.requires.listed; reads = reads } in
-    (search rules, (next, (omega arith, (AreStates-open f (containers_of c.args.path.now) c.args.states.now.items c.mark.new.states.items c.args.object c.in_ok-mark-in-List.ensures c.requires.states, (within_after c.args.left.now c.enter.new.left 1 0 c.requires.limits c.in_ok-scalar.ensures.spent, (c.requires.ranked, c.requires.known))))))
+    (search rules, (next, (omega arith, (AreStates-open f (containers_of c.args.path.now) c.args.states.now.items c.mark.new.states.items c.args.object c.in_ok-mark-in-List.ensures c.requires.states, (within_after c.args.left.now c.enter.new.left 1 0 c.requires.limits c.in_ok-scalar.ensures.spent, c.requires.known)))))
 
 pub content-returns-in_err-deep-in-List-clause-refused : goal.content-returns-in_err-deep-in-List-clause-refused
 content-returns-in_err-deep-in-List-clause-refused t c =
@@ -104,7 +104,7 @@ content-pairs-requires t c =
     let some = c.in_ok-scalar.ensures.deep in
     let path = containers_of c.args.path.now in
     let entered = IsEntered-begun f path c.args.object c.args.self.now.whole c.args.left.now c.enter.new.left c.requires.begun c.in_ok-scalar.ensures.spent in
-    (search rules, (entered, (record { listed = c.requires.listed; reads = reads }, (omega arith, (AreStates-open f (containers_of c.args.path.now) c.args.states.now.items c.mark-in-Table.new.states.items c.args.object c.in_ok-mark-in-Table.ensures c.requires.states, (within_after c.args.left.now c.enter.new.left 1 0 c.requires.limits c.in_ok-scalar.ensures.spent, (c.requires.ranked, c.requires.known)))))))
+    (search rules, (entered, (record { listed = c.requires.listed; reads = reads }, (omega arith, (AreStates-open f (containers_of c.args.path.now) c.args.states.now.items c.mark-in-Table.new.states.items c.args.object c.in_ok-mark-in-Table.ensures c.requires.states, (within_after c.args.left.now c.enter.new.left 1 0 c.requires.limits c.in_ok-scalar.ensures.spent, c.requires.known))))))
 
 pub content-returns-in_err-deep-in-Table-clause-refused : goal.content-returns-in_err-deep-in-Table-clause-refused
 content-returns-in_err-deep-in-Table-clause-refused t c =
@@ -137,7 +137,7 @@ items-pass-requires t c =
     let f = octets_of c.args.self.now.file in
     let refs = numbers_of c.args.refs in
     let begun = IsBegun-next f (containers_of c.args.before.now) c.args.container refs c.loop-i.i c.in_ok-object.object c.args.levels c.args.self.now.whole c.args.left.now c.loop-i.left (items_of c.loop-i.invariant.passed.values) c.requires.next (omega arith) (c.in_ok-object.ensures.same ∙ c.get.ensures) c.loop-i.invariant.passed.reads in
-    (search rules, (c.in_ok-object.ensures.below, (begun, (omega arith, (c.loop-i.invariant.states, (c.loop-i.invariant.within, (c.requires.ranked, c.loop-i.invariant.known)))))))
+    (search rules, (c.in_ok-object.ensures.below, (begun, (omega arith, (c.loop-i.invariant.states, (c.loop-i.invariant.within, c.loop-i.invariant.known))))))
 
 pub items-returns-in_err-deep-clause-refused : goal.items-returns-in_err-deep-clause-refused
 items-returns-in_err-deep-clause-refused t c =
@@ -164,7 +164,7 @@ pairs-items-requires t c =
     let spent = c.in_ok-keys_apart.ensures.read.reads.spent in
     let read = c.in_ok-keys_apart.ensures.read in
     let next = AreNext-values f (containers_of c.args.before.now) c.args.table (numbers_of c.args.keys) (numbers_of c.args.values) c.args.levels c.args.self.now.whole c.args.left.now c.keys_apart.new.left (texts read.keys) c.requires.entered c.requires.holds read.reads in
-    (search rules, (next, (c.requires.depth, (c.requires.states, (within_after c.args.left.now c.keys_apart.new.left _ _ c.requires.limits spent, (c.requires.ranked, c.in_ok-keys_apart.ensures.known))))))
+    (search rules, (next, (c.requires.depth, (c.requires.states, (within_after c.args.left.now c.keys_apart.new.left _ _ c.requires.limits spent, c.in_ok-keys_apart.ensures.known)))))
 
 pub pairs-returns-in_err-keys_apart-clause-refused : goal.pairs-returns-in_err-keys_apart-clause-refused
 pairs-returns-in_err-keys_apart-clause-refused t c =

@@ -52,11 +52,11 @@ loop-i-preserved c =
     record {
       read = subst (λ (keys : List (List ℕ)). ReadsItems f (take (c.loop-i.i + 1) refs) c.args.levels c.args.left.now (texts keys) c.key.new.left) (sym pushed) read;
       placed = subst AreInPlace (sym c.in_ok-push.ensures.items) (AreInPlace-push c.loop-i.keys.items _ (omega (arith, c.len-place.ensures, c.loop-i.keys.ok.0)) c.loop-i.invariant.placed);
-      ranked = subst (λ (keys : List Key). All (IsRanked among) keys) (sym c.in_ok-push.ensures.items) (All-push (IsRanked among) c.loop-i.keys.items key c.loop-i.invariant.ranked (IsRanked-read f ranks c.in_ok-object.object key c.requires.ranked (c.get-rank.ensures) c.in_ok-text.ensures.read.spells));
+      ranked = subst (λ (keys : List Key). All (IsRanked among) keys) (sym c.in_ok-push.ensures.items) (All-push (IsRanked among) c.loop-i.keys.items key c.loop-i.invariant.ranked (IsRanked-read f ranks c.in_ok-object.object key c.args.self.now.ranked (c.get-rank.ensures) c.in_ok-text.ensures.read.spells));
       headless = subst AreHeadless (sym c.in_ok-push.ensures.items) (All-push (λ (k : Key). k.head ≡ 0) c.loop-i.keys.items key c.loop-i.invariant.headless refl);
     }
 
 pub returns-clause-ranked : goal.returns-clause-ranked
 returns-clause-ranked c =
     let ranks = c.args.self.now.ranks.now in
-    record { texts = texts_of ranks; ascending = c.requires.ranked.ascending; each = c.loop-i.invariant.ranked }
+    record { texts = texts_of ranks; ascending = c.args.self.now.ranked.ascending; each = c.loop-i.invariant.ranked }

@@ -6,5 +6,5 @@ use Rattle.plist_binary.proofs.judging.Walker.object.Goals as goal
 pub returns : goal.returns
 returns c =
     let f = octets_of c.args.self.now.file in
-    let held = ranked_holds f c.args.self.now.ranks.now c.args.object c.in-Some.rank c.in-Some-text.text c.requires.ranked (sym c.in-Some.ensures) (sym c.in-Some-text.ensures) in
+    let held = ranked_holds f c.args.self.now.ranks.now c.args.object c.in-Some.rank c.in-Some-text.text c.args.self.now.ranked (sym c.in-Some.ensures) (sym c.in-Some-text.ensures) in
     record { read = held.0.reads; valid = held.1 }
