@@ -1,12 +1,12 @@
 -- A run over a disk and streams that were made for it.
 use Rattle.std.proofs.Common.{ℕ, ◌≡◌, List, Option, None}
 use Rattle.clap.specs.Words.{Text}
-use Rattle.plist_convert.specs.Program.{IsRun}
+use Rattle.plist_convert.specs.Program.{IsHostRun, IsRun}
 use Rattle.plist_convert.specs.State.{Input, input_of, state}
 
 pub begun : (words : List Text) (to_come at_first : Option (List ℕ)) (takes : ℕ) (rest : Input) (disk disk_after : ℕ) (printed shown printed_after shown_after : Option (List ℕ))
     (puts puts_after status : ℕ) → to_come ≡ at_first → takes ≡ 0 → disk ≡ 0 → printed ≡ shown → puts ≡ 0 → printed_after ≡ shown_after
     → IsRun words (input_of to_come takes) rest (state None disk printed puts) (state None disk_after printed_after puts_after) status
-    → (d : ℕ) × (p : ℕ) × (r : Input) × IsRun words (input_of at_first 0) r (state None 0 shown 0) (state None d shown_after p) status
+    → IsHostRun words at_first shown shown_after status
 begun words to_come at_first takes rest disk disk_after printed shown printed_after shown_after puts puts_after status input unread unloaded before unprinted after run =
     (disk_after, puts_after, rest, rw (input, unread, unloaded, before, unprinted, after) at run)

@@ -1,12 +1,12 @@
 -- The whole program: words, what is there before, what is there after, and the status.
-use Rattle.std.specs.Prelude.{◌≡◌, ◌⊎◌, ℕ, ◌<◌, ◌≤◌, List, [], Option, Some, length}
+use Rattle.std.specs.Prelude.{◌≡◌, ◌⊎◌, ℕ, ◌<◌, ◌≤◌, List, [], Option, Some, None, length}
 use Rattle.clap.specs.Words.{Kinds, Text}
 use Rattle.plist_convert.specs.Asked.{Asked, Filters, Converts, Compares, Lints, Checks, Prints}
 use Rattle.plist_convert.specs.Reading.{IsParse}
 use Rattle.plist_convert.specs.Ending.{HaveFailed}
 use Rattle.plist_convert.specs.Explaining.{IsExplained}
 use Rattle.plist_convert.specs.Runs.{IsCheckRun, IsConvertRun, IsFilterRun, IsLintRun, IsPrintRun, IsSameRun}
-use Rattle.plist_convert.specs.State.{Input, State}
+use Rattle.plist_convert.specs.State.{Input, State, input_of, state}
 
 -- no file and no failure of one changes
 abbrev pub KeepsDisk : State → State → Type 0
@@ -56,6 +56,12 @@ pub record IsRefusedRun (words : List Text) (input rest : Input) (before after :
 abbrev pub IsRun : List Text → Input → Input → State → State → ℕ → Type 0
 IsRun words input rest before after status =
     IsObeyed words input rest before after status ⊎ IsRefusedRun words input rest before after status
+
+-- A run over the files of the host, of which nothing is told, from this standard input on: its
+-- devices and streams failed some number of times.
+abbrev pub IsHostRun : List Text → Option (List ℕ) → Option (List ℕ) → Option (List ℕ) → ℕ → Type 0
+IsHostRun words to_come printed prints status =
+    (disk_failed : ℕ) × (print_failed : ℕ) × (rest : Input) × IsRun words (input_of to_come 0) rest (state None 0 printed 0) (state None disk_failed prints print_failed) status
 
 -- A device of the call failed: the count of the input's failures, of the files' or of the output's
 -- rose, or stands at the greatest.

@@ -1,8 +1,8 @@
 //! The whole program.
-ghost use Rattle.std.specs.Prelude.{◌≡◌, ℕ, None, map};
+ghost use Rattle.std.specs.Prelude.{◌≡◌, map};
 ghost use Rattle.plist_convert.specs.Asked.{asked_by};
-ghost use Rattle.plist_convert.specs.Program.{DeviceFailed, IsAskedRun, IsRun};
-ghost use Rattle.plist_convert.specs.State.{Input, input_of, state};
+ghost use Rattle.plist_convert.specs.Program.{DeviceFailed, IsAskedRun, IsHostRun, IsRun};
+ghost use Rattle.plist_convert.specs.State.{input_of, state};
 
 use crate::disks::Disk;
 use crate::filtering::filter;
@@ -34,12 +34,8 @@ pub fn run<R: Files, I: Read, O: Write>(
     input: &mut I,
     output: &mut O,
 ) -> u8
-    // It is a run over a disk that tells nothing, whose devices and streams failed so many times.
-    ensures { (disk_failed : ℕ) × (print_failed : ℕ) × (rest : Input)
-        × IsRun (map (λ word. word.now) words.now)
-        (input_of (I.remaining input.old) 0) rest
-        (state None 0 (O.contents output.old) 0)
-        (state None disk_failed (O.contents output.new) print_failed) result }
+    ensures { IsHostRun (map (λ word. word.now) words.now) (I.remaining input.old)
+        (O.contents output.old) (O.contents output.new) result }
 {
     run_on(
         alloc,
@@ -60,12 +56,8 @@ pub fn run_to_end<R: Files + RandomSource, I: Read, O: Write>(
     input: &mut I,
     output: &mut O,
 ) -> u8
-    // It is a run over a disk that tells nothing, whose devices and streams failed so many times.
-    ensures { (disk_failed : ℕ) × (print_failed : ℕ) × (rest : Input)
-        × IsRun (map (λ word. word.now) words.now)
-        (input_of (I.remaining input.old) 0) rest
-        (state None 0 (O.contents output.old) 0)
-        (state None disk_failed (O.contents output.new) print_failed) result }
+    ensures { IsHostRun (map (λ word. word.now) words.now) (I.remaining input.old)
+        (O.contents output.old) (O.contents output.new) result }
 {
     match RandomState::new(rt) {
         Ok(hasher) => run_last(rt, alloc, hasher, words, input, output),
@@ -82,11 +74,8 @@ fn run_last<H: BuildHasher + Copy, R: Files, I: Read, O: Write>(
     input: &mut I,
     output: &mut O,
 ) -> u8
-    ensures { (disk_failed : ℕ) × (print_failed : ℕ) × (rest : Input)
-        × IsRun (map (λ word. word.now) words.now)
-        (input_of (I.remaining input.old) 0) rest
-        (state None 0 (O.contents output.old) 0)
-        (state None disk_failed (O.contents output.new) print_failed) result }
+    ensures { IsHostRun (map (λ word. word.now) words.now) (I.remaining input.old)
+        (O.contents output.old) (O.contents output.new) result }
 {
     let mut disk = HostDisk::with_hasher(rt, hasher);
     let mut source = ReaderSource::new(input);
