@@ -176,6 +176,7 @@ impl<'a, 'r> Walker<'a, 'r> {
     // The depth of the value that the object spells, to which the path leads, of at most so many
     // levels.
     #[cycle(walk)]
+    #[inline(always)]
     fn pass(
         &self,
         states: &mut Vec<State>,

@@ -44,8 +44,10 @@ pub(crate) fn objects_of<'a, S: BuildHasher + Copy>(
     Ok(plan.into_objects())
 }
 
-// The number of the value that the object spells, whose objects are added.
+// The number of the value that the object spells: the one that is kept for it, or the next, with
+// its objects added.
 #[cycle(walk)]
+#[inline(always)]
 fn walk<'a, S: BuildHasher + Copy>(
     alloc: Global,
     file: &BinFile<'a>,
@@ -62,9 +64,30 @@ fn walk<'a, S: BuildHasher + Copy>(
     ensures memo { OnOk result (RemembersNumbers (octets_of file.now) plan.new) }
     ensures ordered { OnOk result (IsOrdered (octets_of file.now) order.new) }
 {
-    if let Some(number) = plan.number_of(object) {
-        return Ok(number);
+    match plan.number_of(object) {
+        Some(number) => Ok(number),
+        None => walk_object(alloc, file, plan, order, ahead, object, levels),
     }
+}
+
+// The number of the value that the object spells, whose objects are added.
+#[cycle(walk)]
+fn walk_object<'a, S: BuildHasher + Copy>(
+    alloc: Global,
+    file: &BinFile<'a>,
+    plan: &mut Plan<'a, S>,
+    order: &mut KeyOrder<'a>,
+    ahead: &mut Ahead,
+    object: u64,
+    levels: u64,
+) -> Result<u32, AllocError>
+    requires spells { SpellsWithin (octets_of file.now) object levels }
+    requires memo { RemembersNumbers (octets_of file.now) plan.old }
+    requires ordered { IsOrdered (octets_of file.now) order.old }
+    ensures walked { IfOk result (IsWalked (octets_of file.now) object plan.old plan.new) }
+    ensures memo { OnOk result (RemembersNumbers (octets_of file.now) plan.new) }
+    ensures ordered { OnOk result (IsOrdered (octets_of file.now) order.new) }
+{
     match object_of(file, object) {
         Object::Scalar(scalar) => plan.scalar(object, scalar),
         Object::List(items) => {

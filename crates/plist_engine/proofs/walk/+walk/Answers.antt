@@ -21,14 +21,14 @@ walk-returns-in-Some-clause-walked g t c =
     let f = octets_of c.args.file.now in
     walked-again f c.args.object c.args.levels c.args.plan.now c.in-Some.number c.requires.spells c.requires.memo (c.in-Some.ensures f c.requires.memo)
 
-pub walk-object_of-requires : goal.walk-object_of-requires
-walk-object_of-requires g t c = read_within (octets_of c.args.file.now) c.args.object c.args.levels c.requires.spells
+pub walk_object-object_of-requires : goal.walk_object-object_of-requires
+walk_object-object_of-requires g t c = read_within (octets_of c.args.file.now) c.args.object c.args.levels c.requires.spells
 
-pub walk-overflow_sub-levels : goal.walk-overflow_sub-levels
-walk-overflow_sub-levels g t c = levels_within (octets_of c.args.file.now) c.args.object c.args.levels c.requires.spells
+pub walk_object-overflow_sub-levels : goal.walk_object-overflow_sub-levels
+walk_object-overflow_sub-levels g t c = levels_within (octets_of c.args.file.now) c.args.object c.args.levels c.requires.spells
 
-pub walk-walk_children-requires : goal.walk-walk_children-requires
-walk-walk_children-requires g t c =
+pub walk_object-walk_children-requires : goal.walk_object-walk_children-requires
+walk_object-walk_children-requires g t c =
     let f = octets_of c.args.file.now in
     let old = c.args.plan.now.references.items in
     let objects = numbers_of c.in-List.items in
@@ -40,18 +40,18 @@ walk-walk_children-requires g t c =
     let within = items_within f c.args.object c.args.levels objects c.requires.spells c.in-List.ensures.holds in
     λ κs lives. (omega (arith, c.decreases), (lives.0, (lives.1, (behind_old old objects c.begin_list.new.self.references.items first at_end added, (subst (λ (refs : List ℕ). SpellWithin f refs (c.args.levels - 1)) (sym begun) within, (remembers-begun f c.args.object objects c.args.plan.now c.begin_list.new.self c.in_ok-number-in-List.number c.in_ok-number-in-List.ensures c.requires.memo, c.requires.ordered))))))
 
-pub walk-begin_table-requires : goal.walk-begin_table-requires
-walk-begin_table-requires g t c = record {
+pub walk_object-begin_table-requires : goal.walk_object-begin_table-requires
+walk_object-begin_table-requires g t c = record {
   table = is_table (octets_of c.args.file.now) c.args.object c.args.levels (numbers_of c.in-Table.keys) (numbers_of c.in-Table.values) c.requires.spells c.in-Table.ensures.holds c.in-Table.ensures.valid;
   ordered = c.requires.ordered;
 }
 
-pub walk-overflow_sub-levels-in-Table : goal.walk-overflow_sub-levels-in-Table
-walk-overflow_sub-levels-in-Table g t c =
+pub walk_object-overflow_sub-levels-in-Table : goal.walk_object-overflow_sub-levels-in-Table
+walk_object-overflow_sub-levels-in-Table g t c =
     levels_within (octets_of c.args.file.now) c.args.object c.args.levels c.requires.spells
 
-pub walk-walk_children-requires-in-Table : goal.walk-walk_children-requires-in-Table
-walk-walk_children-requires-in-Table g t c =
+pub walk_object-walk_children-requires-in-Table : goal.walk_object-walk_children-requires-in-Table
+walk_object-walk_children-requires-in-Table g t c =
     let f = octets_of c.args.file.now in
     let old = c.args.plan.now.references.items in
     let keys = numbers_of c.in-Table.keys in
@@ -65,8 +65,8 @@ walk-walk_children-requires-in-Table g t c =
     let begun : drop first c.begin_table.new.self.references.items ≡ objects = ap (drop first) added ∙ drop_at old objects first (sym at_end) in
     λ κs lives. (omega (arith, c.decreases), (lives.0, (lives.1, (behind_old old objects c.begin_table.new.self.references.items first at_end added, (subst (λ (refs : List ℕ). SpellWithin f refs (c.args.levels - 1)) (sym begun) (flat_within f keys values (c.args.levels - 1) within), (remembers-begun f c.args.object objects c.args.plan.now c.begin_table.new.self c.in_ok-number-in-Table.number (c.in_ok-number-in-Table.ensures.begins within.rows within.pairs within.spell) c.requires.memo, c.in_ok-number-in-Table.ensures.ordered))))))
 
-pub walk-returns-in-Scalar-clause-walked : goal.walk-returns-in-Scalar-clause-walked
-walk-returns-in-Scalar-clause-walked g t c =
+pub walk_object-returns-in-Scalar-clause-walked : goal.walk_object-returns-in-Scalar-clause-walked
+walk_object-returns-in-Scalar-clause-walked g t c =
     let f = octets_of c.args.file.now in
     let old = c.args.plan.now in
     let new = c.scalar.new.self in
@@ -75,13 +75,13 @@ walk-returns-in-Scalar-clause-walked g t c =
     (λ number numbers. walked-scalar f c.args.object s old new number c.in-Scalar.ensures.holds c.in-Scalar.ensures.valid numbers)
     c.scalar.ensures.numbers
 
-pub walk-returns-in_ok-walk_children-in-List-clause-walked : goal.walk-returns-in_ok-walk_children-in-List-clause-walked
-walk-returns-in_ok-walk_children-in-List-clause-walked g t c =
+pub walk_object-returns-in_ok-walk_children-in-List-clause-walked : goal.walk_object-returns-in_ok-walk_children-in-List-clause-walked
+walk_object-returns-in_ok-walk_children-in-List-clause-walked g t c =
     let at_end : c.len-first.result ≡ length c.args.plan.now.references.items = search rules in
     walked-list (octets_of c.args.file.now) c.args.object (numbers_of c.in-List.items) c.args.plan.now c.begin_list.new.self c.walk_children.new.plan c.in_ok-number-in-List.number c.len-first.result at_end c.in_ok-number-in-List.ensures c.in_ok-walk_children-in-List.ensures.walked c.in-List.ensures.holds
 
-pub walk-returns-in_ok-walk_children-in-Table-clause-walked : goal.walk-returns-in_ok-walk_children-in-Table-clause-walked
-walk-returns-in_ok-walk_children-in-Table-clause-walked g t c =
+pub walk_object-returns-in_ok-walk_children-in-Table-clause-walked : goal.walk_object-returns-in_ok-walk_children-in-Table-clause-walked
+walk_object-returns-in_ok-walk_children-in-Table-clause-walked g t c =
     let f = octets_of c.args.file.now in
     let keys = numbers_of c.in-Table.keys in
     let values = numbers_of c.in-Table.values in
@@ -89,8 +89,8 @@ walk-returns-in_ok-walk_children-in-Table-clause-walked g t c =
     let within = table_within f c.args.object c.args.levels keys values c.requires.spells c.in-Table.ensures.holds in
     walked-table f c.args.object keys values within.rows within.pairs c.args.plan.now c.begin_table.new.self c.walk_children-in-Table.new.plan c.in_ok-number-in-Table.number c.len-first-in-Table.result c.in-Table.ensures.valid within.spell at_end (c.in_ok-number-in-Table.ensures.begins within.rows within.pairs within.spell) c.in_ok-walk_children-in-Table.ensures.walked c.in-Table.ensures.holds
 
-pub walk-returns-in-Scalar-clause-memo : goal.walk-returns-in-Scalar-clause-memo
-walk-returns-in-Scalar-clause-memo g t c =
+pub walk_object-returns-in-Scalar-clause-memo : goal.walk_object-returns-in-Scalar-clause-memo
+walk_object-returns-in-Scalar-clause-memo g t c =
     on_ok_weaker c.scalar.result
     (λ keeps. keeps (octets_of c.args.file.now) c.in-Scalar.ensures.holds c.requires.memo)
     c.scalar.ensures.memo

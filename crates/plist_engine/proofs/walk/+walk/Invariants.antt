@@ -7,10 +7,13 @@ use Rattle.plist_engine.proofs.Filling.{IsFilling}
 use Rattle.plist_engine.proofs.walk.+walk.Given as goal
 
 abbrev pub decreases-walk : goal.decreases-walk
-decreases-walk g l = 2 * l.levels
+decreases-walk g l = 3 * l.levels + 1
+
+abbrev pub decreases-walk_object : goal.decreases-walk_object
+decreases-walk_object g l = 3 * l.levels
 
 abbrev pub decreases-walk_children : goal.decreases-walk_children
-decreases-walk_children g l = 2 * l.levels + 1
+decreases-walk_children g l = 3 * l.levels + 2
 
 -- once those that are left are walked, all are
 abbrev pub invariant-walk_children-loop-i : goal.invariant-walk_children-loop-i
