@@ -1,9 +1,9 @@
 //! What an object that begins with some octets holds, and the octets behind it. The octets reach up
 //! to the offset table.
-ghost use Rattle.std.specs.Prelude.{◌≡◌, ◌≢◌, ◌+◌, ◌*◌, ◌<◌, ◌≤◌, ◌/◌, ◌%◌, length, IfOk};
+ghost use Rattle.std.specs.Prelude.{◌≡◌, ◌≢◌, ◌+◌, ◌*◌, ◌<◌, ◌≤◌, ◌/◌, ◌%◌, ◌^◌, length, IfOk};
 ghost use Rattle.byteorder.specs.Endian.{big_number};
 ghost use Rattle.plist_object.specs.Objects.{IsHeld, holds_scalar, cut, integer_length};
-ghost use Rattle.plist_object.specs.Objects.{count_spelled, count_of_content, content, whole_in};
+ghost use Rattle.plist_object.specs.Objects.{count_spelled, content, whole_in};
 ghost use Rattle.plist_object.specs.Objects.{simple_object, whole_object, real_object};
 ghost use Rattle.plist_object.specs.Objects.{moment_object, data_object, ascii_object, wide_object};
 ghost use Rattle.plist_object.specs.Objects.{list_object, table_object, marked_object, object_in};
@@ -74,18 +74,6 @@ fn count_in(octets: &[u8], n: usize) -> u128
     }
 }
 
-#[tactic(auto, unfolding(crate::specs::Objects::count_of_content))]
-fn count_of_content(octets: &[u8], low: u8) -> Read<'_, u128>
-    ensures read { Gives (λ p. (p.0, p.1.now)) result (count_of_content low octets.entry.now) }
-    ensures octets { IfOk result (λ p. AreOctets p.1.now) }
-{
-    if low < 15 {
-        Ok((u128::from(low), octets))
-    } else {
-        count_spelled(octets)
-    }
-}
-
 // So many items of so many octets each.
 #[derive(Clone, Copy)]
 struct Counted<'a> {
@@ -94,24 +82,40 @@ struct Counted<'a> {
 }
 
 #[inline(always)]
-#[tactic(auto, unfolding(crate::specs::Objects::content))]
+#[tactic(auto, unfolding(crate::specs::Objects::content, crate::specs::Objects::count_of_content))]
 fn content(octets: &[u8], low: u8, unit: usize) -> Read<'_, Counted<'_>>
-    requires { 0 < unit }
+    requires some { 0 < unit }
+    requires few { unit ≤ 16 }
     ensures read { Gives (λ p. (p.0.count, p.0.octets.now, p.1.now)) result
         (content unit low octets.entry.now) }
     ensures whole { IfOk result (λ p. length p.0.octets.now ≡ p.0.count * unit) }
     ensures octets { IfOk result (λ p. AreOctets p.0.octets.now) }
 {
-    let (count, octets) = count_of_content(octets, low)?;
+    if low < 15 {
+        return items(octets, usize::from(low), unit);
+    }
+    let (count, octets) = count_spelled(octets)?;
     if count > (octets.len() / unit) as u128 {
         return Err(ObjectFault::CutObject);
     }
-    let count = count as usize;
-    let (items, rest) = octets.split_at(count * unit);
+    items(octets, count as usize, unit)
+}
+
+// So many items, of so many octets each, at the front of the octets.
+#[inline(always)]
+fn items(octets: &[u8], count: usize, unit: usize) -> Read<'_, Counted<'_>>
+    requires { count * unit < 2 ^ 64 }
+    ensures read { Gives (λ p. (p.0.octets.now, p.1.now)) result
+        (cut (count * unit) octets.entry.now) }
+    ensures count { IfOk result (λ p. p.0.count ≡ count) }
+    ensures whole { IfOk result (λ p. length p.0.octets.now ≡ p.0.count * unit) }
+    ensures octets { IfOk result (λ p. AreOctets p.0.octets.now) }
+{
+    let (octets, rest) = cut(octets, count * unit)?;
     Ok((
         Counted {
             count: count as u64,
-            octets: items,
+            octets,
         },
         rest,
     ))
