@@ -2,11 +2,10 @@
 use Rattle.std.specs.Prelude.{◌≡◌, ◌↔◌, ◌⊎◌, ℕ, zero, suc, ◌<◌, nat_eq, length, slice_index, Bool, true, not, if◌then◌else◌, List, Ok, Option, Some, None, ⊤}
 use Rattle.std.specs.List.{AllByRecursion}
 use Rattle.std.specs.declared.cmp.Ordering.TheVariants.{Less}
-use Rattle.std.specs.Ordering.{nat_cmp, on}
+use Rattle.std.specs.Ordering.{nat_cmp}
+use Rattle.std.specs.Option.{is_some}
 use Rattle.std.specs.Cmp.Lexicographic.{slice_cmp}
-use Rattle.indexmap.specs.IndexSet.{IndexSet, contains}
 use Rattle.plist_value.specs.Plist.{Scalar, text}
-use Rattle.plist_value.specs.Equality.{scalar_eq}
 use Rattle.plist_value.specs.Scalars.{content_of}
 use Rattle.plist_value.specs.declared.scalar_ref.ScalarRef.{ScalarRef}
 use Rattle.plist_object.specs.Layout.{trailer_of, IsLayoutFault}
@@ -14,7 +13,8 @@ use Rattle.plist_object.specs.Objects.{Held, holds_scalar}
 use Rattle.plist_object.specs.declared.layout.LayoutFault.TheVariants as layout
 use Rattle.plist_object.specs.Places.{Holds, what_holds, span_of}
 use Rattle.plist_object.specs.References.{references_of}
-use Rattle.plist_engine.specs.Scalars.{natural_in}
+use Rattle.plist_engine.specs.Scalars.{AreNumbered, number_stored}
+use Rattle.plist_engine.specs.declared.scalars.Scalars.{Scalars}
 use Rattle.plist_canon.specs.Rules.{keys_of, HoldsText, IsWellRead, IsSpelledCanonically, HasAscendingKeys, IsNoRepeat, FollowsRules, IsBroken}
 use Rattle.plist_canon.specs.declared.checking.CheckFault.{CheckFault}
 use Rattle.plist_canon.specs.declared.checking.CheckFault.TheVariants as fault
@@ -22,7 +22,6 @@ use Rattle.plist_canon.specs.declared.checking.Verdict.{Verdict}
 use Rattle.plist_canon.specs.declared.checking.Verdict.TheVariants as verdict
 use Rattle.plist_canon.specs.declared.judging.Flaw.{Flaw}
 use Rattle.plist_canon.specs.declared.judging.Flaw.TheVariants as flaw
-use Rattle.plist_canon.specs.declared.repeats.Repeats.{Repeats}
 
 -- a fault but want of memory is the layout's
 abbrev pub IsCheckFault : List ℕ → CheckFault → Type 0
@@ -86,31 +85,15 @@ pub record IsJudged (f : List ℕ) (i : ℕ) : Type 0 where
   pub ascending : HasAscendingKeys f i
   pub single : IsNoRepeat f i
 
--- whether the natural number was met; or where there is none, an equal scalar among the others
-abbrev pub was_met_as : {S H : Type 0} → Repeats S H → ScalarRef → Option ℕ → Bool
-was_met_as repeats s (Some n) = contains nat_eq repeats.naturals n
-was_met_as repeats s None = contains (on content_of scalar_eq) repeats.others s
-
 -- whether an equal scalar was met
-abbrev pub was_met : {S H : Type 0} → Repeats S H → ScalarRef → Bool
-was_met repeats s = was_met_as repeats s (natural_in (content_of s))
-
--- the set has the key now, and had it before unless this is the first
-pub record Keeps {K H : Type 0} (eq : K → K → Bool) (key : K) (old new : IndexSet K H) (first : Bool) : Type 0 where
-  pub answer : first ≡ not (contains eq old key)
-  pub each : (q : K) → contains eq new q ≡ (if eq key q then true else contains eq old q)
-
--- one scalar more was met, for the first time or not
-pub record Meets {S H : Type 0} (s : ScalarRef) (old new : Repeats S H) (first : Bool) : Type 0 where
-  pub answer : first ≡ not (was_met old s)
-  pub same : (q : ScalarRef) → content_of s ≡ content_of q → was_met new q ≡ true
-  pub other : (q : ScalarRef) → was_met new q ≡ true → (content_of s ≡ content_of q) ⊎ (was_met old q ≡ true)
-  pub kept : (q : ScalarRef) → was_met old q ≡ true → was_met new q ≡ true
+abbrev pub was_met : {S H : Type 0} → Scalars S H → ScalarRef → Bool
+was_met met r = is_some (number_stored met r)
 
 -- an object before i holds the scalar
 abbrev pub IsHeldBefore : List ℕ → ℕ → Scalar → Type 0
 IsHeldBefore f i s = (earlier : ℕ) × ((earlier < i) × (what_holds f earlier ≡ Ok (holds_scalar s)))
 
 -- the scalars were met that the objects before i hold
-abbrev pub HasMet : {S H : Type 0} → List ℕ → ℕ → Repeats S H → Type 0
-HasMet f i repeats = (q : ScalarRef) → (was_met repeats q ≡ true) ↔ IsHeldBefore f i (content_of q)
+pub record HasMet {S H : Type 0} (f : List ℕ) (i : ℕ) (met : Scalars S H) : Type 0 where
+  pub numbered : AreNumbered met
+  pub each : (r : ScalarRef) → (was_met met r ≡ true) ↔ IsHeldBefore f i (content_of r)

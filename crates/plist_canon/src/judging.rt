@@ -15,11 +15,14 @@ ghost use Rattle.plist_canon.specs.Weights.{Weighs, AreAllWeights};
 use crate::beginning::begins_plainly;
 use crate::lengths::{is_width, spelled_length};
 use crate::references::{keys_ascend, refers_well};
-use crate::repeats::Repeats;
 use crate::weights::Weight;
+use plist_engine::Scalars;
 use plist_object::{BinFile, Keys, Object, Ranks, scalar_length, width_of};
 use std::alloc::{AllocError, AllocFailed, Global};
 use std::hash::BuildHasher;
+
+// The greatest number of a scalar that is met.
+const MOST: u64 = 4_294_967_295;
 
 /// A broken rule and the object at which it is, or want of memory.
 #[derive(Clone, Copy)]
@@ -106,11 +109,11 @@ pub(crate) fn judge_objects<S: BuildHasher + Copy>(
     ensures err { IfErr result (IsFlaw (octets_of file.now)) }
 {
     let ranks = rank_keys(alloc, file)?;
-    let mut repeats = Repeats::new(alloc, hasher, file.count() as usize);
+    let mut met = Scalars::new(alloc, hasher, file.count() as usize);
     let mut weights = Vec::new(alloc);
     let mut end = 8;
     for i in 0..file.count() {
-        let judged = judge_object(objects, file, i, end, &ranks, &mut repeats)?;
+        let judged = judge_object(objects, file, i, end, &ranks, &mut met)?;
         weights.push(judged.weight)?;
         end = judged.end;
     }
@@ -209,26 +212,26 @@ fn judge_object<'a, S: BuildHasher + Copy>(
     i: u64,
     place: u64,
     ranks: &Ranks,
-    repeats: &mut Repeats<'a, S>,
+    met: &mut Scalars<'a, S>,
 ) -> Result<Judged, Flaw>
     requires objects { objects.now
         ≡ take (trailer_of (octets_of file.now)).table (octets_of file.now) }
     requires listed { i < (trailer_of (octets_of file.now)).count }
     requires before { IsEndBefore (octets_of file.now) i place }
     requires ranks { AreRanks (octets_of file.now) ranks.now }
-    requires met { HasMet (octets_of file.now) i repeats.old }
+    requires met { HasMet (octets_of file.now) i met.old }
     ensures judged { IfOk result (λ _. IsJudged (octets_of file.now) i) }
     ensures ends { IfOk result
         (λ judged. span_of (octets_of file.now) i ≡ Ok (place, judged.end)) }
     ensures weighs { IfOk result (λ judged. Weighs (octets_of file.now) i judged.weight) }
-    ensures met { IfOk result (λ _. HasMet (octets_of file.now) (suc i) repeats.new) }
+    ensures met { IfOk result (λ _. HasMet (octets_of file.now) (suc i) met.new) }
     ensures err { IfErr result (IsFlaw (octets_of file.now)) }
 {
     let object = judge_reading(file, ranks, i)?;
     judge_start(file, i, place)?;
     judge_spelling(objects, file, i, place, &object)?;
     judge_keys(file, ranks, i, &object)?;
-    judge_repeat(file, i, &object, repeats)?;
+    judge_repeat(file, i, &object, met)?;
     Ok(Judged {
         end: end_of(file, i, place, &object),
         weight: Weight::of(&object),
@@ -370,16 +373,17 @@ fn judge_repeat<'a, S: BuildHasher + Copy>(
     file: &BinFile<'a>,
     i: u64,
     object: &Object<'a>,
-    repeats: &mut Repeats<'a, S>,
+    met: &mut Scalars<'a, S>,
 ) -> Result<(), Flaw>
     requires holds { Holds (octets_of file.now) i (held_of object.now) }
-    requires met { HasMet (octets_of file.now) i repeats.old }
+    requires met { HasMet (octets_of file.now) i met.old }
     ensures ok { OnOk result (IsNoRepeat (octets_of file.now) i) }
-    ensures met { OnOk result (HasMet (octets_of file.now) (suc i) repeats.new) }
+    ensures met { OnOk result (HasMet (octets_of file.now) (suc i) met.new) }
     ensures err { IfErr result (IsFlaw (octets_of file.now)) }
 {
     if let Object::Scalar(scalar) = object {
-        if !repeats.meet(*scalar, i as usize)? {
+        let earlier = met.enter(*scalar, i.min(MOST) as u32)?;
+        if earlier.is_some() {
             return Err(Flaw::at(6, i));
         }
     }

@@ -11,7 +11,6 @@ mod limits;
 mod objects;
 mod preorder;
 mod references;
-mod repeats;
 mod weights;
 mod writing;
 

@@ -9,18 +9,19 @@ use plist_value::ScalarRef;
 use std::alloc::{AllocError, Global};
 use std::hash::BuildHasher;
 
-/// The scalars that have numbers, and these. Whole numbers that are not below 0 have a set of their
-/// own, where they take a quarter of the room.
+/// Scalars that have numbers, by which equal ones are found. Whole numbers that are not below 0 have
+/// a set of their own, where they take a quarter of the room.
 #[derive(Drop)]
-pub(crate) struct Scalars<'a, S: BuildHasher> {
+pub struct Scalars<'a, S: BuildHasher> {
     naturals: Hashed<u64, S>,
     others: Numbered<'a, S>,
     most: usize,
 }
 
 impl<'a, S: BuildHasher + Copy> Scalars<'a, S> {
-    /// No scalar has a number. There will be at most so many.
-    pub(crate) fn new(alloc: Global, hasher: S, most: usize) -> Scalars<'a, S>
+    /// No scalar has a number. There will be at most so many, and they will be hashed by what the
+    /// builder makes.
+    pub fn new(alloc: Global, hasher: S, most: usize) -> Scalars<'a, S>
         ensures { AreNew result }
     {
         Scalars {
@@ -31,11 +32,11 @@ impl<'a, S: BuildHasher + Copy> Scalars<'a, S> {
     }
 
     /// The number that the scalar has, if it has one. Else it has the next number from now on.
-    pub(crate) fn enter(
-        &mut self,
-        scalar: ScalarRef<'a>,
-        next: u32,
-    ) -> Result<Option<u32>, AllocError>
+    ///
+    /// # Errors
+    ///
+    /// Where there is no memory for the scalar. Nothing is known of the numbers then.
+    pub fn enter(&mut self, scalar: ScalarRef<'a>, next: u32) -> Result<Option<u32>, AllocError>
         ensures { IfOk result (λ had. AreNumbered self.old
             → EntersScalar scalar.entry next self.old self.new had) }
     {

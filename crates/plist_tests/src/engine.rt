@@ -4,8 +4,9 @@ ghost use Rattle.plist_value.specs.Plist.{Plist};
 ghost use Rattle.plist_object.specs.Spelled.{IsBinary};
 
 use plist_binary::read;
-use plist_engine::canonical_of;
+use plist_engine::{Scalars, canonical_of};
 use plist_object::BinFile;
+use plist_value::{FixedHasher, ScalarRef, Whole};
 use std::alloc::{AllocError, Global};
 use std::test::Fail;
 use test_files::{Draft, file_of};
@@ -182,5 +183,16 @@ fn numbers_share_objects_however_they_are_spelled(rt: HostRuntime) -> Result<(),
     let canonical = canonical_file(rt.alloc(), source.as_slice())?;
     let own = file_of_numbers(rt.alloc(), 5_000)?;
     assert_eq!(rt; canonical.as_slice(), own.as_slice());
+    Ok(())
+}
+
+#[test]
+fn scalars_by_their_numbers(rt: HostRuntime) -> Result<(), Fail> {
+    let five = ScalarRef::Whole(Whole::new(5).ok_or("in the range")?);
+    let mut known = Scalars::new(rt.alloc(), FixedHasher::new(), 3);
+    assert_eq!(rt; known.enter(five, 7)?, None);
+    assert_eq!(rt; known.enter(ScalarRef::Bytes(b"a"), 8)?, None);
+    assert_eq!(rt; known.enter(five, 9)?, Some(7));
+    assert_eq!(rt; known.enter(ScalarRef::Bytes(b"a"), 9)?, Some(8));
     Ok(())
 }

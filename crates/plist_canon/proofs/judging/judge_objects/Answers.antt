@@ -1,4 +1,5 @@
-use Rattle.std.proofs.Common.{◌≡◌, ℕ, ◌<◌, refl, sym, subst, ◌∙◌, arith, add-one, true≢false}
+use Rattle.std.proofs.Common.{◌≡◌, ℕ, ◌<◌, refl, sym, ap, subst, ◌∙◌, arith, add-one, true≢false}
+use Rattle.std.specs.Option.{is_some}
 use Rattle.plist_object.specs.Views.{octets_of}
 use Rattle.plist_object.specs.Layout.{trailer_of}
 use Rattle.plist_canon.specs.Checking.{IsJudged, IsEndBefore, HasMet}
@@ -10,7 +11,10 @@ pub loop-i-init : goal.loop-i-init
 loop-i-init g c = record {
   judged = λ j below. absurd (omega (arith, below));
   ends = refl;
-  met = λ q. (λ met. absurd (true≢false (sym met ∙ c.new-repeats.ensures q)), λ held. absurd (omega (arith, held.1.0)));
+  met = record {
+    numbered = c.new-met.ensures.numbered;
+    each = λ q. (λ found. absurd (true≢false (sym found ∙ ap is_some (c.new-met.ensures.unknown q))), λ held. absurd (omega (arith, held.1.0)));
+  };
   weighed = rw c.new-weights.ensures.items (λ j below. absurd (omega (arith, below)));
   counted = rw c.new-weights.ensures.items refl;
 }
@@ -26,7 +30,7 @@ loop-i-preserved g c =
     record {
       judged = below_or_last (λ j. IsJudged f j) i before.judged c.in_ok-judged.ensures.judged;
       ends = subst (λ (n : ℕ). IsEndBefore f n told.end) (sym (add-one i)) (c.loop-i.end, c.in_ok-judged.ensures.ends);
-      met = subst (λ (n : ℕ). HasMet f n c.judge_object.new.repeats) (sym (add-one i)) c.in_ok-judged.ensures.met;
+      met = subst (λ (n : ℕ). HasMet f n c.judge_object.new.met) (sym (add-one i)) c.in_ok-judged.ensures.met;
       weighed = AreWeights-more f weights pushed i told.weight c.in_ok-push.ensures.items before.weighed before.counted c.in_ok-judged.ensures.weighs;
       counted = length-more weights pushed i told.weight c.in_ok-push.ensures.items before.counted;
     }

@@ -10,7 +10,7 @@ invariant-loop-i g l =
     record {
       judged : (j : ℕ) → j < l.i → IsJudged f j;
       ends : IsEndBefore f l.i l.end;
-      met : HasMet f l.i l.repeats;
+      met : HasMet f l.i l.met;
       weighed : AreWeights f l.weights.items;
       counted : length l.weights.items ≡ l.i;
     }
