@@ -34,16 +34,17 @@ ascend_next g xs i d e some within less below k h =
     subst (λ (n : ℕ). slice_cmp nat_cmp (get_or keys n []) (get_or keys (k + 1) []) ≡ Less) under (subst (λ (n : ℕ). slice_cmp nat_cmp (get_or keys (i - 1) []) (get_or keys n []) ≡ Less) at last))
     (cases_lt (k + 1) i)
 
-pub ascend_more : {A : Type 0} (g : A → List ℕ) (xs : List A) (i : ℕ) (d e : A) (answer : Bool) → 1 ≤ i → i < length xs → (IsTrue answer ↔ (slice_cmp nat_cmp (g (get_or xs (i - 1) d)) (g (get_or xs i e)) ≡ Less)) → answer ≡ true → AscendTo i (map g xs) → AscendTo (i + 1) (map g xs)
-ascend_more g xs i d e answer some within says is below =
-    ascend_next g xs i d e some within (says.0 is) below
+pub ascend_more : {A : Type 0} (g : A → List ℕ) (xs : List A) (i : ℕ) (x y : A) (answer : Bool) → 1 ≤ i → i < length xs → x ≡ get_or xs (i - 1) x → y ≡ get_or xs i y → (IsTrue answer ↔ (slice_cmp nat_cmp (g x) (g y) ≡ Less)) → answer ≡ true → AscendTo i (map g xs) → AscendTo (i + 1) (map g xs)
+ascend_more {A} g xs i x y answer some within first second says is below =
+    let less = subst (λ (z : A). slice_cmp nat_cmp (g z) (g (get_or xs i y)) ≡ Less) first (subst (λ (z : A). slice_cmp nat_cmp (g x) (g z) ≡ Less) second (says.0 is)) in
+    ascend_next g xs i x y some within less below
 
-pub not_ascending : {A : Type 0} (g : A → List ℕ) (xs : List A) (i : ℕ) (d e : A) (answer : Bool) → 1 ≤ i → i < length xs → (IsTrue answer ↔ (slice_cmp nat_cmp (g (get_or xs (i - 1) d)) (g (get_or xs i e)) ≡ Less)) → answer ≡ false → IsStrictlySortedBy (slice_cmp nat_cmp) (map g xs) → ⊥
-not_ascending g xs i d e answer some within says is sorted =
+pub not_ascending : {A : Type 0} (g : A → List ℕ) (xs : List A) (i : ℕ) (x y : A) (answer : Bool) → 1 ≤ i → i < length xs → x ≡ get_or xs (i - 1) x → y ≡ get_or xs i y → (IsTrue answer ↔ (slice_cmp nat_cmp (g x) (g y) ≡ Less)) → answer ≡ false → IsStrictlySortedBy (slice_cmp nat_cmp) (map g xs) → ⊥
+not_ascending g xs i x y answer some within first second says is sorted =
     let less = Less-from_sorted (slice_cmp nat_cmp) (map g xs) (i - 1) i [] sorted (omega arith) (omega (arith, length-map xs g)) in
-    let lower : get_or (map g xs) (i - 1) [] ≡ g (get_or xs (i - 1) d) = get_or-map g xs (i - 1) d [] (omega arith) in
-    let upper : get_or (map g xs) i [] ≡ g (get_or xs i e) = get_or-map g xs i e [] within in
-    let told = says.1 (sym (ap (λ us. slice_cmp nat_cmp us (g (get_or xs i e))) lower) ∙ sym (ap (λ us. slice_cmp nat_cmp (get_or (map g xs) (i - 1) []) us) upper) ∙ less) in
+    let lower : get_or (map g xs) (i - 1) [] ≡ g x = get_or-map g xs (i - 1) x [] (omega arith) ∙ ap g (sym first) in
+    let upper : get_or (map g xs) i [] ≡ g y = get_or-map g xs i y [] within ∙ ap g (sym second) in
+    let told = says.1 (sym (ap (λ us. slice_cmp nat_cmp us (g y)) lower) ∙ sym (ap (λ us. slice_cmp nat_cmp (get_or (map g xs) (i - 1) []) us) upper) ∙ less) in
     cc
 
 pub sorted_from_ascent : (keys : List (List ℕ)) → AscendTo (length keys) keys → IsStrictlySortedBy (slice_cmp nat_cmp) keys

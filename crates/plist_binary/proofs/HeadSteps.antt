@@ -160,11 +160,11 @@ headed_moved front first before after shared moved = record {
 }
 
 -- two of the keys
-pub headed_two : (keys : List Key) (i j : ℕ) (d e : Key) → i < length keys → j < length keys → AreHeaded keys → AreHeaded (get_or keys i d ∷ get_or keys j e ∷ [])
-headed_two keys i j d e first second are = record {
+pub headed_two : (keys : List Key) (i j : ℕ) (x y : Key) → i < length keys → j < length keys → x ≡ get_or keys i x → y ≡ get_or keys j y → AreHeaded keys → AreHeaded (x ∷ y ∷ [])
+headed_two keys i j x y first second x_is y_is are = record {
   front = are.front;
   first = are.first;
-  each = two (IsHeaded are.front are.first) (get_or keys i d) (get_or keys j e) (are.each i d first) (are.each j e second);
+  each = two (IsHeaded are.front are.first) x y (subst (IsHeaded are.front are.first) (sym x_is) (are.each i x first)) (subst (IsHeaded are.front are.first) (sym y_is) (are.each j y second));
 }
 
 -- the texts are those of the keys without heads

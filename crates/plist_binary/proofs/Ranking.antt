@@ -1,5 +1,5 @@
 -- Keys that are compared by the ranks of their texts.
-use Rattle.std.proofs.Common.{◌≡◌, ℕ, zero, suc, ◌+◌, ◌<◌, List, [], ◌∷◌, length, get_or, sym, ap, ◌∙◌, arith, refl, Some, None}
+use Rattle.std.proofs.Common.{◌≡◌, ℕ, zero, suc, ◌+◌, ◌<◌, List, [], ◌∷◌, length, get_or, subst, sym, ap, ◌∙◌, arith, refl, Some, None}
 use Rattle.std.specs.Prelude.{Option, Bool, true, false, All, IsTrue, ◌↔◌}
 use Rattle.std.specs.declared.cmp.Ordering.TheVariants.{Less}
 use Rattle.std.specs.Option.{is_some, option_cmp}
@@ -25,11 +25,11 @@ two P a b first second (suc zero) d within = second
 two P a b first second (suc (suc n)) d within = absurd (omega arith)
 
 -- two of the keys
-pub alike : (keys : List Key) (i j : ℕ) (d e : Key) → i < length keys → j < length keys → AreRanked keys → AreRankedAlike (get_or keys i d) (get_or keys j e)
-alike keys i j d e first second are = record {
+pub alike : (keys : List Key) (i j : ℕ) (x y : Key) → i < length keys → j < length keys → x ≡ get_or keys i x → y ≡ get_or keys j y → AreRanked keys → AreRankedAlike x y
+alike keys i j x y first second x_is y_is are = record {
   texts = are.texts;
   ascending = are.ascending;
-  each = two (IsRanked are.texts) (get_or keys i d) (get_or keys j e) (are.each i d first) (are.each j e second);
+  each = two (IsRanked are.texts) x y (subst (IsRanked are.texts) (sym x_is) (are.each i x first)) (subst (IsRanked are.texts) (sym y_is) (are.each j y second));
 }
 
 -- in another order

@@ -1,7 +1,6 @@
 -- Objects that begin as the canonical spelling of what they hold.
-use Rattle.std.proofs.Common.{◌≡◌, ℕ, suc, ◌+◌, ◌-◌, ◌*◌, ◌<◌, ◌≤◌, arith, Bool, true, cond, List, ◌∷◌, length, take, drop, Result, Ok, Err, refl, sym, ap, subst, ◌∙◌}
-use Rattle.std.specs.Prelude.{nat_lt, IsOk, MatchResult}
-use Rattle.std.specs.List.{list_all}
+use Rattle.std.proofs.Common.{◌≡◌, ℕ, suc, ◌+◌, ◌-◌, ◌*◌, ◌<◌, ◌≤◌, arith, List, ◌∷◌, length, take, drop, Result, Ok, Err, refl, sym, ap, subst, ◌∙◌}
+use Rattle.std.specs.Prelude.{IsOk, MatchResult}
 use Rattle.byteorder.specs.Endian.{big_bytes, big_number}
 use Rattle.byteorder.specs.Numbers.{length-bytes_high_first}
 use Rattle.plist_value.specs.Plist.{AreOctets}
@@ -9,8 +8,7 @@ use Rattle.plist_object.specs.declared.object.ObjectFault.{ObjectFault}
 use Rattle.std.proofs.lemmas.List.{length-take-le, take_rest}
 use Rattle.plist_object.specs.Layout.{trailer_of, IsTrailer}
 use Rattle.plist_object.specs.Objects.{Held, IsHeld, object_in, ◌>>=◌}
-use Rattle.plist_object.specs.Heads.{Begins, BeginsCanonically, IsCounted, text_head}
-use Rattle.plist_object.specs.Spelling.{head}
+use Rattle.plist_object.specs.Heads.{Begins, BeginsCanonically, IsCounted}
 use Rattle.plist_object.specs.Places.{Holds, octets_at, object_at, what_holds, place_of}
 use Rattle.plist_object.specs.Shortest.{IsShortest}
 use Rattle.plist_object.proofs.SameOctets.{AreOctets-drop, big_bytes-big_number}
@@ -24,11 +22,6 @@ begins_number marker n width octets digits is are_octets enough read =
     let same : big_bytes width n ≡ take width digits = ap (big_bytes width) (sym read) ∙ big_bytes-big_number width digits digits_octets enough in
     let long : length (big_bytes width n) ≡ width = length-bytes_high_first width n in
     ap (λ (k : ℕ). take (suc k) octets) long ∙ ap (take (suc width)) is ∙ ap (λ (xs : List ℕ). marker ∷ xs) (sym same)
-
--- a text all of whose units are below 128
-pub begins_ascii : (units octets : List ℕ) → list_all (λ u. nat_lt u 128) units ≡ true → Begins (head 5 (length units)) octets → Begins (text_head units) octets
-begins_ascii units octets ascii begins =
-    subst (λ (b : Bool). Begins (cond b (head 5 (length units)) (head 6 (length units))) octets) (sym ascii) begins
 
 -- the octets from the place of an object on, as they were read
 record AreParts (f : List ℕ) (i : ℕ) (held : Held) : Type 0 where

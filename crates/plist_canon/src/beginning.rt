@@ -15,8 +15,7 @@ use plist_object::Object;
 use plist_value::{ScalarRef, TextRef};
 
 /// Whether the octets begin as the canonical spelling of what they hold, where that is plain.
-/// `false` says nothing: it is answered of whole numbers below 0 and from 2^63 on, and of texts
-/// with a unit above 7f.
+/// `false` says nothing: it is answered of whole numbers below 0 and from 2^63 on.
 pub(crate) fn begins_plainly(octets: &[u8], object: &Object) -> bool
     ensures begins { IsTrue result → BeginsCanonically (held_of object.now) octets.now }
     ensures counted { IsCounted (held_of object.now) }
@@ -49,11 +48,8 @@ fn begins_text(octets: &[u8], text: &TextRef) -> bool
     ensures begins { IsTrue result → Begins (text_head (units_of text.now)) octets.now }
     ensures counted { length (units_of text.now) < 2 ^ 64 }
 {
-    let count = text.len() as u64;
-    match text.octets() {
-        Some(units) if units.is_ascii() => begins_with_head(octets, 0x5, count),
-        _ => false,
-    }
+    let kind = if text.is_ascii() { 0x5 } else { 0x6 };
+    begins_with_head(octets, kind, text.len() as u64)
 }
 
 fn begins_whole(octets: &[u8], number: i128) -> bool

@@ -1,5 +1,4 @@
 pub mod Ascending
-pub mod Ascii
 pub mod Uniqueness
 pub mod CanonicalHeads
 pub mod Counts

@@ -147,16 +147,15 @@ not_below keys (suc i) before d sorted within at apart =
     ap units_of is ∙ equal_texts (units_of last.text) (units_of next.text) (nat_cmp next.object last.object) here other
 
 -- the object of a key has a place among the numbers
-pub object_within : (f : List ℕ) (numbers : List (Option ℕ)) (long : ℕ) (keys : List Key) (i : ℕ) (d : Key) → long ≡ length numbers → length numbers ≡ (trailer_of f).count → All (HoldsKey f) keys → i < length keys → (get_or keys i d).object < long
-object_within f numbers long keys i d all counted held within =
-    let holds = held i d within in
+pub object_within : (f : List ℕ) (numbers : List (Option ℕ)) (long : ℕ) (keys : List Key) (i : ℕ) (key : Key) → key ≡ get_or keys i key → long ≡ length numbers → length numbers ≡ (trailer_of f).count → All (HoldsKey f) keys → i < length keys → key.object < long
+object_within f numbers long keys i key same all counted held within =
+    let holds = subst (HoldsKey f) (sym same) (held i key within) in
     let listed = holds.0.listed in
     omega (arith, counted, all)
 
-pub ranked_above : (f : List ℕ) (numbers : List (Option ℕ)) (texts after : List TextRef) (keys : List Key) (i rank now : ℕ) (before : TextRef) (d : Key) (above : Bool) → length numbers ≡ (trailer_of f).count → All (HoldsKey f) keys → i < length keys → RankedTo f numbers (map units_of texts) rank (units_of before) → above ≡ is_lt (slice_cmp nat_cmp (units_of before) (units_of (get_or keys i d).text)) → above ≡ true → now ≡ rank + 1 → after ≡ texts ++ (get_or keys i d).text ∷ [] → RankedTo f (slice_set numbers (get_or keys i d).object (Some now)) (map units_of after) now (units_of (get_or keys i d).text)
-ranked_above f numbers texts after keys i rank now before d above counted held within ranked test answer is pushed =
-    let key = get_or keys i d in
-    let holds = held i d within in
+pub ranked_above : (f : List ℕ) (numbers : List (Option ℕ)) (texts after : List TextRef) (keys : List Key) (i rank now : ℕ) (before : TextRef) (key : Key) (above : Bool) → key ≡ get_or keys i key → length numbers ≡ (trailer_of f).count → All (HoldsKey f) keys → i < length keys → RankedTo f numbers (map units_of texts) rank (units_of before) → above ≡ is_lt (slice_cmp nat_cmp (units_of before) (units_of key.text)) → above ≡ true → now ≡ rank + 1 → after ≡ texts ++ key.text ∷ [] → RankedTo f (slice_set numbers key.object (Some now)) (map units_of after) now (units_of key.text)
+ranked_above f numbers texts after keys i rank now before key above same counted held within ranked test answer is pushed =
+    let holds = subst (HoldsKey f) (sym same) (held i key within) in
     let listed = holds.0.listed in
     let below = less_from_lt (slice_cmp nat_cmp (units_of before) (units_of key.text)) (sym test ∙ answer) in
     let all : map units_of after ≡ map units_of texts ++ units_of key.text ∷ [] = ap (λ (ts : List TextRef). map units_of ts) pushed ∙ map-append units_of texts (key.text ∷ []) in
@@ -164,20 +163,20 @@ ranked_above f numbers texts after keys i rank now before d above counted held w
     let there = subst (λ (n : ℕ). RankedTo f (slice_set numbers key.object (Some n)) (map units_of texts ++ units_of key.text ∷ []) n (units_of key.text)) (sym is) next in
     subst (λ (l : List (List ℕ)). RankedTo f (slice_set numbers key.object (Some now)) l now (units_of key.text)) (sym all) there
 
-pub ranked_level : (f : List ℕ) (numbers : List (Option ℕ)) (texts after : List TextRef) (keys : List Key) (i rank now : ℕ) (before : TextRef) (d : Key) (above : Bool) → length numbers ≡ (trailer_of f).count → All (HoldsKey f) keys → IsSorted in_order keys → ((e : Key) → before ≡ (get_or keys (i - 1) e).text) → i < length keys → RankedTo f numbers (map units_of texts) rank (units_of before) → above ≡ is_lt (slice_cmp nat_cmp (units_of before) (units_of (get_or keys i d).text)) → above ≡ false → now ≡ rank → after ≡ texts → RankedTo f (slice_set numbers (get_or keys i d).object (Some now)) (map units_of after) now (units_of (get_or keys i d).text)
-ranked_level f numbers texts after keys i rank now before d above counted held sorted at within ranked test answer is kept =
-    let key = get_or keys i d in
-    let holds = held i d within in
+pub ranked_level : (f : List ℕ) (numbers : List (Option ℕ)) (texts after : List TextRef) (keys : List Key) (i rank now : ℕ) (before : TextRef) (key : Key) (above : Bool) → key ≡ get_or keys i key → length numbers ≡ (trailer_of f).count → All (HoldsKey f) keys → IsSorted in_order keys → ((e : Key) → before ≡ (get_or keys (i - 1) e).text) → i < length keys → RankedTo f numbers (map units_of texts) rank (units_of before) → above ≡ is_lt (slice_cmp nat_cmp (units_of before) (units_of key.text)) → above ≡ false → now ≡ rank → after ≡ texts → RankedTo f (slice_set numbers key.object (Some now)) (map units_of after) now (units_of key.text)
+ranked_level f numbers texts after keys i rank now before key above same counted held sorted at within ranked test answer is kept =
+    let holds = subst (HoldsKey f) (sym same) (held i key within) in
     let listed = holds.0.listed in
-    let same = not_below keys i before d sorted within at (λ less. true≢false (sym (ap is_lt less) ∙ sym test ∙ answer)) in
-    let here : RankedTo f numbers (map units_of texts) rank (units_of key.text) = subst (λ (units : List ℕ). RankedTo f numbers (map units_of texts) rank units) same ranked in
+    let first = subst (λ (k : Key). (slice_cmp nat_cmp (units_of before) (units_of k.text) ≡ Less → ⊥) → units_of before ≡ units_of k.text) (sym same) (not_below keys i before key sorted within at) in
+    let level = first (λ less. true≢false (sym (ap is_lt less) ∙ sym test ∙ answer)) in
+    let here : RankedTo f numbers (map units_of texts) rank (units_of key.text) = subst (λ (units : List ℕ). RankedTo f numbers (map units_of texts) rank units) level ranked in
     let there = subst (λ (n : ℕ). RankedTo f (slice_set numbers key.object (Some n)) (map units_of texts) n (units_of key.text)) (sym is) (ranked_same f numbers (map units_of texts) rank key.object (units_of key.text) here (omega arith) holds) in
     subst (λ (ts : List TextRef). RankedTo f (slice_set numbers key.object (Some now)) (map units_of ts) now (units_of key.text)) (sym kept) there
 
-pub at_last : (keys : List Key) (i : ℕ) (d e : Key) → i < length keys → (get_or keys i d).text ≡ (get_or keys (i + 1 - 1) e).text
-at_last keys i d e within =
+pub at_last : (keys : List Key) (i : ℕ) (key e : Key) → key ≡ get_or keys i key → i < length keys → key.text ≡ (get_or keys (i + 1 - 1) e).text
+at_last keys i key e same within =
     let is : i ≡ i + 1 - 1 = omega arith in
-    ap (λ (key : Key). key.text) (get_or_default keys i d e within) ∙ ap (λ (n : ℕ). (get_or keys n e).text) is
+    ap (λ (k : Key). k.text) (same ∙ get_or_default keys i key e within) ∙ ap (λ (n : ℕ). (get_or keys n e).text) is
 
 abbrev pub no_rank : Option ℕ
 no_rank = None

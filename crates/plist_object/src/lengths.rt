@@ -1,7 +1,5 @@
 //! How many octets an object has in its canonical spelling.
 ghost use Rattle.std.specs.Prelude.{◌≡◌, ◌+◌, ◌*◌, ◌<◌, ◌^◌, length, List, ℕ};
-ghost use Rattle.std.specs.List.{list_all};
-ghost use Rattle.std.specs.Prelude.{nat_lt};
 ghost use Rattle.plist_value.specs.Plist.{IsWhole};
 ghost use Rattle.plist_value.specs.Texts.{units_of};
 ghost use Rattle.plist_value.specs.Scalars.{content_of};
@@ -76,7 +74,7 @@ fn text_length(text: &TextRef) -> u64
     ensures { result ≡ length (text_spelling (units_of text.now)) }
 {
     let units = text.len() as u64;
-    if is_ascii(text) {
+    if text.is_ascii() {
         head_length(units) + units
     } else {
         head_length(units) + 2 * units
@@ -106,20 +104,4 @@ pub(crate) fn head_length(count: u64) -> u64
     } else {
         2 + u64::from(width_of(count))
     }
-}
-
-/// Whether all units of the text are below 128.
-pub(crate) fn is_ascii(text: &TextRef) -> bool
-    ensures { result ≡ list_all (λ unit. nat_lt unit 128) (units_of text.now) }
-{
-    if let Some(octets) = text.octets() {
-        return octets.is_ascii();
-    }
-    let text = *text;
-    for i in 0..text.len() {
-        if text.unit(i) >= 128 {
-            return false;
-        }
-    }
-    true
 }

@@ -14,7 +14,7 @@ ghost use Rattle.plist_object.specs.Spelling.{references, table_spelling, scalar
 ghost use Rattle.plist_object.specs.Spelling.{text_spelling, whole_spelling};
 
 use crate::digits::{push_four, push_number, push_octet, push_octets, push_two};
-use crate::lengths::{head_length, is_ascii, list_length, table_length, width_of};
+use crate::lengths::{head_length, list_length, table_length, width_of};
 use crate::markers::{
     ASCII, DATA, FALSE, LIST, MOMENT_8, REAL_4, REAL_8, TABLE, TRUE, WHOLE_1, WHOLE_2, WHOLE_4,
     WHOLE_8, WHOLE_16, WIDE,
@@ -49,7 +49,7 @@ fn put_text(out: &mut Vec<u8>, text: &TextRef) -> Result<(), AllocError>
     ensures err { OnErr result (out.new.items ≡ out.old.items) }
 {
     let count = text.len() as u64;
-    if is_ascii(text) {
+    if text.is_ascii() {
         out.reserve((head_length(count) + count) as usize)?;
         push_head(out, ASCII, count);
         push_ascii(out, text);

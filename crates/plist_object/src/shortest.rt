@@ -13,7 +13,7 @@ ghost use Rattle.plist_object.specs.Spelling.{head, least_integer, whole_spellin
 ghost use Rattle.plist_object.specs.Views.{held_of};
 
 use crate::Object;
-use crate::lengths::{is_ascii, width_of};
+use crate::lengths::width_of;
 use crate::markers::{
     ASCII, DATA, FALSE, LIST, MOMENT_8, REAL_4, REAL_8, TABLE, TRUE, WHOLE_1, WHOLE_2, WHOLE_4,
     WHOLE_8, WHOLE_16, WIDE,
@@ -54,7 +54,7 @@ fn begins_text(octets: &[u8], text: &TextRef) -> bool
     ensures begins { IsTrue result ↔ Begins (text_head (units_of text.now)) octets.now }
     ensures counted { length (units_of text.now) < 2 ^ 64 }
 {
-    let kind = if is_ascii(text) { ASCII } else { WIDE };
+    let kind = if text.is_ascii() { ASCII } else { WIDE };
     begins_with_head(octets, kind, text.len() as u64)
 }
 

@@ -44,13 +44,14 @@ impl<'a> KnownKeys<'a> {
         ensures known { AreKnown (octets_of file.now) self.new }
     {
         let place = (n % 64) as usize;
-        if let Some(key) = self.places[place]
+        let places = &mut self.places[..];
+        if let Some(key) = places[place]
             && key.number == n
         {
             return key.text;
         }
         let text = text_of(file, n);
-        self.places[place] = Some(KnownKey { number: n, text });
+        places[place] = Some(KnownKey { number: n, text });
         text
     }
 }

@@ -72,7 +72,7 @@ fn are_equal(text: TextRef, other: TextRef) -> bool {
 
 // Whether the text has the two letters, and is equal to each of these.
 fn is_like(text: TextRef, others: &[TextRef]) -> bool {
-    if text.len() != 2 || text.is_empty() || text.unit(1) != 0x62 {
+    if text.len() != 2 || text.is_empty() || !text.is_ascii() || text.unit(1) != 0x62 {
         return false;
     }
     for other in others {
@@ -96,7 +96,7 @@ fn are_one_text(texts: &[TextRef]) -> bool {
 // A surrogate may stand alone.
 fn is_alone() -> bool {
     match TextRef::of_wide(b"\xd8\x00") {
-        Some(alone) => alone == TextRef::of_units(&[0xd800]),
+        Some(alone) => alone == TextRef::of_units(&[0xd800]) && !alone.is_ascii(),
         None => false,
     }
 }

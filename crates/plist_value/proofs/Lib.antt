@@ -5,3 +5,4 @@ pub mod Pairs
 pub mod Hashes
 pub mod Orders
 pub mod Rows
+pub mod BelowAscii

@@ -12,7 +12,7 @@ wide_units (high ∷ low ∷ rest) = (256 * high + low) ∷ wide_units rest
 
 abbrev pub units_kept : Kept → List ℕ
 units_kept (Units units) = units.now
-units_kept (Ascii text) = text.now
+units_kept (Ascii ascii) = ascii.text.now
 units_kept (Wide octets) = wide_units octets.now
 
 abbrev pub units_of : TextRef → List ℕ

@@ -1,6 +1,7 @@
 //! The values that property lists spell, and how large they may be.
 #![tactic(auto)]
 
+mod ascii;
 pub mod budget;
 pub mod copies;
 pub mod equal;

@@ -1,7 +1,8 @@
 //! Texts that are borrowed.
 ghost use Rattle.std.specs.Prelude.{◌≡◌, ◌<◌, ◌≤◌, ◌+◌, ◌%◌, ◌↔◌, IsSome};
 ghost use Rattle.std.specs.Prelude.{IfSome, All, true, false, nat_eq, length, slice_index, drop};
-ghost use Rattle.std.specs.Prelude.{fold};
+ghost use Rattle.std.specs.Prelude.{fold, nat_lt};
+ghost use Rattle.std.specs.List.{list_all};
 ghost use Rattle.std.specs.Ordering.{nat_cmp, on, as_partial_cmp};
 ghost use Rattle.std.specs.Cmp.{partial_order_from_own_ties};
 ghost use Rattle.std.specs.Cmp.Lexicographic.{pointwise, slice_cmp, bytes_decides};
@@ -14,6 +15,7 @@ ghost use Rattle.std.proofs.Common.{rules};
 ghost use Rattle.plist_value.specs.Texts.{units_of, wide_units};
 ghost use Rattle.plist_value.specs.Texts.{is_ascii_kept, is_units_kept, is_wide_kept};
 
+use crate::ascii::Ascii;
 use crate::words::{compare, feed, feed_octets, word};
 use std::cmp::Ordering;
 use std::hash::{Hash, Hasher};
@@ -31,7 +33,7 @@ pub struct TextRef<'a> {
 #[derive(Clone, Copy, Debug)]
 enum Kept<'a> {
     Units(&'a [u16]),
-    Ascii(&'a str),
+    Ascii(Ascii<'a>),
     Wide(&'a [u8]),
 }
 
@@ -57,12 +59,9 @@ impl<'a> TextRef<'a> {
         ensures valid { IfSome result (λ t. AreUnits (units_of t)) }
         ensures kept { IfSome result (λ t. is_ascii_kept t ≡ true) }
     {
-        if !octets.is_ascii() {
-            return None;
-        }
-        let text = unsafe { str::from_utf8_unchecked(octets) };
+        let ascii = Ascii::of(octets)?;
         Some(TextRef {
-            kept: Kept::Ascii(text),
+            kept: Kept::Ascii(ascii),
         })
     }
 
@@ -89,7 +88,7 @@ impl<'a> TextRef<'a> {
     {
         match self.kept {
             Kept::Units(units) => units.len(),
-            Kept::Ascii(text) => text.len(),
+            Kept::Ascii(ascii) => ascii.text.len(),
             Kept::Wide(octets) => octets.len() / 2,
         }
     }
@@ -108,9 +107,25 @@ impl<'a> TextRef<'a> {
     {
         match self.kept {
             Kept::Units(units) => plain_unit(units, i),
-            Kept::Ascii(text) => u16::from(text.as_bytes()[i]),
+            Kept::Ascii(ascii) => u16::from(ascii.text.as_bytes()[i]),
             Kept::Wide(octets) => wide_unit(octets, i),
         }
+    }
+
+    /// Whether all units are below 128. Of a text that is kept as ASCII octets none is read.
+    pub fn is_ascii(&self) -> bool
+        ensures { result ≡ list_all (λ unit. nat_lt unit 128) (units_of self.now) }
+    {
+        if let Kept::Ascii(_) = self.kept {
+            return true;
+        }
+        let text = *self;
+        for i in 0..text.len() {
+            if text.unit(i) >= 128 {
+                return false;
+            }
+        }
+        true
     }
 
     /// The octets of a text that is kept as ASCII octets, one for each unit: exactly a text that
@@ -120,7 +135,7 @@ impl<'a> TextRef<'a> {
         ensures kept { IsSome result ↔ (is_ascii_kept self.now ≡ true) }
     {
         match self.kept {
-            Kept::Ascii(text) => Some(text.as_bytes()),
+            Kept::Ascii(ascii) => Some(ascii.text.as_bytes()),
             _ => None,
         }
     }
@@ -221,7 +236,7 @@ impl<'a> PartialEq for TextRef<'a> {
     fn eq(&self, other: &Self) -> bool {
         match (self.kept, other.kept) {
             (Kept::Units(units), Kept::Units(others)) => units == others,
-            (Kept::Ascii(text), Kept::Ascii(other)) => text == other,
+            (Kept::Ascii(ascii), Kept::Ascii(other)) => ascii.text == other.text,
             _ => same_units(self, other),
         }
     }
@@ -244,7 +259,7 @@ impl<'a> Ord for TextRef<'a> {
     fn cmp(&self, other: &Self) -> Ordering {
         match (self.kept, other.kept) {
             (Kept::Units(units), Kept::Units(others)) => compare(units, others),
-            (Kept::Ascii(text), Kept::Ascii(other)) => text.cmp(other),
+            (Kept::Ascii(ascii), Kept::Ascii(other)) => ascii.text.cmp(other.text),
             _ => compare_units(self, other),
         }
     }
@@ -268,8 +283,8 @@ impl<'a> Hash for TextRef<'a> {
     ghost respects_eq = { (on_Alike units_of (same_Alike fed_text bytes_decides)).fed };
 
     fn hash<H: Hasher>(&self, state: &mut H) {
-        if let Kept::Ascii(text) = self.kept {
-            feed_octets(text.as_bytes(), state);
+        if let Kept::Ascii(ascii) = self.kept {
+            feed_octets(ascii.text.as_bytes(), state);
         } else if is_narrow(self) {
             feed_narrow(self, state);
         } else {

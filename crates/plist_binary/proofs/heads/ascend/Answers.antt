@@ -7,11 +7,11 @@ use Rattle.plist_binary.proofs.heads.ascend.Goals as goal
 
 pub returns-then-not-is_below : goal.returns-then-not-is_below
 returns-then-not-is_below c =
-    (λ wrong. absurd (cc), λ sorted. absurd (not_ascending units_at c.args.keys.now c.loop-i.i _ _ c.is_below.result (omega arith) (omega arith) c.is_below.ensures c.if-not-is_below.true sorted))
+    (λ wrong. absurd (cc), λ sorted. absurd (not_ascending units_at c.args.keys.now c.loop-i.i _ _ c.is_below.result (omega arith) (omega arith) c.index-keys-i.is c.index-keys-i-in-loop-i.is c.is_below.ensures c.if-not-is_below.true sorted))
 
 pub loop-i-preserved : goal.loop-i-preserved
 loop-i-preserved c =
-    ascend_more units_at c.args.keys.now c.loop-i.i _ _ c.is_below.result (omega arith) (omega arith) c.is_below.ensures c.if-not-is_below.false c.loop-i.invariant
+    ascend_more units_at c.args.keys.now c.loop-i.i _ _ c.is_below.result (omega arith) (omega arith) c.index-keys-i.is c.index-keys-i-in-loop-i.is c.is_below.ensures c.if-not-is_below.false c.loop-i.invariant
 
 pub returns : goal.returns
 returns c =
@@ -20,4 +20,4 @@ returns c =
 
 pub is_below-requires : goal.is_below-requires
 is_below-requires c =
-    headed_two c.args.keys.now (c.loop-i.i - 1) c.loop-i.i _ _ (omega arith) (omega arith) c.requires
+    headed_two c.args.keys.now (c.loop-i.i - 1) c.loop-i.i _ _ (omega arith) (omega arith) c.index-keys-i.is c.index-keys-i-in-loop-i.is c.requires

@@ -13,6 +13,7 @@ loop-key-preserved c =
     let keys = c.args.keys.now in
     let i = c.loop-key.key-index in
     let before = c.loop-key.before in
+    let key = c.key-item.result in
     let invariant = c.loop-key.invariant in
     record {
       counted = length-set numbers _ _ ∙ invariant.counted;
@@ -20,10 +21,10 @@ loop-key-preserved c =
         | then-lt+in_ok-push-2 w ↦ omega (arith, w.rank-is, invariant.small)
         | else-lt w ↦ omega (arith, w.rank-is, invariant.small)
       ];
-      at = λ d. at_last keys i _ d c.loop-key-test.true;
+      at = λ d. at_last keys i key d c.key-item.is c.loop-key-test.true;
       ranked = elim c.if-lt.branch [
-        | then-lt+in_ok-push-2 w ↦ ranked_above f numbers c.loop-key.texts.items c.if-lt.texts.items keys i c.loop-key.rank c.if-lt.rank before _ c.lt.result invariant.counted c.requires.held c.loop-key-test.true invariant.ranked c.lt.ensures w.if-lt.true w.rank-is (rw w.texts-is w.in_ok-push-2.ensures.items)
-        | else-lt w ↦ ranked_level f numbers c.loop-key.texts.items c.if-lt.texts.items keys i c.loop-key.rank c.if-lt.rank before _ c.lt.result invariant.counted c.requires.held c.requires.sorted invariant.at c.loop-key-test.true invariant.ranked c.lt.ensures w.if-lt.false w.rank-is (rw w.texts-is refl)
+        | then-lt+in_ok-push-2 w ↦ ranked_above f numbers c.loop-key.texts.items c.if-lt.texts.items keys i c.loop-key.rank c.if-lt.rank before key c.lt.result c.key-item.is invariant.counted c.requires.held c.loop-key-test.true invariant.ranked c.lt.ensures w.if-lt.true w.rank-is (rw w.texts-is w.in_ok-push-2.ensures.items)
+        | else-lt w ↦ ranked_level f numbers c.loop-key.texts.items c.if-lt.texts.items keys i c.loop-key.rank c.if-lt.rank before key c.lt.result c.key-item.is invariant.counted c.requires.held c.requires.sorted invariant.at c.loop-key-test.true invariant.ranked c.lt.ensures w.if-lt.false w.rank-is (rw w.texts-is refl)
       ];
     }
 
@@ -45,4 +46,4 @@ returns-then-is_empty c = c.none.ensures (octets_of c.args.file.now)
 
 pub index_mut-requires : goal.index_mut-requires
 index_mut-requires c =
-    object_within (octets_of c.args.file.now) c.loop-key.of_objects.items c.loop-key.of_objects.len c.args.keys.now c.loop-key.key-index _ c.loop-key.of_objects.ok.0 c.loop-key.invariant.counted c.requires.held c.loop-key-test.true
+    object_within (octets_of c.args.file.now) c.loop-key.of_objects.items c.loop-key.of_objects.len c.args.keys.now c.loop-key.key-index c.key-item.result c.key-item.is c.loop-key.of_objects.ok.0 c.loop-key.invariant.counted c.requires.held c.loop-key-test.true
