@@ -239,6 +239,7 @@ fn judge_object<'a, S: BuildHasher + Copy>(
 }
 
 // Rule 0 of the object: what it holds.
+#[inline(always)]
 fn judge_reading<'a>(file: &BinFile<'a>, ranks: &Ranks, i: u64) -> Result<Object<'a>, Flaw>
     requires ranks { AreRanks (octets_of file.now) ranks.now }
     requires listed { i < (trailer_of (octets_of file.now)).count }
@@ -257,6 +258,7 @@ fn judge_reading<'a>(file: &BinFile<'a>, ranks: &Ranks, i: u64) -> Result<Object
 }
 
 // Rule 3 of an object that reads, but for the place of the offset table: it begins at the place.
+#[inline(always)]
 fn judge_start(file: &BinFile, i: u64, place: u64) -> Result<(), Flaw>
     requires listed { i < (trailer_of (octets_of file.now)).count }
     requires before { IsEndBefore (octets_of file.now) i place }
@@ -271,6 +273,7 @@ fn judge_start(file: &BinFile, i: u64, place: u64) -> Result<(), Flaw>
 }
 
 // Where an object ends that begins at the place, in its canonical spelling.
+#[inline(always)]
 fn end_of(file: &BinFile, i: u64, place: u64, object: &Object) -> u64
     requires starts { place_of (octets_of file.now) i ≡ place }
     requires holds { Holds (octets_of file.now) i (held_of object.now) }
@@ -328,6 +331,7 @@ fn judge_place(file: &BinFile, i: u64, place: u64) -> Result<u64, Flaw>
 
 // Rule 4 of the object, which begins at the place. Mostly its first octets tell, so it is not read
 // again.
+#[inline(always)]
 fn judge_spelling(
     objects: &[u8],
     file: &BinFile,
@@ -353,6 +357,7 @@ fn judge_spelling(
 }
 
 // Rule 5 of the object.
+#[inline(always)]
 fn judge_keys(file: &BinFile, ranks: &Ranks, i: u64, object: &Object) -> Result<(), Flaw>
     requires ranks { AreRanks (octets_of file.now) ranks.now }
     requires holds { Holds (octets_of file.now) i (held_of object.now) }
@@ -369,6 +374,7 @@ fn judge_keys(file: &BinFile, ranks: &Ranks, i: u64, object: &Object) -> Result<
 }
 
 // Rule 6 of the object.
+#[inline(always)]
 fn judge_repeat<'a, S: BuildHasher + Copy>(
     file: &BinFile<'a>,
     i: u64,
