@@ -9,8 +9,8 @@ use plist_value::ScalarRef;
 use std::alloc::{AllocError, Global};
 use std::hash::BuildHasher;
 
-/// Scalars that have numbers, by which equal ones are found. Whole numbers that are not below 0 have
-/// a set of their own, where they take a quarter of the room.
+/// Scalars that have numbers, by which equal ones are found. Whole numbers that are not below 0
+/// have a set of their own, where they take a quarter of the room.
 #[derive(Drop)]
 pub struct Scalars<'a, S: BuildHasher> {
     naturals: Hashed<u64, S>,
