@@ -19,6 +19,7 @@ pub mod PlaceSteps
 pub mod Shortness
 pub mod Keys
 pub mod Numbers
+pub mod Small
 pub mod Storing
 pub mod Growing
 pub mod Walking

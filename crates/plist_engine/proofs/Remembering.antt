@@ -10,8 +10,9 @@ use Rattle.plist_object.specs.Places.{Holds}
 use Rattle.plist_object.specs.Spelled.{Spells}
 use Rattle.plist_object.proofs.Uniqueness.{same_held}
 use Rattle.plist_engine.specs.declared.plan.Plan.{Plan}
+use Rattle.plist_engine.specs.Naturals.{no_number}
 use Rattle.plist_engine.specs.Scalars.{AreNumbered, number_stored}
-use Rattle.plist_engine.specs.Plan.{KeepsNumber, KeepsScalar, IsRemembered, RemembersNumbers, NumbersScalar, no_number, remembered, IsWalked, Begins}
+use Rattle.plist_engine.specs.Plan.{KeepsNumber, KeepsScalar, IsRemembered, RemembersNumbers, NumbersScalar, remembered, IsWalked, Begins}
 use Rattle.plist_engine.specs.Spelling.{SpellsWithin}
 use Rattle.plist_engine.proofs.Storing.{enters-again}
 use Rattle.plist_engine.proofs.Walking.{Walks-known, Walks-lift}

@@ -9,10 +9,10 @@ use Rattle.plist_value.specs.EqualityLaws.{scalar_eq-Decides}
 use Rattle.plist_value.specs.Scalars.{content_of}
 use Rattle.plist_value.specs.declared.scalar_ref.ScalarRef.{ScalarRef}
 use Rattle.plist_engine.specs.declared.scalars.Scalars.{Scalars}
-use Rattle.plist_engine.specs.Hashed.{number_of_key, EntersKey}
+use Rattle.plist_engine.specs.Naturals.{number_of_natural, EntersNatural}
 use Rattle.plist_engine.specs.Numbered.{number_held}
 use Rattle.plist_engine.specs.Scalars.{natural_in, number_by, number_stored, AreNumbered, EntersScalar}
-use Rattle.plist_engine.proofs.Keys.{or_none, counted-after, number-after}
+use Rattle.plist_engine.proofs.Keys.{or_none}
 use Rattle.plist_engine.proofs.Numbers.{is_same, same-number}
 
 -- equal scalars are found under one number
@@ -83,7 +83,7 @@ naturals-same r q m n first second = elim (cases_Bool (nat_eq m n)) [
 ]
 
 -- what stands for a scalar whose natural number is known to be this, or to be none
-by-natural : {S H : Type 0} → (known : Scalars S H) (r : ScalarRef) (n : ℕ) → natural_in (content_of r) ≡ Some n → number_stored known r ≡ number_of_key nat_eq known.naturals n
+by-natural : {S H : Type 0} → (known : Scalars S H) (r : ScalarRef) (n : ℕ) → natural_in (content_of r) ≡ Some n → number_stored known r ≡ number_of_natural known.naturals n
 by-natural known r n e = ap (number_by known r) e
 
 by-other : {S H : Type 0} → (known : Scalars S H) (r : ScalarRef) → natural_in (content_of r) ≡ None → number_stored known r ≡ number_held known.others r
@@ -94,19 +94,15 @@ cases-natural None = inl refl
 cases-natural (Some n) = inr (n, refl)
 
 -- a natural number was entered
-module _ {S H : Type 0} (shown : ScalarRef) (n next : ℕ) (old new : Scalars S H) (had : Option ℕ) (natural : natural_in (content_of shown) ≡ Some n) (numbered : AreNumbered old) (same_others : new.others ≡ old.others) (enters : EntersKey nat_eq n next old.naturals new.naturals had) where
-  naturals_now : (m : ℕ) → number_of_key nat_eq new.naturals m ≡ option_or (number_of_key nat_eq old.naturals m) (cond (nat_eq n m) (Some next) None)
-  naturals_now = number-after ℕ ℕ (λ m. m) nat_eq unsigned_Decides n next old.naturals new.naturals numbered.counted had enters
-
-  pub enters-natural : EntersScalar shown next old new had
-  enters-natural = record {
-    numbered = record {
-      counted = counted-after ℕ ℕ (λ m. m) nat_eq unsigned_Decides n next old.naturals new.naturals numbered.counted had enters;
-      others = rw same_others numbered.others;
-    };
-    had_is = enters.had_is ∙ sym (by-natural old shown n natural);
-    each = λ r. elim (cases-natural (natural_in (content_of r))) [
-      | inl none ↦ (let apart : scalar_eq (content_of shown) (content_of r) ≡ false = differ shown r (λ e. let t : Some n ≡ None = sym natural ∙ e ∙ none in cc) in rw (by-other new r none, by-other old r none, same_others, apart) (sym (or_none (number_held old.others r))))
-      | inr some ↦ rw (by-natural new r some.0 some.1, by-natural old r some.0 some.1, naturals-same shown r n some.0 natural some.1) (naturals_now some.0)
-    ];
-  }
+pub enters-natural : {S H : Type 0} → (shown : ScalarRef) (n next : ℕ) (old new : Scalars S H) (had : Option ℕ) → natural_in (content_of shown) ≡ Some n → AreNumbered old → new.others ≡ old.others → EntersNatural n next old.naturals new.naturals had → EntersScalar shown next old new had
+enters-natural shown n next old new had natural numbered same_others enters = record {
+  numbered = record {
+    naturals = enters.numbered;
+    others = rw same_others numbered.others;
+  };
+  had_is = enters.had_is ∙ sym (by-natural old shown n natural);
+  each = λ r. elim (cases-natural (natural_in (content_of r))) [
+    | inl none ↦ (let apart : scalar_eq (content_of shown) (content_of r) ≡ false = differ shown r (λ e. let t : Some n ≡ None = sym natural ∙ e ∙ none in cc) in rw (by-other new r none, by-other old r none, same_others, apart) (sym (or_none (number_held old.others r))))
+    | inr some ↦ rw (by-natural new r some.0 some.1, by-natural old r some.0 some.1, naturals-same shown r n some.0 natural some.1) (enters.each some.0)
+  ];
+}

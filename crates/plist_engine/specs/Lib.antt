@@ -13,6 +13,7 @@ pub mod Sending
 pub mod Pending
 pub mod Spelling
 pub mod Hashed
+pub mod Naturals
 pub mod Numbered
 pub mod Scalars
 pub mod Plan

@@ -1,5 +1,5 @@
 -- The walk that plans a canonical file over the objects of another file.
-use Rattle.std.specs.Prelude.{◌≡◌, ◌⊎◌, ℕ, ◌+◌, ◌-◌, ◌^◌, List, [], ◌∷◌, ◌++◌, length, map, drop, take, slice_index_or, Some}
+use Rattle.std.specs.Prelude.{◌≡◌, ◌⊎◌, ℕ, ◌+◌, List, [], ◌∷◌, ◌++◌, length, map, drop, take, slice_index_or, Some}
 use Rattle.plist_value.specs.Plist.{Scalar, Plist, scalar, Items, IsPlist, AreItems}
 use Rattle.plist_value.specs.Scalars.{content_of}
 use Rattle.plist_value.specs.declared.scalar_ref.ScalarRef.{ScalarRef}
@@ -10,6 +10,7 @@ use Rattle.plist_object.specs.Spelled.{Spells, SpellItems}
 use Rattle.plist_engine.specs.Tree.{preorder, preorder_items, item_places}
 use Rattle.plist_engine.specs.Sharing.{kept_places, count_below}
 use Rattle.plist_engine.specs.Found.{Stands, number_in, found_in, number_known}
+use Rattle.plist_engine.specs.Naturals.{no_number}
 use Rattle.plist_engine.specs.Scalars.{number_stored, AreNew, AreNumbered}
 use Rattle.plist_engine.specs.declared.plan.Objects.{Objects}
 use Rattle.plist_engine.specs.declared.plan.Plan.{Plan}
@@ -88,10 +89,6 @@ pub record IsRemembered {S H : Type 0} (f : List ℕ) (plan : Plan S H) (i numbe
   pub shown : ScalarRef
   pub holds : Holds f i (holds_scalar (content_of shown))
   pub held : number_stored plan.scalars shown ≡ Some number
-
--- stands for the number of an object that has none yet
-abbrev pub no_number : ℕ
-no_number = 2 ^ 32 - 1
 
 -- what the memo has of an object
 abbrev pub remembered : {S H : Type 0} → Plan S H → ℕ → ℕ

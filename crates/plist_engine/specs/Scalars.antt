@@ -1,12 +1,11 @@
--- Scalars that have numbers: whole numbers that are not below 0 in a set of their own, and all
--- others.
-use Rattle.std.specs.Prelude.{◌≡◌, ℕ, pos, nat_eq, if◌then◌else◌, length, Option, Some, None}
+-- Scalars that have numbers: whole numbers that are not below 0, and all others.
+use Rattle.std.specs.Prelude.{◌≡◌, ℕ, pos, if◌then◌else◌, Option, Some, None}
 use Rattle.std.specs.Option.{option_or}
 use Rattle.plist_value.specs.Plist.{Scalar, whole}
 use Rattle.plist_value.specs.Equality.{scalar_eq}
 use Rattle.plist_value.specs.Scalars.{content_of}
 use Rattle.plist_value.specs.declared.scalar_ref.ScalarRef.{ScalarRef}
-use Rattle.plist_engine.specs.Hashed.{number_of_key}
+use Rattle.plist_engine.specs.Naturals.{number_of_natural, AreCounted}
 use Rattle.plist_engine.specs.Numbered.{number_held, IsNumbered}
 use Rattle.plist_engine.specs.declared.scalars.Scalars.{Scalars}
 
@@ -17,7 +16,7 @@ natural_in s = None
 
 -- the number of the natural number in the scalar, or else of the scalar itself
 abbrev pub number_by : {S H : Type 0} → Scalars S H → ScalarRef → Option ℕ → Option ℕ
-number_by known r (Some n) = number_of_key nat_eq known.naturals n
+number_by known r (Some n) = number_of_natural known.naturals n
 number_by known r None = number_held known.others r
 
 -- the number under which a scalar is found, if it is
@@ -26,7 +25,7 @@ number_stored known r = number_by known r (natural_in (content_of r))
 
 -- there is a number for each scalar of each set
 pub record AreNumbered {S H : Type 0} (known : Scalars S H) : Type 0 where
-  pub counted : length known.naturals.numbers.items ≡ length known.naturals.keys.keys
+  pub naturals : AreCounted known.naturals
   pub others : IsNumbered known.others
 
 -- no scalar has a number

@@ -7,6 +7,7 @@ pub mod faults;
 mod hashed;
 pub mod laws;
 mod making;
+mod naturals;
 mod numbered;
 pub mod objects;
 pub mod order;

@@ -11,6 +11,7 @@ ghost use Rattle.plist_engine.specs.Plan.{Begins, IsEmptyPlan, NumbersScalar};
 ghost use Rattle.plist_engine.specs.Plan.{KeepsNumber, KeepsScalar, IsRemembered, RemembersNumbers};
 ghost use Rattle.plist_engine.specs.Plan.{remembered};
 
+use crate::naturals::NO_NUMBER;
 use crate::order::{KeyOrder, push_all};
 use crate::putting::short;
 use crate::scalars::Scalars;
@@ -26,9 +27,6 @@ pub(crate) struct Objects {
     pub(crate) originals: Vec<u32>,
     pub(crate) references: Vec<u32>,
 }
-
-/// Stands for the number of an object that has none yet.
-const NO_NUMBER: u32 = u32::MAX;
 
 /// The objects so far, and the scalars among them with their numbers. Beside them stands a memo:
 /// the number of each object of the file that was met as a scalar which had one. It is made when

@@ -3,17 +3,17 @@ ghost use Rattle.std.specs.Prelude.{◌≡◌, IfOk};
 ghost use Rattle.plist_value.specs.Scalars.{content_of};
 ghost use Rattle.plist_engine.specs.Scalars.{AreNew, AreNumbered, EntersScalar, natural_in};
 
-use crate::hashed::Hashed;
+use crate::naturals::Naturals;
 use crate::numbered::Numbered;
 use plist_value::ScalarRef;
 use std::alloc::{AllocError, Global};
 use std::hash::BuildHasher;
 
 /// Scalars that have numbers, by which equal ones are found. Whole numbers that are not below 0
-/// have a set of their own, where they take a quarter of the room.
+/// are kept apart from the others, since they take less room and time.
 #[derive(Drop)]
 pub struct Scalars<'a, S: BuildHasher> {
-    naturals: Hashed<u64, S>,
+    naturals: Naturals<S>,
     others: Numbered<'a, S>,
     most: usize,
 }
@@ -25,23 +25,25 @@ impl<'a, S: BuildHasher + Copy> Scalars<'a, S> {
         ensures { AreNew result }
     {
         Scalars {
-            naturals: Hashed::new(alloc, hasher),
+            naturals: Naturals::new(alloc, hasher, most),
             others: Numbered::new(alloc, hasher),
             most,
         }
     }
 
-    /// The number that the scalar has, if it has one. Else it has the next number from now on.
+    /// The number that the scalar has, if it has one. Else it has the next number from now on, which
+    /// is below 2^32 - 1.
     ///
     /// # Errors
     ///
-    /// Where there is no memory for the scalar. Nothing is known of the numbers then.
+    /// Where there is no memory for the scalar, and maybe where the next number is 2^32 - 1. Nothing
+    /// is known of the numbers then.
     pub fn enter(&mut self, scalar: ScalarRef<'a>, next: u32) -> Result<Option<u32>, AllocError>
         ensures { IfOk result (λ had. AreNumbered self.old
             → EntersScalar scalar.entry next self.old self.new had) }
     {
         match natural_in(scalar) {
-            Some(natural) => self.naturals.enter(natural, next, self.most),
+            Some(natural) => self.naturals.enter(natural, next),
             None => self.others.enter(scalar, next, self.most),
         }
     }
