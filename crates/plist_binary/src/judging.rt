@@ -51,21 +51,33 @@ pub fn judge(alloc: Global, octets: &[u8]) -> Result<(), BinaryFault>
     }
 }
 
-/// The same as [`judge`], and of the longest table of more than 64 keys, if there is one, the keys
-/// in the order of their texts: whoever needs them need not sort them again.
+/// A binary file that was judged, and the keys of its longest dictionary in order.
+#[derive(Drop)]
+pub struct JudgedFile<'a> {
+    /// The file, whose top object spells a value within the limits.
+    pub file: BinFile<'a>,
+    /// Of the longest table of more than 64 keys, if there is one, the keys in the order of their
+    /// texts.
+    pub sorted: Option<SortedKeys<'a>>,
+}
+
+/// The same as [`judge`], and it answers the file and, of its longest table of more than 64 keys,
+/// the keys in the order of their texts: whoever needs them need not sort them again.
 ///
 /// # Errors
 ///
 /// Those of [`judge`].
-pub fn judge_keys(alloc: Global, octets: &[u8]) -> Result<Option<SortedKeys<'_>>, BinaryFault>
+pub fn judge_keys(alloc: Global, octets: &[u8]) -> Result<JudgedFile<'_>, BinaryFault>
+    ensures file { IfOk result (λ judged. octets_of judged.file ≡ octets.entry.now) }
     ensures ok { OnOk result ((v : Plist) × IsBinary octets.entry.now v) }
-    ensures sorted { IfOk result (AreSortedIfAny octets.entry.now) }
+    ensures sorted { IfOk result (λ judged. AreSortedIfAny octets.entry.now judged.sorted) }
     ensures refused { IfErr result (λ fault. fault ≢ BinaryFault.OutOfMemory → (v : Plist) →
         IsBinary octets.entry.now v → ⊥) }
     ensures stands { IfErr result (Stands octets.entry.now) }
 {
     let file = BinFile::of(octets)?;
-    judge_file(alloc, file)
+    let sorted = judge_file(alloc, file)?;
+    Ok(JudgedFile { file, sorted })
 }
 
 // Whether the top object of the file spells a value within the limits. Where the value is far

@@ -15,5 +15,5 @@ mod tables;
 mod visiting;
 
 pub use fault::BinaryFault;
-pub use judging::{judge, judge_keys};
+pub use judging::{JudgedFile, judge, judge_keys};
 pub use reader::read;

@@ -1,19 +1,17 @@
 //! From octets to values and to canonical files.
 ghost use Rattle.std.specs.Prelude.{◌≡◌, true, false, IfOk, IfErr, OnOk};
 ghost use Rattle.plist_value.specs.Plist.{Plist};
-ghost use Rattle.plist_object.specs.Spelled.{IsBinary};
 ghost use Rattle.plist_value.specs.Limits.{Fits};
 ghost use Rattle.plist_value.specs.View.{view};
 ghost use Rattle.plist_forms.specs.Accepted.{IsAccepted, IsCanonicalOf, begins_as_binary as begins};
 ghost use Rattle.plist_forms.specs.Pair.{IsPair, IsRefusedPair};
 ghost use Rattle.plist_forms.specs.Refusals.{IsRefused};
 
+use crate::judged::{draft_of, judge_binary, judge_draft};
 use crate::{Fault, PairFault};
-use ostep_draft::draft_text;
 use ostep_text::read_text;
-use plist_binary::{judge, judge_keys};
+use plist_binary::JudgedFile;
 use plist_engine::canonical_of_with_hasher;
-use plist_object::BinFile;
 use plist_value::{FixedHasher, Value};
 use std::alloc::Global;
 use std::hash::BuildHasher;
@@ -48,28 +46,12 @@ pub fn judge_any(alloc: Global, octets: &[u8]) -> Result<(), Fault>
     ensures refused { IfErr result (IsRefused octets.now) }
 {
     if begins_as_binary(octets) {
-        Ok(judge(alloc, octets)?)
+        judge_binary(alloc, octets)?;
     } else {
-        file_of_text(alloc, octets)?;
-        Ok(())
+        let draft = draft_of(alloc, octets)?;
+        judge_draft(alloc, &draft, octets)?;
     }
-}
-
-// A binary file that spells what the text does.
-pub(crate) fn file_of_text(alloc: Global, octets: &[u8]) -> Result<Vec<u8>, Fault>
-    requires { begins octets.now ≡ false }
-    ensures binary { IfOk result (λ file. (v : Plist) × IsBinary file.items v) }
-    ensures accepted { IfOk result (λ file. (v : Plist) → IsBinary file.items v
-        → IsAccepted octets.now v) }
-    ensures refused { IfErr result (IsRefused octets.now) }
-{
-    let Some(file) = draft_text(alloc, octets) else {
-        return Err(refusal(alloc, octets));
-    };
-    match judge(alloc, &file) {
-        Ok(()) => Ok(file),
-        Err(_) => Err(refusal(alloc, octets)),
-    }
+    Ok(())
 }
 
 /// Why the octets are refused, for whoever knows that they are and not why: what a text was read
@@ -135,10 +117,7 @@ fn canonicalise_binary<S: BuildHasher + Copy>(
     ensures canonical { IfOk result (λ file. IsCanonicalOf octets.now file.items) }
     ensures refused { IfErr result (IsRefused octets.now) }
 {
-    let sorted = judge_keys(alloc, octets)?;
-    let Ok(file) = BinFile::of(octets) else {
-        unreachable!();
-    };
+    let JudgedFile { file, sorted } = judge_binary(alloc, octets)?;
     Ok(canonical_of_with_hasher(alloc, hasher, &file, sorted)?)
 }
 
@@ -152,15 +131,8 @@ fn canonicalise_text<S: BuildHasher + Copy>(
     ensures canonical { IfOk result (λ file. IsCanonicalOf octets.now file.items) }
     ensures refused { IfErr result (IsRefused octets.now) }
 {
-    let Some(draft) = draft_text(alloc, octets) else {
-        return Err(refusal(alloc, octets));
-    };
-    let Ok(sorted) = judge_keys(alloc, &draft) else {
-        return Err(refusal(alloc, octets));
-    };
-    let Ok(file) = BinFile::of(&draft) else {
-        unreachable!();
-    };
+    let draft = draft_of(alloc, octets)?;
+    let JudgedFile { file, sorted } = judge_draft(alloc, &draft, octets)?;
     Ok(canonical_of_with_hasher(alloc, hasher, &file, sorted)?)
 }
 

@@ -1,28 +1,21 @@
 //! The conversion of a property list, from a source to a sink.
-ghost use Rattle.std.specs.Prelude.{◌≡◌, ◌<◌, ◌↔◌, true, length, IfErr, IfOk, OnOk, IsErrOf};
-ghost use Rattle.plist_value.specs.Plist.{Plist};
-ghost use Rattle.plist_object.specs.Spelled.{IsBinary};
-ghost use Rattle.plist_object.specs.Order.{AreSortedIfAny};
-ghost use Rattle.plist_engine.specs.Canonical.{canon};
-ghost use Rattle.plist_engine.specs.Sending.{IsWritten};
+ghost use Rattle.std.specs.Prelude.{◌≡◌, ◌<◌, ◌↔◌, true, length, IfErr, IsErrOf};
 ghost use Rattle.plist_devices.specs.Count.{HasFailed, one_more};
 ghost use Rattle.plist_forms.specs.Accepted.{begins_as_binary as begins};
 ghost use Rattle.plist_forms.specs.Load.{Takes};
-ghost use Rattle.plist_forms.specs.Refusals.{IsRefused};
 ghost use Rattle.plist_forms.specs.Sent.{IsBeforePut};
 ghost use Rattle.plist_forms.specs.Transfer.{IsTransfer, Writes};
 
-use crate::canonicals::{begins_as_binary, refusal};
+use crate::canonicals::begins_as_binary;
 use crate::faults::Fault;
 use crate::forms::Form;
+use crate::judged::{draft_of, judge_binary, judge_draft};
 use crate::loading::{MAX_INPUT, load};
 use crate::sending::send;
 use crate::texts::text_of;
-use ostep_draft::draft_text;
-use plist_binary::judge_keys;
+use plist_binary::JudgedFile;
 use plist_devices::{Sink, Source};
-use plist_engine::{WriteFault, write_canonical_of_with_hasher};
-use plist_object::{BinFile, SortedKeys};
+use plist_engine::write_canonical_of_with_hasher;
 use plist_value::FixedHasher;
 use std::alloc::Global;
 use std::hash::BuildHasher;
@@ -168,14 +161,10 @@ fn write_binary1<H: BuildHasher + Copy, W: Sink>(
     if begins_as_binary(octets.as_slice()) {
         return write_file(alloc, hasher, octets.as_slice(), to);
     }
-    let Some(draft) = draft_text(alloc, octets.as_slice()) else {
-        return Err(refusal(alloc, octets.as_slice()));
-    };
-    let Ok(sorted) = judge_keys(alloc, &draft) else {
-        return Err(refusal(alloc, octets.as_slice()));
-    };
+    let draft = draft_of(alloc, octets.as_slice())?;
+    let JudgedFile { file, sorted } = judge_draft(alloc, &draft, octets.as_slice())?;
     drop(octets);
-    Ok(write_judged(alloc, hasher, &draft, sorted, to)?)
+    Ok(write_canonical_of_with_hasher(alloc, hasher, &file, sorted, to)?)
 }
 
 // The canonical file of what a binary file spells.
@@ -191,41 +180,8 @@ fn write_file<H: BuildHasher + Copy, W: Sink>(
     ensures untouched { IfErr result (λ fault. IsBeforePut fault → to.new ≡ to.old) }
     ensures same { W.device to.new ≡ W.device to.old }
 {
-    let sorted = sorted_keys(alloc, octets)?;
-    Ok(write_judged(alloc, hasher, octets, sorted, to)?)
-}
-
-// The keys that are sorted while the octets are judged, which are a binary file of a value within
-// the limits.
-fn sorted_keys<'a>(alloc: Global, octets: &'a [u8]) -> Result<Option<SortedKeys<'a>>, Fault>
-    requires { begins octets.now ≡ true }
-    ensures sorted { IfOk result (λ sorted. AreSortedIfAny octets.entry.now sorted) }
-    ensures binary { OnOk result ((v : Plist) × IsBinary octets.entry.now v) }
-    ensures refused { IfErr result (IsRefused octets.entry.now) }
-{
-    Ok(judge_keys(alloc, octets)?)
-}
-
-// The canonical file of what a binary file spells that was judged, by the keys that were sorted
-// then.
-fn write_judged<'a, H: BuildHasher + Copy, W: Sink>(
-    alloc: Global,
-    hasher: H,
-    octets: &'a [u8],
-    sorted: Option<SortedKeys<'a>>,
-    to: &mut W,
-) -> Result<u64, WriteFault>
-    requires binary { (v : Plist) × IsBinary octets.now v }
-    requires sorted { AreSortedIfAny octets.now sorted }
-    ensures written { (v : Plist) → IsBinary octets.entry.now v
-        → IsWritten (canon v) (W.taken to.old) (W.taken to.new)
-        (W.failures to.old) (W.failures to.new) result }
-    ensures same { W.device to.new ≡ W.device to.old }
-{
-    let Ok(file) = BinFile::of(octets) else {
-        unreachable!();
-    };
-    write_canonical_of_with_hasher(alloc, hasher, &file, sorted, to)
+    let JudgedFile { file, sorted } = judge_binary(alloc, octets)?;
+    Ok(write_canonical_of_with_hasher(alloc, hasher, &file, sorted, to)?)
 }
 
 // The OpenStep text of what the octets spell.

@@ -7,6 +7,7 @@ pub mod canonicals;
 mod converting;
 pub mod faults;
 pub mod forms;
+mod judged;
 pub mod laws;
 pub mod lines;
 pub mod loading;

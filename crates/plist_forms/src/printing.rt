@@ -1,17 +1,12 @@
 //! From octets to the printed text of the value that they spell.
 ghost use Rattle.std.specs.Prelude.{◌≡◌, IfErr};
-ghost use Rattle.plist_value.specs.Plist.{Plist};
-ghost use Rattle.plist_object.specs.Spelled.{IsBinary};
-ghost use Rattle.plist_engine.specs.Sending.{IsWritten};
-ghost use Rattle.plist_print.specs.Printed.{printed};
 ghost use Rattle.plist_forms.specs.Printed.{Prints};
 ghost use Rattle.plist_forms.specs.Sent.{IsBeforePut};
 
-use crate::canonicals::{begins_as_binary, file_of_text};
-use crate::{Fault, judge_any};
+use crate::Fault;
+use crate::canonicals::begins_as_binary;
+use crate::judged::{draft_of, judge_binary, judge_draft};
 use plist_devices::Sink;
-use plist_engine::WriteFault;
-use plist_object::BinFile;
 use plist_print::print_of;
 use std::alloc::Global;
 
@@ -25,7 +20,7 @@ use std::alloc::Global;
 ///
 /// # Errors
 ///
-/// In this order: those of [`judge_any`]; `WriteFailed` (51) if the sink fails. Out of memory (60)
+/// In this order: those of [`judge_any`](crate::judge_any); `WriteFailed` (51) if the sink fails. Out of memory (60)
 /// may come before either of them. After 51 and 60 exactly the first `sent` octets of the printed
 /// text went out, and after any other the sink is untouched.
 pub fn print<W: Sink>(alloc: Global, octets: &[u8], to: &mut W) -> Result<u64, Fault>
@@ -35,23 +30,10 @@ pub fn print<W: Sink>(alloc: Global, octets: &[u8], to: &mut W) -> Result<u64, F
     ensures same { W.device to.new ≡ W.device to.old }
 {
     if begins_as_binary(octets) {
-        judge_any(alloc, octets)?;
-        return Ok(print_file(alloc, octets, to)?);
+        let judged = judge_binary(alloc, octets)?;
+        return Ok(print_of(alloc, &judged.file, to)?);
     }
-    let file = file_of_text(alloc, octets)?;
-    Ok(print_file(alloc, file.as_slice(), to)?)
-}
-
-// The printed text of what a binary file spells.
-fn print_file<W: Sink>(alloc: Global, octets: &[u8], to: &mut W) -> Result<u64, WriteFault>
-    requires { (v : Plist) × IsBinary octets.now v }
-    ensures written { (v : Plist) → IsBinary octets.now v
-        → IsWritten (printed v) (W.taken to.old) (W.taken to.new)
-        (W.failures to.old) (W.failures to.new) result }
-    ensures same { W.device to.new ≡ W.device to.old }
-{
-    let Ok(file) = BinFile::of(octets) else {
-        unreachable!();
-    };
-    print_of(alloc, &file, to)
+    let draft = draft_of(alloc, octets)?;
+    let judged = judge_draft(alloc, &draft, octets)?;
+    Ok(print_of(alloc, &judged.file, to)?)
 }

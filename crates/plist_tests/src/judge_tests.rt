@@ -123,7 +123,10 @@ fn long_table(alloc: Global, first: Beginning, last: u8) -> Result<Vec<u8>, Allo
 // Whether the keys of a long table that begin so are put in their order.
 fn is_in_order(alloc: Global, first: Beginning) -> Result<bool, AllocError> {
     let octets = long_table(alloc, first, 6)?;
-    let Ok(Some(sorted)) = judge_keys(alloc, octets.as_slice()) else {
+    let Ok(judged) = judge_keys(alloc, octets.as_slice()) else {
+        return Ok(false);
+    };
+    let Some(sorted) = judged.sorted else {
         return Ok(false);
     };
     for (number, place) in (0..80).zip(sorted.places.iter()) {

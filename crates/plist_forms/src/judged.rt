@@ -1,0 +1,57 @@
+//! Binary files that were judged: one that is given, or the draft of a text.
+ghost use Rattle.std.specs.Prelude.{◌≡◌, true, false, IfOk, IfErr, OnOk};
+ghost use Rattle.plist_value.specs.Plist.{Plist};
+ghost use Rattle.plist_object.specs.Order.{AreSortedIfAny};
+ghost use Rattle.plist_object.specs.Spelled.{IsBinary};
+ghost use Rattle.plist_object.specs.Views.{octets_of};
+ghost use Rattle.plist_forms.specs.Accepted.{IsAccepted, begins_as_binary as begins};
+ghost use Rattle.plist_forms.specs.Refusals.{IsRefused};
+
+use crate::Fault;
+use crate::canonicals::refusal;
+use ostep_draft::draft_text;
+use plist_binary::{JudgedFile, judge_keys};
+use std::alloc::Global;
+
+/// The octets as a binary file, which spells a value within the limits.
+pub(crate) fn judge_binary(alloc: Global, octets: &[u8]) -> Result<JudgedFile<'_>, Fault>
+    requires { begins octets.now ≡ true }
+    ensures file { IfOk result (λ judged. octets_of judged.file ≡ octets.entry.now) }
+    ensures binary { OnOk result ((v : Plist) × IsBinary octets.entry.now v) }
+    ensures sorted { IfOk result (λ judged. AreSortedIfAny octets.entry.now judged.sorted) }
+    ensures refused { IfErr result (IsRefused octets.entry.now) }
+{
+    Ok(judge_keys(alloc, octets)?)
+}
+
+/// The binary file that a text is read into. It is to be judged: what it spells, if that is a value
+/// within the limits, is what the text says.
+pub(crate) fn draft_of(alloc: Global, text: &[u8]) -> Result<Vec<u8>, Fault>
+    requires { begins text.now ≡ false }
+    ensures drafted { IfOk result (λ draft. (v : Plist) → IsBinary draft.items v
+        → IsAccepted text.now v) }
+    ensures refused { IfErr result (IsRefused text.now) }
+{
+    match draft_text(alloc, text) {
+        Some(draft) => Ok(draft),
+        None => Err(refusal(alloc, text)),
+    }
+}
+
+/// The draft of a text as a binary file, which spells a value within the limits. A refusal is the
+/// text's own.
+pub(crate) fn judge_draft<'a>(
+    alloc: Global,
+    draft: &'a [u8],
+    text: &[u8],
+) -> Result<JudgedFile<'a>, Fault>
+    ensures file { IfOk result (λ judged. octets_of judged.file ≡ draft.entry.now) }
+    ensures binary { OnOk result ((v : Plist) × IsBinary draft.entry.now v) }
+    ensures sorted { IfOk result (λ judged. AreSortedIfAny draft.entry.now judged.sorted) }
+    ensures refused { IfErr result (IsRefused text.now) }
+{
+    match judge_keys(alloc, draft) {
+        Ok(judged) => Ok(judged),
+        Err(_) => Err(refusal(alloc, text)),
+    }
+}
