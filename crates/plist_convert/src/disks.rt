@@ -1,5 +1,6 @@
 //! What holds files.
 ghost use Rattle.std.specs.Prelude.{◌≡◌, ℕ, IfErr, IfOk, OnOk, Option};
+ghost use Rattle.plist_forms.specs.Load.{octets_or};
 ghost use Rattle.plist_convert.specs.Files.{CountsFailure, Files, Holds, IsUnloaded, SameFiles};
 ghost use Rattle.plist_convert.specs.Files.{Stores};
 
@@ -27,6 +28,25 @@ pub trait Disk {
     fn load(&mut self, alloc: Global, path: &str) -> Result<Vec<u8>, Fault>
         ensures kept { SameFiles (files self.old) (files self.new) }
         ensures found { IfOk result (λ octets. Holds (files self.old) path.now octets.items) }
+        ensures unfailed { OnOk result (failures self.new ≡ failures self.old) }
+        ensures refused { IfErr result
+            (IsUnloaded (files self.old) path.now (failures self.old) (failures self.new)) };
+
+    /// All octets of the file at the path, or `None` if they are the known ones, which then take no
+    /// memory a second time.
+    ///
+    /// # Errors
+    ///
+    /// Those of [`load`](Disk::load).
+    fn load_unless(
+        &mut self,
+        alloc: Global,
+        path: &str,
+        known: &[u8],
+    ) -> Result<Option<Vec<u8>>, Fault>
+        ensures kept { SameFiles (files self.old) (files self.new) }
+        ensures found { IfOk result (λ found.
+            Holds (files self.old) path.now (octets_or known.now found)) }
         ensures unfailed { OnOk result (failures self.new ≡ failures self.old) }
         ensures refused { IfErr result
             (IsUnloaded (files self.old) path.now (failures self.old) (failures self.new)) };

@@ -6,7 +6,7 @@ use crate::delivery::deliver;
 use crate::disks::{Disk, failures_after};
 use crate::host_file::HostFile;
 use plist_devices::ReaderSource;
-use plist_forms::{Fault, Form, load};
+use plist_forms::{Fault, Form, load_unless};
 use plist_value::FixedHasher;
 use std::alloc::Global;
 use std::fs;
@@ -56,11 +56,12 @@ impl<'a, R: Files, H: BuildHasher + Copy> HostDisk<'a, R, H> {
         }
     }
 
-    fn octets_at(&self, alloc: Global, path: &str) -> Result<Vec<u8>, Fault>
+    // The octets of the file at the path, unless they are the known ones.
+    fn octets_at(&self, alloc: Global, path: &str, known: &[u8]) -> Result<Option<Vec<u8>>, Fault>
         ensures { IfErr result IsLoadFault }
     {
         match fs::open(self.rt, path) {
-            Ok(device) => load(alloc, &mut ReaderSource::new(device)),
+            Ok(device) => load_unless(alloc, &mut ReaderSource::new(device), known),
             Err(_) => Err(Fault::ReadFailed),
         }
     }
@@ -75,11 +76,23 @@ impl<R: Files, H: BuildHasher + Copy> Disk for HostDisk<'_, R, H> {
     ghost failures = { failures_of };
 
     fn load(&mut self, alloc: Global, path: &str) -> Result<Vec<u8>, Fault> {
-        let octets = self.octets_at(alloc, path);
-        if let Err(Fault::ReadFailed) = octets {
+        match self.load_unless(alloc, path, &[])? {
+            Some(octets) => Ok(octets),
+            None => Ok(Vec::new(alloc)),
+        }
+    }
+
+    fn load_unless(
+        &mut self,
+        alloc: Global,
+        path: &str,
+        known: &[u8],
+    ) -> Result<Option<Vec<u8>>, Fault> {
+        let found = self.octets_at(alloc, path, known);
+        if let Err(Fault::ReadFailed) = found {
             self.failures = self.failures.saturating_add(1);
         }
-        octets
+        found
     }
 
     fn store(

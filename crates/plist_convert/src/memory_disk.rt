@@ -1,6 +1,7 @@
 //! A disk in memory.
 ghost use Rattle.std.specs.Prelude.{◌≡◌, ◌≤◌, ◌<◌, IfErr, IfOk, OnErr, OnOk, None, Some};
 ghost use Rattle.std.specs.Prelude.{option_map};
+ghost use Rattle.plist_forms.specs.Load.{octets_or};
 ghost use Rattle.plist_convert.specs.Files.{FileName, Holds, IsUnloaded, SameBeside};
 ghost use Rattle.plist_convert.specs.Files.{SameFiles, Stores};
 
@@ -79,6 +80,26 @@ impl Disk for MemoryDisk {
             (failures_of self.old) (failures_of self.new)) }
         ensures room { room_of self.new ≡ room_of self.old }
     {
+        match self.load_unless(alloc, path, &[])? {
+            Some(octets) => Ok(octets),
+            None => Ok(Vec::new(alloc)),
+        }
+    }
+
+    fn load_unless(
+        &mut self,
+        alloc: Global,
+        path: &str,
+        known: &[u8],
+    ) -> Result<Option<Vec<u8>>, Fault>
+        ensures kept { SameFiles (Some (files_of self.old)) (Some (files_of self.new)) }
+        ensures found { IfOk result (λ found.
+            Holds (Some (files_of self.old)) path.now (octets_or known.now found)) }
+        ensures unfailed { OnOk result (failures_of self.new ≡ failures_of self.old) }
+        ensures refused { IfErr result (IsUnloaded (Some (files_of self.old)) path.now
+            (failures_of self.old) (failures_of self.new)) }
+        ensures room { room_of self.new ≡ room_of self.old }
+    {
         let Some(octets) = self.at(path) else {
             self.failures = self.failures.saturating_add(1);
             return Err(Fault::ReadFailed);
@@ -86,7 +107,10 @@ impl Disk for MemoryDisk {
         if octets.len() as u64 > MAX_INPUT {
             return Err(Fault::InputTooLarge);
         }
-        Ok(Vec::from_slice(alloc, octets)?)
+        if octets == known {
+            return Ok(None);
+        }
+        Ok(Some(Vec::from_slice(alloc, octets)?))
     }
 
     fn store(

@@ -60,7 +60,7 @@ pub(crate) fn lint_file<D: Disk, W: Sink>(
     }
 }
 
-/// `same A B`: loads A, then B, and only then reads them.
+/// `same A B`: loads A, then B, and only then reads them. Equal files are in memory once.
 pub(crate) fn compare_files<H: BuildHasher + Copy, D: Disk, W: Sink>(
     alloc: Global,
     hasher: H,
@@ -81,10 +81,14 @@ pub(crate) fn compare_files<H: BuildHasher + Copy, D: Disk, W: Sink>(
         Ok(octets) => octets,
         Err(fault) => return report(alloc, first, &fault, output),
     };
-    match disk.load(alloc, second) {
-        Ok(b) => give(
+    match disk.load_unless(alloc, second, a.as_slice()) {
+        Ok(Some(b)) => give(
             output,
             same_answer_with_hasher(alloc, hasher, first, second, a.as_slice(), b.as_slice()),
+        ),
+        Ok(None) => give(
+            output,
+            same_answer_with_hasher(alloc, hasher, first, second, a.as_slice(), a.as_slice()),
         ),
         Err(fault) => report(alloc, second, &fault, output),
     }

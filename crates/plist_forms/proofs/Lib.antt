@@ -1,3 +1,4 @@
 pub mod Accepting
+pub mod Besides
 pub mod Refusing
 mod Rows

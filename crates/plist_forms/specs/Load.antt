@@ -1,8 +1,10 @@
 -- What loading takes from a source.
-use Rattle.std.specs.Prelude.{◌≡◌, ℕ, List, Option}
+use Rattle.std.specs.Prelude.{◌≡◌, ◌≢◌, ℕ, ◌≤◌, List, ◌++◌, length, take, Option, Some, None, Vec}
 use Rattle.std.specs.Io.KnownBytes.{Consumes}
 use Rattle.plist_forms.specs.declared.faults.Fault.{Fault}
 use Rattle.plist_forms.specs.declared.faults.Fault.TheVariants.{ReadFailed, InputTooLarge, OutOfMemory}
+use Rattle.plist_forms.specs.declared.taken.Taken.{Taken}
+use Rattle.plist_forms.specs.declared.taken.Taken.TheVariants.{Known, Other}
 
 -- The call took some octets, the first of those that were to come, and P holds of them.
 abbrev pub Takes : Option (List ℕ) → Option (List ℕ) → (List ℕ → Type 0) → Type 0
@@ -14,3 +16,18 @@ IsLoadFault ReadFailed = Unit {0}
 IsLoadFault InputTooLarge = Unit {0}
 IsLoadFault (OutOfMemory sent) = sent ≡ 0
 IsLoadFault _ = ⊥
+
+-- the octets that were found, where `None` stands for those that are known
+abbrev pub octets_or : {Z : Type 0} → List ℕ → Option (Vec ℕ Z) → List ℕ
+octets_or known (Some octets) = octets.items
+octets_or known None = known
+
+-- what was taken so far
+abbrev pub octets_taken : List ℕ → Taken → List ℕ
+octets_taken known (Known count) = take count known
+octets_taken known (Other octets) = octets.items
+
+-- The known octets begin with what was taken, or not, as is noted.
+abbrev pub StandsBeside : List ℕ → Taken → Type 0
+StandsBeside known (Known count) = count ≤ length known
+StandsBeside known (Other octets) = (rest : List ℕ) → octets.items ++ rest ≢ known

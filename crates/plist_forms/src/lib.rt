@@ -15,6 +15,7 @@ pub mod pairs;
 pub mod printing;
 mod sending;
 pub mod statuses;
+mod taken;
 mod texts;
 
 pub use canonicals::{
@@ -25,7 +26,7 @@ pub use converting::{convert, convert_octets, convert_octets_with_hasher, conver
 pub use faults::Fault;
 pub use forms::Form;
 pub use lines::line;
-pub use loading::{MAX_INPUT, load};
+pub use loading::{MAX_INPUT, load, load_unless};
 pub use pairs::PairFault;
 pub use printing::print;
 pub use statuses::Status;

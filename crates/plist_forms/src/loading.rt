@@ -1,11 +1,12 @@
 //! All that a source gives, as one list.
-ghost use Rattle.std.specs.Prelude.{◌≡◌, ◌<◌, ◌≤◌, ◌↔◌, length, vec_len};
+ghost use Rattle.std.specs.Prelude.{◌≡◌, ◌≢◌, ◌<◌, ◌≤◌, ◌↔◌, length, vec_len};
 ghost use Rattle.std.specs.Prelude.{IsErrOf, IfOk, IfErr, IfSome, OnOk};
 ghost use Rattle.std.specs.Io.KnownBytes.{IsAtEnd};
 ghost use Rattle.plist_devices.specs.Count.{HasFailed, one_more};
-ghost use Rattle.plist_forms.specs.Load.{IsLoadFault, Takes};
+ghost use Rattle.plist_forms.specs.Load.{IsLoadFault, Takes, octets_or};
 
 use crate::Fault;
+use crate::taken::Taken;
 use plist_devices::Source;
 use std::alloc::Global;
 
@@ -39,16 +40,48 @@ pub fn load<S: Source>(alloc: Global, from: &mut S) -> Result<Vec<u8>, Fault>
         (λ taken. IsErrOf result Fault.InputTooLarge ↔ (MAX_INPUT < length taken)) }
     ensures faults { IfErr result IsLoadFault }
 {
-    let mut octets = Vec::new(alloc);
+    match load_unless(alloc, from, &[])? {
+        Some(octets) => Ok(octets),
+        None => Ok(Vec::new(alloc)),
+    }
+}
+
+/// Takes octets until the source has no more, as [`load`] does, and answers them unless they are
+/// the known ones: for these it answers `None`, and they take no memory a second time.
+///
+/// # Errors
+///
+/// Those of [`load`].
+pub fn load_unless<S: Source>(
+    alloc: Global,
+    from: &mut S,
+    known: &[u8],
+) -> Result<Option<Vec<u8>>, Fault>
+    ensures whole { IfOk result (λ found.
+        IfSome (S.remaining from.old) (λ all. octets_or known.now found ≡ all)) }
+    ensures other { IfOk result (λ found. IfSome found (λ octets. octets.items ≢ known.now)) }
+    ensures within { IfOk result (λ found. length (octets_or known.now found) ≤ MAX_INPUT) }
+    ensures end { OnOk result (IsAtEnd (S.remaining from.new)) }
+    ensures failed { IsErrOf result Fault.ReadFailed
+        ↔ HasFailed (S.failures from.old) (S.failures from.new) }
+    ensures at_once { IsErrOf result Fault.ReadFailed
+        → S.failures from.new ≡ one_more (S.failures from.old) }
+    ensures kept { ¬ IsErrOf result Fault.ReadFailed
+        → S.failures from.new ≡ S.failures from.old }
+    ensures too_large { Takes (S.remaining from.old) (S.remaining from.new)
+        (λ taken. IsErrOf result Fault.InputTooLarge ↔ (MAX_INPUT < length taken)) }
+    ensures faults { IfErr result IsLoadFault }
+{
+    let mut taken = Taken::Known(0);
     let mut buffer = [0u8; TAKE_SIZE];
     'takes: loop {
         let given = from.take(&mut buffer[..])?;
         if given == 0 {
-            return Ok(octets);
+            return Ok(taken.unless_known(alloc, known)?);
         }
-        if (octets.len() + given) as u64 > MAX_INPUT {
+        if (taken.len() + given) as u64 > MAX_INPUT {
             return Err(Fault::InputTooLarge);
         }
-        octets.extend_from_slice(&buffer[..given])?;
+        taken = taken.then(alloc, known, &buffer[..given])?;
     }
 }

@@ -1,6 +1,7 @@
 //! Loading, and refusals with their lines.
 use plist_binary::BinaryFault;
 use plist_convert::{DeviceFault, Fault, ListSource, ReaderSource, Source, line, load};
+use plist_forms::load_unless;
 use std::io::{self, ErrorKind, Read};
 use std::test::Fail;
 
@@ -36,6 +37,22 @@ fn loads_a_list_in_pieces(rt: HostRuntime) -> Result<(), Fail> {
     }
     let octets = load(rt.alloc(), &mut ListSource::new(TABLE, 3, Some(6)))?;
     assert_eq!(rt; octets.as_slice(), TABLE);
+    Ok(())
+}
+
+#[test]
+fn loads_unless_known(rt: HostRuntime) -> Result<(), Fail> {
+    let mut source = ListSource::new(TABLE, 3, None);
+    assert_eq!(rt;
+        load_unless(rt.alloc(), &mut source, TABLE)?.is_none(),
+        true
+    );
+    // Known ones that are shorter or longer, or differ in a later piece.
+    for known in [&b""[..], b"{b=a", b"{b=a;a=c;}", b"{b=a;a=b;}}"] {
+        let mut source = ListSource::new(TABLE, 3, None);
+        let found = load_unless(rt.alloc(), &mut source, known)?.ok_or("known")?;
+        assert_eq!(rt; found.as_slice(), TABLE);
+    }
     Ok(())
 }
 
