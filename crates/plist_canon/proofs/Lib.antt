@@ -26,4 +26,5 @@ pub mod Judges
 pub mod Meeting
 pub mod TableParts
 pub mod Spending
+pub mod Paying
 pub mod Ranked

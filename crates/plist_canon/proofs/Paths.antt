@@ -33,7 +33,7 @@ LeadsOn-popped weights refs items left frame is leads ends =
 
 -- the references of a frame, of which so many were visited
 abbrev pub stepped : Frame → ℕ → Frame
-stepped frame done = record { owner = frame.owner; refs = frame.refs; done = done }
+stepped frame done = record { owner = frame.owner; levels = frame.levels; refs = frame.refs; done = done }
 
 -- the last references of the path lead to one that is not known
 pub LeadsOn-visited : (weights : List Weight) (refs : List Reference) (items left new : List Frame) (frame : Frame) (done i : ℕ) → items ≡ left ++ (frame ∷ []) → new ≡ left ++ (stepped frame done ∷ []) → LeadsOn weights refs (path_left items) → LeadsTo weights (drop frame.done (numbers_of frame.refs)) (i ∷ drop done (numbers_of frame.refs)) → LeadsOn weights refs (record { holder = frame.owner; number = i } ∷ path_left new)
@@ -56,14 +56,14 @@ module _ (f : List ℕ) (number : ℕ) (old : List Frame) (held : Held) (holds :
   Enters-none none_first none_second =
       parts old (sym (ap (λ xs. held_by number xs ++ (held_by number (part_of true held) ++ path_left old)) none_first ∙ ap (λ xs. held_by number xs ++ path_left old) none_second))
 
-  pub Enters-one : (new : List Frame) (refs : Refs) → part_of false held ≡ numbers_of refs → part_of true held ≡ [] → new ≡ old ++ (new_frame number refs ∷ []) → Enters f number old new
-  Enters-one new refs first none is =
-      parts new (ap path_left is ∙ path_left-push old (new_frame number refs) ∙ ap (λ xs. held_by number xs ++ path_left old) (sym first) ∙ ap (λ xs. held_by number (part_of false held) ++ (held_by number xs ++ path_left old)) (sym none))
+  pub Enters-one : (new : List Frame) (levels : ℕ) (refs : Refs) → part_of false held ≡ numbers_of refs → part_of true held ≡ [] → new ≡ old ++ (new_frame number levels refs ∷ []) → Enters f number old new
+  Enters-one new levels refs first none is =
+      parts new (ap path_left is ∙ path_left-push old (new_frame number levels refs) ∙ ap (λ xs. held_by number xs ++ path_left old) (sym first) ∙ ap (λ xs. held_by number (part_of false held) ++ (held_by number xs ++ path_left old)) (sym none))
 
-  pub Enters-two : (mid new : List Frame) (keys values : Refs) → part_of false held ≡ numbers_of keys → part_of true held ≡ numbers_of values → mid ≡ old ++ (new_frame number values ∷ []) → new ≡ mid ++ (new_frame number keys ∷ []) → Enters f number old new
-  Enters-two mid new keys values first second mid_is new_is =
-      let mid_left : path_left mid ≡ held_by number (part_of true held) ++ path_left old = ap path_left mid_is ∙ path_left-push old (new_frame number values) ∙ ap (λ xs. held_by number xs ++ path_left old) (sym second) in
-      parts new (ap path_left new_is ∙ path_left-push mid (new_frame number keys) ∙ ap (λ xs. held_by number xs ++ path_left mid) (sym first) ∙ ap (λ xs. held_by number (part_of false held) ++ xs) mid_left)
+  pub Enters-two : (mid new : List Frame) (levels : ℕ) (keys values : Refs) → part_of false held ≡ numbers_of keys → part_of true held ≡ numbers_of values → mid ≡ old ++ (new_frame number levels values ∷ []) → new ≡ mid ++ (new_frame number levels keys ∷ []) → Enters f number old new
+  Enters-two mid new levels keys values first second mid_is new_is =
+      let mid_left : path_left mid ≡ held_by number (part_of true held) ++ path_left old = ap path_left mid_is ∙ path_left-push old (new_frame number levels values) ∙ ap (λ xs. held_by number xs ++ path_left old) (sym second) in
+      parts new (ap path_left new_is ∙ path_left-push mid (new_frame number levels keys) ∙ ap (λ xs. held_by number xs ++ path_left mid) (sym first) ∙ ap (λ xs. held_by number (part_of false held) ++ xs) mid_left)
 
 -- a scalar has no references
 pub Enters-scalar : (f : List ℕ) (number : ℕ) (old : List Frame) → HoldsScalar f number → Enters f number old old

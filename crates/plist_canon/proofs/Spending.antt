@@ -1,30 +1,28 @@
--- What values that are spelled spend of a budget.
-use Rattle.std.proofs.Common.{◌≡◌, ℕ, ◌+◌, ◌<◌, ◌≤◌, max, List, [], ◌∷◌, length, drop, refl, ap, subst, ◌∙◌, arith, Some, None}
-use Rattle.std.specs.Prelude.{slice_index, Option, IfSome, IfNone}
+-- What the walk spends of the limits.
+use Rattle.std.proofs.Common.{◌≡◌, ℕ, ◌+◌, ◌-◌, ◌<◌, ◌≤◌, max, List, [], ◌∷◌, ◌++◌, length, refl, sym, ap, subst, ◌∙◌, arith, Some, None}
+use Rattle.std.specs.Prelude.{slice_index, Option}
 use Rattle.std.proofs.lemmas.List.{drop_more, drop_all}
-use Rattle.plist_value.specs.Plist.{Scalar, Plist, scalar, list, table, Items, no_items, item, Pairs, IsPlist, AreItems, ArePairs}
-use Rattle.plist_value.specs.Limits.{nodes, depth, payload, payload_of_scalar, nodes_of_items, depth_of_items, payload_of_items, nodes_of_pairs, depth_of_pairs, payload_of_pairs}
-use Rattle.plist_object.specs.Objects.{Held, holds_scalar, holds_list, holds_table}
+use Rattle.plist_value.specs.Plist.{AreOctets, Scalar, Plist, scalar, list, table, Items, no_items, item, Pairs, IsPlist, AreItems, ArePairs}
+use Rattle.plist_value.specs.Limits.{Fits, nodes, depth, payload, payload_of_scalar, nodes_of_items, depth_of_items, payload_of_items, nodes_of_pairs, depth_of_pairs, payload_of_pairs}
+use Rattle.plist_value.specs.declared.TheConstants.{MAX_NODES, MAX_DEPTH, MAX_PAYLOAD}
+use Rattle.plist_object.specs.Objects.{IsHeld, Held, holds_scalar, holds_list, holds_table}
 use Rattle.plist_object.specs.Places.{Holds}
 use Rattle.plist_object.specs.Spelled.{Spells, SpellItems}
+use Rattle.plist_object.specs.Views.{numbers_of}
+use Rattle.plist_object.specs.declared.refs.Refs.{Refs}
 use Rattle.plist_object.proofs.Uniqueness.{same_held}
+use Rattle.plist_object.proofs.HeldRanges.{Holds-held}
 use Rattle.plist_value.specs.declared.budget.Budget.{Budget}
 use Rattle.plist_value.specs.Budget.{Spends, IsOver}
-use Rattle.plist_canon.specs.Rules.{HasAscendingKeys}
+use Rattle.plist_canon.specs.Rules.{HoldsScalar, HasAscendingKeys}
 use Rattle.plist_canon.specs.declared.weights.Weight.{Weight}
+use Rattle.plist_canon.specs.declared.preorder.Frame.{Frame}
 use Rattle.plist_canon.specs.Weights.{weight_of, payload_of_weight, Weighs}
-use Rattle.plist_canon.specs.Charges.{Charges, Exceeds, ChargesItems, ExceedsItems}
+use Rattle.plist_canon.specs.Preorders.{new_frame}
+use Rattle.plist_canon.specs.Owing.{Group, grouped, path_groups, groups_of, Deepens, Named, AllNamed, nodes_named, payload_named, AreWithin, IsSpent, Owes, Pays}
 use Rattle.plist_canon.proofs.KeyPairs.{put_texts}
 use Rattle.plist_canon.proofs.Weighing.{scalar-payload, Weighs-held}
 use Rattle.plist_canon.proofs.TableParts.{some_depth, some_nodes, table_parts}
-
-pub some_map : {X : Type 0} (r : Option X) (P Q : X → Type 0) → ((x : X) → P x → Q x) → IfSome r P → IfSome r Q
-some_map (Some x) P Q f h = f x h
-some_map None P Q f h = h
-
-pub none_map : {X : Type 0} (r : Option X) (P Q : Type 0) → (P → Q) → IfNone r P → IfNone r Q
-none_map (Some x) P Q f h = h
-none_map None P Q f h = f h
 
 -- what holds of each value that an object may spell, by what it holds
 by_scalar : (f : List ℕ) (i : ℕ) (s : Scalar) (P : Plist → Type 0) → Holds f i (holds_scalar s) → P (scalar s) → (v : Plist) → Spells f i v → P v
@@ -54,134 +52,6 @@ by_table f i keys values P holds here (list vs) valid spells =
     absurd (let e = same_held f i (holds_table keys values) (holds_list spells.0) holds spells.1.0 in cc)
 by_table f i keys values P holds here (table ps) valid spells = here ps valid spells
 
--- no level is left
-pub Exceeds-deep : (f : List ℕ) (i levels : ℕ) (left : Budget) → levels < 1 → Exceeds f i levels left
-Exceeds-deep f i levels left none v valid spells deep nodes_fit payload_fit =
-    let some = some_depth v in omega arith
-
--- no node is left
-pub Exceeds-node : (f : List ℕ) (i levels : ℕ) (left : Budget) → IsOver left 1 0 → Exceeds f i levels left
-Exceeds-node f i levels left over v valid spells deep nodes_fit payload_fit =
-    let some = some_nodes v in over (omega arith) (omega arith)
-
-pub Charges-scalar : (f : List ℕ) (i levels : ℕ) (s : Scalar) (left after : Budget) → Holds f i (holds_scalar s) → 1 ≤ levels → Spends left 1 (payload_of_scalar s) after → Charges f i levels left after
-Charges-scalar f i levels s left after holds some spends = record {
-  spent = λ v valid spells. by_scalar f i s (λ v. Spends left (nodes v) (payload v) after) holds spends v spells;
-  deep = λ v valid spells. by_scalar f i s (λ v. depth v ≤ levels) holds some v spells;
-}
-
-pub Exceeds-scalar : (f : List ℕ) (i levels : ℕ) (s : Scalar) (left : Budget) → Holds f i (holds_scalar s) → IsOver left 1 (payload_of_scalar s) → Exceeds f i levels left
-Exceeds-scalar f i levels s left holds over v valid spells deep =
-    by_scalar f i s (λ v. IsOver left (nodes v) (payload v)) holds over v spells
-
--- an object's own node and payload are too much
-pub Exceeds-weight : (f : List ℕ) (i levels : ℕ) (held : Held) (left : Budget) → Holds f i held → IsOver left 1 (payload_of_weight (weight_of held)) → Exceeds f i levels left
-Exceeds-weight f i levels (holds_scalar s) left holds over =
-    Exceeds-scalar f i levels s left holds (subst (λ (n : ℕ). IsOver left 1 n) (scalar-payload s) over)
-Exceeds-weight f i levels (holds_list refs) left holds over = Exceeds-node f i levels left over
-Exceeds-weight f i levels (holds_table keys values) left holds over = Exceeds-node f i levels left over
-
-pub Exceeds-weighed : (f : List ℕ) (i levels : ℕ) (weight : Weight) (left : Budget) → Weighs f i weight → IsOver left 1 (payload_of_weight weight) → Exceeds f i levels left
-Exceeds-weighed f i levels weight left weighs over =
-    Exceeds-weight f i levels weighs.held left weighs.holds (subst (λ (w : Weight). IsOver left 1 (payload_of_weight w)) weighs.is over)
-
--- what was spent on an object is its weight, whatever was read of it
-pub spends-held : (f : List ℕ) (i : ℕ) (weight : Weight) (held : Held) (left after : Budget) → Weighs f i weight → Holds f i held → Spends left 1 (payload_of_weight weight) after → Spends left 1 (payload_of_weight (weight_of held)) after
-spends-held f i weight held left after weighs holds spends =
-    subst (λ (w : Weight). Spends left 1 (payload_of_weight w) after) (Weighs-held f i weight held weighs holds) spends
-
-pub Charges-weighed : (f : List ℕ) (i levels : ℕ) (s : Scalar) (weight : Weight) (left after : Budget) → Weighs f i weight → Holds f i (holds_scalar s) → 1 ≤ levels → Spends left 1 (payload_of_weight weight) after → Charges f i levels left after
-Charges-weighed f i levels s weight left after weighs holds some spends =
-    Charges-scalar f i levels s left after holds some
-    (subst (λ (n : ℕ). Spends left 1 n after) (scalar-payload s) (spends-held f i weight (holds_scalar s) left after weighs holds spends))
-
-module _ (f : List ℕ) (i levels below : ℕ) (one : below + 1 ≡ levels) (left mid : Budget) (node : Spends left 1 0 mid) where
-  pub Charges-list : (refs : List ℕ) (after : Budget) → Holds f i (holds_list refs) → ChargesItems f refs below mid after → Charges f i levels left after
-  Charges-list refs after holds charges = record {
-    spent = by_list f i refs (λ v. Spends left (nodes v) (payload v) after) holds (λ vs valid spells.
-        let a = node in
-        let c = charges.spent vs valid spells in
-        record { nodes_left = omega arith; payload_left = omega arith });
-    deep = by_list f i refs (λ v. depth v ≤ levels) holds (λ vs valid spells.
-        let d = charges.deep vs valid spells in
-        omega arith);
-  }
-
-  pub Exceeds-list : (refs : List ℕ) → Holds f i (holds_list refs) → ExceedsItems f refs below mid → Exceeds f i levels left
-  Exceeds-list refs holds exceeds =
-      by_list f i refs (λ v. depth v ≤ levels → IsOver left (nodes v) (payload v)) holds (λ vs valid spells deep nodes_fit payload_fit.
-      let a = node in
-      exceeds vs valid spells (omega arith) (omega arith) (omega arith))
-
-  module _ (keys values : List ℕ) (even : length keys ≡ length values) (holds : Holds f i (holds_table keys values)) (ascending : HasAscendingKeys f i) where
-    pub Charges-table : (keyed after : Budget) → ChargesItems f keys below mid keyed → ChargesItems f values below keyed after → Charges f i levels left after
-    Charges-table keyed after charges_keys charges = record {
-      spent = by_table f i keys values (λ v. Spends left (nodes v) (payload v) after) holds (λ ps valid spells.
-          let t = table_parts f i keys values ps even holds ascending valid spells in
-          let p = t.parts in
-          let a = node in
-          let b = charges_keys.spent (put_texts p.texts no_items) p.units p.spell_keys in
-          let c = charges.spent p.items p.valid p.spell in
-          let n : nodes_of_pairs ps ≡ nodes_of_items (put_texts p.texts no_items) + nodes_of_items p.items = ap nodes_of_pairs t.same ∙ p.nodes_are in
-          let m : payload_of_pairs ps ≡ payload_of_items (put_texts p.texts no_items) + payload_of_items p.items = ap payload_of_pairs t.same ∙ p.payload_is in
-          record { nodes_left = omega arith; payload_left = omega arith });
-      deep = by_table f i keys values (λ v. depth v ≤ levels) holds (λ ps valid spells.
-          let t = table_parts f i keys values ps even holds ascending valid spells in
-          let p = t.parts in
-          let c = charges.deep p.items p.valid p.spell in
-          let d : depth_of_pairs ps ≡ depth_of_items p.items = ap depth_of_pairs t.same ∙ p.depth_is in
-          omega arith);
-    }
-
-    pub Exceeds-keys : ExceedsItems f keys below mid → Exceeds f i levels left
-    Exceeds-keys exceeds =
-        by_table f i keys values (λ v. depth v ≤ levels → IsOver left (nodes v) (payload v)) holds (λ ps valid spells deep nodes_fit payload_fit.
-        let t = table_parts f i keys values ps even holds ascending valid spells in
-        let p = t.parts in
-        let a = node in
-        let n : nodes_of_pairs ps ≡ nodes_of_items (put_texts p.texts no_items) + nodes_of_items p.items = ap nodes_of_pairs t.same ∙ p.nodes_are in
-        let m : payload_of_pairs ps ≡ payload_of_items (put_texts p.texts no_items) + payload_of_items p.items = ap payload_of_pairs t.same ∙ p.payload_is in
-        let d : depth_of_pairs ps ≡ depth_of_items p.items = ap depth_of_pairs t.same ∙ p.depth_is in
-        let k = p.keys_deep in
-        exceeds (put_texts p.texts no_items) p.units p.spell_keys (omega arith) (omega arith) (omega arith))
-
-    pub Exceeds-values : (keyed : Budget) → ChargesItems f keys below mid keyed → ExceedsItems f values below keyed → Exceeds f i levels left
-    Exceeds-values keyed charges_keys exceeds =
-        by_table f i keys values (λ v. depth v ≤ levels → IsOver left (nodes v) (payload v)) holds (λ ps valid spells deep nodes_fit payload_fit.
-        let t = table_parts f i keys values ps even holds ascending valid spells in
-        let p = t.parts in
-        let a = node in
-        let b = charges_keys.spent (put_texts p.texts no_items) p.units p.spell_keys in
-        let n : nodes_of_pairs ps ≡ nodes_of_items (put_texts p.texts no_items) + nodes_of_items p.items = ap nodes_of_pairs t.same ∙ p.nodes_are in
-        let m : payload_of_pairs ps ≡ payload_of_items (put_texts p.texts no_items) + payload_of_items p.items = ap payload_of_pairs t.same ∙ p.payload_is in
-        let d : depth_of_pairs ps ≡ depth_of_items p.items = ap depth_of_pairs t.same ∙ p.depth_is in
-        exceeds p.items p.valid p.spell (omega arith) (omega arith) (omega arith))
-
--- The items before the place k were spent; what is left is spelled by the references from there on.
-pub record ItemsLeft (f refs : List ℕ) (k levels : ℕ) (vs : Items) (before left : Budget) : Type 0 where
-  pub rest : Items
-  pub valid : AreItems rest
-  pub spells : SpellItems f (drop k refs) rest
-  pub nodes_left : left.nodes + nodes_of_items vs ≡ before.nodes + nodes_of_items rest
-  pub payload_left : left.payload + payload_of_items vs ≡ before.payload + payload_of_items rest
-  pub deep : depth_of_items rest ≤ levels → depth_of_items vs ≤ levels
-  pub deeper : depth_of_items vs ≤ levels → depth_of_items rest ≤ levels
-
-abbrev pub AllItemsLeft : List ℕ → List ℕ → ℕ → ℕ → Budget → Budget → Type 0
-AllItemsLeft f refs k levels before left =
-    (vs : Items) → AreItems vs → SpellItems f refs vs → ItemsLeft f refs k levels vs before left
-
-pub ItemsLeft-start : (f refs : List ℕ) (levels : ℕ) (left : Budget) → AllItemsLeft f refs 0 levels left left
-ItemsLeft-start f refs levels left vs valid spells = record {
-  rest = vs;
-  valid = valid;
-  spells = spells;
-  nodes_left = refl;
-  payload_left = refl;
-  deep = λ d. d;
-  deeper = λ d. d;
-}
-
 -- the first of the values that are left
 record FirstItem (f : List ℕ) (i : ℕ) (refs : List ℕ) (rest : Items) : Type 0 where
   value : Plist
@@ -194,64 +64,297 @@ first_item : (f : List ℕ) (i : ℕ) (refs : List ℕ) (rest : Items) → Spell
 first_item f i refs no_items spells = absurd (let none : i ∷ refs ≡ [] = spells in cc)
 first_item f i refs (item v vs) spells = record { value = v; others = vs; is = refl; spells = spells.0; later = spells.1 }
 
-next_item : (f refs : List ℕ) (k : ℕ) (rest : Items) → k < length refs → SpellItems f (drop k refs) rest → FirstItem f (slice_index refs k) (drop (k + 1) refs) rest
-next_item f refs k rest below spells =
-    first_item f (slice_index refs k) (drop (k + 1) refs) rest (subst (λ (rs : List ℕ). SpellItems f rs rest) (drop_more refs k 0 below) spells)
-
-pub ItemsLeft-next : (f refs : List ℕ) (k levels : ℕ) (before left after : Budget) → k < length refs → AllItemsLeft f refs k levels before left → Charges f (slice_index refs k) levels left after → AllItemsLeft f refs (k + 1) levels before after
-ItemsLeft-next f refs k levels before left after below all charges vs valid spells =
-    let l = all vs valid spells in
-    let n = next_item f refs k l.rest below l.spells in
-    let both : AreItems (item n.value n.others) = subst (λ (us : Items). AreItems us) n.is l.valid in
-    let spent = charges.spent n.value both.0 n.spells in
-    let deep = charges.deep n.value both.0 n.spells in
-    let a = spent.nodes_left in
-    let b = spent.payload_left in
-    let c = l.nodes_left in
-    let d = l.payload_left in
-    let e : nodes_of_items l.rest ≡ nodes n.value + nodes_of_items n.others = ap nodes_of_items n.is in
-    let g : payload_of_items l.rest ≡ payload n.value + payload_of_items n.others = ap payload_of_items n.is in
-    let h : depth_of_items l.rest ≡ max (depth n.value) (depth_of_items n.others) = ap depth_of_items n.is in
-    record {
-      rest = n.others;
-      valid = both.1;
-      spells = n.later;
-      nodes_left = omega arith;
-      payload_left = omega arith;
-      deep = λ rest_deep. l.deep (omega arith);
-      deeper = λ all_deep. let r = l.deeper all_deep in omega arith;
-    }
-
-pub ExceedsItems-next : (f refs : List ℕ) (k levels : ℕ) (before left : Budget) → k < length refs → AllItemsLeft f refs k levels before left → Exceeds f (slice_index refs k) levels left → ExceedsItems f refs levels before
-ExceedsItems-next f refs k levels before left below all exceeds vs valid spells deep nodes_fit payload_fit =
-    let l = all vs valid spells in
-    let n = next_item f refs k l.rest below l.spells in
-    let both : AreItems (item n.value n.others) = subst (λ (us : Items). AreItems us) n.is l.valid in
-    let c = l.nodes_left in
-    let d = l.payload_left in
-    let e : nodes_of_items l.rest ≡ nodes n.value + nodes_of_items n.others = ap nodes_of_items n.is in
-    let g : payload_of_items l.rest ≡ payload n.value + payload_of_items n.others = ap payload_of_items n.is in
-    let h : depth_of_items l.rest ≡ max (depth n.value) (depth_of_items n.others) = ap depth_of_items n.is in
-    let r = l.deeper deep in
-    exceeds n.value both.0 n.spells (omega arith) (omega arith) (omega arith)
-
 no_items_left : (f : List ℕ) (rest : Items) → SpellItems f [] rest → rest ≡ no_items
 no_items_left f no_items spells = refl
 no_items_left f (item v vs) spells = absurd spells
 
-pub ChargesItems-end : (f refs : List ℕ) (k levels : ℕ) (before left : Budget) → length refs ≤ k → AllItemsLeft f refs k levels before left → ChargesItems f refs levels before left
-ChargesItems-end f refs k levels before left past all =
-    let none = λ (vs : Items) (valid : AreItems vs) (spells : SpellItems f refs vs). no_items_left f (all vs valid spells).rest (subst (λ (rs : List ℕ). SpellItems f rs (all vs valid spells).rest) (drop_all k refs past) (all vs valid spells).spells) in
+-- the one value that one reference names
+record LoneItem (f : List ℕ) (i : ℕ) (items : Items) : Type 0 where
+  value : Plist
+  valid : IsPlist value
+  spells : Spells f i value
+  nodes_are : nodes_of_items items ≡ nodes value
+  payload_is : payload_of_items items ≡ payload value
+  depth_is : depth_of_items items ≡ depth value
+
+lone_item : (f : List ℕ) (i : ℕ) (items : Items) → AreItems items → SpellItems f (i ∷ []) items → LoneItem f i items
+lone_item f i items valid spelled =
+    let n = first_item f i [] items spelled in
+    let is : items ≡ item n.value no_items = n.is ∙ ap (item n.value) (no_items_left f n.others n.later) in
+    let both : AreItems (item n.value no_items) = subst AreItems is valid in
+    let e : nodes_of_items items ≡ nodes n.value + 0 = ap nodes_of_items is in
+    let g : payload_of_items items ≡ payload n.value + 0 = ap payload_of_items is in
+    let h : depth_of_items items ≡ max (depth n.value) 0 = ap depth_of_items is in
     record {
-      spent = λ vs valid spells.
-          let l = all vs valid spells in
-          let c = l.nodes_left in
-          let d = l.payload_left in
-          let e : nodes_of_items l.rest ≡ 0 = ap nodes_of_items (none vs valid spells) in
-          let g : payload_of_items l.rest ≡ 0 = ap payload_of_items (none vs valid spells) in
-          record { nodes_left = omega arith; payload_left = omega arith };
-      deep = λ vs valid spells.
-          let l = all vs valid spells in
-          let h : depth_of_items l.rest ≡ 0 = ap depth_of_items (none vs valid spells) in
-          l.deep (omega arith);
+      value = n.value;
+      valid = both.0;
+      spells = n.spells;
+      nodes_are = omega arith;
+      payload_is = omega arith;
+      depth_is = omega arith;
     }
+
+-- what a scalar of this weight takes
+record ScalarCosts (weight : Weight) (v : Plist) : Type 0 where
+  nodes_are : nodes v ≡ 1
+  payload_is : payload v ≡ payload_of_weight weight
+  depth_is : depth v ≡ 1
+
+scalar_costs : (f : List ℕ) (i : ℕ) (weight : Weight) (s : Scalar) → Weighs f i weight → Holds f i (holds_scalar s) → (v : Plist) → Spells f i v → ScalarCosts weight v
+scalar_costs f i weight s weighs holds v spells =
+    let same : payload_of_weight weight ≡ payload_of_scalar s = ap payload_of_weight (Weighs-held f i weight (holds_scalar s) weighs holds) ∙ scalar-payload s in
+    by_scalar f i s (ScalarCosts weight) holds (record { nodes_are = refl; payload_is = sym same; depth_is = refl }) v spells
+
+held_least : (f : List ℕ) (i : ℕ) (held : Held) → Holds f i held → (v : Plist) → Spells f i v → payload_of_weight (weight_of held) ≤ payload v
+held_least f i (holds_scalar s) holds v spells =
+    let same = scalar-payload s in
+    by_scalar f i s (λ v. payload_of_weight (weight_of (holds_scalar s)) ≤ payload v) holds (omega arith) v spells
+held_least f i (holds_list refs) holds v spells = omega arith
+held_least f i (holds_table keys values) holds v spells = omega arith
+
+-- an object's value takes no less than its weight
+weight_least : (f : List ℕ) (i : ℕ) (weight : Weight) → Weighs f i weight → (v : Plist) → Spells f i v → payload_of_weight weight ≤ payload v
+weight_least f i weight weighs v spells =
+    subst (λ (w : Weight). payload_of_weight w ≤ payload v) (sym weighs.is) (held_least f i weighs.held weighs.holds v spells)
+
+-- the values that are named before a step of the walk, and those that are behind it
+pub record Step (f : List ℕ) (groups : List Group) (named : AllNamed f groups) (others : List Group) (spent payload_spent : ℕ) : Type 0 where
+  pub later : AllNamed f others
+  pub nodes_are : nodes_named f groups named ≡ spent + nodes_named f others later
+  pub payload_is : payload_named f groups named ≡ payload_spent + payload_named f others later
+  pub within : AreWithin f groups named → AreWithin f others later
+  pub back : AreWithin f others later → AreWithin f groups named
+
+spent_step : (f : List ℕ) (groups others : List Group) (before after : Budget) (n p : ℕ) → Spends before n p after → ((named : AllNamed f groups) → Step f groups named others n p) → Owes f groups (Some before) → Owes f others (Some after)
+spent_step f groups others before after n p spends step owes v valid spells =
+    let o = owes v valid spells in
+    let s = step o.named in
+    let a = spends in
+    let b = o.nodes_left in
+    let c = o.payload_left in
+    let d = s.nodes_are in
+    let e = s.payload_is in
+    record {
+      named = s.later;
+      nodes_left = omega arith;
+      payload_left = omega arith;
+      within = λ fits. s.within (o.within fits);
+      deep = λ fits. o.deep (s.back fits);
+    }
+
+-- a step that takes nothing
+moves : (f : List ℕ) (groups others : List Group) (left : Option Budget) → ((named : AllNamed f groups) → Step f groups named others 0 0) → Owes f groups left → Owes f others left
+moves f groups others None step owes = owes
+moves f groups others (Some left) step owes =
+    spent_step f groups others left left 0 0 (record { nodes_left = omega arith; payload_left = omega arith }) step owes
+
+module _ (f : List ℕ) (levels i : ℕ) (refs : List ℕ) (outer : List Group) (weight : Weight) (weighs : Weighs f i weight) where
+  -- the first object is too deep or takes too much
+  passes_limit : (before : Budget) → (1 ≤ levels → IsOver before 1 (payload_of_weight weight)) → Owes f (grouped levels (i ∷ refs) ∷ outer) (Some before) → (v : Plist) → IsPlist v → Spells f 0 v → ¬ Fits v
+  passes_limit before over owes v valid spells fits =
+      let o = owes v valid spells in
+      let first = o.named.0 in
+      let n = first_item f i refs first.items first.spelled in
+      let least = weight_least f i weight weighs n.value n.spells in
+      let some = some_depth n.value in
+      let node = some_nodes n.value in
+      let a = o.nodes_left in
+      let b = o.payload_left in
+      let c = fits.nodes_fit in
+      let d = fits.payload_fits in
+      let within = (o.within fits.depth_fits).0 in
+      let e : nodes_of_items first.items ≡ nodes n.value + nodes_of_items n.others = ap nodes_of_items n.is in
+      let g : payload_of_items first.items ≡ payload n.value + payload_of_items n.others = ap payload_of_items n.is in
+      let h : depth_of_items first.items ≡ max (depth n.value) (depth_of_items n.others) = ap depth_of_items n.is in
+      over (omega arith) (omega arith) (omega arith)
+
+  -- the first object is paid for
+  paid : (others : List Group) (before after : Option Budget) → (1 ≤ levels → (named : AllNamed f (grouped levels (i ∷ refs) ∷ outer)) → Step f (grouped levels (i ∷ refs) ∷ outer) named others 1 (payload_of_weight weight)) → Pays levels weight before after → Owes f (grouped levels (i ∷ refs) ∷ outer) before → Owes f others after
+  paid others None after step pays owes = subst (λ (left : Option Budget). Owes f others left) (sym pays) owes
+  paid others (Some before) None step pays owes = passes_limit before pays owes
+  paid others (Some before) (Some after) step pays owes =
+      spent_step f (grouped levels (i ∷ refs) ∷ outer) others before after 1 (payload_of_weight weight) pays.1 (step pays.0) owes
+
+  scalar_step : HoldsScalar f i → 1 ≤ levels → (named : AllNamed f (grouped levels (i ∷ refs) ∷ outer)) → Step f (grouped levels (i ∷ refs) ∷ outer) named (grouped levels refs ∷ outer) 1 (payload_of_weight weight)
+  scalar_step held some named =
+      let first = named.0 in
+      let n = first_item f i refs first.items first.spelled in
+      let both : AreItems (item n.value n.others) = subst AreItems n.is first.valid in
+      let costs = scalar_costs f i weight held.0 weighs held.1 n.value n.spells in
+      let a = costs.nodes_are in
+      let b = costs.payload_is in
+      let c = costs.depth_is in
+      let e : nodes_of_items first.items ≡ nodes n.value + nodes_of_items n.others = ap nodes_of_items n.is in
+      let g : payload_of_items first.items ≡ payload n.value + payload_of_items n.others = ap payload_of_items n.is in
+      let h : depth_of_items first.items ≡ max (depth n.value) (depth_of_items n.others) = ap depth_of_items n.is in
+      record {
+        later = (record { items = n.others; valid = both.1; spelled = n.later }, named.1);
+        nodes_are = omega arith;
+        payload_is = omega arith;
+        within = λ w. (let d = w.0 in omega arith, w.1);
+        back = λ w. (let d = w.0 in omega arith, w.1);
+      }
+
+  -- a reference to a scalar is passed
+  pub Owes-passed : (before after : Option Budget) → HoldsScalar f i → Pays levels weight before after → Owes f (grouped levels (i ∷ refs) ∷ outer) before → Owes f (grouped levels refs ∷ outer) after
+  Owes-passed before after held = paid (grouped levels refs ∷ outer) before after (scalar_step held)
+
+pub Owes-popped : (f : List ℕ) (levels : ℕ) (outer : List Group) (left : Option Budget) → Owes f (grouped levels [] ∷ outer) left → Owes f outer left
+Owes-popped f levels outer left = moves f (grouped levels [] ∷ outer) outer left (λ named.
+    let first = named.0 in
+    let none = no_items_left f first.items first.spelled in
+    let e : nodes_of_items first.items ≡ 0 = ap nodes_of_items none in
+    let g : payload_of_items first.items ≡ 0 = ap payload_of_items none in
+    let h : depth_of_items first.items ≡ 0 = ap depth_of_items none in
+    record {
+      later = named.1;
+      nodes_are = omega arith;
+      payload_is = omega arith;
+      within = λ w. w.1;
+      back = λ w. (omega arith, w);
+    })
+
+-- the first reference by itself
+pub Owes-parted : (f : List ℕ) (levels i : ℕ) (refs : List ℕ) (outer : List Group) (left : Option Budget) → Owes f (grouped levels (i ∷ refs) ∷ outer) left → Owes f (grouped levels (i ∷ []) ∷ grouped levels refs ∷ outer) left
+Owes-parted f levels i refs outer left = moves f (grouped levels (i ∷ refs) ∷ outer) (grouped levels (i ∷ []) ∷ grouped levels refs ∷ outer) left (λ named.
+    let first = named.0 in
+    let n = first_item f i refs first.items first.spelled in
+    let both : AreItems (item n.value n.others) = subst AreItems n.is first.valid in
+    let e : nodes_of_items first.items ≡ nodes n.value + nodes_of_items n.others = ap nodes_of_items n.is in
+    let g : payload_of_items first.items ≡ payload n.value + payload_of_items n.others = ap payload_of_items n.is in
+    let h : depth_of_items first.items ≡ max (depth n.value) (depth_of_items n.others) = ap depth_of_items n.is in
+    record {
+      later = (
+        record { items = item n.value no_items; valid = (both.0, tt); spelled = (n.spells, refl) },
+        (record { items = n.others; valid = both.1; spelled = n.later }, named.1),
+      );
+      nodes_are = omega arith;
+      payload_is = omega arith;
+      within = λ w. (let d = w.0 in omega arith, (let d = w.0 in omega arith, w.1));
+      back = λ w. (let d = w.0 in let k = w.1.0 in omega arith, w.1.1);
+    })
+
+-- what a list or a table takes, and what it holds
+record OpenedList (f refs : List ℕ) (v : Plist) : Type 0 where
+  items : Named f (grouped 0 refs)
+  nodes_are : nodes v ≡ 1 + nodes_of_items items.items
+  payload_is : payload v ≡ payload_of_items items.items
+  depth_is : depth v ≡ 1 + depth_of_items items.items
+
+record OpenedTable (f keys values : List ℕ) (v : Plist) : Type 0 where
+  texts : Named f (grouped 0 keys)
+  items : Named f (grouped 0 values)
+  nodes_are : nodes v ≡ 1 + (nodes_of_items texts.items + nodes_of_items items.items)
+  payload_is : payload v ≡ payload_of_items texts.items + payload_of_items items.items
+  depth_is : depth v ≡ 1 + depth_of_items items.items
+  texts_deep : depth_of_items texts.items ≤ depth_of_items items.items
+
+opened_list : (f : List ℕ) (i : ℕ) (refs : List ℕ) → Holds f i (holds_list refs) → (v : Plist) → IsPlist v → Spells f i v → OpenedList f refs v
+opened_list f i refs holds = by_list f i refs (OpenedList f refs) holds (λ vs valid spells. record {
+  items = record { items = vs; valid = valid; spelled = spells };
+  nodes_are = refl;
+  payload_is = refl;
+  depth_is = refl;
+})
+
+opened_table : (f : List ℕ) (i : ℕ) (keys values : List ℕ) → length keys ≡ length values → Holds f i (holds_table keys values) → HasAscendingKeys f i → (v : Plist) → IsPlist v → Spells f i v → OpenedTable f keys values v
+opened_table f i keys values even holds ascending = by_table f i keys values (OpenedTable f keys values) holds (λ ps valid spells.
+    let t = table_parts f i keys values ps even holds ascending valid spells in
+    let p = t.parts in
+    let n : nodes_of_pairs ps ≡ nodes_of_items (put_texts p.texts no_items) + nodes_of_items p.items = ap nodes_of_pairs t.same ∙ p.nodes_are in
+    let m : payload_of_pairs ps ≡ payload_of_items (put_texts p.texts no_items) + payload_of_items p.items = ap payload_of_pairs t.same ∙ p.payload_is in
+    let d : depth_of_pairs ps ≡ depth_of_items p.items = ap depth_of_pairs t.same ∙ p.depth_is in
+    record {
+      texts = record { items = put_texts p.texts no_items; valid = p.units; spelled = p.spell_keys };
+      items = record { items = p.items; valid = p.valid; spelled = p.spell };
+      nodes_are = omega arith;
+      payload_is = m;
+      depth_is = omega arith;
+      texts_deep = p.keys_deep;
+    })
+
+module _ (f : List ℕ) (levels i : ℕ) (outer : List Group) (weight : Weight) (weighs : Weighs f i weight) (ascending : HasAscendingKeys f i) where
+  abbrev before_it : List Group
+  before_it = grouped levels (i ∷ []) ∷ outer
+
+  opening : (held : Held) → Holds f i held → IsHeld held → 1 ≤ levels → (named : AllNamed f before_it) → Step f before_it named (groups_of (levels - 1) held ++ outer) 1 (payload_of_weight weight)
+  opening (holds_scalar s) holds valid some named =
+      let n = lone_item f i named.0.items named.0.valid named.0.spelled in
+      let costs = scalar_costs f i weight s weighs holds n.value n.spells in
+      let a = costs.nodes_are in
+      let b = costs.payload_is in
+      let c = costs.depth_is in
+      let d = n.nodes_are in
+      let e = n.payload_is in
+      let g = n.depth_is in
+      record {
+        later = named.1;
+        nodes_are = omega arith;
+        payload_is = omega arith;
+        within = λ w. w.1;
+        back = λ w. (omega arith, w);
+      }
+  opening (holds_list refs) holds valid some named =
+      let n = lone_item f i named.0.items named.0.valid named.0.spelled in
+      let o = opened_list f i refs holds n.value n.valid n.spells in
+      let none : payload_of_weight weight ≡ 0 = ap payload_of_weight (Weighs-held f i weight (holds_list refs) weighs holds) in
+      let a = o.nodes_are in
+      let b = o.payload_is in
+      let c = o.depth_is in
+      let d = n.nodes_are in
+      let e = n.payload_is in
+      let g = n.depth_is in
+      record {
+        later = (record { items = o.items.items; valid = o.items.valid; spelled = o.items.spelled }, named.1);
+        nodes_are = omega arith;
+        payload_is = omega arith;
+        within = λ w. (let k = w.0 in omega arith, w.1);
+        back = λ w. (let k = w.0 in omega arith, w.1);
+      }
+  opening (holds_table keys values) holds valid some named =
+      let n = lone_item f i named.0.items named.0.valid named.0.spelled in
+      let o = opened_table f i keys values valid holds ascending n.value n.valid n.spells in
+      let none : payload_of_weight weight ≡ 0 = ap payload_of_weight (Weighs-held f i weight (holds_table keys values) weighs holds) in
+      let a = o.nodes_are in
+      let b = o.payload_is in
+      let c = o.depth_is in
+      let j = o.texts_deep in
+      let d = n.nodes_are in
+      let e = n.payload_is in
+      let g = n.depth_is in
+      record {
+        later = (
+          record { items = o.texts.items; valid = o.texts.valid; spelled = o.texts.spelled },
+          (record { items = o.items.items; valid = o.items.valid; spelled = o.items.spelled }, named.1),
+        );
+        nodes_are = omega arith;
+        payload_is = omega arith;
+        within = λ w. (let k = w.0 in omega arith, (let k = w.0 in omega arith, w.1));
+        back = λ w. (let k = w.1.0 in omega arith, w.1.1);
+      }
+
+  -- the object is met for the first time
+  pub Owes-entered : (octets : AreOctets f) (old new : List Frame) (before after : Option Budget) → Deepens f i levels old new → path_groups old ≡ outer → Pays levels weight before after → Owes f before_it before → Owes f (path_groups new) after
+  Owes-entered octets old new before after deepens is pays owes =
+      let valid = Holds-held f i deepens.held octets deepens.holds in
+      let there : groups_of (levels - 1) deepens.held ++ outer ≡ path_groups new = ap (λ groups. groups_of (levels - 1) deepens.held ++ groups) (sym is) ∙ sym deepens.groups in
+      subst (λ (groups : List Group). Owes f groups after) there
+      (paid f levels i [] outer weight weighs (groups_of (levels - 1) deepens.held ++ outer) before after (opening deepens.held deepens.holds valid) pays owes)
+
+-- before anything is walked
+pub Owes-start : (f : List ℕ) (whole : Budget) → whole.nodes ≡ MAX_NODES → whole.payload ≡ MAX_PAYLOAD → Owes f (grouped MAX_DEPTH (0 ∷ []) ∷ []) (Some whole)
+Owes-start f whole all_nodes all_payload v valid spells = record {
+  named = (record { items = item v no_items; valid = (valid, tt); spelled = (spells, refl) }, tt);
+  nodes_left = omega arith;
+  payload_left = omega arith;
+  within = λ fits. (omega arith, tt);
+  deep = λ w. (let d = w.0 in omega arith);
+}
+
+-- all was walked
+pub Owes-end : (f : List ℕ) (left : Budget) → Owes f [] (Some left) → (v : Plist) → IsPlist v → Spells f 0 v → Fits v
+Owes-end f left owes v valid spells =
+    let o = owes v valid spells in
+    let a = o.nodes_left in
+    let b = o.payload_left in
+    record { nodes_fit = omega arith; depth_fits = o.deep tt; payload_fits = omega arith }

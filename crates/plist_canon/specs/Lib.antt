@@ -13,4 +13,4 @@ pub mod Codes
 pub mod Weights
 pub mod Small
 pub mod Preorders
-pub mod Charges
+pub mod Owing

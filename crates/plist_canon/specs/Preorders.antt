@@ -47,8 +47,8 @@ path_left [] = []
 path_left (frame ∷ frames) = path_left frames ++ frame_left frame
 
 -- references none of which was visited
-abbrev pub new_frame : ℕ → Refs → Frame
-new_frame owner refs = record { owner = owner; refs = refs; done = 0 }
+abbrev pub new_frame : ℕ → ℕ → Refs → Frame
+new_frame owner levels refs = record { owner = owner; levels = levels; refs = refs; done = 0 }
 
 -- the number is that of a scalar that was met
 abbrev pub IsKnown : List Weight → ℕ → Type 0
