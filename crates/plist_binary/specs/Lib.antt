@@ -14,4 +14,5 @@ pub mod Readings
 pub mod Memos
 pub mod Passing
 pub mod Recalls
+pub mod Progress
 pub mod Building

@@ -8,11 +8,13 @@ mod judging;
 mod known_keys;
 mod memos;
 mod path;
+mod progress;
 mod reader;
 mod row_order;
 mod scalars;
 mod tables;
 mod visiting;
+mod walking;
 
 pub use fault::BinaryFault;
 pub use judging::{JudgedFile, judge, judge_keys};

@@ -1,7 +1,7 @@
 use Rattle.std.proofs.Common.{sym}
 use Rattle.plist_object.specs.Views.{octets_of}
 use Rattle.plist_object.proofs.Ranked.{ranked_holds}
-use Rattle.plist_binary.proofs.judging.Walker.object.Goals as goal
+use Rattle.plist_binary.proofs.visiting.Visitor.object.Goals as goal
 
 pub returns : goal.returns
 returns c =

@@ -1,0 +1,13 @@
+-- How far a walk has come.
+use Rattle.std.specs.Prelude.{ℕ, List}
+use Rattle.plist_binary.specs.declared.progress.Progress.{Progress}
+use Rattle.plist_binary.specs.Memos.{AreStates}
+use Rattle.plist_binary.specs.Passing.{IsWithinLimits}
+use Rattle.plist_binary.specs.Recalls.{IsKnown}
+
+-- what is known of the objects and of keys is so, where these containers lead to what is judged now,
+-- and no more is left than the limits
+pub record IsProgress (f path : List ℕ) (progress : Progress) : Type 0 where
+  pub states : AreStates f path progress.states.items
+  pub known : IsKnown f progress.known
+  pub within : IsWithinLimits progress.left

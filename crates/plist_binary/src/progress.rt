@@ -1,0 +1,48 @@
+//! How far a walk has come.
+ghost use Rattle.std.specs.Prelude.{◌≡◌, ℕ, List, IfSome};
+ghost use Rattle.plist_binary.specs.Memos.{AreStates};
+ghost use Rattle.plist_binary.specs.Passing.{IsWithinLimits, Passes};
+ghost use Rattle.plist_binary.specs.Progress.{IsProgress};
+
+use crate::known_keys::KnownKeys;
+use crate::memos::{State, state_at};
+use plist_value::Budget;
+use std::alloc::Global;
+
+// What is known so far of the objects and of keys, and what is left of the whole budget.
+#[derive(Drop)]
+pub(crate) struct Progress<'a> {
+    pub(crate) states: Vec<State>,
+    pub(crate) known: KnownKeys<'a>,
+    pub(crate) left: Budget,
+}
+
+impl<'a> Progress<'a> {
+    // None: nothing is known, and the whole budget is left.
+    pub(crate) fn none(alloc: Global, whole: Budget) -> Progress<'a>
+        requires { IsWithinLimits whole }
+        ensures left { result.left ≡ whole }
+        ensures progress { (f path : List ℕ) → IsProgress f path result }
+    {
+        Progress {
+            states: Vec::new(alloc),
+            known: KnownKeys::none(),
+            left: whole,
+        }
+    }
+
+    // The depth of an object that was passed before, and what is left after it, where it fits.
+    pub(crate) fn recall(&self, object: u64, levels: u64) -> Option<(u64, Budget)>
+        ensures { IfSome result (λ known. (f path : List ℕ) → AreStates f path self.now.states.items
+            → Passes f object levels self.now.left known.0 known.1) }
+    {
+        let State::Passed(memo) = state_at(&self.states, object) else {
+            return None;
+        };
+        let deep = u64::from(memo.depth);
+        if levels < deep {
+            return None;
+        }
+        Some((deep, memo.take(self.left)?))
+    }
+}

@@ -1,0 +1,282 @@
+//! The walk through the objects of a file.
+ghost use Rattle.std.specs.Prelude.{◌≡◌, ◌+◌, ◌<◌, ◌∷◌, length, map, max, IfOk, IfErr, OnOk};
+ghost use Rattle.plist_object.specs.Layout.{trailer_of};
+ghost use Rattle.plist_object.specs.Views.{numbers_of, octets_of};
+ghost use Rattle.plist_object.specs.Order.{AreSortedIfAny};
+ghost use Rattle.plist_binary.specs.Begins.{AreNext, IsBegun, IsEntered};
+ghost use Rattle.plist_binary.specs.Progress.{IsProgress};
+ghost use Rattle.plist_binary.specs.Passing.{IsWithinLimits, Passes, PassesItems, PassesTop};
+ghost use Rattle.plist_binary.specs.Paths.{containers_of, HasKeys};
+ghost use Rattle.plist_binary.specs.Readings.{Refuses, RefusesItems};
+ghost use Rattle.plist_binary.specs.Readings.{ReadsItems, texts, RefusesKeys};
+ghost use Rattle.plist_binary.specs.Recalls.{ReadsApart, RefusesTable};
+ghost use Rattle.plist_binary.specs.Keys.{units_at, AreInPlace, AreRanked};
+ghost use Rattle.plist_binary.specs.Heads.{AreHeadless};
+
+use crate::known_keys::{LastKeys, recall_keys};
+use crate::memos::{Memo, State, mark};
+use crate::path::Path;
+use crate::progress::Progress;
+use crate::tables::Key;
+use crate::visiting::{Visitor, take_payload};
+use crate::{BinaryFault, row_order, tables};
+use plist_object::{Object, Refs, SortedKeys};
+use plist_value::MAX_DEPTH;
+use std::alloc::Global;
+
+// Walks through the objects of a file, each of which the visitor reads.
+#[derive(Clone, Copy)]
+pub(crate) struct Walker<'a, 'r> {
+    pub(crate) alloc: Global,
+    pub(crate) visitor: Visitor<'a, 'r>,
+}
+
+impl<'a, 'r> Walker<'a, 'r> {
+    // Whether the top object spells a value within the whole budget, and then the keys of the
+    // longest of its long tables in order.
+    pub(crate) fn top(&self) -> Result<Option<SortedKeys<'a>>, BinaryFault>
+        requires { IsWithinLimits self.now.visitor.whole }
+        ensures passed { OnOk result (PassesTop (octets_of self.now.visitor.file)) }
+        ensures refused { IfErr result (Refuses (octets_of self.now.visitor.file)
+            self.now.visitor.whole (trailer_of (octets_of self.now.visitor.file)).top MAX_DEPTH
+            self.now.visitor.whole) }
+        ensures sorted { IfOk result (AreSortedIfAny (octets_of self.now.visitor.file)) }
+    {
+        let mut progress = Progress::none(self.alloc, self.visitor.whole);
+        let top = self.visitor.file.top();
+        self.pass(&mut progress, &Path::Above, top, MAX_DEPTH)?;
+        Ok(progress.known.sorted)
+    }
+
+    // The depth of the value that the object spells, to which the path leads, of at most so many
+    // levels.
+    #[cycle(walk)]
+    #[inline(always)]
+    fn pass(
+        &self,
+        progress: &mut Progress<'a>,
+        path: &Path,
+        object: u64,
+        levels: u64,
+    ) -> Result<u64, BinaryFault>
+        requires listed { object < (trailer_of (octets_of self.now.visitor.file)).count }
+        requires begun { IsBegun (octets_of self.now.visitor.file) (containers_of path.now) object
+            self.now.visitor.whole progress.old.left }
+        requires depth { length (containers_of path.now) + levels ≡ MAX_DEPTH }
+        requires progress { IsProgress (octets_of self.now.visitor.file) (containers_of path.now)
+            progress.old }
+        ensures passed { IfOk result (λ deep. Passes (octets_of self.now.visitor.file) object levels
+            progress.old.left deep progress.new.left) }
+        ensures refused { IfErr result (Refuses (octets_of self.now.visitor.file)
+            self.now.visitor.whole object levels progress.old.left) }
+        ensures progress { OnOk result (IsProgress (octets_of self.now.visitor.file)
+            (containers_of path.now) progress.new) }
+    {
+        if let Some((deep, rest)) = progress.recall(object, levels) {
+            progress.left = rest;
+            return Ok(deep);
+        }
+        self.walk(progress, path, object, levels)
+    }
+
+    // Walks an object that is not in the memo, and records what its value takes.
+    #[cycle(walk)]
+    fn walk(
+        &self,
+        progress: &mut Progress<'a>,
+        path: &Path,
+        object: u64,
+        levels: u64,
+    ) -> Result<u64, BinaryFault>
+        requires listed { object < (trailer_of (octets_of self.now.visitor.file)).count }
+        requires begun { IsBegun (octets_of self.now.visitor.file) (containers_of path.now) object
+            self.now.visitor.whole progress.old.left }
+        requires depth { length (containers_of path.now) + levels ≡ MAX_DEPTH }
+        requires progress { IsProgress (octets_of self.now.visitor.file) (containers_of path.now)
+            progress.old }
+        ensures passed { IfOk result (λ deep. Passes (octets_of self.now.visitor.file) object levels
+            progress.old.left deep progress.new.left) }
+        ensures refused { IfErr result (Refuses (octets_of self.now.visitor.file)
+            self.now.visitor.whole object levels progress.old.left) }
+        ensures progress { OnOk result (IsProgress (octets_of self.now.visitor.file)
+            (containers_of path.now) progress.new) }
+    {
+        let before = progress.left;
+        let deep = self.content(progress, path, object, levels)?;
+        let memo = Memo::of(before, progress.left, deep);
+        let count = self.visitor.file.count();
+        mark(&mut progress.states, count, object, State::Passed(memo))?;
+        Ok(deep)
+    }
+
+    // The depth of what the object holds, which is marked as open if it is a container. Of a table
+    // all keys come before the values.
+    #[cycle(walk)]
+    fn content(
+        &self,
+        progress: &mut Progress<'a>,
+        path: &Path,
+        object: u64,
+        levels: u64,
+    ) -> Result<u64, BinaryFault>
+        requires listed { object < (trailer_of (octets_of self.now.visitor.file)).count }
+        requires begun { IsBegun (octets_of self.now.visitor.file) (containers_of path.now) object
+            self.now.visitor.whole progress.old.left }
+        requires depth { length (containers_of path.now) + levels ≡ MAX_DEPTH }
+        requires progress { IsProgress (octets_of self.now.visitor.file) (containers_of path.now)
+            progress.old }
+        ensures passed { IfOk result (λ deep. Passes (octets_of self.now.visitor.file) object levels
+            progress.old.left deep progress.new.left) }
+        ensures refused { IfErr result (Refuses (octets_of self.now.visitor.file)
+            self.now.visitor.whole object levels progress.old.left) }
+        ensures progress { OnOk result (IsProgress (octets_of self.now.visitor.file)
+            (object ∷ containers_of path.now) progress.new) }
+    {
+        let count = self.visitor.file.count();
+        match self.visitor.enter(progress, path, object, levels)? {
+            Object::Scalar(scalar) => {
+                take_payload(&mut progress.left, object, scalar)?;
+                Ok(1)
+            }
+            Object::List(items) => {
+                mark(&mut progress.states, count, object, State::Open)?;
+                let deep = self.items(progress, object, path, items, levels - 1)?;
+                Ok(1 + deep)
+            }
+            Object::Table(keys, values) => {
+                mark(&mut progress.states, count, object, State::Open)?;
+                self.keys_apart(progress, object, path, keys, levels - 1)?;
+                let deep = self.items(progress, object, path, values, levels - 1)?;
+                Ok(1 + deep)
+            }
+        }
+    }
+
+    // The depth of the deepest value that the references of the open container spell.
+    #[cycle(walk)]
+    fn items(
+        &self,
+        progress: &mut Progress<'a>,
+        container: u64,
+        before: &Path,
+        refs: Refs,
+        levels: u64,
+    ) -> Result<u64, BinaryFault>
+        requires next { AreNext (octets_of self.now.visitor.file) (containers_of before.now)
+            container (numbers_of refs) self.now.visitor.whole progress.old.left }
+        requires depth { length (containers_of before.now) + 1 + levels ≡ MAX_DEPTH }
+        requires progress { IsProgress (octets_of self.now.visitor.file)
+            (container ∷ containers_of before.now) progress.old }
+        ensures passed { IfOk result (λ deep. PassesItems (octets_of self.now.visitor.file)
+            (numbers_of refs.entry) levels progress.old.left deep progress.new.left) }
+        ensures refused { IfErr result (RefusesItems (octets_of self.now.visitor.file)
+            self.now.visitor.whole (numbers_of refs.entry) levels progress.old.left) }
+        ensures progress { OnOk result (IsProgress (octets_of self.now.visitor.file)
+            (container ∷ containers_of before.now) progress.new) }
+    {
+        let path = Path::In(container, &*before);
+        let mut deepest = 0;
+        for i in 0..refs.len() {
+            let object = self.visitor.referred(container, refs.get(i))?;
+            let deep = self.pass(&mut *progress, &path, object, levels)?;
+            deepest = deeper(deepest, deep);
+        }
+        Ok(deepest)
+    }
+
+    // Reads the keys of the table, of which no two are equal. Those of the last table are not read
+    // again.
+    fn keys_apart(
+        &self,
+        progress: &mut Progress<'a>,
+        table: u64,
+        before: &Path,
+        refs: Refs<'a>,
+        levels: u64,
+    ) -> Result<(), BinaryFault>
+        requires entered { IsEntered (octets_of self.now.visitor.file) (containers_of before.now)
+            table self.now.visitor.whole progress.old.left }
+        requires keys { HasKeys (octets_of self.now.visitor.file) table (numbers_of refs) }
+        requires depth { length (containers_of before.now) + 1 + levels ≡ MAX_DEPTH }
+        requires progress { IsProgress (octets_of self.now.visitor.file)
+            (table ∷ containers_of before.now) progress.old }
+        ensures read { OnOk result (ReadsApart (octets_of self.now.visitor.file)
+            (numbers_of refs.entry) levels progress.old.left progress.new.left) }
+        ensures refused { IfErr result (RefusesTable (octets_of self.now.visitor.file)
+            self.now.visitor.whole table (numbers_of refs.entry) levels progress.old.left) }
+        ensures progress { OnOk result (IsProgress (octets_of self.now.visitor.file)
+            (table ∷ containers_of before.now) progress.new) }
+    {
+        if let Some(rest) = recall_keys(&progress.known.last, &refs, levels, progress.left) {
+            progress.left = rest;
+            return Ok(());
+        }
+        let payload = progress.left.payload;
+        let mut keys = self.keys(progress, table, before, refs, levels)?;
+        let payload = payload - progress.left.payload;
+        if let Some(places) = row_order::places_by_heads(self.alloc, keys.as_slice())? {
+            progress.known.last = Some(LastKeys { refs, payload });
+            progress.known.keep_places(refs, places);
+            return Ok(());
+        }
+        if !tables::sort(keys.as_mut_slice()) {
+            return Err(BinaryFault::DuplicateKey { object: table });
+        }
+        progress.known.last = Some(LastKeys { refs, payload });
+        progress
+            .known
+            .keep_order(self.alloc, refs, keys.as_slice())?;
+        Ok(())
+    }
+
+    // The texts that the references of the table spell, each at its place.
+    fn keys(
+        &self,
+        progress: &mut Progress<'a>,
+        table: u64,
+        before: &Path,
+        refs: Refs,
+        levels: u64,
+    ) -> Result<Vec<Key<'a>>, BinaryFault>
+        requires entered { IsEntered (octets_of self.now.visitor.file) (containers_of before.now)
+            table self.now.visitor.whole progress.old.left }
+        requires keys { HasKeys (octets_of self.now.visitor.file) table (numbers_of refs) }
+        requires depth { length (containers_of before.now) + 1 + levels ≡ MAX_DEPTH }
+        requires progress { IsProgress (octets_of self.now.visitor.file)
+            (table ∷ containers_of before.now) progress.old }
+        ensures read { IfOk result (λ keys. ReadsItems (octets_of self.now.visitor.file)
+            (numbers_of refs.entry) levels progress.old.left (texts (map units_at keys.items))
+            progress.new.left) }
+        ensures placed { IfOk result (λ keys. AreInPlace keys.items) }
+        ensures ranked { IfOk result (λ keys. AreRanked keys.items) }
+        ensures headless { IfOk result (λ keys. AreHeadless keys.items) }
+        ensures refused { IfErr result (RefusesKeys (octets_of self.now.visitor.file)
+            self.now.visitor.whole (numbers_of refs.entry) levels progress.old.left) }
+        ensures progress { OnOk result (IsProgress (octets_of self.now.visitor.file)
+            (table ∷ containers_of before.now) progress.new) }
+    {
+        let mut keys = Vec::with_capacity(self.alloc, refs.len() as usize)?;
+        for i in 0..refs.len() {
+            let object = self.visitor.referred(table, refs.get(i))?;
+            let text = self
+                .visitor
+                .key(&mut *progress, table, before, object, levels)?;
+            let rank = self.visitor.ranks.get(object);
+            let place = keys.len();
+            keys.push(Key {
+                text,
+                rank,
+                place,
+                head: 0,
+            })?;
+        }
+        Ok(keys)
+    }
+}
+
+// The greater of two depths.
+fn deeper(first: u64, second: u64) -> u64
+    ensures { result ≡ max first second }
+{
+    if first < second { second } else { first }
+}
