@@ -39,15 +39,6 @@ Begins-leads f (j ∷ before) i nodes payload begins = (
 pub IsBegun-leads : (f before : List ℕ) (i : ℕ) (whole left : Budget) → IsBegun f before i whole left → Leads f before i
 IsBegun-leads f before i whole left begun = Begins-leads f before i begun.nodes begun.payload begun.begins
 
--- the object at the top
-pub IsBegun-top : (f : List ℕ) (i : ℕ) (whole left : Budget) → Begins f [] i 0 0 → whole ≡ left → IsBegun f [] i whole left
-IsBegun-top f i whole left begins same = record {
-  nodes = 0;
-  payload = 0;
-  begins = begins;
-  spent = subst (Spends whole 0 0) same record { nodes_left = omega arith; payload_left = omega arith };
-}
-
 -- one node less: the container itself
 pub IsEntered-begun : (f before : List ℕ) (j : ℕ) (whole left after : Budget) → IsBegun f before j whole left → Spends left 1 0 after → IsEntered f before j whole after
 IsEntered-begun f before j whole left after begun node = record {

@@ -104,9 +104,6 @@ AllSpellWithin-values f keys values levels within =
     let apart = unsorted f keys values levels within in
     AllSpellWithin-items f values levels (items_of apart.vs) apart.spell_values apart.valid_values apart.deep_values
 
-pub IsSpelled-list : (f refs : List ℕ) (i : ℕ) (vs : Items) → Holds f i (holds_list refs) → AreSpelled f refs vs → IsSpelled f i (list vs)
-IsSpelled-list f refs i vs holds are = record { spells = (refs, (holds, are.spell)); valid = are.valid }
-
 pub IsSpelled-table : (f keys values : List ℕ) (i : ℕ) (ps : Pairs) → Holds f i (holds_table keys values) → PairsSpelled f keys values ps → IsSpelled f i (table ps)
 IsSpelled-table f keys values i ps holds are = record {
   spells = (keys, (values, (are.rows, (holds, (are.moved, are.spell)))));

@@ -1,5 +1,5 @@
 -- The items of a container, reference after reference.
-use Rattle.std.proofs.Common.{◌≡◌, ℕ, ◌+◌, ◌<◌, ◌≤◌, List, [], ◌∷◌, ◌++◌, refl, subst, arith}
+use Rattle.std.proofs.Common.{◌≡◌, ℕ, ◌+◌, ◌<◌, ◌≤◌, List, [], ◌∷◌, ◌++◌, subst, arith}
 use Rattle.plist_value.specs.Plist.{Plist, Items, no_items, item, IsPlist, AreItems}
 use Rattle.plist_value.specs.Limits.{nodes, depth, payload, nodes_of_items, depth_of_items, payload_of_items}
 use Rattle.plist_object.specs.Layout.{IsLaid, trailer_of}
@@ -7,20 +7,12 @@ use Rattle.plist_object.specs.Spelled.{Spells, SpellItems}
 use Rattle.plist_object.proofs.Uniqueness.{same_items}
 use Rattle.plist_value.specs.declared.budget.Budget.{Budget}
 use Rattle.plist_binary.specs.declared.fault.BinaryFault.{BinaryFault}
-use Rattle.plist_binary.specs.declared.fault.BinaryFault.TheVariants.{BadReference, OutOfMemory}
+use Rattle.plist_binary.specs.declared.fault.BinaryFault.TheVariants.{BadReference}
 use Rattle.plist_value.specs.Budget.{Affords}
 use Rattle.plist_binary.specs.Paths.{Refers, Leads}
 use Rattle.plist_binary.specs.Readings.{Reads, Refuses, ReadsItems, RefusesItems}
 use Rattle.plist_binary.proofs.Held.{Spells-held}
 use Rattle.plist_binary.proofs.Sequences.{push, SpellItems-push, AreItems-push, nodes-push, payload-push, depth-push, take_apart}
-
-pub ReadsItems-none : (f : List ℕ) (levels : ℕ) (left : Budget) → ReadsItems f [] levels left no_items left
-ReadsItems-none f levels left = record {
-  spell = refl;
-  valid = tt;
-  deep = omega arith;
-  spent = record { nodes_left = omega arith; payload_left = omega arith };
-}
 
 pub ReadsItems-push : (f refs : List ℕ) (i levels : ℕ) (before left after : Budget) (vs : Items) (v : Plist) → i < (trailer_of f).count → ReadsItems f refs levels before vs left → Reads f i levels left v after → ReadsItems f (refs ++ i ∷ []) levels before (push vs v) after
 ReadsItems-push f refs i levels before left after vs v listed items one =
@@ -84,10 +76,4 @@ RefusesItems-nowhere f whole before refs container i rest levels left laid leads
   none = λ _ ws valid spell deep affords.
       let parts = take_apart f refs (i ∷ rest) ws spell valid in
       first_nowhere f i rest parts.back above parts.spell_back;
-}
-
-pub RefusesItems-memory : (f : List ℕ) (whole : Budget) (refs : List ℕ) (levels : ℕ) (left : Budget) → RefusesItems f whole refs levels left OutOfMemory
-RefusesItems-memory f whole refs levels left = record {
-  stands = tt;
-  none = λ unless. absurd (unless refl);
 }

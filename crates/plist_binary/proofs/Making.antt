@@ -1,5 +1,5 @@
 -- What an object spells, from what its content, its items or its pairs took of the budget.
-use Rattle.std.proofs.Common.{◌≡◌, ℕ, ◌+◌, ◌<◌, ◌≤◌, List, Ok, refl, ap, subst, arith}
+use Rattle.std.proofs.Common.{◌≡◌, ℕ, ◌+◌, ◌<◌, ◌≤◌, List, Ok, ap, subst, arith}
 use Rattle.std.specs.List.{zip}
 use Rattle.std.specs.List.Sorted.{IsPermutation}
 use Rattle.plist_value.specs.Plist.{Scalar, Plist, scalar, list, table, Items, Pairs, IsScalar, IsPlist}
@@ -27,12 +27,6 @@ Reads-scalar f i levels before left after s listed reads valid deep node spent =
         payload_left = omega (arith, node.payload_left, spent.payload_left);
       };
     }
-
-pub Refuses-memory : (f : List ℕ) (whole : Budget) (i levels : ℕ) (left : Budget) → Refuses f whole i levels left OutOfMemory
-Refuses-memory f whole i levels left = record {
-  stands = tt;
-  none = λ unless. absurd (unless refl);
-}
 
 scalar_refused : (f : List ℕ) (i levels : ℕ) (before left : Budget) (s : Scalar) (v : Plist) → Holds f i (holds_scalar s) → Spends before 1 0 left → left.payload < payload_of_scalar s → Spells f i v → Affords before (nodes v) (payload v) → ⊥
 scalar_refused f i levels before left s (scalar t) holds node over spells affords =

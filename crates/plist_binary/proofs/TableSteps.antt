@@ -21,7 +21,7 @@ use Rattle.plist_object.specs.Spelled.{SpellItems, SpellPairs}
 use Rattle.plist_object.proofs.Uniqueness.{same_items}
 use Rattle.plist_value.specs.declared.budget.Budget.{Budget}
 use Rattle.plist_binary.specs.declared.fault.BinaryFault.{BinaryFault}
-use Rattle.plist_binary.specs.declared.fault.BinaryFault.TheVariants.{DuplicateKey, OutOfMemory}
+use Rattle.plist_binary.specs.declared.fault.BinaryFault.TheVariants.{DuplicateKey}
 use Rattle.plist_binary.specs.Paths.{Leads}
 use Rattle.plist_binary.specs.Readings.{ReadsItems, RefusesItems, texts, RefusesKeys, ReadsPairs, RefusesPairs}
 use Rattle.plist_binary.specs.Building.{PairsSpelled}
@@ -72,12 +72,6 @@ unsort f keys values levels rows ps long moved spell valid deep =
       payload_sum = payload-listed ps ∙ sym (sum_by-IsPermutation payload_of_pair (listed ps) (map shown rs) pairs_moved) ∙ payload-rows (map shown rs);
       distinct = distinct_moved (λ (p : List ℕ × Plist). p.0) (listed ps) (map shown rs) pairs_moved (keys_distinct ps valid);
     }
-
-pub RefusesPairs-memory : (f : List ℕ) (whole : Budget) (keys values : List ℕ) (levels : ℕ) (left : Budget) → RefusesPairs f whole keys values levels left OutOfMemory
-RefusesPairs-memory f whole keys values levels left = record {
-  stands = tt;
-  none = λ unless. absurd (unless refl);
-}
 
 -- the keys are refused
 pub RefusesPairs-keys : (f : List ℕ) (whole : Budget) (keys values : List ℕ) (levels : ℕ) (left : Budget) (fault : BinaryFault) → length keys ≡ length values → RefusesKeys f whole keys levels left fault → RefusesPairs f whole keys values levels left fault

@@ -50,8 +50,9 @@ pub struct JudgedFile<'a> {
     pub sorted: Option<SortedKeys<'a>>,
 }
 
-/// The same as [`judge`], and it answers the file and, of its longest table of more than 64 keys,
-/// the keys in the order of their texts: whoever needs them need not sort them again.
+/// Judges as [`judge`] does, and answers the file and, of its longest table of more than 64 keys,
+/// if there is one, the keys in the order of their texts: whoever needs them need neither read the
+/// layout nor sort the keys again.
 ///
 /// # Errors
 ///

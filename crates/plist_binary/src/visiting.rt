@@ -3,6 +3,11 @@ ghost use Rattle.std.specs.Prelude.{◌≡◌, ◌+◌, ◌<◌, ◌≤◌, ◌�
 ghost use Rattle.std.specs.Prelude.{IfNone};
 ghost use Rattle.std.proofs.Props.{props};
 ghost use Rattle.plist_value.specs.Plist.{scalar as scalar_value, text};
+ghost use Rattle.plist_value.specs.declared.TheConstants.{MAX_DEPTH};
+ghost use Rattle.plist_value.specs.Budget.{Spends};
+ghost use Rattle.plist_value.specs.Limits.{payload_of_scalar};
+ghost use Rattle.plist_value.specs.Scalars.{content_of};
+ghost use Rattle.plist_value.specs.Texts.{units_of};
 ghost use Rattle.plist_object.specs.Layout.{IsLaid, trailer_of};
 ghost use Rattle.plist_object.specs.Objects.{IsHeld, holds_scalar};
 ghost use Rattle.plist_object.specs.Places.{what_holds};
@@ -13,11 +18,6 @@ ghost use Rattle.plist_binary.specs.Faults.{IsText};
 ghost use Rattle.plist_binary.specs.Progress.{IsProgress};
 ghost use Rattle.plist_binary.specs.Paths.{containers_of, IsKeyOf};
 ghost use Rattle.plist_binary.specs.Readings.{Refuses, Reads, RefusesKey};
-ghost use Rattle.plist_value.specs.declared.TheConstants.{MAX_DEPTH};
-ghost use Rattle.plist_value.specs.Budget.{Spends};
-ghost use Rattle.plist_value.specs.Limits.{payload_of_scalar};
-ghost use Rattle.plist_value.specs.Scalars.{content_of};
-ghost use Rattle.plist_value.specs.Texts.{units_of};
 
 use crate::BinaryFault;
 use crate::memos::{State, state_at};
