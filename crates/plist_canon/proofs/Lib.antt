@@ -20,11 +20,10 @@ pub mod Local
 mod RuleRows
 pub mod Weighing
 pub mod Visiting
-pub mod Leading
-pub mod Paths
 pub mod Judges
 pub mod Meeting
 pub mod TableParts
 pub mod Spending
-pub mod Paying
+pub mod Walking
+pub mod Paths
 pub mod Ranked

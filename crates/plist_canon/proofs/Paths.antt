@@ -1,165 +1,145 @@
--- The path of the walk, as its last references are visited.
-use Rattle.std.proofs.Common.{◌≡◌, ℕ, suc, ◌<◌, List, [], ◌∷◌, ◌++◌, length, drop, true, false, refl, sym, ap, subst, ◌∙◌, append_assoc, arith, Some, None}
-use Rattle.std.specs.Prelude.{◌↔◌, ◌≢◌}
-use Rattle.std.proofs.lemmas.List.{append-nil}
-use Rattle.plist_object.specs.Layout.{trailer_of}
-use Rattle.plist_object.specs.Objects.{Held, holds_scalar, holds_list, holds_table}
+-- The walk goes on along its path, and takes from the limits.
+use Rattle.std.proofs.Common.{◌≡◌, ℕ, suc, ◌+◌, ◌-◌, ◌<◌, ◌≤◌, List, [], ◌∷◌, ◌++◌, length, drop, refl, sym, ap, subst, ◌∙◌, arith, Some, None, inl, inr}
+use Rattle.std.specs.Prelude.{slice_index, slice_index_or}
+use Rattle.std.proofs.lemmas.Bool.{true≢false}
+use Rattle.std.proofs.lemmas.List.{drop_more, drop_all}
+use Rattle.plist_value.specs.Plist.{AreOctets}
+use Rattle.plist_value.specs.declared.TheConstants.{MAX_NODES, MAX_DEPTH, MAX_PAYLOAD}
+use Rattle.plist_value.specs.declared.budget.Budget.{Budget}
+use Rattle.plist_object.specs.Objects.{holds_scalar, holds_list, holds_table}
 use Rattle.plist_object.specs.Places.{Holds}
 use Rattle.plist_object.specs.Views.{numbers_of}
 use Rattle.plist_object.specs.declared.refs.Refs.{Refs}
-use Rattle.plist_canon.specs.declared.preorder.Frame.{Frame}
-use Rattle.plist_canon.specs.declared.preorder.Visit.{Visit}
-use Rattle.plist_object.specs.References.{references_of}
-use Rattle.plist_canon.specs.Rules.{HoldsScalar, IsWellRead, IsNumberedInPreorder, Reference, held_by, ComesTo, begins, meets, TurnsAt, IsBroken, breaks_c7, leaves_over}
-use Rattle.plist_canon.specs.Preorders.{CanFinish, part_of, numbers, frame_left, path_left, new_frame, IsKnown, LeadsTo, LeadsOn, visited, Visits, Enters, IsWalking}
+use Rattle.plist_canon.specs.Rules.{HoldsScalar, HasAscendingKeys}
 use Rattle.plist_canon.specs.declared.weights.Weight.{Weight}
-use Rattle.plist_canon.specs.Weights.{AreWeights}
-use Rattle.plist_canon.proofs.Weighing.{scalar-Weighs}
-use Rattle.plist_canon.proofs.Leading.{LeadsOn-append, LeadsOn-trans, LeadsTo-held, held_by-append}
-use Rattle.plist_canon.proofs.Visiting.{CanFinish-all, CanFinish-none, CanFinish-new, CanFinish-other, CanFinish-over, CanFinish-leads, ComesTo-leads}
+use Rattle.plist_canon.specs.declared.weights.Weight.TheVariants.{Container}
+use Rattle.plist_canon.specs.declared.preorder.Frame.{Frame}
+use Rattle.plist_canon.specs.declared.progress.Progress.{Progress}
+use Rattle.plist_canon.specs.Weights.{Weighs, AreAllWeights}
+use Rattle.plist_canon.specs.Preorders.{Group, grouped, groups_of, frame_group, path_groups, references_left, new_frame, IsWalking, IsNoneMet, Advances, Enters}
+use Rattle.plist_canon.specs.Owing.{Pays}
+use Rattle.plist_canon.specs.Steps.{Stands, Passes, GoesOn, GroupGoesOn, FrameGoesOn}
+use Rattle.plist_canon.proofs.Weighing.{Weighs-scalar, scalar-Weighs}
+use Rattle.plist_canon.proofs.Walking.{IsWalking-start, IsWalking-passed, IsWalking-met}
+use Rattle.plist_canon.proofs.Spending.{Owes-passed, Owes-popped, Owes-parted, Owes-start, Owes-entered}
 
-path_left-push : (frames : List Frame) (frame : Frame) → path_left (frames ++ (frame ∷ [])) ≡ frame_left frame ++ path_left frames
-path_left-push [] frame = sym (append-nil (frame_left frame))
-path_left-push (first ∷ frames) frame =
-    ap (λ xs. xs ++ frame_left first) (path_left-push frames frame) ∙ append_assoc (frame_left frame) (path_left frames) (frame_left first)
+path_groups-push : (frames : List Frame) (frame : Frame) → path_groups (frames ++ (frame ∷ [])) ≡ frame_group frame ∷ path_groups frames
+path_groups-push [] frame = refl
+path_groups-push (first ∷ frames) frame =
+    ap (λ groups. groups ++ (frame_group first ∷ [])) (path_groups-push frames frame)
 
--- the last references of the path were all passed
-pub LeadsOn-popped : (weights : List Weight) (refs : List Reference) (items left : List Frame) (frame : Frame) → items ≡ left ++ (frame ∷ []) → LeadsOn weights refs (path_left items) → LeadsTo weights (drop frame.done (numbers_of frame.refs)) [] → LeadsOn weights refs (path_left left)
-LeadsOn-popped weights refs items left frame is leads ends =
-    let split : path_left items ≡ frame_left frame ++ path_left left = ap path_left is ∙ path_left-push left frame in
-    let here = LeadsTo-held weights frame.owner (drop frame.done (numbers_of frame.refs)) [] ends in
-    LeadsOn-trans weights refs (path_left items) (path_left left) leads
-    (subst (λ (xs : List Reference). LeadsOn weights xs (path_left left)) (sym split) (LeadsOn-append weights (frame_left frame) [] (path_left left) here))
+module _ (f : List ℕ) (number levels : ℕ) (old : List Frame) where
+  pub Enters-scalar : HoldsScalar f number → Enters f number levels old old
+  Enters-scalar held = record { held = holds_scalar held.0; holds = held.1; groups = refl }
 
--- the references of a frame, of which so many were visited
-abbrev pub stepped : Frame → ℕ → Frame
-stepped frame done = record { owner = frame.owner; levels = frame.levels; refs = frame.refs; done = done }
-
--- the last references of the path lead to one that is not known
-pub LeadsOn-visited : (weights : List Weight) (refs : List Reference) (items left new : List Frame) (frame : Frame) (done i : ℕ) → items ≡ left ++ (frame ∷ []) → new ≡ left ++ (stepped frame done ∷ []) → LeadsOn weights refs (path_left items) → LeadsTo weights (drop frame.done (numbers_of frame.refs)) (i ∷ drop done (numbers_of frame.refs)) → LeadsOn weights refs (record { holder = frame.owner; number = i } ∷ path_left new)
-LeadsOn-visited weights refs items left new frame done i is new_is leads ahead =
-    let after = stepped frame done in
-    let first : Reference = record { holder = frame.owner; number = i } in
-    let split : path_left items ≡ frame_left frame ++ path_left left = ap path_left is ∙ path_left-push left frame in
-    let after_split : path_left new ≡ frame_left after ++ path_left left = ap path_left new_is ∙ path_left-push left after in
-    let here = LeadsTo-held weights frame.owner (drop frame.done (numbers_of frame.refs)) (i ∷ drop done (numbers_of frame.refs)) ahead in
-    let appended = LeadsOn-append weights (frame_left frame) (first ∷ frame_left after) (path_left left) here in
-    LeadsOn-trans weights refs (path_left items) (first ∷ path_left new) leads
-    (subst (λ (xs : List Reference). LeadsOn weights xs (first ∷ path_left new)) (sym split)
-    (subst (λ (xs : List Reference). LeadsOn weights (frame_left frame ++ path_left left) (first ∷ xs)) (sym after_split) appended))
-
-module _ (f : List ℕ) (number : ℕ) (old : List Frame) (held : Held) (holds : Holds f number held) where
-  parts : (new : List Frame) → path_left new ≡ held_by number (part_of false held) ++ (held_by number (part_of true held) ++ path_left old) → Enters f number old new
-  parts new left = rw holds.reads left
-
-  pub Enters-none : part_of false held ≡ [] → part_of true held ≡ [] → Enters f number old old
-  Enters-none none_first none_second =
-      parts old (sym (ap (λ xs. held_by number xs ++ (held_by number (part_of true held) ++ path_left old)) none_first ∙ ap (λ xs. held_by number xs ++ path_left old) none_second))
-
-  pub Enters-one : (new : List Frame) (levels : ℕ) (refs : Refs) → part_of false held ≡ numbers_of refs → part_of true held ≡ [] → new ≡ old ++ (new_frame number levels refs ∷ []) → Enters f number old new
-  Enters-one new levels refs first none is =
-      parts new (ap path_left is ∙ path_left-push old (new_frame number levels refs) ∙ ap (λ xs. held_by number xs ++ path_left old) (sym first) ∙ ap (λ xs. held_by number (part_of false held) ++ (held_by number xs ++ path_left old)) (sym none))
-
-  pub Enters-two : (mid new : List Frame) (levels : ℕ) (keys values : Refs) → part_of false held ≡ numbers_of keys → part_of true held ≡ numbers_of values → mid ≡ old ++ (new_frame number levels values ∷ []) → new ≡ mid ++ (new_frame number levels keys ∷ []) → Enters f number old new
-  Enters-two mid new levels keys values first second mid_is new_is =
-      let mid_left : path_left mid ≡ held_by number (part_of true held) ++ path_left old = ap path_left mid_is ∙ path_left-push old (new_frame number levels values) ∙ ap (λ xs. held_by number xs ++ path_left old) (sym second) in
-      parts new (ap path_left new_is ∙ path_left-push mid (new_frame number levels keys) ∙ ap (λ xs. held_by number xs ++ path_left mid) (sym first) ∙ ap (λ xs. held_by number (part_of false held) ++ xs) mid_left)
-
--- a scalar has no references
-pub Enters-scalar : (f : List ℕ) (number : ℕ) (old : List Frame) → HoldsScalar f number → Enters f number old old
-Enters-scalar f number old scalar = Enters-none f number old (holds_scalar scalar.0) scalar.1 refl refl
-
-both-parts : (number : ℕ) (held : Held) (rest : List Reference) → held_by number (references_of held) ++ rest ≡ held_by number (part_of false held) ++ (held_by number (part_of true held) ++ rest)
-both-parts number (holds_scalar s) rest = refl
-both-parts number (holds_list refs) rest = refl
-both-parts number (holds_table keys values) rest =
-    ap (λ xs. xs ++ rest) (held_by-append number keys values) ∙ append_assoc (held_by number keys) (held_by number values) rest
-
-entered-left : (f : List ℕ) (number : ℕ) (old new : List Frame) (held : Held) → Holds f number held → Enters f number old new → path_left new ≡ held_by number (references_of held) ++ path_left old
-entered-left f number old new held holds enters =
-    let left = rw holds.reads at enters in
-    left ∙ sym (both-parts number held (path_left old))
-
-numbers-held : (holder : ℕ) (refs : List ℕ) (rest : List Reference) → numbers (held_by holder refs ++ rest) ≡ refs ++ numbers rest
-numbers-held holder [] rest = refl
-numbers-held holder (i ∷ refs) rest = ap (λ xs. i ∷ xs) (numbers-held holder refs rest)
-
-pub IsWalking-start : (f : List ℕ) (path : List Frame) → IsWellRead f 0 → Enters f 0 [] path → IsWalking f 1 path
-IsWalking-start f path read enters =
-    let all = CanFinish-all f in
-    let new = CanFinish-new f [] 0 read.held read.holds in
-    let refs = references_of read.held in
-    let is : path_left path ≡ held_by 0 refs ++ [] = entered-left f 0 [] path read.held read.holds enters in
-    let numbered_is : numbers (path_left path) ≡ refs ++ [] = ap numbers is ∙ numbers-held 0 refs [] in
-    record {
-      comes = subst (λ (left : List Reference). ComesTo f 1 left) (sym (is ∙ append-nil (held_by 0 refs))) (begins read.held read.holds);
-      finishes = subst (λ (left : List ℕ). IsNumberedInPreorder f ↔ CanFinish f left 1) (sym numbered_is) (λ numbered. new.0 (all.0 numbered), λ can. all.1 (new.1 can));
-    }
-
-module _ (f : List ℕ) (number : ℕ) (path mid : List Frame) (weights : List Weight) (weighed : AreWeights f weights)
-    (counted : length weights ≡ number) (walking : IsWalking f number path) where
-  leads_on : (left : List Reference) → LeadsOn weights (path_left path) left → IsNumberedInPreorder f ↔ CanFinish f (numbers left) number
-  leads_on left leads =
-      let finishes = walking.finishes in
-      let on = subst (λ (n : ℕ). CanFinish f (numbers (path_left path)) n ↔ CanFinish f (numbers left) n) counted (CanFinish-leads f (path_left path) left weights weighed leads) in
-      (λ numbered. on.0 (finishes.0 numbered), λ can. finishes.1 (on.1 can))
-
-  comes_on : (left : List Reference) → LeadsOn weights (path_left path) left → ComesTo f number left
-  comes_on left leads =
-      let before = subst (λ (n : ℕ). ComesTo f n (path_left path)) (sym counted) walking.comes in
-      subst (λ (n : ℕ). ComesTo f n left) counted (ComesTo-leads f (path_left path) left weights weighed leads before)
-
-  unknown : (i : ℕ) → ¬ IsKnown weights i → i < number → ¬ HoldsScalar f i
-  unknown i not_known below scalar =
-      let inside : i < length weights = omega arith in
-      not_known (inside, scalar-Weighs f i _ (weighed i inside) scalar)
-
-  pub IsWalking-step : (visit : Visit) (new : List Frame) → Visits weights path mid (Some visit) → visit.reference ≡ number → IsWellRead f number → Enters f number mid new → IsWalking f (suc number) new
-  IsWalking-step visit new visits is read enters =
-      let refs = references_of read.held in
-      let next : Reference = record { holder = visit.owner; number = number } in
-      let leads = subst (λ (i : ℕ). LeadsOn weights (path_left path) (record { holder = visit.owner; number = i } ∷ path_left mid)) is visits.0 in
-      let here = leads_on (next ∷ path_left mid) leads in
-      let fresh = CanFinish-new f (numbers (path_left mid)) number read.held read.holds in
-      let left : path_left new ≡ held_by number refs ++ path_left mid = entered-left f number mid new read.held read.holds enters in
-      let numbered_left : numbers (path_left new) ≡ refs ++ numbers (path_left mid) = ap numbers left ∙ numbers-held number refs (path_left mid) in
-      record {
-        comes = subst (λ (on : List Reference). ComesTo f (suc number) on) (sym left) (meets number visit.owner read.held (path_left mid) (comes_on (next ∷ path_left mid) leads) read.holds);
-        finishes = subst (λ (on : List ℕ). IsNumberedInPreorder f ↔ CanFinish f on (suc number)) (sym numbered_left) (λ numbered. fresh.0 (here.0 numbered), λ can. here.1 (fresh.1 can));
-      }
-
-  turns : (visit : Visit) → Visits weights path mid (Some visit) → ¬ ((visit.reference ≡ number) × (number < (trailer_of f).count)) → TurnsAt f visit.owner
-  turns visit visits other = record {
-    met = number;
-    number = visit.reference;
-    left = path_left mid;
-    comes = comes_on (visited visit ∷ path_left mid) visits.0;
-    other = other;
-    known = λ below. unknown visit.reference visits.1 below;
+  pub Enters-list : (new : List Frame) (below : ℕ) (refs : Refs) → below ≡ levels - 1 → Holds f number (holds_list (numbers_of refs)) → new ≡ old ++ (new_frame number below refs ∷ []) → Enters f number levels old new
+  Enters-list new below refs less holds is = record {
+    held = holds_list (numbers_of refs);
+    holds = holds;
+    groups = ap path_groups is ∙ path_groups-push old (new_frame number below refs) ∙ ap (λ n. grouped number n (numbers_of refs) ∷ path_groups old) less;
   }
 
-  pub IsWalking-other : (visit : Visit) → Visits weights path mid (Some visit) → visit.reference ≢ number → IsBroken f 7 visit.owner
-  IsWalking-other visit visits other =
-      let here = leads_on (visited visit ∷ path_left mid) visits.0 in
-      breaks_c7 visit.owner (λ numbered. CanFinish-other f visit.reference (numbers (path_left mid)) number other (λ below. unknown visit.reference visits.1 below) (here.0 numbered))
-      (turns visit visits (λ next. other next.0))
+  pub Enters-table : (mid new : List Frame) (below : ℕ) (keys values : Refs) → below ≡ levels - 1 → Holds f number (holds_table (numbers_of keys) (numbers_of values)) → mid ≡ old ++ (new_frame number below values ∷ []) → new ≡ mid ++ (new_frame number below keys ∷ []) → Enters f number levels old new
+  Enters-table mid new below keys values less holds mid_is new_is = record {
+    held = holds_table (numbers_of keys) (numbers_of values);
+    holds = holds;
+    groups = ap path_groups new_is ∙ path_groups-push mid (new_frame number below keys) ∙ ap (λ groups. grouped number below (numbers_of keys) ∷ groups) (ap path_groups mid_is ∙ path_groups-push old (new_frame number below values)) ∙ ap (λ n. grouped number n (numbers_of keys) ∷ grouped number n (numbers_of values) ∷ path_groups old) less;
+  }
 
-  pub IsWalking-none : Visits weights path mid None → number < (trailer_of f).count → IsBroken f 7 0
-  IsWalking-none visits below =
-      let here = leads_on [] visits in
-      leaves_over (λ numbered. (let all = (CanFinish-none f number).0 (here.0 numbered) in omega arith))
-      (record { met = number; comes = comes_on [] visits; over = below })
+module _ (f : List ℕ) (weight : Weight) (octets : AreOctets f) where
+  -- object 0 was entered
+  pub Stands-start : (whole : Budget) (progress : Progress) (new : List Frame) → whole.nodes ≡ MAX_NODES → whole.payload ≡ MAX_PAYLOAD → Weighs f 0 weight → HasAscendingKeys f 0 → progress.met ≡ 1 → Enters f 0 MAX_DEPTH [] new → Pays MAX_DEPTH weight (Some whole) progress.left → Stands f progress (path_groups new)
+  Stands-start whole progress new nodes_are payload_is weighs ascending is enters pays =
+      let held = enters.held in
+      let groups = groups_of 0 (MAX_DEPTH - 1) held ++ [] in
+      let walking : IsWalking f progress.met (references_left groups) = rw is (IsWalking-start f (MAX_DEPTH - 1) held enters.holds) in
+      let owed = Owes-entered f 0 MAX_DEPTH 0 [] weight weighs ascending octets held (Some whole) progress.left enters.holds pays (Owes-start f whole nodes_are payload_is) in
+      subst (λ (gs : List Group). Stands f progress gs) (sym enters.groups) (record { walking = walking; owed = owed })
 
-  pub IsWalking-over : (visit : Visit) → Visits weights path mid (Some visit) → number ≡ (trailer_of f).count → IsBroken f 7 visit.owner
-  IsWalking-over visit visits all =
-      let here = leads_on (visited visit ∷ path_left mid) visits.0 in
-      let refs = numbers (path_left mid) in
-      breaks_c7 visit.owner
-      (λ numbered. CanFinish-over f visit.reference refs (λ below. unknown visit.reference visits.1 (omega (arith, below)))
-      (subst (λ (n : ℕ). CanFinish f (visit.reference ∷ refs) n) all (here.0 numbered)))
-      (turns visit visits (λ next. (let below = next.1 in absurd (omega arith))))
+  -- the next object was entered
+  pub Stands-entered : (owner levels : ℕ) (before after : Progress) (old new : List Frame) → Weighs f before.met weight → HasAscendingKeys f before.met → after.met ≡ suc before.met → Enters f before.met levels old new → Pays levels weight before.left after.left → Stands f before (grouped owner levels (before.met ∷ []) ∷ path_groups old) → Stands f after (path_groups new)
+  Stands-entered owner levels before after old new weighs ascending is enters pays stands =
+      let held = enters.held in
+      let outer = path_groups old in
+      let groups = groups_of before.met (levels - 1) held ++ outer in
+      let walking : IsWalking f after.met (references_left groups) = rw is (IsWalking-met f before.met owner outer (levels - 1) held stands.walking enters.holds) in
+      let owed = Owes-entered f owner levels before.met outer weight weighs ascending octets held before.left after.left enters.holds pays stands.owed in
+      subst (λ (gs : List Group). Stands f after gs) (sym enters.groups) (record { walking = walking; owed = owed })
 
-  pub IsWalking-done : Visits weights path mid None → number ≡ (trailer_of f).count → IsNumberedInPreorder f
-  IsWalking-done visits all =
-      let here = leads_on [] visits in
-      here.1 ((CanFinish-none f number).1 all)
+module _ (f : List ℕ) (weights : List Weight) (all : AreAllWeights f weights) (owner levels i : ℕ) (refs : List ℕ) (outer : List Group)
+    (before after : Progress) (passes : Passes weights levels i before after) (stands : Stands f before (grouped owner levels (i ∷ refs) ∷ outer)) where
+  weighs : Weighs f i (slice_index_or weights i Container)
+  weighs = all.each i passes.listed
+
+  is_scalar : HoldsScalar f i
+  is_scalar = Weighs-scalar f i _ weighs passes.is_scalar
+
+  walking_past : IsWalking f after.met (references_left (grouped owner levels refs ∷ outer))
+  walking_past =
+      let rest = grouped owner levels refs ∷ outer in
+      elim passes.meets [
+        | inl known ↦ subst (λ (n : ℕ). IsWalking f n (references_left rest)) (sym known.1)
+            (IsWalking-passed f before.met owner i (references_left rest) stands.walking known.0 is_scalar)
+        | inr fresh ↦ (
+            let here : IsWalking f before.met (references_left (grouped owner levels (before.met ∷ refs) ∷ outer)) =
+            subst (λ (n : ℕ). IsWalking f before.met (references_left (grouped owner levels (n ∷ refs) ∷ outer))) fresh.0 stands.walking in
+            let holds = subst (λ (n : ℕ). Holds f n (holds_scalar is_scalar.0)) fresh.0 is_scalar.1 in
+            subst (λ (n : ℕ). IsWalking f n (references_left rest)) (sym fresh.1)
+            (IsWalking-met f before.met owner rest 0 (holds_scalar is_scalar.0) here holds))
+      ]
+
+  -- a scalar is passed
+  pub Stands-passed : Stands f after (grouped owner levels refs ∷ outer)
+  Stands-passed = record {
+    walking = walking_past;
+    owed = Owes-passed f owner levels i refs outer (slice_index_or weights i Container) weighs before.left after.left is_scalar passes.pays stands.owed;
+  }
+
+module _ (weights : List Weight) (first : Group) (owner levels : ℕ) (refs : List ℕ) (k : ℕ) (before here : Progress)
+    (to : GroupGoesOn weights first before (grouped owner levels (drop k refs)) here) where
+  pub GoesOn-here : k < length refs → GroupGoesOn weights first before (grouped owner levels (slice_index refs k ∷ drop (k + 1) refs)) here
+  GoesOn-here below outer f weighed stands =
+      subst (λ (rs : List ℕ). Stands f here (grouped owner levels rs ∷ outer)) (drop_more refs k 0 below) (to outer f weighed stands)
+
+  pub GoesOn-past : (after : Progress) → k < length refs → Passes weights levels (slice_index refs k) here after → GroupGoesOn weights first before (grouped owner levels (drop (k + 1) refs)) after
+  GoesOn-past after below passes outer f weighed stands =
+      Stands-passed f weights weighed owner levels (slice_index refs k) (drop (k + 1) refs) outer here after passes (GoesOn-here below outer f weighed stands)
+
+  pub GoesOn-end : length refs ≤ k → (outer : List Group) → GoesOn weights (first ∷ outer) before outer here
+  GoesOn-end past outer f weighed stands =
+      let none = subst (λ (rs : List ℕ). Stands f here (grouped owner levels rs ∷ outer)) (drop_all k refs past) (to outer f weighed stands) in
+      record { walking = none.walking; owed = Owes-popped f owner levels outer here.left none.owed }
+
+module _ (weights : List Weight) (groups : List Group) (before mid after : Progress) (items left : List Frame) (frame : Frame)
+    (is : items ≡ left ++ (frame ∷ [])) (on : GoesOn weights groups before (path_groups items) mid) where
+  split : (f : List ℕ) → AreAllWeights f weights → Stands f before groups → Stands f mid (frame_group frame ∷ path_groups left)
+  split f weighed stands =
+      subst (λ (gs : List Group). Stands f mid gs) (ap path_groups is ∙ path_groups-push left frame) (on f weighed stands)
+
+  -- the walk went past the last references of the path
+  pub GoesOn-popped : FrameGoesOn weights frame mid None after → GoesOn weights groups before (path_groups left) after
+  GoesOn-popped ends f weighed stands = ends (path_groups left) f weighed (split f weighed stands)
+
+  -- it came to one of them
+  pub GoesOn-visited : (new : List Frame) (done i : ℕ) → new ≡ left ++ (record frame { done = done } ∷ []) → FrameGoesOn weights frame mid (Some (done, i)) after → GoesOn weights groups before (grouped frame.owner frame.levels (i ∷ []) ∷ path_groups new) after
+  GoesOn-visited new done i new_is ahead f weighed stands =
+      let rest = drop done (numbers_of frame.refs) in
+      let here = ahead (path_groups left) f weighed (split f weighed stands) in
+      let there : grouped frame.owner frame.levels rest ∷ path_groups left ≡ path_groups new = sym (ap path_groups new_is ∙ path_groups-push left (record frame { done = done })) in
+      subst (λ (gs : List Group). Stands f after (grouped frame.owner frame.levels (i ∷ []) ∷ gs)) there
+      (record { walking = here.walking; owed = Owes-parted f frame.owner frame.levels i rest (path_groups left) after.left here.owed })
+
+-- the object of a number that is not that of a scalar among those that were met holds none
+pub none_met : (f : List ℕ) (weights : List Weight) (met i : ℕ) → AreAllWeights f weights → met ≤ length weights → IsNoneMet weights met i → i < met → ¬ HoldsScalar f i
+none_met f weights met i all most none below scalar =
+    let listed : i < length weights = omega arith in
+    true≢false (sym (scalar-Weighs f i _ (all.each i listed) scalar) ∙ none below listed)
+
+pub Advances-passed : (weights : List Weight) (levels i start : ℕ) (before after : Progress) → Advances weights start before.met → Passes weights levels i before after → Advances weights start after.met
+Advances-passed weights levels i start before after old passes =
+    let listed = passes.listed in
+    let least = old.least in
+    elim passes.meets [
+      | inl known ↦ (let is = known.1 in record { least = omega arith; most = λ below. (let most = old.most below in omega arith) })
+      | inr fresh ↦ (let is = fresh.1 in let here = fresh.0 in record { least = omega arith; most = λ below. (omega arith) })
+    ]

@@ -1,25 +1,21 @@
 -- What the walk spends of the limits.
-use Rattle.std.proofs.Common.{◌≡◌, ℕ, ◌+◌, ◌-◌, ◌<◌, ◌≤◌, max, List, [], ◌∷◌, ◌++◌, length, refl, sym, ap, subst, ◌∙◌, arith, Some, None}
-use Rattle.std.specs.Prelude.{slice_index, Option}
-use Rattle.std.proofs.lemmas.List.{drop_more, drop_all}
+use Rattle.std.proofs.Common.{◌≡◌, ℕ, ◌+◌, ◌-◌, ◌≤◌, max, List, [], ◌∷◌, ◌++◌, length, refl, sym, ap, subst, ◌∙◌, arith, Some, None}
+use Rattle.std.specs.Prelude.{Option}
 use Rattle.plist_value.specs.Plist.{AreOctets, Scalar, Plist, scalar, list, table, Items, no_items, item, Pairs, IsPlist, AreItems, ArePairs}
 use Rattle.plist_value.specs.Limits.{Fits, nodes, depth, payload, payload_of_scalar, nodes_of_items, depth_of_items, payload_of_items, nodes_of_pairs, depth_of_pairs, payload_of_pairs}
 use Rattle.plist_value.specs.declared.TheConstants.{MAX_NODES, MAX_DEPTH, MAX_PAYLOAD}
 use Rattle.plist_object.specs.Objects.{IsHeld, Held, holds_scalar, holds_list, holds_table}
 use Rattle.plist_object.specs.Places.{Holds}
 use Rattle.plist_object.specs.Spelled.{Spells, SpellItems}
-use Rattle.plist_object.specs.Views.{numbers_of}
-use Rattle.plist_object.specs.declared.refs.Refs.{Refs}
 use Rattle.plist_object.proofs.Uniqueness.{same_held}
 use Rattle.plist_object.proofs.HeldRanges.{Holds-held}
 use Rattle.plist_value.specs.declared.budget.Budget.{Budget}
 use Rattle.plist_value.specs.Budget.{Spends, IsOver}
 use Rattle.plist_canon.specs.Rules.{HoldsScalar, HasAscendingKeys}
 use Rattle.plist_canon.specs.declared.weights.Weight.{Weight}
-use Rattle.plist_canon.specs.declared.preorder.Frame.{Frame}
 use Rattle.plist_canon.specs.Weights.{weight_of, payload_of_weight, Weighs}
-use Rattle.plist_canon.specs.Preorders.{new_frame}
-use Rattle.plist_canon.specs.Owing.{Group, grouped, path_groups, groups_of, Deepens, Named, AllNamed, nodes_named, payload_named, AreWithin, IsSpent, Owes, Pays}
+use Rattle.plist_canon.specs.Preorders.{Group, grouped, groups_of}
+use Rattle.plist_canon.specs.Owing.{Named, AllNamed, nodes_named, payload_named, AreWithin, Owes, Pays}
 use Rattle.plist_canon.proofs.KeyPairs.{put_texts}
 use Rattle.plist_canon.proofs.Weighing.{scalar-payload, Weighs-held}
 use Rattle.plist_canon.proofs.TableParts.{some_depth, some_nodes, table_parts}
@@ -148,9 +144,9 @@ moves f groups others None step owes = owes
 moves f groups others (Some left) step owes =
     spent_step f groups others left left 0 0 (record { nodes_left = omega arith; payload_left = omega arith }) step owes
 
-module _ (f : List ℕ) (levels i : ℕ) (refs : List ℕ) (outer : List Group) (weight : Weight) (weighs : Weighs f i weight) where
+module _ (f : List ℕ) (owner levels i : ℕ) (refs : List ℕ) (outer : List Group) (weight : Weight) (weighs : Weighs f i weight) where
   -- the first object is too deep or takes too much
-  passes_limit : (before : Budget) → (1 ≤ levels → IsOver before 1 (payload_of_weight weight)) → Owes f (grouped levels (i ∷ refs) ∷ outer) (Some before) → (v : Plist) → IsPlist v → Spells f 0 v → ¬ Fits v
+  passes_limit : (before : Budget) → (1 ≤ levels → IsOver before 1 (payload_of_weight weight)) → Owes f (grouped owner levels (i ∷ refs) ∷ outer) (Some before) → (v : Plist) → IsPlist v → Spells f 0 v → ¬ Fits v
   passes_limit before over owes v valid spells fits =
       let o = owes v valid spells in
       let first = o.named.0 in
@@ -169,13 +165,13 @@ module _ (f : List ℕ) (levels i : ℕ) (refs : List ℕ) (outer : List Group) 
       over (omega arith) (omega arith) (omega arith)
 
   -- the first object is paid for
-  paid : (others : List Group) (before after : Option Budget) → (1 ≤ levels → (named : AllNamed f (grouped levels (i ∷ refs) ∷ outer)) → Step f (grouped levels (i ∷ refs) ∷ outer) named others 1 (payload_of_weight weight)) → Pays levels weight before after → Owes f (grouped levels (i ∷ refs) ∷ outer) before → Owes f others after
+  paid : (others : List Group) (before after : Option Budget) → (1 ≤ levels → (named : AllNamed f (grouped owner levels (i ∷ refs) ∷ outer)) → Step f (grouped owner levels (i ∷ refs) ∷ outer) named others 1 (payload_of_weight weight)) → Pays levels weight before after → Owes f (grouped owner levels (i ∷ refs) ∷ outer) before → Owes f others after
   paid others None after step pays owes = subst (λ (left : Option Budget). Owes f others left) (sym pays) owes
   paid others (Some before) None step pays owes = passes_limit before pays owes
   paid others (Some before) (Some after) step pays owes =
-      spent_step f (grouped levels (i ∷ refs) ∷ outer) others before after 1 (payload_of_weight weight) pays.1 (step pays.0) owes
+      spent_step f (grouped owner levels (i ∷ refs) ∷ outer) others before after 1 (payload_of_weight weight) pays.1 (step pays.0) owes
 
-  scalar_step : HoldsScalar f i → 1 ≤ levels → (named : AllNamed f (grouped levels (i ∷ refs) ∷ outer)) → Step f (grouped levels (i ∷ refs) ∷ outer) named (grouped levels refs ∷ outer) 1 (payload_of_weight weight)
+  scalar_step : HoldsScalar f i → 1 ≤ levels → (named : AllNamed f (grouped owner levels (i ∷ refs) ∷ outer)) → Step f (grouped owner levels (i ∷ refs) ∷ outer) named (grouped owner levels refs ∷ outer) 1 (payload_of_weight weight)
   scalar_step held some named =
       let first = named.0 in
       let n = first_item f i refs first.items first.spelled in
@@ -196,11 +192,11 @@ module _ (f : List ℕ) (levels i : ℕ) (refs : List ℕ) (outer : List Group) 
       }
 
   -- a reference to a scalar is passed
-  pub Owes-passed : (before after : Option Budget) → HoldsScalar f i → Pays levels weight before after → Owes f (grouped levels (i ∷ refs) ∷ outer) before → Owes f (grouped levels refs ∷ outer) after
-  Owes-passed before after held = paid (grouped levels refs ∷ outer) before after (scalar_step held)
+  pub Owes-passed : (before after : Option Budget) → HoldsScalar f i → Pays levels weight before after → Owes f (grouped owner levels (i ∷ refs) ∷ outer) before → Owes f (grouped owner levels refs ∷ outer) after
+  Owes-passed before after held = paid (grouped owner levels refs ∷ outer) before after (scalar_step held)
 
-pub Owes-popped : (f : List ℕ) (levels : ℕ) (outer : List Group) (left : Option Budget) → Owes f (grouped levels [] ∷ outer) left → Owes f outer left
-Owes-popped f levels outer left = moves f (grouped levels [] ∷ outer) outer left (λ named.
+pub Owes-popped : (f : List ℕ) (owner levels : ℕ) (outer : List Group) (left : Option Budget) → Owes f (grouped owner levels [] ∷ outer) left → Owes f outer left
+Owes-popped f owner levels outer left = moves f (grouped owner levels [] ∷ outer) outer left (λ named.
     let first = named.0 in
     let none = no_items_left f first.items first.spelled in
     let e : nodes_of_items first.items ≡ 0 = ap nodes_of_items none in
@@ -215,8 +211,8 @@ Owes-popped f levels outer left = moves f (grouped levels [] ∷ outer) outer le
     })
 
 -- the first reference by itself
-pub Owes-parted : (f : List ℕ) (levels i : ℕ) (refs : List ℕ) (outer : List Group) (left : Option Budget) → Owes f (grouped levels (i ∷ refs) ∷ outer) left → Owes f (grouped levels (i ∷ []) ∷ grouped levels refs ∷ outer) left
-Owes-parted f levels i refs outer left = moves f (grouped levels (i ∷ refs) ∷ outer) (grouped levels (i ∷ []) ∷ grouped levels refs ∷ outer) left (λ named.
+pub Owes-parted : (f : List ℕ) (owner levels i : ℕ) (refs : List ℕ) (outer : List Group) (left : Option Budget) → Owes f (grouped owner levels (i ∷ refs) ∷ outer) left → Owes f (grouped owner levels (i ∷ []) ∷ grouped owner levels refs ∷ outer) left
+Owes-parted f owner levels i refs outer left = moves f (grouped owner levels (i ∷ refs) ∷ outer) (grouped owner levels (i ∷ []) ∷ grouped owner levels refs ∷ outer) left (λ named.
     let first = named.0 in
     let n = first_item f i refs first.items first.spelled in
     let both : AreItems (item n.value n.others) = subst AreItems n.is first.valid in
@@ -236,14 +232,14 @@ Owes-parted f levels i refs outer left = moves f (grouped levels (i ∷ refs) �
 
 -- what a list or a table takes, and what it holds
 record OpenedList (f refs : List ℕ) (v : Plist) : Type 0 where
-  items : Named f (grouped 0 refs)
+  items : Named f (grouped 0 0 refs)
   nodes_are : nodes v ≡ 1 + nodes_of_items items.items
   payload_is : payload v ≡ payload_of_items items.items
   depth_is : depth v ≡ 1 + depth_of_items items.items
 
 record OpenedTable (f keys values : List ℕ) (v : Plist) : Type 0 where
-  texts : Named f (grouped 0 keys)
-  items : Named f (grouped 0 values)
+  texts : Named f (grouped 0 0 keys)
+  items : Named f (grouped 0 0 values)
   nodes_are : nodes v ≡ 1 + (nodes_of_items texts.items + nodes_of_items items.items)
   payload_is : payload v ≡ payload_of_items texts.items + payload_of_items items.items
   depth_is : depth v ≡ 1 + depth_of_items items.items
@@ -273,11 +269,11 @@ opened_table f i keys values even holds ascending = by_table f i keys values (Op
       texts_deep = p.keys_deep;
     })
 
-module _ (f : List ℕ) (levels i : ℕ) (outer : List Group) (weight : Weight) (weighs : Weighs f i weight) (ascending : HasAscendingKeys f i) where
+module _ (f : List ℕ) (owner levels i : ℕ) (outer : List Group) (weight : Weight) (weighs : Weighs f i weight) (ascending : HasAscendingKeys f i) where
   abbrev before_it : List Group
-  before_it = grouped levels (i ∷ []) ∷ outer
+  before_it = grouped owner levels (i ∷ []) ∷ outer
 
-  opening : (held : Held) → Holds f i held → IsHeld held → 1 ≤ levels → (named : AllNamed f before_it) → Step f before_it named (groups_of (levels - 1) held ++ outer) 1 (payload_of_weight weight)
+  opening : (held : Held) → Holds f i held → IsHeld held → 1 ≤ levels → (named : AllNamed f before_it) → Step f before_it named (groups_of i (levels - 1) held ++ outer) 1 (payload_of_weight weight)
   opening (holds_scalar s) holds valid some named =
       let n = lone_item f i named.0.items named.0.valid named.0.spelled in
       let costs = scalar_costs f i weight s weighs holds n.value n.spells in
@@ -334,15 +330,12 @@ module _ (f : List ℕ) (levels i : ℕ) (outer : List Group) (weight : Weight) 
       }
 
   -- the object is met for the first time
-  pub Owes-entered : (octets : AreOctets f) (old new : List Frame) (before after : Option Budget) → Deepens f i levels old new → path_groups old ≡ outer → Pays levels weight before after → Owes f before_it before → Owes f (path_groups new) after
-  Owes-entered octets old new before after deepens is pays owes =
-      let valid = Holds-held f i deepens.held octets deepens.holds in
-      let there : groups_of (levels - 1) deepens.held ++ outer ≡ path_groups new = ap (λ groups. groups_of (levels - 1) deepens.held ++ groups) (sym is) ∙ sym deepens.groups in
-      subst (λ (groups : List Group). Owes f groups after) there
-      (paid f levels i [] outer weight weighs (groups_of (levels - 1) deepens.held ++ outer) before after (opening deepens.held deepens.holds valid) pays owes)
+  pub Owes-entered : (octets : AreOctets f) (held : Held) (before after : Option Budget) → Holds f i held → Pays levels weight before after → Owes f before_it before → Owes f (groups_of i (levels - 1) held ++ outer) after
+  Owes-entered octets held before after holds =
+      paid f owner levels i [] outer weight weighs (groups_of i (levels - 1) held ++ outer) before after (opening held holds (Holds-held f i held octets holds))
 
 -- before anything is walked
-pub Owes-start : (f : List ℕ) (whole : Budget) → whole.nodes ≡ MAX_NODES → whole.payload ≡ MAX_PAYLOAD → Owes f (grouped MAX_DEPTH (0 ∷ []) ∷ []) (Some whole)
+pub Owes-start : (f : List ℕ) (whole : Budget) → whole.nodes ≡ MAX_NODES → whole.payload ≡ MAX_PAYLOAD → Owes f (grouped 0 MAX_DEPTH (0 ∷ []) ∷ []) (Some whole)
 Owes-start f whole all_nodes all_payload v valid spells = record {
   named = (record { items = item v no_items; valid = (valid, tt); spelled = (spells, refl) }, tt);
   nodes_left = omega arith;

@@ -1,18 +1,14 @@
 -- What is left of a walk to finish, as its references are visited.
-use Rattle.std.proofs.Common.{◌≡◌, ℕ, suc, ◌<◌, List, [], ◌∷◌, ◌++◌, length, refl, sym, ap, subst, ◌∙◌, inl, inr, arith, append_assoc}
-use Rattle.std.specs.Prelude.{◌↔◌, ◌⊎◌, ◌≢◌}
-use Rattle.std.specs.List.{AllByRecursion}
+use Rattle.std.proofs.Common.{◌≡◌, ℕ, suc, ◌<◌, List, [], ◌∷◌, ◌++◌, refl, sym, ap, subst, ◌∙◌, inl, inr, arith, append_assoc}
+use Rattle.std.specs.Prelude.{◌↔◌, ◌⊎◌}
 use Rattle.std.proofs.lemmas.List.{append-nil}
 use Rattle.plist_object.specs.Layout.{trailer_of}
 use Rattle.plist_object.specs.Objects.{Held, holds_scalar}
 use Rattle.plist_object.specs.Places.{Holds}
 use Rattle.plist_object.proofs.Uniqueness.{same_held}
 use Rattle.plist_object.specs.References.{references_of}
-use Rattle.plist_canon.specs.Rules.{HoldsScalar, Walk, Walks, visit, end, step, MeetsInOrder, IsNumberedInPreorder, Reference, ComesTo, passes}
-use Rattle.plist_canon.specs.declared.weights.Weight.{Weight}
-use Rattle.plist_canon.specs.Weights.{AreWeights}
-use Rattle.plist_canon.proofs.Weighing.{Weighs-scalar}
-use Rattle.plist_canon.specs.Preorders.{CanFinish, numbers, IsKnown, LeadsOn}
+use Rattle.plist_canon.specs.Rules.{HoldsScalar, Walk, Walks, visit, end, step, MeetsInOrder, IsNumberedInPreorder}
+use Rattle.plist_canon.specs.Preorders.{CanFinish}
 
 -- a walk from an object, taken apart
 record Entered (f : List ℕ) (i : ℕ) (entries : List ℕ) : Type 0 where
@@ -166,47 +162,14 @@ CanFinish-known f i refs met below scalar = (
 )
 
 -- any other reference
-pub CanFinish-other : (f : List ℕ) (i : ℕ) (refs : List ℕ) (met : ℕ) → i ≢ met → (i < met → ¬ HoldsScalar f i) → ¬ CanFinish f (i ∷ refs) met
+pub CanFinish-other : (f : List ℕ) (i : ℕ) (refs : List ℕ) (met : ℕ) → ¬ ((i ≡ met) × (met < (trailer_of f).count)) → (i < met → ¬ HoldsScalar f i) → ¬ CanFinish f (i ∷ refs) met
 CanFinish-other f i refs met new known can =
     let n = next f i refs met can in
-    elim n.order [
-      | inl fresh ↦ new fresh.0
-      | inr again ↦ known again.0 again.1
-    ]
-
--- a reference that is left over
-pub CanFinish-over : (f : List ℕ) (i : ℕ) (refs : List ℕ) → (i < (trailer_of f).count → ¬ HoldsScalar f i) → ¬ CanFinish f (i ∷ refs) (trailer_of f).count
-CanFinish-over f i refs known can =
-    let n = next f i refs (trailer_of f).count can in
     let listed = n.holds.listed in
     elim n.order [
-      | inl fresh ↦ (let is = fresh.0 in omega arith)
+      | inl fresh ↦ (let is = fresh.0 in new (is, omega arith))
       | inr again ↦ known again.0 again.1
     ]
-
--- past known references
-pub CanFinish-passed : (f : List ℕ) (passed left : List Reference) (weights : List Weight) → AreWeights f weights → AllByRecursion (λ reference. IsKnown weights reference.number) passed → CanFinish f (numbers (passed ++ left)) (length weights) ↔ CanFinish f (numbers left) (length weights)
-CanFinish-passed f [] left weights weighed known = (λ can. can, λ can. can)
-CanFinish-passed f (reference ∷ passed) left weights weighed known =
-    let i = reference.number in
-    let first = CanFinish-known f i (numbers (passed ++ left)) (length weights) known.0.0 (Weighs-scalar f i _ (weighed i known.0.0) known.0.1) in
-    let rest = CanFinish-passed f passed left weights weighed known.1 in
-    (λ can. rest.0 (first.0 can), λ can. first.1 (rest.1 can))
-
-pub CanFinish-leads : (f : List ℕ) (refs left : List Reference) (weights : List Weight) → AreWeights f weights → LeadsOn weights refs left → CanFinish f (numbers refs) (length weights) ↔ CanFinish f (numbers left) (length weights)
-CanFinish-leads f refs left weights weighed leads =
-    subst (λ (rs : List Reference). CanFinish f (numbers rs) (length weights) ↔ CanFinish f (numbers left) (length weights)) (sym leads.split) (CanFinish-passed f leads.passed left weights weighed leads.known)
-
-ComesTo-passed : (f : List ℕ) (passed left : List Reference) (weights : List Weight) → AreWeights f weights → AllByRecursion (λ reference. IsKnown weights reference.number) passed → ComesTo f (length weights) (passed ++ left) → ComesTo f (length weights) left
-ComesTo-passed f [] left weights weighed known comes = comes
-ComesTo-passed f (reference ∷ passed) left weights weighed known comes =
-    let i = reference.number in
-    ComesTo-passed f passed left weights weighed known.1
-    (passes (length weights) reference.holder i (passed ++ left) comes known.0.0 (Weighs-scalar f i _ (weighed i known.0.0) known.0.1))
-
-pub ComesTo-leads : (f : List ℕ) (refs left : List Reference) (weights : List Weight) → AreWeights f weights → LeadsOn weights refs left → ComesTo f (length weights) refs → ComesTo f (length weights) left
-ComesTo-leads f refs left weights weighed leads comes =
-    ComesTo-passed f leads.passed left weights weighed leads.known (subst (λ (rs : List Reference). ComesTo f (length weights) rs) leads.split comes)
 
 -- at the start object 0 is to be visited
 pub CanFinish-all : (f : List ℕ) → IsNumberedInPreorder f ↔ CanFinish f (0 ∷ []) 0

@@ -1,8 +1,8 @@
 -- The weights of objects.
-use Rattle.std.proofs.Common.{◌≡◌, ℕ, ◌+◌, ◌<◌, ◌≤◌, List, [], ◌∷◌, ◌++◌, length, take, true, refl, sym, ap, subst, ◌∙◌, arith, length-append, inl, inr}
+use Rattle.std.proofs.Common.{◌≡◌, ℕ, ◌+◌, ◌<◌, List, [], ◌∷◌, ◌++◌, length, true, refl, sym, ap, subst, ◌∙◌, arith, length-append, inl, inr}
 use Rattle.std.specs.Prelude.{slice_index_or}
 use Rattle.std.proofs.lemmas.Bool.{cases_lt, true≢false}
-use Rattle.std.proofs.lemmas.List.{get_or_append_left, get_or_push, get_or-take, length-take-le}
+use Rattle.std.proofs.lemmas.List.{get_or_append_left, get_or_push}
 use Rattle.plist_value.specs.Plist.{Scalar, text, whole, flag, real4, real8, moment, bytes}
 use Rattle.plist_value.specs.Limits.{payload_of_scalar}
 use Rattle.plist_object.specs.Layout.{trailer_of}
@@ -73,12 +73,3 @@ pub AreAllWeights-at : (f : List ℕ) (weights : List Weight) → AreAllWeights 
 AreAllWeights-at f weights all i below =
     let counted = all.all in
     all.each i (omega arith)
-
--- the weights of the objects below the number
-pub AreAllWeights-front : (f : List ℕ) (weights : List Weight) (number : ℕ) → AreAllWeights f weights → number ≤ (trailer_of f).count → AreWeights f (take number weights) × (length (take number weights) ≡ number)
-AreAllWeights-front f weights number all most =
-    let counted = all.all in
-    let long : length (take number weights) ≡ number = length-take-le number weights (omega arith) in (
-      λ i below. rw (get_or-take number weights i Container (omega arith)) (all.each i (omega arith)),
-      long,
-    )

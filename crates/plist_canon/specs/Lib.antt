@@ -14,3 +14,4 @@ pub mod Weights
 pub mod Small
 pub mod Preorders
 pub mod Owing
+pub mod Steps

@@ -1,18 +1,17 @@
 //! The walk in preorder from object 0.
-ghost use Rattle.std.specs.Prelude.{◌≡◌, ◌↔◌, ◌<◌, ◌-◌, ◌∷◌, ◌++◌, [], drop};
-ghost use Rattle.std.specs.Prelude.{IfErr, IfOk, IfSome, IfNone, OnOk, IsTrue};
+ghost use Rattle.std.specs.Prelude.{◌≡◌, ◌∷◌, ◌++◌, [], IfErr, IfOk, IfSome, OnOk};
 ghost use Rattle.plist_value.specs.Plist.{AreOctets};
-ghost use Rattle.plist_object.specs.Views.{numbers_of, octets_of};
+ghost use Rattle.plist_object.specs.Views.{octets_of};
 ghost use Rattle.plist_canon.specs.Rules.{IsNumberedInPreorder, IsWellRead};
 ghost use Rattle.plist_canon.specs.Checking.{IsFlaw, AllRead, AllAscend};
-ghost use Rattle.plist_canon.specs.Preorders.{IsKnown, LeadsTo, Visits, Enters, new_frame};
-ghost use Rattle.plist_canon.specs.Owing.{Deepens, Owes, FrameOwesOn, VisitOwesOn};
-ghost use Rattle.plist_canon.specs.Owing.{WalksWithinLimits};
+ghost use Rattle.plist_canon.specs.Preorders.{Advances, Enters, IsNoneMet, new_frame};
+ghost use Rattle.plist_canon.specs.Owing.{Owes};
+ghost use Rattle.plist_canon.specs.Steps.{FrameGoesOn, PathGoesOn, WalksWithinLimits};
 ghost use Rattle.plist_canon.specs.Weights.{Weighs, AreAllWeights};
 
 use crate::judging::Flaw;
-use crate::limits::spend;
 use crate::objects::object_of;
+use crate::progress::{Progress, spend};
 use crate::weights::Weight;
 use plist_object::{BinFile, Object, Refs};
 use plist_value::{Budget, MAX_DEPTH};
@@ -63,23 +62,26 @@ fn walk(alloc: Global, file: &BinFile, weights: &[Weight]) -> Result<Option<Budg
     ensures err { IfErr result (IsFlaw (octets_of file.now)) }
 {
     let mut path = Vec::new(alloc);
-    let mut left = spend(Some(Budget::whole()), weights[0], MAX_DEPTH);
+    let left = spend(Some(Budget::whole()), weights[0], MAX_DEPTH);
+    let mut progress = Progress { met: 1, left };
     enter(file, 0, MAX_DEPTH, weights[0], &mut path)?;
-    for number in 1..file.count() {
-        let weight = weights[number as usize];
-        match next_visit(&mut path, &mut left, &weights[..number as usize]) {
-            Some(visit) if visit.reference == number => {
-                left = spend(left, weight, visit.levels);
-                enter(file, number, visit.levels, weight, &mut path)?;
-            }
-            Some(visit) => return Err(Flaw::at(7, visit.owner)),
-            None => return Err(Flaw::at(7, 0)),
+    while let Some(visit) = next_visit(&mut path, &mut progress, weights) {
+        let number = progress.met;
+        if visit.reference != number || number >= file.count() {
+            return Err(Flaw::at(7, visit.owner));
         }
+        let weight = weights[number as usize];
+        let left = spend(progress.left, weight, visit.levels);
+        progress = Progress {
+            met: number + 1,
+            left,
+        };
+        enter(file, number, visit.levels, weight, &mut path)?;
     }
-    match next_visit(&mut path, &mut left, weights) {
-        Some(visit) => Err(Flaw::at(7, visit.owner)),
-        None => Ok(left),
+    if progress.met < file.count() {
+        return Err(Flaw::at(7, 0));
     }
+    Ok(progress.left)
 }
 
 // The object, which has this weight, is met for the first time, where its value may be so many
@@ -93,10 +95,8 @@ fn enter<'a>(
 ) -> Result<(), AllocError>
     requires read { IsWellRead (octets_of file.now) number }
     requires weighs { Weighs (octets_of file.now) number weight }
-    ensures enters { OnOk result
-        (Enters (octets_of file.now) number path.old.items path.new.items) }
-    ensures deepens { OnOk result
-        (Deepens (octets_of file.now) number levels path.old.items path.new.items) }
+    ensures { OnOk result
+        (Enters (octets_of file.now) number levels path.old.items path.new.items) }
 {
     // A scalar has no references, and is not read again.
     if weight.is_scalar() {
@@ -132,13 +132,16 @@ fn push_part<'a>(
     Ok(())
 }
 
-// The next reference but those to scalars that were met, which are paid for on the way.
-fn next_visit(path: &mut Vec<Frame>, left: &mut Option<Budget>, weights: &[Weight]) -> Option<Visit>
-    ensures visits { Visits weights.now path.old.items path.new.items result }
-    ensures owed { VisitOwesOn weights.now path.old.items left.old result path.new.items left.new }
+// The next reference on the path but those to scalars that were met before or are met on the way.
+fn next_visit(path: &mut Vec<Frame>, progress: &mut Progress, weights: &[Weight]) -> Option<Visit>
+    ensures goes { PathGoesOn weights.now path.old.items progress.old result path.new.items
+        progress.new }
+    ensures none { IfSome result
+        (λ visit. IsNoneMet weights.now progress.new.met visit.reference) }
+    ensures advances { Advances weights.now progress.old.met progress.new.met }
 {
     while let Some(frame) = path.pop() {
-        if let Some((done, reference)) = first_other(&frame, left, weights) {
+        if let Some((done, reference)) = first_other(&frame, progress, weights) {
             let (owner, levels) = (frame.owner, frame.levels);
             path.push_reserved(Frame { done, ..frame });
             return Some(Visit {
@@ -151,33 +154,21 @@ fn next_visit(path: &mut Vec<Frame>, left: &mut Option<Budget>, weights: &[Weigh
     None
 }
 
-// The first reference of the frame that is still to be visited and is not to a scalar that was met,
-// and the place behind it. The references before it are paid for.
-fn first_other(frame: &Frame, left: &mut Option<Budget>, weights: &[Weight]) -> Option<(u64, u64)>
-    ensures known { IfSome result (λ p. ¬ IsKnown weights.now p.1) }
-    ensures some { IfSome result
-        (λ p. LeadsTo weights.now (drop frame.now.done (numbers_of frame.now.refs))
-        (p.1 ∷ drop p.0 (numbers_of frame.now.refs))) }
-    ensures none { IfNone result
-        (LeadsTo weights.now (drop frame.now.done (numbers_of frame.now.refs)) []) }
-    ensures owed { FrameOwesOn weights.now frame.now left.old result left.new }
+// The first reference of the frame that is still to be visited, but those to scalars that were met
+// before or are met on the way, and the place behind it.
+fn first_other(frame: &Frame, progress: &mut Progress, weights: &[Weight]) -> Option<(u64, u64)>
+    ensures goes { FrameGoesOn weights.now frame.now progress.old result progress.new }
+    ensures none { IfSome result (λ p. IsNoneMet weights.now progress.new.met p.1) }
+    ensures advances { Advances weights.now progress.old.met progress.new.met }
 {
-    let mut rest = *left;
+    let mut now = *progress;
     for place in frame.done..frame.refs.len() {
         let reference = frame.refs.get(place);
-        if !is_known(weights, reference) {
-            *left = rest;
+        if !now.pass(weights, reference, frame.levels) {
+            *progress = now;
             return Some((place + 1, reference));
         }
-        rest = spend(rest, weights[reference as usize], frame.levels);
     }
-    *left = rest;
+    *progress = now;
     None
-}
-
-#[inline(always)]
-fn is_known(weights: &[Weight], reference: u64) -> bool
-    ensures { IsTrue result ↔ IsKnown weights.now reference }
-{
-    reference < weights.len() as u64 && weights[reference as usize].is_scalar()
 }

@@ -1,34 +1,23 @@
-use Rattle.plist_canon.specs.Preorders.{path_left}
-use Rattle.plist_canon.specs.Owing.{path_groups}
-use Rattle.plist_canon.proofs.Leading.{LeadsOn-start}
-use Rattle.plist_canon.proofs.Paths.{LeadsOn-popped, LeadsOn-visited}
-use Rattle.plist_canon.proofs.Paying.{OwesOn-popped, OwesOn-visited}
+use Rattle.std.proofs.Common.{arith}
+use Rattle.plist_canon.specs.Preorders.{path_groups}
+use Rattle.plist_canon.proofs.Paths.{GoesOn-popped, GoesOn-visited}
 use Rattle.plist_canon.proofs.preorder.next_visit.Goals as goal
 
 pub loop-frame-init : goal.loop-frame-init
-loop-frame-init c = record { leads = LeadsOn-start _ _; owed = λ f weighed owes. owes }
+loop-frame-init c = record {
+  goes = λ f weighed stands. stands;
+  advances = record { least = omega arith; most = λ below. below };
+}
 
-pub returns-in-Some-first_other : goal.returns-in-Some-first_other
-returns-in-Some-first_other c =
-    let weights = c.args.weights.now in
-    let old = c.args.path.now.items in
-    let here = c.loop-frame.invariant in
-    let done = c.in-Some-first_other.done in
-    let i = c.in-Some-first_other.reference in
-    record {
-      visits = (
-        LeadsOn-visited weights (path_left old) c.loop-frame.path.items c.pop.new.self.items c.push_reserved.new.self.items c.in-Some.frame done i c.in-Some.ensures.items c.push_reserved.ensures.items here.leads c.in-Some-first_other.ensures.some,
-        c.in-Some-first_other.ensures.known,
-      );
-      owed = OwesOn-visited weights (path_groups old) c.args.left.now c.loop-frame.left c.first_other.new.left c.loop-frame.path.items c.pop.new.self.items c.in-Some.frame c.in-Some.ensures.items here.owed c.push_reserved.new.self.items done i c.push_reserved.ensures.items c.in-Some-first_other.ensures.owed;
-    }
+pub returns-in-Some-first_other-clause-goes : goal.returns-in-Some-first_other-clause-goes
+returns-in-Some-first_other-clause-goes c =
+    GoesOn-visited c.args.weights.now (path_groups c.args.path.now.items) c.args.progress.now c.loop-frame.progress c.first_other.new.progress c.loop-frame.path.items c.pop.new.self.items c.in-Some.frame c.in-Some.ensures.items c.loop-frame.invariant.goes c.push_reserved.new.self.items c.in-Some-first_other.done c.in-Some-first_other.reference c.push_reserved.ensures.items c.in-Some-first_other.ensures.goes
 
 pub loop-frame-preserved : goal.loop-frame-preserved
 loop-frame-preserved c =
-    let weights = c.args.weights.now in
-    let old = c.args.path.now.items in
-    let here = c.loop-frame.invariant in
+    let old = c.loop-frame.invariant.advances in
+    let on = c.in_default-first_other.ensures.advances in
     record {
-      leads = LeadsOn-popped weights (path_left old) c.loop-frame.path.items c.pop.new.self.items c.in-Some.frame c.in-Some.ensures.items here.leads c.in_default-first_other.ensures.none;
-      owed = OwesOn-popped weights (path_groups old) c.args.left.now c.loop-frame.left c.first_other.new.left c.loop-frame.path.items c.pop.new.self.items c.in-Some.frame c.in-Some.ensures.items here.owed c.in_default-first_other.ensures.owed;
+      goes = GoesOn-popped c.args.weights.now (path_groups c.args.path.now.items) c.args.progress.now c.loop-frame.progress c.first_other.new.progress c.loop-frame.path.items c.pop.new.self.items c.in-Some.frame c.in-Some.ensures.items c.loop-frame.invariant.goes c.in_default-first_other.ensures.goes;
+      advances = record { least = omega arith; most = λ below. on.most (old.most below) };
     }

@@ -1,96 +1,79 @@
-use Rattle.std.proofs.Common.{◌≡◌, ◌<◌, [], arith, Some, None, add-one, take, refl, sym, ◌∙◌, ◌∷◌}
-use Rattle.std.specs.Prelude.{slice_index_or}
+use Rattle.std.proofs.Common.{◌≡◌, ◌<◌, ◌≤◌, [], ◌∷◌, arith, add-one, length, refl}
 use Rattle.plist_object.specs.Views.{octets_of}
 use Rattle.plist_object.specs.Layout.{trailer_of}
 use Rattle.plist_value.specs.declared.TheConstants.{MAX_DEPTH}
-use Rattle.plist_canon.specs.declared.weights.Weight.TheVariants.{Container}
-use Rattle.plist_canon.specs.Preorders.{Visits, Enters}
-use Rattle.plist_canon.specs.Owing.{grouped, path_groups, Deepens, Owes, VisitOwesOn}
-use Rattle.plist_canon.proofs.Paths.{IsWalking-start, IsWalking-step, IsWalking-other, IsWalking-none, IsWalking-over, IsWalking-done}
-use Rattle.plist_canon.proofs.Weighing.{AreAllWeights-at, AreAllWeights-front}
-use Rattle.plist_canon.proofs.Spending.{Owes-start, Owes-entered}
+use Rattle.plist_canon.specs.Preorders.{grouped, path_groups, Enters}
+use Rattle.plist_canon.specs.Steps.{Stands}
+use Rattle.plist_canon.proofs.Weighing.{AreAllWeights-at}
+use Rattle.plist_canon.proofs.Walking.{IsWalking-other, IsWalking-over, IsWalking-done}
+use Rattle.plist_canon.proofs.Paths.{Stands-start, Stands-entered, none_met}
 use Rattle.plist_canon.proofs.preorder.walk.Goals as goal
+use Rattle.plist_canon.proofs.preorder.walk.Goals.{then-visit-number-via-then-visit-number, then-visit-number-via-else-visit-number+then-number-count}
 
-pub loop-number-init : goal.loop-number-init
-loop-number-init c =
+pub loop-visit-init : goal.loop-visit-init
+loop-visit-init c =
     let f = octets_of c.args.file.now in
     let some = c.args.file.now.laid.trailed.some_object in
-    let weight = slice_index_or c.args.weights.now 0 Container in
     let weighs = AreAllWeights-at f c.args.weights.now c.requires.weights 0 (omega arith) in
-    let enters : Enters f 0 [] c.enter.new.path.items = rw c.new-path.ensures.items at c.in_ok-enter.ensures.enters in
-    let deepens : Deepens f 0 MAX_DEPTH [] c.enter.new.path.items = rw c.new-path.ensures.items at c.in_ok-enter.ensures.deepens in
+    let enters : Enters f 0 MAX_DEPTH [] c.enter.new.path.items = rw c.new-path.ensures.items at c.in_ok-enter.ensures in
     record {
-      walking = IsWalking-start f c.enter.new.path.items (c.requires.read 0 (omega arith)) enters;
-      owed = Owes-entered f MAX_DEPTH 0 [] weight weighs (c.requires.ascending 0 (omega arith)) c.requires.valid [] c.enter.new.path.items (Some c.whole.result) c.spend-left.result deepens refl c.spend-left.ensures (Owes-start f c.whole.result c.whole.ensures.nodes c.whole.ensures.payload);
+      stands = Stands-start f _ c.requires.valid c.whole.result _ c.enter.new.path.items c.whole.ensures.nodes c.whole.ensures.payload weighs (c.requires.ascending 0 (omega arith)) refl enters c.spend-left.ensures;
+      most = omega arith;
     }
 
-pub returns-in-Some-2-clause-err : goal.returns-in-Some-2-clause-err
-returns-in-Some-2-clause-err c =
+pub returns-then-visit-number-clause-err : goal.returns-then-visit-number-clause-err
+returns-then-visit-number-clause-err c =
     let f = octets_of c.args.file.now in
-    let l = c.loop-number in
-    let weights = take l.number c.args.weights.now in
-    let front = AreAllWeights-front f c.args.weights.now l.number c.requires.weights (omega (arith, c.loop-number-test.true, c.count-number-end.ensures)) in
-    let visits : Visits weights l.path.items c.next_visit.new.path.items (Some c.in-Some.visit) = rw c.in-Some.is at c.next_visit.ensures.visits in
-    rw c.at.ensures
-    (IsWalking-other f l.number l.path.items c.next_visit.new.path.items weights front.0 front.1 l.invariant.walking c.in-Some.visit visits c.if-visit-number.false)
-
-pub returns-in-None-clause-err : goal.returns-in-None-clause-err
-returns-in-None-clause-err c =
-    let f = octets_of c.args.file.now in
-    let l = c.loop-number in
-    let weights = take l.number c.args.weights.now in
-    let below : l.number < (trailer_of f).count = omega (arith, c.loop-number-test.true, c.count-number-end.ensures) in
-    let front = AreAllWeights-front f c.args.weights.now l.number c.requires.weights (omega arith) in
-    let visits : Visits weights l.path.items c.next_visit.new.path.items None = rw c.in-None.is at c.next_visit.ensures.visits in
-    rw c.at-in-None.ensures
-    (IsWalking-none f l.number l.path.items c.next_visit.new.path.items weights front.0 front.1 l.invariant.walking visits below)
-
-pub loop-number-preserved : goal.loop-number-preserved
-loop-number-preserved c =
-    let f = octets_of c.args.file.now in
-    let l = c.loop-number in
-    let weights = take l.number c.args.weights.now in
-    let below : l.number < (trailer_of f).count = omega (arith, c.loop-number-test.true, c.count-number-end.ensures) in
-    let front = AreAllWeights-front f c.args.weights.now l.number c.requires.weights (omega arith) in
-    let visits : Visits weights l.path.items c.next_visit.new.path.items (Some c.in-Some.visit) = rw c.in-Some.is at c.next_visit.ensures.visits in
+    let l = c.loop-visit in
+    let mid = c.next_visit.new.progress in
     let visit = c.in-Some.visit in
-    let mid = c.next_visit.new.path.items in
-    let new = c.enter-in-Some.new.path.items in
-    let left = c.next_visit.new.left in
-    let on : VisitOwesOn weights l.path.items l.left (Some visit) mid left = rw c.in-Some.is at c.next_visit.ensures.owed in
-    let came : Owes f (grouped visit.levels (l.number ∷ []) ∷ path_groups mid) left = rw c.if-visit-number.true at (on f front.0 l.invariant.owed) in
-    let weighs = AreAllWeights-at f c.args.weights.now c.requires.weights l.number below in
+    let stands : Stands f mid (grouped visit.owner visit.levels (visit.reference ∷ []) ∷ path_groups c.next_visit.new.path.items) = c.in-Some.ensures.goes f c.requires.weights l.invariant.stands in
+    let counted = c.requires.weights.all in
+    let before : l.progress.met ≤ length c.args.weights.now = (let most = l.invariant.most in omega arith) in
+    let most = c.in-Some.ensures.advances.most before in
+    let other : ¬ ((visit.reference ≡ mid.met) × (mid.met < (trailer_of f).count)) = (λ next.
+    let below = next.1 in
+    elim c.then-visit-number.branch [
+      | then-visit-number-via-then-visit-number w ↦ w.if-visit-number.true next.0
+      | then-visit-number-via-else-visit-number+then-number-count w ↦ omega (arith, w.count.ensures, w.if-number-count.true)
+    ]) in
+    rw c.at.ensures
+    (IsWalking-other f mid.met visit.owner visit.reference _ stands.walking other (none_met f c.args.weights.now mid.met visit.reference c.requires.weights most c.in-Some.ensures.none))
+
+pub loop-visit-preserved : goal.loop-visit-preserved
+loop-visit-preserved c =
+    let f = octets_of c.args.file.now in
+    let l = c.loop-visit in
+    let mid = c.next_visit.new.progress in
+    let visit = c.in-Some.visit in
+    let below : mid.met < (trailer_of f).count = omega (arith, c.count.ensures, c.if-number-count.false) in
+    let came : Stands f mid (grouped visit.owner visit.levels (visit.reference ∷ []) ∷ path_groups c.next_visit.new.path.items) = c.in-Some.ensures.goes f c.requires.weights l.invariant.stands in
+    let here : Stands f mid (grouped visit.owner visit.levels (mid.met ∷ []) ∷ path_groups c.next_visit.new.path.items) = rw c.if-visit-number.false at came in
+    let weighs = AreAllWeights-at f c.args.weights.now c.requires.weights mid.met below in
     record {
-      walking = rw add-one
-          (IsWalking-step f l.number l.path.items mid weights front.0 front.1 l.invariant.walking visit new visits c.if-visit-number.true (c.requires.read l.number below) c.in_ok-enter-in-Some.ensures.enters);
-      owed = Owes-entered f visit.levels l.number (path_groups mid) _ weighs (c.requires.ascending l.number below) c.requires.valid mid new left c.spend-left-in-Some.result c.in_ok-enter-in-Some.ensures.deepens refl c.spend-left-in-Some.ensures came;
+      stands = Stands-entered f _ c.requires.valid visit.owner visit.levels mid _ c.next_visit.new.path.items c.enter-in-Some.new.path.items weighs (c.requires.ascending mid.met below) (rw add-one refl) c.in_ok-enter-2.ensures c.spend-left-in-Some.ensures here;
+      most = omega arith;
     }
 
-pub returns-in-Some-next_visit-clause-err : goal.returns-in-Some-next_visit-clause-err
-returns-in-Some-next_visit-clause-err c =
+pub returns-then-progress-count-clause-err : goal.returns-then-progress-count-clause-err
+returns-then-progress-count-clause-err c =
     let f = octets_of c.args.file.now in
-    let l = c.loop-number in
-    let weights = c.args.weights.now in
-    let some = c.args.file.now.laid.trailed.some_object in
-    let all : l.number ≡ (trailer_of f).count = omega (arith, c.loop-number-test.false, c.count-number-end.ensures, l.auto.number-end) in
-    let visits : Visits weights l.path.items c.next_visit-2.new.path.items (Some c.in-Some-next_visit.visit) = rw c.in-Some-next_visit.is at c.next_visit-2.ensures.visits in
-    rw c.at-in-Some-next_visit.ensures
-    (IsWalking-over f l.number l.path.items c.next_visit-2.new.path.items weights c.requires.weights.each (c.requires.weights.all ∙ sym all) l.invariant.walking c.in-Some-next_visit.visit visits all)
+    let mid = c.next_visit.new.progress in
+    let stands : Stands f mid [] = c.in_default.ensures.goes f c.requires.weights c.loop-visit.invariant.stands in
+    rw c.at-then-progress-count.ensures (IsWalking-over f mid.met stands.walking (omega (arith, c.count-2.ensures, c.if-progress-count.true)))
 
 pub returns-clause-ok : goal.returns-clause-ok
 returns-clause-ok c =
     let f = octets_of c.args.file.now in
-    let l = c.loop-number in
-    let weights = c.args.weights.now in
-    let some = c.args.file.now.laid.trailed.some_object in
-    let all : l.number ≡ (trailer_of f).count = omega (arith, c.loop-number-test.false, c.count-number-end.ensures, l.auto.number-end) in
-    let visits : Visits weights l.path.items c.next_visit-2.new.path.items None = rw c.in-None-next_visit.is at c.next_visit-2.ensures.visits in
-    IsWalking-done f l.number l.path.items c.next_visit-2.new.path.items weights c.requires.weights.each (c.requires.weights.all ∙ sym all) l.invariant.walking visits all
+    let mid = c.next_visit.new.progress in
+    let stands : Stands f mid [] = c.in_default.ensures.goes f c.requires.weights c.loop-visit.invariant.stands in
+    let counted = c.requires.weights.all in
+    let before : c.loop-visit.progress.met ≤ length c.args.weights.now = (let most = c.loop-visit.invariant.most in omega arith) in
+    let most = c.in_default.ensures.advances.most before in
+    IsWalking-done f mid.met stands.walking (omega (arith, c.count-2.ensures, c.if-progress-count.false))
 
 pub returns-clause-left : goal.returns-clause-left
 returns-clause-left c =
     let f = octets_of c.args.file.now in
-    let l = c.loop-number in
-    let weights = c.args.weights.now in
-    let on : VisitOwesOn weights l.path.items l.left None c.next_visit-2.new.path.items c.next_visit-2.new.left = rw c.in-None-next_visit.is at c.next_visit-2.ensures.owed in
-    on f c.requires.weights.each l.invariant.owed
+    let stands : Stands f c.next_visit.new.progress [] = c.in_default.ensures.goes f c.requires.weights c.loop-visit.invariant.stands in
+    stands.owed
