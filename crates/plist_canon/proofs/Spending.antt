@@ -1,9 +1,10 @@
 -- What the walk spends of the limits.
-use Rattle.std.proofs.Common.{◌≡◌, ℕ, ◌+◌, ◌-◌, ◌≤◌, max, List, [], ◌∷◌, ◌++◌, length, refl, sym, ap, subst, ◌∙◌, arith, Some, None}
+use Rattle.std.proofs.Common.{◌≡◌, ℕ, ◌+◌, ◌-◌, ◌≤◌, min, max, List, [], ◌∷◌, ◌++◌, length, refl, sym, ap, subst, ◌∙◌, arith, Some, None}
 use Rattle.std.specs.Prelude.{Option}
 use Rattle.plist_value.specs.Plist.{AreOctets, Scalar, Plist, scalar, list, table, Items, no_items, item, Pairs, IsPlist, AreItems, ArePairs}
 use Rattle.plist_value.specs.Limits.{Fits, nodes, depth, payload, payload_of_scalar, nodes_of_items, depth_of_items, payload_of_items, nodes_of_pairs, depth_of_pairs, payload_of_pairs}
 use Rattle.plist_value.specs.declared.TheConstants.{MAX_NODES, MAX_DEPTH, MAX_PAYLOAD}
+use Rattle.plist_canon.specs.declared.weights.TheConstants.{MOST_TOLD}
 use Rattle.plist_object.specs.Objects.{IsHeld, Held, holds_scalar, holds_list, holds_table}
 use Rattle.plist_object.specs.Places.{Holds}
 use Rattle.plist_object.specs.Spelled.{Spells, SpellItems}
@@ -17,7 +18,7 @@ use Rattle.plist_canon.specs.Weights.{weight_of, payload_of_weight, Weighs}
 use Rattle.plist_canon.specs.Preorders.{Group, grouped, groups_of}
 use Rattle.plist_canon.specs.Owing.{Named, AllNamed, nodes_named, payload_named, AreWithin, Owes, Pays}
 use Rattle.plist_canon.proofs.KeyPairs.{put_texts}
-use Rattle.plist_canon.proofs.Weighing.{scalar-payload, Weighs-held}
+use Rattle.plist_canon.proofs.Weighing.{Weighs-held}
 use Rattle.plist_canon.proofs.TableParts.{some_depth, some_nodes, table_parts}
 
 -- what holds of each value that an object may spell, by what it holds
@@ -96,14 +97,14 @@ record ScalarCosts (weight : Weight) (v : Plist) : Type 0 where
   payload_is : payload v ≡ payload_of_weight weight
   depth_is : depth v ≡ 1
 
-scalar_costs : (f : List ℕ) (i : ℕ) (weight : Weight) (s : Scalar) → Weighs f i weight → Holds f i (holds_scalar s) → (v : Plist) → Spells f i v → ScalarCosts weight v
-scalar_costs f i weight s weighs holds v spells =
-    let same : payload_of_weight weight ≡ payload_of_scalar s = ap payload_of_weight (Weighs-held f i weight (holds_scalar s) weighs holds) ∙ scalar-payload s in
-    by_scalar f i s (ScalarCosts weight) holds (record { nodes_are = refl; payload_is = sym same; depth_is = refl }) v spells
+scalar_costs : (f : List ℕ) (i : ℕ) (weight : Weight) (s : Scalar) → Weighs f i weight → Holds f i (holds_scalar s) → payload_of_weight weight ≤ MAX_PAYLOAD → (v : Plist) → Spells f i v → ScalarCosts weight v
+scalar_costs f i weight s weighs holds most v spells =
+    let told : payload_of_weight weight ≡ min (payload_of_scalar s) MOST_TOLD = ap payload_of_weight (Weighs-held f i weight (holds_scalar s) weighs holds) in
+    let same : payload_of_scalar s ≡ payload_of_weight weight = omega arith in
+    by_scalar f i s (ScalarCosts weight) holds (record { nodes_are = refl; payload_is = same; depth_is = refl }) v spells
 
 held_least : (f : List ℕ) (i : ℕ) (held : Held) → Holds f i held → (v : Plist) → Spells f i v → payload_of_weight (weight_of held) ≤ payload v
 held_least f i (holds_scalar s) holds v spells =
-    let same = scalar-payload s in
     by_scalar f i s (λ v. payload_of_weight (weight_of (holds_scalar s)) ≤ payload v) holds (omega arith) v spells
 held_least f i (holds_list refs) holds v spells = omega arith
 held_least f i (holds_table keys values) holds v spells = omega arith
@@ -121,11 +122,12 @@ pub record Step (f : List ℕ) (groups : List Group) (named : AllNamed f groups)
   pub within : AreWithin f groups named → AreWithin f others later
   pub back : AreWithin f others later → AreWithin f groups named
 
-spent_step : (f : List ℕ) (groups others : List Group) (before after : Budget) (n p : ℕ) → Spends before n p after → ((named : AllNamed f groups) → Step f groups named others n p) → Owes f groups (Some before) → Owes f others (Some after)
+spent_step : (f : List ℕ) (groups others : List Group) (before after : Budget) (n p : ℕ) → Spends before n p after → (p ≤ MAX_PAYLOAD → (named : AllNamed f groups) → Step f groups named others n p) → Owes f groups (Some before) → Owes f others (Some after)
 spent_step f groups others before after n p spends step owes v valid spells =
     let o = owes v valid spells in
-    let s = step o.named in
     let a = spends in
+    let most = o.payload_most in
+    let s = step (omega arith) o.named in
     let b = o.nodes_left in
     let c = o.payload_left in
     let d = s.nodes_are in
@@ -134,6 +136,7 @@ spent_step f groups others before after n p spends step owes v valid spells =
       named = s.later;
       nodes_left = omega arith;
       payload_left = omega arith;
+      payload_most = omega arith;
       within = λ fits. s.within (o.within fits);
       deep = λ fits. o.deep (s.back fits);
     }
@@ -142,7 +145,7 @@ spent_step f groups others before after n p spends step owes v valid spells =
 moves : (f : List ℕ) (groups others : List Group) (left : Option Budget) → ((named : AllNamed f groups) → Step f groups named others 0 0) → Owes f groups left → Owes f others left
 moves f groups others None step owes = owes
 moves f groups others (Some left) step owes =
-    spent_step f groups others left left 0 0 (record { nodes_left = omega arith; payload_left = omega arith }) step owes
+    spent_step f groups others left left 0 0 (record { nodes_left = omega arith; payload_left = omega arith }) (λ most. step) owes
 
 module _ (f : List ℕ) (owner levels i : ℕ) (refs : List ℕ) (outer : List Group) (weight : Weight) (weighs : Weighs f i weight) where
   -- the first object is too deep or takes too much
@@ -165,18 +168,18 @@ module _ (f : List ℕ) (owner levels i : ℕ) (refs : List ℕ) (outer : List G
       over (omega arith) (omega arith) (omega arith)
 
   -- the first object is paid for
-  paid : (others : List Group) (before after : Option Budget) → (1 ≤ levels → (named : AllNamed f (grouped owner levels (i ∷ refs) ∷ outer)) → Step f (grouped owner levels (i ∷ refs) ∷ outer) named others 1 (payload_of_weight weight)) → Pays levels weight before after → Owes f (grouped owner levels (i ∷ refs) ∷ outer) before → Owes f others after
+  paid : (others : List Group) (before after : Option Budget) → (1 ≤ levels → payload_of_weight weight ≤ MAX_PAYLOAD → (named : AllNamed f (grouped owner levels (i ∷ refs) ∷ outer)) → Step f (grouped owner levels (i ∷ refs) ∷ outer) named others 1 (payload_of_weight weight)) → Pays levels weight before after → Owes f (grouped owner levels (i ∷ refs) ∷ outer) before → Owes f others after
   paid others None after step pays owes = subst (λ (left : Option Budget). Owes f others left) (sym pays) owes
   paid others (Some before) None step pays owes = passes_limit before pays owes
   paid others (Some before) (Some after) step pays owes =
       spent_step f (grouped owner levels (i ∷ refs) ∷ outer) others before after 1 (payload_of_weight weight) pays.1 (step pays.0) owes
 
-  scalar_step : HoldsScalar f i → 1 ≤ levels → (named : AllNamed f (grouped owner levels (i ∷ refs) ∷ outer)) → Step f (grouped owner levels (i ∷ refs) ∷ outer) named (grouped owner levels refs ∷ outer) 1 (payload_of_weight weight)
-  scalar_step held some named =
+  scalar_step : HoldsScalar f i → 1 ≤ levels → payload_of_weight weight ≤ MAX_PAYLOAD → (named : AllNamed f (grouped owner levels (i ∷ refs) ∷ outer)) → Step f (grouped owner levels (i ∷ refs) ∷ outer) named (grouped owner levels refs ∷ outer) 1 (payload_of_weight weight)
+  scalar_step held some most named =
       let first = named.0 in
       let n = first_item f i refs first.items first.spelled in
       let both : AreItems (item n.value n.others) = subst AreItems n.is first.valid in
-      let costs = scalar_costs f i weight held.0 weighs held.1 n.value n.spells in
+      let costs = scalar_costs f i weight held.0 weighs held.1 most n.value n.spells in
       let a = costs.nodes_are in
       let b = costs.payload_is in
       let c = costs.depth_is in
@@ -273,10 +276,10 @@ module _ (f : List ℕ) (owner levels i : ℕ) (outer : List Group) (weight : We
   abbrev before_it : List Group
   before_it = grouped owner levels (i ∷ []) ∷ outer
 
-  opening : (held : Held) → Holds f i held → IsHeld held → 1 ≤ levels → (named : AllNamed f before_it) → Step f before_it named (groups_of i (levels - 1) held ++ outer) 1 (payload_of_weight weight)
-  opening (holds_scalar s) holds valid some named =
+  opening : (held : Held) → Holds f i held → IsHeld held → 1 ≤ levels → payload_of_weight weight ≤ MAX_PAYLOAD → (named : AllNamed f before_it) → Step f before_it named (groups_of i (levels - 1) held ++ outer) 1 (payload_of_weight weight)
+  opening (holds_scalar s) holds valid some most named =
       let n = lone_item f i named.0.items named.0.valid named.0.spelled in
-      let costs = scalar_costs f i weight s weighs holds n.value n.spells in
+      let costs = scalar_costs f i weight s weighs holds most n.value n.spells in
       let a = costs.nodes_are in
       let b = costs.payload_is in
       let c = costs.depth_is in
@@ -290,7 +293,7 @@ module _ (f : List ℕ) (owner levels i : ℕ) (outer : List Group) (weight : We
         within = λ w. w.1;
         back = λ w. (omega arith, w);
       }
-  opening (holds_list refs) holds valid some named =
+  opening (holds_list refs) holds valid some most named =
       let n = lone_item f i named.0.items named.0.valid named.0.spelled in
       let o = opened_list f i refs holds n.value n.valid n.spells in
       let none : payload_of_weight weight ≡ 0 = ap payload_of_weight (Weighs-held f i weight (holds_list refs) weighs holds) in
@@ -307,7 +310,7 @@ module _ (f : List ℕ) (owner levels i : ℕ) (outer : List Group) (weight : We
         within = λ w. (let k = w.0 in omega arith, w.1);
         back = λ w. (let k = w.0 in omega arith, w.1);
       }
-  opening (holds_table keys values) holds valid some named =
+  opening (holds_table keys values) holds valid some most named =
       let n = lone_item f i named.0.items named.0.valid named.0.spelled in
       let o = opened_table f i keys values valid holds ascending n.value n.valid n.spells in
       let none : payload_of_weight weight ≡ 0 = ap payload_of_weight (Weighs-held f i weight (holds_table keys values) weighs holds) in
@@ -340,6 +343,7 @@ Owes-start f whole all_nodes all_payload v valid spells = record {
   named = (record { items = item v no_items; valid = (valid, tt); spelled = (spells, refl) }, tt);
   nodes_left = omega arith;
   payload_left = omega arith;
+  payload_most = omega arith;
   within = λ fits. (omega arith, tt);
   deep = λ w. (let d = w.0 in omega arith);
 }

@@ -1,10 +1,8 @@
 -- The weights of objects.
-use Rattle.std.proofs.Common.{◌≡◌, ℕ, ◌+◌, ◌<◌, List, [], ◌∷◌, ◌++◌, length, true, refl, sym, ap, subst, ◌∙◌, arith, length-append, inl, inr}
+use Rattle.std.proofs.Common.{◌≡◌, ℕ, ◌+◌, ◌<◌, List, [], ◌∷◌, ◌++◌, length, true, sym, ap, subst, ◌∙◌, arith, length-append, inl, inr}
 use Rattle.std.specs.Prelude.{slice_index_or}
 use Rattle.std.proofs.lemmas.Bool.{cases_lt, true≢false}
 use Rattle.std.proofs.lemmas.List.{get_or_append_left, get_or_push}
-use Rattle.plist_value.specs.Plist.{Scalar, text, whole, flag, real4, real8, moment, bytes}
-use Rattle.plist_value.specs.Limits.{payload_of_scalar}
 use Rattle.plist_object.specs.Layout.{trailer_of}
 use Rattle.plist_object.specs.Objects.{Held, holds_scalar, holds_list, holds_table}
 use Rattle.plist_object.specs.Places.{Holds}
@@ -12,25 +10,7 @@ use Rattle.plist_object.proofs.Uniqueness.{same_held}
 use Rattle.plist_canon.specs.declared.weights.Weight.{Weight}
 use Rattle.plist_canon.specs.declared.weights.Weight.TheVariants.{Container}
 use Rattle.plist_canon.specs.Rules.{HoldsScalar}
-use Rattle.plist_canon.specs.Weights.{weight_of_scalar, weight_of, is_scalar_weight, payload_of_weight, Weighs, AreWeights, AreAllWeights}
-
-pub scalar-payload : (s : Scalar) → payload_of_weight (weight_of_scalar s) ≡ payload_of_scalar s
-scalar-payload (text units) = refl
-scalar-payload (whole z) = refl
-scalar-payload (flag b) = refl
-scalar-payload (real4 xs) = refl
-scalar-payload (real8 xs) = refl
-scalar-payload (moment xs) = refl
-scalar-payload (bytes xs) = refl
-
-pub scalar-weight : (s : Scalar) → is_scalar_weight (weight_of_scalar s) ≡ true
-scalar-weight (text units) = refl
-scalar-weight (whole z) = refl
-scalar-weight (flag b) = refl
-scalar-weight (real4 xs) = refl
-scalar-weight (real8 xs) = refl
-scalar-weight (moment xs) = refl
-scalar-weight (bytes xs) = refl
+use Rattle.plist_canon.specs.Weights.{weight_of, is_scalar_weight, Weighs, AreWeights, AreAllWeights}
 
 -- what an object holds is what was weighed
 pub Weighs-held : (f : List ℕ) (i : ℕ) (weight : Weight) (held : Held) → Weighs f i weight → Holds f i held → weight ≡ weight_of held
@@ -46,7 +26,7 @@ Weighs-scalar f i weight weighs is = scalar-holds f i weighs.held weighs.holds (
 
 pub scalar-Weighs : (f : List ℕ) (i : ℕ) (weight : Weight) → Weighs f i weight → HoldsScalar f i → is_scalar_weight weight ≡ true
 scalar-Weighs f i weight weighs scalar =
-    ap is_scalar_weight (Weighs-held f i weight (holds_scalar scalar.0) weighs scalar.1) ∙ scalar-weight scalar.0
+    ap is_scalar_weight (Weighs-held f i weight (holds_scalar scalar.0) weighs scalar.1)
 
 weights-more : (f : List ℕ) (weights : List Weight) (number : ℕ) (weight : Weight) → AreWeights f weights → length weights ≡ number → Weighs f number weight → AreWeights f (weights ++ (weight ∷ []))
 weights-more f weights number weight weighed counted weighs i below =

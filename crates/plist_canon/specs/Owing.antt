@@ -39,6 +39,7 @@ pub record IsSpent (f : List ℕ) (groups : List Group) (left : Budget) (v : Pli
   pub named : AllNamed f groups
   pub nodes_left : left.nodes + nodes v ≡ MAX_NODES + nodes_named f groups named
   pub payload_left : left.payload + payload v ≡ MAX_PAYLOAD + payload_named f groups named
+  pub payload_most : left.payload ≤ MAX_PAYLOAD
   pub within : depth v ≤ MAX_DEPTH → AreWithin f groups named
   pub deep : AreWithin f groups named → depth v ≤ MAX_DEPTH
 

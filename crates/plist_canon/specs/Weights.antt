@@ -1,36 +1,26 @@
 -- What the limits ask of an object besides its references.
-use Rattle.std.specs.Prelude.{◌≡◌, ℕ, ◌*◌, ◌<◌, Bool, true, false, List, length, slice_index_or}
-use Rattle.plist_value.specs.Plist.{Scalar, text, whole, flag, real4, real8, moment, bytes}
+use Rattle.std.specs.Prelude.{◌≡◌, ℕ, ◌<◌, min, Bool, true, false, List, length, slice_index_or}
+use Rattle.plist_value.specs.Limits.{payload_of_scalar}
 use Rattle.plist_object.specs.Layout.{trailer_of}
 use Rattle.plist_object.specs.Objects.{Held, holds_scalar, holds_list, holds_table}
 use Rattle.plist_object.specs.Places.{Holds}
 use Rattle.plist_canon.specs.declared.weights.Weight.{Weight}
-use Rattle.plist_canon.specs.declared.weights.Weight.TheVariants.{Units, Octets, Container}
+use Rattle.plist_canon.specs.declared.weights.TheConstants.{MOST_TOLD}
+use Rattle.plist_canon.specs.declared.weights.Weight.TheVariants.{Payload, Container}
 
--- the units of a text, the octets of data, and nothing of any other scalar
-abbrev pub weight_of_scalar : Scalar → Weight
-weight_of_scalar (text units) = Units (length units)
-weight_of_scalar (whole z) = Octets 0
-weight_of_scalar (flag b) = Octets 0
-weight_of_scalar (real4 xs) = Octets 0
-weight_of_scalar (real8 xs) = Octets 0
-weight_of_scalar (moment xs) = Octets 0
-weight_of_scalar (bytes xs) = Octets (length xs)
-
+-- a scalar's payload, told only so far, which is past the limit
 abbrev pub weight_of : Held → Weight
-weight_of (holds_scalar s) = weight_of_scalar s
+weight_of (holds_scalar s) = Payload (min (payload_of_scalar s) MOST_TOLD)
 weight_of (holds_list refs) = Container
 weight_of (holds_table keys values) = Container
 
 abbrev pub is_scalar_weight : Weight → Bool
-is_scalar_weight (Units n) = true
-is_scalar_weight (Octets n) = true
+is_scalar_weight (Payload n) = true
 is_scalar_weight Container = false
 
--- two octets for each unit; a container has no payload of its own
+-- a container has no payload of its own
 abbrev pub payload_of_weight : Weight → ℕ
-payload_of_weight (Units n) = 2 * n
-payload_of_weight (Octets n) = n
+payload_of_weight (Payload n) = n
 payload_of_weight Container = 0
 
 -- the object reads, and this is the weight of what it holds
