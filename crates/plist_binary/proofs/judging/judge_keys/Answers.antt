@@ -1,7 +1,8 @@
-use Rattle.std.proofs.Common.{List, ℕ, rules, arith}
+use Rattle.std.proofs.Common.{List, ℕ, rules, subst, arith}
 use Rattle.plist_value.specs.Plist.{Plist, AreOctets}
 use Rattle.plist_object.specs.Layout.{IsLaid}
 use Rattle.plist_object.specs.Spelled.{IsBinary}
+use Rattle.plist_object.specs.Views.{octets_of}
 use Rattle.plist_binary.specs.Passing.{PassesTop}
 use Rattle.plist_binary.proofs.judging.judge_keys.Goals as goal
 
@@ -27,5 +28,5 @@ pub returns-clause-ok : goal.returns-clause-ok
 returns-clause-ok c =
     let f = c.args.octets.now in
     let octets : AreOctets f = search rules in
-    let passed : PassesTop f = rw c.in_ok-file.ensures.laid at c.in_ok-sorted.ensures.passed in
-    spelled f octets c.in_ok-file.ensures.ok passed
+    let passed : PassesTop (octets_of c.in_ok-file.file) = search rules in
+    spelled f octets c.in_ok-file.ensures.ok (subst PassesTop c.in_ok-file.ensures.laid passed)
