@@ -4,8 +4,6 @@ use Rattle.std.specs.List.{zip}
 use Rattle.plist_value.specs.Plist.{text, bytes, Items, no_items, item, Pairs, no_pairs, pair, IsPlist, AreItems, ArePairs}
 use Rattle.plist_object.specs.Objects.{Held, holds_scalar, holds_list, holds_table}
 use Rattle.plist_object.specs.Spelled.{SpellItems, SpellPairs}
-use Rattle.plist_draft.specs.declared.draft.Draft.{Draft}
-use Rattle.plist_draft.specs.View.{objects}
 use Rattle.ostep_lex.specs.Lexeme.{Lexeme, Placed, brace_open, brace_close, paren_open, paren_close, comma, semicolon, equals, text as string, octets as data_token}
 use Rattle.ostep_lex.specs.Lexing.{HasTokens}
 use Rattle.ostep_lex.specs.Cursor.{StandsBehind}
@@ -17,10 +15,6 @@ use Rattle.ostep_draft.specs.Drafted.{DraftsValue, DraftsEnded, DraftsItems, Dra
 use Rattle.ostep_draft.proofs.Orders.{in-turn, turned-rows, push-rows}
 use Rattle.ostep_draft.proofs.Spelling.{holds-old, scalar-spelled, list-spelled, table-spelled, key-spelled, last-item, push-items, LastRow, last-row, zip-push}
 use Rattle.ostep_draft.proofs.ReadSteps.{string-read, data-read, list-read, table-read, no-items-read, item-read, last_item-read, items-read, ended-read, row-read, alone-read, no-rows-read, row-more-read, rows-read, value-says, rows-say}
-
--- the same drafts
-pub remain-as : (a b c d : Draft) → b ≡ a → d ≡ c → AllRemain (objects b) (objects c) → AllRemain (objects a) (objects d)
-remain-as a b c d e g r = subst (λ x. AllRemain (objects x) (objects d)) e (subst (λ x. AllRemain (objects b) (objects x)) (sym g) r)
 
 pub more-even : {all_keys all_values : List ℕ} (keys values : List ℕ) (k v : ℕ) → all_keys ≡ keys ++ k ∷ [] → all_values ≡ values ++ v ∷ [] → length keys ≡ length values
     → length all_keys ≡ length all_values

@@ -10,6 +10,6 @@ mod failure;
 mod first;
 mod reader;
 mod rows;
-mod values;
+mod tokens;
 
 pub use draft::draft_text;

@@ -1,134 +1,236 @@
-//! The tokens of a text, one after another, and the draft that grows as they are read.
-ghost use Rattle.std.specs.Prelude.{◌≡◌, ◌<◌, ◌∷◌, ◌++◌, [], ℕ, List, length};
-ghost use Rattle.std.specs.Prelude.{MatchOption, IfNone, IfSome, IfOk};
+//! The draft that grows as the tokens of a text are read.
+ghost use Rattle.std.specs.Prelude.{◌≡◌, ◌≤◌, ◌<◌, ◌∷◌, ◌++◌, [], ℕ, List, length, IfOk};
 ghost use Rattle.std.specs.Result.{OnOk};
 ghost use Rattle.plist_value.specs.Plist.{text as one_text, bytes, AreUnits};
 ghost use Rattle.plist_value.specs.Texts.{units_of};
 ghost use Rattle.plist_object.specs.Objects.{holds_scalar, holds_list, holds_table};
 ghost use Rattle.plist_draft.specs.View.{objects};
-ghost use Rattle.ostep_lex.specs.Lexeme.{Placed, placed, lexeme_of};
-ghost use Rattle.ostep_lex.specs.Lexing.{HasTokens};
-ghost use Rattle.ostep_lex.specs.Cursor.{ahead, AddsToken, StandsBehind};
+ghost use Rattle.ostep_lex.specs.Lexeme.{Placed, lexeme_of, paren_close, brace_close};
+ghost use Rattle.ostep_lex.specs.Cursor.{ahead, StandsBehind};
 ghost use Rattle.ostep_draft.specs.First.{first_lexeme, IsValid};
-ghost use Rattle.ostep_draft.specs.Held.{Puts, PutsString};
+ghost use Rattle.ostep_draft.specs.Held.{AllRemain, Puts, PutsString};
+ghost use Rattle.ostep_draft.specs.Drafted.{DraftsValue, DraftsEnded, DraftsItems};
+ghost use Rattle.ostep_draft.specs.Drafted.{DraftsRow, DraftsRows, DraftsText};
 
 use crate::failure::NoDraft;
 use crate::first::First;
 use crate::rows::Rows;
-use ostep_lex::{Cursor, Token, TokenKind, next_mark, next_plain, next_token};
+use crate::tokens::Tokens;
+use ostep_lex::{Token, TokenKind};
 use plist_draft::Draft;
-use plist_value::{ScalarRef, TextRef};
+use plist_value::{MAX_DEPTH, ScalarRef, TextRef};
 use std::alloc::Global;
 
-// Where the reader stands in an input, and what it has put for the tokens before.
+// How many levels deep what lies in a table without braces may be.
+const BARE_LEVELS: u64 = MAX_DEPTH - 1;
+
+// The tokens that are to be read of an input, and what was put for those before.
 #[derive(Drop)]
 pub(crate) struct Reader<'a> {
     pub(crate) alloc: Global,
-    pub(crate) cursor: Cursor<'a>,
+    pub(crate) tokens: Tokens<'a>,
     pub(crate) draft: Draft,
 }
 
 impl<'a> Reader<'a> {
-    // The next token, or None where the text ends.
-    pub(crate) fn next(&mut self) -> Result<Option<Token>, NoDraft>
-        ensures read { (octets : List ℕ) (tokens : List Placed)
-            → StandsBehind octets tokens self.old.cursor
-            → IfOk result (λ found. MatchOption found (HasTokens octets tokens)
-            (λ token. StandsBehind octets (tokens ++ placed token ∷ []) self.new.cursor)) }
-        ensures shorter { IfOk result (λ found. IfSome found (λ _.
-            length (ahead self.new.cursor) < length (ahead self.old.cursor))) }
-        ensures draft { self.new.draft ≡ self.old.draft }
+    // Puts the value of the whole text, and answers its number.
+    pub(crate) fn text(&mut self) -> Result<u32, NoDraft>
+        ensures within { IfOk result (λ top. top < length (objects self.new.draft)) }
+        ensures read { (octets : List ℕ) → StandsBehind octets [] self.old.tokens.cursor
+            → IfOk result (λ top. DraftsText octets top (objects self.new.draft)) }
     {
-        match next_token(self.alloc, self.cursor)? {
-            Some((token, behind)) => {
-                self.cursor = behind;
-                Ok(Some(token))
+        if self.tokens.is_bare()? {
+            self.bare_table()
+        } else {
+            self.whole_value()
+        }
+    }
+
+    // Puts the value that is the whole text, and answers its number.
+    fn whole_value(&mut self) -> Result<u32, NoDraft>
+        ensures within { IfOk result (λ top. top < length (objects self.new.draft)) }
+        ensures read { (octets : List ℕ) → StandsBehind octets [] self.old.tokens.cursor
+            → IfOk result (λ top. DraftsText octets top (objects self.new.draft)) }
+    {
+        let first = self.tokens.expect_first()?;
+        let top = self.value(first, MAX_DEPTH)?;
+        let None = self.tokens.next()? else {
+            return Err(NoDraft);
+        };
+        Ok(top)
+    }
+
+    // Puts the table without braces that is the whole text, and answers its number.
+    fn bare_table(&mut self) -> Result<u32, NoDraft>
+        ensures within { IfOk result (λ top. top < length (objects self.new.draft)) }
+        ensures read { (octets : List ℕ) → StandsBehind octets [] self.old.tokens.cursor
+            → IfOk result (λ top. DraftsText octets top (objects self.new.draft)) }
+    {
+        let mut rows = Rows::new(self.alloc);
+        while let Some(key) = self.tokens.next_first()? {
+            let row = self.row(key, BARE_LEVELS)?;
+            rows.push(row)?;
+        }
+        self.put_table(&rows)
+    }
+
+    // Puts the value that begins with the token, of at most so many levels, and answers its number.
+    #[cycle(value)]
+    #[inline(always)]
+    fn value(&mut self, first: First<'_>, levels: u64) -> Result<u32, NoDraft>
+        requires { IsValid first }
+        ensures shorter { OnOk result
+            (length (ahead self.new.tokens.cursor) ≤ length (ahead self.old.tokens.cursor)) }
+        ensures kept { OnOk result (AllRemain (objects self.old.draft) (objects self.new.draft)) }
+        ensures within { IfOk result (λ number. number < length (objects self.new.draft)) }
+        ensures read { (octets : List ℕ) (tokens : List Placed) (at : Placed)
+            → at.lexeme ≡ first_lexeme first.entry
+            → StandsBehind octets (tokens ++ at ∷ []) self.old.tokens.cursor
+            → IfOk result (λ number. DraftsValue octets tokens at.lexeme number
+            (objects self.new.draft) self.new.tokens.cursor) }
+    {
+        if levels == 0 {
+            return Err(NoDraft);
+        }
+        match first {
+            First::Plain(text) => self.put_text(text),
+            First::Other(token) => self.token_value(token, levels - 1),
+        }
+    }
+
+    // Puts the value that begins with the token, and answers its number; what lies in the value may
+    // have so many levels.
+    #[cycle(value)]
+    fn token_value(&mut self, first: Token, levels: u64) -> Result<u32, NoDraft>
+        ensures shorter { OnOk result
+            (length (ahead self.new.tokens.cursor) ≤ length (ahead self.old.tokens.cursor)) }
+        ensures kept { OnOk result (AllRemain (objects self.old.draft) (objects self.new.draft)) }
+        ensures within { IfOk result (λ number. number < length (objects self.new.draft)) }
+        ensures read { (octets : List ℕ) (tokens : List Placed) (at : Placed)
+            → at.lexeme ≡ lexeme_of first.kind
+            → StandsBehind octets (tokens ++ at ∷ []) self.old.tokens.cursor
+            → IfOk result (λ number. DraftsValue octets tokens at.lexeme number
+            (objects self.new.draft) self.new.tokens.cursor) }
+    {
+        match first.kind {
+            TokenKind::Text(text) => self.put_text(TextRef::of_units(text.units())),
+            TokenKind::Octets(octets) => self.put_data(&octets),
+            TokenKind::ParenOpen => {
+                let items = self.items(levels)?;
+                self.put_list(&items)
             }
-            None => Ok(None),
-        }
-    }
-
-    // The next token, where a text may not end.
-    pub(crate) fn expect(&mut self) -> Result<Token, NoDraft>
-        ensures read { (octets : List ℕ) (tokens : List Placed)
-            → StandsBehind octets tokens self.old.cursor
-            → IfOk result (λ token.
-            StandsBehind octets (tokens ++ placed token ∷ []) self.new.cursor) }
-        ensures shorter { OnOk result
-            (length (ahead self.new.cursor) < length (ahead self.old.cursor)) }
-        ensures draft { self.new.draft ≡ self.old.draft }
-    {
-        match self.next()? {
-            Some(token) => Ok(token),
-            None => Err(NoDraft),
-        }
-    }
-
-    // The next token, as `expect` has it, with less work where it is the mark.
-    #[inline(always)]
-    pub(crate) fn expect_mark(&mut self, mark: char) -> Result<Token, NoDraft>
-        ensures read { (octets : List ℕ) (tokens : List Placed)
-            → StandsBehind octets tokens self.old.cursor
-            → IfOk result (λ token.
-            StandsBehind octets (tokens ++ placed token ∷ []) self.new.cursor) }
-        ensures shorter { OnOk result
-            (length (ahead self.new.cursor) < length (ahead self.old.cursor)) }
-        ensures draft { self.new.draft ≡ self.old.draft }
-    {
-        match next_mark(self.cursor, mark) {
-            Some((token, behind)) => {
-                self.cursor = behind;
-                Ok(token)
+            TokenKind::BraceOpen => {
+                let rows = self.rows(levels)?;
+                self.put_table(&rows)
             }
-            None => self.expect(),
+            _ => Err(NoDraft),
         }
     }
 
-    // The next token, or None where the text ends, with less work where it is a plain string.
-    #[inline(always)]
-    pub(crate) fn next_first(&mut self) -> Result<Option<First<'a>>, NoDraft>
-        ensures read { IfOk result (λ found. IfSome found (λ first.
-            AddsToken (first_lexeme first) self.old.cursor self.new.cursor)) }
-        ensures ends { (octets : List ℕ) (tokens : List Placed)
-            → StandsBehind octets tokens self.old.cursor
-            → IfOk result (λ found. IfNone found (HasTokens octets tokens)) }
-        ensures valid { IfOk result (λ found. IfSome found IsValid) }
-        ensures shorter { IfOk result (λ found. IfSome found (λ _.
-            length (ahead self.new.cursor) < length (ahead self.old.cursor))) }
-        ensures draft { self.new.draft ≡ self.old.draft }
-    {
-        if let Some((text, behind)) = next_plain(self.cursor) {
-            self.cursor = behind;
-            return Ok(Some(First::Plain(text)));
-        }
-        match self.next()? {
-            Some(token) => Ok(Some(First::Other(token))),
-            None => Ok(None),
-        }
-    }
-
-    // The same, where a text may not end.
-    #[inline(always)]
-    pub(crate) fn expect_first(&mut self) -> Result<First<'a>, NoDraft>
-        ensures read { IfOk result (λ first.
-            AddsToken (first_lexeme first) self.old.cursor self.new.cursor) }
-        ensures valid { IfOk result IsValid }
+    // Puts the items of a list, behind its parenthesis, and reads the parenthesis that ends it.
+    #[cycle(value)]
+    fn items(&mut self, levels: u64) -> Result<Vec<u32>, NoDraft>
         ensures shorter { OnOk result
-            (length (ahead self.new.cursor) < length (ahead self.old.cursor)) }
-        ensures draft { self.new.draft ≡ self.old.draft }
+            (length (ahead self.new.tokens.cursor) ≤ length (ahead self.old.tokens.cursor)) }
+        ensures kept { OnOk result (AllRemain (objects self.old.draft) (objects self.new.draft)) }
+        ensures read { (octets : List ℕ) (tokens : List Placed)
+            → StandsBehind octets tokens self.old.tokens.cursor
+            → IfOk result (λ items. DraftsItems octets tokens (paren_close ∷ []) items.items
+            (objects self.new.draft) self.new.tokens.cursor) }
     {
-        match self.next_first()? {
-            Some(first) => Ok(first),
-            None => Err(NoDraft),
+        let mut items = Vec::new(self.alloc);
+        loop {
+            let first = self.tokens.expect_first()?;
+            if first.ends_list() {
+                return Ok(items);
+            }
+            let item = self.value(first, levels)?;
+            items.push(item)?;
+            let behind = self.tokens.expect_mark(',')?;
+            match behind.kind {
+                TokenKind::ParenClose => return Ok(items),
+                TokenKind::Comma => {}
+                _ => return Err(NoDraft),
+            }
+        }
+    }
+
+    // Puts the rows of a table, behind its brace, and reads the brace that ends it.
+    #[cycle(value)]
+    fn rows(&mut self, levels: u64) -> Result<Rows, NoDraft>
+        ensures shorter { OnOk result
+            (length (ahead self.new.tokens.cursor) ≤ length (ahead self.old.tokens.cursor)) }
+        ensures kept { OnOk result (AllRemain (objects self.old.draft) (objects self.new.draft)) }
+        ensures even { IfOk result (λ rows.
+            length rows.keys.items ≡ length rows.values.items) }
+        ensures read { (octets : List ℕ) (tokens : List Placed)
+            → StandsBehind octets tokens self.old.tokens.cursor
+            → IfOk result (λ rows. DraftsRows octets tokens (brace_close ∷ []) rows.keys.items
+            rows.values.items (objects self.new.draft) self.new.tokens.cursor) }
+    {
+        let mut rows = Rows::new(self.alloc);
+        loop {
+            let key = self.tokens.expect_first()?;
+            if key.ends_table() {
+                return Ok(rows);
+            }
+            let row = self.row(key, levels)?;
+            rows.push(row)?;
+        }
+    }
+
+    // Puts a row, behind its key, which is to be a string, and answers the numbers of its key and
+    // of its value.
+    #[cycle(value)]
+    fn row(&mut self, key: First<'_>, levels: u64) -> Result<(u32, u32), NoDraft>
+        requires { IsValid key }
+        ensures shorter { OnOk result
+            (length (ahead self.new.tokens.cursor) ≤ length (ahead self.old.tokens.cursor)) }
+        ensures kept { OnOk result (AllRemain (objects self.old.draft) (objects self.new.draft)) }
+        ensures read { (octets : List ℕ) (tokens : List Placed) (at : Placed)
+            → at.lexeme ≡ first_lexeme key.entry
+            → StandsBehind octets (tokens ++ at ∷ []) self.old.tokens.cursor
+            → IfOk result (λ row. DraftsRow octets tokens row
+            (objects self.new.draft) self.new.tokens.cursor) }
+    {
+        let number = self.put_string(key)?;
+        let behind = self.tokens.expect_mark('=')?;
+        match behind.kind {
+            TokenKind::Equals => {
+                let value = self.row_value(levels)?;
+                Ok((number, value))
+            }
+            TokenKind::Semicolon => Ok((number, number)),
+            _ => Err(NoDraft),
+        }
+    }
+
+    // Puts the value of a row, behind its `=`, and reads the `;` behind it.
+    #[cycle(value)]
+    fn row_value(&mut self, levels: u64) -> Result<u32, NoDraft>
+        ensures shorter { OnOk result
+            (length (ahead self.new.tokens.cursor) ≤ length (ahead self.old.tokens.cursor)) }
+        ensures kept { OnOk result (AllRemain (objects self.old.draft) (objects self.new.draft)) }
+        ensures read { (octets : List ℕ) (tokens : List Placed)
+            → StandsBehind octets tokens self.old.tokens.cursor
+            → IfOk result (λ number. DraftsEnded octets tokens number
+            (objects self.new.draft) self.new.tokens.cursor) }
+    {
+        let first = self.tokens.expect_first()?;
+        let value = self.value(first, levels)?;
+        let behind = self.tokens.expect_mark(';')?;
+        match behind.kind {
+            TokenKind::Semicolon => Ok(value),
+            _ => Err(NoDraft),
         }
     }
 
     // Puts a text, and answers its number.
-    pub(crate) fn put_text(&mut self, text: TextRef<'_>) -> Result<u32, NoDraft>
+    fn put_text(&mut self, text: TextRef<'_>) -> Result<u32, NoDraft>
         requires { AreUnits (units_of text) }
         ensures put { IfOk result (Puts (objects self.old.draft) (objects self.new.draft)
             (holds_scalar (one_text (units_of text.entry)))) }
-        ensures cursor { self.new.cursor ≡ self.old.cursor }
+        ensures cursor { self.new.tokens.cursor ≡ self.old.tokens.cursor }
     {
         let scalar = ScalarRef::Text(text);
         Ok(self.draft.share_scalar(&scalar)?)
@@ -136,11 +238,11 @@ impl<'a> Reader<'a> {
 
     // Puts the text of a string, and answers its number.
     #[inline(always)]
-    pub(crate) fn put_string(&mut self, first: First<'_>) -> Result<u32, NoDraft>
+    fn put_string(&mut self, first: First<'_>) -> Result<u32, NoDraft>
         requires { IsValid first }
         ensures put { IfOk result (PutsString (first_lexeme first.entry) (objects self.old.draft)
             (objects self.new.draft)) }
-        ensures cursor { self.new.cursor ≡ self.old.cursor }
+        ensures cursor { self.new.tokens.cursor ≡ self.old.tokens.cursor }
     {
         match first {
             First::Plain(text) => self.put_text(text),
@@ -151,7 +253,7 @@ impl<'a> Reader<'a> {
     fn put_token(&mut self, kind: &TokenKind) -> Result<u32, NoDraft>
         ensures put { IfOk result (PutsString (lexeme_of kind.now) (objects self.old.draft)
             (objects self.new.draft)) }
-        ensures cursor { self.new.cursor ≡ self.old.cursor }
+        ensures cursor { self.new.tokens.cursor ≡ self.old.tokens.cursor }
     {
         match kind {
             TokenKind::Text(text) => self.put_text(TextRef::of_units(text.units())),
@@ -160,30 +262,30 @@ impl<'a> Reader<'a> {
     }
 
     // Puts data, and answers its number.
-    pub(crate) fn put_data(&mut self, octets: &[u8]) -> Result<u32, NoDraft>
+    fn put_data(&mut self, octets: &[u8]) -> Result<u32, NoDraft>
         ensures put { IfOk result (Puts (objects self.old.draft) (objects self.new.draft)
             (holds_scalar (bytes octets.now))) }
-        ensures cursor { self.new.cursor ≡ self.old.cursor }
+        ensures cursor { self.new.tokens.cursor ≡ self.old.tokens.cursor }
     {
         let scalar = ScalarRef::Bytes(octets);
         Ok(self.draft.put_scalar(&scalar)?)
     }
 
     // Puts a list of these objects, and answers its number.
-    pub(crate) fn put_list(&mut self, items: &[u32]) -> Result<u32, NoDraft>
+    fn put_list(&mut self, items: &[u32]) -> Result<u32, NoDraft>
         ensures put { IfOk result (Puts (objects self.old.draft) (objects self.new.draft)
             (holds_list items.now)) }
-        ensures cursor { self.new.cursor ≡ self.old.cursor }
+        ensures cursor { self.new.tokens.cursor ≡ self.old.tokens.cursor }
     {
         Ok(self.draft.put_list(items)?)
     }
 
     // Puts a table of these objects, and answers its number.
-    pub(crate) fn put_table(&mut self, rows: &Rows) -> Result<u32, NoDraft>
+    fn put_table(&mut self, rows: &Rows) -> Result<u32, NoDraft>
         requires { length rows.now.keys.items ≡ length rows.now.values.items }
         ensures put { IfOk result (Puts (objects self.old.draft) (objects self.new.draft)
             (holds_table rows.now.keys.items rows.now.values.items)) }
-        ensures cursor { self.new.cursor ≡ self.old.cursor }
+        ensures cursor { self.new.tokens.cursor ≡ self.old.tokens.cursor }
     {
         Ok(self.draft.put_table(&rows.keys, &rows.values)?)
     }

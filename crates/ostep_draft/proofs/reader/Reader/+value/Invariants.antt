@@ -26,28 +26,28 @@ abbrev pub decreases-row_value : goal.decreases-row_value
 decreases-row_value l = 5 * l.levels + 1
 
 abbrev pub decreases-items-loop-items : goal.decreases-items-loop-items
-decreases-items-loop-items l = length (ahead l.self.cursor)
+decreases-items-loop-items l = length (ahead l.self.tokens.cursor)
 
 abbrev pub decreases-rows-loop-rows : goal.decreases-rows-loop-rows
-decreases-rows-loop-rows l = length (ahead l.self.cursor)
+decreases-rows-loop-rows l = length (ahead l.self.tokens.cursor)
 
 -- items so far
 abbrev pub invariant-items-loop-items : goal.invariant-items-loop-items
 invariant-items-loop-items l =
     record {
-      shorter : length (ahead l.self.cursor) ≤ length (ahead l.initial.self.cursor);
+      shorter : length (ahead l.self.tokens.cursor) ≤ length (ahead l.initial.self.tokens.cursor);
       kept : AllRemain (objects l.initial.self.draft) (objects l.self.draft);
-      read : (octets : List ℕ) (tokens : List Placed) → StandsBehind octets tokens l.initial.self.cursor
-          → DraftsItems octets tokens [] l.items.items (objects l.self.draft) l.self.cursor;
+      read : (octets : List ℕ) (tokens : List Placed) → StandsBehind octets tokens l.initial.self.tokens.cursor
+          → DraftsItems octets tokens [] l.items.items (objects l.self.draft) l.self.tokens.cursor;
     }
 
 -- rows so far
 abbrev pub invariant-rows-loop-rows : goal.invariant-rows-loop-rows
 invariant-rows-loop-rows l =
     record {
-      shorter : length (ahead l.self.cursor) ≤ length (ahead l.initial.self.cursor);
+      shorter : length (ahead l.self.tokens.cursor) ≤ length (ahead l.initial.self.tokens.cursor);
       kept : AllRemain (objects l.initial.self.draft) (objects l.self.draft);
       even : length l.rows.keys.items ≡ length l.rows.values.items;
-      read : (octets : List ℕ) (tokens : List Placed) → StandsBehind octets tokens l.initial.self.cursor
-          → DraftsRows octets tokens [] l.rows.keys.items l.rows.values.items (objects l.self.draft) l.self.cursor;
+      read : (octets : List ℕ) (tokens : List Placed) → StandsBehind octets tokens l.initial.self.tokens.cursor
+          → DraftsRows octets tokens [] l.rows.keys.items l.rows.values.items (objects l.self.draft) l.self.tokens.cursor;
     }

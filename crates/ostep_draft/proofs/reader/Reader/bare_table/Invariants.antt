@@ -5,13 +5,13 @@ use Rattle.ostep_draft.specs.Drafted.{DraftsRows}
 use Rattle.ostep_draft.proofs.reader.Reader.bare_table.Given as goal
 
 abbrev pub decreases-loop-rows : goal.decreases-loop-rows
-decreases-loop-rows l = length (ahead l.self.cursor)
+decreases-loop-rows l = length (ahead l.self.tokens.cursor)
 
 -- rows so far
 abbrev pub invariant-loop-rows : goal.invariant-loop-rows
 invariant-loop-rows l =
     record {
       even : length l.rows.keys.items ≡ length l.rows.values.items;
-      read : (octets : List ℕ) → StandsBehind octets [] l.initial.self.cursor
-          → DraftsRows octets [] [] l.rows.keys.items l.rows.values.items (objects l.self.draft) l.self.cursor;
+      read : (octets : List ℕ) → StandsBehind octets [] l.initial.self.tokens.cursor
+          → DraftsRows octets [] [] l.rows.keys.items l.rows.values.items (objects l.self.draft) l.self.tokens.cursor;
     }

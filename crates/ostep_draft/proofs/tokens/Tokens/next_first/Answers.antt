@@ -1,7 +1,7 @@
 use Rattle.std.proofs.Common.{◌∷◌, ◌++◌, [], refl}
 use Rattle.ostep_lex.specs.Lexeme.{placed}
 use Rattle.ostep_lex.specs.Cursor.{StandsBehind}
-use Rattle.ostep_draft.proofs.reader.Reader.next_first.Goals as goal
+use Rattle.ostep_draft.proofs.tokens.Tokens.next_first.Goals as goal
 
 pub returns-in-Some-2-clause-read : goal.returns-in-Some-2-clause-read
 returns-in-Some-2-clause-read c = record {
