@@ -1,5 +1,5 @@
 -- A table without braces, row by row.
-use Rattle.std.proofs.Common.{◌≡◌, ℕ, ◌+◌, ◌-◌, ◌*◌, ◌≤◌, true, false, List, [], ◌∷◌, ◌++◌, length, refl, sym, ap, subst, ◌∙◌, arith}
+use Rattle.std.proofs.Common.{◌≡◌, ℕ, ◌+◌, ◌*◌, ◌≤◌, true, false, List, [], ◌∷◌, length, refl, sym, ap, subst, ◌∙◌, arith}
 use Rattle.std.specs.Prelude.{Result, IfErr}
 use Rattle.std.proofs.lemmas.Result.{IfErr-weaker}
 use Rattle.plist_value.specs.declared.budget.Budget.{Budget}
@@ -15,12 +15,13 @@ use Rattle.ostep_text.specs.Sorting
 use Rattle.ostep_text.specs.Sorting.{has_key}
 use Rattle.ostep_text.specs.Begun
 use Rattle.ostep_text.specs.Begun.{nothing, opened, with_rows, with_key, begins_value}
-use Rattle.ostep_text.specs.Text.{IsText, IsNoText, lexemes}
-use Rattle.ostep_text.specs.Stands.{Stands, IsPhrase}
+use Rattle.ostep_text.specs.Text.{IsText, IsNoText}
+use Rattle.ostep_text.specs.Stands.{Stands}
 use Rattle.ostep_text.specs.Laws.{FaultyIsNoText}
 use Rattle.ostep_text.specs.declared.fault.TextFault.{TextFault}
 use Rattle.ostep_text.specs.declared.fault.TextFault.TheVariants.{OutOfMemory}
 use Rattle.ostep_text.specs.declared.reader.Reader.{Reader}
+use Rattle.ostep_text.specs.declared.tokens.Tokens.{Tokens}
 use Rattle.ostep_text.specs.Machine
 use Rattle.ostep_text.specs.Machine.{runs, at_front, begun}
 use Rattle.ostep_text.specs.Reading.{Front, AreBefore, HasRead, IsLeft, MayRefuse, ReadsRow, Takes, TakesPairs, TakesRow}
@@ -36,7 +37,7 @@ use Rattle.ostep_text.proofs.TakeSteps.{no-pairs-taken, pair-taken}
 -- rows so far, one at least
 pub record BareRead (octets : List ℕ) (left : Budget) (pairs : Pairs) (reader : Reader) : Type 0 where
   pub tokens : List Placed
-  pub has : HasRead octets tokens reader
+  pub has : HasRead octets tokens reader.tokens
   pub whole : Front
   pub before : AreBefore tokens whole
   pub rows : Pairs
@@ -53,12 +54,12 @@ rows-none : {tokens rest : List Lexeme} {rows : Pairs} → RowsPhrase tokens row
 rows-none rows_end n e = n e
 rows-none (a_row p r d) n e = row-none p e
 
-row-some : {octets : List ℕ} {tokens : List Placed} {key : List ℕ} {v : Plist} {reader : Reader} (r : ReadsRow octets tokens key v reader) → ¬ (r.inside [] ≡ [])
+row-some : {octets : List ℕ} {tokens : List Placed} {key : List ℕ} {v : Plist} {source : Tokens} (r : ReadsRow octets tokens key v source) → ¬ (r.inside [] ≡ [])
 row-some r e = row-none (r.spells []) e
 
-pub bare-first : {octets : List ℕ} {left : Budget} {key : List ℕ} {v : Plist} {reader : Reader} → TakesRow left 511 key v reader.left → ReadsRow octets [] key v reader
+pub bare-first : {octets : List ℕ} {left : Budget} {key : List ℕ} {v : Plist} (reader : Reader) → TakesRow left 511 key v reader.left → ReadsRow octets [] key v reader.tokens
     → BareRead octets left (pair key v no_pairs) reader
-bare-first {left = left} {key} {v} t r = record {
+bare-first {left = left} {key} {v} reader t r = record {
   tokens = r.reads.all;
   has = r.reads.has;
   whole = r.inside;
@@ -70,9 +71,9 @@ bare-first {left = left} {key} {v} t r = record {
   some = row-some r;
 }
 
-pub bare-more : {octets : List ℕ} {left : Budget} {pairs : Pairs} {key : List ℕ} {v : Plist} {old after : Reader} (b : BareRead octets left pairs old)
-    → TakesRow old.left 511 key v after.left → has_key key pairs ≡ false → ReadsRow octets b.tokens key v after → BareRead octets left (put_pair key v pairs) after
-bare-more {pairs = pairs} {key = key} {v = v} b t n r = record {
+pub bare-more : {octets : List ℕ} {left : Budget} {pairs : Pairs} {key : List ℕ} {v : Plist} {old : Reader} (after : Reader) (b : BareRead octets left pairs old)
+    → TakesRow old.left 511 key v after.left → has_key key pairs ≡ false → ReadsRow octets b.tokens key v after.tokens → BareRead octets left (put_pair key v pairs) after
+bare-more {pairs = pairs} {key = key} {v = v} after b t n r = record {
   tokens = r.reads.all;
   has = r.reads.has;
   whole = λ rest. b.whole (r.inside rest);
@@ -126,8 +127,8 @@ first_key-left key i s = record {
   levels_left = omega (arith, i.levels_left);
 }
 
-pub first_alone-refuses : {octets : List ℕ} {reader : Reader} (at behind : Placed) (octet : ℕ) (key : List ℕ) (levels : ℕ) (left : Budget) → at.lexeme ≡ string key → at.start ≡ octet
-    → behind.lexeme ≡ semicolon → HasRead octets (at ∷ behind ∷ []) reader → IsLeft left levels (with_key key (with_rows no_pairs (opened nothing)))
+pub first_alone-refuses : {octets : List ℕ} {source : Tokens} (at behind : Placed) (octet : ℕ) (key : List ℕ) (levels : ℕ) (left : Budget) → at.lexeme ≡ string key → at.start ≡ octet
+    → behind.lexeme ≡ semicolon → HasRead octets (at ∷ behind ∷ []) source → IsLeft left levels (with_key key (with_rows no_pairs (opened nothing)))
     → MayRefuse octets octet levels (2 * length key) left
 first_alone-refuses at behind octet key levels left l s e h i =
     string-refuses [] (behind ∷ []) at octet key (λ rest. rest) levels (2 * length key) left l s (λ rest. refl) h

@@ -1,20 +1,20 @@
 -- What was read, from its parts.
-use Rattle.std.proofs.Common.{◌≡◌, ℕ, false, List, [], ◌∷◌, ◌++◌, refl, sym, ap, subst, ◌∙◌}
+use Rattle.std.proofs.Common.{◌≡◌, ℕ, false, List, [], ◌∷◌, ◌++◌, refl, sym, subst, ◌∙◌}
 use Rattle.plist_value.specs.Plist.{Plist, scalar, text, bytes, list, table, Items, no_items, Pairs, no_pairs, ArePairs}
 use Rattle.plist_value.proofs.Pairs.{put_pair}
 use Rattle.ostep_lex.specs.Lexeme.{Lexeme, Placed, brace_open, brace_close, paren_open, paren_close, comma, semicolon, equals, text as string, octets as data_token}
 use Rattle.ostep_text.specs.Phrase.{Phrase, a_string, some_data, a_list, a_table, items_end, rows_end, with_value, key_alone}
 use Rattle.ostep_text.specs.Sorting.{has_key, none}
-use Rattle.ostep_text.specs.declared.reader.Reader.{Reader}
+use Rattle.ostep_text.specs.declared.tokens.Tokens.{Tokens}
 use Rattle.ostep_text.specs.Reading.{Front, AreBefore, HasRead, ReadsOn, ReadsValue, ReadsEnded, ReadsItems, ReadsRow, ReadsRows}
 use Rattle.ostep_text.proofs.PhraseSteps.{push, push_row, items-more, items-last, rows-more}
 use Rattle.ostep_text.proofs.SortingSteps.{reordered-more, put-stands, reordered-has, pairs-ascend}
 use Rattle.ostep_text.proofs.Standing.{before-more}
 
-pub reads-none : {octets : List ℕ} {tokens : List Placed} {reader : Reader} → HasRead octets tokens reader → ReadsOn octets tokens (λ rest. rest) reader
+pub reads-none : {octets : List ℕ} {tokens : List Placed} {source : Tokens} → HasRead octets tokens source → ReadsOn octets tokens (λ rest. rest) source
 reads-none {tokens = tokens} h = record { all = tokens; has = h; follow = λ whole b. b }
 
-pub reads-token : {octets : List ℕ} {after : Reader} (tokens : List Placed) (token : Placed) (l : Lexeme) → token.lexeme ≡ l
+pub reads-token : {octets : List ℕ} {after : Tokens} (tokens : List Placed) (token : Placed) (l : Lexeme) → token.lexeme ≡ l
     → HasRead octets (tokens ++ token ∷ []) after → ReadsOn octets tokens (λ rest. l ∷ rest) after
 reads-token tokens token l e h = record {
   all = tokens ++ token ∷ [];
@@ -23,7 +23,7 @@ reads-token tokens token l e h = record {
 }
 
 -- what was read first, and what was read then
-pub reads-then : {octets : List ℕ} {tokens : List Placed} {mid after : Reader} {inside more : Front} (r : ReadsOn octets tokens inside mid) → ReadsOn octets r.all more after
+pub reads-then : {octets : List ℕ} {tokens : List Placed} {mid after : Tokens} {inside more : Front} (r : ReadsOn octets tokens inside mid) → ReadsOn octets r.all more after
     → ReadsOn octets tokens (λ rest. inside (more rest)) after
 reads-then {inside = inside} r s = record {
   all = s.all;
@@ -32,7 +32,7 @@ reads-then {inside = inside} r s = record {
 }
 
 -- values
-pub string-read : {octets : List ℕ} {after : Reader} (tokens : List Placed) (first : Placed) (units : List ℕ) → first.lexeme ≡ string units
+pub string-read : {octets : List ℕ} {after : Tokens} (tokens : List Placed) (first : Placed) (units : List ℕ) → first.lexeme ≡ string units
     → HasRead octets (tokens ++ first ∷ []) after → ReadsValue octets tokens first.lexeme (scalar (text units)) after
 string-read tokens first units e h = record {
   inside = λ rest. rest;
@@ -40,7 +40,7 @@ string-read tokens first units e h = record {
   reads = reads-token tokens first first.lexeme refl h;
 }
 
-pub data-read : {octets : List ℕ} {after : Reader} (tokens : List Placed) (first : Placed) (xs : List ℕ) → first.lexeme ≡ data_token xs
+pub data-read : {octets : List ℕ} {after : Tokens} (tokens : List Placed) (first : Placed) (xs : List ℕ) → first.lexeme ≡ data_token xs
     → HasRead octets (tokens ++ first ∷ []) after → ReadsValue octets tokens first.lexeme (scalar (bytes xs)) after
 data-read tokens first xs e h = record {
   inside = λ rest. rest;
@@ -49,7 +49,7 @@ data-read tokens first xs e h = record {
 }
 
 -- behind a first token
-behind-first : {octets : List ℕ} {after : Reader} {inside : Front} (tokens : List Placed) (first : Placed) → ReadsOn octets (tokens ++ first ∷ []) inside after
+behind-first : {octets : List ℕ} {after : Tokens} {inside : Front} (tokens : List Placed) (first : Placed) → ReadsOn octets (tokens ++ first ∷ []) inside after
     → ReadsOn octets tokens (λ rest. first.lexeme ∷ inside rest) after
 behind-first tokens first r = record {
   all = r.all;
@@ -57,7 +57,7 @@ behind-first tokens first r = record {
   follow = λ whole b. r.follow (λ rest. whole (first.lexeme ∷ rest)) (before-more tokens first whole b);
 }
 
-pub list-read : {octets : List ℕ} {vs : Items} {after : Reader} (tokens : List Placed) (first : Placed) → first.lexeme ≡ paren_open
+pub list-read : {octets : List ℕ} {vs : Items} {after : Tokens} (tokens : List Placed) (first : Placed) → first.lexeme ≡ paren_open
     → ReadsItems octets (tokens ++ first ∷ []) (paren_close ∷ []) vs after → ReadsValue octets tokens first.lexeme (list vs) after
 list-read {vs = vs} tokens first e i = record {
   inside = i.inside;
@@ -65,7 +65,7 @@ list-read {vs = vs} tokens first e i = record {
   reads = behind-first tokens first i.reads;
 }
 
-pub table-read : {octets : List ℕ} {ps : Pairs} {after : Reader} (tokens : List Placed) (first : Placed) → first.lexeme ≡ brace_open
+pub table-read : {octets : List ℕ} {ps : Pairs} {after : Tokens} (tokens : List Placed) (first : Placed) → first.lexeme ≡ brace_open
     → ReadsRows octets (tokens ++ first ∷ []) (brace_close ∷ []) ps after → ArePairs ps → ReadsValue octets tokens first.lexeme (table ps) after
 table-read {ps = ps} tokens first e r a = record {
   inside = r.inside;
@@ -75,10 +75,10 @@ table-read {ps = ps} tokens first e r a = record {
 }
 
 -- items
-pub no-items-read : {octets : List ℕ} {tokens : List Placed} {reader : Reader} → HasRead octets tokens reader → ReadsItems octets tokens [] no_items reader
+pub no-items-read : {octets : List ℕ} {tokens : List Placed} {source : Tokens} → HasRead octets tokens source → ReadsItems octets tokens [] no_items source
 no-items-read h = record { inside = λ rest. rest; spells = λ rest. items_end; reads = reads-none h }
 
-pub item-read : {octets : List ℕ} {tokens : List Placed} {first : Lexeme} {vs : Items} {w : Plist} {old mid after : Reader} (i : ReadsItems octets tokens [] vs old)
+pub item-read : {octets : List ℕ} {tokens : List Placed} {first : Lexeme} {vs : Items} {w : Plist} {old mid after : Tokens} (i : ReadsItems octets tokens [] vs old)
     (v : ReadsValue octets i.reads.all first w mid) (token : Placed) → token.lexeme ≡ comma → HasRead octets (v.reads.all ++ token ∷ []) after → ReadsItems octets tokens [] (push vs w) after
 item-read {first = first} i v token e h = record {
   inside = λ rest. i.inside (first ∷ v.inside (comma ∷ rest));
@@ -86,7 +86,7 @@ item-read {first = first} i v token e h = record {
   reads = reads-then i.reads (reads-then v.reads (reads-token v.reads.all token comma e h));
 }
 
-pub last_item-read : {octets : List ℕ} {tokens : List Placed} {first : Lexeme} {vs : Items} {w : Plist} {old mid after : Reader} (i : ReadsItems octets tokens [] vs old)
+pub last_item-read : {octets : List ℕ} {tokens : List Placed} {first : Lexeme} {vs : Items} {w : Plist} {old mid after : Tokens} (i : ReadsItems octets tokens [] vs old)
     (v : ReadsValue octets i.reads.all first w mid) (token : Placed) → token.lexeme ≡ paren_close → HasRead octets (v.reads.all ++ token ∷ []) after
     → ReadsItems octets tokens (paren_close ∷ []) (push vs w) after
 last_item-read {first = first} i v token e h = record {
@@ -95,7 +95,7 @@ last_item-read {first = first} i v token e h = record {
   reads = reads-then i.reads (reads-then v.reads (reads-token v.reads.all token paren_close e h));
 }
 
-pub items-read : {octets : List ℕ} {tokens : List Placed} {vs : Items} {old after : Reader} (i : ReadsItems octets tokens [] vs old) (token : Placed) → token.lexeme ≡ paren_close
+pub items-read : {octets : List ℕ} {tokens : List Placed} {vs : Items} {old after : Tokens} (i : ReadsItems octets tokens [] vs old) (token : Placed) → token.lexeme ≡ paren_close
     → HasRead octets (i.reads.all ++ token ∷ []) after → ReadsItems octets tokens (paren_close ∷ []) vs after
 items-read i token e h = record {
   inside = λ rest. i.inside (paren_close ∷ rest);
@@ -104,7 +104,7 @@ items-read i token e h = record {
 }
 
 -- a row
-pub ended-read : {octets : List ℕ} {v : Plist} {mid after : Reader} (tokens : List Placed) (first : Placed) (r : ReadsValue octets tokens first.lexeme v mid) (token : Placed)
+pub ended-read : {octets : List ℕ} {v : Plist} {mid after : Tokens} (tokens : List Placed) (first : Placed) (r : ReadsValue octets tokens first.lexeme v mid) (token : Placed)
     → token.lexeme ≡ semicolon → HasRead octets (r.reads.all ++ token ∷ []) after → ReadsEnded octets tokens v after
 ended-read tokens first r token e h = record {
   inside = λ rest. first.lexeme ∷ r.inside (semicolon ∷ rest);
@@ -112,7 +112,7 @@ ended-read tokens first r token e h = record {
   reads = reads-then r.reads (reads-token r.reads.all token semicolon e h);
 }
 
-pub row-read : {octets : List ℕ} {v : Plist} {mid after : Reader} (tokens : List Placed) (at token : Placed) (key : List ℕ) → at.lexeme ≡ string key → token.lexeme ≡ equals
+pub row-read : {octets : List ℕ} {v : Plist} {mid after : Tokens} (tokens : List Placed) (at token : Placed) (key : List ℕ) → at.lexeme ≡ string key → token.lexeme ≡ equals
     → HasRead octets (tokens ++ at ∷ []) mid → ReadsEnded octets ((tokens ++ at ∷ []) ++ token ∷ []) v after → ReadsRow octets tokens key v after
 row-read {octets} {after = after} tokens at token key l e h r = record {
   inside = λ rest. string key ∷ equals ∷ r.inside rest;
@@ -122,7 +122,7 @@ row-read {octets} {after = after} tokens at token key l e h r = record {
       (behind-first tokens at (behind-first (tokens ++ at ∷ []) token r.reads)));
 }
 
-pub alone-read : {octets : List ℕ} {after : Reader} (tokens : List Placed) (at token : Placed) (key : List ℕ) → at.lexeme ≡ string key → token.lexeme ≡ semicolon
+pub alone-read : {octets : List ℕ} {after : Tokens} (tokens : List Placed) (at token : Placed) (key : List ℕ) → at.lexeme ≡ string key → token.lexeme ≡ semicolon
     → HasRead octets ((tokens ++ at ∷ []) ++ token ∷ []) after → ReadsRow octets tokens key (scalar (text key)) after
 alone-read {octets} {after} tokens at token key l e h = record {
   inside = λ rest. string key ∷ semicolon ∷ rest;
@@ -132,10 +132,10 @@ alone-read {octets} {after} tokens at token key l e h = record {
 }
 
 -- rows
-pub no-rows-read : {octets : List ℕ} {tokens : List Placed} {reader : Reader} → HasRead octets tokens reader → ReadsRows octets tokens [] no_pairs reader
+pub no-rows-read : {octets : List ℕ} {tokens : List Placed} {source : Tokens} → HasRead octets tokens source → ReadsRows octets tokens [] no_pairs source
 no-rows-read h = record { inside = λ rest. rest; rows = no_pairs; spells = λ rest. rows_end; same = none; reads = reads-none h }
 
-pub row-more-read : {octets : List ℕ} {tokens : List Placed} {ps : Pairs} {key : List ℕ} {v : Plist} {old after : Reader} (r : ReadsRows octets tokens [] ps old)
+pub row-more-read : {octets : List ℕ} {tokens : List Placed} {ps : Pairs} {key : List ℕ} {v : Plist} {old after : Tokens} (r : ReadsRows octets tokens [] ps old)
     → ReadsRow octets r.reads.all key v after → has_key key ps ≡ false → ReadsRows octets tokens [] (put_pair key v ps) after
 row-more-read {ps = ps} {key = key} {v = v} r s n = record {
   inside = λ rest. r.inside (s.inside rest);
@@ -145,7 +145,7 @@ row-more-read {ps = ps} {key = key} {v = v} r s n = record {
   reads = reads-then r.reads s.reads;
 }
 
-pub rows-read : {octets : List ℕ} {tokens : List Placed} {ps : Pairs} {old after : Reader} (r : ReadsRows octets tokens [] ps old) (token : Placed) → token.lexeme ≡ brace_close
+pub rows-read : {octets : List ℕ} {tokens : List Placed} {ps : Pairs} {old after : Tokens} (r : ReadsRows octets tokens [] ps old) (token : Placed) → token.lexeme ≡ brace_close
     → HasRead octets (r.reads.all ++ token ∷ []) after → ReadsRows octets tokens (brace_close ∷ []) ps after
 rows-read r token e h = record {
   inside = λ rest. r.inside (brace_close ∷ rest);

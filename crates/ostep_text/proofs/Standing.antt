@@ -1,5 +1,5 @@
 -- Faults that stand if the octets have tokens, from what was read.
-use Rattle.std.proofs.Common.{◌≡◌, ℕ, ◌+◌, ◌<◌, ◌≤◌, true, false, List, [], ◌∷◌, ◌++◌, length, refl, sym, ap, subst, ◌∙◌, append_assoc, append-nil, arith}
+use Rattle.std.proofs.Common.{◌≡◌, ℕ, ◌≤◌, true, false, List, [], ◌∷◌, ◌++◌, length, refl, sym, ap, subst, ◌∙◌, append_assoc, append-nil, arith}
 use Rattle.std.proofs.lemmas.List.{map-append}
 use Rattle.plist_value.specs.declared.budget.Budget.{Budget}
 use Rattle.ostep_lex.specs.Lexeme.{Lexeme, Placed}
@@ -8,18 +8,18 @@ use Rattle.ostep_lex.specs.declared.fault.LexFault.{LexFault}
 use Rattle.ostep_lex.specs.declared.fault.LexFault.TheVariants as lexer
 use Rattle.ostep_lex.specs.Stands.{Stands as StandsInTokens}
 use Rattle.ostep_lex.proofs.LawProofs.{tokens_continue}
-use Rattle.ostep_text.specs.declared.fault.TextFault.TheVariants.{Expected, Junk, DuplicateKey}
+use Rattle.ostep_text.specs.declared.fault.TextFault.TheVariants.{Expected, Junk}
 use Rattle.ostep_text.specs.Fault.{of_tokens}
 use Rattle.ostep_text.specs.Begun.{Before, NodeAt}
 use Rattle.ostep_text.specs.Text.{lexemes}
 use Rattle.ostep_text.specs.Stands as Faults
 use Rattle.ostep_text.specs.Stands.{Stands, Splits, BeginsAt, BeginsPhrase, IsPhrase, payload_at}
-use Rattle.ostep_text.specs.declared.reader.Reader.{Reader}
+use Rattle.ostep_text.specs.declared.tokens.Tokens.{Tokens}
 use Rattle.ostep_text.specs.Machine
 use Rattle.ostep_text.specs.Machine.{runs, accepts}
 use Rattle.ostep_text.specs.Reading.{Front, AreBefore, HasRead, StandsIfLexed, MayRefuse, IsLeft}
 use Rattle.ostep_text.specs.Due.{IsOpen}
-use Rattle.ostep_text.proofs.MachineLemmas.{not-accepted, phrase-accepted, stays-dead}
+use Rattle.ostep_text.proofs.MachineLemmas.{not-accepted, phrase-accepted}
 
 -- a fault of the tokens
 pub tokens-stand : (octets : List ℕ) (fault : LexFault) → StandsInTokens octets fault → Stands octets (of_tokens fault)
@@ -51,8 +51,8 @@ pub record SplitsAt (octets : List ℕ) (before : List Lexeme) (token : Placed) 
   pub others : List Placed
   pub splits : Splits octets token.start before (token.lexeme ∷ lexemes (more ++ others))
 
-pub splits-at : {octets : List ℕ} {reader : Reader} (tokens more : List Placed) (token : Placed) (whole : Front) → AreBefore tokens whole
-    → HasRead octets (tokens ++ token ∷ more) reader → (all : List Placed) → HasTokens octets all → SplitsAt octets (whole []) token more
+pub splits-at : {octets : List ℕ} {source : Tokens} (tokens more : List Placed) (token : Placed) (whole : Front) → AreBefore tokens whole
+    → HasRead octets (tokens ++ token ∷ more) source → (all : List Placed) → HasTokens octets all → SplitsAt octets (whole []) token more
 splits-at {octets} tokens more token whole b h all t =
     let c = tokens_continue octets (tokens ++ token ∷ more) all _ h.behind.before t in
     let is : all ≡ tokens ++ token ∷ (more ++ c.others) = c.first ∙ append_assoc tokens (token ∷ more) c.others in
@@ -80,8 +80,8 @@ goes-nowhere tokens whole l b d p =
     let nowhere : accepts (runs Machine.front (whole (l ∷ p.0))) ≡ false = ap accepts (d p.0) in
     cc (yes, nowhere)
 
-pub expected-at : {octets : List ℕ} {reader : Reader} (tokens : List Placed) (token : Placed) (whole : Front) → AreBefore tokens whole
-    → HasRead octets (tokens ++ token ∷ []) reader → IsOpen whole → ((rest : List Lexeme) → runs Machine.front (whole (token.lexeme ∷ rest)) ≡ Machine.dead)
+pub expected-at : {octets : List ℕ} {source : Tokens} (tokens : List Placed) (token : Placed) (whole : Front) → AreBefore tokens whole
+    → HasRead octets (tokens ++ token ∷ []) source → IsOpen whole → ((rest : List Lexeme) → runs Machine.front (whole (token.lexeme ∷ rest)) ≡ Machine.dead)
     → StandsIfLexed octets (Expected token.start)
 expected-at tokens token whole b h o d all t =
     Faults.at_token (splits-at tokens [] token whole b h all t).splits (begins-phrase tokens whole b o) (not-accepted o.unfinished) (goes-nowhere tokens whole token.lexeme b d)
@@ -98,7 +98,7 @@ expected-end {octets} tokens end whole b t e o =
       stands = e;
     }) (begins-phrase tokens whole b o) (not-accepted o.unfinished)
 
-pub expected-front : {octets : List ℕ} {reader : Reader} (token : Placed) → HasRead octets (token ∷ []) reader
+pub expected-front : {octets : List ℕ} {source : Tokens} (token : Placed) → HasRead octets (token ∷ []) source
     → ((rest : List Lexeme) → runs Machine.front (token.lexeme ∷ rest) ≡ Machine.dead) → StandsIfLexed octets (Expected token.start)
 expected-front token h d all t =
     Faults.at_front (splits-at [] [] token (λ rest. rest) (λ rest. refl) h all t).splits (goes-nowhere [] (λ rest. rest) token.lexeme (λ rest. refl) d)
@@ -111,8 +111,8 @@ is-some : (ls : List Lexeme) → ¬ (ls ≡ []) → IsSome ls
 is-some [] n = absurd (n refl)
 is-some (l ∷ ls) n = some l ls refl
 
-pub junk-at : {octets : List ℕ} {reader : Reader} (tokens : List Placed) (token : Placed) (whole : Front) → AreBefore tokens whole
-    → HasRead octets (tokens ++ token ∷ []) reader → ¬ (whole [] ≡ []) → IsPhrase (whole [])
+pub junk-at : {octets : List ℕ} {source : Tokens} (tokens : List Placed) (token : Placed) (whole : Front) → AreBefore tokens whole
+    → HasRead octets (tokens ++ token ∷ []) source → ¬ (whole [] ≡ []) → IsPhrase (whole [])
     → ((rest : List Lexeme) → runs Machine.front (whole (token.lexeme ∷ rest)) ≡ Machine.dead) → StandsIfLexed octets (Junk token.start)
 junk-at {octets} tokens token whole b h n p d all t =
     let s = splits-at tokens [] token whole b h all t in
@@ -123,8 +123,8 @@ junk-at {octets} tokens token whole b h n p d all t =
           (λ q. goes-nowhere tokens whole token.lexeme b d (subst (λ ls. BeginsPhrase (ls ++ token.lexeme ∷ [])) (sym e) q))
     ]
 
-begins-at : {octets : List ℕ} {reader : Reader} {b : Before} (tokens more : List Placed) (token : Placed) (whole : Front) → AreBefore tokens whole
-    → HasRead octets (tokens ++ token ∷ more) reader
+begins-at : {octets : List ℕ} {source : Tokens} {b : Before} (tokens more : List Placed) (token : Placed) (whole : Front) → AreBefore tokens whole
+    → HasRead octets (tokens ++ token ∷ more) source
     → ((others : List Placed) → NodeAt (whole (token.lexeme ∷ lexemes (more ++ others))) b (token.lexeme ∷ lexemes (more ++ others)))
     → (all : List Placed) → HasTokens octets all → (others : List Placed) × BeginsAt octets token.start b (token.lexeme ∷ lexemes (more ++ others))
 begins-at {b = b} tokens more token whole f h n all t =
@@ -139,8 +139,8 @@ begins-at {b = b} tokens more token whole f h n all t =
     )
 
 -- where a value or a key begins at a token, a limit that it passes is refused there
-pub node-refuses : {octets : List ℕ} {reader : Reader} {b : Before} (tokens more : List Placed) (token : Placed) (whole : Front) (levels load : ℕ) (left : Budget)
-    → AreBefore tokens whole → HasRead octets (tokens ++ token ∷ more) reader
+pub node-refuses : {octets : List ℕ} {source : Tokens} {b : Before} (tokens more : List Placed) (token : Placed) (whole : Front) (levels load : ℕ) (left : Budget)
+    → AreBefore tokens whole → HasRead octets (tokens ++ token ∷ more) source
     → ((others : List Placed) → NodeAt (whole (token.lexeme ∷ lexemes (more ++ others))) b (token.lexeme ∷ lexemes (more ++ others)))
     → ((rest : List Lexeme) → load ≤ payload_at (token.lexeme ∷ rest)) → IsLeft left levels b → MayRefuse octets token.start levels load left
 node-refuses {octets} {b = b} tokens more token whole levels load left f h n m i = record {

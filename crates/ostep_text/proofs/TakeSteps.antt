@@ -1,9 +1,9 @@
 -- What was taken from the limits, and what is left of them behind it.
-use Rattle.std.proofs.Common.{◌≡◌, ℕ, ◌+◌, ◌-◌, ◌*◌, ◌≤◌, false, List, length, refl, sym, ap, subst, ◌∙◌, arith}
+use Rattle.std.proofs.Common.{◌≡◌, ℕ, ◌-◌, ◌*◌, ◌≤◌, false, List, length, sym, subst, arith}
 use Rattle.plist_value.specs.declared.budget.Budget.{Budget}
 use Rattle.plist_value.specs.Budget.{Spends}
-use Rattle.plist_value.specs.Plist.{Plist, Scalar, text, scalar, Items, no_items, Pairs, no_pairs, list, table, AreUnits, IsScalar, IsPlist}
-use Rattle.plist_value.specs.Limits.{payload_of_scalar, nodes, depth, payload, nodes_of_items, payload_of_items, nodes_of_pairs, payload_of_pairs, depth_of_pairs}
+use Rattle.plist_value.specs.Plist.{Plist, Scalar, scalar, Items, no_items, Pairs, no_pairs, list, table, AreUnits, IsScalar}
+use Rattle.plist_value.specs.Limits.{payload_of_scalar}
 use Rattle.plist_value.proofs.Pairs.{put_pair}
 use Rattle.ostep_text.specs.Sorting.{has_key, AreReordered}
 use Rattle.ostep_text.specs.Begun.{Before, opened, with_items, with_rows, with_key}
@@ -101,28 +101,15 @@ key-left key i s = record {
 }
 
 -- with what stayed the same between
-pub item-taken-at : {old at called final new : Budget} {levels : ℕ} (vs all : Items) (w : Plist) → TakesItems old levels vs at → called ≡ at → Takes called levels w new → final ≡ new
-    → all ≡ push vs w → TakesItems old levels all final
-item-taken-at {old} {at} {final = final} {new = new} {levels = levels} vs all w t e u f g =
-    subst (λ x. TakesItems old levels x final) (sym g) (subst (λ x. TakesItems old levels (push vs w) x) (sym f)
-    (item-taken vs w t (subst (λ x. Takes x levels w new) e u)))
+pub item-taken-at : {old at new : Budget} {levels : ℕ} (vs all : Items) (w : Plist) → TakesItems old levels vs at → Takes at levels w new → all ≡ push vs w → TakesItems old levels all new
+item-taken-at {old} {new = new} {levels = levels} vs all w t u g = subst (λ x. TakesItems old levels x new) (sym g) (item-taken vs w t u)
 
 pub scalar-taken : {left after : Budget} {levels : ℕ} (s : Scalar) → Spends left 1 (payload_of_scalar s) after → 1 ≤ levels → IsScalar s → Takes left levels (scalar s) after
 scalar-taken s p o v = record { spent = record { nodes_left = p.nodes_left; payload_left = p.payload_left }; deep = o; valid = v }
 
-pub left-same : {old new : Budget} {levels : ℕ} {b : Before} → new ≡ old → IsLeft old levels b → IsLeft new levels b
-left-same {levels = levels} {b = b} e i = subst (λ x. IsLeft x levels b) (sym e) i
-
-pub taken-same : {left left' after after' : Budget} {levels : ℕ} {w : Plist} → left ≡ left' → after' ≡ after → Takes left levels w after → Takes left' levels w after'
-taken-same {left} {after' = after'} {levels = levels} {w = w} e f t = subst (λ x. Takes x levels w after') e (subst (λ x. Takes left levels w x) (sym f) t)
-
 pub spends-same : {left after : Budget} {n load other : ℕ} → Spends left n load after → load ≡ other → Spends left n other after
 spends-same {left} {after} {n = n} s e = subst (λ x. Spends left n x after) e s
 
-pub pair-taken-at : {old at called new : Budget} {levels : ℕ} (key : List ℕ) (v : Plist) (ps all : Pairs) → TakesPairs old levels ps at → called ≡ at → TakesRow called levels key v new
-    → has_key key ps ≡ false → all ≡ put_pair key v ps → TakesPairs old levels all new
-pair-taken-at {old} {new = new} {levels = levels} key v ps all t e u n g =
-    subst (λ x. TakesPairs old levels x new) (sym g) (pair-taken key v ps t (subst (λ x. TakesRow x levels key v new) e u) n)
-
-pub row-same : {left left' after : Budget} {levels : ℕ} {key : List ℕ} {w : Plist} → left ≡ left' → TakesRow left levels key w after → TakesRow left' levels key w after
-row-same {after = after} {levels = levels} {key = key} {w = w} e t = subst (λ x. TakesRow x levels key w after) e t
+pub pair-taken-at : {old at new : Budget} {levels : ℕ} (key : List ℕ) (v : Plist) (ps all : Pairs) → TakesPairs old levels ps at → TakesRow at levels key v new → has_key key ps ≡ false
+    → all ≡ put_pair key v ps → TakesPairs old levels all new
+pair-taken-at {old} {new = new} {levels = levels} key v ps all t u n g = subst (λ x. TakesPairs old levels x new) (sym g) (pair-taken key v ps t u n)

@@ -1,11 +1,11 @@
 -- What the reader has read of an input, and what is left of the limits.
-use Rattle.std.specs.Prelude.{◌≡◌, ℕ, ◌+◌, ◌*◌, ◌<◌, ◌≤◌, List, [], ◌∷◌, ◌++◌, length}
+use Rattle.std.specs.Prelude.{◌≡◌, ℕ, ◌+◌, ◌*◌, ◌<◌, ◌≤◌, List, ◌∷◌, ◌++◌, length}
 use Rattle.plist_value.specs.declared.budget.Budget.{Budget}
 use Rattle.plist_value.specs.declared.TheConstants.{MAX_NODES, MAX_DEPTH, MAX_PAYLOAD}
 use Rattle.plist_value.specs.Budget.{Spends}
 use Rattle.plist_value.specs.Plist.{Plist, Items, Pairs, IsPlist, AreItems, ArePairs, AreUnits}
 use Rattle.plist_value.specs.Limits.{nodes, depth, payload, nodes_of_items, depth_of_items, payload_of_items, nodes_of_pairs, depth_of_pairs, payload_of_pairs}
-use Rattle.ostep_lex.specs.Lexeme.{Lexeme, paren_close, brace_close, semicolon, Placed}
+use Rattle.ostep_lex.specs.Lexeme.{Lexeme, semicolon, Placed}
 use Rattle.ostep_lex.specs.Lexing.{HasTokens}
 use Rattle.ostep_lex.specs.Cursor.{StandsBehind}
 use Rattle.ostep_text.specs.declared.fault.TextFault.{TextFault}
@@ -15,7 +15,7 @@ use Rattle.ostep_text.specs.Sorting.{AreReordered}
 use Rattle.ostep_text.specs.Begun.{Before}
 use Rattle.ostep_text.specs.Text.{lexemes}
 use Rattle.ostep_text.specs.Stands.{Stands}
-use Rattle.ostep_text.specs.declared.reader.Reader.{Reader}
+use Rattle.ostep_text.specs.declared.tokens.Tokens.{Tokens}
 
 -- the tokens that are read, as a function: to those that are left it gives all
 abbrev pub Front : Type 0
@@ -25,9 +25,9 @@ abbrev pub AreBefore : List Placed → Front → Type 0
 AreBefore tokens whole = (rest : List Lexeme) → lexemes tokens ++ rest ≡ whole rest
 
 -- of the input these tokens were read
-pub record HasRead (octets : List ℕ) (tokens : List Placed) (reader : Reader) : Type 0 where
-  pub behind : StandsBehind octets tokens reader.cursor
-  pub ends : reader.end ≡ length octets
+pub record HasRead (octets : List ℕ) (tokens : List Placed) (source : Tokens) : Type 0 where
+  pub behind : StandsBehind octets tokens source.cursor
+  pub ends : source.end ≡ length octets
 
 -- the fault stands if the octets have tokens
 abbrev pub StandsIfLexed : List ℕ → TextFault → Type 0
@@ -46,42 +46,42 @@ pub record IsLeft (left : Budget) (levels : ℕ) (b : Before) : Type 0 where
   pub levels_left : levels + b.open_containers ≡ MAX_DEPTH
 
 -- more tokens were read, which stand where `inside` puts them
-pub record ReadsOn (octets : List ℕ) (tokens : List Placed) (inside : Front) (reader : Reader) : Type 0 where
+pub record ReadsOn (octets : List ℕ) (tokens : List Placed) (inside : Front) (source : Tokens) : Type 0 where
   pub all : List Placed
-  pub has : HasRead octets all reader
+  pub has : HasRead octets all source
   pub follow : (whole : Front) → AreBefore tokens whole → AreBefore all (λ rest. whole (inside rest))
 
 -- from the first on these were a phrase of the value; or one and the `;` behind it
-pub record ReadsValue (octets : List ℕ) (tokens : List Placed) (first : Lexeme) (v : Plist) (reader : Reader) : Type 0 where
+pub record ReadsValue (octets : List ℕ) (tokens : List Placed) (first : Lexeme) (v : Plist) (source : Tokens) : Type 0 where
   pub inside : Front
   pub spells : (rest : List Lexeme) → Phrase (first ∷ inside rest) v rest
-  pub reads : ReadsOn octets tokens (λ rest. first ∷ inside rest) reader
+  pub reads : ReadsOn octets tokens (λ rest. first ∷ inside rest) source
 
-pub record ReadsEnded (octets : List ℕ) (tokens : List Placed) (v : Plist) (reader : Reader) : Type 0 where
+pub record ReadsEnded (octets : List ℕ) (tokens : List Placed) (v : Plist) (source : Tokens) : Type 0 where
   pub inside : Front
   pub spells : (rest : List Lexeme) → Phrase (inside rest) v (semicolon ∷ rest)
-  pub reads : ReadsOn octets tokens inside reader
+  pub reads : ReadsOn octets tokens inside source
 
 -- these were items, so far, or all and the parenthesis behind them
-pub record ReadsItems (octets : List ℕ) (tokens : List Placed) (end : List Lexeme) (vs : Items) (reader : Reader) : Type 0 where
+pub record ReadsItems (octets : List ℕ) (tokens : List Placed) (end : List Lexeme) (vs : Items) (source : Tokens) : Type 0 where
   pub inside : Front
   pub spells : (rest : List Lexeme) → ItemsPhrase (inside rest) vs (end ++ rest)
-  pub reads : ReadsOn octets tokens inside reader
+  pub reads : ReadsOn octets tokens inside source
 
 -- these were a row
-pub record ReadsRow (octets : List ℕ) (tokens : List Placed) (key : List ℕ) (v : Plist) (reader : Reader) : Type 0 where
+pub record ReadsRow (octets : List ℕ) (tokens : List Placed) (key : List ℕ) (v : Plist) (source : Tokens) : Type 0 where
   pub inside : Front
   pub spells : (rest : List Lexeme) → RowPhrase (inside rest) key v rest
-  pub reads : ReadsOn octets tokens inside reader
+  pub reads : ReadsOn octets tokens inside source
 
 -- these were rows, so far, or all and the brace behind them; in the order of their keys they are
 -- the pairs
-pub record ReadsRows (octets : List ℕ) (tokens : List Placed) (end : List Lexeme) (pairs : Pairs) (reader : Reader) : Type 0 where
+pub record ReadsRows (octets : List ℕ) (tokens : List Placed) (end : List Lexeme) (pairs : Pairs) (source : Tokens) : Type 0 where
   pub inside : Front
   pub rows : Pairs
   pub spells : (rest : List Lexeme) → RowsPhrase (inside rest) rows (end ++ rest)
   pub same : AreReordered rows pairs
-  pub reads : ReadsOn octets tokens inside reader
+  pub reads : ReadsOn octets tokens inside source
 
 -- a value, items, pairs, or a row, as they must be to lie so many levels deep, with what is left
 -- then

@@ -12,6 +12,7 @@ pub mod laws;
 pub mod read;
 mod reader;
 mod scalars;
+mod tokens;
 mod values;
 pub mod write_fault;
 mod writing;

@@ -1,130 +1,371 @@
-//! The tokens of a text, one after another, and what is left of the limits.
-ghost use Rattle.std.specs.Prelude.{◌≡◌, ◌≤◌, ◌<◌, ◌∷◌, ◌++◌, [], ℕ, List, length};
-ghost use Rattle.std.specs.Prelude.{MatchOption, IfSome, IfNone, IfOk, IfErr};
+//! Values, lists and tables, as their tokens are read, and whole texts.
+ghost use Rattle.std.specs.Prelude.{◌≡◌, ◌≤◌, ◌*◌, ◌∷◌, ◌++◌, [], false, ℕ, List};
+ghost use Rattle.std.specs.Prelude.{length, IfOk, IfErr};
 ghost use Rattle.std.specs.Result.{OnOk};
+ghost use Rattle.plist_value.specs.declared.budget.Budget.{Budget as Left};
+ghost use Rattle.plist_value.specs.Plist.{Pairs, AreUnits, IsPlist, scalar, text};
+ghost use Rattle.plist_value.specs.Limits.{Fits};
 ghost use Rattle.plist_value.specs.Budget.{Spends};
-ghost use Rattle.ostep_lex.specs.Lexeme.{Placed, placed};
-ghost use Rattle.ostep_lex.specs.Lexing.{HasTokens};
+ghost use Rattle.plist_value.specs.View.{view, view_items, view_pairs};
+ghost use Rattle.ostep_lex.specs.Lexeme.{Lexeme, Placed, placed, lexeme_of, text as string};
+ghost use Rattle.ostep_lex.specs.Lexeme.{paren_close, brace_close};
 ghost use Rattle.ostep_lex.specs.Cursor.{ahead};
+ghost use Rattle.ostep_text.specs.Begun.{Before, nothing, opened, with_rows};
+ghost use Rattle.ostep_text.specs.Sorting.{has_key};
+ghost use Rattle.ostep_text.specs.Text.{IsText};
 ghost use Rattle.ostep_text.specs.Stands.{Stands};
-ghost use Rattle.ostep_text.specs.Reading.{Front, AreBefore, HasRead, MayRefuse, StandsIfLexed};
-ghost use Rattle.ostep_text.specs.Due.{IsOpen};
+ghost use Rattle.ostep_text.specs.Machine.{Around, at_front, begun, top};
+ghost use Rattle.ostep_text.specs.Reading.{Front, AreBefore, HasRead, IsLeft, MayRefuse};
+ghost use Rattle.ostep_text.specs.Reading.{ReadsValue, ReadsEnded, ReadsItems, ReadsRow, ReadsRows};
+ghost use Rattle.ostep_text.specs.Reading.{Takes, TakesItems, TakesPairs, TakesRow};
+ghost use Rattle.ostep_text.specs.Due.{ValueDue, RowValueDue, ListDue, TableDue, RowDue};
 
 use crate::TextFault;
-use ostep_lex::{Cursor, Token, next_mark, next_token};
-use plist_value::Budget;
+use crate::tokens::{Tokens, begins_value};
+use crate::values::{data_payload, is_known, text_payload};
+use ostep_lex::{Token, TokenKind};
+use plist_value::{Budget, MAX_DEPTH, Utf16, Value};
 use std::alloc::Global;
+use std::collections::BTreeMap;
 
-// Where the reader stands in an input of `end` octets, and what is left of the limits.
+// How many levels deep what lies in a table without braces may be.
+const BARE_LEVELS: u64 = MAX_DEPTH - 1;
+
+// The tokens that are to be read of a text, and what is left of the limits.
 #[derive(Drop)]
 pub(crate) struct Reader<'a> {
     pub(crate) alloc: Global,
-    pub(crate) cursor: Cursor<'a>,
-    pub(crate) end: usize,
+    pub(crate) tokens: Tokens<'a>,
     pub(crate) left: Budget,
 }
 
 impl<'a> Reader<'a> {
-    // The next token, or None where the text ends.
-    pub(crate) fn next(&mut self) -> Result<Option<Token>, TextFault>
-        ensures read { (octets : List ℕ) (tokens : List Placed) → HasRead octets tokens self.old
-            → IfOk result (λ found. MatchOption found (HasTokens octets tokens)
-            (λ token. HasRead octets (tokens ++ placed token ∷ []) self.new)) }
-        ensures left { self.new.left ≡ self.old.left }
-        ensures end { self.new.end ≡ self.old.end }
-        ensures stays { IfOk result (λ found. IfNone found (self.new.cursor ≡ self.old.cursor)) }
-        ensures shorter { IfOk result (λ found. IfSome found (λ _.
-            length (ahead self.new.cursor) < length (ahead self.old.cursor))) }
-        ensures stands { (octets : List ℕ) (tokens : List Placed)
-            → HasRead octets tokens self.old → IfErr result (Stands octets) }
-    {
-        match next_token(self.alloc, self.cursor)? {
-            Some((token, behind)) => {
-                self.cursor = behind;
-                Ok(Some(token))
-            }
-            None => Ok(None),
-        }
-    }
-
-    // The next token, where a text may not end.
-    pub(crate) fn expect(&mut self) -> Result<Token, TextFault>
-        ensures read { (octets : List ℕ) (tokens : List Placed) → HasRead octets tokens self.old
-            → IfOk result (λ token. HasRead octets (tokens ++ placed token ∷ []) self.new) }
-        ensures left { self.new.left ≡ self.old.left }
-        ensures shorter { OnOk result
-            (length (ahead self.new.cursor) < length (ahead self.old.cursor)) }
-        ensures stands { (octets : List ℕ) (tokens : List Placed) (whole : Front)
-            → AreBefore tokens whole → HasRead octets tokens self.old → IsOpen whole
+    // The text that begins with the token, which is no string.
+    pub(crate) fn value_first(&mut self, first: Token) -> Result<Value, TextFault>
+        ensures read { (octets : List ℕ) → HasRead octets (placed first ∷ []) self.old.tokens
+            → IsLeft self.old.left MAX_DEPTH nothing
+            → IfOk result (λ value. IsText octets (view value)) }
+        ensures stands { (octets : List ℕ) → HasRead octets (placed first ∷ []) self.old.tokens
+            → IsLeft self.old.left MAX_DEPTH nothing
+            → at_front (lexeme_of first.kind) ≡ begun top (lexeme_of first.kind)
             → IfErr result (Stands octets) }
     {
-        let end = self.end;
-        match self.next()? {
-            Some(token) => Ok(token),
-            None => Err(TextFault::Expected { octet: end }),
+        if !begins_value(&first.kind) {
+            let octet = first.start;
+            return Err(self.tokens.refuse(TextFault::Expected { octet }));
         }
+        let value = self.value(first, MAX_DEPTH)?;
+        self.finish(value)
     }
 
-    // The next token, as `expect` has it, with less work where it is the mark.
-    #[inline(always)]
-    pub(crate) fn expect_mark(&mut self, mark: char) -> Result<Token, TextFault>
-        ensures read { (octets : List ℕ) (tokens : List Placed) → HasRead octets tokens self.old
-            → IfOk result (λ token. HasRead octets (tokens ++ placed token ∷ []) self.new) }
-        ensures left { self.new.left ≡ self.old.left }
-        ensures shorter { OnOk result
-            (length (ahead self.new.cursor) < length (ahead self.old.cursor)) }
-        ensures stands { (octets : List ℕ) (tokens : List Placed) (whole : Front)
-            → AreBefore tokens whole → HasRead octets tokens self.old → IsOpen whole
+    // The value, behind which the text ends; its first token is no string.
+    fn finish(&mut self, value: Value) -> Result<Value, TextFault>
+        ensures read { (octets : List ℕ) (first : Lexeme)
+            → ReadsValue octets [] first (view value) self.old.tokens
+            → IsPlist (view value) → Fits (view value)
+            → IfOk result (λ value. IsText octets (view value)) }
+        ensures stands { (octets : List ℕ) (first : Lexeme)
+            → ReadsValue octets [] first (view value) self.old.tokens
+            → at_front first ≡ begun top first
             → IfErr result (Stands octets) }
     {
-        match next_mark(self.cursor, mark) {
-            Some((token, behind)) => {
-                self.cursor = behind;
-                Ok(token)
-            }
-            None => self.expect(),
+        match self.tokens.next()? {
+            None => Ok(value),
+            Some(token) => Err(self.tokens.refuse(TextFault::Junk { octet: token.start })),
         }
     }
 
-    // The fault, unless one of the tokens that are left comes first.
-    pub(crate) fn refuse(&self, fault: TextFault) -> TextFault
-        ensures { (octets : List ℕ) (tokens : List Placed) → HasRead octets tokens self.now
-            → StandsIfLexed octets fault → Stands octets result }
+    // The text that begins with the string: the string, or a table without braces.
+    pub(crate) fn string_first(&mut self, text: Utf16, octet: usize) -> Result<Value, TextFault>
+        ensures read { (octets : List ℕ) (at : Placed) → at.lexeme ≡ string text
+            → at.start ≡ octet → HasRead octets (at ∷ []) self.old.tokens
+            → IsLeft self.old.left MAX_DEPTH nothing
+            → IfOk result (λ value. IsText octets (view value)) }
+        ensures stands { (octets : List ℕ) (at : Placed) → at.lexeme ≡ string text
+            → at.start ≡ octet → HasRead octets (at ∷ []) self.old.tokens
+            → IsLeft self.old.left MAX_DEPTH nothing
+            → IfErr result (Stands octets) }
     {
-        let mut cursor = self.cursor;
+        let Some(second) = self.tokens.next()? else {
+            self.charge(octet, MAX_DEPTH, text_payload(&text))?;
+            return Ok(Value::Text(text));
+        };
+        match second.kind {
+            TokenKind::Equals => {
+                self.first_key(&text, octet)?;
+                let value = self.row_value(BARE_LEVELS)?;
+                self.bare_table(text, value)
+            }
+            TokenKind::Semicolon => {
+                self.first_key(&text, octet)?;
+                let value = self.key_alone(&text, octet, BARE_LEVELS)?;
+                self.bare_table(text, value)
+            }
+            _ => {
+                self.charge(octet, MAX_DEPTH, text_payload(&text))?;
+                let octet = second.start;
+                Err(self.tokens.refuse(TextFault::Junk { octet }))
+            }
+        }
+    }
+
+    // The table without braces, a node at the first token, and its first key, the token behind
+    // which was read.
+    fn first_key(&mut self, key: &Utf16, octet: usize) -> Result<(), TextFault>
+        ensures spent { OnOk result (Spends self.old.left 2 (2 * length key.now) self.new.left) }
+        ensures valid { OnOk result (AreUnits key.now) }
+        ensures tokens { self.new.tokens ≡ self.old.tokens }
+        ensures stands { (octets : List ℕ) (at behind : Placed) → at.lexeme ≡ string key.now
+            → at.start ≡ octet → HasRead octets (at ∷ behind ∷ []) self.old.tokens
+            → IsLeft self.old.left MAX_DEPTH nothing
+            → IfErr result (Stands octets) }
+    {
+        self.charge(octet, MAX_DEPTH, 0)?;
+        self.charge(octet, BARE_LEVELS, text_payload(key))
+    }
+
+    // The table without braces, from behind its first row on.
+    fn bare_table(&mut self, key: Utf16, value: Value) -> Result<Value, TextFault>
+        ensures read { (octets : List ℕ) (left : Left) → IsLeft left BARE_LEVELS (opened nothing)
+            → TakesRow left BARE_LEVELS key (view value) self.old.left
+            → ReadsRow octets [] key (view value) self.old.tokens
+            → IfOk result (λ value. IsText octets (view value)) }
+        ensures stands { (octets : List ℕ) (left : Left) → IsLeft left BARE_LEVELS (opened nothing)
+            → TakesRow left BARE_LEVELS key (view value) self.old.left
+            → ReadsRow octets [] key (view value) self.old.tokens
+            → IfErr result (Stands octets) }
+    {
+        let mut rows = BTreeMap::new(self.alloc);
+        drop(rows.insert(key, value)?);
+        while let Some(token) = self.tokens.next()? {
+            let octet = token.start;
+            match token.kind {
+                TokenKind::Text(key) => {
+                    let place = rows.entry(key)?;
+                    let known = is_known(&place);
+                    let value = self.row(place.key(), octet, BARE_LEVELS, known)?;
+                    place.or_insert(value);
+                }
+                _ => {
+                    return Err(self.tokens.refuse(TextFault::Junk { octet }));
+                }
+            }
+        }
+        Ok(Value::Table(rows))
+    }
+
+    // The value that begins with the token, of at most so many levels.
+    #[cycle(value)]
+    fn value(&mut self, first: Token, levels: u64) -> Result<Value, TextFault>
+        ensures shorter { OnOk result
+            (length (ahead self.new.tokens.cursor) ≤ length (ahead self.old.tokens.cursor)) }
+        ensures taken { IfOk result (λ value.
+            Takes self.old.left levels (view value) self.new.left) }
+        ensures read { (octets : List ℕ) (tokens : List Placed)
+            → HasRead octets (tokens ++ placed first ∷ []) self.old.tokens
+            → IfOk result (λ value.
+            ReadsValue octets tokens (lexeme_of first.kind) (view value) self.new.tokens) }
+        ensures stands { (octets : List ℕ) (tokens : List Placed) (whole : Front) (b : Before)
+            (a : Around) → AreBefore tokens whole
+            → HasRead octets (tokens ++ placed first ∷ []) self.old.tokens
+            → ValueDue whole b a (lexeme_of first.kind) → IsLeft self.old.left levels b
+            → IfErr result (Stands octets) }
+    {
+        let octet = first.start;
+        match first.kind {
+            TokenKind::Text(text) => {
+                self.charge(octet, levels, text_payload(&text))?;
+                Ok(Value::Text(text))
+            }
+            TokenKind::Octets(octets) => {
+                self.charge(octet, levels, data_payload(octets.as_slice()))?;
+                Ok(Value::Bytes(octets))
+            }
+            TokenKind::ParenOpen => {
+                self.charge(octet, levels, 0)?;
+                let items = self.items(levels - 1)?;
+                Ok(Value::List(items))
+            }
+            TokenKind::BraceOpen => {
+                self.charge(octet, levels, 0)?;
+                let rows = self.rows(levels - 1)?;
+                Ok(Value::Table(rows))
+            }
+            _ => Err(self.tokens.refuse(TextFault::Expected { octet })),
+        }
+    }
+
+    // The items of a list, behind its parenthesis, and the parenthesis that ends it.
+    #[cycle(value)]
+    fn items(&mut self, levels: u64) -> Result<Vec<Value>, TextFault>
+        ensures shorter { OnOk result
+            (length (ahead self.new.tokens.cursor) ≤ length (ahead self.old.tokens.cursor)) }
+        ensures taken { IfOk result (λ items.
+            TakesItems self.old.left levels (view_items items.items) self.new.left) }
+        ensures read { (octets : List ℕ) (tokens : List Placed)
+            → HasRead octets tokens self.old.tokens → IfOk result (λ items.
+            ReadsItems octets tokens (paren_close ∷ []) (view_items items.items) self.new.tokens) }
+        ensures stands { (octets : List ℕ) (tokens : List Placed) (whole : Front) (b : Before)
+            (a : Around) → AreBefore tokens whole → HasRead octets tokens self.old.tokens
+            → ListDue whole b a → IsLeft self.old.left levels (opened b)
+            → IfErr result (Stands octets) }
+    {
+        let mut items = Vec::new(self.alloc);
         loop {
-            match next_token(self.alloc, cursor) {
-                Ok(Some((_, behind))) => cursor = behind,
-                Ok(None) => return fault,
-                Err(earlier) => return TextFault::from(earlier),
+            let first = self.tokens.expect()?;
+            if let TokenKind::ParenClose = first.kind {
+                return Ok(items);
+            }
+            let item = self.value(first, levels)?;
+            items.push(item)?;
+            let behind = self.tokens.expect_mark(',')?;
+            match behind.kind {
+                TokenKind::ParenClose => return Ok(items),
+                TokenKind::Comma => {}
+                _ => {
+                    let octet = behind.start;
+                    return Err(self.tokens.refuse(TextFault::Expected { octet }));
+                }
             }
         }
+    }
+
+    // The rows of a table, behind its brace, and the brace that ends it.
+    #[cycle(value)]
+    fn rows(&mut self, levels: u64) -> Result<BTreeMap<Utf16, Value>, TextFault>
+        ensures shorter { OnOk result
+            (length (ahead self.new.tokens.cursor) ≤ length (ahead self.old.tokens.cursor)) }
+        ensures taken { IfOk result (λ rows.
+            TakesPairs self.old.left levels (view_pairs rows.entries) self.new.left) }
+        ensures read { (octets : List ℕ) (tokens : List Placed)
+            → HasRead octets tokens self.old.tokens → IfOk result (λ rows.
+            ReadsRows octets tokens (brace_close ∷ []) (view_pairs rows.entries) self.new.tokens) }
+        ensures stands { (octets : List ℕ) (tokens : List Placed) (whole : Front) (b : Before)
+            (a : Around) → AreBefore tokens whole → HasRead octets tokens self.old.tokens
+            → TableDue whole b a → IsLeft self.old.left levels (opened b)
+            → IfErr result (Stands octets) }
+    {
+        let mut rows = BTreeMap::new(self.alloc);
+        loop {
+            let token = self.tokens.expect()?;
+            let octet = token.start;
+            match token.kind {
+                TokenKind::BraceClose => return Ok(rows),
+                TokenKind::Text(key) => {
+                    let place = rows.entry(key)?;
+                    let known = is_known(&place);
+                    let value = self.row(place.key(), octet, levels, known)?;
+                    place.or_insert(value);
+                }
+                _ => {
+                    return Err(self.tokens.refuse(TextFault::Expected { octet }));
+                }
+            }
+        }
+    }
+
+    // The value of a row more, which begins with the key at the octet; a row has the key if it is
+    // known, and then the key is refused.
+    #[cycle(value)]
+    fn row(
+        &mut self,
+        key: &Utf16,
+        octet: usize,
+        levels: u64,
+        known: bool,
+    ) -> Result<Value, TextFault>
+        ensures shorter { OnOk result
+            (length (ahead self.new.tokens.cursor) ≤ length (ahead self.old.tokens.cursor)) }
+        ensures taken { IfOk result (λ value.
+            TakesRow self.old.left levels key.now (view value) self.new.left) }
+        ensures once { OnOk result (known ≡ false) }
+        ensures read { (octets : List ℕ) (tokens : List Placed) (at : Placed)
+            → at.lexeme ≡ string key.now → HasRead octets (tokens ++ at ∷ []) self.old.tokens
+            → IfOk result (λ value. ReadsRow octets tokens key.now (view value) self.new.tokens) }
+        ensures stands { (octets : List ℕ) (tokens : List Placed) (at : Placed) (whole : Front)
+            (b : Before) (t : Around) (before pairs : Pairs)
+            → at.lexeme ≡ string key.now → at.start ≡ octet → AreBefore tokens whole
+            → HasRead octets (tokens ++ at ∷ []) self.old.tokens
+            → RowDue whole b t before pairs → has_key key.now pairs ≡ known
+            → IsLeft self.old.left levels (with_rows before b)
+            → IfErr result (Stands octets) }
+    {
+        self.charge(octet, levels, text_payload(key))?;
+        if known {
+            return Err(self.tokens.refuse(TextFault::DuplicateKey { octet }));
+        }
+        let behind = self.tokens.expect_mark('=')?;
+        match behind.kind {
+            TokenKind::Equals => self.row_value(levels),
+            TokenKind::Semicolon => self.key_alone(key, octet, levels),
+            _ => {
+                let octet = behind.start;
+                Err(self.tokens.refuse(TextFault::Expected { octet }))
+            }
+        }
+    }
+
+    // The value of a row, behind its `=`, and the `;` behind it.
+    #[cycle(value)]
+    fn row_value(&mut self, levels: u64) -> Result<Value, TextFault>
+        ensures shorter { OnOk result
+            (length (ahead self.new.tokens.cursor) ≤ length (ahead self.old.tokens.cursor)) }
+        ensures taken { IfOk result (λ value.
+            Takes self.old.left levels (view value) self.new.left) }
+        ensures read { (octets : List ℕ) (tokens : List Placed)
+            → HasRead octets tokens self.old.tokens
+            → IfOk result (λ value. ReadsEnded octets tokens (view value) self.new.tokens) }
+        ensures stands { (octets : List ℕ) (tokens : List Placed) (whole : Front) (b : Before)
+            (t : Around) → AreBefore tokens whole → HasRead octets tokens self.old.tokens
+            → RowValueDue whole b t → IsLeft self.old.left levels b
+            → IfErr result (Stands octets) }
+    {
+        let first = self.tokens.expect()?;
+        let value = self.value(first, levels)?;
+        let behind = self.tokens.expect_mark(';')?;
+        match behind.kind {
+            TokenKind::Semicolon => Ok(value),
+            _ => {
+                let octet = behind.start;
+                Err(self.tokens.refuse(TextFault::Expected { octet }))
+            }
+        }
+    }
+
+    // The value of a key that stands alone, which begins at the octet: the key itself.
+    fn key_alone(&mut self, key: &Utf16, octet: usize, levels: u64) -> Result<Value, TextFault>
+        ensures tokens { self.new.tokens ≡ self.old.tokens }
+        ensures value { IfOk result (λ value. view value ≡ scalar (text key.now)) }
+        ensures spent { OnOk result (Spends self.old.left 1 (2 * length key.now) self.new.left) }
+        ensures deep { OnOk result (1 ≤ levels) }
+        ensures stands { (octets : List ℕ) (tokens : List Placed)
+            → HasRead octets tokens self.old.tokens
+            → MayRefuse octets octet levels (2 * length key.now) self.old.left
+            → IfErr result (Stands octets) }
+    {
+        let payload = text_payload(key);
+        self.charge(octet, levels, payload)?;
+        Ok(Value::Text(key.copy(self.alloc)?))
     }
 
     // One node more, which begins at the octet and may be so many levels deep, and its payload.
-    pub(crate) fn charge(
-        &mut self,
-        octet: usize,
-        levels: u64,
-        payload: u128,
-    ) -> Result<(), TextFault>
+    fn charge(&mut self, octet: usize, levels: u64, payload: u128) -> Result<(), TextFault>
         ensures spent { OnOk result (Spends self.old.left 1 payload self.new.left) }
         ensures deep { OnOk result (1 ≤ levels) }
-        ensures cursor { self.new.cursor ≡ self.old.cursor }
-        ensures end { self.new.end ≡ self.old.end }
+        ensures tokens { self.new.tokens ≡ self.old.tokens }
         ensures stands { (octets : List ℕ) (tokens : List Placed)
-            → HasRead octets tokens self.old
+            → HasRead octets tokens self.old.tokens
             → MayRefuse octets octet levels payload self.old.left
             → IfErr result (Stands octets) }
     {
         let Some(node) = self.left.take_node() else {
-            return Err(self.refuse(TextFault::TooManyNodes { octet }));
+            return Err(self.tokens.refuse(TextFault::TooManyNodes { octet }));
         };
         if levels == 0 {
-            return Err(self.refuse(TextFault::TooDeep { octet }));
+            return Err(self.tokens.refuse(TextFault::TooDeep { octet }));
         }
         let Some(left) = node.take_payload(payload) else {
-            return Err(self.refuse(TextFault::TooMuchPayload { octet }));
+            return Err(self.tokens.refuse(TextFault::TooMuchPayload { octet }));
         };
         self.left = left;
         Ok(())

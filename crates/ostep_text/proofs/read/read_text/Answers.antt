@@ -1,25 +1,19 @@
-use Rattle.std.proofs.Common.{◌≡◌, ◌∷◌, ◌++◌, [], true, false, ℕ, List, refl, sym, ap, subst, ◌∙◌}
+use Rattle.std.proofs.Common.{◌≡◌, ◌∷◌, [], refl, sym, ap, subst, ◌∙◌}
 use Rattle.plist_value.specs.Plist.{table, no_pairs}
-use Rattle.plist_value.specs.View.{view, view_pairs}
-use Rattle.plist_value.specs.Limits.{Fits}
+use Rattle.plist_value.specs.View.{view_pairs}
 use Rattle.plist_value.specs.declared.TheConstants.{MAX_DEPTH}
-use Rattle.ostep_lex.specs.Lexeme.{placed, lexeme_of}
+use Rattle.ostep_lex.specs.Lexeme.{placed}
 use Rattle.ostep_lex.specs.Lexing.{HasTokens}
 use Rattle.ostep_text.specs.Fault.{of_tokens}
-use Rattle.ostep_text.specs.Begun.{nothing, begins_value}
-use Rattle.ostep_text.specs.Text.{IsText, IsNoText}
+use Rattle.ostep_text.specs.Begun.{nothing}
+use Rattle.ostep_text.specs.Text.{IsText}
 use Rattle.ostep_text.specs.Stands.{Stands}
-use Rattle.ostep_text.specs.declared.fault.TextFault.TheVariants.{OutOfMemory}
-use Rattle.ostep_text.specs.Machine
-use Rattle.ostep_text.specs.Machine.{runs, begun, at_front}
 use Rattle.ostep_text.specs.Reading.{HasRead, IsLeft}
-use Rattle.ostep_text.proofs.Exits.{passed_on, no_ok}
+use Rattle.ostep_text.proofs.Exits.{passed_on}
 use Rattle.ostep_text.proofs.Shown.{view-table}
-use Rattle.ostep_text.proofs.MachineLemmas.{stays-dead}
-use Rattle.ostep_text.proofs.Standing.{tokens-stand, expected-front}
-use Rattle.ostep_text.proofs.TakeSteps.{left-same}
-use Rattle.ostep_text.proofs.TokenKinds.{front-begun, none-begins}
-use Rattle.ostep_text.proofs.BareSteps.{empty-text, whole-left, whole-fits, front-due, refused-by}
+use Rattle.ostep_text.proofs.Standing.{tokens-stand}
+use Rattle.ostep_text.proofs.TokenKinds.{front-begun}
+use Rattle.ostep_text.proofs.BareSteps.{empty-text, whole-left, refused-by}
 use Rattle.ostep_text.proofs.read.read_text.Goals as goal
 
 pub returns-in_err-open-clause-stands : goal.returns-in_err-open-clause-stands
@@ -57,7 +51,7 @@ returns-in-Text-clause-read c =
     let first = placed c.in-Some.first in
     let one : HasRead octets (first ∷ []) c.next.new.self =
     rw c.in-Some.is at (c.in_ok-first.ensures.read octets [] (record { behind = c.in_ok-open.ensures.ok; ends = refl })) in
-    let left : IsLeft c.next.new.self.left MAX_DEPTH nothing = left-same c.in_ok-first.ensures.left (whole-left c.whole.result c.whole.ensures.nodes c.whole.ensures.payload) in
+    let left : IsLeft c.whole.result MAX_DEPTH nothing = whole-left c.whole.result c.whole.ensures.nodes c.whole.ensures.payload in
     c.string_first.ensures.read octets first (rw c.in-Text.is refl) refl one left
 
 pub returns-in-Text-clause-stands : goal.returns-in-Text-clause-stands
@@ -66,7 +60,7 @@ returns-in-Text-clause-stands c =
     let first = placed c.in-Some.first in
     let one : HasRead octets (first ∷ []) c.next.new.self =
     rw c.in-Some.is at (c.in_ok-first.ensures.read octets [] (record { behind = c.in_ok-open.ensures.ok; ends = refl })) in
-    let left : IsLeft c.next.new.self.left MAX_DEPTH nothing = left-same c.in_ok-first.ensures.left (whole-left c.whole.result c.whole.ensures.nodes c.whole.ensures.payload) in
+    let left : IsLeft c.whole.result MAX_DEPTH nothing = whole-left c.whole.result c.whole.ensures.nodes c.whole.ensures.payload in
     c.string_first.ensures.stands octets first (rw c.in-Text.is refl) refl one left
 
 pub returns-in-Text-clause-refused : goal.returns-in-Text-clause-refused
@@ -75,7 +69,7 @@ returns-in-Text-clause-refused c =
     let first = placed c.in-Some.first in
     let one : HasRead octets (first ∷ []) c.next.new.self =
     rw c.in-Some.is at (c.in_ok-first.ensures.read octets [] (record { behind = c.in_ok-open.ensures.ok; ends = refl })) in
-    let left : IsLeft c.next.new.self.left MAX_DEPTH nothing = left-same c.in_ok-first.ensures.left (whole-left c.whole.result c.whole.ensures.nodes c.whole.ensures.payload) in
+    let left : IsLeft c.whole.result MAX_DEPTH nothing = whole-left c.whole.result c.whole.ensures.nodes c.whole.ensures.payload in
     refused-by octets c.faulty_is_no_text.ensures c.string_first.result (c.string_first.ensures.stands octets first (rw c.in-Text.is refl) refl one left)
 
 -- where the first token is no string
@@ -85,7 +79,7 @@ returns-in_default-kind-clause-read c =
     let first = placed c.in-Some.first in
     let one : HasRead octets (first ∷ []) c.next.new.self =
     rw c.in-Some.is at (c.in_ok-first.ensures.read octets [] (record { behind = c.in_ok-open.ensures.ok; ends = refl })) in
-    let left : IsLeft c.next.new.self.left MAX_DEPTH nothing = left-same c.in_ok-first.ensures.left (whole-left c.whole.result c.whole.ensures.nodes c.whole.ensures.payload) in
+    let left : IsLeft c.whole.result MAX_DEPTH nothing = whole-left c.whole.result c.whole.ensures.nodes c.whole.ensures.payload in
     c.value_first.ensures.read octets one left
 
 pub returns-in_default-kind-clause-stands : goal.returns-in_default-kind-clause-stands
@@ -94,7 +88,7 @@ returns-in_default-kind-clause-stands c =
     let first = placed c.in-Some.first in
     let one : HasRead octets (first ∷ []) c.next.new.self =
     rw c.in-Some.is at (c.in_ok-first.ensures.read octets [] (record { behind = c.in_ok-open.ensures.ok; ends = refl })) in
-    let left : IsLeft c.next.new.self.left MAX_DEPTH nothing = left-same c.in_ok-first.ensures.left (whole-left c.whole.result c.whole.ensures.nodes c.whole.ensures.payload) in
+    let left : IsLeft c.whole.result MAX_DEPTH nothing = whole-left c.whole.result c.whole.ensures.nodes c.whole.ensures.payload in
     c.value_first.ensures.stands octets one left (front-begun c.in-Some.first.kind c.in_default-kind.not-Text)
 
 pub returns-in_default-kind-clause-refused : goal.returns-in_default-kind-clause-refused
@@ -103,5 +97,5 @@ returns-in_default-kind-clause-refused c =
     let first = placed c.in-Some.first in
     let one : HasRead octets (first ∷ []) c.next.new.self =
     rw c.in-Some.is at (c.in_ok-first.ensures.read octets [] (record { behind = c.in_ok-open.ensures.ok; ends = refl })) in
-    let left : IsLeft c.next.new.self.left MAX_DEPTH nothing = left-same c.in_ok-first.ensures.left (whole-left c.whole.result c.whole.ensures.nodes c.whole.ensures.payload) in
+    let left : IsLeft c.whole.result MAX_DEPTH nothing = whole-left c.whole.result c.whole.ensures.nodes c.whole.ensures.payload in
     refused-by octets c.faulty_is_no_text.ensures c.value_first.result (c.value_first.ensures.stands octets one left (front-begun c.in-Some.first.kind c.in_default-kind.not-Text))

@@ -1,19 +1,17 @@
-use Rattle.std.proofs.Common.{◌≡◌, ◌≤◌, ◌<◌, ◌*◌, ◌∷◌, ◌++◌, [], true, false, ℕ, List, length, refl, sym, ap, subst, ◌∙◌, append_assoc, nat_cmp, arith}
-use Rattle.std.specs.Prelude.{IfOk, IfErr}
-use Rattle.std.specs.Result.{OnOk}
+use Rattle.std.proofs.Common.{◌≡◌, ◌≤◌, ◌*◌, ◌∷◌, ◌++◌, [], true, false, length, refl, sym, ap, subst, ◌∙◌, append_assoc, nat_cmp, arith}
 use Rattle.std.proofs.lemmas.Result.{IfOk-weaker}
 use Rattle.plist_value.specs.Budget.{Spends}
-use Rattle.plist_value.specs.Plist.{Plist, Items, Pairs, AreUnits, AreOctets, scalar, text, bytes, list, table}
+use Rattle.plist_value.specs.Plist.{AreUnits, AreOctets, scalar, text, bytes}
 use Rattle.plist_value.specs.View.{view, view_items, view_pairs}
 use Rattle.plist_value.proofs.Pairs.{put_pair, view_pairs-insert_entry}
-use Rattle.ostep_lex.specs.Lexeme.{Placed, placed, lexeme_of, text as string, octets as data_token, paren_open, brace_open, paren_close, brace_close, equals, semicolon}
-use Rattle.ostep_text.specs.Begun.{Before, opened, with_items, with_rows, with_key}
+use Rattle.ostep_lex.specs.Lexeme.{placed, lexeme_of, text as string, octets as data_token, paren_open, brace_open, paren_close, equals}
+use Rattle.ostep_text.specs.Begun.{opened, with_items, with_rows, with_key}
 use Rattle.ostep_text.specs.Sorting.{has_key}
 use Rattle.ostep_text.specs.Stands.{Stands}
 use Rattle.ostep_text.specs.Machine
 use Rattle.ostep_text.specs.Machine.{Around}
-use Rattle.ostep_text.specs.Reading.{Front, AreBefore, HasRead, IsLeft, MayRefuse, ReadsValue, ReadsEnded, ReadsItems, ReadsRow, ReadsRows, Takes, TakesItems, TakesPairs, TakesRow}
-use Rattle.ostep_text.specs.Due.{ValueDue, RowValueDue, ListDue, TableDue, RowDue}
+use Rattle.ostep_text.specs.Reading.{Front, HasRead, ReadsValue, ReadsEnded, ReadsItems, ReadsRow, ReadsRows, Takes, TakesRow}
+use Rattle.ostep_text.specs.Due.{ValueDue}
 use Rattle.ostep_text.proofs.Exits.{passed_on, no_ok, none_ok, on_ok, both_ok}
 use Rattle.plist_value.specs.declared.value.Value
 use Rattle.ostep_text.proofs.Shown.{view-text, view-bytes, view-list, view-table}
@@ -26,9 +24,9 @@ use Rattle.std.specs.Option.{is_some}
 use Rattle.std.specs.BTreeMap.{insert_entry}
 use Rattle.std.specs.BTreeMap.Entry.{entry_value, map_with_value}
 use Rattle.std.proofs.lemmas.Map.Lookups.{exact_bytes}
-use Rattle.ostep_text.proofs.Standing.{expected-at, before-more}
+use Rattle.ostep_text.proofs.Standing.{expected-at}
 use Rattle.ostep_text.proofs.DueSteps.{list-due, items-open, item-due, item-leads, item-open, table-due, row-due, rows-open, key-open, row_value-due, row_value-first, row_value-open, row_value-leads, row_value-behind, value-open, value-nowhere}
-use Rattle.ostep_text.proofs.TakeSteps.{no-items-taken, no-pairs-taken, item-taken-at, list-taken, table-taken, pair-taken-at, row-taken, scalar-taken, opened-left, items-left, rows-left, key-left, left-same, taken-same, spends-same}
+use Rattle.ostep_text.proofs.TakeSteps.{no-items-taken, no-pairs-taken, item-taken-at, pair-taken-at, row-taken, scalar-taken, opened-left, items-left, rows-left, key-left, spends-same}
 use Rattle.ostep_text.proofs.Wholes.{same-read, value-refuses}
 use Rattle.ostep_text.proofs.Refusals.{before-at, before-key, key-refuses, alone-refuses, twice-stands}
 use Rattle.ostep_text.proofs.ReadSteps.{string-read, data-read, list-read, table-read, no-items-read, item-read, last_item-read, items-read, ended-read, row-read, alone-read, no-rows-read, row-more-read, rows-read}
@@ -64,7 +62,7 @@ items-returns-in_err-item t c = record {
       (c.in_err-item.ensures.stands octets r.reads.all (λ rest. whole (r.inside rest)) (with_items (view_items c.loop-items.items.items) (opened b)) (Machine.in_list a)
       (r.reads.follow whole f) (c.in_ok-first.ensures.read octets r.reads.all r.reads.has)
       (item-due r.inside d r.spells (item-begun a first.kind c.in_default.not-ParenClose))
-      (left-same c.in_ok-first.ensures.left (items-left b (view_items c.loop-items.items.items) i c.loop-items.invariant.taken)));
+      (items-left b (view_items c.loop-items.items.items) i c.loop-items.invariant.taken));
 }
 
 pub items-returns-in_err-behind : goal.items-returns-in_err-behind
@@ -87,7 +85,7 @@ items-returns-in-ParenClose-kind t c =
     let pushed : view_items c.push.new.self.items ≡ push vs (view c.in_ok-item.item) = ap view_items c.in_ok-push.ensures.items ∙ view_items-push c.loop-items.items.items c.in_ok-item.item in
     record {
       shorter = omega (arith, c.in_ok-behind.ensures.shorter, c.in_ok-item.ensures.shorter, c.in_ok-first.ensures.shorter, c.loop-items.invariant.shorter);
-      taken = item-taken-at vs (view_items c.push.new.self.items) (view c.in_ok-item.item) c.loop-items.invariant.taken c.in_ok-first.ensures.left c.in_ok-item.ensures.taken c.in_ok-behind.ensures.left pushed;
+      taken = item-taken-at vs (view_items c.push.new.self.items) (view c.in_ok-item.item) c.loop-items.invariant.taken c.in_ok-item.ensures.taken pushed;
       read = λ octets tokens h.
           let r = c.loop-items.invariant.read octets tokens h in
           let v = c.in_ok-item.ensures.read octets r.reads.all (c.in_ok-first.ensures.read octets r.reads.all r.reads.has) in
@@ -120,7 +118,7 @@ items-loop-items-preserved t c =
     let pushed : view_items c.push.new.self.items ≡ push vs (view c.in_ok-item.item) = ap view_items c.in_ok-push.ensures.items ∙ view_items-push c.loop-items.items.items c.in_ok-item.item in
     record {
       shorter = omega (arith, c.in_ok-behind.ensures.shorter, c.in_ok-item.ensures.shorter, c.in_ok-first.ensures.shorter, c.loop-items.invariant.shorter);
-      taken = item-taken-at vs (view_items c.push.new.self.items) (view c.in_ok-item.item) c.loop-items.invariant.taken c.in_ok-first.ensures.left c.in_ok-item.ensures.taken c.in_ok-behind.ensures.left pushed;
+      taken = item-taken-at vs (view_items c.push.new.self.items) (view c.in_ok-item.item) c.loop-items.invariant.taken c.in_ok-item.ensures.taken pushed;
       read = λ octets tokens h.
           let r = c.loop-items.invariant.read octets tokens h in
           let v = c.in_ok-item.ensures.read octets r.reads.all (c.in_ok-first.ensures.read octets r.reads.all r.reads.has) in
@@ -137,13 +135,13 @@ row-returns-in_err-charge-clause-stands t c octets tokens at whole b around befo
 
 pub row-returns-then-known-clause-stands : goal.row-returns-then-known-clause-stands
 row-returns-then-known-clause-stands t c octets tokens at whole b around before pairs l s f h d k i =
-    let has : HasRead octets (tokens ++ at ∷ []) c.charge.new.self = same-read c.args.self.now c.charge.new.self h c.in_ok-charge.ensures.cursor c.in_ok-charge.ensures.end in
+    let has : HasRead octets (tokens ++ at ∷ []) c.charge.new.self.tokens = same-read h c.in_ok-charge.ensures.tokens in
     let twice : has_key c.args.key.now pairs ≡ true = k ∙ c.if-known.true in
     c.refuse.ensures octets (tokens ++ at ∷ []) has (twice-stands tokens at c.args.octet c.args.key.now whole l s f has d twice)
 
 pub row-returns-in_err-behind-clause-stands : goal.row-returns-in_err-behind-clause-stands
 row-returns-in_err-behind-clause-stands t c octets tokens at whole b around before pairs l s f h d k i =
-    let has : HasRead octets (tokens ++ at ∷ []) c.charge.new.self = same-read c.args.self.now c.charge.new.self h c.in_ok-charge.ensures.cursor c.in_ok-charge.ensures.end in
+    let has : HasRead octets (tokens ++ at ∷ []) c.charge.new.self.tokens = same-read h c.in_ok-charge.ensures.tokens in
     let once : has_key c.args.key.now pairs ≡ false = k ∙ c.if-known.false in
     passed_on (Stands octets) c.in_err-behind.field-0.0 c.from_residual-in_err-behind.result c.from_residual-in_err-behind.ensures.1
     (c.in_err-behind.ensures.stands octets (tokens ++ at ∷ []) (λ rest. whole (string c.args.key.now ∷ rest)) (before-key tokens at c.args.key.now whole l f) has (key-open c.args.key.now d once))
@@ -153,8 +151,8 @@ row-returns-in-Equals-clause-taken t c =
     let key = c.args.key.now in
     let after = c.row_value.new.self.left in
     let spent : Spends c.args.self.now.left 1 (2 * length key) c.charge.new.self.left = spends-same c.in_ok-charge.ensures.spent c.text_payload.ensures.payload in
-    IfOk-weaker c.row_value.result (λ v. Takes c.expect_mark.new.self.left c.args.levels (view v) after) (λ v. TakesRow c.args.self.now.left c.args.levels key (view v) after)
-    (λ v u. row-taken key (view v) spent c.in_ok-charge.ensures.deep (taken-same c.in_ok-behind.ensures.left refl u) c.text_payload.ensures.valid) c.row_value.ensures.taken
+    IfOk-weaker c.row_value.result (λ v. Takes c.charge.new.self.left c.args.levels (view v) after) (λ v. TakesRow c.args.self.now.left c.args.levels key (view v) after)
+    (λ v u. row-taken key (view v) spent c.in_ok-charge.ensures.deep u c.text_payload.ensures.valid) c.row_value.ensures.taken
 
 pub row-returns-in-Equals-clause-once : goal.row-returns-in-Equals-clause-once
 row-returns-in-Equals-clause-once t c =
@@ -162,16 +160,16 @@ row-returns-in-Equals-clause-once t c =
 
 pub row-returns-in-Equals-clause-read : goal.row-returns-in-Equals-clause-read
 row-returns-in-Equals-clause-read t c octets tokens at l h =
-    let has : HasRead octets (tokens ++ at ∷ []) c.charge.new.self = same-read c.args.self.now c.charge.new.self h c.in_ok-charge.ensures.cursor c.in_ok-charge.ensures.end in
+    let has : HasRead octets (tokens ++ at ∷ []) c.charge.new.self.tokens = same-read h c.in_ok-charge.ensures.tokens in
     let token = placed c.in_ok-behind.behind in
     let has_behind = c.in_ok-behind.ensures.read octets (tokens ++ at ∷ []) has in
-    IfOk-weaker c.row_value.result (λ v. ReadsEnded octets ((tokens ++ at ∷ []) ++ token ∷ []) (view v) c.row_value.new.self)
-    (λ v. ReadsRow octets tokens c.args.key.now (view v) c.row_value.new.self)
+    IfOk-weaker c.row_value.result (λ v. ReadsEnded octets ((tokens ++ at ∷ []) ++ token ∷ []) (view v) c.row_value.new.self.tokens)
+    (λ v. ReadsRow octets tokens c.args.key.now (view v) c.row_value.new.self.tokens)
     (λ v r. row-read tokens at token c.args.key.now l (ap lexeme_of c.in-Equals.is) has r) (c.row_value.ensures.read octets ((tokens ++ at ∷ []) ++ token ∷ []) has_behind)
 
 pub row-returns-in-Equals-clause-stands : goal.row-returns-in-Equals-clause-stands
 row-returns-in-Equals-clause-stands t c octets tokens at whole b around before pairs l s f h d k i =
-    let has : HasRead octets (tokens ++ at ∷ []) c.charge.new.self = same-read c.args.self.now c.charge.new.self h c.in_ok-charge.ensures.cursor c.in_ok-charge.ensures.end in
+    let has : HasRead octets (tokens ++ at ∷ []) c.charge.new.self.tokens = same-read h c.in_ok-charge.ensures.tokens in
     let token = placed c.in_ok-behind.behind in
     let has_behind = c.in_ok-behind.ensures.read octets (tokens ++ at ∷ []) has in
     let once : has_key c.args.key.now pairs ≡ false = k ∙ c.if-known.false in
@@ -179,17 +177,17 @@ row-returns-in-Equals-clause-stands t c octets tokens at whole b around before p
     let spent : Spends c.args.self.now.left 1 (2 * length key) c.charge.new.self.left = spends-same c.in_ok-charge.ensures.spent c.text_payload.ensures.payload in
     c.row_value.ensures.stands octets ((tokens ++ at ∷ []) ++ token ∷ []) (λ rest. whole (string key ∷ equals ∷ rest)) (with_key key (with_rows before b)) around
     (before-at (tokens ++ at ∷ []) token equals (λ rest. whole (string key ∷ rest)) (ap lexeme_of c.in-Equals.is) (before-key tokens at key whole l f)) has_behind
-    (row_value-due key d once) (left-same c.in_ok-behind.ensures.left (key-left key i spent))
+    (row_value-due key d once) (key-left key i spent)
 
 pub row-returns-in-Semicolon-clause-taken : goal.row-returns-in-Semicolon-clause-taken
 row-returns-in-Semicolon-clause-taken t c =
     let key = c.args.key.now in
     let after = c.key_alone.new.self.left in
     let spent : Spends c.args.self.now.left 1 (2 * length key) c.charge.new.self.left = spends-same c.in_ok-charge.ensures.spent c.text_payload.ensures.payload in
-    both_ok c.key_alone.result (λ v. view v ≡ scalar (text key)) (Spends c.expect_mark.new.self.left 1 (2 * length key) after) (λ v. TakesRow c.args.self.now.left c.args.levels key (view v) after)
+    both_ok c.key_alone.result (λ v. view v ≡ scalar (text key)) (Spends c.charge.new.self.left 1 (2 * length key) after) (λ v. TakesRow c.args.self.now.left c.args.levels key (view v) after)
     (λ v e u.
     let alone : Takes c.charge.new.self.left c.args.levels (scalar (text key)) after =
-    taken-same c.in_ok-behind.ensures.left refl (scalar-taken (text key) u c.in_ok-charge.ensures.deep c.text_payload.ensures.valid) in
+    scalar-taken (text key) u c.in_ok-charge.ensures.deep c.text_payload.ensures.valid in
     row-taken key (view v) spent c.in_ok-charge.ensures.deep (subst (λ x. Takes c.charge.new.self.left c.args.levels x after) (sym e) alone) c.text_payload.ensures.valid)
     c.key_alone.ensures.value c.key_alone.ensures.spent
 
@@ -199,18 +197,18 @@ row-returns-in-Semicolon-clause-once t c =
 
 pub row-returns-in-Semicolon-clause-read : goal.row-returns-in-Semicolon-clause-read
 row-returns-in-Semicolon-clause-read t c octets tokens at l h =
-    let has : HasRead octets (tokens ++ at ∷ []) c.charge.new.self = same-read c.args.self.now c.charge.new.self h c.in_ok-charge.ensures.cursor c.in_ok-charge.ensures.end in
+    let has : HasRead octets (tokens ++ at ∷ []) c.charge.new.self.tokens = same-read h c.in_ok-charge.ensures.tokens in
     let token = placed c.in_ok-behind.behind in
     let has_behind = c.in_ok-behind.ensures.read octets (tokens ++ at ∷ []) has in
     let key = c.args.key.now in
-    let after = c.key_alone.new.self in
-    let has_after : HasRead octets ((tokens ++ at ∷ []) ++ token ∷ []) after = same-read c.expect_mark.new.self after has_behind c.key_alone.ensures.cursor c.key_alone.ensures.end in
+    let after = c.key_alone.new.self.tokens in
+    let has_after : HasRead octets ((tokens ++ at ∷ []) ++ token ∷ []) after = same-read has_behind c.key_alone.ensures.tokens in
     IfOk-weaker c.key_alone.result (λ v. view v ≡ scalar (text key)) (λ v. ReadsRow octets tokens key (view v) after)
     (λ v e. subst (λ x. ReadsRow octets tokens key x after) (sym e) (alone-read tokens at token key l (ap lexeme_of c.in-Semicolon.is) has_after)) c.key_alone.ensures.value
 
 pub row-returns-in-Semicolon-clause-stands : goal.row-returns-in-Semicolon-clause-stands
 row-returns-in-Semicolon-clause-stands t c octets tokens at whole b around before pairs l s f h d k i =
-    let has : HasRead octets (tokens ++ at ∷ []) c.charge.new.self = same-read c.args.self.now c.charge.new.self h c.in_ok-charge.ensures.cursor c.in_ok-charge.ensures.end in
+    let has : HasRead octets (tokens ++ at ∷ []) c.charge.new.self.tokens = same-read h c.in_ok-charge.ensures.tokens in
     let token = placed c.in_ok-behind.behind in
     let has_behind = c.in_ok-behind.ensures.read octets (tokens ++ at ∷ []) has in
     let once : has_key c.args.key.now pairs ≡ false = k ∙ c.if-known.false in
@@ -218,8 +216,7 @@ row-returns-in-Semicolon-clause-stands t c octets tokens at whole b around befor
     let spent : Spends c.args.self.now.left 1 (2 * length key) c.charge.new.self.left = spends-same c.in_ok-charge.ensures.spent c.text_payload.ensures.payload in
     let two : HasRead octets (tokens ++ at ∷ token ∷ []) c.expect_mark.new.self = subst (λ ts. HasRead octets ts c.expect_mark.new.self) (append_assoc tokens (at ∷ []) (token ∷ [])) has_behind in
     c.key_alone.ensures.stands octets ((tokens ++ at ∷ []) ++ token ∷ []) has_behind
-    (alone-refuses tokens at token c.args.octet key whole c.args.levels c.expect_mark.new.self.left l s (ap lexeme_of c.in-Semicolon.is) f two d once
-    (left-same c.in_ok-behind.ensures.left (key-left key i spent)))
+    (alone-refuses tokens at token c.args.octet key whole c.args.levels c.charge.new.self.left l s (ap lexeme_of c.in-Semicolon.is) f two d once (key-left key i spent))
 
 pub row-returns : goal.row-returns
 row-returns t c =
@@ -229,7 +226,7 @@ row-returns t c =
       once = tt;
       read = λ octets tokens at l h. tt;
       stands = λ octets tokens at whole b around before pairs l s f h d k i.
-          let has : HasRead octets (tokens ++ at ∷ []) c.charge.new.self = same-read c.args.self.now c.charge.new.self h c.in_ok-charge.ensures.cursor c.in_ok-charge.ensures.end in
+          let has : HasRead octets (tokens ++ at ∷ []) c.charge.new.self.tokens = same-read h c.in_ok-charge.ensures.tokens in
           let token = placed c.in_ok-behind.behind in
           let key = c.args.key.now in
           let has_behind = c.in_ok-behind.ensures.read octets (tokens ++ at ∷ []) has in
@@ -248,8 +245,7 @@ row_value-returns-in_err-first-clause-stands t c octets tokens whole b around f 
 pub row_value-returns-in_err-value-clause-stands : goal.row_value-returns-in_err-value-clause-stands
 row_value-returns-in_err-value-clause-stands t c octets tokens whole b around f h d i =
     passed_on (Stands octets) c.in_err-value.field-0.0 c.from_residual-in_err-value.result c.from_residual-in_err-value.ensures.1
-    (c.in_err-value.ensures.stands octets tokens whole b around f (c.in_ok-first.ensures.read octets tokens h) (row_value-first (lexeme_of c.in_ok-first.first.kind) d)
-    (left-same c.in_ok-first.ensures.left i))
+    (c.in_err-value.ensures.stands octets tokens whole b around f (c.in_ok-first.ensures.read octets tokens h) (row_value-first (lexeme_of c.in_ok-first.first.kind) d) i)
 
 pub row_value-returns-in_err-behind-clause-stands : goal.row_value-returns-in_err-behind-clause-stands
 row_value-returns-in_err-behind-clause-stands t c octets tokens whole b around f h d i =
@@ -310,7 +306,7 @@ rows-returns-in_err-value-in-Text-clause-stands t c octets tokens whole b a f h 
     (c.in_err-value-in-Text.ensures.stands octets r.reads.all (placed c.in_ok-token.token) (λ rest. whole (r.inside rest)) (opened b) (Machine.in_braces a) r.rows (view_pairs rows.entries)
     (ap lexeme_of c.in-Text.is ∙ ap string same) refl (r.reads.follow whole f) (c.in_ok-token.ensures.read octets r.reads.all r.reads.has)
     (row-due r.inside d r.spells r.same c.loop-rows.invariant.taken.valid) (subst (λ x. has_key x (view_pairs rows.entries) ≡ c.is_known-known.result) same known)
-    (left-same c.in_ok-token.ensures.left (rows-left i c.loop-rows.invariant.taken r.same)))
+    (rows-left i c.loop-rows.invariant.taken r.same))
 
 pub rows-loop-rows-preserved : goal.rows-loop-rows-preserved
 rows-loop-rows-preserved t c =
@@ -329,12 +325,12 @@ rows-loop-rows-preserved t c =
     ap (λ m. view_pairs m.entries) back ∙ ap view_pairs ((rw c.in-Text.is at place.ensures.update.1) c.or_insert.result.now ∙ ap (insert_entry (slice_cmp nat_cmp) rows.entries key) now) ∙ view_pairs-insert_entry rows.entries key value in
     record {
       shorter = omega (arith, c.in_ok-value-in-Text.ensures.shorter, c.in_ok-token.ensures.shorter, c.loop-rows.invariant.shorter);
-      taken = pair-taken-at key (view value) ps (view_pairs more.entries) c.loop-rows.invariant.taken c.in_ok-token.ensures.left
-          (subst (λ x. TakesRow c.expect.new.self.left c.args.levels x (view value) c.row.new.self.left) (sym same) c.in_ok-value-in-Text.ensures.taken) once put;
+      taken = pair-taken-at key (view value) ps (view_pairs more.entries) c.loop-rows.invariant.taken
+          (subst (λ x. TakesRow c.loop-rows.self.left c.args.levels x (view value) c.row.new.self.left) (sym same) c.in_ok-value-in-Text.ensures.taken) once put;
       read = λ octets tokens h.
           let r = c.loop-rows.invariant.read octets tokens h in
-          subst (λ x. ReadsRows octets tokens [] x c.row.new.self) (sym put)
-          (row-more-read r (subst (λ x. ReadsRow octets r.reads.all x (view value) c.row.new.self) (sym same)
+          subst (λ x. ReadsRows octets tokens [] x c.row.new.self.tokens) (sym put)
+          (row-more-read r (subst (λ x. ReadsRow octets r.reads.all x (view value) c.row.new.self.tokens) (sym same)
           (c.in_ok-value-in-Text.ensures.read octets r.reads.all (placed c.in_ok-token.token) (ap lexeme_of c.in-Text.is ∙ ap string same) (c.in_ok-token.ensures.read octets r.reads.all r.reads.has))) once);
     }
 
@@ -380,8 +376,8 @@ value-returns-in_err-charge-in-ParenOpen-clause-stands t c octets tokens whole b
 
 pub value-returns-in_err-items-in-ParenOpen-clause-stands : goal.value-returns-in_err-items-in-ParenOpen-clause-stands
 value-returns-in_err-items-in-ParenOpen-clause-stands t c octets tokens whole b a f h d i =
-    let charged = c.charge-in-ParenOpen.new.self in
-    let has : HasRead octets (tokens ++ placed c.args.first ∷ []) charged = same-read c.args.self.now charged h c.in_ok-charge-in-ParenOpen.ensures.cursor c.in_ok-charge-in-ParenOpen.ensures.end in
+    let charged = c.charge-in-ParenOpen.new.self.tokens in
+    let has : HasRead octets (tokens ++ placed c.args.first ∷ []) charged = same-read h c.in_ok-charge-in-ParenOpen.ensures.tokens in
     let is : lexeme_of c.args.first.kind ≡ paren_open = ap lexeme_of c.in-ParenOpen.is in
     passed_on (Stands octets) c.in_err-items-in-ParenOpen.field-0.0 c.from_residual-in_err-items-in-ParenOpen.result c.from_residual-in_err-items-in-ParenOpen.ensures.1
     (c.in_err-items-in-ParenOpen.ensures.stands octets (tokens ++ placed c.args.first ∷ []) (λ rest. whole (paren_open ∷ rest)) b a (before-at tokens (placed c.args.first) paren_open whole is f) has
@@ -395,8 +391,8 @@ value-returns-in_err-charge-in-BraceOpen-clause-stands t c octets tokens whole b
 
 pub value-returns-in_err-rows-in-BraceOpen-clause-stands : goal.value-returns-in_err-rows-in-BraceOpen-clause-stands
 value-returns-in_err-rows-in-BraceOpen-clause-stands t c octets tokens whole b a f h d i =
-    let charged = c.charge-in-BraceOpen.new.self in
-    let has : HasRead octets (tokens ++ placed c.args.first ∷ []) charged = same-read c.args.self.now charged h c.in_ok-charge-in-BraceOpen.ensures.cursor c.in_ok-charge-in-BraceOpen.ensures.end in
+    let charged = c.charge-in-BraceOpen.new.self.tokens in
+    let has : HasRead octets (tokens ++ placed c.args.first ∷ []) charged = same-read h c.in_ok-charge-in-BraceOpen.ensures.tokens in
     let is : lexeme_of c.args.first.kind ≡ brace_open = ap lexeme_of c.in-BraceOpen.is in
     passed_on (Stands octets) c.in_err-rows-in-BraceOpen.field-0.0 c.from_residual-in_err-rows-in-BraceOpen.result c.from_residual-in_err-rows-in-BraceOpen.ensures.1
     (c.in_err-rows-in-BraceOpen.ensures.stands octets (tokens ++ placed c.args.first ∷ []) (λ rest. whole (brace_open ∷ rest)) b a (before-at tokens (placed c.args.first) brace_open whole is f) has
@@ -415,11 +411,11 @@ pub value-returns-in_ok-charge-in-Text-clause-read : goal.value-returns-in_ok-ch
 value-returns-in_ok-charge-in-Text-clause-read t c octets tokens h =
     let key = c.in-Text.text in
     let token = placed c.args.first in
-    let after = c.charge.new.self in
+    let after = c.charge.new.self.tokens in
     let shown : view (Value.Text key) ≡ scalar (text key) = view-text key in
     let read : ReadsValue octets tokens token.lexeme (view (Value.Text key)) after =
     subst (λ x. ReadsValue octets tokens token.lexeme x after) (sym shown) (string-read tokens token key (ap lexeme_of c.in-Text.is)
-    (same-read c.args.self.now after h c.in_ok-charge-in-Text.ensures.cursor c.in_ok-charge-in-Text.ensures.end)) in
+    (same-read h c.in_ok-charge-in-Text.ensures.tokens)) in
     rw c.in-Text.is (subst (λ l. ReadsValue octets tokens l (view (Value.Text key)) after) (ap lexeme_of c.in-Text.is) read)
 
 pub value-returns-in_ok-charge-in-Octets-clause-taken : goal.value-returns-in_ok-charge-in-Octets-clause-taken
@@ -435,24 +431,24 @@ pub value-returns-in_ok-charge-in-Octets-clause-read : goal.value-returns-in_ok-
 value-returns-in_ok-charge-in-Octets-clause-read t c octets tokens h =
     let xs = c.in-Octets.octets in
     let token = placed c.args.first in
-    let after = c.charge-in-Octets.new.self in
+    let after = c.charge-in-Octets.new.self.tokens in
     let read : ReadsValue octets tokens token.lexeme (view (Value.Bytes xs)) after =
     subst (λ x. ReadsValue octets tokens token.lexeme x after) (sym (view-bytes xs)) (data-read tokens token xs.items (ap lexeme_of c.in-Octets.is)
-    (same-read c.args.self.now after h c.in_ok-charge-in-Octets.ensures.cursor c.in_ok-charge-in-Octets.ensures.end)) in
+    (same-read h c.in_ok-charge-in-Octets.ensures.tokens)) in
     rw c.in-Octets.is (subst (λ l. ReadsValue octets tokens l (view (Value.Bytes xs)) after) (ap lexeme_of c.in-Octets.is) read)
 
 pub value-returns-in_ok-items-in-ParenOpen-clause-read : goal.value-returns-in_ok-items-in-ParenOpen-clause-read
 value-returns-in_ok-items-in-ParenOpen-clause-read t c octets tokens h =
-    let charged = c.charge-in-ParenOpen.new.self in
-    let has : HasRead octets (tokens ++ placed c.args.first ∷ []) charged = same-read c.args.self.now charged h c.in_ok-charge-in-ParenOpen.ensures.cursor c.in_ok-charge-in-ParenOpen.ensures.end in
-    subst (λ x. ReadsValue octets tokens (lexeme_of c.args.first.kind) x c.items.new.self) (sym (view-list c.in_ok-items-in-ParenOpen.items))
+    let charged = c.charge-in-ParenOpen.new.self.tokens in
+    let has : HasRead octets (tokens ++ placed c.args.first ∷ []) charged = same-read h c.in_ok-charge-in-ParenOpen.ensures.tokens in
+    subst (λ x. ReadsValue octets tokens (lexeme_of c.args.first.kind) x c.items.new.self.tokens) (sym (view-list c.in_ok-items-in-ParenOpen.items))
     (list-read tokens (placed c.args.first) (ap lexeme_of c.in-ParenOpen.is) (c.in_ok-items-in-ParenOpen.ensures.read octets (tokens ++ placed c.args.first ∷ []) has))
 
 pub value-returns-in_ok-rows-in-BraceOpen-clause-read : goal.value-returns-in_ok-rows-in-BraceOpen-clause-read
 value-returns-in_ok-rows-in-BraceOpen-clause-read t c octets tokens h =
-    let charged = c.charge-in-BraceOpen.new.self in
-    let has : HasRead octets (tokens ++ placed c.args.first ∷ []) charged = same-read c.args.self.now charged h c.in_ok-charge-in-BraceOpen.ensures.cursor c.in_ok-charge-in-BraceOpen.ensures.end in
-    subst (λ x. ReadsValue octets tokens (lexeme_of c.args.first.kind) x c.rows.new.self) (sym (view-table c.in_ok-rows-in-BraceOpen.rows))
+    let charged = c.charge-in-BraceOpen.new.self.tokens in
+    let has : HasRead octets (tokens ++ placed c.args.first ∷ []) charged = same-read h c.in_ok-charge-in-BraceOpen.ensures.tokens in
+    subst (λ x. ReadsValue octets tokens (lexeme_of c.args.first.kind) x c.rows.new.self.tokens) (sym (view-table c.in_ok-rows-in-BraceOpen.rows))
     (table-read tokens (placed c.args.first) (ap lexeme_of c.in-BraceOpen.is) (c.in_ok-rows-in-BraceOpen.ensures.read octets (tokens ++ placed c.args.first ∷ []) has)
     c.in_ok-rows-in-BraceOpen.ensures.taken.valid)
 

@@ -22,25 +22,25 @@ abbrev pub decreases-row_value : goal.decreases-row_value
 decreases-row_value l = 4 * l.levels + 1
 
 abbrev pub decreases-items-loop-items : goal.decreases-items-loop-items
-decreases-items-loop-items l = length (ahead l.self.cursor)
+decreases-items-loop-items l = length (ahead l.self.tokens.cursor)
 
 abbrev pub decreases-rows-loop-rows : goal.decreases-rows-loop-rows
-decreases-rows-loop-rows l = length (ahead l.self.cursor)
+decreases-rows-loop-rows l = length (ahead l.self.tokens.cursor)
 
 -- items so far, and what they took
 abbrev pub invariant-items-loop-items : goal.invariant-items-loop-items
 invariant-items-loop-items l =
     record {
-      shorter : length (ahead l.self.cursor) ≤ length (ahead l.initial.self.cursor);
+      shorter : length (ahead l.self.tokens.cursor) ≤ length (ahead l.initial.self.tokens.cursor);
       taken : TakesItems l.initial.self.left l.levels (view_items l.items.items) l.self.left;
-      read : (octets : List ℕ) (tokens : List Placed) → HasRead octets tokens l.initial.self → ReadsItems octets tokens [] (view_items l.items.items) l.self;
+      read : (octets : List ℕ) (tokens : List Placed) → HasRead octets tokens l.initial.self.tokens → ReadsItems octets tokens [] (view_items l.items.items) l.self.tokens;
     }
 
 -- rows so far
 abbrev pub invariant-rows-loop-rows : goal.invariant-rows-loop-rows
 invariant-rows-loop-rows l =
     record {
-      shorter : length (ahead l.self.cursor) ≤ length (ahead l.initial.self.cursor);
+      shorter : length (ahead l.self.tokens.cursor) ≤ length (ahead l.initial.self.tokens.cursor);
       taken : TakesPairs l.initial.self.left l.levels (view_pairs l.rows.entries) l.self.left;
-      read : (octets : List ℕ) (tokens : List Placed) → HasRead octets tokens l.initial.self → ReadsRows octets tokens [] (view_pairs l.rows.entries) l.self;
+      read : (octets : List ℕ) (tokens : List Placed) → HasRead octets tokens l.initial.self.tokens → ReadsRows octets tokens [] (view_pairs l.rows.entries) l.self.tokens;
     }

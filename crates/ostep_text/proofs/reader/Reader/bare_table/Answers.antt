@@ -1,4 +1,4 @@
-use Rattle.std.proofs.Common.{◌≡◌, ◌∷◌, ◌++◌, [], false, ℕ, List, nat_cmp, refl, sym, ap, subst, ◌∙◌}
+use Rattle.std.proofs.Common.{◌≡◌, ◌∷◌, ◌++◌, [], false, nat_cmp, refl, sym, ap, subst, ◌∙◌}
 use Rattle.plist_value.specs.Plist.{no_pairs, pair, table}
 use Rattle.plist_value.specs.View.{view, view_pairs}
 use Rattle.plist_value.proofs.Pairs.{put_pair, view_pairs-insert_entry}
@@ -21,7 +21,7 @@ use Rattle.ostep_text.specs.Reading.{HasRead, TakesRow}
 use Rattle.ostep_text.proofs.Exits.{passed_on}
 use Rattle.ostep_text.proofs.Shown.{view-table}
 use Rattle.ostep_text.proofs.Standing.{junk-at}
-use Rattle.ostep_text.proofs.TakeSteps.{left-same, rows-left, row-same}
+use Rattle.ostep_text.proofs.TakeSteps.{rows-left}
 use Rattle.ostep_text.proofs.TokenKinds.{bare-ended}
 use Rattle.ostep_text.proofs.BareSteps.{BareRead, bare-first, bare-more, bare-phrase, bare-text, bare-ends}
 use Rattle.ostep_text.proofs.reader.Reader.bare_table.Goals as goal
@@ -31,7 +31,7 @@ loop-rows-init c octets left i t r =
     let put : view_pairs c.insert.new.self.entries ≡ put_pair c.args.key (view c.args.value) (view_pairs c.new-rows.result.entries) =
     ap view_pairs c.in_ok-insert.ensures.entries ∙ view_pairs-insert_entry c.new-rows.result.entries c.args.key c.args.value in
     let is : view_pairs c.insert.new.self.entries ≡ pair c.args.key (view c.args.value) no_pairs = rw c.new-rows.ensures.empty at put in
-    subst (λ x. BareRead octets left x c.args.self.now) (sym is) (bare-first t r)
+    subst (λ x. BareRead octets left x c.args.self.now) (sym is) (bare-first c.args.self.now t r)
 
 pub returns-in_err-token-clause-stands : goal.returns-in_err-token-clause-stands
 returns-in_err-token-clause-stands c octets left i t r =
@@ -49,7 +49,7 @@ returns-in_err-value-in-Text-clause-stands c octets left i t r =
     let known : has_key c.in-Text.key (view_pairs rows.entries) ≡ c.is_known-known.result = known-has c.is_known-known.result c.in-Text.key rows (c.is_known-known.ensures rows c.in-Text.key (rw c.in-Text.is at place.ensures.found)) in
     passed_on (Stands octets) c.in_err-value-in-Text.field-0.0 c.from_residual-in_err-value-in-Text.result c.from_residual-in_err-value-in-Text.ensures.1
     (c.in_err-value-in-Text.ensures.stands octets b.tokens token b.whole (opened nothing) Machine.bare b.rows (view_pairs rows.entries) (ap lexeme_of c.in-Text.is ∙ ap string same) refl b.before has b.due
-    (subst (λ x. has_key x (view_pairs rows.entries) ≡ c.is_known-known.result) same known) (left-same c.in_ok-token.ensures.left (rows-left i b.taken b.due.sorted.same)))
+    (subst (λ x. has_key x (view_pairs rows.entries) ≡ c.is_known-known.result) same known) (rows-left i b.taken b.due.sorted.same))
 
 pub loop-rows-preserved : goal.loop-rows-preserved
 loop-rows-preserved c octets left i t r =
@@ -69,8 +69,8 @@ loop-rows-preserved c octets left i t r =
     let put : view_pairs more.entries ≡ put_pair key (view value) (view_pairs rows.entries) =
     ap (λ m. view_pairs m.entries) back ∙ ap view_pairs ((rw c.in-Text.is at place.ensures.update.1) c.or_insert.result.now ∙ ap (insert_entry (slice_cmp nat_cmp) rows.entries key) now) ∙ view_pairs-insert_entry rows.entries key value in
     subst (λ x. BareRead octets left x c.row.new.self) (sym put)
-    (bare-more b (subst (λ x. TakesRow c.loop-rows.self.left 511 x (view value) c.row.new.self.left) (sym same) (row-same c.in_ok-token.ensures.left c.in_ok-value-in-Text.ensures.taken)) once
-    (subst (λ x. ReadsRow octets b.tokens x (view value) c.row.new.self) (sym same)
+    (bare-more c.row.new.self b (subst (λ x. TakesRow c.loop-rows.self.left 511 x (view value) c.row.new.self.left) (sym same) c.in_ok-value-in-Text.ensures.taken) once
+    (subst (λ x. ReadsRow octets b.tokens x (view value) c.row.new.self.tokens) (sym same)
     (c.in_ok-value-in-Text.ensures.read octets b.tokens token (ap lexeme_of c.in-Text.is ∙ ap string same) has)))
 
 pub returns-in_default-kind : goal.returns-in_default-kind

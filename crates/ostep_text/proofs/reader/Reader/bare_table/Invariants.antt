@@ -8,10 +8,10 @@ use Rattle.ostep_text.proofs.BareSteps.{BareRead}
 use Rattle.ostep_text.proofs.reader.Reader.bare_table.Given as goal
 
 abbrev pub decreases-loop-rows : goal.decreases-loop-rows
-decreases-loop-rows l = length (ahead l.self.cursor)
+decreases-loop-rows l = length (ahead l.self.tokens.cursor)
 
 -- rows so far, one at least
 abbrev pub invariant-loop-rows : goal.invariant-loop-rows
 invariant-loop-rows l =
     (octets : List ℕ) (left : Budget) → IsLeft left 511 (opened nothing) → TakesRow left 511 l.fn.key (view l.fn.value) l.fn.self.left
-    → ReadsRow octets [] l.fn.key (view l.fn.value) l.fn.self → BareRead octets left (view_pairs l.rows.entries) l.self
+    → ReadsRow octets [] l.fn.key (view l.fn.value) l.fn.self.tokens → BareRead octets left (view_pairs l.rows.entries) l.self

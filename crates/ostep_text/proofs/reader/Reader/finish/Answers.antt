@@ -1,6 +1,6 @@
 use Rattle.std.proofs.Common.{◌∷◌, ◌++◌, [], refl}
 use Rattle.plist_value.specs.View.{view}
-use Rattle.ostep_lex.specs.Lexeme.{placed, lexeme_of}
+use Rattle.ostep_lex.specs.Lexeme.{placed}
 use Rattle.ostep_lex.specs.Lexing.{HasTokens}
 use Rattle.ostep_text.specs.Phrase.{a_value}
 use Rattle.ostep_text.specs.Stands.{Stands}

@@ -15,7 +15,7 @@ returns-in_err-charge-clause-stands c octets at behind l s h i =
 
 pub returns-clause-stands : goal.returns-clause-stands
 returns-clause-stands c octets at behind l s h i =
-    let read : HasRead octets (at ∷ behind ∷ []) c.charge.new.self = same-read c.args.self.now c.charge.new.self h c.in_ok-charge.ensures.cursor c.in_ok-charge.ensures.end in
+    let read : HasRead octets (at ∷ behind ∷ []) c.charge.new.self.tokens = same-read h c.in_ok-charge.ensures.tokens in
     let few : c.text_payload.result ≤ 2 * length c.args.key.now = omega (arith, c.text_payload.ensures.payload) in
     let left : IsLeft c.charge.new.self.left 511 (with_rows no_pairs (opened nothing)) = record {
       nodes_left = omega (arith, i.nodes_left, c.in_ok-charge.ensures.spent.nodes_left);

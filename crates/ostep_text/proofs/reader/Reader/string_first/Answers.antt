@@ -1,8 +1,8 @@
-use Rattle.std.proofs.Common.{◌≡◌, ◌≤◌, ◌*◌, ◌∷◌, ◌++◌, [], ℕ, List, length, refl, sym, ap, subst, ◌∙◌, arith}
-use Rattle.plist_value.specs.Plist.{Plist, no_pairs, scalar, text}
+use Rattle.std.proofs.Common.{◌≤◌, ◌*◌, ◌∷◌, [], length, refl, sym, ap, subst, arith}
+use Rattle.plist_value.specs.Plist.{no_pairs, scalar, text}
 use Rattle.plist_value.specs.View.{view}
 use Rattle.plist_value.specs.declared.TheConstants.{MAX_DEPTH, MAX_PAYLOAD}
-use Rattle.ostep_lex.specs.Lexeme.{placed, lexeme_of, text as string, equals, semicolon}
+use Rattle.ostep_lex.specs.Lexeme.{placed, lexeme_of, text as string, equals}
 use Rattle.ostep_lex.specs.Lexing.{HasTokens}
 use Rattle.ostep_text.specs.Begun.{nothing, opened, with_rows, with_key}
 use Rattle.ostep_text.specs.Phrase.{a_string, a_value}
@@ -13,11 +13,11 @@ use Rattle.ostep_text.specs.Reading.{HasRead, ReadsRow, Takes}
 use Rattle.ostep_text.proofs.Exits.{passed_on, no_ok}
 use Rattle.ostep_text.proofs.Shown.{view-text}
 use Rattle.ostep_text.proofs.Standing.{junk-at}
-use Rattle.ostep_text.proofs.TakeSteps.{left-same, taken-same, scalar-taken}
+use Rattle.ostep_text.proofs.TakeSteps.{scalar-taken}
 use Rattle.ostep_text.proofs.TokenKinds.{leads-nowhere, key-ended}
 use Rattle.ostep_text.proofs.Wholes.{same-read, front-refuses}
 use Rattle.ostep_text.proofs.ReadSteps.{row-read, alone-read}
-use Rattle.ostep_text.proofs.BareSteps.{before-two, first_value-due, first_key-left, first_alone-refuses, FirstTaken, first-taken, lone-text}
+use Rattle.ostep_text.proofs.BareSteps.{before-two, first_value-due, first_key-left, first_alone-refuses, first-taken, lone-text}
 use Rattle.ostep_text.proofs.reader.Reader.string_first.Goals as goal
 
 pub returns-in_err-second-clause-stands : goal.returns-in_err-second-clause-stands
@@ -27,17 +27,16 @@ returns-in_err-second-clause-stands c octets at l s h i =
 pub returns-in_err-charge-clause-stands : goal.returns-in_err-charge-clause-stands
 returns-in_err-charge-clause-stands c octets at l s h i =
     let stays = rw c.in_default.is at c.in_ok-second.ensures.stays in
-    let one : HasRead octets (at ∷ []) c.next.new.self = same-read c.args.self.now c.next.new.self h stays c.in_ok-second.ensures.end in
+    let one : HasRead octets (at ∷ []) c.next.new.self = same-read h stays in
     let few : c.text_payload.result ≤ 2 * length c.args.text = omega (arith, c.text_payload.ensures.payload) in
     passed_on (Stands octets) c.in_err-charge.field-0.0 c.from_residual-in_err-charge.result c.from_residual-in_err-charge.ensures.1
     (c.in_err-charge.ensures.stands octets (at ∷ []) one
-    (front-refuses [] at c.args.octet c.args.text MAX_DEPTH c.text_payload.result c.next.new.self.left l s one few (left-same c.in_ok-second.ensures.left i)))
+    (front-refuses [] at c.args.octet c.args.text MAX_DEPTH c.text_payload.result c.args.self.now.left l s one few i))
 
 pub returns-in_default-clause-read : goal.returns-in_default-clause-read
 returns-in_default-clause-read c octets at l s h i =
     let all : HasTokens octets (at ∷ []) = rw c.in_default.is at (c.in_ok-second.ensures.read octets (at ∷ []) h) in
-    let left = left-same c.in_ok-second.ensures.left i in
-    let fits : 2 * length c.args.text ≤ MAX_PAYLOAD = omega (arith, c.text_payload.ensures.payload, c.in_ok-charge.ensures.spent.payload_left, left.payload_left) in
+    let fits : 2 * length c.args.text ≤ MAX_PAYLOAD = omega (arith, c.text_payload.ensures.payload, c.in_ok-charge.ensures.spent.payload_left, i.payload_left) in
     subst (λ x. IsText octets x) (sym (view-text c.args.text)) (lone-text at c.args.text l all c.text_payload.ensures.valid fits)
 
 pub returns-in_err-first_key-in-Equals-clause-stands : goal.returns-in_err-first_key-in-Equals-clause-stands
@@ -45,23 +44,22 @@ returns-in_err-first_key-in-Equals-clause-stands c octets at l s h i =
     let second = placed c.in-Some.second in
     let two : HasRead octets (at ∷ second ∷ []) c.next.new.self = rw c.in-Some.is at (c.in_ok-second.ensures.read octets (at ∷ []) h) in
     passed_on (Stands octets) c.in_err-first_key-in-Equals.field-0.0 c.from_residual-in_err-first_key-in-Equals.result c.from_residual-in_err-first_key-in-Equals.ensures.1
-    (c.in_err-first_key-in-Equals.ensures.stands octets at second l s two (left-same c.in_ok-second.ensures.left i))
+    (c.in_err-first_key-in-Equals.ensures.stands octets at second l s two i)
 
 pub returns-in_err-first_key-in-Semicolon-clause-stands : goal.returns-in_err-first_key-in-Semicolon-clause-stands
 returns-in_err-first_key-in-Semicolon-clause-stands c octets at l s h i =
     let second = placed c.in-Some.second in
     let two : HasRead octets (at ∷ second ∷ []) c.next.new.self = rw c.in-Some.is at (c.in_ok-second.ensures.read octets (at ∷ []) h) in
     passed_on (Stands octets) c.in_err-first_key-in-Semicolon.field-0.0 c.from_residual-in_err-first_key-in-Semicolon.result c.from_residual-in_err-first_key-in-Semicolon.ensures.1
-    (c.in_err-first_key-in-Semicolon.ensures.stands octets at second l s two (left-same c.in_ok-second.ensures.left i))
+    (c.in_err-first_key-in-Semicolon.ensures.stands octets at second l s two i)
 
 pub returns-in_err-value-in-Equals-clause-stands : goal.returns-in_err-value-in-Equals-clause-stands
 returns-in_err-value-in-Equals-clause-stands c octets at l s h i =
     let second = placed c.in-Some.second in
     let two : HasRead octets (at ∷ second ∷ []) c.next.new.self = rw c.in-Some.is at (c.in_ok-second.ensures.read octets (at ∷ []) h) in
     let keyed = c.first_key.new.self in
-    let three : HasRead octets (at ∷ second ∷ []) keyed = same-read c.next.new.self keyed two c.in_ok-first_key-in-Equals.ensures.cursor c.in_ok-first_key-in-Equals.ensures.end in
-    let left = left-same c.in_ok-second.ensures.left i in
-    let inner = first_key-left c.args.text left c.in_ok-first_key-in-Equals.ensures.spent in
+    let three : HasRead octets (at ∷ second ∷ []) keyed.tokens = same-read two c.in_ok-first_key-in-Equals.ensures.tokens in
+    let inner = first_key-left c.args.text i c.in_ok-first_key-in-Equals.ensures.spent in
     passed_on (Stands octets) c.in_err-value-in-Equals.field-0.0 c.from_residual-in_err-value-in-Equals.result c.from_residual-in_err-value-in-Equals.ensures.1
     (c.in_err-value-in-Equals.ensures.stands octets (at ∷ second ∷ []) (λ rest. string c.args.text ∷ equals ∷ rest) (with_key c.args.text (with_rows no_pairs (opened nothing))) Machine.bare
     (before-two at second (string c.args.text) equals l (ap lexeme_of c.in-Equals.is)) three (first_value-due c.args.text) inner)
@@ -71,9 +69,8 @@ returns-in_err-value-in-Semicolon-clause-stands c octets at l s h i =
     let second = placed c.in-Some.second in
     let two : HasRead octets (at ∷ second ∷ []) c.next.new.self = rw c.in-Some.is at (c.in_ok-second.ensures.read octets (at ∷ []) h) in
     let keyed = c.first_key-in-Semicolon.new.self in
-    let three : HasRead octets (at ∷ second ∷ []) keyed = same-read c.next.new.self keyed two c.in_ok-first_key-in-Semicolon.ensures.cursor c.in_ok-first_key-in-Semicolon.ensures.end in
-    let left = left-same c.in_ok-second.ensures.left i in
-    let inner = first_key-left c.args.text left c.in_ok-first_key-in-Semicolon.ensures.spent in
+    let three : HasRead octets (at ∷ second ∷ []) keyed.tokens = same-read two c.in_ok-first_key-in-Semicolon.ensures.tokens in
+    let inner = first_key-left c.args.text i c.in_ok-first_key-in-Semicolon.ensures.spent in
     passed_on (Stands octets) c.in_err-value-in-Semicolon.field-0.0 c.from_residual-in_err-value-in-Semicolon.result c.from_residual-in_err-value-in-Semicolon.ensures.1
     (c.in_err-value-in-Semicolon.ensures.stands octets (at ∷ second ∷ []) three
     (first_alone-refuses at second c.args.octet c.args.text 511 keyed.left l s (ap lexeme_of c.in-Semicolon.is) three inner))
@@ -87,7 +84,7 @@ returns-in_err-charge-in_default-kind c = record {
       let few : c.text_payload-in_default-kind.result ≤ 2 * length c.args.text = omega (arith, c.text_payload-in_default-kind.ensures.payload) in
       passed_on (Stands octets) c.in_err-charge-in_default-kind.field-0.0 c.from_residual-in_err-charge-in_default-kind.result c.from_residual-in_err-charge-in_default-kind.ensures.1
       (c.in_err-charge-in_default-kind.ensures.stands octets (at ∷ second ∷ []) two
-      (front-refuses (second ∷ []) at c.args.octet c.args.text MAX_DEPTH c.text_payload-in_default-kind.result c.next.new.self.left l s two few (left-same c.in_ok-second.ensures.left i)));
+      (front-refuses (second ∷ []) at c.args.octet c.args.text MAX_DEPTH c.text_payload-in_default-kind.result c.args.self.now.left l s two few i));
 }
 
 pub returns-in_ok-charge-in_default-kind : goal.returns-in_ok-charge-in_default-kind
@@ -96,9 +93,9 @@ returns-in_ok-charge-in_default-kind c = record {
   stands = λ octets at l s h i.
       let second = placed c.in-Some.second in
       let two : HasRead octets (at ∷ second ∷ []) c.next.new.self = rw c.in-Some.is at (c.in_ok-second.ensures.read octets (at ∷ []) h) in
-      let charged = c.charge-in_default-kind.new.self in
+      let charged = c.charge-in_default-kind.new.self.tokens in
       let three : HasRead octets (at ∷ second ∷ []) charged =
-      same-read c.next.new.self charged two c.in_ok-charge-in_default-kind.ensures.cursor c.in_ok-charge-in_default-kind.ensures.end in
+      same-read two c.in_ok-charge-in_default-kind.ensures.tokens in
       c.refuse.ensures octets (at ∷ second ∷ []) three
       (junk-at (at ∷ []) second (λ rest. string c.args.text ∷ rest) (λ rest. ap (λ x. x ∷ rest) l) three (λ n. cc n) (scalar (text c.args.text), a_value a_string)
       (leads-nowhere (λ rest. string c.args.text ∷ rest) Machine.lone second.lexeme (λ rest. refl)
@@ -110,14 +107,13 @@ returns-in_ok-value-in-Equals-clause-read c octets at l s h i =
     let second = placed c.in-Some.second in
     let two : HasRead octets (at ∷ second ∷ []) c.next.new.self = rw c.in-Some.is at (c.in_ok-second.ensures.read octets (at ∷ []) h) in
     let keyed = c.first_key.new.self in
-    let three : HasRead octets (at ∷ second ∷ []) keyed = same-read c.next.new.self keyed two c.in_ok-first_key-in-Equals.ensures.cursor c.in_ok-first_key-in-Equals.ensures.end in
-    let left = left-same c.in_ok-second.ensures.left i in
-    let inner = first_key-left c.args.text left c.in_ok-first_key-in-Equals.ensures.spent in
+    let three : HasRead octets (at ∷ second ∷ []) keyed.tokens = same-read two c.in_ok-first_key-in-Equals.ensures.tokens in
+    let inner = first_key-left c.args.text i c.in_ok-first_key-in-Equals.ensures.spent in
     let value = c.in_ok-value-in-Equals.value in
     let taken : Takes keyed.left 511 (view value) c.row_value.new.self.left = c.in_ok-value-in-Equals.ensures.taken in
-    let row : ReadsRow octets [] c.args.text (view value) c.row_value.new.self =
+    let row : ReadsRow octets [] c.args.text (view value) c.row_value.new.self.tokens =
     row-read [] at second c.args.text l (ap lexeme_of c.in-Equals.is) h (c.in_ok-value-in-Equals.ensures.read octets (at ∷ second ∷ []) three) in
-    let first = first-taken c.args.text (view value) left c.in_ok-first_key-in-Equals.ensures.spent taken c.in_ok-first_key-in-Equals.ensures.valid in
+    let first = first-taken c.args.text (view value) i c.in_ok-first_key-in-Equals.ensures.spent taken c.in_ok-first_key-in-Equals.ensures.valid in
     c.bare_table.ensures.read octets first.left first.is_left first.taken row
 
 pub returns-in_ok-value-in-Equals-clause-stands : goal.returns-in_ok-value-in-Equals-clause-stands
@@ -125,14 +121,13 @@ returns-in_ok-value-in-Equals-clause-stands c octets at l s h i =
     let second = placed c.in-Some.second in
     let two : HasRead octets (at ∷ second ∷ []) c.next.new.self = rw c.in-Some.is at (c.in_ok-second.ensures.read octets (at ∷ []) h) in
     let keyed = c.first_key.new.self in
-    let three : HasRead octets (at ∷ second ∷ []) keyed = same-read c.next.new.self keyed two c.in_ok-first_key-in-Equals.ensures.cursor c.in_ok-first_key-in-Equals.ensures.end in
-    let left = left-same c.in_ok-second.ensures.left i in
-    let inner = first_key-left c.args.text left c.in_ok-first_key-in-Equals.ensures.spent in
+    let three : HasRead octets (at ∷ second ∷ []) keyed.tokens = same-read two c.in_ok-first_key-in-Equals.ensures.tokens in
+    let inner = first_key-left c.args.text i c.in_ok-first_key-in-Equals.ensures.spent in
     let value = c.in_ok-value-in-Equals.value in
     let taken : Takes keyed.left 511 (view value) c.row_value.new.self.left = c.in_ok-value-in-Equals.ensures.taken in
-    let row : ReadsRow octets [] c.args.text (view value) c.row_value.new.self =
+    let row : ReadsRow octets [] c.args.text (view value) c.row_value.new.self.tokens =
     row-read [] at second c.args.text l (ap lexeme_of c.in-Equals.is) h (c.in_ok-value-in-Equals.ensures.read octets (at ∷ second ∷ []) three) in
-    let first = first-taken c.args.text (view value) left c.in_ok-first_key-in-Equals.ensures.spent taken c.in_ok-first_key-in-Equals.ensures.valid in
+    let first = first-taken c.args.text (view value) i c.in_ok-first_key-in-Equals.ensures.spent taken c.in_ok-first_key-in-Equals.ensures.valid in
     c.bare_table.ensures.stands octets first.left first.is_left first.taken row
 
 pub returns-in_ok-value-in-Semicolon-clause-read : goal.returns-in_ok-value-in-Semicolon-clause-read
@@ -140,17 +135,16 @@ returns-in_ok-value-in-Semicolon-clause-read c octets at l s h i =
     let second = placed c.in-Some.second in
     let two : HasRead octets (at ∷ second ∷ []) c.next.new.self = rw c.in-Some.is at (c.in_ok-second.ensures.read octets (at ∷ []) h) in
     let keyed = c.first_key-in-Semicolon.new.self in
-    let three : HasRead octets (at ∷ second ∷ []) keyed = same-read c.next.new.self keyed two c.in_ok-first_key-in-Semicolon.ensures.cursor c.in_ok-first_key-in-Semicolon.ensures.end in
-    let left = left-same c.in_ok-second.ensures.left i in
-    let inner = first_key-left c.args.text left c.in_ok-first_key-in-Semicolon.ensures.spent in
+    let three : HasRead octets (at ∷ second ∷ []) keyed.tokens = same-read two c.in_ok-first_key-in-Semicolon.ensures.tokens in
+    let inner = first_key-left c.args.text i c.in_ok-first_key-in-Semicolon.ensures.spent in
     let value = c.in_ok-value-in-Semicolon.value in
     let after = c.key_alone.new.self in
     let taken : Takes keyed.left 511 (view value) after.left = subst (λ x. Takes keyed.left 511 x after.left) (sym c.in_ok-value-in-Semicolon.ensures.value)
     (scalar-taken (text c.args.text) c.in_ok-value-in-Semicolon.ensures.spent c.in_ok-value-in-Semicolon.ensures.deep c.in_ok-first_key-in-Semicolon.ensures.valid) in
-    let four : HasRead octets (at ∷ second ∷ []) after = same-read keyed after three c.in_ok-value-in-Semicolon.ensures.cursor c.in_ok-value-in-Semicolon.ensures.end in
-    let row : ReadsRow octets [] c.args.text (view value) after = subst (λ x. ReadsRow octets [] c.args.text x after) (sym c.in_ok-value-in-Semicolon.ensures.value)
+    let four : HasRead octets (at ∷ second ∷ []) after.tokens = same-read three c.in_ok-value-in-Semicolon.ensures.tokens in
+    let row : ReadsRow octets [] c.args.text (view value) after.tokens = subst (λ x. ReadsRow octets [] c.args.text x after.tokens) (sym c.in_ok-value-in-Semicolon.ensures.value)
     (alone-read [] at second c.args.text l (ap lexeme_of c.in-Semicolon.is) four) in
-    let first = first-taken c.args.text (view value) left c.in_ok-first_key-in-Semicolon.ensures.spent taken c.in_ok-first_key-in-Semicolon.ensures.valid in
+    let first = first-taken c.args.text (view value) i c.in_ok-first_key-in-Semicolon.ensures.spent taken c.in_ok-first_key-in-Semicolon.ensures.valid in
     c.bare_table-in-Semicolon.ensures.read octets first.left first.is_left first.taken row
 
 pub returns-in_ok-value-in-Semicolon-clause-stands : goal.returns-in_ok-value-in-Semicolon-clause-stands
@@ -158,15 +152,14 @@ returns-in_ok-value-in-Semicolon-clause-stands c octets at l s h i =
     let second = placed c.in-Some.second in
     let two : HasRead octets (at ∷ second ∷ []) c.next.new.self = rw c.in-Some.is at (c.in_ok-second.ensures.read octets (at ∷ []) h) in
     let keyed = c.first_key-in-Semicolon.new.self in
-    let three : HasRead octets (at ∷ second ∷ []) keyed = same-read c.next.new.self keyed two c.in_ok-first_key-in-Semicolon.ensures.cursor c.in_ok-first_key-in-Semicolon.ensures.end in
-    let left = left-same c.in_ok-second.ensures.left i in
-    let inner = first_key-left c.args.text left c.in_ok-first_key-in-Semicolon.ensures.spent in
+    let three : HasRead octets (at ∷ second ∷ []) keyed.tokens = same-read two c.in_ok-first_key-in-Semicolon.ensures.tokens in
+    let inner = first_key-left c.args.text i c.in_ok-first_key-in-Semicolon.ensures.spent in
     let value = c.in_ok-value-in-Semicolon.value in
     let after = c.key_alone.new.self in
     let taken : Takes keyed.left 511 (view value) after.left = subst (λ x. Takes keyed.left 511 x after.left) (sym c.in_ok-value-in-Semicolon.ensures.value)
     (scalar-taken (text c.args.text) c.in_ok-value-in-Semicolon.ensures.spent c.in_ok-value-in-Semicolon.ensures.deep c.in_ok-first_key-in-Semicolon.ensures.valid) in
-    let four : HasRead octets (at ∷ second ∷ []) after = same-read keyed after three c.in_ok-value-in-Semicolon.ensures.cursor c.in_ok-value-in-Semicolon.ensures.end in
-    let row : ReadsRow octets [] c.args.text (view value) after = subst (λ x. ReadsRow octets [] c.args.text x after) (sym c.in_ok-value-in-Semicolon.ensures.value)
+    let four : HasRead octets (at ∷ second ∷ []) after.tokens = same-read three c.in_ok-value-in-Semicolon.ensures.tokens in
+    let row : ReadsRow octets [] c.args.text (view value) after.tokens = subst (λ x. ReadsRow octets [] c.args.text x after.tokens) (sym c.in_ok-value-in-Semicolon.ensures.value)
     (alone-read [] at second c.args.text l (ap lexeme_of c.in-Semicolon.is) four) in
-    let first = first-taken c.args.text (view value) left c.in_ok-first_key-in-Semicolon.ensures.spent taken c.in_ok-first_key-in-Semicolon.ensures.valid in
+    let first = first-taken c.args.text (view value) i c.in_ok-first_key-in-Semicolon.ensures.spent taken c.in_ok-first_key-in-Semicolon.ensures.valid in
     c.bare_table-in-Semicolon.ensures.stands octets first.left first.is_left first.taken row

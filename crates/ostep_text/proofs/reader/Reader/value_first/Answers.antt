@@ -1,11 +1,10 @@
-use Rattle.std.proofs.Common.{◌≡◌, ◌∷◌, [], true, false, ℕ, List, refl, sym, ap, ◌∙◌}
-use Rattle.plist_value.specs.View.{view}
+use Rattle.std.proofs.Common.{◌≡◌, ◌∷◌, [], true, false, refl, sym, ap, ◌∙◌}
 use Rattle.ostep_lex.specs.Lexeme.{placed, lexeme_of}
 use Rattle.ostep_text.specs.Begun.{nothing, begins_value}
 use Rattle.ostep_text.specs.Stands.{Stands}
 use Rattle.ostep_text.specs.Machine
 use Rattle.ostep_text.specs.Machine.{runs}
-use Rattle.ostep_text.proofs.Exits.{passed_on, no_ok}
+use Rattle.ostep_text.proofs.Exits.{passed_on}
 use Rattle.ostep_text.proofs.MachineLemmas.{stays-dead}
 use Rattle.ostep_text.proofs.Standing.{expected-front}
 use Rattle.ostep_text.proofs.TokenKinds.{none-begins}

@@ -2,7 +2,7 @@ use Rattle.std.proofs.Common.{List, ℕ, length}
 use Rattle.ostep_lex.specs.Lexeme.{Placed}
 use Rattle.ostep_lex.specs.Cursor.{ahead, StandsBehind}
 use Rattle.ostep_text.specs.Reading.{HasRead}
-use Rattle.ostep_text.proofs.reader.Reader.refuse.Given as goal
+use Rattle.ostep_text.proofs.tokens.Tokens.refuse.Given as goal
 
 abbrev pub decreases-loop-behind : goal.decreases-loop-behind
 decreases-loop-behind l = length (ahead l.cursor)

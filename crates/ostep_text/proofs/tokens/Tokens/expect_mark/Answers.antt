@@ -1,7 +1,7 @@
 use Rattle.std.proofs.Common.{◌∷◌, ◌++◌, []}
 use Rattle.ostep_lex.specs.Lexeme.{placed}
 use Rattle.ostep_lex.specs.Cursor.{StandsBehind}
-use Rattle.ostep_text.proofs.reader.Reader.expect_mark.Goals as goal
+use Rattle.ostep_text.proofs.tokens.Tokens.expect_mark.Goals as goal
 
 pub returns-in-Some-clause-read : goal.returns-in-Some-clause-read
 returns-in-Some-clause-read c octets tokens h =

@@ -5,7 +5,7 @@ use Rattle.ostep_text.specs.Fault.{of_tokens}
 use Rattle.ostep_text.specs.Stands.{Stands}
 use Rattle.ostep_text.proofs.Exits.{passed_on}
 use Rattle.ostep_text.proofs.Standing.{tokens-stand}
-use Rattle.ostep_text.proofs.reader.Reader.next.Goals as goal
+use Rattle.ostep_text.proofs.tokens.Tokens.next.Goals as goal
 
 pub returns-in_err-token-clause-stands : goal.returns-in_err-token-clause-stands
 returns-in_err-token-clause-stands c octets tokens h =

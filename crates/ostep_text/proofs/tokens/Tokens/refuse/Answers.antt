@@ -4,7 +4,7 @@ use Rattle.ostep_lex.specs.Lexing.{HasTokens}
 use Rattle.ostep_lex.specs.Cursor.{StandsBehind}
 use Rattle.ostep_text.specs.Stands.{Stands}
 use Rattle.ostep_text.proofs.Standing.{tokens-stand}
-use Rattle.ostep_text.proofs.reader.Reader.refuse.Goals as goal
+use Rattle.ostep_text.proofs.tokens.Tokens.refuse.Goals as goal
 
 pub returns-in-Ok-None : goal.returns-in-Ok-None
 returns-in-Ok-None c octets tokens h s =

@@ -1,0 +1,108 @@
+//! The tokens of a text, one after another, and their faults.
+ghost use Rattle.std.specs.Prelude.{◌≡◌, ◌<◌, ◌∷◌, ◌++◌, [], ℕ, List, length};
+ghost use Rattle.std.specs.Prelude.{MatchOption, IfSome, IfNone, IfOk, IfErr};
+ghost use Rattle.std.specs.Result.{OnOk};
+ghost use Rattle.ostep_lex.specs.Lexeme.{Placed, placed, lexeme_of};
+ghost use Rattle.ostep_lex.specs.Lexing.{HasTokens};
+ghost use Rattle.ostep_lex.specs.Cursor.{ahead};
+ghost use Rattle.ostep_text.specs.Begun.{begins_value};
+ghost use Rattle.ostep_text.specs.Stands.{Stands};
+ghost use Rattle.ostep_text.specs.Reading.{Front, AreBefore, HasRead, StandsIfLexed};
+ghost use Rattle.ostep_text.specs.Due.{IsOpen};
+
+use crate::TextFault;
+use ostep_lex::{Cursor, Token, TokenKind, next_mark, next_token};
+use std::alloc::Global;
+
+// The tokens of an input of `end` octets, from a place on.
+#[derive(Drop)]
+pub(crate) struct Tokens<'a> {
+    pub(crate) alloc: Global,
+    pub(crate) cursor: Cursor<'a>,
+    pub(crate) end: usize,
+}
+
+impl<'a> Tokens<'a> {
+    // The next token, or None where the text ends.
+    pub(crate) fn next(&mut self) -> Result<Option<Token>, TextFault>
+        ensures read { (octets : List ℕ) (tokens : List Placed) → HasRead octets tokens self.old
+            → IfOk result (λ found. MatchOption found (HasTokens octets tokens)
+            (λ token. HasRead octets (tokens ++ placed token ∷ []) self.new)) }
+        ensures stays { IfOk result (λ found. IfNone found (self.new ≡ self.old)) }
+        ensures shorter { IfOk result (λ found. IfSome found (λ _.
+            length (ahead self.new.cursor) < length (ahead self.old.cursor))) }
+        ensures stands { (octets : List ℕ) (tokens : List Placed)
+            → HasRead octets tokens self.old → IfErr result (Stands octets) }
+    {
+        match next_token(self.alloc, self.cursor)? {
+            Some((token, behind)) => {
+                self.cursor = behind;
+                Ok(Some(token))
+            }
+            None => Ok(None),
+        }
+    }
+
+    // The next token, where a text may not end.
+    pub(crate) fn expect(&mut self) -> Result<Token, TextFault>
+        ensures read { (octets : List ℕ) (tokens : List Placed) → HasRead octets tokens self.old
+            → IfOk result (λ token. HasRead octets (tokens ++ placed token ∷ []) self.new) }
+        ensures shorter { OnOk result
+            (length (ahead self.new.cursor) < length (ahead self.old.cursor)) }
+        ensures stands { (octets : List ℕ) (tokens : List Placed) (whole : Front)
+            → AreBefore tokens whole → HasRead octets tokens self.old → IsOpen whole
+            → IfErr result (Stands octets) }
+    {
+        let end = self.end;
+        match self.next()? {
+            Some(token) => Ok(token),
+            None => Err(TextFault::Expected { octet: end }),
+        }
+    }
+
+    // The next token, as `expect` has it, with less work where it is the mark.
+    #[inline(always)]
+    pub(crate) fn expect_mark(&mut self, mark: char) -> Result<Token, TextFault>
+        ensures read { (octets : List ℕ) (tokens : List Placed) → HasRead octets tokens self.old
+            → IfOk result (λ token. HasRead octets (tokens ++ placed token ∷ []) self.new) }
+        ensures shorter { OnOk result
+            (length (ahead self.new.cursor) < length (ahead self.old.cursor)) }
+        ensures stands { (octets : List ℕ) (tokens : List Placed) (whole : Front)
+            → AreBefore tokens whole → HasRead octets tokens self.old → IsOpen whole
+            → IfErr result (Stands octets) }
+    {
+        match next_mark(self.cursor, mark) {
+            Some((token, behind)) => {
+                self.cursor = behind;
+                Ok(token)
+            }
+            None => self.expect(),
+        }
+    }
+
+    // The fault, unless one of the tokens that are left comes first.
+    pub(crate) fn refuse(&self, fault: TextFault) -> TextFault
+        ensures { (octets : List ℕ) (tokens : List Placed) → HasRead octets tokens self.now
+            → StandsIfLexed octets fault → Stands octets result }
+    {
+        let mut cursor = self.cursor;
+        loop {
+            match next_token(self.alloc, cursor) {
+                Ok(Some((_, behind))) => cursor = behind,
+                Ok(None) => return fault,
+                Err(earlier) => return TextFault::from(earlier),
+            }
+        }
+    }
+}
+
+// Whether a value begins with the token.
+pub(crate) fn begins_value(kind: &TokenKind) -> bool
+    ensures { result ≡ begins_value (lexeme_of kind.now ∷ []) }
+{
+    match kind {
+        TokenKind::Text(_) | TokenKind::Octets(_) => true,
+        TokenKind::ParenOpen | TokenKind::BraceOpen => true,
+        _ => false,
+    }
+}
