@@ -1,11 +1,11 @@
 -- What is known where something is due, from what was known before it and what was read since.
-use Rattle.std.proofs.Common.{◌≡◌, ℕ, ◌+◌, ◌*◌, ◌≤◌, Bool, true, false, List, [], ◌∷◌, ◌++◌, length, refl, sym, ap, subst, ◌∙◌, arith}
+use Rattle.std.proofs.Common.{◌≡◌, ℕ, false, List, [], ◌∷◌, refl, ap, ◌∙◌}
 use Rattle.plist_value.specs.Plist.{Plist, scalar, text, list, table, Items, Pairs, no_pairs, pair, ArePairs}
 use Rattle.plist_value.proofs.Pairs.{put_pair}
-use Rattle.ostep_lex.specs.Lexeme.{Lexeme, brace_open, brace_close, paren_open, paren_close, comma, semicolon, equals, text as string}
+use Rattle.ostep_lex.specs.Lexeme.{Lexeme, brace_open, brace_close, paren_open, paren_close, semicolon, equals, text as string}
 use Rattle.ostep_text.specs.Phrase as Phrases
 use Rattle.ostep_text.specs.Phrase.{Phrase, a_list, a_table, ItemsPhrase, RowPhrase, with_value, key_alone, RowsPhrase, rows_end, a_row, bare_table}
-use Rattle.ostep_text.specs.Sorting.{has_key, AreReordered, AreSorted, none, row, first, IsAscending}
+use Rattle.ostep_text.specs.Sorting.{has_key, AreReordered, AreSorted, none, row, first}
 use Rattle.ostep_text.specs.Begun
 use Rattle.ostep_text.specs.Begun.{Before, nothing, opened, with_items, with_rows, with_key, NodeAt, begins_value}
 use Rattle.ostep_text.specs.Machine

@@ -1,6 +1,6 @@
 -- A phrase leads the machine from where a value is due to what is behind it; so a whole phrase is
 -- accepted.
-use Rattle.std.proofs.Common.{◌≡◌, ℕ, Bool, true, false, List, [], ◌∷◌, refl, sym, ap, ◌∙◌}
+use Rattle.std.proofs.Common.{◌≡◌, ℕ, true, false, List, [], ◌∷◌, refl, ap, ◌∙◌}
 use Rattle.plist_value.specs.Plist.{Plist, Items, Pairs}
 use Rattle.ostep_lex.specs.Lexeme.{Lexeme, semicolon, paren_close, brace_close}
 use Rattle.ostep_text.specs.Phrase.{Phrase, a_string, some_data, a_list, a_table, ItemsPhrase, items_end, last_item, an_item, RowPhrase, with_value, key_alone, RowsPhrase, rows_end, a_row, TopPhrase, a_value, bare_table}

@@ -14,7 +14,7 @@ use Rattle.std.proofs.lemmas.Map.Lookups.{exact_bytes}
 use Rattle.plist_value.specs.Plist.{Plist, Pairs, no_pairs, pair, IsPlist, ArePairs, AreUnits, IsKeyBelow}
 use Rattle.plist_value.specs.Limits.{nodes, depth, payload, nodes_of_pairs, depth_of_pairs, payload_of_pairs}
 use Rattle.plist_value.proofs.Pairs.{put_pair}
-use Rattle.ostep_text.specs.Sorting.{has_key, StandsAmong, first, later, AreReordered, none, row, IsAscending, AreSorted}
+use Rattle.ostep_text.specs.Sorting.{has_key, StandsAmong, first, later, AreReordered, none, row, IsAscending}
 use Rattle.ostep_text.proofs.PhraseSteps.{push_row, has_key-head, has_key-tail}
 
 -- two rows among others, the later one put first

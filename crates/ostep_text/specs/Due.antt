@@ -1,10 +1,10 @@
 -- What is known where something is due in a text: that it may stand there, that a text goes on with
 -- it, and the state of the machine.
-use Rattle.std.specs.Prelude.{◌≡◌, ℕ, false, List, [], ◌∷◌}
+use Rattle.std.specs.Prelude.{◌≡◌, false, List, [], ◌∷◌}
 use Rattle.plist_value.specs.Plist.{Plist, Items, Pairs}
 use Rattle.ostep_lex.specs.Lexeme.{Lexeme, paren_open, paren_close, brace_open, brace_close, semicolon}
 use Rattle.ostep_text.specs.Phrase.{Phrase, ItemsPhrase, RowsPhrase}
-use Rattle.ostep_text.specs.Sorting.{AreReordered, AreSorted}
+use Rattle.ostep_text.specs.Sorting.{AreSorted}
 use Rattle.ostep_text.specs.Begun.{Before, ValueAt, RowsAt, begins_value}
 use Rattle.ostep_text.specs.Stands.{IsPhrase}
 use Rattle.ostep_text.specs.Machine

@@ -1,6 +1,6 @@
 -- Where tokens have come in a text, as far as their kinds tell: a machine that each token moves on.
 -- That keys are apart is not its business: it goes on wherever a phrase does.
-use Rattle.std.specs.Prelude.{ℕ, Bool, true, false, List, [], ◌∷◌}
+use Rattle.std.specs.Prelude.{Bool, true, false, List, [], ◌∷◌}
 use Rattle.ostep_lex.specs.Lexeme.{Lexeme, brace_open, brace_close, paren_open, paren_close, comma, semicolon, equals, text as string, octets as data_token}
 
 -- what is around a value: nothing, a list, a table, or a table without braces
