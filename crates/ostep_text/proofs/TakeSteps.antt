@@ -2,7 +2,7 @@
 use Rattle.std.proofs.Common.{◌≡◌, ℕ, ◌-◌, ◌*◌, ◌≤◌, false, List, length, sym, subst, arith}
 use Rattle.plist_value.specs.declared.budget.Budget.{Budget}
 use Rattle.plist_value.specs.Budget.{Spends}
-use Rattle.plist_value.specs.Plist.{Plist, Scalar, scalar, Items, no_items, Pairs, no_pairs, list, table, AreUnits, IsScalar}
+use Rattle.plist_value.specs.Plist.{Plist, Scalar, scalar, Items, no_items, Pairs, no_pairs, AreUnits, IsScalar}
 use Rattle.plist_value.specs.Limits.{payload_of_scalar}
 use Rattle.plist_value.proofs.Pairs.{put_pair}
 use Rattle.ostep_text.specs.Sorting.{has_key, AreReordered}
@@ -28,16 +28,6 @@ item-taken {levels = levels} vs w t u = record {
   valid = AreItems-push vs w t.valid u.valid;
 }
 
-pub list-taken : {left mid after : Budget} {levels : ℕ} (vs : Items) → Spends left 1 0 mid → 1 ≤ levels → TakesItems mid (levels - 1) vs after → Takes left levels (list vs) after
-list-taken vs s o t = record {
-  spent = record {
-    nodes_left = omega (arith, s.nodes_left, t.spent.nodes_left);
-    payload_left = omega (arith, s.payload_left, t.spent.payload_left);
-  };
-  deep = omega (arith, o, t.deep);
-  valid = t.valid;
-}
-
 pub pair-taken : {left mid after : Budget} {levels : ℕ} (key : List ℕ) (v : Plist) (ps : Pairs) → TakesPairs left levels ps mid → TakesRow mid levels key v after → has_key key ps ≡ false
     → TakesPairs left levels (put_pair key v ps) after
 pair-taken {levels = levels} key v ps t u n = record {
@@ -47,16 +37,6 @@ pair-taken {levels = levels} key v ps t u n = record {
   };
   deep = put-depth key v ps levels n u.some u.deep t.deep;
   valid = put-pairs key v ps u.valid_key u.valid t.valid n;
-}
-
-pub table-taken : {left mid after : Budget} {levels : ℕ} (ps : Pairs) → Spends left 1 0 mid → 1 ≤ levels → TakesPairs mid (levels - 1) ps after → Takes left levels (table ps) after
-table-taken ps s o t = record {
-  spent = record {
-    nodes_left = omega (arith, s.nodes_left, t.spent.nodes_left);
-    payload_left = omega (arith, s.payload_left, t.spent.payload_left);
-  };
-  deep = omega (arith, o, t.deep);
-  valid = t.valid;
 }
 
 pub row-taken : {left mid after : Budget} {levels : ℕ} (key : List ℕ) (v : Plist) → Spends left 1 (2 * length key) mid → 1 ≤ levels → Takes mid levels v after → AreUnits key

@@ -28,9 +28,6 @@ pub value-ends : {octets : List ℕ} {first : Lexeme} {v : Plist} {source : Toke
 value-ends {first = first} r e l rest =
     ap (λ s. runs s (r.inside (l ∷ rest))) e ∙ (value-runs Machine.top (r.spells (l ∷ rest)) ∙ stays-dead rest)
 
-begins-string : (l : Lexeme) (key : List ℕ) (rest : List Lexeme) → l ≡ string key → begins_value (l ∷ rest) ≡ true
-begins-string l key rest e = rw e refl
-
 payload-string : (l : Lexeme) (key : List ℕ) (rest : List Lexeme) → l ≡ string key → payload_at (l ∷ rest) ≡ 2 * length key
 payload-string l key rest e = rw e refl
 
