@@ -31,13 +31,13 @@ impl<'a, S: BuildHasher + Copy> Scalars<'a, S> {
         }
     }
 
-    /// The number that the scalar has, if it has one. Else it has the next number from now on, which
-    /// is below 2^32 - 1.
+    /// The number that the scalar has, if it has one. Else it has the next number from now on,
+    /// which is below 2^32 - 1.
     ///
     /// # Errors
     ///
-    /// Where there is no memory for the scalar, and maybe where the next number is 2^32 - 1. Nothing
-    /// is known of the numbers then.
+    /// Where there is no memory for the scalar, and maybe where the next number is 2^32 - 1.
+    /// Nothing is known of the numbers then.
     pub fn enter(&mut self, scalar: ScalarRef<'a>, next: u32) -> Result<Option<u32>, AllocError>
         ensures { IfOk result (λ had. AreNumbered self.old
             → EntersScalar scalar.entry next self.old self.new had) }

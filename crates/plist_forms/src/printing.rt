@@ -20,9 +20,9 @@ use std::alloc::Global;
 ///
 /// # Errors
 ///
-/// In this order: those of [`judge_any`](crate::judge_any); `WriteFailed` (51) if the sink fails. Out of memory (60)
-/// may come before either of them. After 51 and 60 exactly the first `sent` octets of the printed
-/// text went out, and after any other the sink is untouched.
+/// In this order: those of [`judge_any`](crate::judge_any); `WriteFailed` (51) if the sink fails.
+/// Out of memory (60) may come before either of them. After 51 and 60 exactly the first `sent`
+/// octets of the printed text went out, and after any other the sink is untouched.
 pub fn print<W: Sink>(alloc: Global, octets: &[u8], to: &mut W) -> Result<u64, Fault>
     ensures prints { Prints octets.now (W.taken to.old) (W.taken to.new)
         (W.failures to.old) (W.failures to.new) result }
