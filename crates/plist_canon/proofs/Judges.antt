@@ -1,6 +1,6 @@
 -- What is judged of one object.
-use Rattle.std.proofs.Common.{◌≡◌, ℕ, zero, suc, ◌+◌, ◌-◌, ◌<◌, ◌≤◌, List, [], ◌∷◌, ◌++◌, length, Option, Bool, true, false, Ok, Err, Result, refl, sym, ap, subst, ◌∙◌, arith, inl, inr}
-use Rattle.std.specs.Prelude.{◌↔◌, ◌≢◌, slice_index, EachIndex, IsOk, IsTrue, not}
+use Rattle.std.proofs.Common.{◌≡◌, ℕ, zero, suc, ◌+◌, ◌-◌, ◌<◌, ◌≤◌, List, [], ◌∷◌, ◌++◌, length, Bool, false, Ok, Err, Result, refl, sym, ap, subst, ◌∙◌, arith, inl, inr}
+use Rattle.std.specs.Prelude.{◌↔◌, ◌≢◌, slice_index, EachIndex, IsOk, IsTrue}
 use Rattle.std.specs.declared.cmp.Ordering.TheVariants.{Less}
 use Rattle.std.specs.Ordering.{nat_cmp}
 use Rattle.std.specs.Cmp.Lexicographic.{slice_cmp}
@@ -9,7 +9,6 @@ use Rattle.std.specs.List.Sorted.{IsStrictlySortedBy}
 use Rattle.std.proofs.lemmas.Bool.{true≢false, cases_lt}
 use Rattle.std.proofs.lemmas.Cmp.{nat_list_cmp_total}
 use Rattle.plist_value.specs.Plist.{Scalar, text}
-use Rattle.plist_value.specs.Scalars.{content_of}
 use Rattle.plist_value.specs.declared.scalar_ref.ScalarRef.{ScalarRef}
 use Rattle.plist_object.specs.declared.object.Object.{Object}
 use Rattle.plist_object.specs.declared.object.Object.TheVariants as shown
@@ -19,11 +18,8 @@ use Rattle.plist_object.specs.Layout.{trailer_of}
 use Rattle.plist_object.specs.Objects.{Held, holds_scalar, holds_list, holds_table, ◌>>=◌}
 use Rattle.plist_object.specs.Places.{Holds, object_at, place_of, what_holds, span_of}
 use Rattle.plist_object.proofs.Uniqueness.{same_held}
-use Rattle.plist_engine.specs.Scalars.{EntersScalar}
-use Rattle.plist_engine.specs.declared.scalars.Scalars.{Scalars}
-use Rattle.plist_canon.proofs.Meeting.{met-same, met-other, met-kept}
-use Rattle.plist_canon.specs.Rules.{HoldsText, HoldTexts, IsWellRead, HasAscendingKeys, IsNoRepeat, Adjoins}
-use Rattle.plist_canon.specs.Checking.{RefersWell, AreInOrder, AscendInTurn, IsEndBefore, Follows, was_met, IsHeldBefore, HasMet}
+use Rattle.plist_canon.specs.Rules.{HoldsText, HoldTexts, IsWellRead, HasAscendingKeys, Adjoins}
+use Rattle.plist_canon.specs.Checking.{RefersWell, AreInOrder, AscendInTurn, IsEndBefore, Follows}
 use Rattle.plist_canon.proofs.Every.{every_append}
 
 -- a test that answers false refutes what it tests
@@ -171,65 +167,6 @@ Adjoins-follows f (suc i) follows last = record {
       here ∙ sym there;
   last = last;
 }
-
--- the scalars of the objects before the next
-met_later : (f : List ℕ) (i : ℕ) (s : Scalar) → IsHeldBefore f i s → IsHeldBefore f (suc i) s
-met_later f i s before = (before.0, (omega (arith, before.1.0), before.1.1))
-
-pub HasMet-scalar : {S H : Type 0} → (f : List ℕ) (i next : ℕ) (s : ScalarRef) (old new : Scalars S H) (had : Option ℕ) → Holds f i (holds_scalar (content_of s)) → HasMet f i old → EntersScalar s next old new had → HasMet f (suc i) new
-HasMet-scalar f i next s old new had holds met enters = record {
-  numbered = enters.numbered;
-  each = λ q. (
-    λ now. elim (met-other s next old new had enters q now) [
-      | inl same ↦ (i, (omega arith, subst (λ (t : Scalar). what_holds f i ≡ Ok (holds_scalar t)) same holds.reads))
-      | inr before ↦ met_later f i (content_of q) ((met.each q).0 before)
-    ],
-    λ before. elim (cases_lt before.0 i) [
-      | inl earlier ↦ met-kept s next old new had enters q ((met.each q).1 (before.0, (earlier, before.1.1)))
-      | inr late ↦ met-same s next old new had enters q (
-          let below = before.1.0 in
-          let is : before.0 ≡ i = omega arith in
-          let reads : what_holds f i ≡ Ok (holds_scalar (content_of q)) = subst (λ (k : ℕ). what_holds f k ≡ Ok (holds_scalar (content_of q))) is before.1.1 in
-          let here = holds.reads in
-          let e : holds_scalar (content_of s) ≡ holds_scalar (content_of q) = cc in
-          cc)
-    ],
-  );
-}
-
-pub HasMet-container : {S H : Type 0} → (f : List ℕ) (i : ℕ) (held : Held) (scalars : Scalars S H) → Holds f i held → ((s : Scalar) → held ≢ holds_scalar s) → HasMet f i scalars → HasMet f (suc i) scalars
-HasMet-container f i held scalars holds other met = record {
-  numbered = met.numbered;
-  each = λ q. (
-    λ now. met_later f i (content_of q) ((met.each q).0 now),
-    λ before. elim (cases_lt before.0 i) [
-      | inl earlier ↦ (met.each q).1 (before.0, (earlier, before.1.1))
-      | inr late ↦ absurd (
-          let below = before.1.0 in
-          let is : before.0 ≡ i = omega arith in
-          let reads : what_holds f i ≡ Ok (holds_scalar (content_of q)) = subst (λ (k : ℕ). what_holds f k ≡ Ok (holds_scalar (content_of q))) is before.1.1 in
-          let here = holds.reads in
-          other (content_of q) cc)
-    ],
-  );
-}
-
-pub IsNoRepeat-container : (f : List ℕ) (i : ℕ) (held : Held) → Holds f i held → ((s : Scalar) → held ≢ holds_scalar s) → IsNoRepeat f i
-IsNoRepeat-container f i held holds other s reads earlier below again =
-    other s (let here = holds.reads in cc)
-
-pub IsNoRepeat-new : {S H : Type 0} → (f : List ℕ) (i : ℕ) (s : ScalarRef) (scalars : Scalars S H) → Holds f i (holds_scalar (content_of s)) → HasMet f i scalars → was_met scalars s ≡ false → IsNoRepeat f i
-IsNoRepeat-new f i s scalars holds met unknown t reads earlier below again =
-    let here = holds.reads in
-    let same : holds_scalar (content_of s) ≡ holds_scalar t = cc in
-    let is : t ≡ content_of s = cc in
-    let reads_it : what_holds f earlier ≡ Ok (holds_scalar (content_of s)) = subst (λ (u : Scalar). what_holds f earlier ≡ Ok (holds_scalar u)) is again in
-    true≢false (sym ((met.each s).1 (earlier, (below, reads_it))) ∙ unknown)
-
-pub not-IsNoRepeat : {S H : Type 0} → (f : List ℕ) (i : ℕ) (s : ScalarRef) (scalars : Scalars S H) → Holds f i (holds_scalar (content_of s)) → HasMet f i scalars → was_met scalars s ≡ true → ¬ IsNoRepeat f i
-not-IsNoRepeat f i s scalars holds met known single =
-    let before = (met.each s).0 known in
-    single (content_of s) holds.reads before.0 before.1.0 before.1.1
 
 -- what is read refers well
 pub IsWellRead-refers : (f : List ℕ) (i : ℕ) (held : Held) → what_holds f i ≡ Ok held → IsWellRead f i → RefersWell f held

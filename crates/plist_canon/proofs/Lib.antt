@@ -27,3 +27,5 @@ pub mod Spending
 pub mod Walking
 pub mod Paths
 pub mod Ranked
+pub mod SetBits
+pub mod Repeating

@@ -1,21 +1,16 @@
 -- What a check of a file answers, and what its parts say.
-use Rattle.std.specs.Prelude.{◌≡◌, ◌↔◌, ◌⊎◌, ℕ, zero, suc, ◌<◌, nat_eq, length, slice_index, Bool, true, not, if◌then◌else◌, List, Ok, Option, Some, None, ⊤}
+use Rattle.std.specs.Prelude.{◌≡◌, ℕ, zero, suc, ◌<◌, length, slice_index, List, Ok, ⊤}
 use Rattle.std.specs.List.{AllByRecursion}
 use Rattle.std.specs.declared.cmp.Ordering.TheVariants.{Less}
 use Rattle.std.specs.Ordering.{nat_cmp}
-use Rattle.std.specs.Option.{is_some}
 use Rattle.std.specs.Cmp.Lexicographic.{slice_cmp}
-use Rattle.plist_value.specs.Plist.{Scalar, text}
-use Rattle.plist_value.specs.Scalars.{content_of}
-use Rattle.plist_value.specs.declared.scalar_ref.ScalarRef.{ScalarRef}
+use Rattle.plist_value.specs.Plist.{text}
 use Rattle.plist_object.specs.Layout.{trailer_of, IsLayoutFault}
 use Rattle.plist_object.specs.Objects.{Held, holds_scalar}
 use Rattle.plist_object.specs.declared.layout.LayoutFault.TheVariants as layout
-use Rattle.plist_object.specs.Places.{Holds, what_holds, span_of}
+use Rattle.plist_object.specs.Places.{Holds, span_of}
 use Rattle.plist_object.specs.References.{references_of}
-use Rattle.plist_engine.specs.Scalars.{AreNumbered, number_stored}
-use Rattle.plist_engine.specs.declared.scalars.Scalars.{Scalars}
-use Rattle.plist_canon.specs.Rules.{keys_of, HoldsText, IsWellRead, IsSpelledCanonically, HasAscendingKeys, IsNoRepeat, FollowsRules, IsBroken}
+use Rattle.plist_canon.specs.Rules.{keys_of, HoldsText, IsWellRead, IsSpelledCanonically, HasAscendingKeys, FollowsRules, IsBroken}
 use Rattle.plist_canon.specs.declared.checking.CheckFault.{CheckFault}
 use Rattle.plist_canon.specs.declared.checking.CheckFault.TheVariants as fault
 use Rattle.plist_canon.specs.declared.checking.Verdict.{Verdict}
@@ -77,23 +72,9 @@ pub record Follows (f : List ℕ) (i : ℕ) : Type 0 where
   pub before : IsEndBefore f i place
   pub span : span_of f i ≡ Ok (place, end)
 
--- the rules hold that are judged of each object, but for the place of the offset table
+-- the rules hold that are judged of one object alone, but for the place of the offset table
 pub record IsJudged (f : List ℕ) (i : ℕ) : Type 0 where
   pub read : IsWellRead f i
   pub follows : Follows f i
   pub spelled : IsSpelledCanonically f i
   pub ascending : HasAscendingKeys f i
-  pub single : IsNoRepeat f i
-
--- whether an equal scalar was met
-abbrev pub was_met : {S H : Type 0} → Scalars S H → ScalarRef → Bool
-was_met met r = is_some (number_stored met r)
-
--- an object before i holds the scalar
-abbrev pub IsHeldBefore : List ℕ → ℕ → Scalar → Type 0
-IsHeldBefore f i s = (earlier : ℕ) × ((earlier < i) × (what_holds f earlier ≡ Ok (holds_scalar s)))
-
--- the scalars were met that the objects before i hold
-pub record HasMet {S H : Type 0} (f : List ℕ) (i : ℕ) (met : Scalars S H) : Type 0 where
-  pub numbered : AreNumbered met
-  pub each : (r : ScalarRef) → (was_met met r ≡ true) ↔ IsHeldBefore f i (content_of r)

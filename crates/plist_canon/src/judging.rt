@@ -1,5 +1,5 @@
 //! The rules of the trailer and of each object.
-ghost use Rattle.std.specs.Prelude.{◌≡◌, ◌↔◌, ◌<◌, ℕ, suc, IsTrue, Ok};
+ghost use Rattle.std.specs.Prelude.{◌≡◌, ◌↔◌, ◌<◌, ◌≤◌, ℕ, suc, IsTrue, Ok, length};
 ghost use Rattle.std.specs.Prelude.{IsOk, IfOk, IfErr, IfSome, OnOk, take};
 ghost use Rattle.plist_object.specs.Layout.{trailer_of};
 ghost use Rattle.plist_object.specs.Objects.{IsHeld};
@@ -9,20 +9,19 @@ ghost use Rattle.plist_object.specs.Ranks.{AreRanks};
 ghost use Rattle.plist_canon.specs.Rules.{HasPlainTrailer, HasLeastWidths, Adjoins};
 ghost use Rattle.plist_canon.specs.Rules.{IsSpelledCanonically, HasAscendingKeys, IsNoRepeat};
 ghost use Rattle.plist_canon.specs.Checking.{IsFlaw, RefersWell, IsEndBefore};
-ghost use Rattle.plist_canon.specs.Checking.{Follows, IsJudged, HasMet};
-ghost use Rattle.plist_canon.specs.Weights.{Weighs, AreAllWeights};
+ghost use Rattle.plist_canon.specs.Checking.{Follows, IsJudged};
+ghost use Rattle.plist_canon.specs.Sieve.{HasNoted};
+ghost use Rattle.plist_canon.specs.Weights.{AreAllWeights};
 
 use crate::beginning::begins_plainly;
 use crate::lengths::{is_width, spelled_length};
 use crate::references::{keys_ascend, refers_well};
+use crate::repeats::judge_repeats;
+use crate::sieve::Sieve;
 use crate::weights::Weight;
-use plist_engine::Scalars;
 use plist_object::{BinFile, Keys, Object, Ranks, scalar_length, width_of};
 use std::alloc::{AllocError, AllocFailed, Global};
 use std::hash::BuildHasher;
-
-// The greatest number of a scalar that is met.
-const MOST: u64 = 4_294_967_295;
 
 /// A broken rule and the object at which it is, or want of memory.
 #[derive(Clone, Copy)]
@@ -102,6 +101,8 @@ pub(crate) fn judge_objects<S: BuildHasher + Copy>(
     requires { objects.now ≡ take (trailer_of (octets_of file.now)).table (octets_of file.now) }
     ensures judged { OnOk result
         ((i : ℕ) → i < (trailer_of (octets_of file.now)).count → IsJudged (octets_of file.now) i) }
+    ensures single { OnOk result
+        ((i : ℕ) → i < (trailer_of (octets_of file.now)).count → IsNoRepeat (octets_of file.now) i) }
     ensures adjoin { OnOk result
         ((i : ℕ) → i < (trailer_of (octets_of file.now)).count → Adjoins (octets_of file.now) i) }
     ensures weights { IfOk result
@@ -109,16 +110,41 @@ pub(crate) fn judge_objects<S: BuildHasher + Copy>(
     ensures err { IfErr result (IsFlaw (octets_of file.now)) }
 {
     let ranks = rank_keys(alloc, file)?;
-    let mut met = Scalars::new(alloc, hasher, file.count() as usize);
+    let mut sieve = Sieve::new(alloc, file.count())?;
     let mut weights = Vec::new(alloc);
     let mut end = 8;
     for i in 0..file.count() {
-        let judged = judge_object(objects, file, i, end, &ranks, &mut met)?;
-        weights.push(judged.weight)?;
-        end = judged.end;
+        match judge_object(objects, file, i, end, &ranks) {
+            Ok(judged) => {
+                sieve.note(&judged.object)?;
+                weights.push(Weight::of(&judged.object))?;
+                end = judged.end;
+            }
+            Err(flaw) => return Err(first_flaw(alloc, hasher, file, &sieve, flaw)),
+        }
     }
+    judge_repeats(alloc, hasher, file, &sieve)?;
     judge_table(file, end)?;
     Ok(weights)
+}
+
+// The flaw, where rule 6 holds of the objects before: else that of rule 6.
+fn first_flaw<S: BuildHasher + Copy>(
+    alloc: Global,
+    hasher: S,
+    file: &BinFile,
+    sieve: &Sieve,
+    flaw: Flaw,
+) -> Flaw
+    requires noted { HasNoted (octets_of file.now) (length sieve.now.bits.items) sieve.now }
+    requires listed { length sieve.now.bits.items ≤ (trailer_of (octets_of file.now)).count }
+    requires flaw { IsFlaw (octets_of file.now) flaw }
+    ensures { IsFlaw (octets_of file.now) result }
+{
+    match judge_repeats(alloc, hasher, file, sieve) {
+        Ok(()) => flaw,
+        Err(earlier) => earlier,
+    }
 }
 
 // Rule 3 at the last object: the offset table stands where all objects end.
@@ -198,43 +224,40 @@ fn judge_places(file: &BinFile) -> Placed
     }
 }
 
-// What is told of an object of which the rules hold: where it ends, and what the limits ask of it.
+// What is told of an object of which the rules hold: what it holds, and where it ends.
 #[derive(Clone, Copy)]
-struct Judged {
+struct Judged<'a> {
+    object: Object<'a>,
     end: u64,
-    weight: Weight,
 }
 
-// The rules of the object, where the one before it ends at the place.
-fn judge_object<'a, S: BuildHasher + Copy>(
+// The rules of the object but for rule 6, where the one before it ends at the place.
+fn judge_object<'a>(
     objects: &[u8],
     file: &BinFile<'a>,
     i: u64,
     place: u64,
     ranks: &Ranks,
-    met: &mut Scalars<'a, S>,
-) -> Result<Judged, Flaw>
+) -> Result<Judged<'a>, Flaw>
     requires objects { objects.now
         ≡ take (trailer_of (octets_of file.now)).table (octets_of file.now) }
     requires listed { i < (trailer_of (octets_of file.now)).count }
     requires before { IsEndBefore (octets_of file.now) i place }
     requires ranks { AreRanks (octets_of file.now) ranks.now }
-    requires met { HasMet (octets_of file.now) i met.old }
     ensures judged { IfOk result (λ _. IsJudged (octets_of file.now) i) }
     ensures ends { IfOk result
         (λ judged. span_of (octets_of file.now) i ≡ Ok (place, judged.end)) }
-    ensures weighs { IfOk result (λ judged. Weighs (octets_of file.now) i judged.weight) }
-    ensures met { IfOk result (λ _. HasMet (octets_of file.now) (suc i) met.new) }
+    ensures holds { IfOk result
+        (λ judged. Holds (octets_of file.now) i (held_of judged.object)) }
     ensures err { IfErr result (IsFlaw (octets_of file.now)) }
 {
     let object = judge_reading(file, ranks, i)?;
     judge_start(file, i, place)?;
     judge_spelling(objects, file, i, place, &object)?;
     judge_keys(file, ranks, i, &object)?;
-    judge_repeat(file, i, &object, met)?;
     Ok(Judged {
         end: end_of(file, i, place, &object),
-        weight: Weight::of(&object),
+        object,
     })
 }
 
@@ -368,29 +391,6 @@ fn judge_keys(file: &BinFile, ranks: &Ranks, i: u64, object: &Object) -> Result<
     if let Object::Table(keys, _) = object {
         if !keys_ascend(file, ranks, keys) {
             return Err(Flaw::at(5, i));
-        }
-    }
-    Ok(())
-}
-
-// Rule 6 of the object.
-#[inline(always)]
-fn judge_repeat<'a, S: BuildHasher + Copy>(
-    file: &BinFile<'a>,
-    i: u64,
-    object: &Object<'a>,
-    met: &mut Scalars<'a, S>,
-) -> Result<(), Flaw>
-    requires holds { Holds (octets_of file.now) i (held_of object.now) }
-    requires met { HasMet (octets_of file.now) i met.old }
-    ensures ok { OnOk result (IsNoRepeat (octets_of file.now) i) }
-    ensures met { OnOk result (HasMet (octets_of file.now) (suc i) met.new) }
-    ensures err { IfErr result (IsFlaw (octets_of file.now)) }
-{
-    if let Object::Scalar(scalar) = object {
-        let earlier = met.enter(*scalar, i.min(MOST) as u32)?;
-        if earlier.is_some() {
-            return Err(Flaw::at(6, i));
         }
     }
     Ok(())

@@ -11,6 +11,8 @@ mod objects;
 mod preorder;
 mod progress;
 mod references;
+mod repeats;
+mod sieve;
 mod weights;
 mod writing;
 

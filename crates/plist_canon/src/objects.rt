@@ -1,12 +1,14 @@
 //! What objects hold.
 ghost use Rattle.std.specs.Prelude.{◌<◌, IfSome, IfNone};
-ghost use Rattle.plist_value.specs.Plist.{text};
+ghost use Rattle.plist_value.specs.Plist.{Scalar, text};
+ghost use Rattle.plist_value.specs.Scalars.{content_of};
 ghost use Rattle.plist_value.specs.Texts.{units_of};
 ghost use Rattle.plist_object.specs.Layout.{trailer_of};
 ghost use Rattle.plist_object.specs.Objects.{IsHeld, holds_scalar};
 ghost use Rattle.plist_object.specs.Places.{Holds};
 ghost use Rattle.plist_object.specs.Views.{held_of, octets_of};
 ghost use Rattle.plist_canon.specs.Rules.{HoldsText, IsWellRead};
+ghost use Rattle.plist_canon.specs.Sieve.{HoldsIt};
 
 use plist_object::{BinFile, Object};
 use plist_value::{ScalarRef, TextRef};
@@ -29,6 +31,18 @@ pub(crate) fn text_of<'a>(file: &BinFile<'a>, n: u64) -> Option<TextRef<'a>>
 {
     match file.object(n) {
         Ok(Object::Scalar(ScalarRef::Text(text))) => Some(text),
+        _ => None,
+    }
+}
+
+/// The scalar that the object holds, if it holds one.
+pub(crate) fn scalar_of<'a>(file: &BinFile<'a>, n: u64) -> Option<ScalarRef<'a>>
+    requires { n < (trailer_of (octets_of file.now)).count }
+    ensures some { IfSome result (λ s. HoldsIt (octets_of file.now) n (content_of s)) }
+    ensures none { IfNone result ((s : Scalar) → ¬ HoldsIt (octets_of file.now) n s) }
+{
+    match file.object(n) {
+        Ok(Object::Scalar(scalar)) => Some(scalar),
         _ => None,
     }
 }

@@ -23,5 +23,5 @@ pub use faults::WriteFault;
 pub use making::{canonical_of, canonical_of_sorted, canonical_of_with_hasher};
 pub use pending::{Pending, flush};
 pub use plist_devices::{DeviceFault, ListSink, Sink};
-pub use scalars::Scalars;
+pub use scalars::{Scalars, natural_in};
 pub use sending::{write_canonical_of, write_canonical_of_sorted, write_canonical_of_with_hasher};

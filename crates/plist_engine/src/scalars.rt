@@ -49,8 +49,8 @@ impl<'a, S: BuildHasher + Copy> Scalars<'a, S> {
     }
 }
 
-// The number, where the scalar is a whole number that is not below 0.
-fn natural_in(scalar: ScalarRef) -> Option<u64>
+/// The number in the scalar, exactly where it is a whole number that is not below 0.
+pub fn natural_in(scalar: ScalarRef) -> Option<u64>
     ensures { result ≡ natural_in (content_of scalar.entry) }
 {
     match scalar {

@@ -22,7 +22,7 @@ returns-clause-ok g c =
       adjoins = c.in_ok-weights.ensures.adjoin;
       spelled_canonically = λ i below. (judged i below).spelled;
       ascending_keys = λ i below. (judged i below).ascending;
-      no_repeat = λ i below. (judged i below).single;
+      no_repeat = c.in_ok-weights.ensures.single;
       numbered_in_preorder = walked.numbered;
     })
     c.judge_walk.ensures.ok

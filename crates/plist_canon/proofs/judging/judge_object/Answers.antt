@@ -3,7 +3,5 @@ use Rattle.plist_canon.proofs.Judges.{Holds-reads}
 use Rattle.plist_canon.proofs.judging.judge_object.Goals as goal
 
 pub judge_start-requires-clause-reads : goal.judge_start-requires-clause-reads
-judge_start-requires-clause-reads g c = Holds-reads (octets_of c.args.file.now) c.args.i (held_of c.in_ok-object.object) c.in_ok-object.ensures.holds
-
-pub returns-clause-weighs : goal.returns-clause-weighs
-returns-clause-weighs g c = record { held = held_of c.in_ok-object.object; holds = c.in_ok-object.ensures.holds; is = c.of.ensures }
+judge_start-requires-clause-reads c =
+    Holds-reads (octets_of c.args.file.now) c.args.i (held_of c.in_ok-object.object) c.in_ok-object.ensures.holds

@@ -1,8 +1,9 @@
-use Rattle.std.proofs.Common.{◌≡◌, ℕ, ◌<◌, refl, sym, ap, subst, ◌∙◌, arith, add-one, true≢false}
-use Rattle.std.specs.Option.{is_some}
-use Rattle.plist_object.specs.Views.{octets_of}
+use Rattle.std.proofs.Common.{◌≡◌, ℕ, ◌<◌, refl, sym, subst, ◌∙◌, arith, add-one}
+use Rattle.plist_object.specs.Views.{held_of, octets_of}
 use Rattle.plist_object.specs.Layout.{trailer_of}
-use Rattle.plist_canon.specs.Checking.{IsJudged, IsEndBefore, HasMet}
+use Rattle.plist_canon.specs.Checking.{IsJudged, IsEndBefore}
+use Rattle.plist_canon.specs.Sieve.{HasNoted}
+use Rattle.plist_canon.specs.Weights.{Weighs}
 use Rattle.plist_canon.proofs.Judges.{below_or_last}
 use Rattle.plist_canon.proofs.Weighing.{AreWeights-more, length-more}
 use Rattle.plist_canon.proofs.judging.judge_objects.Goals as goal
@@ -11,9 +12,11 @@ pub loop-i-init : goal.loop-i-init
 loop-i-init g c = record {
   judged = λ j below. absurd (omega (arith, below));
   ends = refl;
-  met = record {
-    numbered = c.new-met.ensures.numbered;
-    each = λ q. (λ found. absurd (true≢false (sym found ∙ ap is_some (c.new-met.ensures.unknown q))), λ held. absurd (omega (arith, held.1.0)));
+  noted = record {
+    noted = rw c.in_ok-sieve.ensures refl;
+    kept = λ k s below. absurd (omega (arith, below));
+    came = λ k s below. absurd (omega (arith, below));
+    again = λ j k s apart below. absurd (omega (arith, below));
   };
   weighed = rw c.new-weights.ensures.items (λ j below. absurd (omega (arith, below)));
   counted = rw c.new-weights.ensures.items refl;
@@ -23,17 +26,45 @@ pub loop-i-preserved : goal.loop-i-preserved
 loop-i-preserved g c =
     let f = octets_of c.args.file.now in
     let i = c.loop-i.i in
-    let told = c.in_ok-judged.judged in
+    let told = c.in-Ok.ensures in
+    let judged = c.in-Ok.judged in
     let before = c.loop-i.invariant in
     let weights = c.loop-i.weights.items in
+    let weight = c.of.result in
+    let weighs : Weighs f i weight = record { held = held_of judged.object; holds = told.holds; is = c.of.ensures } in
     let pushed = c.push.new.self.items in
+    let added = c.in_ok-push-in-Ok.ensures.items in
     record {
-      judged = below_or_last (λ j. IsJudged f j) i before.judged c.in_ok-judged.ensures.judged;
-      ends = subst (λ (n : ℕ). IsEndBefore f n told.end) (sym (add-one i)) (c.loop-i.end, c.in_ok-judged.ensures.ends);
-      met = subst (λ (n : ℕ). HasMet f n c.judge_object.new.met) (sym (add-one i)) c.in_ok-judged.ensures.met;
-      weighed = AreWeights-more f weights pushed i told.weight c.in_ok-push.ensures.items before.weighed before.counted c.in_ok-judged.ensures.weighs;
-      counted = length-more weights pushed i told.weight c.in_ok-push.ensures.items before.counted;
+      judged = below_or_last (λ j. IsJudged f j) i before.judged told.judged;
+      ends = subst (λ (n : ℕ). IsEndBefore f n judged.end) (sym (add-one i)) (c.loop-i.end, told.ends);
+      noted = subst (λ (n : ℕ). HasNoted f n c.note.new.self) (sym (add-one i)) (c.in_ok-note-in-Ok.ensures f i told.holds before.noted);
+      weighed = AreWeights-more f weights pushed i weight added before.weighed before.counted weighs;
+      counted = length-more weights pushed i weight added before.counted;
     }
+
+pub first_flaw-requires : goal.first_flaw-requires
+first_flaw-requires g c =
+    let f = octets_of c.args.file.now in
+    let noted = c.loop-i.invariant.noted in
+    record {
+      noted = subst (λ (n : ℕ). HasNoted f n c.loop-i.sieve) (sym noted.noted) noted;
+      listed = rw noted.noted (omega (arith, c.loop-i-test.true, c.count-i-end.ensures));
+      flaw = c.in-Err.ensures.err;
+    }
+
+pub judge_repeats-requires : goal.judge_repeats-requires
+judge_repeats-requires g c =
+    let f = octets_of c.args.file.now in
+    let noted = c.loop-i.invariant.noted in
+    record {
+      noted = subst (λ (n : ℕ). HasNoted f n c.loop-i.sieve) (sym noted.noted) noted;
+      listed = rw noted.noted (omega (arith, c.count-i-end.ensures, c.loop-i.auto.i-end));
+    }
+
+pub returns-clause-single : goal.returns-clause-single
+returns-clause-single g c =
+    let noted = c.loop-i.invariant.noted in
+    λ i below. c.in_ok-judge_repeats.ensures.ok i (rw noted.noted (omega (arith, below, c.loop-i-test.false, c.count-i-end.ensures)))
 
 pub judge_table-requires : goal.judge_table-requires
 judge_table-requires g c =

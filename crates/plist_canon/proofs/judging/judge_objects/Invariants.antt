@@ -1,6 +1,7 @@
 use Rattle.std.proofs.Common.{◌≡◌, ℕ, ◌<◌, length}
 use Rattle.plist_object.specs.Views.{octets_of}
-use Rattle.plist_canon.specs.Checking.{IsJudged, IsEndBefore, HasMet}
+use Rattle.plist_canon.specs.Checking.{IsJudged, IsEndBefore}
+use Rattle.plist_canon.specs.Sieve.{HasNoted}
 use Rattle.plist_canon.specs.Weights.{AreWeights}
 use Rattle.plist_canon.proofs.judging.judge_objects.Given as goal
 
@@ -10,7 +11,7 @@ invariant-loop-i g l =
     record {
       judged : (j : ℕ) → j < l.i → IsJudged f j;
       ends : IsEndBefore f l.i l.end;
-      met : HasMet f l.i l.met;
+      noted : HasNoted f l.i l.sieve;
       weighed : AreWeights f l.weights.items;
       counted : length l.weights.items ≡ l.i;
     }

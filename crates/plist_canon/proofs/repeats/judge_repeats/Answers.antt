@@ -1,0 +1,29 @@
+use Rattle.std.proofs.Common.{ℕ, sym, ap, subst, ◌∙◌, arith, add-one, true≢false}
+use Rattle.std.specs.Option.{is_some}
+use Rattle.plist_object.specs.Views.{octets_of}
+use Rattle.plist_canon.specs.Rules.{IsNoRepeat}
+use Rattle.plist_canon.specs.Sieve.{HasMet}
+use Rattle.plist_canon.proofs.Judges.{below_or_last}
+use Rattle.plist_canon.proofs.repeats.judge_repeats.Goals as goal
+
+pub loop-i-init : goal.loop-i-init
+loop-i-init g c = record {
+  single = λ j below. absurd (omega (arith, below));
+  met = record {
+    numbered = c.new-met.ensures.numbered;
+    each = λ q. (λ found. absurd (true≢false (sym found ∙ ap is_some (c.new-met.ensures.unknown q))), λ held. absurd (omega (arith, held.1.0)));
+  };
+}
+
+pub loop-i-preserved : goal.loop-i-preserved
+loop-i-preserved g c =
+    let f = octets_of c.args.file.now in
+    let i = c.loop-i.i in
+    record {
+      single = below_or_last (λ j. IsNoRepeat f j) i c.loop-i.invariant.single c.in_ok-judge_repeat.ensures.ok;
+      met = subst (λ (n : ℕ). HasMet c.args.sieve.now f n c.judge_repeat.new.met) (sym (add-one i)) c.in_ok-judge_repeat.ensures.met;
+    }
+
+pub returns-clause-ok : goal.returns-clause-ok
+returns-clause-ok g c =
+    λ i below. c.loop-i.invariant.single i (omega (arith, below, c.loop-i-test.false))

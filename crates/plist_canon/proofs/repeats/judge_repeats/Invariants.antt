@@ -1,0 +1,13 @@
+use Rattle.std.proofs.Common.{ℕ, ◌<◌}
+use Rattle.plist_object.specs.Views.{octets_of}
+use Rattle.plist_canon.specs.Rules.{IsNoRepeat}
+use Rattle.plist_canon.specs.Sieve.{HasMet}
+use Rattle.plist_canon.proofs.repeats.judge_repeats.Given as goal
+
+abbrev pub invariant-loop-i : goal.invariant-loop-i
+invariant-loop-i g l =
+    let f = octets_of l.file in
+    record {
+      single : (j : ℕ) → j < l.i → IsNoRepeat f j;
+      met : HasMet l.sieve f l.i l.met;
+    }

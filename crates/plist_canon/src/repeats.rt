@@ -1,0 +1,68 @@
+//! Rule 6: no two objects hold one scalar.
+ghost use Rattle.std.specs.Prelude.{ℕ, ◌<◌, ◌≤◌, suc, length, IfErr, OnOk};
+ghost use Rattle.plist_object.specs.Layout.{trailer_of};
+ghost use Rattle.plist_object.specs.Views.{octets_of};
+ghost use Rattle.plist_canon.specs.Rules.{IsNoRepeat};
+ghost use Rattle.plist_canon.specs.Checking.{IsFlaw};
+ghost use Rattle.plist_canon.specs.Sieve.{HasMet, HasNoted};
+
+use crate::judging::Flaw;
+use crate::objects::scalar_of;
+use crate::sieve::Sieve;
+use plist_engine::Scalars;
+use plist_object::BinFile;
+use std::alloc::Global;
+use std::hash::BuildHasher;
+
+// The greatest number of a scalar that is met.
+const MOST: u64 = 4_294_967_295;
+
+/// Rule 6 of the objects that were noted. Only those that may repeat others are read again.
+pub(crate) fn judge_repeats<S: BuildHasher + Copy>(
+    alloc: Global,
+    hasher: S,
+    file: &BinFile,
+    sieve: &Sieve,
+) -> Result<(), Flaw>
+    requires noted { HasNoted (octets_of file.now) (length sieve.now.bits.items) sieve.now }
+    requires listed { length sieve.now.bits.items ≤ (trailer_of (octets_of file.now)).count }
+    ensures ok { OnOk result
+        ((i : ℕ) → i < length sieve.now.bits.items → IsNoRepeat (octets_of file.now) i) }
+    ensures err { IfErr result (IsFlaw (octets_of file.now)) }
+{
+    let mut met = Scalars::new(alloc, hasher, sieve.len());
+    for i in 0..sieve.len() {
+        judge_repeat(file, sieve, i, &mut met)?;
+    }
+    Ok(())
+}
+
+// Rule 6 of one object.
+#[inline(always)]
+fn judge_repeat<'a, S: BuildHasher + Copy>(
+    file: &BinFile<'a>,
+    sieve: &Sieve,
+    i: usize,
+    met: &mut Scalars<'a, S>,
+) -> Result<(), Flaw>
+    requires noted { HasNoted (octets_of file.now) (length sieve.now.bits.items) sieve.now }
+    requires among { i < length sieve.now.bits.items }
+    requires listed { i < (trailer_of (octets_of file.now)).count }
+    requires met { HasMet sieve.now (octets_of file.now) i met.old }
+    ensures ok { OnOk result (IsNoRepeat (octets_of file.now) i) }
+    ensures met { OnOk result (HasMet sieve.now (octets_of file.now) (suc i) met.new) }
+    ensures err { IfErr result (IsFlaw (octets_of file.now)) }
+{
+    if !sieve.may_repeat(i) {
+        return Ok(());
+    }
+    let object = i as u64;
+    let Some(scalar) = scalar_of(file, object) else {
+        return Ok(());
+    };
+    let earlier = met.enter(scalar, object.min(MOST) as u32)?;
+    if earlier.is_some() {
+        return Err(Flaw::at(6, object));
+    }
+    Ok(())
+}
