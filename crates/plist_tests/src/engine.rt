@@ -4,7 +4,7 @@ ghost use Rattle.plist_value.specs.Plist.{Plist};
 ghost use Rattle.plist_object.specs.Spelled.{IsBinary};
 
 use plist_binary::read;
-use plist_engine::{Scalars, canonical_of};
+use plist_engine::{Scalars, canonical_of, natural_in};
 use plist_object::BinFile;
 use plist_value::{FixedHasher, ScalarRef, Whole};
 use std::alloc::{AllocError, Global};
@@ -194,5 +194,7 @@ fn scalars_by_their_numbers(rt: HostRuntime) -> Result<(), Fail> {
     assert_eq!(rt; known.enter(ScalarRef::Bytes(b"a"), 8)?, None);
     assert_eq!(rt; known.enter(five, 9)?, Some(7));
     assert_eq!(rt; known.enter(ScalarRef::Bytes(b"a"), 9)?, Some(8));
+    assert_eq!(rt; natural_in(five), Some(5));
+    assert_eq!(rt; natural_in(ScalarRef::Bytes(b"a")), None);
     Ok(())
 }
