@@ -109,7 +109,8 @@ pub enum Verdict {
 /// first bad reference of the walk, or at 0 where objects are left over.
 ///
 /// No value is built. It is linear in the file's size, but for sorting the texts of the keys once,
-/// and takes memory for the scalars that it has met, for the keys and for the path of the walk. So
+/// and takes memory for each object, for the scalars that may be met twice, for the keys and for
+/// the path of the walk. So
 /// where the texts that tables name as keys overlap, and are together longer than the part of the
 /// file before the offset table, the first object that does not read, or does not stand where the
 /// one before it ends, is answered even if another rule is broken at an object before it.

@@ -27,11 +27,12 @@ const MOST: u64 = 1 << 31;
 /// What is known of the objects that were noted, from the first on.
 #[derive(Drop)]
 pub(crate) struct Sieve {
-    // The bit of each object's scalar.
+    // The bit of each object's scalar, or 0 of a container.
     pub(crate) bits: Vec<u32>,
-    // The bits to which a scalar came, and those to which one came again.
+    // The bits to which a scalar came, and those to which another came.
     pub(crate) once: Vec<u64>,
     pub(crate) again: Vec<u64>,
+    // The greatest number of a bit.
     pub(crate) mask: u32,
 }
 
@@ -68,7 +69,7 @@ impl Sieve {
         Ok(())
     }
 
-    // The bit of the scalar, to which it came now.
+    // The bit of the scalar, which is set now, and in `again` too where it was set before.
     #[inline(always)]
     fn come(&mut self, scalar: &ScalarRef) -> u32
         ensures bit { result ≡ bit_of self.old.mask (content_of scalar.now) }
@@ -104,7 +105,7 @@ impl Sieve {
     }
 }
 
-// The number of the last bit, where there are a few for each object: all its bits are ones.
+// The greatest number of a bit. It is a mask: below it there are eight to sixteen for each object.
 fn mask_for(objects: u64) -> u32 {
     let bits = objects.saturating_mul(BITS).clamp(LEAST, MOST) as u32;
     u32::MAX.checked_shr(bits.leading_zeros()).unwrap_or(0)
