@@ -1,7 +1,7 @@
 -- Worked rows of the command line: what these words ask for, and the kinds of error of others.
 use Rattle.std.proofs.Common.{ℕ, ap, codes, map, refl, List, Option, Some, [], ◌∷◌, ◌∙◌, ◌≡◌}
 use Rattle.std.specs.Borrow.{Bor}
-use Rattle.clap.specs.Words.{App, Kinds, Text, fault_of, subcommand_of}
+use Rattle.clap.specs.Words.{Kinds, Text, fault_of, subcommand_of}
 use Rattle.clap.proofs.OnLiterals.{clap_on_literals}
 use Rattle.clap.specs.declared.error.ErrorKind.TheVariants as kind
 use Rattle.plist_convert.specs.Asked.{Asked, Checks, Compares, Converts, Lints, Prints, asked_at}

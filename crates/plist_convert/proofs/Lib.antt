@@ -7,6 +7,7 @@ pub mod Prints
 pub mod Runs
 pub mod Transfers
 pub mod CommandLine
+pub mod WithWords
 pub mod Parsed
 pub mod CommandRows
 pub mod Stored

@@ -1,11 +1,11 @@
 -- What a parse of the program's words says of what they ask for.
-use Rattle.std.proofs.Common.{ap, arith, inl, inr, refl, sym, Err, List, Ok, Option, None, Result, Some, [], ◌∷◌, ◌∙◌, ◌≡◌, ◌⊎◌}
-use Rattle.std.specs.Prelude.{◌≢◌, IfErr, IfOk, option_map}
+use Rattle.std.proofs.Common.{ap, inl, inr, refl, sym, Err, List, Ok, Option, None, Result, Some, [], ◌∷◌, ◌∙◌, ◌≡◌}
+use Rattle.std.specs.Prelude.{IfErr, IfOk, option_map}
 use Rattle.clap.specs.Words.{App, HasKind, HasMatchesOf, Kinds, Text, fault_of, kind_of, subcommand_of, subcommand_rows_of}
 use Rattle.clap.specs.declared.Error.{Error}
 use Rattle.clap.specs.declared.error.ErrorKind.TheVariants.{OutOfMemory}
 use Rattle.clap.specs.declared.parser.matches.ArgMatches.{ArgMatches}
-use Rattle.plist_convert.specs.Asked.{Asked, asked_at, asked_by}
+use Rattle.plist_convert.specs.Asked.{asked_at, asked_by}
 use Rattle.plist_convert.specs.CommandLine.{IsProgram}
 use Rattle.plist_convert.specs.Reading.{IsParse, IsReading}
 use Rattle.plist_convert.specs.declared.request.Request.{Request}

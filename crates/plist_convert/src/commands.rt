@@ -1,6 +1,6 @@
 //! The command line, as `clap` is told of it.
-ghost use Rattle.std.specs.Prelude.{◌≡◌, IfOk, codes, false};
-ghost use Rattle.clap.specs.Words.{app_of, new_app, rule_of};
+ghost use Rattle.std.specs.Prelude.{◌≡◌, IfOk, IsOkAnd, codes, false};
+ghost use Rattle.clap.specs.Words.{AddsSubcommand, app_of, new_app, rule_of};
 ghost use Rattle.plist_convert.specs.CommandLine.{IsConvert, IsProgram, file_word, one_file};
 ghost use Rattle.plist_convert.specs.CommandLine.{program_top, same as same_line};
 
@@ -14,12 +14,22 @@ static FORMS: [&str; 2] = ["binary1", "openstep"];
 pub(crate) fn program<'a>(alloc: Global) -> Result<Command<'a>, AllocError>
     ensures { IfOk result (λ command. IsProgram (app_of command)) }
 {
-    top(alloc)
-        .subcommand(convert(alloc)?)?
-        .subcommand(same(alloc)?)?
-        .subcommand(lint(alloc)?)?
-        .subcommand(check(alloc)?)?
-        .subcommand(print(alloc)?)
+    let command = with_word(top(alloc), convert(alloc))?;
+    let command = with_word(command, same(alloc))?;
+    let command = with_word(command, lint(alloc))?;
+    let command = with_word(command, check(alloc))?;
+    with_word(command, print(alloc))
+}
+
+/// The command with one more word, where there was memory for that.
+fn with_word<'a>(
+    command: Command<'a>,
+    word: Result<Command<'a>, AllocError>,
+) -> Result<Command<'a>, AllocError>
+    ensures { IfOk result (λ whole. IsOkAnd word.entry (λ added.
+        AddsSubcommand command.entry added whole)) }
+{
+    command.subcommand(word?)
 }
 
 fn top<'a>(alloc: Global) -> Command<'a>

@@ -1,14 +1,15 @@
 //! What the words on the command line ask for.
 ghost use Rattle.std.specs.Prelude.{◌≡◌, ◌<◌, ◌≤◌, length, map, option_map, Ok};
-ghost use Rattle.clap.specs.Words.{first_of, found_of, rows_of, subcommand_rows_of};
+ghost use Rattle.clap.specs.Words.{app_of, first_of, found_of, rows_of, subcommand_rows_of};
 ghost use Rattle.plist_convert.specs.Asked.{asked_by, asked_at, check_at, convert_at};
 ghost use Rattle.plist_convert.specs.Asked.{form_of, lint_at, print_at, same_at};
+ghost use Rattle.plist_convert.specs.CommandLine.{IsProgram};
 ghost use Rattle.plist_convert.specs.Reading.{IsReading};
 
 use crate::commands::program;
 use crate::request::Request;
 use clap::error::ErrorKind;
-use clap::{ArgMatches, Error};
+use clap::{ArgMatches, Command, Error};
 use plist_forms::Form;
 use std::alloc::Global;
 
@@ -26,6 +27,14 @@ pub fn read_words<'a>(alloc: Global, words: &'a [&'a str]) -> Result<Request<'a>
         return Ok(Request::Filter);
     }
     let mut command = program(alloc)?;
+    read_by(&mut command, words)
+}
+
+/// What the words ask for, by the program's command line.
+fn read_by<'a>(command: &mut Command<'a>, words: &'a [&'a str]) -> Result<Request<'a>, Error>
+    ensures { IsProgram (app_of command.old)
+        → IsReading (map (λ word. word.now) words.now) result }
+{
     let matches = command.try_get_matches_from_mut(words)?;
     match request_of(&matches) {
         Some(request) => Ok(request),
