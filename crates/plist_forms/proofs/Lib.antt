@@ -1,4 +1,5 @@
 pub mod Accepting
+pub mod Answering
 pub mod Besides
 pub mod Refusing
 mod Rows
