@@ -1,9 +1,12 @@
-use Rattle.std.proofs.Common.{◌≡◌, [], ◌∷◌, ◌++◌, nat_cmp, refl, sym, ap, ◌∙◌, subst, append_assoc}
+use Rattle.std.proofs.Common.{◌≡◌, [], ◌∷◌, ◌++◌, nat_cmp, refl, sym, ap, ◌∙◌, subst, append_assoc, arith}
 use Rattle.std.specs.Cmp.Lexicographic.{slice_cmp}
 use Rattle.std.specs.List.Sorted.{IsStrictlySortedBy}
 use Rattle.std.specs.Map.{keys_of}
-use Rattle.plist_value.specs.View.{view_pairs}
+use Rattle.plist_value.specs.View.{view_pairs, view}
 use Rattle.plist_value.proofs.Pairs.{Entry, view_pairs-insert_entry, put_last}
+use Rattle.std.proofs.lemmas.Grind.{common_steps}
+use Rattle.plist_value.proofs.Shown.{view-list, view-table}
+use Rattle.plist_value.specs.Plist.{list, table}
 use Rattle.plist_value.proofs.copies.+copy.Goals as goal
 
 pub copy_pairs-loop-key-preserved : goal.copy_pairs-loop-key-preserved
@@ -22,3 +25,30 @@ copy_pairs-loop-key-preserved t c =
 
 pub copy-returns-in-Moment : goal.copy-returns-in-Moment
 copy-returns-in-Moment t c = rw c.in-Moment.is refl
+
+pub copy-returns-in_ok-copy-in-Text : goal.copy-returns-in_ok-copy-in-Text
+copy-returns-in_ok-copy-in-Text t c = grind (arith, common_steps)
+
+pub copy-returns-in-Whole : goal.copy-returns-in-Whole
+copy-returns-in-Whole t c = grind (arith, common_steps)
+
+pub copy-returns-in-Flag : goal.copy-returns-in-Flag
+copy-returns-in-Flag t c = grind (arith, common_steps)
+
+pub copy-returns-in-Real4 : goal.copy-returns-in-Real4
+copy-returns-in-Real4 t c = grind (arith, common_steps)
+
+pub copy-returns-in-Real8 : goal.copy-returns-in-Real8
+copy-returns-in-Real8 t c = grind (arith, common_steps)
+
+pub copy-returns-in_ok-copy_items-in-List : goal.copy-returns-in_ok-copy_items-in-List
+copy-returns-in_ok-copy_items-in-List t c = view-list c.in_ok-copy_items-in-List.field-0 ∙ ap list c.in_ok-copy_items-in-List.ensures ∙ sym (ap view c.in-List.is ∙ view-list c.in-List.items)
+
+pub copy-returns-in_ok-copy_pairs-in-Table : goal.copy-returns-in_ok-copy_pairs-in-Table
+copy-returns-in_ok-copy_pairs-in-Table t c = view-table c.in_ok-copy_pairs-in-Table.field-0 ∙ ap table c.in_ok-copy_pairs-in-Table.ensures ∙ sym (ap view c.in-Table.is ∙ view-table c.in-Table.pairs)
+
+pub copy_items-loop-item-preserved : goal.copy_items-loop-item-preserved
+copy_items-loop-item-preserved t c = grind (arith, common_steps)
+
+pub copy_items-returns : goal.copy_items-returns
+copy_items-returns t c = grind (arith, common_steps)

@@ -1,4 +1,4 @@
-use Rattle.std.proofs.Common.{◌≡◌, ℕ, List, ◌∷◌, rules, subst, sym, ◌∙◌}
+use Rattle.std.proofs.Common.{◌≡◌, ℕ, List, ◌∷◌, rules, subst, sym, ◌∙◌, arith}
 use Rattle.std.specs.Ordering.{nat_cmp}
 use Rattle.std.specs.Cmp.Lexicographic.{slice_cmp}
 use Rattle.std.specs.List.Sorted.{IsStrictlySortedBy}
@@ -7,6 +7,7 @@ use Rattle.plist_value.specs.declared.value.Value.{Value}
 use Rattle.plist_value.specs.Plist.{AreUnits, ArePairs}
 use Rattle.plist_value.specs.View.{view_pairs}
 use Rattle.plist_value.proofs.Keys.{IsKeyBelow-ordered}
+use Rattle.std.proofs.lemmas.Grind.{common_steps}
 use Rattle.plist_value.proofs.limits.+fits.Goals as goal
 
 pub charge_pairs-loop-key-preserved : goal.charge_pairs-loop-key-preserved
@@ -26,3 +27,30 @@ charge_pairs-loop-key-preserved t c =
       ordered = below.1;
       valid = λ rest. c.loop-key.invariant.valid (subst (λ (ps : List (List ℕ × Value)). ArePairs (view_pairs ps)) (sym step) (units, c.in_ok-left-2.ensures.valid, below.0, rest));
     }
+
+pub charge_items-loop-item-preserved : goal.charge_items-loop-item-preserved
+charge_items-loop-item-preserved t c = grind (arith, common_steps)
+
+pub charge_items-returns-in_err-left-clause-over : goal.charge_items-returns-in_err-left-clause-over
+charge_items-returns-in_err-left-clause-over t c = grind (arith, common_steps)
+
+pub charge_items-returns-clause-left : goal.charge_items-returns-clause-left
+charge_items-returns-clause-left t c = grind (arith, common_steps)
+
+pub charge_items-returns-clause-deep : goal.charge_items-returns-clause-deep
+charge_items-returns-clause-deep t c = grind (arith, common_steps)
+
+pub charge_items-returns-clause-valid : goal.charge_items-returns-clause-valid
+charge_items-returns-clause-valid t c = grind (arith, common_steps)
+
+pub charge_pairs-loop-key-init : goal.charge_pairs-loop-key-init
+charge_pairs-loop-key-init t c = search rules
+
+pub charge_pairs-returns-in_err-checked_sub-clause-over : goal.charge_pairs-returns-in_err-checked_sub-clause-over
+charge_pairs-returns-in_err-checked_sub-clause-over t c = search rules
+
+pub charge_pairs-returns-in_err-left-clause-over : goal.charge_pairs-returns-in_err-left-clause-over
+charge_pairs-returns-in_err-left-clause-over t c = search rules
+
+pub charge_pairs-returns-in_err-left-2-clause-over : goal.charge_pairs-returns-in_err-left-2-clause-over
+charge_pairs-returns-in_err-left-2-clause-over t c = search rules
