@@ -4,6 +4,7 @@ use Rattle.plist_object.specs.Layout.{IsLaid}
 use Rattle.plist_object.specs.Spelled.{IsBinary}
 use Rattle.plist_object.specs.Views.{octets_of}
 use Rattle.plist_binary.specs.Passing.{PassesTop}
+use Rattle.std.proofs.lemmas.Grind.{pieces}
 use Rattle.plist_binary.proofs.judging.judge_keys.Goals as goal
 
 -- what a file spells that passes
@@ -30,3 +31,6 @@ returns-clause-ok c =
     let octets : AreOctets f = search rules in
     let passed : PassesTop (octets_of c.in_ok-file.file) = search rules in
     spelled f octets c.in_ok-file.ensures.ok (subst PassesTop c.in_ok-file.ensures.laid passed)
+
+pub returns-in_err-sorted-clause-refused : goal.returns-in_err-sorted-clause-refused
+returns-in_err-sorted-clause-refused c = search (pieces, arith)
