@@ -13,7 +13,6 @@ pub mod WrittenLexing
 pub mod WrittenOctets
 pub mod WrittenProof
 pub mod Exits
-pub mod Shown
 pub mod TokenKinds
 pub mod MachineLemmas
 pub mod PhraseSteps

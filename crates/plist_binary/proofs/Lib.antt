@@ -12,7 +12,6 @@ pub mod Paired
 pub mod Placed
 pub mod Rows
 pub mod Sequences
-pub mod Shown
 pub mod TableSteps
 pub mod Worked
 pub mod WorkedFaults

@@ -19,7 +19,7 @@ use Rattle.ostep_text.specs.Stands.{Stands}
 use Rattle.ostep_text.specs.Machine
 use Rattle.ostep_text.specs.Reading.{HasRead, TakesRow}
 use Rattle.ostep_text.proofs.Exits.{passed_on}
-use Rattle.ostep_text.proofs.Shown.{view-table}
+use Rattle.plist_value.proofs.Shown.{view-table}
 use Rattle.ostep_text.proofs.Standing.{junk-at}
 use Rattle.ostep_text.proofs.TakeSteps.{rows-left}
 use Rattle.ostep_text.proofs.TokenKinds.{bare-ended}
