@@ -1,4 +1,5 @@
-use Rattle.std.proofs.Common.{◌≡◌, ◌∙◌, ◌++◌, ◌∷◌, [], length}
+use Rattle.std.proofs.Common.{◌≡◌, ◌∙◌, ◌++◌, ◌<◌, ◌∷◌, [], arith, length}
+use Rattle.std.proofs.lemmas.List.Elements.{All-from_get_or}
 use Rattle.plist_object.specs.Objects.{holds_list}
 use Rattle.plist_draft.proofs.Storing.{PutsHeld, puts_held, spells-list}
 use Rattle.plist_draft.proofs.draft.Draft.put_list.Goals as goal
@@ -26,3 +27,7 @@ returns-clause-spells c =
 
 pub returns-clause-kept : goal.returns-clause-kept
 returns-clause-kept c = (puts (goal.at.returns-clause-kept c).After-push_reserved).keeps
+
+pub put_short_list-requires-clause-fit : goal.put_short_list-requires-clause-fit
+put_short_list-requires-clause-fit c =
+    All-from_get_or (λ n. n < 4294967296) c.args.items.now 0 (λ k below. omega (arith, c.type_inv.items k))

@@ -1,4 +1,5 @@
-use Rattle.std.proofs.Common.{◌≡◌, ◌∙◌, ◌++◌, ◌∷◌, [], length}
+use Rattle.std.proofs.Common.{◌≡◌, ◌∙◌, ◌++◌, ◌<◌, ◌∷◌, [], arith, length}
+use Rattle.std.proofs.lemmas.List.Elements.{All-from_get_or}
 use Rattle.plist_object.specs.Objects.{holds_table}
 use Rattle.plist_draft.proofs.Storing.{PutsHeld, puts_held, spells-table}
 use Rattle.plist_draft.proofs.draft.Draft.put_table.Goals as goal
@@ -26,3 +27,11 @@ returns-clause-spells c =
 
 pub returns-clause-kept : goal.returns-clause-kept
 returns-clause-kept c = (puts (goal.at.returns-clause-kept c).After-push_reserved).keeps
+
+pub put_short_table-requires-clause-keys_fit : goal.put_short_table-requires-clause-keys_fit
+put_short_table-requires-clause-keys_fit c =
+    All-from_get_or (λ n. n < 4294967296) c.args.keys.now 0 (λ k below. omega (arith, c.type_inv.keys k))
+
+pub put_short_table-requires-clause-values_fit : goal.put_short_table-requires-clause-values_fit
+put_short_table-requires-clause-values_fit c =
+    All-from_get_or (λ n. n < 4294967296) c.args.values.now 0 (λ k below. omega (arith, c.type_inv.values k))
