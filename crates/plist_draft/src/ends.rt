@@ -19,7 +19,6 @@ pub(crate) fn put_places(out: &mut Vec<u8>, places: &[u32]) -> Result<(), AllocE
 }
 
 /// The trailer of a file whose offsets and references have four octets, behind the octets of `out`.
-#[tactic(auto, unfolding(crate::specs::Files::trailer_with))]
 pub(crate) fn put_trailer(
     out: &mut Vec<u8>,
     count: u64,

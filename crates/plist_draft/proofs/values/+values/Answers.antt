@@ -4,6 +4,7 @@ use Rattle.std.specs.Cmp.Lexicographic.{slice_cmp}
 use Rattle.std.specs.List.Sorted.{IsStrictlySortedBy}
 use Rattle.std.specs.Map.{keys_of}
 use Rattle.std.proofs.lemmas.List.{drop_more, drop_all}
+use Rattle.std.proofs.lemmas.Result.{IfOk-from_err}
 use Rattle.plist_value.specs.Plist.{text, scalar, Items, no_items, item, AreItems, AreUnits, ArePairs}
 use Rattle.plist_value.specs.View.{view, view_items, view_pairs}
 use Rattle.plist_value.specs.declared.value.Value.{Value}
@@ -65,3 +66,25 @@ pub put_table-returns-clause-spells : goal.put_table-returns-clause-spells
 put_table-returns-clause-spells t c =
     let told = rw (sym c.deref.ensures.value, sym c.deref-2.ensures.value) at c.in_ok-keys.ensures.spells in
     table-put _ _ _ _ _ c.put_table.result told c.put_table.ensures.spells
+
+pub put_items-returns-in_err-push-clause-spells : goal.put_items-returns-in_err-push-clause-spells
+put_items-returns-in_err-push-clause-spells t c = IfOk-from_err _ _ c.from_residual-in_err-push.ensures.0
+
+pub put_items-returns-in_err-push-clause-valid : goal.put_items-returns-in_err-push-clause-valid
+put_items-returns-in_err-push-clause-valid t c = IfOk-from_err _ (λ numbers. _) c.from_residual-in_err-push.ensures.0
+
+pub put_items-returns-in_err-push-clause-kept : goal.put_items-returns-in_err-push-clause-kept
+put_items-returns-in_err-push-clause-kept t c = Keeps-both _ _ _ c.loop-item.invariant.kept c.put_value.ensures.kept
+
+pub put_items-returns-in_err-put_value-clause-spells : goal.put_items-returns-in_err-put_value-clause-spells
+put_items-returns-in_err-put_value-clause-spells t c = IfOk-from_err _ _ c.from_residual-in_err-put_value.ensures.0
+
+pub put_items-returns-in_err-put_value-clause-valid : goal.put_items-returns-in_err-put_value-clause-valid
+put_items-returns-in_err-put_value-clause-valid t c = IfOk-from_err _ (λ numbers. _) c.from_residual-in_err-put_value.ensures.0
+
+pub put_items-returns-in_err-put_value-clause-kept : goal.put_items-returns-in_err-put_value-clause-kept
+put_items-returns-in_err-put_value-clause-kept t c = Keeps-both _ _ _ c.loop-item.invariant.kept c.put_value.ensures.kept
+
+pub put_items-returns-clause-valid : goal.put_items-returns-clause-valid
+put_items-returns-clause-valid t c =
+    c.loop-item.invariant.valid (rw (none-left c.args.items.now.items c.loop-item.item-index (search rules)) tt)
