@@ -2,11 +2,31 @@
 use Rattle.std.proofs.Common.{◌≡◌, ℕ, ◌+◌, ◌<◌, ◌≤◌, List, [], ◌∷◌, ◌++◌, length, get_or, drop, sym, ap, subst, ◌∙◌, arith, length-append, append_assoc}
 use Rattle.std.specs.List.{concat}
 use Rattle.std.proofs.lemmas.List.{drop_more, drop_all, append-nil}
+use Rattle.plist_object.specs.Objects.{Held}
 use Rattle.plist_object.specs.Shortest.{spelling_of}
 use Rattle.plist_engine.specs.Canonical.{starts}
-use Rattle.plist_engine.specs.Pieces.{CanSpellAll, held_in_part}
+use Rattle.plist_engine.specs.Spelling.{IsRead}
+use Rattle.plist_engine.specs.Pieces.{CanSpell, CanSpellAll, held_in_part}
 use Rattle.plist_engine.specs.declared.putting.Part.{Part}
 use Rattle.plist_engine.specs.Parts.{held_in, reference_count, renumbered, helds_of, AreSound, octets_for}
+
+-- what the object i wants of the file and of the numbers
+pub record Sound (f : List ℕ) (x : ℕ) (numbers : List ℕ) : Type 0 where
+  pub read : IsRead f x
+  pub enough : reference_count (held_in f x) ≤ length numbers
+
+pub sound-next : (f start : List ℕ) (i x : ℕ) (numbers : List ℕ) → i < length start → x ≡ get_or start i x → AreSound f (drop i start) numbers → Sound f x numbers
+sound-next f start i x numbers h is sound =
+    let split : drop i start ≡ x ∷ drop (i + 1) start = drop_more start i x h ∙ ap (λ y. y ∷ drop (i + 1) start) (sym is) in
+    let both = subst (λ (os : List ℕ). AreSound f os numbers) split sound in
+    record { read = both.0; enough = both.1.0 }
+
+-- the object i can be spelled
+pub spellable-next : (width : ℕ) (f start : List ℕ) (i x : ℕ) (numbers : List ℕ) (part : Part) → i < length start → x ≡ get_or start i x → held_in_part part ≡ renumbered (held_in f x) numbers → CanSpellAll width (helds_of f (drop i start) numbers) → CanSpell width (held_in_part part)
+spellable-next width f start i x numbers part h is is_part spellable =
+    let split : drop i start ≡ x ∷ drop (i + 1) start = drop_more start i x h ∙ ap (λ y. y ∷ drop (i + 1) start) (sym is) in
+    let can = subst (λ (os : List ℕ). CanSpellAll width (helds_of f os numbers)) split spellable in
+    subst (λ (held : Held). CanSpell width held) (sym is_part) can.0
 
 -- what is left behind the object i
 pub record Step (width : ℕ) (f start : List ℕ) (i : ℕ) (numbers behind octets : List ℕ) : Type 0 where

@@ -7,8 +7,49 @@ use Rattle.plist_object.specs.Views.{octets_of}
 use Rattle.plist_engine.specs.Pieces.{held_in_part}
 use Rattle.plist_engine.specs.Parts.{octets_for, octets_planned}
 use Rattle.plist_engine.proofs.Gathering.{Gathers-append, Gathers-same, Stops-front, Stops-next, Goes-err, room-left}
-use Rattle.plist_engine.proofs.ObjectSteps.{step, measured-next, none-left, split-next, split-end, placed-next, placed-end}
+use Rattle.plist_engine.proofs.ObjectSteps.{sound-next, spellable-next, step, measured-next, none-left, split-next, split-end, placed-next, placed-end}
 use Rattle.plist_engine.proofs.sending.send_objects.Goals as goal
+
+pub part_of-requires : goal.part_of-requires
+part_of-requires g c =
+    let f = octets_of c.args.file.now in
+    let start = c.args.objects.now.originals.items in
+    let l = c.loop-original in
+    let i = l.original-index in
+    let original = c.from.result in
+    let below : i < length start = search rules in
+    let is : original ≡ get_or start i original = search rules in
+    let sound = sound-next f start i original l.numbers.now below is l.invariant.sound in
+    record { read = sound.read; numbers = sound.enough }
+
+pub part_length-size-requires-clause-spellable : goal.part_length-size-requires-clause-spellable
+part_length-size-requires-clause-spellable g c =
+    let f = octets_of c.args.file.now in
+    let start = c.args.objects.now.originals.items in
+    let l = c.loop-original in
+    let i = l.original-index in
+    let original = c.from.result in
+    let below : i < length start = search rules in
+    let is : original ≡ get_or start i original = search rules in
+    spellable-next c.args.width f start i original l.numbers.now c.part_of.result.0 below is c.part_of.ensures.part l.invariant.spellable
+
+pub push_reserved-requires : goal.push_reserved-requires
+push_reserved-requires g c =
+    let start = c.args.objects.now.originals.items in
+    let i = c.loop-original.original-index in
+    let below : i < length start = search rules in
+    omega (arith, c.loop-original.invariant.room, length-drop i start)
+
+pub send_part-requires-clause-spellable : goal.send_part-requires-clause-spellable
+send_part-requires-clause-spellable g c =
+    let f = octets_of c.args.file.now in
+    let start = c.args.objects.now.originals.items in
+    let l = c.loop-original in
+    let i = l.original-index in
+    let original = c.from.result in
+    let below : i < length start = search rules in
+    let is : original ≡ get_or start i original = search rules in
+    spellable-next c.args.width f start i original l.numbers.now c.part_of.result.0 below is c.part_of.ensures.part l.invariant.spellable
 
 pub send_part-requires-clause-room : goal.send_part-requires-clause-room
 send_part-requires-clause-room g c =
