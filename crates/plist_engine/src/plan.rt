@@ -49,12 +49,14 @@ impl<'a, S: BuildHasher + Copy> Plan<'a, S> {
     {
         let objects = count.min(MAX_NODES);
         let references = objects.saturating_mul(4).min(MAX_NODES);
+        let originals = Vec::with_capacity(alloc, objects as usize)?;
+        let references = Vec::with_capacity(alloc, references as usize)?;
         Ok(Plan {
             scalars: Scalars::new(alloc, hasher, objects as usize),
             count,
             memo: Vec::new(alloc),
-            originals: Vec::with_capacity(alloc, objects as usize)?,
-            references: Vec::with_capacity(alloc, references as usize)?,
+            originals,
+            references,
         })
     }
 
