@@ -101,8 +101,8 @@ pub(crate) fn judge_objects<S: BuildHasher + Copy>(
     requires { objects.now ≡ take (trailer_of (octets_of file.now)).table (octets_of file.now) }
     ensures judged { OnOk result
         ((i : ℕ) → i < (trailer_of (octets_of file.now)).count → IsJudged (octets_of file.now) i) }
-    ensures single { OnOk result
-        ((i : ℕ) → i < (trailer_of (octets_of file.now)).count → IsNoRepeat (octets_of file.now) i) }
+    ensures single { OnOk result ((i : ℕ)
+        → i < (trailer_of (octets_of file.now)).count → IsNoRepeat (octets_of file.now) i) }
     ensures adjoin { OnOk result
         ((i : ℕ) → i < (trailer_of (octets_of file.now)).count → Adjoins (octets_of file.now) i) }
     ensures weights { IfOk result
