@@ -8,7 +8,8 @@ use Rattle.plist_object.specs.Objects.{holds_scalar}
 use Rattle.plist_engine.specs.Scalars.{EntersScalar}
 use Rattle.plist_engine.specs.declared.scalars.Scalars.{Scalars}
 use Rattle.plist_canon.specs.Rules.{IsNoRepeat}
-use Rattle.plist_canon.specs.Sieve.{HasBit, HasNoted, HoldsIt, MayRepeat, IsHeldBefore, HasMet, was_met}
+use Rattle.plist_canon.specs.Bits.{HasBit}
+use Rattle.plist_canon.specs.Sieve.{HasNoted, HoldsIt, MayRepeat, IsHeldBefore, HasMet, was_met}
 use Rattle.plist_canon.specs.declared.sieve.Sieve.{Sieve}
 use Rattle.plist_canon.proofs.Meeting.{met-same, met-other, met-kept}
 
@@ -65,11 +66,11 @@ module _ (f : List ℕ) (n : ℕ) (sieve : Sieve) (noted : HasNoted f n sieve) w
   -- of two equal scalars both may repeat another
   later_may : (j k : ℕ) (s : Scalar) → j < k → k < n → HoldsIt f j s → HoldsIt f k s → MayRepeat sieve k
   later_may j k s apart below first second =
-      subst (HasBit sieve.again.items) (sym (noted.kept k s below second)) (noted.again j k s apart below first second)
+      subst (HasBit sieve.again) (sym (noted.kept k s below second)) (noted.again j k s apart below first second)
 
   earlier_may : (j k : ℕ) (s : Scalar) → j < k → k < n → HoldsIt f j s → HoldsIt f k s → MayRepeat sieve j
   earlier_may j k s apart below first second =
-      subst (HasBit sieve.again.items) (sym (noted.kept j s (omega arith) first)) (noted.again j k s apart below first second)
+      subst (HasBit sieve.again) (sym (noted.kept j s (omega arith) first)) (noted.again j k s apart below first second)
 
   pub IsNoRepeat-apart : (i : ℕ) → i < n → (MayRepeat sieve i → ⊥) → IsNoRepeat f i
   IsNoRepeat-apart i below apart s reads earlier before again =

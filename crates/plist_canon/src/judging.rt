@@ -110,7 +110,7 @@ pub(crate) fn judge_objects<S: BuildHasher + Copy>(
     ensures err { IfErr result (IsFlaw (octets_of file.now)) }
 {
     let ranks = rank_keys(alloc, file)?;
-    let mut sieve = Sieve::new(alloc, file.count())?;
+    let mut sieve = Sieve::new(alloc, &hasher, file.count())?;
     let mut weights = Vec::new(alloc);
     let mut end = 8;
     for i in 0..file.count() {

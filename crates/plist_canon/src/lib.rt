@@ -3,6 +3,7 @@
 #![tactic(auto)]
 
 mod beginning;
+mod bits;
 pub mod checking;
 mod judging;
 pub mod laws;

@@ -1,0 +1,10 @@
+use Rattle.std.proofs.Common.{◌≡◌, ◌/◌, ◌+◌, ◌<◌, List, ℕ, replicate, arith, rules}
+use Rattle.plist_canon.specs.Bits.{IsSet}
+use Rattle.plist_canon.proofs.SetBits.{no_bit}
+use Rattle.plist_canon.proofs.bits.Bits.new.Goals as goal
+
+pub returns : goal.returns
+returns g c = λ n below is.
+    let mask = c.mask_for-mask.result in
+    let zeros : c.resize.new.self.items ≡ replicate (mask / 64 + 1) 0 = search rules in
+    no_bit n (mask / 64 + 1) (omega (arith, below)) (rw zeros at is)

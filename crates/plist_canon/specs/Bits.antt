@@ -1,0 +1,52 @@
+-- A bit for each scalar, which some share.
+use Rattle.std.specs.Prelude.{◌≡◌, ℕ, ◌≤◌, ◌/◌, ◌%◌, List, slice_index_or, bit_and, fold, nat_le, if◌then◌else◌, Option, Some, None}
+use Rattle.std.specs.Int.{bit_at}
+use Rattle.std.specs.Hash as fed
+use Rattle.std.specs.Hash.FoldHasher as folding
+use Rattle.std.specs.Hash.DefaultHasher as sip
+use Rattle.plist_value.specs.Plist.{Scalar, bytes}
+use Rattle.plist_value.specs.Equality.{fed_scalar}
+use Rattle.plist_engine.specs.Scalars.{natural_in}
+use Rattle.plist_canon.specs.declared.bits.Bits.{Bits}
+
+-- the bit is set in the words; those behind the end are
+unfoldable pub IsSet : List ℕ → ℕ → Type 0
+IsSet words n = bit_at (slice_index_or words (n / 64) 18446744073709551615) (n % 64) ≡ 1
+
+abbrev pub HasBit : Bits → ℕ → Type 0
+HasBit bits n = IsSet bits.words.items n
+
+-- no bit up to the mask is set
+abbrev pub IsClear : Bits → Type 0
+IsClear bits = (n : ℕ) → n ≤ bits.mask → HasBit bits n → ⊥
+
+-- each bit that was set is set
+abbrev pub KeepsBits : Bits → Bits → Type 0
+KeepsBits old new = (n : ℕ) → HasBit old n → HasBit new n
+
+-- which bit a scalar has is as it was
+pub record KeepsBitOf (old new : Bits) : Type 0 where
+  pub mask : new.mask ≡ old.mask
+  pub seed : new.seed ≡ old.seed
+
+-- a hash of the scalar behind the seed
+unfoldable pub fast_hash : ℕ → Scalar → ℕ
+fast_hash seed s =
+    folding.finish (fold folding.write (fold folding.write folding.initial (fed.u64 seed)) (fed_scalar s))
+
+-- another, which takes more time
+unfoldable pub strong_hash : ℕ → Scalar → ℕ
+strong_hash seed s = sip.finish (fold sip.write (fold sip.write sip.initial (fed.u64 seed)) (fed_scalar s))
+
+abbrev pub hash_of : ℕ → Scalar → ℕ
+hash_of seed (bytes xs) = strong_hash seed (bytes xs)
+hash_of seed s = fast_hash seed s
+
+-- the number, if there is one up to the greatest, and else the other
+abbrev pub up_to : ℕ → ℕ → Option ℕ → ℕ
+up_to most other (Some n) = if nat_le n most then n else other
+up_to most other None = other
+
+-- the bit of the scalar
+abbrev pub bit_of : Bits → Scalar → ℕ
+bit_of bits s = up_to bits.mask (bit_and (hash_of bits.seed s) bits.mask) (natural_in s)
