@@ -27,5 +27,4 @@ pub mod Spending
 pub mod Walking
 pub mod Paths
 pub mod Ranked
-pub mod SetBits
 pub mod Repeating

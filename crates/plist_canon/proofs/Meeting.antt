@@ -8,7 +8,7 @@ use Rattle.plist_value.specs.Scalars.{content_of}
 use Rattle.plist_value.specs.declared.scalar_ref.ScalarRef.{ScalarRef}
 use Rattle.plist_engine.specs.Scalars.{number_stored, EntersScalar}
 use Rattle.plist_engine.specs.declared.scalars.Scalars.{Scalars}
-use Rattle.plist_canon.specs.Sieve.{was_met}
+use Rattle.plist_canon.specs.Met.{was_met}
 
 is_same : (r q : ScalarRef) → scalar_eq (content_of r) (content_of q) ≡ true → content_of r ≡ content_of q
 is_same r q e = (scalar_eq-Decides (content_of r) (content_of q)).0 e

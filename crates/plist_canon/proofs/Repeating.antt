@@ -8,9 +8,10 @@ use Rattle.plist_object.specs.Objects.{holds_scalar}
 use Rattle.plist_engine.specs.Scalars.{EntersScalar}
 use Rattle.plist_engine.specs.declared.scalars.Scalars.{Scalars}
 use Rattle.plist_canon.specs.Rules.{IsNoRepeat}
-use Rattle.plist_canon.specs.Bits.{HasBit}
-use Rattle.plist_canon.specs.Sieve.{HasNoted, HoldsIt, MayRepeat, IsHeldBefore, HasMet, was_met}
-use Rattle.plist_canon.specs.declared.sieve.Sieve.{Sieve}
+use Rattle.plist_engine.specs.Sieve.{HasNoted, HoldsIt, MayRepeat}
+use Rattle.plist_canon.specs.Met.{IsHeldBefore, HasMet, was_met}
+use Rattle.plist_engine.specs.declared.sieve.Sieve.{Sieve}
+use Rattle.plist_engine.proofs.Sifted.{earlier_may, later_may}
 use Rattle.plist_canon.proofs.Meeting.{met-same, met-other, met-kept}
 
 -- an object holds one scalar
@@ -63,22 +64,13 @@ HasMet-past sieve f i scalars none met = record {
 }
 
 module _ (f : List ℕ) (n : ℕ) (sieve : Sieve) (noted : HasNoted f n sieve) where
-  -- of two equal scalars both may repeat another
-  later_may : (j k : ℕ) (s : Scalar) → j < k → k < n → HoldsIt f j s → HoldsIt f k s → MayRepeat sieve k
-  later_may j k s apart below first second =
-      subst (HasBit sieve.again) (sym (noted.kept k s below second)) (noted.again j k s apart below first second)
-
-  earlier_may : (j k : ℕ) (s : Scalar) → j < k → k < n → HoldsIt f j s → HoldsIt f k s → MayRepeat sieve j
-  earlier_may j k s apart below first second =
-      subst (HasBit sieve.again) (sym (noted.kept j s (omega arith) first)) (noted.again j k s apart below first second)
-
   pub IsNoRepeat-apart : (i : ℕ) → i < n → (MayRepeat sieve i → ⊥) → IsNoRepeat f i
   IsNoRepeat-apart i below apart s reads earlier before again =
-      apart (later_may earlier i s before below again reads)
+      apart (later_may f n sieve noted earlier i s before below again reads)
 
   pub IsNoRepeat-new : {S H : Type 0} → (i : ℕ) (s : ScalarRef) (scalars : Scalars S H) → i < n → HoldsIt f i (content_of s) → HasMet sieve f i scalars → was_met scalars s ≡ false → IsNoRepeat f i
   IsNoRepeat-new i s scalars below holds met unknown t reads earlier before again =
-      let may = earlier_may earlier i t before below again reads in
+      let may = earlier_may f n sieve noted earlier i t before below again reads in
       let is : t ≡ content_of s = one_scalar f i t (content_of s) reads holds in
       let held : HoldsIt f earlier (content_of s) = subst (λ (u : Scalar). HoldsIt f earlier u) is again in
       true≢false (sym ((met.each s).1 (earlier, (before, (may, held)))) ∙ unknown)

@@ -12,8 +12,7 @@ pub mod Checking
 pub mod Codes
 pub mod Weights
 pub mod Small
-pub mod Bits
-pub mod Sieve
+pub mod Met
 pub mod Preorders
 pub mod Owing
 pub mod Steps

@@ -10,15 +10,15 @@ ghost use Rattle.plist_canon.specs.Rules.{HasPlainTrailer, HasLeastWidths, Adjoi
 ghost use Rattle.plist_canon.specs.Rules.{IsSpelledCanonically, HasAscendingKeys, IsNoRepeat};
 ghost use Rattle.plist_canon.specs.Checking.{IsFlaw, RefersWell, IsEndBefore};
 ghost use Rattle.plist_canon.specs.Checking.{Follows, IsJudged};
-ghost use Rattle.plist_canon.specs.Sieve.{HasNoted};
+ghost use Rattle.plist_engine.specs.Sieve.{HasNoted};
 ghost use Rattle.plist_canon.specs.Weights.{AreAllWeights};
 
 use crate::beginning::begins_plainly;
 use crate::lengths::{is_width, spelled_length};
 use crate::references::{keys_ascend, refers_well};
 use crate::repeats::judge_repeats;
-use crate::sieve::Sieve;
 use crate::weights::Weight;
+use plist_engine::Sieve;
 use plist_object::{BinFile, Keys, Object, Ranks, scalar_length, width_of};
 use std::alloc::{AllocError, AllocFailed, Global};
 use std::hash::BuildHasher;

@@ -3,7 +3,6 @@
 #![tactic(auto)]
 
 mod beginning;
-mod bits;
 pub mod checking;
 mod judging;
 pub mod laws;
@@ -13,7 +12,6 @@ mod preorder;
 mod progress;
 mod references;
 mod repeats;
-mod sieve;
 mod weights;
 mod writing;
 

@@ -8,7 +8,7 @@ ghost use Rattle.plist_object.specs.Objects.{IsHeld, holds_scalar};
 ghost use Rattle.plist_object.specs.Places.{Holds};
 ghost use Rattle.plist_object.specs.Views.{held_of, octets_of};
 ghost use Rattle.plist_canon.specs.Rules.{HoldsText, IsWellRead};
-ghost use Rattle.plist_canon.specs.Sieve.{HoldsIt};
+ghost use Rattle.plist_engine.specs.Sieve.{HoldsIt};
 
 use plist_object::{BinFile, Object};
 use plist_value::{ScalarRef, TextRef};

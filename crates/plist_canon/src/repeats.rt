@@ -4,12 +4,12 @@ ghost use Rattle.plist_object.specs.Layout.{trailer_of};
 ghost use Rattle.plist_object.specs.Views.{octets_of};
 ghost use Rattle.plist_canon.specs.Rules.{IsNoRepeat};
 ghost use Rattle.plist_canon.specs.Checking.{IsFlaw};
-ghost use Rattle.plist_canon.specs.Sieve.{HasMet, HasNoted};
+ghost use Rattle.plist_engine.specs.Sieve.{HasNoted};
+ghost use Rattle.plist_canon.specs.Met.{HasMet};
 
 use crate::judging::Flaw;
 use crate::objects::scalar_of;
-use crate::sieve::Sieve;
-use plist_engine::Scalars;
+use plist_engine::{Scalars, Sieve};
 use plist_object::BinFile;
 use std::alloc::Global;
 use std::hash::BuildHasher;

@@ -1,10 +1,10 @@
 -- The walk does a container when it does its children, which give way to their numbers.
-use Rattle.std.proofs.Common.{◌≡◌, ℕ, suc, ◌+◌, ◌<◌, List, [], ◌∷◌, ◌++◌, length, drop, map, refl, sym, ap, subst, ◌∙◌, arith, add-one, length-append, append_assoc}
+use Rattle.std.proofs.Common.{◌≡◌, ℕ, suc, ◌+◌, ◌<◌, false, List, [], ◌∷◌, ◌++◌, length, drop, map, refl, sym, ap, subst, ◌∙◌, arith, add-one, length-append, append_assoc}
 use Rattle.std.proofs.lemmas.Bool.{eq-eqb}
 use Rattle.std.proofs.lemmas.List.{length-map, map-append, drop_all, drop_at}
 use Rattle.plist_value.specs.Plist.{Scalar, Plist, scalar, list, table, Items, Pairs, IsContainer}
 use Rattle.plist_object.specs.Objects.{holds_list, holds_table}
-use Rattle.plist_object.specs.Places.{Holds}
+use Rattle.plist_object.specs.Places.{Holds, what_holds}
 use Rattle.plist_engine.specs.Tree.{key_texts, preorder, preorder_items, preorder_values, key_places, value_places}
 use Rattle.plist_engine.specs.Found.{Stands, held_at, number_in, found_in}
 use Rattle.plist_engine.specs.Sharing.{least_place, first_place, kept_places, count_below, value_at}
@@ -12,7 +12,8 @@ use Rattle.plist_engine.proofs.Trees.{Stands-tail, Stands-head, length-key_place
 use Rattle.plist_engine.proofs.Counting.{count-kept, least_place-at, known-still}
 use Rattle.plist_engine.specs.declared.plan.Plan.{Plan}
 use Rattle.plist_object.specs.References.{references_of}
-use Rattle.plist_engine.specs.Plan.{IsLike, IsReady, Grows, Adds, WalksTree, WalksItems, Begins}
+use Rattle.plist_engine.proofs.Meeting.{met-beside, list-apart, table-apart}
+use Rattle.plist_engine.specs.Plan.{is_held, IsLike, IsReady, Grows, Adds, WalksTree, WalksItems, Begins}
 use Rattle.plist_engine.proofs.Flat.{flat, preorder-flat, places-flat}
 
 -- what the references became, and those behind them
@@ -49,10 +50,9 @@ module _ (v : Plist) (container : IsContainer v) (part : List Plist) (tree : pre
   found_is : found_in all k (v ∷ part) ≡ held_at (number_in all) k v ∷ found_in all (suc k) part
   found_is = rw (eq-eqb _ _ own) refl
 
-  below_ready : {S H : Type 0} → (i : ℕ) (objects : List ℕ) (old mid : Plan S H) (number : ℕ) → Begins i objects old mid number → IsReady all k old → IsReady all (suc k) mid
-  below_ready i objects old mid number begins ready = record {
-    numbered = rw begins.scalars_kept ready.numbered;
-    known = λ q. rw begins.scalars_kept (ready.known q ∙ sym (known-still all k _ (no_scalar _)));
+  below_ready : {S H : Type 0} → (f : List ℕ) (i : ℕ) (objects : List ℕ) (old mid : Plan S H) (number : ℕ) → ((s : Scalar) → is_held s (what_holds f i) ≡ false) → Begins i objects old mid number → IsReady f all k old → IsReady f all (suc k) mid
+  below_ready f i objects old mid number apart begins ready = record {
+    known = λ q. met-beside f i old mid begins.original_added q (apart q) ∙ ready.known q ∙ sym (known-still all k q (no_scalar q));
     counted = ap length begins.original_added ∙ length-append old.originals.items _ ∙ add-one _ ∙ ap suc ready.counted ∙ sym (count-kept all k v here.0 here.1 own);
   }
 
@@ -71,32 +71,32 @@ module _ (v : Plist) (container : IsContainer v) (part : List Plist) (tree : pre
         stand_for = (like, (g.references, (ap (λ rs. rs ++ behind) (sym refers) ∙ ap (λ rs. references_of (held_at (number_in all) k v) ++ rs) same, g.stand_for)));
       })
 
-pub Walks-container : {S H : Type 0} → (f : List ℕ) (v : Plist) → IsContainer v → (part : List Plist) → preorder v ≡ v ∷ part → (i : ℕ) (objects numbers behind : List ℕ) (old mid done : Plan S H) (number : ℕ) → Begins i objects old mid number → Filled objects numbers behind old done → ((all : List Plist) (k : ℕ) → Stands all k part → IsReady all k mid → Adds f (length mid.references.items) all k part mid done) → ((all : List Plist) (k : ℕ) → Stands all (suc k) part → IsReady all (suc k) mid → IsLike f i (held_at (number_in all) k v) × (references_of (held_at (number_in all) k v) ≡ numbers)) → WalksTree f 0 v old done number
-Walks-container f v container part tree i objects numbers behind old mid done number begins filled adds holds = record {
+pub Walks-container : {S H : Type 0} → (f : List ℕ) (v : Plist) → IsContainer v → (part : List Plist) → preorder v ≡ v ∷ part → (i : ℕ) (objects numbers behind : List ℕ) (old mid done : Plan S H) (number : ℕ) → ((s : Scalar) → is_held s (what_holds f i) ≡ false) → Begins i objects old mid number → Filled objects numbers behind old done → ((all : List Plist) (k : ℕ) → Stands all k part → IsReady f all k mid → Adds f (length mid.references.items) all k part mid done) → ((all : List Plist) (k : ℕ) → Stands all (suc k) part → IsReady f all (suc k) mid → IsLike f i (held_at (number_in all) k v) × (references_of (held_at (number_in all) k v) ≡ numbers)) → WalksTree f 0 v old done number
+Walks-container f v container part tree i objects numbers behind old mid done number apart begins filled adds holds = record {
   numbered = λ all k stands ready.
       let e : number ≡ number_in all k = begins.number_is ∙ ready.counted ∙ sym (number_is v container part tree all k stands) in
       ap (λ n. n ∷ []) e;
   adds = λ all k stands ready.
-      let below = below_ready v container part tree all k stands i objects old mid number begins ready in
+      let below = below_ready v container part tree all k stands f i objects old mid number apart begins ready in
       let children = Stands-tail v part (rw tree at stands) in
       let inner = adds all (suc k) children below in
       let like = holds all k children below in
       let moved : suc k + length part ≡ k + length (v ∷ part) = omega arith in
       rw tree (record {
-        ready = subst (λ (n : ℕ). IsReady all n done) moved inner.ready;
+        ready = subst (λ (n : ℕ). IsReady f all n done) moved inner.ready;
         grows = grown v container part tree all k stands f i objects numbers behind old mid done number begins filled inner.grows like.0 like.1;
       });
 }
 
 pub Walks-list : {S H : Type 0} → (f : List ℕ) (vs : Items) (i : ℕ) (objects numbers behind : List ℕ) (old mid done : Plan S H) (number : ℕ) → Holds f i (holds_list objects) → Begins i objects old mid number → Filled objects numbers behind old done → WalksItems f (length mid.references.items) vs mid done numbers → WalksTree f 0 (list vs) old done number
 Walks-list f vs i objects numbers behind old mid done number holds begins filled walks =
-    Walks-container f (list vs) tt (preorder_items vs) refl i objects numbers behind old mid done number begins filled walks.adds
+    Walks-container f (list vs) tt (preorder_items vs) refl i objects numbers behind old mid done number (list-apart f i objects holds) begins filled walks.adds
     (λ all k stands ready. let is = walks.numbered all (suc k) stands ready in ((objects, (holds, ap length (sym is) ∙ filled.as_many)), sym is))
 
 pub Walks-table : {S H : Type 0} → (f : List ℕ) (ps : Pairs) (i : ℕ) (keys values objects numbers behind : List ℕ) (old mid done : Plan S H) (number : ℕ) → Holds f i (holds_table keys values) → length (key_texts ps) ≡ length keys → Begins i objects old mid number → Filled objects numbers behind old done → WalksItems f (length mid.references.items) (flat ps) mid done numbers → WalksTree f 0 (table ps) old done number
 Walks-table f ps i keys values objects numbers behind old mid done number holds long begins filled walks =
     let same = preorder-flat ps in
-    Walks-container f (table ps) tt (key_texts ps ++ preorder_values ps) refl i objects numbers behind old mid done number begins filled
+    Walks-container f (table ps) tt (key_texts ps ++ preorder_values ps) refl i objects numbers behind old mid done number (table-apart f i keys values holds) begins filled
     (λ all k stands ready. rw same at (walks.adds all k (rw same stands) ready))
     (λ all k stands ready.
     let number = number_in all in

@@ -21,7 +21,9 @@ pub mod Keys
 pub mod Numbers
 pub mod Small
 pub mod Storing
+pub mod SetBits
 pub mod Growing
+pub mod Meeting
 pub mod Walking
 pub mod Flat
 pub mod Containers
@@ -33,3 +35,5 @@ pub mod Parting
 pub mod ObjectSteps
 pub mod Finding
 pub mod Remembering
+pub mod Sifted
+pub mod Noted

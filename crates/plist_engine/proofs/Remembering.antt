@@ -1,78 +1,27 @@
--- The numbers that are remembered of objects.
-use Rattle.std.proofs.Common.{◌≡◌, ℕ, ◌<◌, eqb, false, List, [], ◌∷◌, length, get_or, Some, refl, sym, ap, subst, ◌∙◌, inl, inr, arith}
-use Rattle.std.proofs.lemmas.Bool.{eq-eqb, true≢false}
-use Rattle.std.proofs.lemmas.List.{append-nil, get_or_default}
+-- What a plan knows of the scalars that were met.
+use Rattle.std.proofs.Common.{◌≡◌, ◌⊎◌, ℕ, ◌≤◌, false, List, [], ◌∷◌, ◌++◌, length, Some, None, refl, sym, ap, subst, ◌∙◌, inl, inr, arith}
+use Rattle.std.proofs.lemmas.Bool.{cases_eq, cases_Bool}
+use Rattle.std.proofs.lemmas.List.{append-nil}
 use Rattle.plist_value.specs.Plist.{Scalar, Plist, scalar, list, table, IsScalar, IsPlist}
+use Rattle.plist_value.specs.Equality.{scalar_eq}
+use Rattle.plist_value.specs.EqualityLaws.{scalar_eq-Decides}
 use Rattle.plist_value.specs.Scalars.{content_of}
 use Rattle.plist_value.specs.declared.scalar_ref.ScalarRef.{ScalarRef}
 use Rattle.plist_object.specs.Objects.{holds_scalar, holds_list, holds_table}
-use Rattle.plist_object.specs.Places.{Holds}
+use Rattle.plist_object.specs.Layout.{trailer_of}
+use Rattle.plist_object.specs.Places.{Holds, what_holds}
 use Rattle.plist_object.specs.Spelled.{Spells}
 use Rattle.plist_object.proofs.Uniqueness.{same_held}
 use Rattle.plist_engine.specs.declared.plan.Plan.{Plan}
+use Rattle.plist_engine.specs.declared.scalars.Scalars.{Scalars}
 use Rattle.plist_engine.specs.Naturals.{no_number}
-use Rattle.plist_engine.specs.Scalars.{AreNumbered, number_stored}
-use Rattle.plist_engine.specs.Plan.{KeepsNumber, KeepsScalar, IsRemembered, RemembersNumbers, NumbersScalar, remembered, IsWalked, Begins}
+use Rattle.plist_engine.specs.Scalars.{AreNew, EntersScalar, number_stored}
+use Rattle.plist_engine.specs.Memo.{single, kept, IsNumber, IsSingle, KeepsNumber, Sifts}
+use Rattle.plist_engine.specs.Plan.{is_held, number_from, number_met, IsRemembered, IsMet, IsUnmet, KnowsScalars, MeetsScalar, IsWalked, Begins}
 use Rattle.plist_engine.specs.Spelling.{SpellsWithin}
-use Rattle.plist_engine.proofs.Storing.{enters-again}
-use Rattle.plist_engine.proofs.Walking.{Walks-known, Walks-lift}
-
--- the memo of a plan with more scalars
-pub remembers-entered : {S H : Type 0} → (f : List ℕ) (shown : ScalarRef) (old new : Plan S H) (n : ℕ) → KeepsScalar shown old new n → RemembersNumbers f old → RemembersNumbers f new
-remembers-entered f shown old new n enters was = record {
-  numbered = enters.numbered was.numbered;
-  each = λ i some.
-      let same : remembered new i ≡ remembered old i = ap (λ (m : _). get_or m.items i no_number) enters.memo_kept in
-      let one = was.each i (λ none. some (same ∙ none)) in
-      record {
-        shown = one.shown;
-        holds = one.holds;
-        held = enters.still was.numbered one.shown (remembered new i) (one.held ∙ ap Some (sym same));
-      };
-}
-
--- what is remembered of a plan is so of each with the same scalars
-pub remembers-same : {S H : Type 0} → (f : List ℕ) (old new : Plan S H) → new.scalars ≡ old.scalars → new.memo ≡ old.memo → RemembersNumbers f old → RemembersNumbers f new
-remembers-same f old new same_scalars same_memo was = record {
-  numbered = rw same_scalars was.numbered;
-  each = λ i some.
-      let same : remembered new i ≡ remembered old i = ap (λ (m : _). get_or m.items i no_number) same_memo in
-      let one = was.each i (λ none. some (same ∙ none)) in
-      record {
-        shown = one.shown;
-        holds = one.holds;
-        held = rw same_scalars (one.held ∙ ap Some (sym same));
-      };
-}
-
-pub remembers-begun : {S H : Type 0} → (f : List ℕ) (i : ℕ) (refs : List ℕ) (old new : Plan S H) (n : ℕ) → Begins i refs old new n → RemembersNumbers f old → RemembersNumbers f new
-remembers-begun f i refs old new n begins was =
-    remembers-same f old new begins.scalars_kept begins.memo_kept was
-
--- one number more is remembered
-pub remembers-kept : {S H : Type 0} → (f : List ℕ) (i : ℕ) (shown : ScalarRef) (mid new : Plan S H) (n : ℕ) → new.scalars ≡ mid.scalars → KeepsNumber i n mid.memo.items new.memo.items → Holds f i (holds_scalar (content_of shown)) → number_stored mid.scalars shown ≡ Some n → RemembersNumbers f mid → RemembersNumbers f new
-remembers-kept f i shown mid new n same_scalars kept holds held was = record {
-  numbered = rw same_scalars was.numbered;
-  each = λ j some. elim (kept j) [
-    | inr here ↦ record {
-      shown = shown;
-      holds = subst (λ (k : ℕ). Holds f k (holds_scalar (content_of shown))) (sym here.0) holds;
-      held = rw same_scalars (held ∙ ap Some (sym here.1));
-    }
-    | inl same ↦ (let one = was.each j (λ none. some (same ∙ none)) in record {
-      shown = one.shown;
-      holds = one.holds;
-      held = rw same_scalars (one.held ∙ ap Some (sym same));
-    })
-  ];
-}
-
--- a plan with another memo
-pub scalar-set : {S H : Type 0} → (i : ℕ) (s : Scalar) (old mid new : Plan S H) (n : ℕ) → NumbersScalar i s old mid n → new.scalars ≡ mid.scalars → new.originals ≡ mid.originals → new.references ≡ mid.references → NumbersScalar i s old new n
-scalar-set i s old mid new n numbers same_scalars same_originals same_references = record {
-  walks = λ f holds. Walks-lift f 0 (scalar s ∷ []) (λ k. k ∷ []) old mid new (n ∷ []) (numbers.walks f holds) (omega arith) same_scalars same_originals (rw same_references refl);
-  references_kept = rw same_references numbers.references_kept;
-}
+use Rattle.plist_engine.proofs.Meeting.{cases_Option, met-added, met-beside, met-now, met-still}
+use Rattle.plist_engine.proofs.Storing.{entered-had, entered-kept, entered-unknown, entered-added}
+use Rattle.plist_engine.proofs.Walking.{Walks-known}
 
 valid_at : (f : List ℕ) (i : ℕ) (s : Scalar) (v : Plist) → IsPlist v → Spells f i v → Holds f i (holds_scalar s) → IsScalar s
 valid_at f i s (scalar t) valid spells holds =
@@ -85,24 +34,307 @@ valid_at f i s (table ps) valid spells holds =
     absurd (let held = same_held f i (holds_table spells.0 spells.1.0) (holds_scalar s) spells.1.1.1.0 holds in cc)
 
 -- an object that is remembered is walked
-pub walked-again : {S H : Type 0} → (f : List ℕ) (i levels : ℕ) (plan : Plan S H) (n : ℕ) → SpellsWithin f i levels → RemembersNumbers f plan → IsRemembered f plan i n → IsWalked f i plan plan n
-walked-again f i levels plan n within memo one =
-    let r = one.shown in
+pub walked-again : {S H : Type 0} → (f : List ℕ) (i levels : ℕ) (plan : Plan S H) (n : ℕ) → SpellsWithin f i levels → IsRemembered f plan i n → IsWalked f i plan plan n
+walked-again f i levels plan n within one =
+    let s = one.shown in
     record {
-      value = scalar (content_of r);
-      valid = valid_at f i (content_of r) within.value within.valid within.spells one.holds;
+      value = scalar s;
+      valid = valid_at f i s within.value within.valid within.spells one.holds;
       spells = one.holds;
-      walks = Walks-known f r plan plan n n (λ numbered. enters-again r n n plan.scalars numbered one.held) refl refl;
+      walks = Walks-known f s plan plan n one.met refl refl;
       references = [];
       references_added = sym (append-nil _);
     }
 
-pub remembers-none : {S H : Type 0} → (f : List ℕ) (plan : Plan S H) → AreNumbered plan.scalars → ((i : ℕ) → remembered plan i ≡ no_number) → RemembersNumbers f plan
-remembers-none f plan numbered none = record { numbered = numbered; each = λ i some. absurd (some (none i)) }
-
 -- a number that the memo has
-pub number-remembered : {S H : Type 0} → (plan : Plan S H) (i x : ℕ) → i < length plan.memo.items → x ≡ get_or plan.memo.items i x → eqb x no_number ≡ false → (f : List ℕ) → RemembersNumbers f plan → IsRemembered f plan i x
-number-remembered plan i x within is apart f memo =
-    let same : remembered plan i ≡ x = sym (is ∙ get_or_default plan.memo.items i x no_number within) in
-    let some : remembered plan i ≡ no_number → ⊥ = λ (none : remembered plan i ≡ no_number). true≢false (sym (eq-eqb x no_number (sym same ∙ none)) ∙ apart) in
-    subst (λ (n : ℕ). IsRemembered f plan i n) same (memo.each i some)
+pub number-remembered : {S H : Type 0} → (f : List ℕ) (plan : Plan S H) (i x : ℕ) → kept plan.memo i ≡ x → IsNumber x → KnowsScalars f plan → IsRemembered f plan i x
+number-remembered f plan i x same some knows =
+    subst (λ (n : ℕ). IsRemembered f plan i n) same (knows.each i (subst IsNumber (sym same) some))
+
+-- nothing is known at first
+pub knows-none : {S H : Type 0} → (f : List ℕ) (plan : Plan S H) → plan.originals.items ≡ [] → AreNew plan.scalars → length plan.memo.numbers.items ≡ (trailer_of f).count → ((i : ℕ) → kept plan.memo i ≡ no_number) → KnowsScalars f plan
+knows-none f plan none new listed unmet = record {
+  listed = listed;
+  numbered = new.numbered;
+  each = λ i some. absurd (let is = unmet i in omega (arith, some, is));
+  alone = λ i e. absurd (let is = unmet i in omega (arith, e, is));
+  stored = λ r n has. absurd (let e : None ≡ Some n = sym (new.unknown r) ∙ has in cc);
+  met = λ s n has. absurd (let e : None ≡ Some n = sym (ap (λ originals. number_from f 0 originals s) none) ∙ has in cc);
+}
+
+-- a plan of which neither the scalars nor what is kept of them changed
+knows-as : {S H : Type 0} → (f : List ℕ) (old new : Plan S H) → ((s : Scalar) → number_met f new s ≡ number_met f old s) → new.scalars ≡ old.scalars → new.memo ≡ old.memo → KnowsScalars f old → KnowsScalars f new
+knows-as {S} {H} f old new same same_scalars same_memo was =
+    let memo : (i : ℕ) → kept new.memo i ≡ kept old.memo i = λ i. ap (λ m. kept m i) same_memo in
+    let stored : (r : ScalarRef) → number_stored new.scalars r ≡ number_stored old.scalars r = λ r. ap (λ (k : Scalars S H). number_stored k r) same_scalars in
+    record {
+      listed = rw same_memo was.listed;
+      numbered = rw same_scalars was.numbered;
+      each = λ i some.
+          let one = was.each i (subst IsNumber (memo i) some) in
+          record { shown = one.shown; holds = one.holds; met = same one.shown ∙ one.met ∙ ap Some (sym (memo i)) };
+      alone = λ i e. was.alone i (sym (memo i) ∙ e);
+      stored = λ r n has. same (content_of r) ∙ was.stored r n (sym (stored r) ∙ has);
+      met = λ s n has.
+          let one = was.met s n (sym (same s) ∙ has) in
+          record {
+            object = one.object;
+            holds = one.holds;
+            is_kept = memo one.object ∙ one.is_kept;
+            some = one.some;
+            found = elim one.found [
+              | inl all ↦ inl (λ r is. stored r ∙ all r is)
+              | inr single ↦ inr single
+            ];
+          };
+    }
+
+-- one of which references alone changed
+pub knows-same : {S H : Type 0} → (f : List ℕ) (old new : Plan S H) → new.originals ≡ old.originals → new.scalars ≡ old.scalars → new.memo ≡ old.memo → KnowsScalars f old → KnowsScalars f new
+knows-same f old new same_originals same_scalars same_memo was =
+    knows-as f old new (λ s. ap (λ originals. number_from f 0 originals.items s) same_originals) same_scalars same_memo was
+
+-- one with a container more
+pub knows-begun : {S H : Type 0} → (f : List ℕ) (i : ℕ) (refs : List ℕ) (old new : Plan S H) (n : ℕ) → ((s : Scalar) → is_held s (what_holds f i) ≡ false) → Begins i refs old new n → KnowsScalars f old → KnowsScalars f new
+knows-begun f i refs old new n apart begins was =
+    knows-as f old new (λ s. met-beside f i old new begins.original_added s (apart s)) begins.scalars_kept begins.memo_kept was
+
+-- one in which single objects were looked for
+pub unmet-sifted : {S H : Type 0} → (f : List ℕ) (i : ℕ) (s : Scalar) (old new : Plan S H) → new.originals ≡ old.originals → new.scalars ≡ old.scalars → Sifts f old.memo new.memo → IsUnmet f i s old → IsUnmet f i s new
+unmet-sifted {S} {H} f i s old new same_originals same_scalars sifts unmet =
+    let was = unmet.knows in
+    let same : (q : Scalar) → number_met f new q ≡ number_met f old q = λ q. ap (λ originals. number_from f 0 originals.items q) same_originals in
+    let stored : (r : ScalarRef) → number_stored new.scalars r ≡ number_stored old.scalars r = λ r. ap (λ (k : Scalars S H). number_stored k r) same_scalars in
+    record {
+      holds = unmet.holds;
+      unmet = elim (sifts.each i) [
+        | inl is ↦ subst (λ (n : ℕ). single ≤ n) (sym is) unmet.unmet
+        | inr marked ↦ (let is = marked.1.0 in omega (arith, is))
+      ];
+      knows = record {
+        listed = sifts.as_many ∙ was.listed;
+        numbered = rw same_scalars was.numbered;
+        each = λ j some. elim (sifts.each j) [
+          | inl is ↦ (
+              let one = was.each j (subst IsNumber is some) in
+              record { shown = one.shown; holds = one.holds; met = same one.shown ∙ one.met ∙ ap Some (sym is) }
+              )
+          | inr marked ↦ absurd (let is = marked.1.0 in omega (arith, is, some))
+        ];
+        alone = λ j e. elim (sifts.each j) [
+          | inl is ↦ was.alone j (sym is ∙ e)
+          | inr marked ↦ marked.1.1
+        ];
+        stored = λ r n has. same (content_of r) ∙ was.stored r n (sym (stored r) ∙ has);
+        met = λ q n has.
+            let one = was.met q n (sym (same q) ∙ has) in
+            record {
+              object = one.object;
+              holds = one.holds;
+              is_kept = elim (sifts.each one.object) [
+                | inl is ↦ is ∙ one.is_kept
+                | inr marked ↦ absurd (let no = marked.0 in let is = one.is_kept in let some = one.some in omega (arith, no, is, some))
+              ];
+              some = one.some;
+              found = elim one.found [
+                | inl all ↦ inl (λ r is. stored r ∙ all r is)
+                | inr alone ↦ inr alone
+              ];
+            };
+      };
+    }
+
+-- the scalar of an object that was not met
+module _ {S H : Type 0} (f : List ℕ) (i : ℕ) (r : ScalarRef) (old : Plan S H) (unmet : IsUnmet f i (content_of r) old) where
+  abbrev s : Scalar
+  s = content_of r
+
+  apart_here : (q : Scalar) (n : ℕ) (one : IsMet f old q n) → one.object ≡ i → ⊥
+  apart_here q n one e =
+      let is : kept old.memo i ≡ n = ap (kept old.memo) (sym e) ∙ one.is_kept in
+      let some = one.some in
+      let none = unmet.unmet in
+      omega (arith, is, some, none)
+
+  pub had-met : (next n : ℕ) (scalars : Scalars S H) → EntersScalar r next old.scalars scalars (Some n) → number_met f old s ≡ Some n
+  had-met next n scalars enters =
+      unmet.knows.stored r n (entered-had r next n old.scalars scalars enters)
+
+  -- it was not met, where it is that of one object, or not in the set
+  unmet-single : IsSingle f i → number_met f old s ≡ None
+  unmet-single single = elim (cases_Option (number_met f old s)) [
+    | inl none ↦ none
+    | inr some ↦ absurd (let one = unmet.knows.met s some.0 some.1 in apart_here s some.0 one (single s one.object unmet.holds one.holds))
+  ]
+
+  unmet-entered : (next : ℕ) (scalars : Scalars S H) → EntersScalar r next old.scalars scalars None → number_met f old s ≡ None
+  unmet-entered next scalars enters = elim (cases_Option (number_met f old s)) [
+    | inl none ↦ none
+    | inr some ↦ absurd (let one = unmet.knows.met s some.0 some.1 in elim one.found [
+      | inl all ↦ (let e : None ≡ Some some.0 = sym (entered-unknown r next old.scalars scalars enters) ∙ all r refl in absurd (cc))
+      | inr single ↦ apart_here s some.0 one (sym (single s i one.holds unmet.holds))
+    ])
+  ]
+
+  abbrev Entered : ℕ → Scalars S H → Type 0
+  Entered n scalars = EntersScalar r n old.scalars scalars None ⊎ ((scalars ≡ old.scalars) × IsSingle f i)
+
+  pub new-met : (n : ℕ) (scalars : Scalars S H) → Entered n scalars → number_met f old s ≡ None
+  new-met n scalars entered = elim entered [
+    | inl enters ↦ unmet-entered n scalars enters
+    | inr alone ↦ unmet-single alone.1
+  ]
+
+  -- what was entered, where the scalar was met, and where it was not
+  pub had-entered : (next n : ℕ) (scalars : Scalars S H) → MeetsScalar old.memo i r next old.scalars scalars (Some n) → EntersScalar r next old.scalars scalars (Some n)
+  had-entered next n scalars meets = elim meets [
+    | inl enters ↦ enters unmet.knows.numbered
+    | inr alone ↦ absurd (let e : Some n ≡ None = alone.0 in cc)
+  ]
+
+  pub new-entered : (n : ℕ) (scalars : Scalars S H) → MeetsScalar old.memo i r n old.scalars scalars None → Entered n scalars
+  new-entered n scalars meets = elim meets [
+    | inl enters ↦ inl (enters unmet.knows.numbered)
+    | inr alone ↦ inr (alone.1.0, unmet.knows.alone i alone.1.1)
+  ]
+
+  module _ (n : ℕ) (new : Plan S H) (some : IsNumber n) (keeps : KeepsNumber i n old.memo new.memo) where
+    here : kept new.memo i ≡ n
+    here = keeps.here (rw unmet.knows.listed unmet.holds.listed)
+
+    beside : (q : Scalar) (m : ℕ) (one : IsMet f old q m) → kept new.memo one.object ≡ m
+    beside q m one = keeps.others one.object (apart_here q m one) ∙ one.is_kept
+
+    each_now : number_met f new s ≡ Some n → ((q : Scalar) (m : ℕ) → number_met f old q ≡ Some m → number_met f new q ≡ Some m) → (j : ℕ) → IsNumber (kept new.memo j) → IsRemembered f new j (kept new.memo j)
+    each_now met still j number = elim (cases_eq j i) [
+      | inl is ↦ record {
+        shown = s;
+        holds = subst (λ (k : ℕ). Holds f k (holds_scalar s)) (sym is) unmet.holds;
+        met = met ∙ ap Some (sym (ap (kept new.memo) is ∙ here));
+      }
+      | inr apart ↦ (
+          let same = keeps.others j apart in
+          let one = unmet.knows.each j (subst IsNumber same number) in
+          record { shown = one.shown; holds = one.holds; met = still one.shown _ one.met ∙ ap Some (sym same) }
+          )
+    ]
+
+    alone_now : (j : ℕ) → kept new.memo j ≡ single → IsSingle f j
+    alone_now j e = elim (cases_eq j i) [
+      | inl is ↦ absurd (let number : n ≡ single = sym here ∙ ap (kept new.memo) (sym is) ∙ e in omega (arith, number, some))
+      | inr apart ↦ unmet.knows.alone j (sym (keeps.others j apart) ∙ e)
+    ]
+
+    -- an equal one was met
+    pub knows-again : (next : ℕ) → EntersScalar r next old.scalars new.scalars (Some n) → new.originals ≡ old.originals → KnowsScalars f new
+    knows-again next enters same_originals =
+        let same : (q : Scalar) → number_met f new q ≡ number_met f old q = λ q. ap (λ originals. number_from f 0 originals.items q) same_originals in
+        let stored = entered-kept r next n old.scalars new.scalars enters in
+        record {
+          listed = keeps.as_many ∙ unmet.knows.listed;
+          alone = alone_now;
+          numbered = enters.numbered;
+          each = each_now (same s ∙ had-met next n new.scalars enters) (λ q m had. same q ∙ had);
+          stored = λ q m has. same (content_of q) ∙ unmet.knows.stored q m (sym (stored q) ∙ has);
+          met = λ q m has.
+              let one = unmet.knows.met q m (sym (same q) ∙ has) in
+              record {
+                object = one.object;
+                holds = one.holds;
+                is_kept = beside q m one;
+                some = one.some;
+                found = elim one.found [
+                  | inl all ↦ inl (λ t is. stored t ∙ all t is)
+                  | inr single ↦ inr single
+                ];
+              };
+        }
+
+    -- none was
+    module _ (last : n ≡ length old.originals.items) (added : new.originals.items ≡ old.originals.items ++ (i ∷ [])) (entered : Entered n new.scalars) where
+      unknown : number_met f old s ≡ None
+      unknown = new-met n new.scalars entered
+
+      now : number_met f new s ≡ Some n
+      now = met-now f i old new added s unmet.holds unknown ∙ ap Some (sym last)
+
+      still : (q : Scalar) (m : ℕ) → number_met f old q ≡ Some m → number_met f new q ≡ Some m
+      still = met-still f i old new added
+
+      stored_now : (q : ScalarRef) (m : ℕ) → number_stored new.scalars q ≡ Some m → number_met f new (content_of q) ≡ Some m
+      stored_now q m has = elim entered [
+        | inr alone ↦ still (content_of q) m (unmet.knows.stored q m (ap (λ (k : Scalars S H). number_stored k q) (sym alone.0) ∙ has))
+        | inl enters ↦ (
+            let is = entered-added r n old.scalars new.scalars enters q in
+            elim (cases_Bool (scalar_eq s (content_of q))) [
+              | inl same ↦ (let e : Some n ≡ Some m = sym (is ∙ rw same refl) ∙ has in ap (number_met f new) (sym ((scalar_eq-Decides s (content_of q)).0 same)) ∙ now ∙ e)
+              | inr apart ↦ still (content_of q) m (unmet.knows.stored q m (sym (is ∙ rw apart refl) ∙ has))
+            ]
+            )
+      ]
+
+      found_still : (q : ScalarRef) (m : ℕ) → number_stored old.scalars q ≡ Some m → number_stored new.scalars q ≡ Some m
+      found_still q m has = elim entered [
+        | inr alone ↦ ap (λ (k : Scalars S H). number_stored k q) alone.0 ∙ has
+        | inl enters ↦ (
+            let is = entered-added r n old.scalars new.scalars enters q in
+            elim (cases_Bool (scalar_eq s (content_of q))) [
+              | inl same ↦ absurd (let e : None ≡ Some m = sym unknown ∙ ap (number_met f old) ((scalar_eq-Decides s (content_of q)).0 same) ∙ unmet.knows.stored q m has in cc)
+              | inr apart ↦ is ∙ rw apart has
+            ]
+            )
+      ]
+
+      found_now : (m : ℕ) → n ≡ m → (q : Scalar) → s ≡ q → ((t : ScalarRef) → content_of t ≡ q → number_stored new.scalars t ≡ Some m) ⊎ IsSingle f i
+      found_now m is q same = elim entered [
+        | inr alone ↦ inr alone.1
+        | inl enters ↦ inl (λ t e. let yes = (scalar_eq-Decides s (content_of t)).1 (same ∙ sym e) in entered-added r n old.scalars new.scalars enters t ∙ rw yes (ap Some is))
+      ]
+
+      met_now : (q : Scalar) (m : ℕ) → number_met f new q ≡ Some m → IsMet f new q m
+      met_now q m has = elim (cases_Option (number_met f old q)) [
+        | inr had ↦ (
+            let one = unmet.knows.met q m (had.1 ∙ sym (still q had.0 had.1) ∙ has) in
+            record {
+              object = one.object;
+              holds = one.holds;
+              is_kept = beside q m one;
+              some = one.some;
+              found = elim one.found [
+                | inl all ↦ inl (λ t is. found_still t m (all t is))
+                | inr single ↦ inr single
+              ];
+            }
+            )
+        | inl none ↦ (
+            let is = met-added f i old new added s unmet.holds unknown q in
+            elim (cases_Bool (scalar_eq s q)) [
+              | inl same ↦ (
+                  let e = (scalar_eq-Decides s q).0 same in
+                  let numbers : Some n ≡ Some m = sym now ∙ ap (number_met f new) e ∙ has in
+                  let number : n ≡ m = cc in
+                  record {
+                    object = i;
+                    holds = subst (λ (t : Scalar). Holds f i (holds_scalar t)) e unmet.holds;
+                    is_kept = here ∙ number;
+                    some = subst IsNumber number some;
+                    found = found_now m number q e;
+                  }
+                  )
+              | inr apart ↦ absurd (let e : None ≡ Some m = sym (is ∙ rw apart none) ∙ has in cc)
+            ]
+            )
+      ]
+
+      pub knows-more : KnowsScalars f new
+      knows-more = record {
+        listed = keeps.as_many ∙ unmet.knows.listed;
+        alone = alone_now;
+        numbered = elim entered [
+          | inl enters ↦ enters.numbered
+          | inr alone ↦ rw alone.0 unmet.knows.numbered
+        ];
+        each = each_now now still;
+        stored = stored_now;
+        met = met_now;
+      }

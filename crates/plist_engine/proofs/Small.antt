@@ -1,11 +1,11 @@
 -- Natural numbers that are entered, below the limit and from it on.
-use Rattle.std.proofs.Common.{◌≡◌, ◌≢◌, ℕ, ◌<◌, ◌≤◌, Bool, Option, cond, true, false, Some, None, refl, sym, ap, ◌∙◌, inl, inr, nat_eq, nat_le, arith}
+use Rattle.std.proofs.Common.{◌≡◌, ◌≢◌, ℕ, ◌<◌, ◌≤◌, Option, cond, false, Some, None, sym, inl, inr, nat_eq, nat_le, arith}
 use Rattle.std.specs.Option.{option_or}
 use Rattle.std.specs.Cmp.{unsigned_Decides}
 use Rattle.std.proofs.lemmas.Bool.{cases_Bool, le-leb, lt-leb, leb-true, leb-false}
 use Rattle.plist_engine.specs.declared.naturals.Naturals.{Naturals}
 use Rattle.plist_engine.specs.Hashed.{number_of_key, EntersKey}
-use Rattle.plist_engine.specs.Naturals.{number_at, number_of_natural, AreCounted, EntersNatural}
+use Rattle.plist_engine.specs.Naturals.{number_at, AreCounted, EntersNatural}
 use Rattle.plist_engine.proofs.Keys.{or_none, counted-after, number-after}
 
 apart : (n m : ℕ) → n ≢ m → nat_eq n m ≡ false

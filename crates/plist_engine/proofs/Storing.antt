@@ -1,6 +1,5 @@
 -- The numbers of scalars, in the set of natural numbers and among all others.
 use Rattle.std.proofs.Common.{◌≡◌, ◌⊎◌, ℕ, pos, negsuc, Option, cond, false, Some, None, refl, sym, ap, ◌∙◌, inl, inr, nat_eq}
-use Rattle.std.specs.Option.{option_or}
 use Rattle.std.specs.Cmp.{unsigned_Decides}
 use Rattle.std.proofs.lemmas.Bool.{cases_Bool, true≢false}
 use Rattle.plist_value.specs.Plist.{Scalar, text, whole, flag, real4, real8, moment, bytes}

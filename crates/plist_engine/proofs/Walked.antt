@@ -2,24 +2,24 @@
 use Rattle.std.proofs.Common.{◌≡◌, ℕ, ◌+◌, ◌<◌, ◌≤◌, List, [], ◌∷◌, ◌++◌, length, get_or, drop, take, sym, ap, subst, ◌∙◌}
 use Rattle.std.proofs.lemmas.List.{drop_more, drop_all, drop_at, take_at, append-nil}
 use Rattle.plist_value.specs.Plist.{Scalar, scalar, list, table, Items, no_items, item, Pairs, IsScalar}
-use Rattle.plist_object.specs.Objects.{holds_scalar, holds_list, holds_table}
+use Rattle.plist_object.specs.Objects.{holds_list, holds_table}
 use Rattle.plist_object.specs.Places.{Holds}
 use Rattle.plist_object.specs.Spelled.{SpellItems}
 use Rattle.plist_object.proofs.Uniqueness.{same_items}
 use Rattle.plist_engine.specs.Tree.{preorder}
 use Rattle.plist_engine.specs.declared.plan.Plan.{Plan}
 use Rattle.plist_engine.specs.Spelling.{SpellTable, in_turn}
-use Rattle.plist_engine.specs.Plan.{WalksItems, Begins, NumbersScalar, IsWalked, ItemsWalked, AreWalked}
+use Rattle.plist_engine.specs.Plan.{WalksItems, Begins, IsUnmet, NumbersScalar, IsWalked, ItemsWalked, AreWalked}
 use Rattle.plist_engine.proofs.Walking.{Walks-none, Walks-item, Walks-lift}
 use Rattle.plist_engine.proofs.Containers.{Filled, Walks-list, Walks-table}
 use Rattle.plist_engine.proofs.Flat.{flat, spell-flat, valid-flat, length-keys}
 
-pub walked-scalar : {S H : Type 0} → (f : List ℕ) (i : ℕ) (s : Scalar) (old new : Plan S H) (number : ℕ) → Holds f i (holds_scalar s) → IsScalar s → NumbersScalar i s old new number → IsWalked f i old new number
-walked-scalar f i s old new number holds valid numbers = record {
+pub walked-scalar : {S H : Type 0} → (f : List ℕ) (i : ℕ) (s : Scalar) (old new : Plan S H) (number : ℕ) → IsUnmet f i s old → IsScalar s → NumbersScalar f i s old new number → IsWalked f i old new number
+walked-scalar f i s old new number unmet valid numbers = record {
   value = scalar s;
   valid = valid;
-  spells = holds;
-  walks = numbers.walks f holds;
+  spells = unmet.holds;
+  walks = numbers.walks unmet;
   references = [];
   references_added = numbers.references_kept ∙ sym (append-nil _);
 }
@@ -64,15 +64,15 @@ walked-table f i keys values rows ps old mid done number first as_many spell at_
     }
 
 -- one value more is walked
-pub walked-next : {S H : Type 0} → (f start : List ℕ) (i x : ℕ) (plan mid next new : Plan S H) (n : ℕ) (numbers : List ℕ) → i < length start → x ≡ get_or start i 0 → length start ≤ length plan.references.items → IsWalked f x plan mid n → next.scalars ≡ mid.scalars → next.originals ≡ mid.originals → drop (length start) next.references.items ≡ drop (length start) mid.references.items → ItemsWalked f (length start) (drop (i + 1) start) next new numbers → ItemsWalked f (length start) (drop i start) plan new (n ∷ numbers)
-walked-next f start i x plan mid next new n numbers h is within one same_scalars same_originals same_references rest =
+pub walked-next : {S H : Type 0} → (f start : List ℕ) (i x : ℕ) (plan mid next new : Plan S H) (n : ℕ) (numbers : List ℕ) → i < length start → x ≡ get_or start i 0 → length start ≤ length plan.references.items → IsWalked f x plan mid n → next.originals ≡ mid.originals → drop (length start) next.references.items ≡ drop (length start) mid.references.items → ItemsWalked f (length start) (drop (i + 1) start) next new numbers → ItemsWalked f (length start) (drop i start) plan new (n ∷ numbers)
+walked-next f start i x plan mid next new n numbers h is within one same_originals same_references rest =
     let v = one.value in
     let split : drop i start ≡ x ∷ drop (i + 1) start = drop_more start i 0 h ∙ ap (λ y. y ∷ drop (i + 1) start) (sym is) in
     record {
       items = item v rest.items;
       valid = (one.valid, rest.valid);
       spell = subst (λ (refs : List ℕ). SpellItems f refs (item v rest.items)) (sym split) (one.spells, rest.spell);
-      walks = Walks-item f (length start) v rest.items plan next new n numbers (Walks-lift f (length start) (preorder v) (λ k. k ∷ []) plan mid next (n ∷ []) one.walks within same_scalars same_originals same_references) rest.walks;
+      walks = Walks-item f (length start) v rest.items plan next new n numbers (Walks-lift f (length start) (preorder v) (λ k. k ∷ []) plan mid next (n ∷ []) one.walks within same_originals same_references) rest.walks;
     }
 
 -- none is left

@@ -5,20 +5,17 @@ use Rattle.std.proofs.lemmas.List.{map-append, append-nil}
 use Rattle.plist_value.specs.Plist.{Scalar, Plist, scalar, Items, item}
 use Rattle.plist_value.specs.Equality.{scalar_eq}
 use Rattle.plist_value.specs.EqualityLaws.{scalar_eq-Decides}
-use Rattle.plist_value.specs.Scalars.{content_of}
-use Rattle.plist_value.specs.declared.scalar_ref.ScalarRef.{ScalarRef}
 use Rattle.plist_object.specs.Objects.{holds_scalar}
 use Rattle.plist_object.specs.Places.{Holds}
 use Rattle.plist_engine.specs.Tree.{preorder, preorder_items, item_places}
 use Rattle.plist_engine.specs.Sharing.{least_place, first_place, kept_from, kept_places, count_below, value_at}
 use Rattle.plist_engine.specs.Found.{Stands, held_at, number_in, found_in, number_known}
 use Rattle.plist_engine.specs.declared.plan.Plan.{Plan}
-use Rattle.plist_engine.specs.Scalars.{number_stored, AreNumbered, EntersScalar}
-use Rattle.plist_engine.specs.Plan.{IsReady, Grows, Adds, Walks, WalksTree, WalksScalar, WalksItems, IsEmptyPlan, StandFor}
+use Rattle.plist_engine.specs.Plan.{number_from, number_met, IsReady, Grows, Adds, Walks, WalksTree, WalksScalar, WalksItems, IsEmptyPlan, StandFor}
 use Rattle.plist_engine.proofs.Numbering.{least_place-le, count_below-none}
 use Rattle.plist_engine.proofs.Trees.{length-preorder, Stands-front, Stands-rest, Stands-head, Stands-all}
 use Rattle.plist_engine.proofs.Counting.{count-kept, count-shared, least_place-at, known-still, known-now}
-use Rattle.plist_engine.proofs.Storing.{entered-had, entered-kept, entered-unknown, entered-added}
+use Rattle.plist_engine.proofs.Meeting.{met-added}
 use Rattle.plist_engine.proofs.Growing.{Grows-none, Grows-append, Grows-lift, Grows-scalar}
 
 -- what is found in one part, and then in another
@@ -48,7 +45,7 @@ pub Adds-append : {S H : Type 0} → (f : List ℕ) (front : ℕ) (all : List Pl
 Adds-append f front all k old mid new xs ys x y =
     let far : k + length xs + length ys ≡ k + length (xs ++ ys) = rw length-append (omega arith) in
     record {
-      ready = subst (λ (n : ℕ). IsReady all n new) far y.ready;
+      ready = subst (λ (n : ℕ). IsReady f all n new) far y.ready;
       grows = rw found_in-append (Grows-append f front old mid new (found_in all k xs) (found_in all (k + length xs) ys) x.grows y.grows);
     }
 
@@ -65,15 +62,14 @@ Walks-append f front xs ys p q r old mid new ms ns joined x y = record {
 }
 
 -- a plan with other references in front
-pub Walks-lift : {S H : Type 0} → (f : List ℕ) (front : ℕ) (part : List Plist) (places : ℕ → List ℕ) (old mid new : Plan S H) (ns : List ℕ) → Walks f 0 part places old mid ns → front ≤ length old.references.items → new.scalars ≡ mid.scalars → new.originals ≡ mid.originals → drop front new.references.items ≡ drop front mid.references.items → Walks f front part places old new ns
-Walks-lift f front part places old mid new ns x within same_scalars same_originals same_references = record {
+pub Walks-lift : {S H : Type 0} → (f : List ℕ) (front : ℕ) (part : List Plist) (places : ℕ → List ℕ) (old mid new : Plan S H) (ns : List ℕ) → Walks f 0 part places old mid ns → front ≤ length old.references.items → new.originals ≡ mid.originals → drop front new.references.items ≡ drop front mid.references.items → Walks f front part places old new ns
+Walks-lift f front part places old mid new ns x within same_originals same_references = record {
   numbered = x.numbered;
   adds = λ all k stands ready.
       let done = x.adds all k stands ready in
       record {
         ready = record {
-          numbered = rw same_scalars done.ready.numbered;
-          known = λ q. rw same_scalars (done.ready.known q);
+          known = λ q. ap (λ originals. number_from f 0 originals.items q) same_originals ∙ done.ready.known q;
           counted = rw same_originals done.ready.counted;
         };
         grows = Grows-lift f front old mid new (found_in all k part) done.grows within same_originals same_references;
@@ -113,23 +109,19 @@ module _ (s : Scalar) (all : List Plist) (k : ℕ) (stands : Stands all k (scala
       ]
 
 -- a scalar that is known
-pub Walks-known : {S H : Type 0} → (f : List ℕ) (r : ScalarRef) (old new : Plan S H) (n next : ℕ) → (AreNumbered old.scalars → EntersScalar r next old.scalars new.scalars (Some n)) → new.originals ≡ old.originals → new.references ≡ old.references → WalksScalar f 0 (content_of r) old new n
-Walks-known f r old new n next entered same_originals same_references = record {
+pub Walks-known : {S H : Type 0} → (f : List ℕ) (s : Scalar) (old new : Plan S H) (n : ℕ) → number_met f old s ≡ Some n → new.originals ≡ old.originals → new.references ≡ old.references → WalksScalar f 0 s old new n
+Walks-known f s old new n met same_originals same_references = record {
   numbered = λ all k stands ready.
-      let held = entered-had r next n old.scalars new.scalars (entered ready.numbered) in
-      let known = known-before (content_of r) all k stands n (sym (ready.known r) ∙ held) in
-      let is = number_is (content_of r) all k stands in
+      let known = known-before s all k stands n (sym (ready.known s) ∙ met) in
+      let is = number_is s all k stands in
       let e : n ≡ number_in all k = known.1 ∙ sym is in
       ap (λ m. m ∷ []) e;
   adds = λ all k stands ready.
-      let s = content_of r in
-      let enters = entered ready.numbered in
-      let held = entered-had r next n old.scalars new.scalars enters in
-      let known = known-before s all k stands n (sym (ready.known r) ∙ held) in
+      let known = known-before s all k stands n (sym (ready.known s) ∙ met) in
       let at = here s all k stands in
       let below = known.0 in
-      let apart : (q : ScalarRef) → least_place (content_of q) all ≡ k → ⊥ =
-      λ q e. let same = same_scalar s all k stands (content_of q) e in let e2 : least_place s all ≡ k = rw same at e in omega arith in
+      let apart : (q : Scalar) → least_place q all ≡ k → ⊥ =
+      λ q e. let same = same_scalar s all k stands q e in let e2 : least_place s all ≡ k = rw same at e in omega arith in
       let later : least_place s all ≡ k → ⊥ = λ (e : least_place s all ≡ k). omega arith in
       let nothing : Grows f 0 old new [] = record {
         originals = [];
@@ -140,8 +132,7 @@ Walks-known f r old new n next entered same_originals same_references = record {
       } in
       record {
         ready = rw add-one (record {
-          numbered = enters.numbered;
-          known = λ q. entered-kept r next n old.scalars new.scalars enters q ∙ (ready.known q ∙ sym (known-still all k (content_of q) (apart q)));
+          known = λ q. ap (λ originals. number_from f 0 originals.items q) same_originals ∙ (ready.known q ∙ sym (known-still all k q (apart q)));
           counted = rw same_originals (ready.counted ∙ sym (count-shared all k (scalar s) at.0 at.1 below));
         });
         grows = rw (ne_eqb (least_place s all) k later) nothing;
@@ -149,31 +140,27 @@ Walks-known f r old new n next entered same_originals same_references = record {
 }
 
 -- one that is new, which is put last
-pub Walks-new : {S H : Type 0} → (f : List ℕ) (r : ScalarRef) (i : ℕ) (old new : Plan S H) (n : ℕ) → Holds f i (holds_scalar (content_of r)) → (AreNumbered old.scalars → EntersScalar r n old.scalars new.scalars None) → n ≡ length old.originals.items → new.originals.items ≡ old.originals.items ++ (i ∷ []) → new.references ≡ old.references → WalksScalar f 0 (content_of r) old new n
-Walks-new f r i old new n holds entered last added same_references =
-    let s = content_of r in
+pub Walks-new : {S H : Type 0} → (f : List ℕ) (s : Scalar) (i : ℕ) (old new : Plan S H) (n : ℕ) → Holds f i (holds_scalar s) → number_met f old s ≡ None → n ≡ length old.originals.items → new.originals.items ≡ old.originals.items ++ (i ∷ []) → new.references ≡ old.references → WalksScalar f 0 s old new n
+Walks-new f s i old new n holds unknown last added same_references =
     let long : length new.originals.items ≡ suc (length old.originals.items) = ap length added ∙ length-append old.originals.items (i ∷ []) ∙ add-one _ in
     record {
       numbered = λ all k stands ready.
-          let enters = entered ready.numbered in
-          let first = unknown-first s all k stands (sym (ready.known r) ∙ entered-unknown r n old.scalars new.scalars enters) in
+          let first = unknown-first s all k stands (sym (ready.known s) ∙ unknown) in
           let is = number_is s all k stands in
           let e : n ≡ number_in all k = last ∙ ready.counted ∙ ap (λ m. count_below m (kept_places all)) (sym first) ∙ sym is in
           ap (λ m. m ∷ []) e;
       adds = λ all k stands ready.
-          let enters = entered ready.numbered in
-          let first = unknown-first s all k stands (sym (ready.known r) ∙ entered-unknown r n old.scalars new.scalars enters) in
+          let first = unknown-first s all k stands (sym (ready.known s) ∙ unknown) in
           let at = here s all k stands in
-          let number : n ≡ count_below k (kept_places all) = last ∙ ready.counted in
-          let knows : (q : ScalarRef) → number_stored new.scalars q ≡ cond (scalar_eq s (content_of q)) (Some n) (number_stored old.scalars q) = entered-added r n old.scalars new.scalars enters in
-          let now : (q : ScalarRef) → number_stored new.scalars q ≡ number_known all (suc k) (content_of q) =
-          λ q. elim (cases_Bool (scalar_eq s (content_of q))) [
-            | inl same ↦ (let e : s ≡ content_of q = (scalar_eq-Decides s (content_of q)).0 same in let firstq : least_place (content_of q) all ≡ k = ap (λ x. least_place x all) (sym e) ∙ first in knows q ∙ rw same (ap Some number) ∙ sym (known-now all k (content_of q) firstq))
-            | inr other ↦ knows q ∙ rw other (ready.known q) ∙ sym (known-still all k (content_of q) (λ e. let same = same_scalar s all k stands (content_of q) e in let yes = (scalar_eq-Decides s (content_of q)).1 (sym same) in true≢false (sym yes ∙ other)))
+          let number : length old.originals.items ≡ count_below k (kept_places all) = ready.counted in
+          let knows : (q : Scalar) → number_met f new q ≡ cond (scalar_eq s q) (Some (length old.originals.items)) (number_met f old q) = met-added f i old new added s holds unknown in
+          let now : (q : Scalar) → number_met f new q ≡ number_known all (suc k) q =
+          λ q. elim (cases_Bool (scalar_eq s q)) [
+            | inl same ↦ (let e : s ≡ q = (scalar_eq-Decides s q).0 same in let firstq : least_place q all ≡ k = ap (λ x. least_place x all) (sym e) ∙ first in knows q ∙ rw same (ap Some number) ∙ sym (known-now all k q firstq))
+            | inr other ↦ knows q ∙ rw other (ready.known q) ∙ sym (known-still all k q (λ e. let same = same_scalar s all k stands q e in let yes = (scalar_eq-Decides s q).1 (sym same) in true≢false (sym yes ∙ other)))
           ] in
           record {
             ready = rw add-one (record {
-              numbered = enters.numbered;
               known = now;
               counted = long ∙ ap suc ready.counted ∙ sym (count-kept all k (scalar s) at.0 at.1 first);
             });
@@ -189,9 +176,8 @@ Walks-item f front v vs old mid new n ns x y =
 pub Walks-whole : {S H : Type 0} → (f : List ℕ) (v : Plist) (empty done : Plan S H) (n : ℕ) → IsEmptyPlan empty → WalksTree f 0 v empty done n → StandFor f done.originals.items done.references.items (found_in (preorder v) 0 (preorder v))
 Walks-whole f v empty done n nothing walks =
     let all = preorder v in
-    let start : IsReady all 0 empty = record {
-      numbered = nothing.scalars.numbered;
-      known = λ q. nothing.scalars.unknown q ∙ rw (le-ltb (least_place (content_of q) all) 0 (omega arith)) refl;
+    let start : IsReady f all 0 empty = record {
+      known = λ q. ap (λ originals. number_from f 0 originals q) nothing.none ∙ rw (le-ltb (least_place q all) 0 (omega arith)) refl;
       counted = ap length nothing.none ∙ sym (count_below-none all all 0 0 (omega arith));
     } in
     let adds = walks.adds all 0 (Stands-all all) start in

@@ -16,6 +16,9 @@ pub mod Hashed
 pub mod Naturals
 pub mod Numbered
 pub mod Scalars
+pub mod Bits
+pub mod Sieve
+pub mod Memo
 pub mod Plan
 pub mod Order
 pub mod Parts

@@ -1,17 +1,22 @@
 -- The walk that plans a canonical file over the objects of another file.
-use Rattle.std.specs.Prelude.{◌≡◌, ◌⊎◌, ℕ, ◌+◌, List, [], ◌∷◌, ◌++◌, length, map, drop, take, slice_index_or, Some}
+use Rattle.std.specs.Prelude.{◌≡◌, ◌⊎◌, ℕ, suc, ◌+◌, ◌≤◌, Bool, false, if◌then◌else◌, List, [], ◌∷◌, ◌++◌, length, map, drop, take, Option, Some, None, Result, Ok, Err}
 use Rattle.plist_value.specs.Plist.{Scalar, Plist, scalar, Items, IsPlist, AreItems}
+use Rattle.plist_value.specs.Equality.{scalar_eq}
 use Rattle.plist_value.specs.Scalars.{content_of}
 use Rattle.plist_value.specs.declared.scalar_ref.ScalarRef.{ScalarRef}
 use Rattle.plist_object.specs.Objects.{Held, holds_scalar, holds_list, holds_table}
-use Rattle.plist_object.specs.Places.{Holds}
+use Rattle.plist_object.specs.Layout.{trailer_of}
+use Rattle.plist_object.specs.Places.{Holds, what_holds}
+use Rattle.plist_object.specs.declared.object.ObjectFault.{ObjectFault}
 use Rattle.plist_object.specs.References.{references_of}
 use Rattle.plist_object.specs.Spelled.{Spells, SpellItems}
 use Rattle.plist_engine.specs.Tree.{preorder, preorder_items, item_places}
 use Rattle.plist_engine.specs.Sharing.{kept_places, count_below}
 use Rattle.plist_engine.specs.Found.{Stands, number_in, found_in, number_known}
-use Rattle.plist_engine.specs.Naturals.{no_number}
-use Rattle.plist_engine.specs.Scalars.{number_stored, AreNew, AreNumbered}
+use Rattle.plist_engine.specs.Memo.{single, kept, IsNumber, IsSingle}
+use Rattle.plist_engine.specs.Scalars.{number_stored, AreNumbered, EntersScalar}
+use Rattle.plist_engine.specs.declared.scalars.Scalars.{Scalars}
+use Rattle.plist_engine.specs.declared.memo.Memo.{Memo}
 use Rattle.plist_engine.specs.declared.plan.Objects.{Objects}
 use Rattle.plist_engine.specs.declared.plan.Plan.{Plan}
 
@@ -32,17 +37,33 @@ StandFor f (i ∷ originals) refs [] = ⊥
 StandFor f (i ∷ originals) refs (h ∷ hs) =
     IsLike f i h × ((behind : List ℕ) × ((refs ≡ references_of h ++ behind) × StandFor f originals behind hs))
 
+-- whether this is what an object holds
+abbrev pub is_held : Scalar → Result Held ObjectFault → Bool
+is_held s (Ok (holds_scalar t)) = scalar_eq t s
+is_held s (Ok (holds_list refs)) = false
+is_held s (Ok (holds_table keys values)) = false
+is_held s (Err fault) = false
+
+-- the number of the first object that holds the scalar, if one does, where the first has the
+-- number n
+abbrev pub number_from : List ℕ → ℕ → List ℕ → Scalar → Option ℕ
+number_from f n [] s = None
+number_from f n (i ∷ originals) s =
+    if is_held s (what_holds f i) then Some n else number_from f (suc n) originals s
+
+-- the number of the scalar among the objects so far, if it was found
+abbrev pub number_met : {S H : Type 0} → List ℕ → Plan S H → Scalar → Option ℕ
+number_met f plan s = number_from f 0 plan.originals.items s
+
 -- nothing was found
 pub record IsEmptyPlan {S H : Type 0} (plan : Plan S H) : Type 0 where
-  pub scalars : AreNew plan.scalars
   pub none : plan.originals.items ≡ []
   pub no_references : plan.references.items ≡ []
 
 -- the places below k are done: each scalar there is known by its number, and so many objects were
 -- found
-pub record IsReady {S H : Type 0} (all : List Plist) (k : ℕ) (plan : Plan S H) : Type 0 where
-  pub numbered : AreNumbered plan.scalars
-  pub known : (s : ScalarRef) → number_stored plan.scalars s ≡ number_known all k (content_of s)
+pub record IsReady {S H : Type 0} (f : List ℕ) (all : List Plist) (k : ℕ) (plan : Plan S H) : Type 0 where
+  pub known : (s : Scalar) → number_met f plan s ≡ number_known all k s
   pub counted : length plan.originals.items ≡ count_below k (kept_places all)
 
 -- What these objects hold was added. Of the references only those behind the front are looked at.
@@ -55,14 +76,14 @@ pub record Grows {S H : Type 0} (f : List ℕ) (front : ℕ) (old new : Plan S H
 
 -- the list `part`, which stands at the place k, was done
 pub record Adds {S H : Type 0} (f : List ℕ) (front : ℕ) (all : List Plist) (k : ℕ) (part : List Plist) (old new : Plan S H) : Type 0 where
-  pub ready : IsReady all (k + length part) new
+  pub ready : IsReady f all (k + length part) new
   pub grows : Grows f front old new (found_in all k part)
 
 -- The list `part` was done, wherever it stands, and these are the numbers of the places, which are
 -- counted from its own.
 pub record Walks {S H : Type 0} (f : List ℕ) (front : ℕ) (part : List Plist) (places : ℕ → List ℕ) (old new : Plan S H) (numbers : List ℕ) : Type 0 where
-  pub numbered : (all : List Plist) (k : ℕ) → Stands all k part → IsReady all k old → numbers ≡ map (number_in all) (places k)
-  pub adds : (all : List Plist) (k : ℕ) → Stands all k part → IsReady all k old → Adds f front all k part old new
+  pub numbered : (all : List Plist) (k : ℕ) → Stands all k part → IsReady f all k old → numbers ≡ map (number_in all) (places k)
+  pub adds : (all : List Plist) (k : ℕ) → Stands all k part → IsReady f all k old → Adds f front all k part old new
 
 abbrev pub WalksOne : {S H : Type 0} → List ℕ → ℕ → List Plist → Plan S H → Plan S H → ℕ → Type 0
 WalksOne f front part old new number = Walks f front part (λ k. k ∷ []) old new (number ∷ [])
@@ -86,34 +107,44 @@ pub record Begins {S H : Type 0} (i : ℕ) (refs : List ℕ) (old new : Plan S H
 
 -- the object holds a scalar that has the number
 pub record IsRemembered {S H : Type 0} (f : List ℕ) (plan : Plan S H) (i number : ℕ) : Type 0 where
-  pub shown : ScalarRef
-  pub holds : Holds f i (holds_scalar (content_of shown))
-  pub held : number_stored plan.scalars shown ≡ Some number
+  pub shown : Scalar
+  pub holds : Holds f i (holds_scalar shown)
+  pub met : number_met f plan shown ≡ Some number
 
--- what the memo has of an object
-abbrev pub remembered : {S H : Type 0} → Plan S H → ℕ → ℕ
-remembered plan i = slice_index_or plan.memo.items i no_number
+-- The scalar was met as that of an object, of which the number is kept. The set has it, or no other
+-- object holds it.
+pub record IsMet {S H : Type 0} (f : List ℕ) (plan : Plan S H) (s : Scalar) (number : ℕ) : Type 0 where
+  pub object : ℕ
+  pub holds : Holds f object (holds_scalar s)
+  pub is_kept : kept plan.memo object ≡ number
+  pub some : IsNumber number
+  pub found : ((r : ScalarRef) → content_of r ≡ s → number_stored plan.scalars r ≡ Some number) ⊎ IsSingle f object
 
--- the number of the object may be this one now, and all others are as before
-abbrev pub KeepsNumber : ℕ → ℕ → List ℕ → List ℕ → Type 0
-KeepsNumber i number old new =
-    (j : ℕ) → (slice_index_or new j no_number ≡ slice_index_or old j no_number) ⊎ ((j ≡ i) × (slice_index_or new j no_number ≡ number))
-
--- each number of the memo is that of the scalar that the object holds
-pub record RemembersNumbers {S H : Type 0} (f : List ℕ) (plan : Plan S H) : Type 0 where
+-- The memo and the set have numbers of the objects so far alone, and each scalar among these was
+-- met.
+pub record KnowsScalars {S H : Type 0} (f : List ℕ) (plan : Plan S H) : Type 0 where
+  pub listed : length plan.memo.numbers.items ≡ (trailer_of f).count
   pub numbered : AreNumbered plan.scalars
-  pub each : (i : ℕ) → (remembered plan i ≡ no_number → ⊥) → IsRemembered f plan i (remembered plan i)
+  pub each : (i : ℕ) → IsNumber (kept plan.memo i) → IsRemembered f plan i (kept plan.memo i)
+  pub alone : (i : ℕ) → kept plan.memo i ≡ single → IsSingle f i
+  pub stored : (r : ScalarRef) (n : ℕ) → number_stored plan.scalars r ≡ Some n → number_met f plan (content_of r) ≡ Some n
+  pub met : (s : Scalar) (n : ℕ) → number_met f plan s ≡ Some n → IsMet f plan s n
 
--- The scalar has the number now, and each that had one has it still.
-pub record KeepsScalar {S H : Type 0} (shown : ScalarRef) (old new : Plan S H) (number : ℕ) : Type 0 where
-  pub memo_kept : new.memo ≡ old.memo
-  pub numbered : AreNumbered old.scalars → AreNumbered new.scalars
-  pub found : AreNumbered old.scalars → number_stored new.scalars shown ≡ Some number
-  pub still : AreNumbered old.scalars → (s : ScalarRef) (n : ℕ) → number_stored old.scalars s ≡ Some n → number_stored new.scalars s ≡ Some n
+-- the object, which holds the scalar, was not met
+pub record IsUnmet {S H : Type 0} (f : List ℕ) (i : ℕ) (s : Scalar) (plan : Plan S H) : Type 0 where
+  pub knows : KnowsScalars f plan
+  pub holds : Holds f i (holds_scalar s)
+  pub unmet : single ≤ kept plan.memo i
 
--- A scalar was numbered that an object of a file holds.
-pub record NumbersScalar {S H : Type 0} (i : ℕ) (s : Scalar) (old new : Plan S H) (number : ℕ) : Type 0 where
-  pub walks : (f : List ℕ) → Holds f i (holds_scalar s) → WalksScalar f 0 s old new number
+-- The scalar that the object holds was entered in the set, or nothing was, since no other object
+-- holds it.
+abbrev pub MeetsScalar : {S H : Type 0} → Memo → ℕ → ScalarRef → ℕ → Scalars S H → Scalars S H → Option ℕ → Type 0
+MeetsScalar memo i r next old new had =
+    (AreNumbered old → EntersScalar r next old new had) ⊎ ((had ≡ None) × ((new ≡ old) × (kept memo i ≡ single)))
+
+-- The scalar was numbered, which the object holds.
+pub record NumbersScalar {S H : Type 0} (f : List ℕ) (i : ℕ) (s : Scalar) (old new : Plan S H) (number : ℕ) : Type 0 where
+  pub walks : IsUnmet f i s old → WalksScalar f 0 s old new number
   pub references_kept : new.references.items ≡ old.references.items
 
 -- the value that the object spells was walked, and references were only added

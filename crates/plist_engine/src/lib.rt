@@ -3,10 +3,12 @@
 #![tactic(auto)]
 
 mod ahead;
+mod bits;
 pub mod faults;
 mod hashed;
 pub mod laws;
 mod making;
+mod memo;
 mod naturals;
 mod numbered;
 pub mod objects;
@@ -17,6 +19,8 @@ mod plan;
 mod putting;
 pub mod scalars;
 pub mod sending;
+pub mod sieve;
+mod sifting;
 mod walk;
 
 pub use faults::WriteFault;
@@ -25,3 +29,4 @@ pub use pending::{Pending, flush};
 pub use plist_devices::{DeviceFault, ListSink, Sink};
 pub use scalars::{Scalars, natural_in};
 pub use sending::{write_canonical_of, write_canonical_of_sorted, write_canonical_of_with_hasher};
+pub use sieve::Sieve;

@@ -29,7 +29,7 @@ struct Listed<'a> {
 #[derive(Drop)]
 pub(crate) struct Numbered<'a, S: BuildHasher> {
     listed: Vec<Listed<'a>>,
-    hashed: Hashed<ScalarRef<'a>, S>,
+    pub(crate) hashed: Hashed<ScalarRef<'a>, S>,
 }
 
 impl<'a, S: BuildHasher> Numbered<'a, S> {
@@ -96,7 +96,8 @@ impl<'a, S: BuildHasher> Numbered<'a, S> {
     }
 }
 
-fn is_long_data(scalar: ScalarRef) -> bool
+/// Whether the scalar is data that take long to hash.
+pub(crate) fn is_long_data(scalar: ScalarRef) -> bool
     ensures { result ≡ is_long (content_of scalar.entry) }
 {
     match scalar {

@@ -1,17 +1,15 @@
 //! The objects of the canonical file, in the order of their numbers, as they are found in a file.
-ghost use Rattle.std.specs.Prelude.{◌≡◌, ℕ, List, length, IfOk, IfSome, OnOk};
+ghost use Rattle.std.specs.Prelude.{◌≡◌, ℕ, List, length, IfOk, OnOk};
 ghost use Rattle.plist_value.specs.Scalars.{content_of};
 ghost use Rattle.plist_value.specs.Plist.{Pairs};
-ghost use Rattle.plist_object.specs.Objects.{holds_scalar};
-ghost use Rattle.plist_object.specs.Places.{Holds};
 ghost use Rattle.plist_object.specs.Views.{numbers_of, octets_of};
+ghost use Rattle.plist_engine.specs.Memo.{IsNumber};
 ghost use Rattle.plist_engine.specs.Order.{IsOrdered};
 ghost use Rattle.plist_engine.specs.Spelling.{IsTable, SpellTable, in_turn};
-ghost use Rattle.plist_engine.specs.Plan.{Begins, IsEmptyPlan, NumbersScalar};
-ghost use Rattle.plist_engine.specs.Plan.{KeepsNumber, KeepsScalar, IsRemembered, RemembersNumbers};
-ghost use Rattle.plist_engine.specs.Plan.{remembered};
+ghost use Rattle.plist_engine.specs.Plan.{Begins, IsEmptyPlan, IsUnmet};
+ghost use Rattle.plist_engine.specs.Plan.{KnowsScalars, MeetsScalar, NumbersScalar};
 
-use crate::naturals::NO_NUMBER;
+use crate::memo::{Memo, SINGLE};
 use crate::order::{KeyOrder, push_all};
 use crate::putting::short;
 use crate::scalars::Scalars;
@@ -28,70 +26,65 @@ pub(crate) struct Objects {
     pub(crate) references: Vec<u32>,
 }
 
-/// The objects so far, and the scalars among them with their numbers. Beside them stands a memo:
-/// the number of each object of the file that was met as a scalar which had one. It is made when
-/// there is the first: most scalars are met once.
+/// The objects so far, and a memo: the number of each object of the file that was met as a scalar.
+/// A set has the scalars among them, but for those of which the memo tells that no other object
+/// holds them.
 #[derive(Drop)]
 pub(crate) struct Plan<'a, S: BuildHasher> {
+    hasher: S,
     scalars: Scalars<'a, S>,
-    count: u64,
-    memo: Vec<u32>,
+    pub(crate) memo: Memo,
     originals: Vec<u32>,
     pub(crate) references: Vec<u32>,
 }
 
 impl<'a, S: BuildHasher + Copy> Plan<'a, S> {
-    /// Nothing was found of a file of so many objects. There is room for what most files take, and
-    /// for no more than a value within the limits has; where it is not used it costs nothing.
-    pub(crate) fn new(alloc: Global, hasher: S, count: u64) -> Result<Plan<'a, S>, AllocError>
+    /// Nothing was found of the file. There is room for what most files take, and for no more than
+    /// a value within the limits has; where it is not used it costs nothing.
+    pub(crate) fn new(alloc: Global, hasher: S, file: &BinFile) -> Result<Plan<'a, S>, AllocError>
         ensures empty { IfOk result IsEmptyPlan }
-        ensures memo { IfOk result (λ plan. (i : ℕ) → remembered plan i ≡ NO_NUMBER) }
+        ensures knows { IfOk result (KnowsScalars (octets_of file.now)) }
     {
-        let objects = count.min(MAX_NODES);
+        let objects = file.count().min(MAX_NODES);
         let references = objects.saturating_mul(4).min(MAX_NODES);
+        let memo = Memo::new(alloc, file.count())?;
         let originals = Vec::with_capacity(alloc, objects as usize)?;
         let references = Vec::with_capacity(alloc, references as usize)?;
         Ok(Plan {
+            hasher,
             scalars: Scalars::new(alloc, hasher, objects as usize),
-            count,
-            memo: Vec::new(alloc),
+            memo,
             originals,
             references,
         })
     }
 
-    /// The number of the scalar that the object holds, if it was met before.
-    pub(crate) fn number_of(&self, object: u64) -> Option<u32>
-        ensures { IfSome result (λ number. (f : List ℕ) → RemembersNumbers f self.now
-            → IsRemembered f self.now object number) }
+    /// The number of the scalar that the object holds, which was not met before: that of an equal
+    /// one, or a new one.
+    pub(crate) fn scalar(
+        &mut self,
+        alloc: Global,
+        file: &BinFile,
+        object: u64,
+        scalar: ScalarRef<'a>,
+    ) -> Result<u32, AllocError>
+        ensures numbers { IfOk result (NumbersScalar (octets_of file.now) object
+            (content_of scalar.entry) self.old self.new) }
+        ensures knows { OnOk result
+            (IsUnmet (octets_of file.now) object (content_of scalar.entry) self.old
+            → KnowsScalars (octets_of file.now) self.new) }
     {
-        let place = object as usize;
-        if place >= self.memo.len() {
-            return None;
-        }
-        let number = self.memo[place];
-        if number == NO_NUMBER {
-            return None;
-        }
-        Some(number)
-    }
-
-    /// The number of the scalar that the object holds, which is kept for the next time if it is not
-    /// new.
-    pub(crate) fn scalar(&mut self, object: u64, scalar: ScalarRef<'a>) -> Result<u32, AllocError>
-        ensures numbers { IfOk result
-            (NumbersScalar object (content_of scalar.entry) self.old self.new) }
-        ensures memo { OnOk result ((f : List ℕ)
-            → Holds f object (holds_scalar (content_of scalar.entry))
-            → RemembersNumbers f self.old → RemembersNumbers f self.new) }
-    {
-        let found = self.originals.len();
-        let number = self.enter(object, scalar)?;
-        if self.originals.len() > found {
+        self.memo
+            .sift(alloc, &self.hasher, file, self.scalars.len())?;
+        let next = self.next_number()?;
+        if let Some(number) = meet(&self.memo, &mut self.scalars, object, scalar, next)? {
+            self.memo.keep(object, number);
             return Ok(number);
         }
-        remember(&mut self.memo, self.count, object, number)?;
-        Ok(number)
+        let original = short(object)?;
+        self.originals.push(original)?;
+        self.memo.keep(object, next);
+        Ok(next)
     }
 
     /// The objects alone; the scalars and the memo are given up.
@@ -105,26 +98,16 @@ impl<'a, S: BuildHasher + Copy> Plan<'a, S> {
         }
     }
 
-    // The number of the scalar that the object holds: that of an equal one, or a new one.
-    fn enter(&mut self, object: u64, scalar: ScalarRef<'a>) -> Result<u32, AllocError>
-        ensures numbers { IfOk result
-            (NumbersScalar object (content_of scalar.entry) self.old self.new) }
-        ensures enters { IfOk result (KeepsScalar scalar.entry self.old self.new) }
-    {
-        let next = self.next_number()?;
-        if let Some(number) = self.scalars.enter(scalar, next)? {
-            return Ok(number);
-        }
-        let original = short(object)?;
-        self.originals.push(original)?;
-        Ok(next)
-    }
-
     // The number of the next object.
     fn next_number(&self) -> Result<u32, AllocError>
-        ensures { IfOk result (λ number. number ≡ length self.now.originals.items) }
+        ensures is { IfOk result (λ number. number ≡ length self.now.originals.items) }
+        ensures some { IfOk result IsNumber }
     {
-        short(self.originals.len() as u64)
+        let number = short(self.originals.len() as u64)?;
+        if number >= SINGLE {
+            return Err(AllocError);
+        }
+        Ok(number)
     }
 
     /// The number of a list, whose references are put behind the references.
@@ -165,16 +148,20 @@ impl<'a, S: BuildHasher + Copy> Plan<'a, S> {
     }
 }
 
-// Keeps the number of the object, which is one of so many.
-fn remember(memo: &mut Vec<u32>, count: u64, object: u64, number: u32) -> Result<(), AllocError>
-    ensures { OnOk result (KeepsNumber object number memo.old.items memo.new.items) }
+// The number of the scalar, where an equal one was met. Else it is met under the next number from
+// now on, unless no other object holds an equal one.
+fn meet<'a, S: BuildHasher + Copy>(
+    memo: &Memo,
+    scalars: &mut Scalars<'a, S>,
+    object: u64,
+    scalar: ScalarRef<'a>,
+    next: u32,
+) -> Result<Option<u32>, AllocError>
+    ensures { IfOk result
+        (MeetsScalar memo.now object scalar.entry next scalars.old scalars.new) }
 {
-    if memo.is_empty() {
-        memo.resize(count as usize, NO_NUMBER)?;
+    if memo.is_single(object) {
+        return Ok(None);
     }
-    let place = object as usize;
-    if place < memo.len() {
-        memo[place] = number;
-    }
-    Ok(())
+    scalars.enter(scalar, next)
 }

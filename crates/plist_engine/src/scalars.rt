@@ -31,6 +31,12 @@ impl<'a, S: BuildHasher + Copy> Scalars<'a, S> {
         }
     }
 
+    /// How many stand in a set.
+    pub(crate) fn len(&self) -> usize {
+        let naturals = self.naturals.large.numbers.len();
+        naturals.saturating_add(self.others.hashed.numbers.len())
+    }
+
     /// The number that the scalar has, if it has one. Else it has the next number from now on,
     /// which is below 2^32 - 1.
     ///

@@ -6,9 +6,11 @@ ghost use Rattle.plist_object.specs.Views.{octets_of};
 ghost use Rattle.plist_object.specs.Order.{AreSortedIfAny};
 ghost use Rattle.plist_engine.specs.Spelling.{SpellsWithin, SpellWithin};
 ghost use Rattle.plist_engine.specs.Order.{IsOrdered};
-ghost use Rattle.plist_engine.specs.Plan.{AreObjectsOf, AreWalked, IsWalked, RemembersNumbers};
+ghost use Rattle.plist_engine.specs.Plan.{AreObjectsOf, AreWalked, IsWalked, KnowsScalars};
+ghost use Rattle.plist_engine.specs.Memo.{kept};
 
 use crate::ahead::Ahead;
+use crate::memo::SINGLE;
 use crate::objects::object_of;
 use crate::order::KeyOrder;
 use crate::plan::{Objects, Plan};
@@ -29,7 +31,7 @@ pub(crate) fn objects_of<'a, S: BuildHasher + Copy>(
     ensures { IfOk result (λ objects. (v : Plist) → IsBinary (octets_of file.now) v
         → AreObjectsOf (octets_of file.now) v objects) }
 {
-    let mut plan = Plan::new(alloc, hasher, file.count())?;
+    let mut plan = Plan::new(alloc, hasher, file)?;
     let mut order = KeyOrder::new(alloc, sorted);
     let mut ahead = Ahead::new();
     walk(
@@ -58,19 +60,20 @@ fn walk<'a, S: BuildHasher + Copy>(
     levels: u64,
 ) -> Result<u32, AllocError>
     requires spells { SpellsWithin (octets_of file.now) object levels }
-    requires memo { RemembersNumbers (octets_of file.now) plan.old }
+    requires knows { KnowsScalars (octets_of file.now) plan.old }
     requires ordered { IsOrdered (octets_of file.now) order.old }
     ensures walked { IfOk result (IsWalked (octets_of file.now) object plan.old plan.new) }
-    ensures memo { OnOk result (RemembersNumbers (octets_of file.now) plan.new) }
+    ensures knows { OnOk result (KnowsScalars (octets_of file.now) plan.new) }
     ensures ordered { OnOk result (IsOrdered (octets_of file.now) order.new) }
 {
-    match plan.number_of(object) {
+    match plan.memo.number_of(object) {
         Some(number) => Ok(number),
         None => walk_object(alloc, file, plan, order, ahead, object, levels),
     }
 }
 
-// The number of the value that the object spells, whose objects are added.
+// The number of the value that the object spells, which was not met as a scalar. Its objects are
+// added.
 #[cycle(walk)]
 fn walk_object<'a, S: BuildHasher + Copy>(
     alloc: Global,
@@ -82,14 +85,15 @@ fn walk_object<'a, S: BuildHasher + Copy>(
     levels: u64,
 ) -> Result<u32, AllocError>
     requires spells { SpellsWithin (octets_of file.now) object levels }
-    requires memo { RemembersNumbers (octets_of file.now) plan.old }
+    requires knows { KnowsScalars (octets_of file.now) plan.old }
+    requires unmet { SINGLE ≤ kept plan.old.memo object }
     requires ordered { IsOrdered (octets_of file.now) order.old }
     ensures walked { IfOk result (IsWalked (octets_of file.now) object plan.old plan.new) }
-    ensures memo { OnOk result (RemembersNumbers (octets_of file.now) plan.new) }
+    ensures knows { OnOk result (KnowsScalars (octets_of file.now) plan.new) }
     ensures ordered { OnOk result (IsOrdered (octets_of file.now) order.new) }
 {
     match object_of(file, object) {
-        Object::Scalar(scalar) => plan.scalar(object, scalar),
+        Object::Scalar(scalar) => plan.scalar(alloc, file, object, scalar),
         Object::List(items) => {
             let first = plan.references.len();
             let number = plan.begin_list(object, &items)?;
@@ -120,10 +124,10 @@ fn walk_children<'a, S: BuildHasher + Copy>(
     requires first { first ≤ length plan.old.references.items }
     requires spell { SpellWithin (octets_of file.now)
         (drop first plan.old.references.items) levels }
-    requires memo { RemembersNumbers (octets_of file.now) plan.old }
+    requires knows { KnowsScalars (octets_of file.now) plan.old }
     requires ordered { IsOrdered (octets_of file.now) order.old }
     ensures walked { OnOk result (AreWalked (octets_of file.now) first plan.old plan.new) }
-    ensures memo { OnOk result (RemembersNumbers (octets_of file.now) plan.new) }
+    ensures knows { OnOk result (KnowsScalars (octets_of file.now) plan.new) }
     ensures ordered { OnOk result (IsOrdered (octets_of file.now) order.new) }
 {
     for i in first..plan.references.len() {

@@ -4,8 +4,8 @@ ghost use Rattle.plist_value.specs.Plist.{Plist};
 ghost use Rattle.plist_object.specs.Spelled.{IsBinary};
 
 use plist_binary::read;
-use plist_engine::{Scalars, canonical_of, natural_in};
-use plist_object::BinFile;
+use plist_engine::{Scalars, Sieve, canonical_of, natural_in};
+use plist_object::{BinFile, Object};
 use plist_value::{FixedHasher, ScalarRef, Whole};
 use std::alloc::{AllocError, Global};
 use std::test::Fail;
@@ -183,6 +183,49 @@ fn numbers_share_objects_however_they_are_spelled(rt: HostRuntime) -> Result<(),
     let canonical = canonical_file(rt.alloc(), source.as_slice())?;
     let own = file_of_numbers(rt.alloc(), 5_000)?;
     assert_eq!(rt; canonical.as_slice(), own.as_slice());
+    Ok(())
+}
+
+// The file of a list of 12,000 data, the first 2,000 of them twice, in so many objects: 10,000, or
+// more, where the last of them are data once more.
+fn file_of_data(alloc: Global, objects: u16) -> Result<Vec<u8>, AllocError> {
+    let mut list = Vec::from_slice(alloc, &[0xaf, 0x11, 0x2e, 0xe0])?;
+    for place in 0..12_000u16 {
+        let object = if place < objects {
+            place
+        } else {
+            place.saturating_sub(objects)
+        };
+        list.extend_from_slice(&object.saturating_add(1).to_be_bytes())?;
+    }
+    let mut draft = Draft::new(alloc)?;
+    draft.put(list.as_slice())?;
+    for object in 0..objects {
+        let [high, low] = (object % 10_000).to_be_bytes();
+        draft.put(&[0x42, high, low])?;
+    }
+    draft.finish(2, 2)
+}
+
+#[test]
+fn data_share_objects_where_there_are_many(rt: HostRuntime) -> Result<(), Fail> {
+    let source = file_of_data(rt.alloc(), 12_000)?;
+    let canonical = canonical_file(rt.alloc(), source.as_slice())?;
+    let own = file_of_data(rt.alloc(), 10_000)?;
+    assert_eq!(rt; canonical.as_slice(), own.as_slice());
+    Ok(())
+}
+
+#[test]
+fn sieves_tell_what_may_repeat(rt: HostRuntime) -> Result<(), Fail> {
+    let mut sieve = Sieve::new(rt.alloc(), &FixedHasher::new(), 3)?;
+    for octets in [b"a", b"b", b"a"] {
+        sieve.note(&Object::Scalar(ScalarRef::Bytes(octets)))?;
+    }
+    assert_eq!(rt; sieve.len(), 3);
+    assert_eq!(rt; sieve.may_repeat(0), true);
+    assert_eq!(rt; sieve.may_repeat(1), false);
+    assert_eq!(rt; sieve.may_repeat(2), true);
     Ok(())
 }
 

@@ -2,7 +2,7 @@ use Rattle.std.proofs.Common.{◌≡◌, ℕ, ◌<◌, refl, sym, subst, ◌∙�
 use Rattle.plist_object.specs.Views.{held_of, octets_of}
 use Rattle.plist_object.specs.Layout.{trailer_of}
 use Rattle.plist_canon.specs.Checking.{IsJudged, IsEndBefore}
-use Rattle.plist_canon.specs.Sieve.{HasNoted}
+use Rattle.plist_engine.specs.Sieve.{HasNoted}
 use Rattle.plist_canon.specs.Weights.{Weighs}
 use Rattle.plist_canon.proofs.Judges.{below_or_last}
 use Rattle.plist_canon.proofs.Weighing.{AreWeights-more, length-more}

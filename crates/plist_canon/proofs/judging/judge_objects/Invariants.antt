@@ -1,7 +1,7 @@
 use Rattle.std.proofs.Common.{◌≡◌, ℕ, ◌<◌, length}
 use Rattle.plist_object.specs.Views.{octets_of}
 use Rattle.plist_canon.specs.Checking.{IsJudged, IsEndBefore}
-use Rattle.plist_canon.specs.Sieve.{HasNoted}
+use Rattle.plist_engine.specs.Sieve.{HasNoted}
 use Rattle.plist_canon.specs.Weights.{AreWeights}
 use Rattle.plist_canon.proofs.judging.judge_objects.Given as goal
 

@@ -2,7 +2,7 @@ use Rattle.std.proofs.Common.{ℕ, sym, ap, subst, ◌∙◌, arith, add-one, tr
 use Rattle.std.specs.Option.{is_some}
 use Rattle.plist_object.specs.Views.{octets_of}
 use Rattle.plist_canon.specs.Rules.{IsNoRepeat}
-use Rattle.plist_canon.specs.Sieve.{HasMet}
+use Rattle.plist_canon.specs.Met.{HasMet}
 use Rattle.plist_canon.proofs.Judges.{below_or_last}
 use Rattle.plist_canon.proofs.repeats.judge_repeats.Goals as goal
 

@@ -1,7 +1,7 @@
 use Rattle.std.proofs.Common.{ℕ, ◌<◌}
 use Rattle.plist_object.specs.Views.{octets_of}
 use Rattle.plist_canon.specs.Rules.{IsNoRepeat}
-use Rattle.plist_canon.specs.Sieve.{HasMet}
+use Rattle.plist_canon.specs.Met.{HasMet}
 use Rattle.plist_canon.proofs.repeats.judge_repeats.Given as goal
 
 abbrev pub invariant-loop-i : goal.invariant-loop-i

@@ -3,12 +3,18 @@ use Rattle.std.proofs.lemmas.List.{append-nil, drop_at, get_or-drop, length-drop
 use Rattle.std.proofs.lemmas.Result.{IfOk-weaker, on_ok_weaker}
 use Rattle.plist_value.specs.Scalars.{content_of}
 use Rattle.plist_object.specs.Views.{octets_of, numbers_of}
-use Rattle.plist_engine.specs.Plan.{ItemsWalked}
+use Rattle.plist_value.specs.declared.scalar_ref.ScalarRef.{ScalarRef}
+use Rattle.plist_object.specs.Objects.{holds_scalar}
+use Rattle.plist_object.specs.Places.{Holds}
+use Rattle.plist_engine.specs.Memo.{kept, single}
+use Rattle.plist_engine.specs.declared.plan.Plan.{Plan}
+use Rattle.plist_engine.specs.Plan.{ItemsWalked, IsUnmet, KnowsScalars}
 use Rattle.plist_engine.specs.Spelling.{SpellsWithin, SpellWithin, in_turn}
 use Rattle.plist_engine.proofs.Filling.{filling-start, filling-long, filling-object, filling-next, filling-end, kept-behind}
 use Rattle.plist_engine.proofs.Within.{read_within, levels_within, items_within, table_within, is_table, flat_within, value_within}
 use Rattle.plist_engine.proofs.Walked.{walked-scalar, walked-list, walked-table, walked-next, walked-none}
-use Rattle.plist_engine.proofs.Remembering.{remembers-begun, remembers-same, walked-again}
+use Rattle.plist_engine.proofs.Meeting.{list-apart, table-apart}
+use Rattle.plist_engine.proofs.Remembering.{knows-begun, knows-same, number-remembered, walked-again}
 use Rattle.plist_engine.proofs.walk.+walk.Goals as goal
 
 -- a bound on the references that a list was put behind
@@ -19,7 +25,10 @@ behind_old old objects new first at_end added =
 pub walk-returns-in-Some-clause-walked : goal.walk-returns-in-Some-clause-walked
 walk-returns-in-Some-clause-walked g t c =
     let f = octets_of c.args.file.now in
-    walked-again f c.args.object c.args.levels c.args.plan.now c.in-Some.number c.requires.spells c.requires.memo (c.in-Some.ensures f c.requires.memo)
+    let i = c.args.object in
+    let plan = c.args.plan.now in
+    let number = c.in-Some.number in
+    walked-again f i c.args.levels plan number c.requires.spells (number-remembered f plan i number c.in-Some.ensures.is c.in-Some.ensures.some c.requires.knows)
 
 pub walk_object-object_of-requires : goal.walk_object-object_of-requires
 walk_object-object_of-requires g t c = read_within (octets_of c.args.file.now) c.args.object c.args.levels c.requires.spells
@@ -38,7 +47,7 @@ walk_object-walk_children-requires g t c =
     let added = c.in_ok-number-in-List.ensures.references_added in
     let begun : drop first c.begin_list.new.self.references.items ≡ objects = ap (drop first) added ∙ drop_at old objects first (sym at_end) in
     let within = items_within f c.args.object c.args.levels objects c.requires.spells c.in-List.ensures.holds in
-    λ κs lives. (omega (arith, c.decreases), (lives.0, (lives.1, (behind_old old objects c.begin_list.new.self.references.items first at_end added, (subst (λ (refs : List ℕ). SpellWithin f refs (c.args.levels - 1)) (sym begun) within, (remembers-begun f c.args.object objects c.args.plan.now c.begin_list.new.self c.in_ok-number-in-List.number c.in_ok-number-in-List.ensures c.requires.memo, c.requires.ordered))))))
+    λ κs lives. (omega (arith, c.decreases), (lives.0, (lives.1, (behind_old old objects c.begin_list.new.self.references.items first at_end added, (subst (λ (refs : List ℕ). SpellWithin f refs (c.args.levels - 1)) (sym begun) within, (knows-begun f c.args.object objects c.args.plan.now c.begin_list.new.self c.in_ok-number-in-List.number (list-apart f c.args.object objects c.in-List.ensures.holds) c.in_ok-number-in-List.ensures c.requires.knows, c.requires.ordered))))))
 
 pub walk_object-begin_table-requires : goal.walk_object-begin_table-requires
 walk_object-begin_table-requires g t c = record {
@@ -63,16 +72,20 @@ walk_object-walk_children-requires-in-Table g t c =
     let objects = in_turn within.rows in
     let added = (c.in_ok-number-in-Table.ensures.begins within.rows within.pairs within.spell).references_added in
     let begun : drop first c.begin_table.new.self.references.items ≡ objects = ap (drop first) added ∙ drop_at old objects first (sym at_end) in
-    λ κs lives. (omega (arith, c.decreases), (lives.0, (lives.1, (behind_old old objects c.begin_table.new.self.references.items first at_end added, (subst (λ (refs : List ℕ). SpellWithin f refs (c.args.levels - 1)) (sym begun) (flat_within f keys values (c.args.levels - 1) within), (remembers-begun f c.args.object objects c.args.plan.now c.begin_table.new.self c.in_ok-number-in-Table.number (c.in_ok-number-in-Table.ensures.begins within.rows within.pairs within.spell) c.requires.memo, c.in_ok-number-in-Table.ensures.ordered))))))
+    λ κs lives. (omega (arith, c.decreases), (lives.0, (lives.1, (behind_old old objects c.begin_table.new.self.references.items first at_end added, (subst (λ (refs : List ℕ). SpellWithin f refs (c.args.levels - 1)) (sym begun) (flat_within f keys values (c.args.levels - 1) within), (knows-begun f c.args.object objects c.args.plan.now c.begin_table.new.self c.in_ok-number-in-Table.number (table-apart f c.args.object keys values c.in-Table.ensures.holds) (c.in_ok-number-in-Table.ensures.begins within.rows within.pairs within.spell) c.requires.knows, c.in_ok-number-in-Table.ensures.ordered))))))
+
+-- the object holds the scalar, and was not met
+unmet : {S H : Type 0} (f : List ℕ) (i : ℕ) (r : ScalarRef) (plan : Plan S H) → KnowsScalars f plan → single ≤ kept plan.memo i → Holds f i (holds_scalar (content_of r)) → IsUnmet f i (content_of r) plan
+unmet f i r plan knows none holds = record { knows = knows; holds = holds; unmet = none }
 
 pub walk_object-returns-in-Scalar-clause-walked : goal.walk_object-returns-in-Scalar-clause-walked
 walk_object-returns-in-Scalar-clause-walked g t c =
     let f = octets_of c.args.file.now in
     let old = c.args.plan.now in
     let new = c.scalar.new.self in
-    let s = content_of c.in-Scalar.scalar in
+    let r = c.in-Scalar.scalar in
     IfOk-weaker c.scalar.result _ _
-    (λ number numbers. walked-scalar f c.args.object s old new number c.in-Scalar.ensures.holds c.in-Scalar.ensures.valid numbers)
+    (λ number numbers. walked-scalar f c.args.object (content_of r) old new number (unmet f c.args.object r old c.requires.knows c.requires.unmet c.in-Scalar.ensures.holds) c.in-Scalar.ensures.valid numbers)
     c.scalar.ensures.numbers
 
 pub walk_object-returns-in_ok-walk_children-in-List-clause-walked : goal.walk_object-returns-in_ok-walk_children-in-List-clause-walked
@@ -89,18 +102,19 @@ walk_object-returns-in_ok-walk_children-in-Table-clause-walked g t c =
     let within = table_within f c.args.object c.args.levels keys values c.requires.spells c.in-Table.ensures.holds in
     walked-table f c.args.object keys values within.rows within.pairs c.args.plan.now c.begin_table.new.self c.walk_children-in-Table.new.plan c.in_ok-number-in-Table.number c.len-first-in-Table.result c.in-Table.ensures.valid within.spell at_end (c.in_ok-number-in-Table.ensures.begins within.rows within.pairs within.spell) c.in_ok-walk_children-in-Table.ensures.walked c.in-Table.ensures.holds
 
-pub walk_object-returns-in-Scalar-clause-memo : goal.walk_object-returns-in-Scalar-clause-memo
-walk_object-returns-in-Scalar-clause-memo g t c =
+pub walk_object-returns-in-Scalar-clause-knows : goal.walk_object-returns-in-Scalar-clause-knows
+walk_object-returns-in-Scalar-clause-knows g t c =
+    let f = octets_of c.args.file.now in
     on_ok_weaker c.scalar.result
-    (λ keeps. keeps (octets_of c.args.file.now) c.in-Scalar.ensures.holds c.requires.memo)
-    c.scalar.ensures.memo
+    (λ keeps. keeps (unmet f c.args.object c.in-Scalar.scalar c.args.plan.now c.requires.knows c.requires.unmet c.in-Scalar.ensures.holds))
+    c.scalar.ensures.knows
 
 pub walk_children-loop-i-init : goal.walk_children-loop-i-init
 walk_children-loop-i-init g t c = record {
   done = [];
   filling = filling-start c.args.first c.args.plan.now.references.items c.requires.first;
   more = λ new numbers w. w;
-  memo = c.requires.memo;
+  knows = c.requires.knows;
   ordered = c.requires.ordered;
 }
 
@@ -119,7 +133,7 @@ walk_children-walk-requires g t c =
     let far : first + (i - first) ≡ i = omega arith in
     let at : get_or (drop first start) (i - first) 0 ≡ get_or start i 0 = get_or-drop first start (i - first) 0 ∙ ap (λ k. get_or start k 0) far in
     let within = value_within f (drop first start) c.args.levels (i - first) c.requires.spell (omega arith) in
-    λ κs lives. (omega (arith, c.decreases), (lives.0, (lives.1, (subst (λ (x : ℕ). SpellsWithin f x c.args.levels) (at ∙ sym stands ∙ sym object ∙ sym c.from.ensures) within, (c.loop-i.invariant.memo, c.loop-i.invariant.ordered)))))
+    λ κs lives. (omega (arith, c.decreases), (lives.0, (lives.1, (subst (λ (x : ℕ). SpellsWithin f x c.args.levels) (at ∙ sym stands ∙ sym object ∙ sym c.from.ensures) within, (c.loop-i.invariant.knows, c.loop-i.invariant.ordered)))))
 
 pub walk_children-index_mut-requires : goal.walk_children-index_mut-requires
 walk_children-index_mut-requires g t c =
@@ -152,9 +166,9 @@ walk_children-loop-i-preserved g t c =
       done = done ++ (n ∷ []);
       filling = filling-next first i start now done c.requires.first filling mid.references.items one.references n below one.references_added;
       more = λ new numbers w.
-          let all = c.loop-i.invariant.more new (n ∷ numbers) (walked-next f start i c.from.result c.loop-i.plan mid _ new n numbers below (c.from.ensures ∙ object ∙ stands) long one refl refl (kept-behind i (length start) mid.references.items n below) w) in
+          let all = c.loop-i.invariant.more new (n ∷ numbers) (walked-next f start i c.from.result c.loop-i.plan mid _ new n numbers below (c.from.ensures ∙ object ∙ stands) long one refl (kept-behind i (length start) mid.references.items n below) w) in
           subst (λ (ns : List ℕ). ItemsWalked f (length start) (drop first start) c.args.plan.now new ns) (sym (append_assoc done (n ∷ []) numbers)) all;
-      memo = remembers-same f mid _ refl refl c.in_ok-number.ensures.memo;
+      knows = knows-same f mid _ refl refl refl c.in_ok-number.ensures.knows;
       ordered = c.in_ok-number.ensures.ordered;
     }
 

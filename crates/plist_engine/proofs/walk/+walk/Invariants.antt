@@ -2,7 +2,7 @@ use Rattle.std.proofs.Common.{ℕ, ◌+◌, ◌*◌, List, ◌++◌, length, dro
 use Rattle.plist_object.specs.Views.{octets_of}
 use Rattle.plist_engine.specs.declared.plan.Plan.{Plan}
 use Rattle.plist_engine.specs.Order.{IsOrdered}
-use Rattle.plist_engine.specs.Plan.{ItemsWalked, RemembersNumbers}
+use Rattle.plist_engine.specs.Plan.{ItemsWalked, KnowsScalars}
 use Rattle.plist_engine.proofs.Filling.{IsFilling}
 use Rattle.plist_engine.proofs.walk.+walk.Given as goal
 
@@ -23,6 +23,6 @@ invariant-walk_children-loop-i g l =
       done : List ℕ;
       filling : IsFilling l.first l.i start l.plan.references.items done;
       more : (new : Plan _ _) (numbers : List ℕ) → ItemsWalked (octets_of l.file) (length start) (drop l.i start) l.plan new numbers → ItemsWalked (octets_of l.file) (length start) (drop l.first start) l.fn.plan new (done ++ numbers);
-      memo : RemembersNumbers (octets_of l.file) l.plan;
+      knows : KnowsScalars (octets_of l.file) l.plan;
       ordered : IsOrdered (octets_of l.file) l.order;
     }

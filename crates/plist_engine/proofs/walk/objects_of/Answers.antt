@@ -4,7 +4,6 @@ use Rattle.plist_object.specs.Views.{octets_of}
 use Rattle.plist_object.specs.Spelled.{Spells}
 use Rattle.plist_object.proofs.Uniqueness.{same_value}
 use Rattle.plist_engine.specs.Plan.{WalksTree}
-use Rattle.plist_engine.proofs.Remembering.{remembers-none}
 use Rattle.plist_engine.proofs.Walking.{Walks-whole}
 use Rattle.plist_engine.proofs.walk.objects_of.Goals as goal
 
@@ -30,8 +29,8 @@ returns g c = λ v binary.
       stand_for = rw (c.into_objects.ensures.originals, c.into_objects.ensures.references) (Walks-whole f v c.in_ok-plan.plan c.walk.new.plan c.in_ok-walk.field-0 c.in_ok-plan.ensures.empty walks);
     }
 
-pub walk-requires-clause-memo : goal.walk-requires-clause-memo
-walk-requires-clause-memo g c = remembers-none (octets_of c.args.file.now) c.in_ok-plan.plan c.in_ok-plan.ensures.empty.scalars.numbered c.in_ok-plan.ensures.memo
+pub walk-requires-clause-knows : goal.walk-requires-clause-knows
+walk-requires-clause-knows g c = c.in_ok-plan.ensures.knows
 
 pub walk-requires-clause-ordered : goal.walk-requires-clause-ordered
 walk-requires-clause-ordered g c = c.new-order.ensures (octets_of c.args.file.now) c.requires.sorted

@@ -1,18 +1,78 @@
 use Rattle.std.proofs.Common.{refl}
 use Rattle.plist_value.specs.Scalars.{content_of}
-use Rattle.plist_engine.proofs.Remembering.{scalar-set, remembers-entered, remembers-kept}
+use Rattle.plist_object.specs.Views.{octets_of}
+use Rattle.plist_engine.specs.declared.plan.Plan.{Plan}
+use Rattle.plist_engine.specs.declared.memo.Memo.{Memo}
+use Rattle.plist_engine.proofs.Remembering.{had-entered, had-met, new-entered, new-met, knows-again, knows-more, unmet-sifted}
+use Rattle.plist_engine.proofs.Walking.{Walks-known, Walks-new}
 use Rattle.plist_engine.proofs.plan.Plan.scalar.Goals as goal
 
-pub returns-then-len-found-clause-memo : goal.returns-then-len-found-clause-memo
-returns-then-len-found-clause-memo g c = λ f holds memo.
-    remembers-entered f c.args.scalar c.args.self.now c.enter.new.self c.in_ok-number.number c.in_ok-number.ensures.enters memo
+-- the plan with what was sifted
+abbrev with_memo : {S H : Type 0} → Plan S H → Memo → Plan S H
+with_memo plan memo = record {
+  hasher = plan.hasher;
+  scalars = plan.scalars;
+  memo = memo;
+  originals = plan.originals;
+  references = plan.references;
+}
+
+pub returns-in-Some-clause-numbers : goal.returns-in-Some-clause-numbers
+returns-in-Some-clause-numbers g c =
+    let f = octets_of c.args.file.now in
+    let r = c.args.scalar in
+    let i = c.args.object in
+    let old = c.args.self.now in
+    let mid = with_memo old c.sift.new.self in
+    let next = c.in_ok-next.next in
+    let n = c.in-Some.number in
+    let scalars = c.meet.new.scalars in
+    record {
+      walks = λ unmet.
+          let sifted = unmet-sifted f i (content_of r) old mid refl refl c.in_ok-sift.ensures unmet in
+          Walks-known f (content_of r) old _ n (had-met f i r mid sifted next n scalars (had-entered f i r mid sifted next n scalars (rw c.in-Some.is at c.in_ok-number.ensures))) refl refl;
+      references_kept = refl;
+    }
+
+pub returns-in-Some-clause-knows : goal.returns-in-Some-clause-knows
+returns-in-Some-clause-knows g c = λ unmet.
+    let f = octets_of c.args.file.now in
+    let r = c.args.scalar in
+    let i = c.args.object in
+    let old = c.args.self.now in
+    let mid = with_memo old c.sift.new.self in
+    let next = c.in_ok-next.next in
+    let n = c.in-Some.number in
+    let scalars = c.meet.new.scalars in
+    let sifted = unmet-sifted f i (content_of r) old mid refl refl c.in_ok-sift.ensures unmet in
+    let entered = had-entered f i r mid sifted next n scalars (rw c.in-Some.is at c.in_ok-number.ensures) in
+    let met = sifted.knows.met (content_of r) n (had-met f i r mid sifted next n scalars entered) in
+    knows-again f i r mid sifted n _ met.some c.keep.ensures next entered refl
 
 pub returns-clause-numbers : goal.returns-clause-numbers
 returns-clause-numbers g c =
-    (scalar-set c.args.object (content_of c.args.scalar) c.args.self.now c.enter.new.self _ c.in_ok-number.number c.in_ok-number.ensures.numbers refl refl refl)
+    let f = octets_of c.args.file.now in
+    let r = c.args.scalar in
+    let i = c.args.object in
+    let old = c.args.self.now in
+    let mid = with_memo old c.sift.new.self in
+    let next = c.in_ok-next.next in
+    let scalars = c.meet.new.scalars in
+    record {
+      walks = λ unmet.
+          let sifted = unmet-sifted f i (content_of r) old mid refl refl c.in_ok-sift.ensures unmet in
+          Walks-new f (content_of r) i old _ next unmet.holds (new-met f i r mid sifted next scalars (new-entered f i r mid sifted next scalars (rw c.in_default.is at c.in_ok-number.ensures))) c.in_ok-next.ensures.is (rw c.in_ok-original.ensures.value at c.in_ok-push.ensures.items) refl;
+      references_kept = refl;
+    }
 
-pub returns-clause-memo : goal.returns-clause-memo
-returns-clause-memo g c = λ f holds memo.
-    let mid = c.enter.new.self in
-    let enters = c.in_ok-number.ensures.enters in
-    remembers-kept f c.args.object c.args.scalar mid _ c.in_ok-number.number refl c.in_ok-remember.ensures holds (enters.found memo.numbered) (remembers-entered f c.args.scalar c.args.self.now mid c.in_ok-number.number enters memo)
+pub returns-clause-knows : goal.returns-clause-knows
+returns-clause-knows g c = λ unmet.
+    let f = octets_of c.args.file.now in
+    let r = c.args.scalar in
+    let i = c.args.object in
+    let old = c.args.self.now in
+    let mid = with_memo old c.sift.new.self in
+    let next = c.in_ok-next.next in
+    let scalars = c.meet.new.scalars in
+    let sifted = unmet-sifted f i (content_of r) old mid refl refl c.in_ok-sift.ensures unmet in
+    knows-more f i r mid sifted next _ c.in_ok-next.ensures.some c.keep-2.ensures c.in_ok-next.ensures.is (rw c.in_ok-original.ensures.value at c.in_ok-push.ensures.items) (new-entered f i r mid sifted next scalars (rw c.in_default.is at c.in_ok-number.ensures))

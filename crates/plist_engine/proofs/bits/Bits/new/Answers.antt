@@ -1,7 +1,6 @@
-use Rattle.std.proofs.Common.{◌≡◌, ◌/◌, ◌+◌, ◌<◌, List, ℕ, replicate, arith, rules}
-use Rattle.plist_canon.specs.Bits.{IsSet}
-use Rattle.plist_canon.proofs.SetBits.{no_bit}
-use Rattle.plist_canon.proofs.bits.Bits.new.Goals as goal
+use Rattle.std.proofs.Common.{◌≡◌, ◌/◌, ◌+◌, replicate, arith, rules}
+use Rattle.plist_engine.proofs.SetBits.{no_bit}
+use Rattle.plist_engine.proofs.bits.Bits.new.Goals as goal
 
 pub returns : goal.returns
 returns g c = λ n below is.

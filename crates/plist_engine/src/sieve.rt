@@ -7,8 +7,8 @@ ghost use Rattle.std.specs.Prelude.{◌≡◌, ◌<◌, ◌↔◌, ℕ, List, su
 ghost use Rattle.plist_value.specs.Scalars.{content_of};
 ghost use Rattle.plist_object.specs.Places.{Holds};
 ghost use Rattle.plist_object.specs.Views.{held_of};
-ghost use Rattle.plist_canon.specs.Bits.{HasBit, KeepsBits, bit_of};
-ghost use Rattle.plist_canon.specs.Sieve.{HasNoted, MayRepeat};
+ghost use Rattle.plist_engine.specs.Bits.{HasBit, KeepsBits, bit_of};
+ghost use Rattle.plist_engine.specs.Sieve.{HasNoted, MayRepeat};
 
 use crate::bits::Bits;
 use plist_object::Object;
@@ -22,7 +22,7 @@ const BITS: u64 = 8;
 
 /// What is known of the objects that were noted, from the first on.
 #[derive(Drop)]
-pub(crate) struct Sieve {
+pub struct Sieve {
     // The bit of each object's scalar, or 0 of a container.
     pub(crate) bits: Vec<u32>,
     // The bits to which a scalar came, and those to which another came.
@@ -31,12 +31,13 @@ pub(crate) struct Sieve {
 }
 
 impl Sieve {
-    /// No object was noted. There will be about so many.
-    pub(crate) fn new<S: BuildHasher>(
-        alloc: Global,
-        hasher: &S,
-        objects: u64,
-    ) -> Result<Sieve, AllocError>
+    /// No object was noted. There will be about so many. Which bit a scalar has depends on what the
+    /// builder makes.
+    ///
+    /// # Errors
+    ///
+    /// Where there is no memory for the bits.
+    pub fn new<S: BuildHasher>(alloc: Global, hasher: &S, objects: u64) -> Result<Sieve, AllocError>
         ensures { IfOk result (λ sieve. sieve.bits.items ≡ []) }
     {
         Ok(Sieve {
@@ -46,9 +47,13 @@ impl Sieve {
         })
     }
 
-    /// Notes the next object.
+    /// Notes the next object of the file.
+    ///
+    /// # Errors
+    ///
+    /// Where there is no memory for what is kept of it.
     #[inline(always)]
-    pub(crate) fn note(&mut self, object: &Object) -> Result<(), AllocError>
+    pub fn note(&mut self, object: &Object) -> Result<(), AllocError>
         ensures { OnOk result ((f : List ℕ) (i : ℕ) → Holds f i (held_of object.now)
             → HasNoted f i self.old → HasNoted f (suc i) self.new) }
     {
@@ -82,14 +87,15 @@ impl Sieve {
     }
 
     /// How many objects were noted.
-    pub(crate) fn len(&self) -> usize
+    pub fn len(&self) -> usize
         ensures { result ≡ length self.now.bits.items }
     {
         self.bits.len()
     }
 
-    /// Whether another object that was noted may hold what the object holds.
-    pub(crate) fn may_repeat(&self, object: usize) -> bool
+    /// Whether another object that was noted may hold what the object holds, which was noted too.
+    /// Where it holds a container the answer says nothing.
+    pub fn may_repeat(&self, object: usize) -> bool
         requires { object < length self.now.bits.items }
         ensures { IsTrue result ↔ MayRepeat self.now object }
     {

@@ -1,5 +1,5 @@
-use Rattle.plist_canon.proofs.SetBits.{bit_set, bits_kept, bit_behind}
-use Rattle.plist_canon.proofs.bits.set_bit.Goals as goal
+use Rattle.plist_engine.proofs.SetBits.{bit_set, bits_kept, bit_behind}
+use Rattle.plist_engine.proofs.bits.set_bit.Goals as goal
 
 pub returns-then-place-words-clause-set : goal.returns-then-place-words-clause-set
 returns-then-place-words-clause-set c = bit_set c.args.words.now c.args.bit c.if-place-words.true

@@ -6,7 +6,7 @@ use Rattle.std.proofs.lemmas.Bool.{cases_eq}
 use Rattle.std.proofs.lemmas.List.{get_or-set_same, get_or-set_other, get_or_past, get_or-replicate}
 use Rattle.std.proofs.lemmas.Grind.{get_or_default_zero}
 use Rattle.std.proofs.lemmas.Nat.Bits.{bit_at_set_same, bit_at_set_other, bit_at_ones, bit_at-zero, shr_and_one}
-use Rattle.plist_canon.specs.Bits.{IsSet}
+use Rattle.plist_engine.specs.Bits.{IsSet}
 
 abbrev ones : ℕ
 ones = 18446744073709551615

@@ -6,8 +6,9 @@ use Rattle.std.specs.Hash.FoldHasher as folding
 use Rattle.std.specs.Hash.DefaultHasher as sip
 use Rattle.plist_value.specs.Plist.{Scalar, bytes}
 use Rattle.plist_value.specs.Equality.{fed_scalar}
+use Rattle.plist_engine.specs.Numbered.{is_long}
 use Rattle.plist_engine.specs.Scalars.{natural_in}
-use Rattle.plist_canon.specs.declared.bits.Bits.{Bits}
+use Rattle.plist_engine.specs.declared.bits.Bits.{Bits}
 
 -- the bit is set in the words; those behind the end are
 unfoldable pub IsSet : List ℕ → ℕ → Type 0
@@ -38,8 +39,9 @@ fast_hash seed s =
 unfoldable pub strong_hash : ℕ → Scalar → ℕ
 strong_hash seed s = sip.finish (fold sip.write (fold sip.write sip.initial (fed.u64 seed)) (fed_scalar s))
 
+-- that of the scalar, where long data have none
 abbrev pub hash_of : ℕ → Scalar → ℕ
-hash_of seed (bytes xs) = strong_hash seed (bytes xs)
+hash_of seed (bytes xs) = if is_long (bytes xs) then 0 else strong_hash seed (bytes xs)
 hash_of seed s = fast_hash seed s
 
 -- the number, if there is one up to the greatest, and else the other

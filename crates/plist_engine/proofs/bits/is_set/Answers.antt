@@ -1,6 +1,6 @@
 use Rattle.std.proofs.Common.{refl}
-use Rattle.plist_canon.proofs.SetBits.{bit_in_word, bit_behind}
-use Rattle.plist_canon.proofs.bits.is_set.Goals as goal
+use Rattle.plist_engine.proofs.SetBits.{bit_in_word, bit_behind}
+use Rattle.plist_engine.proofs.bits.is_set.Goals as goal
 
 pub returns-then-place-words : goal.returns-then-place-words
 returns-then-place-words c =

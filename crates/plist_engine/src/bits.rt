@@ -1,10 +1,11 @@
 //! A bit for each scalar, which some share: where it is not set, no equal scalar set it.
 ghost use Rattle.std.specs.Prelude.{◌≡◌, ◌≤◌, ◌↔◌, ℕ, IsTrue, IfOk, bit_and};
 ghost use Rattle.plist_value.specs.Scalars.{content_of};
-ghost use Rattle.plist_canon.specs.Bits.{KeepsBitOf, HasBit, IsClear, IsSet, KeepsBits};
-ghost use Rattle.plist_canon.specs.Bits.{bit_of, fast_hash, hash_of, strong_hash};
+ghost use Rattle.plist_engine.specs.Bits.{KeepsBitOf, HasBit, IsClear, IsSet, KeepsBits};
+ghost use Rattle.plist_engine.specs.Bits.{bit_of, fast_hash, hash_of, strong_hash};
 
-use plist_engine::natural_in;
+use crate::numbered::is_long_data;
+use crate::scalars::natural_in;
 use plist_value::ScalarRef;
 use std::alloc::{AllocError, Global};
 use std::hash::{BuildHasher, DefaultHasher, FoldHasher, Hash, Hasher};
@@ -107,11 +108,12 @@ fn mask_for(bits: u64) -> u32 {
     u32::MAX.checked_shr(bits.leading_zeros()).unwrap_or(0)
 }
 
-// A fast hash, but for data: some of these share one whatever the seed.
+// A fast hash, but for data: some of these share one whatever the seed. Long data are not hashed.
 fn hash_of(seed: u64, scalar: &ScalarRef) -> u64
     ensures { result ≡ hash_of seed (content_of scalar.now) }
 {
     match scalar {
+        ScalarRef::Bytes(_) if is_long_data(*scalar) => 0,
         ScalarRef::Bytes(_) => strong_hash(seed, scalar),
         _ => fast_hash(seed, scalar),
     }

@@ -1,0 +1,63 @@
+-- The numbers of scalars among the objects that were found.
+use Rattle.std.proofs.Common.{◌≡◌, ◌⊎◌, ℕ, suc, ◌+◌, List, [], ◌∷◌, ◌++◌, length, Option, Some, None, true, false, cond, refl, sym, ap, ◌∙◌, inl, inr, arith, add-zero}
+use Rattle.std.specs.Option.{option_or}
+use Rattle.std.proofs.lemmas.Bool.{cases_Bool}
+use Rattle.plist_value.specs.Plist.{Scalar}
+use Rattle.plist_value.specs.Equality.{scalar_eq}
+use Rattle.plist_value.specs.EqualityLaws.{scalar_eq-Decides}
+use Rattle.plist_object.specs.Objects.{holds_scalar, holds_list, holds_table}
+use Rattle.plist_object.specs.Places.{Holds, what_holds}
+use Rattle.plist_engine.specs.declared.plan.Plan.{Plan}
+use Rattle.plist_engine.specs.Plan.{is_held, number_from, number_met}
+use Rattle.plist_engine.proofs.Keys.{or_none}
+
+pub cases_Option : (o : Option ℕ) → (o ≡ None) ⊎ ((n : ℕ) × (o ≡ Some n))
+cases_Option None = inl refl
+cases_Option (Some n) = inr (n, refl)
+
+-- one object more
+number_from-more : (f : List ℕ) (n : ℕ) (originals : List ℕ) (i : ℕ) (s : Scalar) → number_from f n (originals ++ (i ∷ [])) s ≡ option_or (number_from f n originals s) (cond (is_held s (what_holds f i)) (Some (n + length originals)) None)
+number_from-more f n [] i s = rw add-zero refl
+number_from-more f n (x ∷ originals) i s =
+    let others = number_from-more f (suc n) originals i s in
+    let far : suc n + length originals ≡ n + suc (length originals) = omega arith in
+    elim (is_held s (what_holds f x)) as (λ t. cond t (Some n) (number_from f (suc n) (originals ++ (i ∷ [])) s) ≡ option_or (cond t (Some n) (number_from f (suc n) originals s)) (cond (is_held s (what_holds f i)) (Some (n + suc (length originals))) None)) [
+      | true ↦ refl
+      | false ↦ rw (far) at others
+    ]
+
+module _ {S H : Type 0} (f : List ℕ) (i : ℕ) (old new : Plan S H) (added : new.originals.items ≡ old.originals.items ++ (i ∷ [])) where
+  met-more : (s : Scalar) → number_met f new s ≡ option_or (number_met f old s) (cond (is_held s (what_holds f i)) (Some (length old.originals.items)) None)
+  met-more s =
+      let n = length old.originals.items in
+      let from : 0 + n ≡ n = omega arith in
+      ap (λ originals. number_from f 0 originals s) added ∙ number_from-more f 0 old.originals.items i s ∙ ap (λ m. option_or (number_met f old s) (cond (is_held s (what_holds f i)) (Some m) None)) from
+
+  -- an object that does not hold the scalar
+  pub met-beside : (s : Scalar) → is_held s (what_holds f i) ≡ false → number_met f new s ≡ number_met f old s
+  met-beside s apart = met-more s ∙ rw apart (or_none (number_met f old s))
+
+  -- what had a number has it still
+  pub met-still : (s : Scalar) (n : ℕ) → number_met f old s ≡ Some n → number_met f new s ≡ Some n
+  met-still s n had = met-more s ∙ rw had refl
+
+  -- an object that holds a scalar which had none
+  module _ (s : Scalar) (holds : Holds f i (holds_scalar s)) (unknown : number_met f old s ≡ None) where
+    held_is : (q : Scalar) → is_held q (what_holds f i) ≡ scalar_eq s q
+    held_is q = ap (is_held q) holds.reads
+
+    pub met-added : (q : Scalar) → number_met f new q ≡ cond (scalar_eq s q) (Some (length old.originals.items)) (number_met f old q)
+    met-added q = elim (cases_Bool (scalar_eq s q)) [
+      | inl same ↦ (let is : s ≡ q = (scalar_eq-Decides s q).0 same in let none : number_met f old q ≡ None = ap (number_met f old) (sym is) ∙ unknown in met-more q ∙ rw (held_is q, none, same) refl)
+      | inr apart ↦ met-beside q (held_is q ∙ apart) ∙ rw apart refl
+    ]
+
+    pub met-now : number_met f new s ≡ Some (length old.originals.items)
+    met-now = met-added s ∙ rw ((scalar_eq-Decides s s).1 refl) refl
+
+-- a container holds no scalar
+pub list-apart : (f : List ℕ) (i : ℕ) (refs : List ℕ) → Holds f i (holds_list refs) → (s : Scalar) → is_held s (what_holds f i) ≡ false
+list-apart f i refs holds s = ap (is_held s) holds.reads
+
+pub table-apart : (f : List ℕ) (i : ℕ) (keys values : List ℕ) → Holds f i (holds_table keys values) → (s : Scalar) → is_held s (what_holds f i) ≡ false
+table-apart f i keys values holds s = ap (is_held s) holds.reads

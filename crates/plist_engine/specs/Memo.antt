@@ -1,0 +1,47 @@
+-- What a plan keeps of each object of the file: the number of its scalar, or that no other object
+-- holds the scalar.
+use Rattle.std.specs.Prelude.{◌≡◌, ◌≢◌, ◌⊎◌, ℕ, ◌-◌, ◌^◌, ◌<◌, List, length, slice_index_or}
+use Rattle.plist_value.specs.Plist.{Scalar}
+use Rattle.plist_object.specs.Objects.{holds_scalar}
+use Rattle.plist_object.specs.Places.{Holds}
+use Rattle.plist_engine.specs.Naturals.{no_number}
+use Rattle.plist_engine.specs.Sieve.{MayRepeat}
+use Rattle.plist_engine.specs.declared.memo.Memo.{Memo}
+use Rattle.plist_engine.specs.declared.sieve.Sieve.{Sieve}
+
+-- stands for the number of an object that has none, and whose scalar no other object holds
+abbrev pub single : ℕ
+single = 2 ^ 32 - 2
+
+-- all others are numbers
+abbrev pub IsNumber : ℕ → Type 0
+IsNumber n = n < single
+
+abbrev pub kept_at : List ℕ → ℕ → ℕ
+kept_at numbers i = slice_index_or numbers i no_number
+
+-- what is kept of the object i
+abbrev pub kept : Memo → ℕ → ℕ
+kept memo i = kept_at memo.numbers.items i
+
+-- no other object of the file holds a scalar that the object holds
+abbrev pub IsSingle : List ℕ → ℕ → Type 0
+IsSingle f i =
+    (s : Scalar) (j : ℕ) → Holds f i (holds_scalar s) → Holds f j (holds_scalar s) → j ≡ i
+
+-- The object has this number now, if it is one of those that are listed. All others are as before.
+pub record KeepsNumber (i number : ℕ) (old new : Memo) : Type 0 where
+  pub here : i < length old.numbers.items → kept new i ≡ number
+  pub others : (j : ℕ) → j ≢ i → kept new j ≡ kept old j
+  pub as_many : length new.numbers.items ≡ length old.numbers.items
+
+-- Objects that had no number may be single now, where their scalars come to bits to which no other
+-- comes. All others are as before.
+pub record Marks (sieve : Sieve) (old new : List ℕ) : Type 0 where
+  pub as_many : length new ≡ length old
+  pub each : (i : ℕ) → (kept_at new i ≡ kept_at old i) ⊎ ((kept_at old i ≡ no_number) × ((kept_at new i ≡ single) × ((i < length sieve.bits.items) × (MayRepeat sieve i → ⊥))))
+
+-- Objects of the file that had no number may be single now. All others are as before.
+pub record Sifts (f : List ℕ) (old new : Memo) : Type 0 where
+  pub as_many : length new.numbers.items ≡ length old.numbers.items
+  pub each : (i : ℕ) → (kept new i ≡ kept old i) ⊎ ((kept old i ≡ no_number) × ((kept new i ≡ single) × IsSingle f i))

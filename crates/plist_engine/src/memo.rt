@@ -1,0 +1,118 @@
+//! The numbers of the objects of a file that were met as scalars.
+ghost use Rattle.std.specs.Prelude.{◌≡◌, ◌≤◌, ℕ, length, true, IfOk, IfSome, IfNone, OnOk};
+ghost use Rattle.plist_object.specs.Views.{octets_of};
+ghost use Rattle.plist_engine.specs.Memo.{IsNumber, KeepsNumber, Marks, Sifts, kept};
+
+use crate::naturals::NO_NUMBER;
+use crate::sieve::Sieve;
+use crate::sifting::sift;
+use plist_object::BinFile;
+use std::alloc::{AllocError, Global};
+use std::hash::BuildHasher;
+
+/// Stands for the number of an object that has none, and whose scalar no other object holds. All
+/// below are numbers.
+pub(crate) const SINGLE: u32 = NO_NUMBER - 1;
+
+// From so many scalars in a set on it pays to look for single objects.
+const MANY: usize = 8_192;
+
+/// The number of each object of the file that was met as a scalar.
+#[derive(Drop)]
+pub(crate) struct Memo {
+    pub(crate) numbers: Vec<u32>,
+    // Whether single objects were looked for.
+    pub(crate) is_sifted: bool,
+}
+
+impl Memo {
+    /// None of so many objects was met.
+    pub(crate) fn new(alloc: Global, count: u64) -> Result<Memo, AllocError>
+        ensures listed { IfOk result (λ memo. length memo.numbers.items ≡ count) }
+        ensures none { IfOk result (λ memo. (i : ℕ) → kept memo i ≡ NO_NUMBER) }
+    {
+        let mut numbers = Vec::new(alloc);
+        numbers.resize(count as usize, NO_NUMBER)?;
+        Ok(Memo {
+            numbers,
+            is_sifted: false,
+        })
+    }
+
+    /// The number of the object, if it was met.
+    #[inline(always)]
+    pub(crate) fn number_of(&self, object: u64) -> Option<u32>
+        ensures is { IfSome result (λ number. kept self.now object ≡ number) }
+        ensures some { IfSome result IsNumber }
+        ensures none { IfNone result (SINGLE ≤ kept self.now object) }
+    {
+        match self.numbers.get(object as usize) {
+            Some(number) if *number < SINGLE => Some(*number),
+            _ => None,
+        }
+    }
+
+    /// Whether it is known that no other object holds the scalar of this one, which was not met.
+    #[inline(always)]
+    pub(crate) fn is_single(&self, object: u64) -> bool
+        ensures { result ≡ true → kept self.now object ≡ SINGLE }
+    {
+        self.numbers.get(object as usize) == Some(&SINGLE)
+    }
+
+    /// Keeps the number of the object.
+    #[inline(always)]
+    pub(crate) fn keep(&mut self, object: u64, number: u32)
+        ensures { KeepsNumber object number self.old self.new }
+    {
+        let place = object as usize;
+        if place < self.numbers.len() {
+            self.numbers[place] = number;
+        }
+    }
+
+    /// Looks for single objects, once there are so many scalars in a set that it pays.
+    #[inline(always)]
+    pub(crate) fn sift<S: BuildHasher>(
+        &mut self,
+        alloc: Global,
+        hasher: &S,
+        file: &BinFile,
+        scalars: usize,
+    ) -> Result<(), AllocError>
+        ensures { OnOk result (Sifts (octets_of file.now) self.old self.new) }
+    {
+        if self.is_sifted || scalars < MANY {
+            return Ok(());
+        }
+        self.mark(alloc, hasher, file)
+    }
+
+    // Looks for single objects.
+    #[inline(never)]
+    fn mark<S: BuildHasher>(
+        &mut self,
+        alloc: Global,
+        hasher: &S,
+        file: &BinFile,
+    ) -> Result<(), AllocError>
+        ensures { OnOk result (Sifts (octets_of file.now) self.old self.new) }
+    {
+        self.is_sifted = true;
+        if let Some(sieve) = sift(alloc, hasher, file)? {
+            mark_single(&mut self.numbers, &sieve);
+        }
+        Ok(())
+    }
+}
+
+// Marks the objects that have no number and cannot repeat another.
+fn mark_single(numbers: &mut Vec<u32>, sieve: &Sieve)
+    ensures { Marks sieve.now numbers.old.items numbers.new.items }
+{
+    for i in 0..numbers.len().min(sieve.len()) {
+        if numbers[i] == NO_NUMBER && !sieve.may_repeat(i) {
+            numbers[i] = SINGLE;
+        }
+    }
+}

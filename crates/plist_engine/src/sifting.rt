@@ -1,0 +1,47 @@
+//! What the sieve tells of a whole file.
+ghost use Rattle.std.specs.Prelude.{IfOk, IfSome};
+ghost use Rattle.plist_object.specs.Layout.{trailer_of};
+ghost use Rattle.plist_object.specs.Views.{octets_of};
+ghost use Rattle.plist_engine.specs.Sieve.{HasNoted};
+
+use crate::sieve::Sieve;
+use plist_object::{BinFile, Object};
+use plist_value::ScalarRef;
+use std::alloc::{AllocError, Global};
+use std::hash::BuildHasher;
+
+/// What is known of all objects of the file, if that takes no more than reading as many octets as
+/// the file has. It takes more where scalars overlap. Nothing is known either where an object does
+/// not read.
+pub(crate) fn sift<S: BuildHasher>(
+    alloc: Global,
+    hasher: &S,
+    file: &BinFile,
+) -> Result<Option<Sieve>, AllocError>
+    ensures { IfOk result (λ sieve. IfSome sieve
+        (HasNoted (octets_of file.now) (trailer_of (octets_of file.now)).count)) }
+{
+    let mut sieve = Sieve::new(alloc, hasher, file.count())?;
+    let mut left = file.table();
+    for i in 0..file.count() {
+        let Ok(object) = file.object(i) else {
+            return Ok(None);
+        };
+        let length = length_of(&object);
+        if length > left {
+            return Ok(None);
+        }
+        left -= length;
+        sieve.note(&object)?;
+    }
+    Ok(Some(sieve))
+}
+
+// How many units or octets are read where the object is hashed, or fewer.
+fn length_of(object: &Object) -> u64 {
+    match object {
+        Object::Scalar(ScalarRef::Text(text)) => text.len() as u64,
+        Object::Scalar(ScalarRef::Bytes(octets)) => octets.len() as u64,
+        _ => 0,
+    }
+}
