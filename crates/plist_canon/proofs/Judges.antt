@@ -244,3 +244,23 @@ all-adjoin f n end all before is follows i below =
     let here : n ≡ suc i = omega arith in
     let ends : IsEndBefore f (suc i) end = subst (λ (k : ℕ). IsEndBefore f k end) here before in
     (same_span f i start last ends.0 end span ends.1).1 ∙ is)
+
+-- keys that ascend, of which there are several, name texts
+pub ascending_name : (f keys : List ℕ) → 1 < length keys → AscendInTurn f keys → EachIndex keys (λ k. HoldsText f (slice_index keys k))
+ascending_name f keys several ascend k below =
+    elim (cases_lt (suc k) (length keys)) [
+      | inl before ↦ (let turn = ascend k before in (turn.first, turn.holds_first))
+      | inr last ↦ (
+          let far : suc (k - 1) ≡ k = omega arith in
+          let turn = ascend (k - 1) (omega arith) in
+          subst (λ (n : ℕ). HoldsText f (slice_index keys n)) far (turn.second, turn.holds_second))
+    ]
+
+-- the keys of a table ascend in turn exactly where rule 5 holds of it
+pub ascend-both : (f : List ℕ) (i : ℕ) (keys values : List ℕ) (b : Bool) → Holds f i (holds_table keys values) → EachIndex keys (λ k. HoldsText f (slice_index keys k)) → IsTrue b ↔ AscendInTurn f keys → IsTrue b ↔ HasAscendingKeys f i
+ascend-both f i keys values b holds named told = (
+  λ yes. HasAscendingKeys-turns f i keys values holds (told.0 yes),
+  λ has.
+      let texts = texts_of f keys (all_from_each (HoldsText f) keys named) in
+      told.1 (turns_from_sorted f keys texts.0 texts.1 (has keys values texts.0 holds.reads texts.1)),
+)

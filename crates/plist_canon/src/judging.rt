@@ -15,11 +15,13 @@ ghost use Rattle.plist_canon.specs.Weights.{AreAllWeights};
 
 use crate::beginning::begins_plainly;
 use crate::lengths::{is_width, spelled_length};
-use crate::references::{keys_ascend, refers_well};
+use crate::ranking::rank_keys;
+use crate::references::keys_told;
 use crate::repeats::judge_repeats;
 use crate::weights::Weight;
 use plist_engine::Sieve;
-use plist_object::{BinFile, Keys, Object, Ranks, scalar_length, width_of};
+use plist_object::{BinFile, Object, Ranks, scalar_length, width_of};
+use plist_value::MAX_NODES;
 use std::alloc::{AllocError, AllocFailed, Global};
 use std::hash::BuildHasher;
 
@@ -111,7 +113,7 @@ pub(crate) fn judge_objects<S: BuildHasher + Copy>(
 {
     let ranks = rank_keys(alloc, file)?;
     let mut sieve = Sieve::new(alloc, &hasher, file.count())?;
-    let mut weights = Vec::new(alloc);
+    let mut weights = Vec::with_capacity(alloc, file.count().min(MAX_NODES) as usize)?;
     let mut end = 8;
     for i in 0..file.count() {
         match judge_object(objects, file, i, end, &ranks) {
@@ -163,67 +165,6 @@ fn judge_table(file: &BinFile, end: u64) -> Result<(), Flaw>
     Ok(())
 }
 
-// The ranks of the texts that tables name as keys.
-fn rank_keys<'a>(alloc: Global, file: &BinFile<'a>) -> Result<Ranks<'a>, Flaw>
-    ensures ok { IfOk result (λ ranks. AreRanks (octets_of file.now) ranks) }
-    ensures err { IfErr result (IsFlaw (octets_of file.now)) }
-{
-    let mut keys = Keys::of_tables(alloc, file, file.count())?;
-    if keys.overlap() {
-        return rank_placed(alloc, file);
-    }
-    Ok(keys.ranks(alloc, file)?)
-}
-
-// The same where texts overlap: of the tables up to the first object that does not stand where the
-// one before it ends. If so many of their texts overlap that they cannot be sorted in time, that
-// object is answered.
-fn rank_placed<'a>(alloc: Global, file: &BinFile<'a>) -> Result<Ranks<'a>, Flaw>
-    ensures ok { IfOk result (λ ranks. AreRanks (octets_of file.now) ranks) }
-    ensures err { IfErr result (IsFlaw (octets_of file.now)) }
-{
-    let placed = judge_places(file);
-    let mut keys = Keys::of_tables(alloc, file, placed.objects)?;
-    if let Some(flaw) = placed.flaw {
-        if keys.overlap() {
-            return Err(flaw);
-        }
-    }
-    Ok(keys.ranks(alloc, file)?)
-}
-
-// How far the objects stand one behind the other, from the header on.
-#[derive(Clone, Copy)]
-struct Placed {
-    // How many objects do.
-    objects: u64,
-    // Why the next one does not, if there is one.
-    flaw: Option<Flaw>,
-}
-
-// How far the objects read, and begin where the one before them ends.
-fn judge_places(file: &BinFile) -> Placed
-    ensures { IfSome result.flaw (IsFlaw (octets_of file.now)) }
-{
-    let count = file.count();
-    let mut end = 8;
-    for i in 0..count {
-        match judge_place(file, i, end) {
-            Ok(next) => end = next,
-            Err(flaw) => {
-                return Placed {
-                    objects: i,
-                    flaw: Some(flaw),
-                };
-            }
-        }
-    }
-    Placed {
-        objects: count,
-        flaw: None,
-    }
-}
-
 // What is told of an object of which the rules hold: what it holds, and where it ends.
 #[derive(Clone, Copy)]
 struct Judged<'a> {
@@ -251,33 +192,37 @@ fn judge_object<'a>(
         (λ judged. Holds (octets_of file.now) i (held_of judged.object)) }
     ensures err { IfErr result (IsFlaw (octets_of file.now)) }
 {
-    let object = judge_reading(file, ranks, i)?;
+    let (object, ascend) = judge_reading(file, ranks, i)?;
     judge_start(file, i, place)?;
     judge_spelling(objects, file, i, place, &object)?;
-    judge_keys(file, ranks, i, &object)?;
+    if !ascend {
+        return Err(Flaw::at(5, i));
+    }
     Ok(Judged {
         end: end_of(file, i, place, &object),
         object,
     })
 }
 
-// Rule 0 of the object: what it holds.
+// Rule 0 of the object: what it holds. Beside it is told whether rule 5 holds.
 #[inline(always)]
-fn judge_reading<'a>(file: &BinFile<'a>, ranks: &Ranks, i: u64) -> Result<Object<'a>, Flaw>
+fn judge_reading<'a>(file: &BinFile<'a>, ranks: &Ranks, i: u64) -> Result<(Object<'a>, bool), Flaw>
     requires ranks { AreRanks (octets_of file.now) ranks.now }
     requires listed { i < (trailer_of (octets_of file.now)).count }
-    ensures holds { IfOk result (λ object. Holds (octets_of file.now) i (held_of object)) }
-    ensures valid { IfOk result (λ object. IsHeld (held_of object)) }
-    ensures refers { IfOk result (λ object. RefersWell (octets_of file.now) (held_of object)) }
+    ensures holds { IfOk result (λ read. Holds (octets_of file.now) i (held_of read.0)) }
+    ensures valid { IfOk result (λ read. IsHeld (held_of read.0)) }
+    ensures refers { IfOk result (λ read. RefersWell (octets_of file.now) (held_of read.0)) }
+    ensures ascend { IfOk result
+        (λ read. IsTrue read.1 ↔ HasAscendingKeys (octets_of file.now) i) }
     ensures err { IfErr result (IsFlaw (octets_of file.now)) }
 {
     let Ok(object) = file.object(i) else {
         return Err(Flaw::at(0, i));
     };
-    if !refers_well(file, ranks, &object) {
-        return Err(Flaw::at(0, i));
+    match keys_told(file, ranks, i, &object) {
+        Some(ascend) => Ok((object, ascend)),
+        None => Err(Flaw::at(0, i)),
     }
-    Ok(object)
 }
 
 // Rule 3 of an object that reads, but for the place of the offset table: it begins at the place.
@@ -335,23 +280,6 @@ fn end_read(file: &BinFile, i: u64) -> u64
     file.span(i).unwrap().1
 }
 
-// Rule 3 of any object, but for the place of the offset table: where the object ends, which has to
-// read and to begin at the place.
-fn judge_place(file: &BinFile, i: u64, place: u64) -> Result<u64, Flaw>
-    requires listed { i < (trailer_of (octets_of file.now)).count }
-    requires before { IsEndBefore (octets_of file.now) i place }
-    ensures ok { IfOk result (λ end. span_of (octets_of file.now) i ≡ Ok (place, end)) }
-    ensures err { IfErr result (IsFlaw (octets_of file.now)) }
-{
-    let Ok((start, end)) = file.span(i) else {
-        return Err(Flaw::at(0, i));
-    };
-    if start != place {
-        return Err(Flaw::at(3, i));
-    }
-    Ok(end)
-}
-
 // Rule 4 of the object, which begins at the place. Mostly its first octets tell, so it is not read
 // again.
 #[inline(always)]
@@ -375,23 +303,6 @@ fn judge_spelling(
     }
     if !file.is_shortest(i).unwrap() {
         return Err(Flaw::at(4, i));
-    }
-    Ok(())
-}
-
-// Rule 5 of the object.
-#[inline(always)]
-fn judge_keys(file: &BinFile, ranks: &Ranks, i: u64, object: &Object) -> Result<(), Flaw>
-    requires ranks { AreRanks (octets_of file.now) ranks.now }
-    requires holds { Holds (octets_of file.now) i (held_of object.now) }
-    requires refers { RefersWell (octets_of file.now) (held_of object.now) }
-    ensures ok { OnOk result (HasAscendingKeys (octets_of file.now) i) }
-    ensures err { IfErr result (IsFlaw (octets_of file.now)) }
-{
-    if let Object::Table(keys, _) = object {
-        if !keys_ascend(file, ranks, keys) {
-            return Err(Flaw::at(5, i));
-        }
     }
     Ok(())
 }

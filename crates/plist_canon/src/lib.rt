@@ -10,6 +10,7 @@ mod lengths;
 mod objects;
 mod preorder;
 mod progress;
+mod ranking;
 mod references;
 mod repeats;
 mod weights;

@@ -1,39 +1,85 @@
 //! The rules of an object's references.
-ghost use Rattle.std.specs.Prelude.{◌≡◌, ◌<◌, ◌↔◌, IsTrue, EachIndex, slice_index};
+ghost use Rattle.std.specs.Prelude.{◌≡◌, ◌<◌, ◌↔◌, IsTrue, EachIndex, length, slice_index};
+ghost use Rattle.std.specs.Prelude.{IfSome, IfNone};
+ghost use Rattle.plist_value.specs.Plist.{text};
+ghost use Rattle.plist_value.specs.Texts.{units_of};
 ghost use Rattle.plist_object.specs.Layout.{trailer_of};
-ghost use Rattle.plist_object.specs.Objects.{holds_table};
+ghost use Rattle.plist_object.specs.Objects.{holds_list, holds_scalar, holds_table};
+ghost use Rattle.plist_object.specs.Places.{Holds};
 ghost use Rattle.plist_object.specs.Views.{held_of, numbers_of, octets_of};
 ghost use Rattle.plist_object.specs.Ranks.{AreRanks};
-ghost use Rattle.plist_canon.specs.Rules.{HoldsText};
+ghost use Rattle.plist_canon.specs.Rules.{HasAscendingKeys, HoldsText};
 ghost use Rattle.plist_canon.specs.Checking.{RefersWell, AreInOrder, AscendInTurn};
 
 use crate::objects::text_of;
 use plist_object::{BinFile, Object, Ranks, Refs};
+use plist_value::TextRef;
 
-/// Whether the references are numbers of objects, and those to keys name texts.
-pub(crate) fn refers_well(file: &BinFile, ranks: &Ranks, object: &Object) -> bool
-    requires { AreRanks (octets_of file.now) ranks.now }
-    ensures { IsTrue result ↔ RefersWell (octets_of file.now) (held_of object.now) }
+/// Whether the keys of the object ascend, unit by unit, where its references are numbers of objects
+/// and those to keys name texts. What is no table has no keys, which ascend.
+pub(crate) fn keys_told(file: &BinFile, ranks: &Ranks, i: u64, object: &Object) -> Option<bool>
+    requires ranks { AreRanks (octets_of file.now) ranks.now }
+    requires holds { Holds (octets_of file.now) i (held_of object.now) }
+    ensures some { IfSome result (λ _. RefersWell (octets_of file.now) (held_of object.now)) }
+    ensures ascend { IfSome result
+        (λ ascend. IsTrue ascend ↔ HasAscendingKeys (octets_of file.now) i) }
+    ensures none { IfNone result (¬ RefersWell (octets_of file.now) (held_of object.now)) }
 {
     match object {
-        Object::Scalar(_) => true,
-        Object::List(items) => are_below(items, file.count()),
-        Object::Table(keys, values) => table_refers_well(file, ranks, keys, values),
+        Object::Scalar(_) => Some(true),
+        Object::List(items) => list_keys_told(file, i, items),
+        Object::Table(keys, values) => table_keys_told(file, ranks, i, keys, values),
     }
 }
 
-fn table_refers_well(file: &BinFile, ranks: &Ranks, keys: &Refs, values: &Refs) -> bool
-    requires { AreRanks (octets_of file.now) ranks.now }
-    ensures { IsTrue result ↔ RefersWell (octets_of file.now)
+fn list_keys_told(file: &BinFile, i: u64, items: &Refs) -> Option<bool>
+    requires holds { Holds (octets_of file.now) i (holds_list (numbers_of items.now)) }
+    ensures some { IfSome result
+        (λ _. RefersWell (octets_of file.now) (holds_list (numbers_of items.now))) }
+    ensures ascend { IfSome result
+        (λ ascend. IsTrue ascend ↔ HasAscendingKeys (octets_of file.now) i) }
+    ensures none { IfNone result
+        (¬ RefersWell (octets_of file.now) (holds_list (numbers_of items.now))) }
+{
+    if are_below(items, file.count()) {
+        Some(true)
+    } else {
+        None
+    }
+}
+
+// Mostly keys ascend, and then each of several was seen to name a text.
+fn table_keys_told(
+    file: &BinFile,
+    ranks: &Ranks,
+    i: u64,
+    keys: &Refs,
+    values: &Refs,
+) -> Option<bool>
+    requires ranks { AreRanks (octets_of file.now) ranks.now }
+    requires holds { Holds (octets_of file.now) i
         (holds_table (numbers_of keys.now) (numbers_of values.now)) }
+    ensures some { IfSome result (λ _. RefersWell (octets_of file.now)
+        (holds_table (numbers_of keys.now) (numbers_of values.now))) }
+    ensures ascend { IfSome result
+        (λ ascend. IsTrue ascend ↔ HasAscendingKeys (octets_of file.now) i) }
+    ensures none { IfNone result (¬ RefersWell (octets_of file.now)
+        (holds_table (numbers_of keys.now) (numbers_of values.now))) }
 {
     if !are_below(keys, file.count()) {
-        return false;
+        return None;
     }
     if !are_below(values, file.count()) {
-        return false;
+        return None;
     }
-    name_texts(file, ranks, keys)
+    let ascend = keys_ascend(file, ranks, keys);
+    if ascend && keys.len() > 1 {
+        return Some(true);
+    }
+    if !name_texts(file, ranks, keys) {
+        return None;
+    }
+    Some(ascend)
 }
 
 fn are_below(refs: &Refs, count: u64) -> bool
@@ -71,19 +117,59 @@ fn names_text(file: &BinFile, ranks: &Ranks, key: u64) -> bool
     ranks.get(key).is_some() || text_of(file, key).is_some()
 }
 
-/// Whether the texts that the references name ascend, unit by unit.
-pub(crate) fn keys_ascend(file: &BinFile, ranks: &Ranks, keys: &Refs) -> bool
+// Whether the texts that the references name ascend, unit by unit.
+fn keys_ascend(file: &BinFile, ranks: &Ranks, keys: &Refs) -> bool
     requires ranks { AreRanks (octets_of file.now) ranks.now }
     requires below { EachIndex (numbers_of keys.now)
         (λ k. slice_index (numbers_of keys.now) k < (trailer_of (octets_of file.now)).count) }
     ensures { IsTrue result ↔ AscendInTurn (octets_of file.now) (numbers_of keys.now) }
 {
+    if keys.len() > 1 && ranks.get(keys.get(0)).is_none() {
+        return texts_ascend(file, keys);
+    }
     for k in 1..keys.len() {
         if !are_in_order(file, ranks, keys.get(k - 1), keys.get(k)) {
             return false;
         }
     }
     true
+}
+
+// The same of at least two, each of which is read once.
+fn texts_ascend(file: &BinFile, keys: &Refs) -> bool
+    requires some { 1 < length (numbers_of keys.now) }
+    requires below { EachIndex (numbers_of keys.now)
+        (λ k. slice_index (numbers_of keys.now) k < (trailer_of (octets_of file.now)).count) }
+    ensures { IsTrue result ↔ AscendInTurn (octets_of file.now) (numbers_of keys.now) }
+{
+    let Some(mut before) = text_of(file, keys.get(0)) else {
+        return false;
+    };
+    for k in 1..keys.len() {
+        let Some(text) = text_above(file, keys.get(k - 1), before, keys.get(k)) else {
+            return false;
+        };
+        before = text;
+    }
+    true
+}
+
+// The text that the second object holds, if it is above this one, which the first object holds.
+fn text_above<'a>(
+    file: &BinFile<'a>,
+    first: u64,
+    lower: TextRef<'a>,
+    second: u64,
+) -> Option<TextRef<'a>>
+    requires second { second < (trailer_of (octets_of file.now)).count }
+    requires lower { Holds (octets_of file.now) first (holds_scalar (text (units_of lower))) }
+    ensures holds { IfSome result
+        (λ t. Holds (octets_of file.now) second (holds_scalar (text (units_of t)))) }
+    ensures some { IfSome result (λ _. AreInOrder (octets_of file.now) first second) }
+    ensures none { IfNone result (¬ AreInOrder (octets_of file.now) first second) }
+{
+    let text = text_of(file, second)?;
+    if lower < text { Some(text) } else { None }
 }
 
 // Whether the objects hold texts, the first below the second.

@@ -18,8 +18,8 @@ loop-i-init g c = record {
     came = λ k s below. absurd (omega (arith, below));
     again = λ j k s apart below. absurd (omega (arith, below));
   };
-  weighed = rw c.new-weights.ensures.items (λ j below. absurd (omega (arith, below)));
-  counted = rw c.new-weights.ensures.items refl;
+  weighed = rw c.in_ok-weights.ensures.items (λ j below. absurd (omega (arith, below)));
+  counted = rw c.in_ok-weights.ensures.items refl;
 }
 
 pub loop-i-preserved : goal.loop-i-preserved

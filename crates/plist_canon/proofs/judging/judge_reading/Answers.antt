@@ -2,8 +2,7 @@ use Rattle.std.proofs.Common.{◌≡◌, Ok}
 use Rattle.plist_object.specs.Views.{held_of, octets_of}
 use Rattle.plist_object.specs.Places.{what_holds}
 use Rattle.plist_canon.specs.Rules.{breaks_c0}
-use Rattle.plist_canon.specs.Checking.{RefersWell}
-use Rattle.plist_canon.proofs.Judges.{refuted, IsWellRead-refers, unread}
+use Rattle.plist_canon.proofs.Judges.{IsWellRead-refers, unread}
 use Rattle.plist_canon.proofs.judging.judge_reading.Goals as goal
 
 pub returns-in_default-clause-err : goal.returns-in_default-clause-err
@@ -11,10 +10,9 @@ returns-in_default-clause-err c =
     let f = octets_of c.args.file.now in
     rw c.at.ensures (breaks_c0 c.args.i c.requires.listed (λ read. unread f c.args.i c.in_default.field-0 c.in_default.ensures.read read))
 
-pub returns-then-not-refers_well-clause-err : goal.returns-then-not-refers_well-clause-err
-returns-then-not-refers_well-clause-err c =
+pub returns-in-None-clause-err : goal.returns-in-None-clause-err
+returns-in-None-clause-err c =
     let f = octets_of c.args.file.now in
     let held = held_of c.in-Ok.object in
     let reads : what_holds f c.args.i ≡ Ok held = c.in-Ok.ensures.read in
-    rw c.at-then-not-refers_well.ensures
-    (breaks_c0 c.args.i c.requires.listed (λ read. refuted (RefersWell f held) c.refers_well.result c.refers_well.ensures c.if-not-refers_well.true (IsWellRead-refers f c.args.i held reads read)))
+    rw c.at-in-None.ensures (breaks_c0 c.args.i c.requires.listed (λ read. c.in-None.ensures.none (IsWellRead-refers f c.args.i held reads read)))

@@ -3,7 +3,7 @@ use Rattle.plist_object.specs.Views.{octets_of}
 use Rattle.plist_object.specs.Places.{span_of}
 use Rattle.plist_canon.specs.Rules.{breaks_c0, breaks_c3}
 use Rattle.plist_canon.proofs.Judges.{not-Adjoins, unspanned}
-use Rattle.plist_canon.proofs.judging.judge_place.Goals as goal
+use Rattle.plist_canon.proofs.ranking.judge_place.Goals as goal
 
 pub returns-in_default-clause-err : goal.returns-in_default-clause-err
 returns-in_default-clause-err c =
