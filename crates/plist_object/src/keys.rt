@@ -28,11 +28,13 @@ pub struct Keys<'a> {
     seen: Vec<bool>,
     // How many octets may be read still, if not too many were.
     room: Option<u64>,
+    // How many keys tables may name still.
+    named: u64,
 }
 
 impl<'a> Keys<'a> {
     /// The keys of the tables up to the last object. It ends before at the first table that does
-    /// not read, at the first key that is no text, and where the texts overlap.
+    /// not read, at the first key that is no text, and where tables or texts overlap.
     pub fn of_tables(alloc: Global, file: &BinFile<'a>, last: u64) -> Result<Keys<'a>, AllocError>
         ensures { IfOk result (λ keys. AreKeys (octets_of file.now) keys) }
     {
@@ -70,6 +72,7 @@ impl<'a> Keys<'a> {
             entries: Vec::new(alloc),
             seen,
             room: Some(room),
+            named: file.table(),
         })
     }
 
@@ -125,6 +128,11 @@ impl<'a> Keys<'a> {
         requires { AreKeys (octets_of file.now) self.old }
         ensures { OnOk result (AreKeys (octets_of file.now) self.new) }
     {
+        let Some(named) = self.named.checked_sub(keys.len()) else {
+            self.room = None;
+            return Ok(false);
+        };
+        self.named = named;
         for k in 0..keys.len() {
             if !self.add(file, keys.get(k))? {
                 return Ok(false);
@@ -133,7 +141,7 @@ impl<'a> Keys<'a> {
         Ok(true)
     }
 
-    // Whether the object holds a text, which is then among the keys, and the texts do not overlap.
+    // Whether the object holds a text, which is then among the keys, and no objects overlap.
     fn add(&mut self, file: &BinFile<'a>, object: u64) -> Result<bool, AllocError>
         requires { AreKeys (octets_of file.now) self.old }
         ensures { OnOk result (AreKeys (octets_of file.now) self.new) }
@@ -153,8 +161,8 @@ impl<'a> Keys<'a> {
         Ok(!self.overlap())
     }
 
-    /// Whether more was read than the part of the file before the offset table holds, which only
-    /// texts that overlap can be.
+    /// Whether more was read, or tables named more keys, than the part of the file before the
+    /// offset table holds, which only texts and tables that overlap can do.
     pub fn overlap(&self) -> bool
         ensures { result ≡ is_none self.now.room }
     {
