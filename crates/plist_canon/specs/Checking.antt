@@ -1,5 +1,5 @@
 -- What a check of a file answers, and what its parts say.
-use Rattle.std.specs.Prelude.{◌≡◌, ℕ, zero, suc, ◌<◌, length, slice_index, List, Ok, ⊤}
+use Rattle.std.specs.Prelude.{◌≡◌, ℕ, zero, suc, ◌<◌, length, slice_index, EachIndex, List, Ok, ⊤}
 use Rattle.std.specs.List.{AllByRecursion}
 use Rattle.std.specs.declared.cmp.Ordering.TheVariants.{Less}
 use Rattle.std.specs.Ordering.{nat_cmp}
@@ -47,6 +47,11 @@ AllAscend f = (i : ℕ) → i < (trailer_of f).count → HasAscendingKeys f i
 pub record RefersWell (f : List ℕ) (held : Held) : Type 0 where
   pub numbers : AllByRecursion (λ reference. reference < (trailer_of f).count) (references_of held)
   pub texts : AllByRecursion (HoldsText f) (keys_of held)
+
+-- each reference is the number of an object that holds a text
+pub record NameTexts (f keys : List ℕ) : Type 0 where
+  pub numbers : EachIndex keys (λ k. slice_index keys k < (trailer_of f).count)
+  pub texts : EachIndex keys (λ k. HoldsText f (slice_index keys k))
 
 -- the objects hold texts, the first below the second
 pub record AreInOrder (f : List ℕ) (i j : ℕ) : Type 0 where

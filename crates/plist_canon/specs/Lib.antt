@@ -9,6 +9,7 @@ pub use Rattle.plist_engine.specs.Laws
 pub mod Rules
 pub mod Locality
 pub mod Checking
+pub mod KnownKeys
 pub mod Codes
 pub mod Weights
 pub mod Small

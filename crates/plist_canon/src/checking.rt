@@ -110,10 +110,10 @@ pub enum Verdict {
 ///
 /// No value is built. It is linear in the file's size, but for sorting the texts of the keys once,
 /// and takes memory for each object, for the scalars that may be met twice, for the keys and for
-/// the path of the walk. So
-/// where the texts that tables name as keys overlap, and are together longer than the part of the
-/// file before the offset table, the first object that does not read, or does not stand where the
-/// one before it ends, is answered even if another rule is broken at an object before it.
+/// the path of the walk. So where tables overlap and have more keys than there are octets before
+/// the offset table, or where the texts of their keys do and are together longer, the first object
+/// that does not read, or does not stand where the one before it ends, is answered even if another
+/// rule is broken at an object before it.
 ///
 /// # Errors
 ///

@@ -5,22 +5,22 @@ ghost use Rattle.plist_object.specs.Layout.{trailer_of};
 ghost use Rattle.plist_object.specs.Objects.{IsHeld};
 ghost use Rattle.plist_object.specs.Places.{Holds, object_at, place_of, span_of};
 ghost use Rattle.plist_object.specs.Views.{held_of, octets_of};
-ghost use Rattle.plist_object.specs.Ranks.{AreRanks};
 ghost use Rattle.plist_canon.specs.Rules.{HasPlainTrailer, HasLeastWidths, Adjoins};
 ghost use Rattle.plist_canon.specs.Rules.{IsSpelledCanonically, HasAscendingKeys, IsNoRepeat};
 ghost use Rattle.plist_canon.specs.Checking.{IsFlaw, RefersWell, IsEndBefore};
 ghost use Rattle.plist_canon.specs.Checking.{Follows, IsJudged};
+ghost use Rattle.plist_canon.specs.KnownKeys.{AreKnown};
 ghost use Rattle.plist_engine.specs.Sieve.{HasNoted};
 ghost use Rattle.plist_canon.specs.Weights.{AreAllWeights};
 
 use crate::beginning::begins_plainly;
+use crate::known_keys::KnownKeys;
 use crate::lengths::{is_width, spelled_length};
-use crate::ranking::rank_keys;
-use crate::references::keys_told;
+use crate::references::object_keys_ascend;
 use crate::repeats::judge_repeats;
 use crate::weights::Weight;
 use plist_engine::Sieve;
-use plist_object::{BinFile, Object, Ranks, scalar_length, width_of};
+use plist_object::{BinFile, Object, scalar_length, width_of};
 use plist_value::MAX_NODES;
 use std::alloc::{AllocError, AllocFailed, Global};
 use std::hash::BuildHasher;
@@ -111,12 +111,12 @@ pub(crate) fn judge_objects<S: BuildHasher + Copy>(
         (λ weights. AreAllWeights (octets_of file.now) weights.items) }
     ensures err { IfErr result (IsFlaw (octets_of file.now)) }
 {
-    let ranks = rank_keys(alloc, file)?;
     let mut sieve = Sieve::new(alloc, &hasher, file.count())?;
     let mut weights = Vec::with_capacity(alloc, file.count().min(MAX_NODES) as usize)?;
+    let mut known = KnownKeys::new(alloc, file)?;
     let mut end = 8;
     for i in 0..file.count() {
-        match judge_object(objects, file, i, end, &ranks) {
+        match judge_object(alloc, objects, file, i, end, &mut known) {
             Ok(judged) => {
                 sieve.note(&judged.object)?;
                 weights.push(Weight::of(&judged.object))?;
@@ -174,25 +174,27 @@ struct Judged<'a> {
 
 // The rules of the object but for rule 6, where the one before it ends at the place.
 fn judge_object<'a>(
+    alloc: Global,
     objects: &[u8],
     file: &BinFile<'a>,
     i: u64,
     place: u64,
-    ranks: &Ranks,
+    known: &mut KnownKeys<'a>,
 ) -> Result<Judged<'a>, Flaw>
     requires objects { objects.now
         ≡ take (trailer_of (octets_of file.now)).table (octets_of file.now) }
     requires listed { i < (trailer_of (octets_of file.now)).count }
     requires before { IsEndBefore (octets_of file.now) i place }
-    requires ranks { AreRanks (octets_of file.now) ranks.now }
+    requires known { AreKnown (octets_of file.now) known.old }
     ensures judged { IfOk result (λ _. IsJudged (octets_of file.now) i) }
     ensures ends { IfOk result
         (λ judged. span_of (octets_of file.now) i ≡ Ok (place, judged.end)) }
     ensures holds { IfOk result
         (λ judged. Holds (octets_of file.now) i (held_of judged.object)) }
+    ensures known { OnOk result (AreKnown (octets_of file.now) known.new) }
     ensures err { IfErr result (IsFlaw (octets_of file.now)) }
 {
-    let (object, ascend) = judge_reading(file, ranks, i)?;
+    let (object, ascend) = judge_reading(alloc, file, known, i)?;
     judge_start(file, i, place)?;
     judge_spelling(objects, file, i, place, &object)?;
     if !ascend {
@@ -206,23 +208,30 @@ fn judge_object<'a>(
 
 // Rule 0 of the object: what it holds. Beside it is told whether rule 5 holds.
 #[inline(always)]
-fn judge_reading<'a>(file: &BinFile<'a>, ranks: &Ranks, i: u64) -> Result<(Object<'a>, bool), Flaw>
-    requires ranks { AreRanks (octets_of file.now) ranks.now }
+fn judge_reading<'a>(
+    alloc: Global,
+    file: &BinFile<'a>,
+    known: &mut KnownKeys<'a>,
+    i: u64,
+) -> Result<(Object<'a>, bool), Flaw>
+    requires known { AreKnown (octets_of file.now) known.old }
     requires listed { i < (trailer_of (octets_of file.now)).count }
     ensures holds { IfOk result (λ read. Holds (octets_of file.now) i (held_of read.0)) }
     ensures valid { IfOk result (λ read. IsHeld (held_of read.0)) }
     ensures refers { IfOk result (λ read. RefersWell (octets_of file.now) (held_of read.0)) }
     ensures ascend { IfOk result
         (λ read. IsTrue read.1 ↔ HasAscendingKeys (octets_of file.now) i) }
+    ensures known { OnOk result (AreKnown (octets_of file.now) known.new) }
     ensures err { IfErr result (IsFlaw (octets_of file.now)) }
 {
     let Ok(object) = file.object(i) else {
         return Err(Flaw::at(0, i));
     };
-    match keys_told(file, ranks, i, &object) {
-        Some(ascend) => Ok((object, ascend)),
-        None => Err(Flaw::at(0, i)),
-    }
+    let told = object_keys_ascend(alloc, file, known, i, &object)?;
+    let Some(ascend) = told else {
+        return Err(Flaw::at(0, i));
+    };
+    Ok((object, ascend))
 }
 
 // Rule 3 of an object that reads, but for the place of the offset table: it begins at the place.

@@ -5,8 +5,10 @@
 mod beginning;
 pub mod checking;
 mod judging;
+mod known_keys;
 pub mod laws;
 mod lengths;
+mod naming;
 mod objects;
 mod preorder;
 mod progress;

@@ -1,6 +1,6 @@
 //! The rules of an object's references.
 ghost use Rattle.std.specs.Prelude.{◌≡◌, ◌<◌, ◌↔◌, IsTrue, EachIndex, length, slice_index};
-ghost use Rattle.std.specs.Prelude.{IfSome, IfNone};
+ghost use Rattle.std.specs.Prelude.{IfSome, IfNone, IfOk, IfErr, OnOk};
 ghost use Rattle.plist_value.specs.Plist.{text};
 ghost use Rattle.plist_value.specs.Texts.{units_of};
 ghost use Rattle.plist_object.specs.Layout.{trailer_of};
@@ -10,29 +10,44 @@ ghost use Rattle.plist_object.specs.Views.{held_of, numbers_of, octets_of};
 ghost use Rattle.plist_object.specs.Ranks.{AreRanks};
 ghost use Rattle.plist_canon.specs.Rules.{HasAscendingKeys, HoldsText};
 ghost use Rattle.plist_canon.specs.Checking.{RefersWell, AreInOrder, AscendInTurn};
+ghost use Rattle.plist_canon.specs.Checking.{IsFlaw, NameTexts};
+ghost use Rattle.plist_canon.specs.KnownKeys.{AreKnown};
 
+use crate::judging::Flaw;
+use crate::known_keys::KnownKeys;
 use crate::objects::text_of;
 use plist_object::{BinFile, Object, Ranks, Refs};
 use plist_value::TextRef;
+use std::alloc::Global;
 
 /// Whether the keys of the object ascend, unit by unit, where its references are numbers of objects
 /// and those to keys name texts. What is no table has no keys, which ascend.
-pub(crate) fn keys_told(file: &BinFile, ranks: &Ranks, i: u64, object: &Object) -> Option<bool>
-    requires ranks { AreRanks (octets_of file.now) ranks.now }
+pub(crate) fn object_keys_ascend<'a>(
+    alloc: Global,
+    file: &BinFile<'a>,
+    known: &mut KnownKeys<'a>,
+    i: u64,
+    object: &Object<'a>,
+) -> Result<Option<bool>, Flaw>
+    requires known { AreKnown (octets_of file.now) known.old }
     requires holds { Holds (octets_of file.now) i (held_of object.now) }
-    ensures some { IfSome result (λ _. RefersWell (octets_of file.now) (held_of object.now)) }
-    ensures ascend { IfSome result
-        (λ ascend. IsTrue ascend ↔ HasAscendingKeys (octets_of file.now) i) }
-    ensures none { IfNone result (¬ RefersWell (octets_of file.now) (held_of object.now)) }
+    ensures some { IfOk result (λ told. IfSome told
+        (λ _. RefersWell (octets_of file.now) (held_of object.now))) }
+    ensures ascend { IfOk result (λ told. IfSome told
+        (λ ascend. IsTrue ascend ↔ HasAscendingKeys (octets_of file.now) i)) }
+    ensures none { IfOk result (λ told. IfNone told
+        (¬ RefersWell (octets_of file.now) (held_of object.now))) }
+    ensures known { OnOk result (AreKnown (octets_of file.now) known.new) }
+    ensures err { IfErr result (IsFlaw (octets_of file.now)) }
 {
     match object {
-        Object::Scalar(_) => Some(true),
-        Object::List(items) => list_keys_told(file, i, items),
-        Object::Table(keys, values) => table_keys_told(file, ranks, i, keys, values),
+        Object::Scalar(_) => Ok(Some(true)),
+        Object::List(items) => Ok(list_keys_ascend(file, i, items)),
+        Object::Table(keys, values) => table_keys_ascend(alloc, file, known, i, keys, values),
     }
 }
 
-fn list_keys_told(file: &BinFile, i: u64, items: &Refs) -> Option<bool>
+fn list_keys_ascend(file: &BinFile, i: u64, items: &Refs) -> Option<bool>
     requires holds { Holds (octets_of file.now) i (holds_list (numbers_of items.now)) }
     ensures some { IfSome result
         (λ _. RefersWell (octets_of file.now) (holds_list (numbers_of items.now))) }
@@ -48,28 +63,53 @@ fn list_keys_told(file: &BinFile, i: u64, items: &Refs) -> Option<bool>
     }
 }
 
-// Mostly keys ascend, and then each of several was seen to name a text.
-fn table_keys_told(
-    file: &BinFile,
-    ranks: &Ranks,
+// The keys of the last table are not compared again.
+fn table_keys_ascend<'a>(
+    alloc: Global,
+    file: &BinFile<'a>,
+    known: &mut KnownKeys<'a>,
     i: u64,
-    keys: &Refs,
+    keys: &Refs<'a>,
     values: &Refs,
-) -> Option<bool>
-    requires ranks { AreRanks (octets_of file.now) ranks.now }
+) -> Result<Option<bool>, Flaw>
+    requires known { AreKnown (octets_of file.now) known.old }
     requires holds { Holds (octets_of file.now) i
         (holds_table (numbers_of keys.now) (numbers_of values.now)) }
-    ensures some { IfSome result (λ _. RefersWell (octets_of file.now)
-        (holds_table (numbers_of keys.now) (numbers_of values.now))) }
+    ensures some { IfOk result (λ told. IfSome told (λ _. RefersWell (octets_of file.now)
+        (holds_table (numbers_of keys.now) (numbers_of values.now)))) }
+    ensures ascend { IfOk result (λ told. IfSome told
+        (λ ascend. IsTrue ascend ↔ HasAscendingKeys (octets_of file.now) i)) }
+    ensures none { IfOk result (λ told. IfNone told (¬ RefersWell (octets_of file.now)
+        (holds_table (numbers_of keys.now) (numbers_of values.now)))) }
+    ensures known { OnOk result (AreKnown (octets_of file.now) known.new) }
+    ensures err { IfErr result (IsFlaw (octets_of file.now)) }
+{
+    if !are_below(values, file.count()) {
+        return Ok(None);
+    }
+    if known.are_last(keys) {
+        return Ok(Some(true));
+    }
+    known.name(alloc, file, keys)?;
+    let Some(ascend) = named_texts_ascend(file, &known.ranks, keys) else {
+        return Ok(None);
+    };
+    if ascend {
+        known.last = Some(*keys);
+    }
+    Ok(Some(ascend))
+}
+
+// Whether the texts that the references name ascend, if each names one. Mostly they ascend, and
+// then each of several was seen to name a text.
+fn named_texts_ascend(file: &BinFile, ranks: &Ranks, keys: &Refs) -> Option<bool>
+    requires ranks { AreRanks (octets_of file.now) ranks.now }
+    ensures some { IfSome result (λ _. NameTexts (octets_of file.now) (numbers_of keys.now)) }
     ensures ascend { IfSome result
-        (λ ascend. IsTrue ascend ↔ HasAscendingKeys (octets_of file.now) i) }
-    ensures none { IfNone result (¬ RefersWell (octets_of file.now)
-        (holds_table (numbers_of keys.now) (numbers_of values.now))) }
+        (λ ascend. IsTrue ascend ↔ AscendInTurn (octets_of file.now) (numbers_of keys.now)) }
+    ensures none { IfNone result (¬ NameTexts (octets_of file.now) (numbers_of keys.now)) }
 {
     if !are_below(keys, file.count()) {
-        return None;
-    }
-    if !are_below(values, file.count()) {
         return None;
     }
     let ascend = keys_ascend(file, ranks, keys);

@@ -10,6 +10,7 @@ use Rattle.plist_canon.proofs.judging.judge_objects.Goals as goal
 
 pub loop-i-init : goal.loop-i-init
 loop-i-init g c = record {
+  known = c.in_ok-known.ensures (octets_of c.args.file.now);
   judged = λ j below. absurd (omega (arith, below));
   ends = refl;
   noted = record {
@@ -35,6 +36,7 @@ loop-i-preserved g c =
     let pushed = c.push.new.self.items in
     let added = c.in_ok-push-in-Ok.ensures.items in
     record {
+      known = told.known;
       judged = below_or_last (λ j. IsJudged f j) i before.judged told.judged;
       ends = subst (λ (n : ℕ). IsEndBefore f n judged.end) (sym (add-one i)) (c.loop-i.end, told.ends);
       noted = subst (λ (n : ℕ). HasNoted f n c.note.new.self) (sym (add-one i)) (c.in_ok-note-in-Ok.ensures f i told.holds before.noted);

@@ -2,6 +2,7 @@ use Rattle.std.proofs.Common.{◌≡◌, ℕ, ◌<◌, length}
 use Rattle.plist_object.specs.Views.{octets_of}
 use Rattle.plist_canon.specs.Checking.{IsJudged, IsEndBefore}
 use Rattle.plist_engine.specs.Sieve.{HasNoted}
+use Rattle.plist_canon.specs.KnownKeys.{AreKnown}
 use Rattle.plist_canon.specs.Weights.{AreWeights}
 use Rattle.plist_canon.proofs.judging.judge_objects.Given as goal
 
@@ -9,6 +10,7 @@ abbrev pub invariant-loop-i : goal.invariant-loop-i
 invariant-loop-i g l =
     let f = octets_of l.file in
     record {
+      known : AreKnown f l.known;
       judged : (j : ℕ) → j < l.i → IsJudged f j;
       ends : IsEndBefore f l.i l.end;
       noted : HasNoted f l.i l.sieve;

@@ -2,7 +2,7 @@ use Rattle.std.proofs.Common.{◌<◌}
 use Rattle.std.specs.Prelude.{EachIndex, slice_index}
 use Rattle.plist_object.specs.Views.{numbers_of, octets_of}
 use Rattle.plist_canon.proofs.Judges.{RefersWell-list, refuted}
-use Rattle.plist_canon.proofs.references.list_keys_told.Goals as goal
+use Rattle.plist_canon.proofs.references.list_keys_ascend.Goals as goal
 
 pub returns-then-are_below-clause-some : goal.returns-then-are_below-clause-some
 returns-then-are_below-clause-some c =
