@@ -17,7 +17,7 @@ use crate::first::First;
 use crate::rows::Rows;
 use crate::tokens::Tokens;
 use ostep_lex::{Token, TokenKind};
-use plist_draft::Draft;
+use plist_draft::{Draft, Role};
 use plist_value::{MAX_DEPTH, ScalarRef, TextRef};
 use std::alloc::Global;
 
@@ -93,7 +93,7 @@ impl<'a> Reader<'a> {
             return Err(NoDraft);
         }
         match first {
-            First::Plain(text) => self.put_text(text),
+            First::Plain(text) => self.put_text(text, Role::Value),
             First::Other(token) => self.token_value(token, levels - 1),
         }
     }
@@ -113,7 +113,7 @@ impl<'a> Reader<'a> {
             (objects self.new.draft) self.new.tokens.cursor) }
     {
         match first.kind {
-            TokenKind::Text(text) => self.put_text(TextRef::of_units(text.units())),
+            TokenKind::Text(text) => self.put_text(TextRef::of_units(text.units()), Role::Value),
             TokenKind::Octets(octets) => self.put_data(&octets),
             TokenKind::ParenOpen => {
                 let items = self.items(levels)?;
@@ -193,7 +193,7 @@ impl<'a> Reader<'a> {
             → IfOk result (λ row. DraftsRow octets tokens row
             (objects self.new.draft) self.new.tokens.cursor) }
     {
-        let number = self.put_string(key)?;
+        let number = self.put_key(key)?;
         let behind = self.tokens.expect_mark('=')?;
         match behind.kind {
             TokenKind::Equals => {
@@ -226,37 +226,37 @@ impl<'a> Reader<'a> {
     }
 
     // Puts a text, and answers its number.
-    fn put_text(&mut self, text: TextRef<'_>) -> Result<u32, NoDraft>
+    fn put_text(&mut self, text: TextRef<'_>, role: Role) -> Result<u32, NoDraft>
         requires { AreUnits (units_of text) }
         ensures put { IfOk result (Puts (objects self.old.draft) (objects self.new.draft)
             (holds_scalar (one_text (units_of text.entry)))) }
         ensures cursor { self.new.tokens.cursor ≡ self.old.tokens.cursor }
     {
         let scalar = ScalarRef::Text(text);
-        Ok(self.draft.share_scalar(&scalar)?)
+        Ok(self.draft.share_scalar(&scalar, role)?)
     }
 
-    // Puts the text of a string, and answers its number.
+    // Puts the text of a string as a key, and answers its number.
     #[inline(always)]
-    fn put_string(&mut self, first: First<'_>) -> Result<u32, NoDraft>
+    fn put_key(&mut self, first: First<'_>) -> Result<u32, NoDraft>
         requires { IsValid first }
         ensures put { IfOk result (PutsString (first_lexeme first.entry) (objects self.old.draft)
             (objects self.new.draft)) }
         ensures cursor { self.new.tokens.cursor ≡ self.old.tokens.cursor }
     {
         match first {
-            First::Plain(text) => self.put_text(text),
-            First::Other(token) => self.put_token(&token.kind),
+            First::Plain(text) => self.put_text(text, Role::Key),
+            First::Other(token) => self.put_key_token(&token.kind),
         }
     }
 
-    fn put_token(&mut self, kind: &TokenKind) -> Result<u32, NoDraft>
+    fn put_key_token(&mut self, kind: &TokenKind) -> Result<u32, NoDraft>
         ensures put { IfOk result (PutsString (lexeme_of kind.now) (objects self.old.draft)
             (objects self.new.draft)) }
         ensures cursor { self.new.tokens.cursor ≡ self.old.tokens.cursor }
     {
         match kind {
-            TokenKind::Text(text) => self.put_text(TextRef::of_units(text.units())),
+            TokenKind::Text(text) => self.put_text(TextRef::of_units(text.units()), Role::Key),
             _ => Err(NoDraft),
         }
     }

@@ -17,7 +17,7 @@ ghost use Rattle.plist_draft.specs.OneProof.{IsDraft-prop};
 ghost use Rattle.plist_draft.specs.Told.{SpellsIn, SpellItemsIn, SpellPairsIn, Keeps, Shows};
 
 use crate::ends::{are_octets, put_places, put_trailer};
-use crate::recent::{Recent, hash_of};
+use crate::recent::{Recent, Role, hash_of};
 use plist_object::{HEADER, put_scalar, put_short_list, put_short_table};
 use plist_value::ScalarRef;
 use std::alloc::{AllocError, Global};
@@ -75,14 +75,14 @@ impl Draft {
     }
 
     /// Puts a scalar as [`Draft::put_scalar`] does, or answers the number of an equal one that was
-    /// put of late. Of scalars that are put often, few objects stand in the draft; where few are
-    /// put again, many are put without a look.
+    /// put of late. Of scalars that are put often, few objects stand in the draft; where few of a
+    /// role are put again, many of that role are put without a look.
     ///
     /// # Errors
     ///
     /// Those of [`Draft::put_scalar`], and where there is no memory for what was put of late. The
     /// draft is then as it was.
-    pub fn share_scalar(&mut self, scalar: &ScalarRef) -> Result<u32, AllocError>
+    pub fn share_scalar(&mut self, scalar: &ScalarRef, role: Role) -> Result<u32, AllocError>
         requires { IsScalar (content_of scalar.now) }
         ensures put { OnOk result ((objects self.new ≡ objects self.old) ⊎ (objects self.new
             ≡ objects self.old ++ (holds_scalar (content_of scalar.now) ∷ []))) }
@@ -91,7 +91,7 @@ impl Draft {
         ensures kept { Keeps (objects self.old) (objects self.new) }
         ensures refused { OnErr result (objects self.new ≡ objects self.old) }
     {
-        if self.recent.passes_over() {
+        if self.recent.passes_over(role) {
             return self.put_scalar(scalar);
         }
         self.recent.prepare(self.places.len())?;
@@ -101,10 +101,10 @@ impl Draft {
         let hash = hash_of(spelled);
         if let Some(known) = self.recent.find_again(hash, spelled, before, &self.places) {
             self.octets.truncate(place as usize);
-            self.recent.hit();
+            self.recent.hit(role);
             return Ok(known);
         }
-        self.recent.keep(hash, number);
+        self.recent.keep(role, hash, number);
         self.places.push_reserved(place);
         Ok(number)
     }

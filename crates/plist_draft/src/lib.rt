@@ -9,4 +9,5 @@ mod recent;
 pub mod values;
 
 pub use draft::Draft;
+pub use recent::Role;
 pub use values::put_value;

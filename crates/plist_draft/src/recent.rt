@@ -7,17 +7,32 @@ use plist_value::FixedHasher;
 use std::alloc::{AllocError, Global};
 use std::hash::{BuildHasher, Hasher};
 
-/// The number of slots at first.
+/// The number of slots at first, and the greatest: of a table that the processor keeps near, in
+/// 128 KiB, and of one that it does not, in 2 MiB.
 const LEAST: usize = 64;
 
-/// The greatest number of slots, in 128 KiB.
-const MOST: usize = 16_384;
+const NEAR: usize = 16_384;
+
+const FAR: usize = 262_144;
 
 /// After so many scalars that were not found it is asked whether to look at all.
 const MISSES: u32 = 4_096;
 
+/// So few scalars that were found are not worth it. What is found later is mostly more, since then
+/// more are kept.
+const FEW: u32 = 32;
+
 /// So many scalars are passed over where few were found.
 const PASSES: u32 = 65_536;
+
+/// What a scalar is put for. Of a long table no two keys are equal, but its values may be.
+#[derive(Clone, Copy, Debug, PartialEq, Eq)]
+pub enum Role {
+    /// A key of a table.
+    Key,
+    /// An item of a list, a value of a table, or the whole value.
+    Value,
+}
 
 /// Stands in a slot that nothing came to: no object has this number.
 const NOTHING: Entry = Entry {
@@ -25,41 +40,83 @@ const NOTHING: Entry = Entry {
     mark: 0,
 };
 
-// A number that is kept, and the half of the hash that does not tell the slot.
+// A number that is kept, and the upper half of the hash, which tells the slot.
 #[derive(Clone, Copy)]
 struct Entry {
     number: u32,
     mark: u32,
 }
 
-/// The numbers of scalars, each in the slot that a hash of its octets gives. A slot has the last
-/// that came to it, so what is not found may have been put all the same. Where few are found, the
-/// next scalars are passed over: to look costs more than an object that stands twice.
+// A slot for each number of some bits of a mark, as many as a power of two. It has the last entry
+// that came to it.
 #[derive(Drop)]
-pub(crate) struct Recent {
-    slots: Vec<Entry>,
-    mask: u64,
-    // Of the scalars that were looked for of late, how many were found, and how many not.
+struct Slots {
+    entries: Vec<Entry>,
+}
+
+impl Slots {
+    fn none(alloc: Global) -> Slots {
+        Slots {
+            entries: Vec::new(alloc),
+        }
+    }
+
+    // The entries of these slots among so many.
+    fn among(&self, alloc: Global, room: usize) -> Result<Slots, AllocError> {
+        let mut slots = Slots::none(alloc);
+        slots.entries.resize(room, NOTHING)?;
+        for entry in &self.entries {
+            if entry.number != NOTHING.number {
+                slots.put(*entry);
+            }
+        }
+        Ok(slots)
+    }
+
+    #[inline(always)]
+    fn slot_of(&self, mark: u32) -> usize {
+        mark as usize & self.entries.len().wrapping_sub(1)
+    }
+
+    // The number that is kept under the mark.
+    #[inline(always)]
+    fn find(&self, mark: u32) -> Option<u32> {
+        let entry = self.entries.get(self.slot_of(mark))?;
+        if entry.mark == mark {
+            Some(entry.number)
+        } else {
+            None
+        }
+    }
+
+    #[inline(always)]
+    fn put(&mut self, entry: Entry) {
+        let slot = self.slot_of(entry.mark);
+        if slot < self.entries.len() {
+            self.entries[slot] = entry;
+        }
+    }
+}
+
+// Of the scalars that were looked for of late, how many were found, and how many not.
+#[derive(Clone, Copy)]
+struct Luck {
     found: u32,
     missed: u32,
     // How many scalars are still passed over.
     passes: u32,
 }
 
-impl Recent {
-    /// No number is kept.
-    pub(crate) fn new(alloc: Global) -> Recent {
-        Recent {
-            slots: Vec::new(alloc),
-            mask: 0,
-            found: 0,
-            missed: 0,
-            passes: 0,
-        }
-    }
+impl Luck {
+    // None was looked for.
+    const NONE: Luck = Luck {
+        found: 0,
+        missed: 0,
+        passes: 0,
+    };
 
-    /// Whether the next scalar is to be put without a look.
-    pub(crate) fn passes_over(&mut self) -> bool {
+    // Whether the next scalar is to be put without a look.
+    fn passes_over(&mut self) -> bool {
         if self.passes == 0 {
             return false;
         }
@@ -67,36 +124,76 @@ impl Recent {
         true
     }
 
-    /// Takes room for the scalars of so many objects. Where it grows, what was kept is given up.
+    // Counts a scalar that was found.
+    fn hit(&mut self) {
+        self.found = self.found.saturating_add(1);
+    }
+
+    // Counts a scalar that was not found. If few were, the next are passed over.
+    fn miss(&mut self) {
+        self.missed = self.missed.saturating_add(1);
+        if self.missed < MISSES {
+            return;
+        }
+        if self.found < FEW {
+            self.passes = PASSES;
+        }
+        self.found = 0;
+        self.missed = 0;
+    }
+}
+
+/// The numbers of scalars, each in the slot that a hash of its octets gives. A slot has the last
+/// that came to it, so what is not found may have been put all the same. Where few keys, or few
+/// values, are found, the next are passed over: to look costs more than an object that stands
+/// twice.
+#[derive(Drop)]
+pub(crate) struct Recent {
+    alloc: Global,
+    near: Slots,
+    far: Slots,
+    keys: Luck,
+    values: Luck,
+}
+
+impl Recent {
+    /// No number is kept.
+    pub(crate) fn new(alloc: Global) -> Recent {
+        Recent {
+            alloc,
+            near: Slots::none(alloc),
+            far: Slots::none(alloc),
+            keys: Luck::NONE,
+            values: Luck::NONE,
+        }
+    }
+
+    /// Whether the next scalar of this role is to be put without a look.
+    pub(crate) fn passes_over(&mut self, role: Role) -> bool {
+        match role {
+            Role::Key => self.keys.passes_over(),
+            Role::Value => self.values.passes_over(),
+        }
+    }
+
+    /// Takes room for the scalars of so many objects.
     pub(crate) fn prepare(&mut self, objects: usize) -> Result<(), AllocError> {
-        let slots = self.slots.len();
-        if objects < slots || slots >= MOST {
+        let slots = self.near.entries.len();
+        if objects < slots || !self.far.entries.is_empty() {
             return Ok(());
         }
-        let room = (8 * slots).clamp(LEAST, MOST);
-        self.slots.clear();
-        self.slots.resize(room, NOTHING)?;
-        self.mask = room as u64 - 1;
+        if slots < NEAR {
+            self.near = self.near.among(self.alloc, (8 * slots).clamp(LEAST, NEAR))?;
+        } else {
+            self.far = self.near.among(self.alloc, FAR)?;
+        }
         Ok(())
     }
 
-    fn slot_of(&self, hash: u64) -> usize {
-        (hash & self.mask) as usize
-    }
-
-    // The number that is kept of a scalar with this hash.
-    fn find(&self, hash: u64) -> Option<u32> {
-        let entry = self.slots.get(self.slot_of(hash))?;
-        if entry.mark == mark_of(hash) {
-            Some(entry.number)
-        } else {
-            None
-        }
-    }
-
     /// The number of an object that begins with these octets, if one is kept under this hash.
+    #[inline(always)]
     pub(crate) fn find_again(
-        &self,
+        &mut self,
         hash: u64,
         spelled: &[u8],
         octets: &[u8],
@@ -105,43 +202,42 @@ impl Recent {
         ensures { IfSome result (λ number.
             StandsAgain octets.now places.now number spelled.now) }
     {
-        let number = self.find(hash)?;
-        if stands_again(octets, places, number, spelled) {
-            Some(number)
-        } else {
-            None
+        let mark = mark_of(hash);
+        if let Some(number) = self.near.find(mark)
+            && stands_again(octets, places, number, spelled)
+        {
+            return Some(number);
+        }
+        let number = self.far.find(mark)?;
+        if !stands_again(octets, places, number, spelled) {
+            return None;
+        }
+        self.near.put(Entry { number, mark });
+        Some(number)
+    }
+
+    /// Counts a scalar of this role that was found.
+    pub(crate) fn hit(&mut self, role: Role) {
+        match role {
+            Role::Key => self.keys.hit(),
+            Role::Value => self.values.hit(),
         }
     }
 
-    /// Counts a scalar that was found.
-    pub(crate) fn hit(&mut self) {
-        self.found = self.found.saturating_add(1);
+    // Counts a scalar of this role that was not found.
+    fn miss(&mut self, role: Role) {
+        match role {
+            Role::Key => self.keys.miss(),
+            Role::Value => self.values.miss(),
+        }
     }
 
-    // Counts a scalar that was not found. Where fewer than one of eight were, the next are passed
-    // over.
-    fn miss(&mut self) {
-        self.missed = self.missed.saturating_add(1);
-        if self.missed < MISSES {
-            return;
-        }
-        if self.found < MISSES / 8 {
-            self.passes = PASSES;
-        }
-        self.found = 0;
-        self.missed = 0;
-    }
-
-    /// Keeps the number of a scalar with this hash, which was not found.
-    pub(crate) fn keep(&mut self, hash: u64, number: u32) {
-        self.miss();
-        let slot = self.slot_of(hash);
-        if slot < self.slots.len() {
-            self.slots[slot] = Entry {
-                number,
-                mark: mark_of(hash),
-            };
-        }
+    /// Keeps the number of a scalar of this role with this hash, which was not found.
+    pub(crate) fn keep(&mut self, role: Role, hash: u64, number: u32) {
+        self.miss(role);
+        let mark = mark_of(hash);
+        self.near.put(Entry { number, mark });
+        self.far.put(Entry { number, mark });
     }
 }
 

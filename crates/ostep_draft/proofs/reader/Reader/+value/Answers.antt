@@ -108,16 +108,16 @@ items-loop-items-preserved t c =
 
 pub row-returns-in-Equals-clause-read : goal.row-returns-in-Equals-clause-read
 row-returns-in-Equals-clause-read t c octets tokens at l h =
-    let has : StandsBehind octets (tokens ++ at ∷ []) c.put_string.new.self.tokens.cursor = subst (λ x. StandsBehind octets (tokens ++ at ∷ []) x) (sym c.in_ok-number.ensures.cursor) h in
+    let has : StandsBehind octets (tokens ++ at ∷ []) c.put_key.new.self.tokens.cursor = subst (λ x. StandsBehind octets (tokens ++ at ∷ []) x) (sym c.in_ok-number.ensures.cursor) h in
     let token = placed c.in_ok-behind.behind in
-    drafts-row (objects c.args.self.now.draft) (objects c.put_string.new.self.draft) (objects c.row_value.new.self.draft) tokens at token c.in_ok-number.ensures.put.units c.in_ok-number.number c.in_ok-value-in-Equals.value
+    drafts-row (objects c.args.self.now.draft) (objects c.put_key.new.self.draft) (objects c.row_value.new.self.draft) tokens at token c.in_ok-number.ensures.put.units c.in_ok-number.number c.in_ok-value-in-Equals.value
     (l ∙ c.in_ok-number.ensures.put.is) (ap lexeme_of c.in-Equals.is) has c.in_ok-number.ensures.put.put c.in_ok-value-in-Equals.ensures.kept
     (c.in_ok-value-in-Equals.ensures.read octets ((tokens ++ at ∷ []) ++ token ∷ []) (c.in_ok-behind.ensures.read octets (tokens ++ at ∷ []) has))
 
 pub row-returns-in-Semicolon-clause-read : goal.row-returns-in-Semicolon-clause-read
 row-returns-in-Semicolon-clause-read t c octets tokens at l h =
-    let has : StandsBehind octets (tokens ++ at ∷ []) c.put_string.new.self.tokens.cursor = subst (λ x. StandsBehind octets (tokens ++ at ∷ []) x) (sym c.in_ok-number.ensures.cursor) h in
-    drafts-alone (objects c.args.self.now.draft) (objects c.put_string.new.self.draft) tokens at (placed c.in_ok-behind.behind) c.in_ok-number.ensures.put.units c.in_ok-number.number
+    let has : StandsBehind octets (tokens ++ at ∷ []) c.put_key.new.self.tokens.cursor = subst (λ x. StandsBehind octets (tokens ++ at ∷ []) x) (sym c.in_ok-number.ensures.cursor) h in
+    drafts-alone (objects c.args.self.now.draft) (objects c.put_key.new.self.draft) tokens at (placed c.in_ok-behind.behind) c.in_ok-number.ensures.put.units c.in_ok-number.number
     (l ∙ c.in_ok-number.ensures.put.is) (ap lexeme_of c.in-Semicolon.is) (c.in_ok-behind.ensures.read octets (tokens ++ at ∷ []) has) c.in_ok-number.ensures.put.put
 
 pub row_value-returns-in-Semicolon-clause-read : goal.row_value-returns-in-Semicolon-clause-read
