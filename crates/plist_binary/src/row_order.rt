@@ -1,6 +1,6 @@
 //! The places of the keys of a long table in the order of their texts, where the heads of the texts
 //! tell it.
-ghost use Rattle.std.specs.Prelude.{◌≡◌, ◌<◌, ◌≤◌, ◌^◌, IsTrue, IfOk, IfSome, length, map};
+ghost use Rattle.std.specs.Prelude.{◌≡◌, ◌<◌, ◌≤◌, ◌^◌, IsTrue, IfOk, IfSome, OnOk, length, map};
 ghost use Rattle.std.specs.Ordering.{nat_cmp};
 ghost use Rattle.std.specs.Cmp.Lexicographic.{slice_cmp};
 ghost use Rattle.std.specs.List.Sorted.{IsPermutation};
@@ -38,6 +38,9 @@ const WIDE_UNITS: usize = 4;
 // So many heads of a key are read: the first behind what all keys share.
 const MOST_HEADS: usize = 8;
 
+// Where more than one of so many rows is tied, the heads of all keys are read.
+const FEW_TIED: usize = 8;
+
 // The places of the keys in the order of their texts, if the keys are many and their heads tell
 // that order. Rows are sorted in place of keys, which take more than three times the room.
 pub(crate) fn places_by_heads(alloc: Global, keys: &[Key]) -> Result<Option<Vec<u64>>, AllocError>
@@ -70,7 +73,7 @@ fn places_by_more_heads(
     ensures { IfOk result (λ told. IfSome told (λ places. AreOrdered keys.now places.items)) }
 {
     let mut rows = rows;
-    order_runs(keys, &mut rows, front);
+    order_runs(alloc, keys, &mut rows, front)?;
     let sorted = rows.as_slice();
     if !texts_ascend(keys, sorted) {
         return Ok(None);
@@ -107,8 +110,14 @@ fn ascend(rows: &[Row]) -> bool
 }
 
 // Puts the rows of equal heads, which stand together, in the order of the heads that follow.
-fn order_runs(keys: &[Key], rows: &mut Vec<Row>, front: usize)
-    ensures { IsPermutation (map place_in rows.old.items) (map place_in rows.new.items) }
+fn order_runs(
+    alloc: Global,
+    keys: &[Key],
+    rows: &mut Vec<Row>,
+    front: usize,
+) -> Result<(), AllocError>
+    ensures { OnOk result
+        (IsPermutation (map place_in rows.old.items) (map place_in rows.new.items)) }
 {
     let wide = are_cut_off(rows);
     let step = if wide { WIDE_UNITS } else { HEAD_UNITS };
@@ -118,13 +127,36 @@ fn order_runs(keys: &[Key], rows: &mut Vec<Row>, front: usize)
         front.saturating_add(step)
     };
     for _ in 1..MOST_HEADS {
-        if !mark_runs(&mut *rows) {
-            return;
+        let tied = mark_runs(&mut *rows);
+        if tied == 0 {
+            return Ok(());
         }
-        read_heads(keys, &mut *rows, front, wide);
+        let heads = heads_if_many(alloc, keys, tied, front, wide)?;
+        read_heads(keys, heads.as_slice(), &mut *rows, front, wide);
         sort_runs(rows.as_mut_slice());
         front = front.saturating_add(step);
     }
+    Ok(())
+}
+
+// The heads of all keys behind so many units, if many rows are tied: keys are read faster in the
+// order of the file than in that of the rows. Else none.
+fn heads_if_many(
+    alloc: Global,
+    keys: &[Key],
+    tied: usize,
+    front: usize,
+    wide: bool,
+) -> Result<Vec<u64>, AllocError> {
+    let mut heads = Vec::new(alloc);
+    if tied < keys.len() / FEW_TIED {
+        return Ok(heads);
+    }
+    heads.reserve(keys.len())?;
+    for key in keys {
+        heads.push(head_behind(&key.text, front, wide))?;
+    }
+    Ok(heads)
 }
 
 // Whether a head may end with a unit that is cut off, behind which heads of octets tell nothing.
@@ -156,19 +188,19 @@ fn sort_run(rows: &mut [Row], start: usize, end: usize)
     }
 }
 
-// Puts the rows of equal runs and heads into a run of their own, and says whether one of these has
-// two rows.
-fn mark_runs(rows: &mut Vec<Row>) -> bool
+// Puts the rows of equal runs and heads into a run of their own, and says how many are tied: they
+// are in the run of the row before them.
+fn mark_runs(rows: &mut Vec<Row>) -> usize
     ensures { map place_in rows.new.items ≡ map place_in rows.old.items }
 {
     let mut before = (u32::MAX, 0);
     let mut run: u32 = 0;
-    let mut tied = false;
+    let mut tied: usize = 0;
     for i in 0..rows.len() {
         let row = rows[i];
         let now = (row.run, row.head);
         if now == before {
-            tied = true;
+            tied = tied.saturating_add(1);
         } else {
             run = run.wrapping_add(1);
         }
@@ -178,18 +210,26 @@ fn mark_runs(rows: &mut Vec<Row>) -> bool
     tied
 }
 
-// Gives the rows the heads of their keys behind so many units, wide ones or others.
-fn read_heads(keys: &[Key], rows: &mut Vec<Row>, front: usize, wide: bool)
+// Gives the rows the heads of their keys behind so many units, wide ones or others. They are these,
+// if there are any.
+fn read_heads(keys: &[Key], heads: &[u64], rows: &mut Vec<Row>, front: usize, wide: bool)
     ensures { map place_in rows.new.items ≡ map place_in rows.old.items }
 {
     for i in 0..rows.len() {
-        let head = next_head(keys, &*rows, i, front, wide);
+        let head = next_head(keys, heads, &*rows, i, front, wide);
         rows[i].head = head;
     }
 }
 
 // The head of a row's key behind so many units, or 0 where the row is alone in its run.
-fn next_head(keys: &[Key], rows: &Vec<Row>, i: usize, front: usize, wide: bool) -> u64
+fn next_head(
+    keys: &[Key],
+    heads: &[u64],
+    rows: &Vec<Row>,
+    i: usize,
+    front: usize,
+    wide: bool,
+) -> u64
     requires { i < length rows.now.items }
 {
     let row = rows[i];
@@ -198,10 +238,22 @@ fn next_head(keys: &[Key], rows: &Vec<Row>, i: usize, front: usize, wide: bool) 
     if is_first && is_last {
         return 0;
     }
-    match keys.get(row.place as usize) {
-        Some(key) if wide => wide_head(&key.text, front),
-        Some(key) => heads::head(&key.text, front),
+    let place = row.place as usize;
+    if let Some(head) = heads.get(place) {
+        return *head;
+    }
+    match keys.get(place) {
+        Some(key) => head_behind(&key.text, front, wide),
         None => 0,
+    }
+}
+
+// The head of the text behind so many units, a wide one or another.
+fn head_behind(text: &TextRef, front: usize, wide: bool) -> u64 {
+    if wide {
+        wide_head(text, front)
+    } else {
+        heads::head(text, front)
     }
 }
 

@@ -10,6 +10,6 @@ pub returns : goal.returns
 returns c =
     let keys = c.args.keys.now in
     let sorted = c.order_runs.new.rows.items in
-    let moved = IsPermutation-trans (map place_of keys) (map place_in c.args.rows.items) (map place_in sorted) c.requires.moved c.order_runs.ensures in
+    let moved = IsPermutation-trans (map place_of keys) (map place_in c.args.rows.items) (map place_in sorted) c.requires.moved c.in_ok-order_runs.ensures in
     let texts = subst (λ (rows : List Row). TextsAscend keys rows) c.as_slice-sorted.ensures.value (c.texts_ascend.ensures c.if-not-texts_ascend.false) in
     ordered_by_texts keys sorted _ c.requires.placed moved texts (c.in_ok-places_of.ensures ∙ ap (map place_in) c.as_slice-sorted.ensures.value)
