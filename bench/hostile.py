@@ -60,6 +60,14 @@ def overlapping_keys(size):
     return file(table + heads + b"a" * length + b"\x10\x00", places, 2)
 
 
+def one_table_often(size):
+    """Objects that are all one table, whose keys are all one text."""
+    count = size // 10
+    width = 2 if count + 1 < 1 << 16 else 4
+    table = head(0xD0, count) + number(count, width) * (2 * count)
+    return file(table + b"Qa", [8] * count + [8 + len(table)], width)
+
+
 def one_text_often(size):
     """A list that names one long text again and again."""
     length = size // 2
@@ -80,8 +88,8 @@ def main():
     print("|---|---|---|---|---|---|")
     with tempfile.TemporaryDirectory() as folder:
         path, measure = os.path.join(folder, "file"), Measure(folder)
-        for word, make in (("check", shared_keys), ("check", overlapping_keys), ("check", one_text_often),
-                           ("lint", shared_keys), ("lint", one_key)):
+        for word, make in (("check", shared_keys), ("check", overlapping_keys), ("check", one_table_often),
+                           ("check", one_text_often), ("lint", shared_keys), ("lint", one_key)):
             for size in (250_000, 500_000, 1_000_000):
                 with open(path, "wb") as target:
                     target.write(make(size))

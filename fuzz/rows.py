@@ -41,22 +41,20 @@ def octets_of(form):
 
 
 def overlapping(octets):
-    """Whether texts that tables name as keys are longer than what stands before the offset table, and the first
-    object that does not read or does not stand where the one before it ends: it is answered first."""
-    file, keys, end = oracle.File(octets), {}, 8
+    """The first object that does not stand where the one before it ends, if the tables up to it have more keys, or
+    these have more units, than there are octets before the offset table: it is answered first."""
+    file, units, keys, end = oracle.File(octets), {}, 0, 8
     for n in range(file.count):
         try:
             content, behind = file.object(n)
             if content[0] == 'table':
-                keys.update((key, len(file.object(key)[0][1][1])) for key in content[1])
+                keys += len(content[1])
+                units.update((key, len(file.object(key)[0][1][1])) for key in content[1])
         except (Refused, IndexError, TypeError):
             return None
-    if sum(keys.values()) <= file.table:
-        return None
-    for n in range(file.count):
         if file.place(n) != end:
-            return 'broken C3 at object %d' % n
-        end = file.object(n)[1]
+            return 'broken C3 at object %d' % n if max(keys, sum(units.values())) > file.table else None
+        end = behind
     return None
 
 

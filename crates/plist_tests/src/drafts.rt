@@ -2,7 +2,7 @@
 //! a draft.
 use ostep_text::read_text;
 use plist_binary::read;
-use plist_draft::{Draft, put_value};
+use plist_draft::{Draft, Role, put_value};
 use plist_value::{ScalarRef, TextRef, Value, same};
 use std::alloc::{AllocError, Global};
 use std::test::Fail;
@@ -22,7 +22,11 @@ fn put_text(draft: &mut Draft, units: &[u16]) -> Result<u32, AllocError> {
 }
 
 fn share_text(draft: &mut Draft, units: &[u16]) -> Result<u32, AllocError> {
-    draft.share_scalar(&ScalarRef::Text(TextRef::of_units(units)))
+    draft.share_scalar(&ScalarRef::Text(TextRef::of_units(units)), Role::Value)
+}
+
+fn share_key(draft: &mut Draft, units: &[u16]) -> Result<u32, AllocError> {
+    draft.share_scalar(&ScalarRef::Text(TextRef::of_units(units)), Role::Key)
 }
 
 fn one_text(alloc: Global) -> Result<Vec<u8>, AllocError> {
@@ -64,7 +68,10 @@ fn equal_scalars_are_one_object(rt: HostRuntime) -> Result<(), Fail> {
     let b = share_text(&mut draft, &[0x62])?;
     assert_eq!(rt; [a, b], [0, 1]);
     assert_eq!(rt; share_text(&mut draft, &[0x61])?, a);
-    assert_eq!(rt; draft.share_scalar(&ScalarRef::Bytes(b"a"))?, 2);
+    assert_eq!(rt;
+        draft.share_scalar(&ScalarRef::Bytes(b"a"), Role::Value)?,
+        2
+    );
     assert_eq!(rt; put_text(&mut draft, &[0x61])?, 3);
     let top = draft.put_table(&[b, a], &[a, b])?;
     let table = draft.finish(top)?;
@@ -85,6 +92,20 @@ fn few_equal_scalars_are_not_looked_for(rt: HostRuntime) -> Result<(), Fail> {
     for _ in 0..66_000u32 {
         share_text(&mut draft, &[0x61])?;
     }
+    let b = share_text(&mut draft, &[0x62])?;
+    assert_eq!(rt; share_text(&mut draft, &[0x62])?, b);
+    Ok(())
+}
+
+// That few keys are found says nothing of values, and the other way round.
+#[test]
+fn keys_and_values_are_looked_for_apart(rt: HostRuntime) -> Result<(), Fail> {
+    let mut draft = Draft::new(rt.alloc())?;
+    for i in 0..5_000u16 {
+        share_key(&mut draft, &[i, 0x61])?;
+    }
+    assert_eq!(rt; share_key(&mut draft, &[0x61])?, 5_000);
+    assert_eq!(rt; share_key(&mut draft, &[0x61])?, 5_001);
     let b = share_text(&mut draft, &[0x62])?;
     assert_eq!(rt; share_text(&mut draft, &[0x62])?, b);
     Ok(())

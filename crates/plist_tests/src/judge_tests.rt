@@ -1,10 +1,10 @@
-//! The judge and the reader where no row of octets shows them: keys that many tables share, and
-//! want of memory.
+//! The judge and the reader where no row of octets shows them: keys that many tables share, tables
+//! that overlap, and want of memory.
 use plist_binary::{BinaryFault, judge, judge_keys, read};
-use plist_canon::{CheckFault, check};
+use plist_canon::{CheckFault, Verdict, check};
 use std::alloc::{AllocError, Global};
 use std::test::Fail;
-use test_files::Draft;
+use test_files::{Draft, end};
 
 // A flag, and the three objects that no table names.
 const LAST_OBJECTS: [&[u8]; 4] = [b"\x09", b"\xd2\x1b\x1c\x19\x19", b"\x00", b"Q\xff"];
@@ -222,6 +222,34 @@ fn wrong_file(alloc: Global) -> Option<usize> {
         }
     }
     None
+}
+
+// A table of so many keys, each of which is one text, and so many objects that are all this table.
+fn one_table_often(alloc: Global, count: u32) -> Result<Vec<u8>, AllocError> {
+    let mut file = Vec::from_slice(alloc, b"bplist00\xdf\x12")?;
+    file.extend_from_slice(&count.to_be_bytes())?;
+    let mut places = Vec::new(alloc);
+    for _ in 0..count {
+        file.extend_from_slice(&count.to_be_bytes())?;
+        file.extend_from_slice(&count.to_be_bytes())?;
+        places.extend_from_slice(&[0, 0, 0, 8])?;
+    }
+    let text = file.len() as u64;
+    file.extend_from_slice(b"Qa")?;
+    places.extend_from_slice(&text.to_be_bytes()[4..])?;
+    end(&mut file, places.as_slice(), [4, 4], u64::from(count) + 1)?;
+    Ok(file)
+}
+
+// The keys of each table anew would take minutes.
+#[test]
+fn tables_that_overlap_take_no_longer(rt: HostRuntime) -> Result<(), Fail> {
+    let octets = one_table_often(rt.alloc(), 150_000)?;
+    let broken = Verdict::Broken { rule: 5, object: 0 };
+    assert_eq!(rt; check(rt.alloc(), octets.as_slice())?, broken);
+    let fault = BinaryFault::DuplicateKey { object: 0 };
+    assert_eq!(rt; judge(rt.alloc(), octets.as_slice()), Err(fault));
+    Ok(())
 }
 
 // To refuse memory: `rt try --test --fail-alloc N -- judge_tests::want_of_memory`, N from 1 to 40.
