@@ -112,8 +112,8 @@ pub enum Verdict {
 /// and takes memory for each object, for the scalars that may be met twice, for the keys and for
 /// the path of the walk. So where tables overlap and have more keys than there are octets before
 /// the offset table, or where the texts of their keys do and are together longer, the first object
-/// that does not read, or does not stand where the one before it ends, is answered even if another
-/// rule is broken at an object before it.
+/// that does not read, or does not stand where the one before it ends, may be answered even if
+/// another rule is broken at an object before it.
 ///
 /// # Errors
 ///
