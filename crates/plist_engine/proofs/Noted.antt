@@ -5,13 +5,14 @@ use Rattle.std.proofs.lemmas.List.{get_or_append_left}
 use Rattle.std.proofs.Math.Seq.{get_or-append_seam}
 use Rattle.plist_value.specs.Plist.{Scalar}
 use Rattle.plist_value.specs.declared.scalar_ref.ScalarRef.{ScalarRef}
+use Rattle.plist_value.specs.Scalars.{content_of}
 use Rattle.plist_object.specs.Objects.{holds_scalar, holds_list, holds_table}
 use Rattle.plist_object.specs.Places.{Holds}
 use Rattle.plist_object.specs.Views.{held_of, numbers_of}
 use Rattle.plist_object.specs.declared.object.Object.{Object}
 use Rattle.plist_object.specs.declared.object.Object.TheVariants as shown
 use Rattle.plist_engine.specs.Bits.{HasBit, KeepsBits, bit_of}
-use Rattle.plist_engine.specs.Sieve.{HasNoted, HoldsIt}
+use Rattle.plist_engine.specs.Sieve.{no_bit, HasNoted, HoldsIt}
 use Rattle.plist_engine.specs.declared.sieve.Sieve.{Sieve}
 
 pub noted-nothing : (f : List ℕ) (sieve : Sieve) → sieve.bits.items ≡ [] → HasNoted f 0 sieve
@@ -20,6 +21,7 @@ noted-nothing f sieve none = record {
   kept = λ k s below. absurd (omega (arith, below));
   came = λ k s below. absurd (omega (arith, below));
   again = λ j k s apart below. absurd (omega (arith, below));
+  told = λ k below. absurd (omega (arith, below));
 }
 
 module _ (f : List ℕ) (i bit : ℕ) (old new : Sieve) (was : HasNoted f i old) (pushed : new.bits.items ≡ old.bits.items ++ (bit ∷ [])) where
@@ -35,8 +37,8 @@ module _ (f : List ℕ) (i bit : ℕ) (old new : Sieve) (was : HasNoted f i old)
       ap (λ bits. get_or bits i 0) pushed ∙ ap (λ n. get_or (old.bits.items ++ (bit ∷ [])) n 0) (sym was.noted) ∙ get_or-append_seam old.bits.items bit [] 0
 
   -- one that holds no scalar
-  pub noted-none : new.once ≡ old.once → new.again ≡ old.again → ((s : Scalar) → HoldsIt f i s → ⊥) → HasNoted f (suc i) new
-  noted-none same_once same_again none = record {
+  pub noted-none : bit ≡ no_bit → new.once ≡ old.once → new.again ≡ old.again → ((s : Scalar) → HoldsIt f i s → ⊥) → HasNoted f (suc i) new
+  noted-none is_none same_once same_again none = record {
     noted = long;
     kept = λ k s below holds. elim (cases_lt k i) [
       | inl earlier ↦ before k earlier ∙ was.kept k s earlier holds ∙ ap (λ bits. bit_of bits s) (sym same_once)
@@ -50,10 +52,17 @@ module _ (f : List ℕ) (i bit : ℕ) (old new : Sieve) (was : HasNoted f i old)
       | inl earlier ↦ rw (same_once, same_again) (was.again j k s apart earlier first second)
       | inr late ↦ absurd (let is : k ≡ i = omega (arith, late, below) in none s (subst (λ (j : ℕ). HoldsIt f j s) is second))
     ];
+    told = λ k below some. elim (cases_lt k i) [
+      | inl earlier ↦ was.told k earlier (λ none. some (before k earlier ∙ none))
+      | inr late ↦ absurd (let is : k ≡ i = omega (arith, late, below) in some (ap (λ j. get_or new.bits.items j 0) is ∙ last ∙ is_none))
+    ];
   }
 
   -- one that holds a scalar
-  module _ (s : Scalar) (holds : HoldsIt f i s) (is_bit : bit ≡ bit_of old.once s) (alike : (t : Scalar) → bit_of new.once t ≡ bit_of old.once t) (once_kept : KeepsBits old.once new.once) (again_kept : KeepsBits old.again new.again) (came : HasBit new.once bit) (again : HasBit old.once bit → HasBit new.again bit) where
+  module _ (r : ScalarRef) (holds : HoldsIt f i (content_of r)) (is_bit : bit ≡ bit_of old.once (content_of r)) (alike : (t : Scalar) → bit_of new.once t ≡ bit_of old.once t) (once_kept : KeepsBits old.once new.once) (again_kept : KeepsBits old.again new.again) (came : HasBit new.once bit) (again : HasBit old.once bit → HasBit new.again bit) where
+    abbrev s : Scalar
+    s = content_of r
+
     one : (k : ℕ) (t : Scalar) → i ≤ k → k < suc i → HoldsIt f k t → (k ≡ i) × (t ≡ s)
     one k t late below reads =
         let is : k ≡ i = omega (arith, late, below) in
@@ -83,6 +92,10 @@ module _ (f : List ℕ) (i bit : ℕ) (old new : Sieve) (was : HasNoted f i old)
             let had : HasBit old.once bit = subst (HasBit old.once) same (was.came j t (omega (arith, apart, below)) first) in
             subst (HasBit new.again) (sym same ∙ sym (alike t)) (again had)
             )
+      ];
+      told = λ k below some. elim (cases_lt k i) [
+        | inl earlier ↦ was.told k earlier (λ none. some (before k earlier ∙ none))
+        | inr late ↦ (let is : i ≡ k = omega (arith, late, below) in (r, subst (λ (j : ℕ). HoldsIt f j s) is holds))
       ];
     }
 

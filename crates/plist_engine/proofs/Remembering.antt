@@ -16,14 +16,14 @@ use Rattle.plist_engine.specs.declared.plan.Plan.{Plan}
 use Rattle.plist_engine.specs.declared.scalars.Scalars.{Scalars}
 use Rattle.plist_engine.specs.Naturals.{no_number}
 use Rattle.plist_engine.specs.Scalars.{AreNew, EntersScalar, number_stored}
-use Rattle.plist_engine.specs.Memo.{single, kept, IsNumber, IsSingle, KeepsNumber, Sifts}
+use Rattle.plist_engine.specs.Memo.{single, kept, IsNumber, IsAlone, IsSingle, KeepsNumber, Sifts}
 use Rattle.plist_engine.specs.Plan.{is_held, number_from, number_met, IsRemembered, IsMet, IsUnmet, KnowsScalars, MeetsScalar, IsWalked, Begins}
 use Rattle.plist_engine.specs.Spelling.{SpellsWithin}
 use Rattle.plist_engine.proofs.Meeting.{cases_Option, met-added, met-beside, met-now, met-still}
 use Rattle.plist_engine.proofs.Storing.{entered-had, entered-kept, entered-unknown, entered-added}
 use Rattle.plist_engine.proofs.Walking.{Walks-known}
 
-valid_at : (f : List ℕ) (i : ℕ) (s : Scalar) (v : Plist) → IsPlist v → Spells f i v → Holds f i (holds_scalar s) → IsScalar s
+pub valid_at : (f : List ℕ) (i : ℕ) (s : Scalar) (v : Plist) → IsPlist v → Spells f i v → Holds f i (holds_scalar s) → IsScalar s
 valid_at f i s (scalar t) valid spells holds =
     let held = same_held f i (holds_scalar t) (holds_scalar s) spells holds in
     let same : t ≡ s = cc in
@@ -57,7 +57,7 @@ knows-none f plan none new listed unmet = record {
   listed = listed;
   numbered = new.numbered;
   each = λ i some. absurd (let is = unmet i in omega (arith, some, is));
-  alone = λ i e. absurd (let is = unmet i in omega (arith, e, is));
+  singles = λ i e. absurd (let is = unmet i in omega (arith, e, is));
   stored = λ r n has. absurd (let e : None ≡ Some n = sym (new.unknown r) ∙ has in cc);
   met = λ s n has. absurd (let e : None ≡ Some n = sym (ap (λ originals. number_from f 0 originals s) none) ∙ has in cc);
 }
@@ -73,7 +73,7 @@ knows-as {S} {H} f old new same same_scalars same_memo was =
       each = λ i some.
           let one = was.each i (subst IsNumber (memo i) some) in
           record { shown = one.shown; holds = one.holds; met = same one.shown ∙ one.met ∙ ap Some (sym (memo i)) };
-      alone = λ i e. was.alone i (sym (memo i) ∙ e);
+      singles = λ i e. was.singles i (sym (memo i) ∙ e);
       stored = λ r n has. same (content_of r) ∙ was.stored r n (sym (stored r) ∙ has);
       met = λ s n has.
           let one = was.met s n (sym (same s) ∙ has) in
@@ -121,8 +121,8 @@ unmet-sifted {S} {H} f i s old new same_originals same_scalars sifts unmet =
               )
           | inr marked ↦ absurd (let is = marked.1.0 in omega (arith, is, some))
         ];
-        alone = λ j e. elim (sifts.each j) [
-          | inl is ↦ was.alone j (sym is ∙ e)
+        singles = λ j e. elim (sifts.each j) [
+          | inl is ↦ was.singles j (sym is ∙ e)
           | inr marked ↦ marked.1.1
         ];
         stored = λ r n has. same (content_of r) ∙ was.stored r n (sym (stored r) ∙ has);
@@ -161,7 +161,7 @@ module _ {S H : Type 0} (f : List ℕ) (i : ℕ) (r : ScalarRef) (old : Plan S H
       unmet.knows.stored r n (entered-had r next n old.scalars scalars enters)
 
   -- it was not met, where it is that of one object, or not in the set
-  unmet-single : IsSingle f i → number_met f old s ≡ None
+  unmet-single : IsAlone f i → number_met f old s ≡ None
   unmet-single single = elim (cases_Option (number_met f old s)) [
     | inl none ↦ none
     | inr some ↦ absurd (let one = unmet.knows.met s some.0 some.1 in apart_here s some.0 one (single s one.object unmet.holds one.holds))
@@ -177,7 +177,7 @@ module _ {S H : Type 0} (f : List ℕ) (i : ℕ) (r : ScalarRef) (old : Plan S H
   ]
 
   abbrev Entered : ℕ → Scalars S H → Type 0
-  Entered n scalars = EntersScalar r n old.scalars scalars None ⊎ ((scalars ≡ old.scalars) × IsSingle f i)
+  Entered n scalars = EntersScalar r n old.scalars scalars None ⊎ ((scalars ≡ old.scalars) × IsAlone f i)
 
   pub new-met : (n : ℕ) (scalars : Scalars S H) → Entered n scalars → number_met f old s ≡ None
   new-met n scalars entered = elim entered [
@@ -195,7 +195,7 @@ module _ {S H : Type 0} (f : List ℕ) (i : ℕ) (r : ScalarRef) (old : Plan S H
   pub new-entered : (n : ℕ) (scalars : Scalars S H) → MeetsScalar old.memo i r n old.scalars scalars None → Entered n scalars
   new-entered n scalars meets = elim meets [
     | inl enters ↦ inl (enters unmet.knows.numbered)
-    | inr alone ↦ inr (alone.1.0, unmet.knows.alone i alone.1.1)
+    | inr alone ↦ inr (alone.1.0, (unmet.knows.singles i alone.1.1).1)
   ]
 
   module _ (n : ℕ) (new : Plan S H) (some : IsNumber n) (keeps : KeepsNumber i n old.memo new.memo) where
@@ -219,10 +219,10 @@ module _ {S H : Type 0} (f : List ℕ) (i : ℕ) (r : ScalarRef) (old : Plan S H
           )
     ]
 
-    alone_now : (j : ℕ) → kept new.memo j ≡ single → IsSingle f j
-    alone_now j e = elim (cases_eq j i) [
+    singles_now : (j : ℕ) → kept new.memo j ≡ single → IsSingle f j
+    singles_now j e = elim (cases_eq j i) [
       | inl is ↦ absurd (let number : n ≡ single = sym here ∙ ap (kept new.memo) (sym is) ∙ e in omega (arith, number, some))
-      | inr apart ↦ unmet.knows.alone j (sym (keeps.others j apart) ∙ e)
+      | inr apart ↦ unmet.knows.singles j (sym (keeps.others j apart) ∙ e)
     ]
 
     -- an equal one was met
@@ -232,7 +232,7 @@ module _ {S H : Type 0} (f : List ℕ) (i : ℕ) (r : ScalarRef) (old : Plan S H
         let stored = entered-kept r next n old.scalars new.scalars enters in
         record {
           listed = keeps.as_many ∙ unmet.knows.listed;
-          alone = alone_now;
+          singles = singles_now;
           numbered = enters.numbered;
           each = each_now (same s ∙ had-met next n new.scalars enters) (λ q m had. same q ∙ had);
           stored = λ q m has. same (content_of q) ∙ unmet.knows.stored q m (sym (stored q) ∙ has);
@@ -285,7 +285,7 @@ module _ {S H : Type 0} (f : List ℕ) (i : ℕ) (r : ScalarRef) (old : Plan S H
             )
       ]
 
-      found_now : (m : ℕ) → n ≡ m → (q : Scalar) → s ≡ q → ((t : ScalarRef) → content_of t ≡ q → number_stored new.scalars t ≡ Some m) ⊎ IsSingle f i
+      found_now : (m : ℕ) → n ≡ m → (q : Scalar) → s ≡ q → ((t : ScalarRef) → content_of t ≡ q → number_stored new.scalars t ≡ Some m) ⊎ IsAlone f i
       found_now m is q same = elim entered [
         | inr alone ↦ inr alone.1
         | inl enters ↦ inl (λ t e. let yes = (scalar_eq-Decides s (content_of t)).1 (same ∙ sym e) in entered-added r n old.scalars new.scalars enters t ∙ rw yes (ap Some is))
@@ -329,7 +329,7 @@ module _ {S H : Type 0} (f : List ℕ) (i : ℕ) (r : ScalarRef) (old : Plan S H
       pub knows-more : KnowsScalars f new
       knows-more = record {
         listed = keeps.as_many ∙ unmet.knows.listed;
-        alone = alone_now;
+        singles = singles_now;
         numbered = elim entered [
           | inl enters ↦ enters.numbered
           | inr alone ↦ rw alone.0 unmet.knows.numbered

@@ -5,10 +5,10 @@ use Rattle.std.proofs.lemmas.List.{length-set, get_or-set_same, get_or-set_other
 use Rattle.plist_value.specs.Plist.{Scalar}
 use Rattle.plist_object.specs.Layout.{trailer_of}
 use Rattle.plist_engine.specs.Bits.{HasBit}
-use Rattle.plist_engine.specs.Memo.{single, kept_at, IsSingle, Marks, Sifts}
+use Rattle.plist_engine.specs.Memo.{single, kept_at, IsAlone, IsSingle, Marks, Sifts}
 use Rattle.plist_engine.specs.Naturals.{no_number}
 use Rattle.plist_engine.specs.declared.memo.Memo.{Memo}
-use Rattle.plist_engine.specs.Sieve.{HasNoted, HoldsIt, MayRepeat}
+use Rattle.plist_engine.specs.Sieve.{HasNoted, HoldsIt, IsUnlike, MayRepeat}
 use Rattle.plist_engine.specs.declared.sieve.Sieve.{Sieve}
 
 module _ (f : List ℕ) (n : ℕ) (sieve : Sieve) (noted : HasNoted f n sieve) where
@@ -22,8 +22,8 @@ module _ (f : List ℕ) (n : ℕ) (sieve : Sieve) (noted : HasNoted f n sieve) w
       subst (HasBit sieve.again) (sym (noted.kept j s (omega arith) first)) (noted.again j k s apart below first second)
 
 -- a scalar that shares no bit is that of one object
-pub single-apart : (f : List ℕ) (sieve : Sieve) → HasNoted f (trailer_of f).count sieve → (i : ℕ) → (MayRepeat sieve i → ⊥) → IsSingle f i
-single-apart f sieve noted i apart s j here there =
+pub alone-apart : (f : List ℕ) (sieve : Sieve) → HasNoted f (trailer_of f).count sieve → (i : ℕ) → (MayRepeat sieve i → ⊥) → IsAlone f i
+alone-apart f sieve noted i apart s j here there =
     let n = (trailer_of f).count in
     elim (cases_lt i j) [
       | inl later ↦ absurd (apart (earlier_may f n sieve noted i j s later there.listed here.reads there.reads))
@@ -33,13 +33,20 @@ single-apart f sieve noted i apart s j here there =
       ]
     ]
 
+-- one that has such a bit
+single-unlike : (f : List ℕ) (sieve : Sieve) → HasNoted f (trailer_of f).count sieve → (i : ℕ) → i < length sieve.bits.items → IsUnlike sieve i → IsSingle f i
+single-unlike f sieve noted i below unlike =
+    let listed : i < (trailer_of f).count = subst (λ (n : ℕ). i < n) noted.noted below in
+    let told = noted.told i listed unlike.0 in
+    ((told.0, record { listed = listed; reads = told.1 }), alone-apart f sieve noted i unlike.1)
+
 -- what was marked by bits is single
 pub marked-sifts : (f : List ℕ) (sieve : Sieve) → HasNoted f (trailer_of f).count sieve → (old new : Memo) → Marks sieve old.numbers.items new.numbers.items → Sifts f old new
 marked-sifts f sieve noted old new marks = record {
   as_many = marks.as_many;
   each = λ i. elim (marks.each i) [
     | inl same ↦ inl same
-    | inr marked ↦ inr (marked.0, (marked.1.0, single-apart f sieve noted i marked.1.1.1))
+    | inr marked ↦ inr (marked.0, (marked.1.0, single-unlike f sieve noted i marked.1.1.0 marked.1.1.1))
   ];
 }
 
@@ -54,16 +61,16 @@ sifts-none f old new same = record {
 }
 
 -- one object more is
-pub marks-more : (sieve : Sieve) (start now : List ℕ) (i : ℕ) → Marks sieve start now → i < length now → i < length sieve.bits.items → kept_at now i ≡ no_number → (MayRepeat sieve i → ⊥) → Marks sieve start (set now i single)
-marks-more sieve start now i marks within below none apart = record {
+pub marks-more : (sieve : Sieve) (start now : List ℕ) (i : ℕ) → Marks sieve start now → i < length now → i < length sieve.bits.items → kept_at now i ≡ no_number → IsUnlike sieve i → Marks sieve start (set now i single)
+marks-more sieve start now i marks within below none unlike = record {
   as_many = length-set now i single ∙ marks.as_many;
   each = λ j. elim (cases_eq j i) [
-    | inl is ↦ subst (λ (k : ℕ). (kept_at (set now i single) k ≡ kept_at start k) ⊎ ((kept_at start k ≡ no_number) × ((kept_at (set now i single) k ≡ single) × ((k < length sieve.bits.items) × (MayRepeat sieve k → ⊥))))) (sym is) (inr (
+    | inl is ↦ subst (λ (k : ℕ). (kept_at (set now i single) k ≡ kept_at start k) ⊎ ((kept_at start k ≡ no_number) × ((kept_at (set now i single) k ≡ single) × ((k < length sieve.bits.items) × IsUnlike sieve k)))) (sym is) (inr (
       elim (marks.each i) [
         | inl same ↦ sym same ∙ none
         | inr marked ↦ marked.0
       ],
-      (get_or-set_same now i single no_number within, (below, apart)),
+      (get_or-set_same now i single no_number within, (below, unlike)),
     ))
     | inr other ↦ (
         let same : kept_at (set now i single) j ≡ kept_at now j = get_or-set_other now i j single no_number other in

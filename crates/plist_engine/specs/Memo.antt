@@ -2,18 +2,20 @@
 -- holds the scalar.
 use Rattle.std.specs.Prelude.{◌≡◌, ◌≢◌, ◌⊎◌, ℕ, ◌-◌, ◌^◌, ◌<◌, List, length, slice_index_or}
 use Rattle.plist_value.specs.Plist.{Scalar}
+use Rattle.plist_value.specs.Scalars.{content_of}
+use Rattle.plist_value.specs.declared.scalar_ref.ScalarRef.{ScalarRef}
 use Rattle.plist_object.specs.Objects.{holds_scalar}
 use Rattle.plist_object.specs.Places.{Holds}
 use Rattle.plist_engine.specs.Naturals.{no_number}
-use Rattle.plist_engine.specs.Sieve.{MayRepeat}
+use Rattle.plist_engine.specs.Sieve.{IsUnlike}
 use Rattle.plist_engine.specs.declared.memo.Memo.{Memo}
 use Rattle.plist_engine.specs.declared.sieve.Sieve.{Sieve}
 
--- stands for the number of an object that has none, and whose scalar no other object holds
+-- stands for the number of an object that has none, and holds a scalar that no other object holds
 abbrev pub single : ℕ
 single = 2 ^ 32 - 2
 
--- all others are numbers
+-- all below are numbers
 abbrev pub IsNumber : ℕ → Type 0
 IsNumber n = n < single
 
@@ -24,10 +26,18 @@ kept_at numbers i = slice_index_or numbers i no_number
 abbrev pub kept : Memo → ℕ → ℕ
 kept memo i = kept_at memo.numbers.items i
 
+-- the object holds a scalar
+abbrev pub HoldsScalar : List ℕ → ℕ → Type 0
+HoldsScalar f i = (r : ScalarRef) × Holds f i (holds_scalar (content_of r))
+
 -- no other object of the file holds a scalar that the object holds
-abbrev pub IsSingle : List ℕ → ℕ → Type 0
-IsSingle f i =
+abbrev pub IsAlone : List ℕ → ℕ → Type 0
+IsAlone f i =
     (s : Scalar) (j : ℕ) → Holds f i (holds_scalar s) → Holds f j (holds_scalar s) → j ≡ i
+
+-- the object holds a scalar, and no other object of the file holds it
+abbrev pub IsSingle : List ℕ → ℕ → Type 0
+IsSingle f i = HoldsScalar f i × IsAlone f i
 
 -- The object has this number now, if it is one of those that are listed. All others are as before.
 pub record KeepsNumber (i number : ℕ) (old new : Memo) : Type 0 where
@@ -39,7 +49,7 @@ pub record KeepsNumber (i number : ℕ) (old new : Memo) : Type 0 where
 -- comes. All others are as before.
 pub record Marks (sieve : Sieve) (old new : List ℕ) : Type 0 where
   pub as_many : length new ≡ length old
-  pub each : (i : ℕ) → (kept_at new i ≡ kept_at old i) ⊎ ((kept_at old i ≡ no_number) × ((kept_at new i ≡ single) × ((i < length sieve.bits.items) × (MayRepeat sieve i → ⊥))))
+  pub each : (i : ℕ) → (kept_at new i ≡ kept_at old i) ⊎ ((kept_at old i ≡ no_number) × ((kept_at new i ≡ single) × ((i < length sieve.bits.items) × IsUnlike sieve i)))
 
 -- Objects of the file that had no number may be single now. All others are as before.
 pub record Sifts (f : List ℕ) (old new : Memo) : Type 0 where

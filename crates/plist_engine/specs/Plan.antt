@@ -13,7 +13,7 @@ use Rattle.plist_object.specs.Spelled.{Spells, SpellItems}
 use Rattle.plist_engine.specs.Tree.{preorder, preorder_items, item_places}
 use Rattle.plist_engine.specs.Sharing.{kept_places, count_below}
 use Rattle.plist_engine.specs.Found.{Stands, number_in, found_in, number_known}
-use Rattle.plist_engine.specs.Memo.{single, kept, IsNumber, IsSingle}
+use Rattle.plist_engine.specs.Memo.{single, kept, IsNumber, IsAlone, IsSingle}
 use Rattle.plist_engine.specs.Scalars.{number_stored, AreNumbered, EntersScalar}
 use Rattle.plist_engine.specs.declared.scalars.Scalars.{Scalars}
 use Rattle.plist_engine.specs.declared.memo.Memo.{Memo}
@@ -118,7 +118,7 @@ pub record IsMet {S H : Type 0} (f : List ℕ) (plan : Plan S H) (s : Scalar) (n
   pub holds : Holds f object (holds_scalar s)
   pub is_kept : kept plan.memo object ≡ number
   pub some : IsNumber number
-  pub found : ((r : ScalarRef) → content_of r ≡ s → number_stored plan.scalars r ≡ Some number) ⊎ IsSingle f object
+  pub found : ((r : ScalarRef) → content_of r ≡ s → number_stored plan.scalars r ≡ Some number) ⊎ IsAlone f object
 
 -- The memo and the set have numbers of the objects so far alone, and each scalar among these was
 -- met.
@@ -126,7 +126,7 @@ pub record KnowsScalars {S H : Type 0} (f : List ℕ) (plan : Plan S H) : Type 0
   pub listed : length plan.memo.numbers.items ≡ (trailer_of f).count
   pub numbered : AreNumbered plan.scalars
   pub each : (i : ℕ) → IsNumber (kept plan.memo i) → IsRemembered f plan i (kept plan.memo i)
-  pub alone : (i : ℕ) → kept plan.memo i ≡ single → IsSingle f i
+  pub singles : (i : ℕ) → kept plan.memo i ≡ single → IsSingle f i
   pub stored : (r : ScalarRef) (n : ℕ) → number_stored plan.scalars r ≡ Some n → number_met f plan (content_of r) ≡ Some n
   pub met : (s : Scalar) (n : ℕ) → number_met f plan s ≡ Some n → IsMet f plan s n
 

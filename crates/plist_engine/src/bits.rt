@@ -78,6 +78,16 @@ impl Bits {
     {
         set_bit(&mut self.words, bit);
     }
+
+    /// Sets the bit if that is wanted, by the same steps as if not: the processor need not guess.
+    #[inline(always)]
+    pub(crate) fn set_if(&mut self, bit: u32, wanted: bool)
+        ensures set { IsTrue wanted → HasBit self.new bit }
+        ensures kept { KeepsBits self.old self.new }
+        ensures alike { KeepsBitOf self.old self.new }
+    {
+        set_bit_if(&mut self.words, bit, wanted);
+    }
 }
 
 #[inline(always)]
@@ -99,6 +109,17 @@ fn set_bit(words: &mut [u64], bit: u32)
     let place = bit as usize / 64;
     if place < words.len() {
         words[place] |= 1 << (bit % 64);
+    }
+}
+
+#[inline(always)]
+fn set_bit_if(words: &mut [u64], bit: u32, wanted: bool)
+    ensures set { IsTrue wanted → IsSet words.new bit }
+    ensures kept { (n : ℕ) → IsSet words.old n → IsSet words.new n }
+{
+    let place = bit as usize / 64;
+    if place < words.len() {
+        words[place] |= u64::from(wanted) << (bit % 64);
     }
 }
 

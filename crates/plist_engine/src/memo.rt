@@ -10,8 +10,8 @@ use plist_object::BinFile;
 use std::alloc::{AllocError, Global};
 use std::hash::BuildHasher;
 
-/// Stands for the number of an object that has none, and whose scalar no other object holds. All
-/// below are numbers.
+/// Stands for the number of an object that has none, and holds a scalar that no other object holds.
+/// All below are numbers.
 pub(crate) const SINGLE: u32 = NO_NUMBER - 1;
 
 // From so many scalars in a set on it pays to look for single objects.
@@ -52,12 +52,21 @@ impl Memo {
         }
     }
 
-    /// Whether it is known that no other object holds the scalar of this one, which was not met.
+    /// Whether it is known that the object holds a scalar that no other object holds, and that it
+    /// was not met.
     #[inline(always)]
     pub(crate) fn is_single(&self, object: u64) -> bool
         ensures { result ≡ true → kept self.now object ≡ SINGLE }
     {
         self.numbers.get(object as usize) == Some(&SINGLE)
+    }
+
+    /// Whether anything is kept of the object: it was met, or is single.
+    #[inline(always)]
+    pub(crate) fn is_met(&self, object: u64) -> bool {
+        self.numbers
+            .get(object as usize)
+            .is_some_and(|number| *number != NO_NUMBER)
     }
 
     /// Keeps the number of the object.
@@ -106,12 +115,12 @@ impl Memo {
     }
 }
 
-// Marks the objects that have no number and cannot repeat another.
+// Marks the objects that have no number and hold a scalar that no other holds.
 fn mark_single(numbers: &mut Vec<u32>, sieve: &Sieve)
     ensures { Marks sieve.now numbers.old.items numbers.new.items }
 {
     for i in 0..numbers.len().min(sieve.len()) {
-        if numbers[i] == NO_NUMBER && !sieve.may_repeat(i) {
+        if numbers[i] == NO_NUMBER && sieve.is_unlike(i) {
             numbers[i] = SINGLE;
         }
     }

@@ -3,7 +3,7 @@ ghost use Rattle.std.specs.Prelude.{◌≡◌, ℕ, List, length, IfOk, OnOk};
 ghost use Rattle.plist_value.specs.Scalars.{content_of};
 ghost use Rattle.plist_value.specs.Plist.{Pairs};
 ghost use Rattle.plist_object.specs.Views.{numbers_of, octets_of};
-ghost use Rattle.plist_engine.specs.Memo.{IsNumber};
+ghost use Rattle.plist_engine.specs.Memo.{IsNumber, kept};
 ghost use Rattle.plist_engine.specs.Order.{IsOrdered};
 ghost use Rattle.plist_engine.specs.Spelling.{IsTable, SpellTable, in_turn};
 ghost use Rattle.plist_engine.specs.Plan.{Begins, IsEmptyPlan, IsUnmet};
@@ -85,6 +85,23 @@ impl<'a, S: BuildHasher + Copy> Plan<'a, S> {
         self.originals.push(original)?;
         self.memo.keep(object, next);
         Ok(next)
+    }
+
+    /// The number of the scalar that the object holds, which no other object holds: a new one. The
+    /// scalar is not read.
+    #[inline(always)]
+    pub(crate) fn single(&mut self, object: u64) -> Result<u32, AllocError>
+        requires { kept self.old.memo object ≡ SINGLE }
+        ensures numbers { IfOk result (λ number. (f : List ℕ) (r : ScalarRef)
+            → NumbersScalar f object (content_of r) self.old self.new number) }
+        ensures knows { OnOk result ((f : List ℕ) (r : ScalarRef)
+            → IsUnmet f object (content_of r) self.old → KnowsScalars f self.new) }
+    {
+        let number = self.next_number()?;
+        let original = short(object)?;
+        self.originals.push(original)?;
+        self.memo.keep(object, number);
+        Ok(number)
     }
 
     /// The objects alone; the scalars and the memo are given up.

@@ -8,7 +8,7 @@ ghost use Rattle.plist_value.specs.Scalars.{content_of};
 ghost use Rattle.plist_object.specs.Places.{Holds};
 ghost use Rattle.plist_object.specs.Views.{held_of};
 ghost use Rattle.plist_engine.specs.Bits.{HasBit, KeepsBits, bit_of};
-ghost use Rattle.plist_engine.specs.Sieve.{HasNoted, MayRepeat};
+ghost use Rattle.plist_engine.specs.Sieve.{HasNoted, IsUnlike, MayRepeat};
 
 use crate::bits::Bits;
 use plist_object::Object;
@@ -20,10 +20,13 @@ use std::hash::BuildHasher;
 // shares its bit.
 const BITS: u64 = 8;
 
+// Stands for the bit of an object that holds a container. Few scalars have that bit.
+const NO_BIT: u32 = 0;
+
 /// What is known of the objects that were noted, from the first on.
 #[derive(Drop)]
 pub struct Sieve {
-    // The bit of each object's scalar, or 0 of a container.
+    // The bit of each object's scalar, or NO_BIT of a container.
     pub(crate) bits: Vec<u32>,
     // The bits to which a scalar came, and those to which another came.
     pub(crate) once: Bits,
@@ -59,7 +62,7 @@ impl Sieve {
     {
         let bit = match object {
             Object::Scalar(scalar) => self.come(scalar),
-            _ => 0,
+            _ => NO_BIT,
         };
         self.bits.push(bit)?;
         Ok(())
@@ -78,11 +81,9 @@ impl Sieve {
         ensures seed { self.new.once.seed ≡ self.old.once.seed }
     {
         let bit = self.once.bit_of(scalar);
-        if self.once.has(bit) {
-            self.again.set(bit);
-        } else {
-            self.once.set(bit);
-        }
+        let had = self.once.has(bit);
+        self.again.set_if(bit, had);
+        self.once.set(bit);
         bit
     }
 
@@ -100,5 +101,15 @@ impl Sieve {
         ensures { IsTrue result ↔ MayRepeat self.now object }
     {
         self.again.has(self.bits[object])
+    }
+
+    /// Whether the object, which was noted, holds a scalar that no other object holds which was
+    /// noted. Where it does not, some still are such objects.
+    pub(crate) fn is_unlike(&self, object: usize) -> bool
+        requires { object < length self.now.bits.items }
+        ensures { IsTrue result → IsUnlike self.now object }
+    {
+        let bit = self.bits[object];
+        bit != NO_BIT && !self.again.has(bit)
     }
 }

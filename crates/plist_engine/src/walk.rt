@@ -66,10 +66,13 @@ fn walk<'a, S: BuildHasher + Copy>(
     ensures knows { OnOk result (KnowsScalars (octets_of file.now) plan.new) }
     ensures ordered { OnOk result (IsOrdered (octets_of file.now) order.new) }
 {
-    match plan.memo.number_of(object) {
-        Some(number) => Ok(number),
-        None => walk_object(alloc, file, plan, order, ahead, object, levels),
+    if let Some(number) = plan.memo.number_of(object) {
+        return Ok(number);
     }
+    if plan.memo.is_single(object) {
+        return plan.single(object);
+    }
+    walk_object(alloc, file, plan, order, ahead, object, levels)
 }
 
 // The number of the value that the object spells, which was not met as a scalar. Its objects are
@@ -131,7 +134,7 @@ fn walk_children<'a, S: BuildHasher + Copy>(
     ensures ordered { OnOk result (IsOrdered (octets_of file.now) order.new) }
 {
     for i in first..plan.references.len() {
-        ahead.look(file, plan.references.as_slice(), i);
+        ahead.look_unmet(file, &plan.memo, plan.references.as_slice(), i);
         let object = plan.references[i];
         let number = walk(alloc, file, plan, order, ahead, u64::from(object), levels)?;
         plan.references[i] = number;

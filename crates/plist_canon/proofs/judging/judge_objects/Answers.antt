@@ -3,6 +3,7 @@ use Rattle.plist_object.specs.Views.{held_of, octets_of}
 use Rattle.plist_object.specs.Layout.{trailer_of}
 use Rattle.plist_canon.specs.Checking.{IsJudged, IsEndBefore}
 use Rattle.plist_engine.specs.Sieve.{HasNoted}
+use Rattle.plist_engine.proofs.Noted.{noted-nothing}
 use Rattle.plist_canon.specs.Weights.{Weighs}
 use Rattle.plist_canon.proofs.Judges.{below_or_last}
 use Rattle.plist_canon.proofs.Weighing.{AreWeights-more, length-more}
@@ -13,12 +14,7 @@ loop-i-init g c = record {
   known = c.in_ok-known.ensures (octets_of c.args.file.now);
   judged = λ j below. absurd (omega (arith, below));
   ends = refl;
-  noted = record {
-    noted = rw c.in_ok-sieve.ensures refl;
-    kept = λ k s below. absurd (omega (arith, below));
-    came = λ k s below. absurd (omega (arith, below));
-    again = λ j k s apart below. absurd (omega (arith, below));
-  };
+  noted = noted-nothing (octets_of c.args.file.now) c.in_ok-sieve.sieve c.in_ok-sieve.ensures;
   weighed = rw c.in_ok-weights.ensures.items (λ j below. absurd (omega (arith, below)));
   counted = rw c.in_ok-weights.ensures.items refl;
 }

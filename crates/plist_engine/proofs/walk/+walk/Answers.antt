@@ -14,7 +14,7 @@ use Rattle.plist_engine.proofs.Filling.{filling-start, filling-long, filling-obj
 use Rattle.plist_engine.proofs.Within.{read_within, levels_within, items_within, table_within, is_table, flat_within, value_within}
 use Rattle.plist_engine.proofs.Walked.{walked-scalar, walked-list, walked-table, walked-next, walked-none}
 use Rattle.plist_engine.proofs.Meeting.{list-apart, table-apart}
-use Rattle.plist_engine.proofs.Remembering.{knows-begun, knows-same, number-remembered, walked-again}
+use Rattle.plist_engine.proofs.Remembering.{knows-begun, knows-same, number-remembered, valid_at, walked-again}
 use Rattle.plist_engine.proofs.walk.+walk.Goals as goal
 
 -- a bound on the references that a list was put behind
@@ -29,6 +29,32 @@ walk-returns-in-Some-clause-walked g t c =
     let plan = c.args.plan.now in
     let number = c.in-Some.number in
     walked-again f i c.args.levels plan number c.requires.spells (number-remembered f plan i number c.in-Some.ensures.is c.in-Some.ensures.some c.requires.knows)
+
+-- the object holds the scalar, and was not met
+unmet : {S H : Type 0} (f : List ℕ) (i : ℕ) (r : ScalarRef) (plan : Plan S H) → KnowsScalars f plan → single ≤ kept plan.memo i → Holds f i (holds_scalar (content_of r)) → IsUnmet f i (content_of r) plan
+unmet f i r plan knows none holds = record { knows = knows; holds = holds; unmet = none }
+
+pub walk-returns-then-is_single-clause-walked : goal.walk-returns-then-is_single-clause-walked
+walk-returns-then-is_single-clause-walked g t c =
+    let f = octets_of c.args.file.now in
+    let i = c.args.object in
+    let old = c.args.plan.now in
+    let within = c.requires.spells in
+    let held = (c.requires.knows.singles i (c.is_single.ensures c.if-is_single.true)).0 in
+    let r = held.0 in
+    IfOk-weaker c.single.result _ _
+    (λ number numbers. walked-scalar f i (content_of r) old c.single.new.self number (unmet f i r old c.requires.knows c.in_default.ensures.none held.1) (valid_at f i (content_of r) within.value within.valid within.spells held.1) (numbers f r))
+    c.single.ensures.numbers
+
+pub walk-returns-then-is_single-clause-knows : goal.walk-returns-then-is_single-clause-knows
+walk-returns-then-is_single-clause-knows g t c =
+    let f = octets_of c.args.file.now in
+    let i = c.args.object in
+    let plan = c.args.plan.now in
+    let held = (c.requires.knows.singles i (c.is_single.ensures c.if-is_single.true)).0 in
+    on_ok_weaker c.single.result
+    (λ keeps. keeps f held.0 (unmet f i held.0 plan c.requires.knows c.in_default.ensures.none held.1))
+    c.single.ensures.knows
 
 pub walk_object-object_of-requires : goal.walk_object-object_of-requires
 walk_object-object_of-requires g t c = read_within (octets_of c.args.file.now) c.args.object c.args.levels c.requires.spells
@@ -73,10 +99,6 @@ walk_object-walk_children-requires-in-Table g t c =
     let added = (c.in_ok-number-in-Table.ensures.begins within.rows within.pairs within.spell).references_added in
     let begun : drop first c.begin_table.new.self.references.items ≡ objects = ap (drop first) added ∙ drop_at old objects first (sym at_end) in
     λ κs lives. (omega (arith, c.decreases), (lives.0, (lives.1, (behind_old old objects c.begin_table.new.self.references.items first at_end added, (subst (λ (refs : List ℕ). SpellWithin f refs (c.args.levels - 1)) (sym begun) (flat_within f keys values (c.args.levels - 1) within), (knows-begun f c.args.object objects c.args.plan.now c.begin_table.new.self c.in_ok-number-in-Table.number (table-apart f c.args.object keys values c.in-Table.ensures.holds) (c.in_ok-number-in-Table.ensures.begins within.rows within.pairs within.spell) c.requires.knows, c.in_ok-number-in-Table.ensures.ordered))))))
-
--- the object holds the scalar, and was not met
-unmet : {S H : Type 0} (f : List ℕ) (i : ℕ) (r : ScalarRef) (plan : Plan S H) → KnowsScalars f plan → single ≤ kept plan.memo i → Holds f i (holds_scalar (content_of r)) → IsUnmet f i (content_of r) plan
-unmet f i r plan knows none holds = record { knows = knows; holds = holds; unmet = none }
 
 pub walk_object-returns-in-Scalar-clause-walked : goal.walk_object-returns-in-Scalar-clause-walked
 walk_object-returns-in-Scalar-clause-walked g t c =

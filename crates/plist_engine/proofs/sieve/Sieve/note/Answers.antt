@@ -21,7 +21,7 @@ returns c = λ f i holds noted.
           let pushed : new.bits.items ≡ old.bits.items ++ (bit ∷ []) = c.in_ok-push.ensures.items ∙ ap (λ bits. bits.items ++ (bit ∷ [])) (ap (λ (sieve : Sieve). sieve.bits) w.self-is ∙ come.bits) in
           let once = ap (λ (sieve : Sieve). sieve.once) w.self-is in
           let again = ap (λ (sieve : Sieve). sieve.again) w.self-is in
-          noted-scalar f i bit old new noted pushed s reads
+          noted-scalar f i bit old new noted pushed w.in-Scalar.scalar reads
           (w.bit-is ∙ come.bit)
           (λ t. ap (λ bits. bit_of bits t) once ∙ rw (come.mask, come.seed) refl)
           (subst (KeepsBits old.once) (sym once) come.once_kept)
@@ -32,6 +32,7 @@ returns c = λ f i holds noted.
       | in_default w ↦ (
           let pushed : new.bits.items ≡ old.bits.items ++ (bit ∷ []) = c.in_ok-push.ensures.items ∙ ap (λ (sieve : Sieve). sieve.bits.items ++ (bit ∷ [])) w.self-is in
           noted-none f i bit old new noted pushed
+          w.bit-is
           (ap (λ (sieve : Sieve). sieve.once) w.self-is)
           (ap (λ (sieve : Sieve). sieve.again) w.self-is)
           (λ s reads. not-held f i c.args.object.now w.in_default.not-Scalar holds s reads)
