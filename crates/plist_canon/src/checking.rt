@@ -157,11 +157,11 @@ pub fn check_with_hasher<S: BuildHasher + Copy>(
 }
 
 // A broken rule, if there is one.
-fn judge<S: BuildHasher + Copy>(
+fn judge<'a, S: BuildHasher + Copy>(
     alloc: Global,
     hasher: S,
-    octets: &[u8],
-    file: &BinFile,
+    octets: &'a [u8],
+    file: &BinFile<'a>,
 ) -> Result<(), Flaw>
     requires same { octets.now ≡ octets_of file.now }
     requires valid { AreOctets (octets_of file.now) }

@@ -94,11 +94,11 @@ fn has_least_widths(file: &BinFile) -> bool
 /// Rules 0, 3, 4, 5 and 6 of each object in turn, but for the limits; then the place of the offset
 /// table. All objects stand in these octets before the table. What the limits ask of each object is
 /// answered.
-pub(crate) fn judge_objects<S: BuildHasher + Copy>(
+pub(crate) fn judge_objects<'a, S: BuildHasher + Copy>(
     alloc: Global,
     hasher: S,
-    objects: &[u8],
-    file: &BinFile,
+    objects: &'a [u8],
+    file: &BinFile<'a>,
 ) -> Result<Vec<Weight>, Flaw>
     requires { objects.now ≡ take (trailer_of (octets_of file.now)).table (octets_of file.now) }
     ensures judged { OnOk result
@@ -113,7 +113,7 @@ pub(crate) fn judge_objects<S: BuildHasher + Copy>(
 {
     let mut sieve = Sieve::new(alloc, &hasher, file.count())?;
     let mut weights = Vec::with_capacity(alloc, file.count().min(MAX_NODES) as usize)?;
-    let mut known = KnownKeys::new(alloc, file)?;
+    let mut known = KnownKeys::new(alloc, objects, file)?;
     let mut end = 8;
     for i in 0..file.count() {
         match judge_object(alloc, objects, file, i, end, &mut known) {

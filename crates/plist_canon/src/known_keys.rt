@@ -18,18 +18,22 @@ pub(crate) struct KnownKeys<'a> {
     pub(crate) last: Option<Refs<'a>>,
     pub(crate) ranks: Ranks<'a>,
     // The keys that were named, until there are ranks.
-    named: Option<Named>,
+    named: Option<Named<'a>>,
 }
 
 impl<'a> KnownKeys<'a> {
-    /// No table came yet.
-    pub(crate) fn new(alloc: Global, file: &BinFile) -> Result<KnownKeys<'a>, AllocError>
+    /// No table came yet. All objects stand in these octets.
+    pub(crate) fn new(
+        alloc: Global,
+        objects: &'a [u8],
+        file: &BinFile,
+    ) -> Result<KnownKeys<'a>, AllocError>
         ensures { IfOk result (λ known. (f : List ℕ) → AreKnown f known) }
     {
         Ok(KnownKeys {
             last: None,
             ranks: Ranks::none(alloc),
-            named: Some(Named::new(alloc, file)?),
+            named: Some(Named::new(alloc, objects, file)?),
         })
     }
 

@@ -15,23 +15,34 @@ const WIDE: u8 = 0x6;
 // A count from here on stands behind the marker.
 const LONG: u8 = 15;
 
+// The markers of counts in one octet and in two.
+const ONE_OCTET: u8 = 0x10;
+
+const TWO_OCTETS: u8 = 0x11;
+
 /// The objects that tables named as keys, and how many units more such texts may have.
 ///
 /// If each text is named once, and all together have no more units than the file has octets before
 /// the offset table, to compare them unit by unit takes no longer than to read the file, and ranks
 /// are of no use. A wrong answer would cost time alone.
 #[derive(Drop)]
-pub(crate) struct Named {
+pub(crate) struct Named<'a> {
+    octets: &'a [u8],
     objects: Vec<bool>,
     left: u64,
 }
 
-impl Named {
-    /// None was named.
-    pub(crate) fn new(alloc: Global, file: &BinFile) -> Result<Named, AllocError> {
+impl<'a> Named<'a> {
+    /// None was named. All objects stand in these octets.
+    pub(crate) fn new(
+        alloc: Global,
+        octets: &'a [u8],
+        file: &BinFile,
+    ) -> Result<Named<'a>, AllocError> {
         let mut objects = Vec::new(alloc);
         objects.resize(file.count() as usize, false)?;
         Ok(Named {
+            octets,
             objects,
             left: file.table(),
         })
@@ -54,7 +65,7 @@ impl Named {
             return false;
         }
         self.objects[place] = true;
-        let Some(length) = length_of(file, key) else {
+        let Some(length) = length_of(self.octets, file, key) else {
             return false;
         };
         match self.left.checked_sub(length) {
@@ -67,19 +78,31 @@ impl Named {
     }
 }
 
-// How many units the text has that the object holds, if it holds one. The marker alone tells that
-// of a short one.
-fn length_of(file: &BinFile, n: u64) -> Option<u64>
+// How many units the text has that the object holds, if it holds one. Its first octets tell that of
+// most, and the text is not read.
+fn length_of(octets: &[u8], file: &BinFile, n: u64) -> Option<u64>
     requires { n < (trailer_of (octets_of file.now)).count }
 {
-    let marker = file.marker(n);
+    let (marker, behind) = octets.get(file.place(n) as usize..)?.split_first()?;
     let kind = marker / 16;
     if kind != ASCII && kind != WIDE {
         return None;
     }
-    if marker % 16 < LONG {
-        return Some(u64::from(marker % 16));
+    let low = marker % 16;
+    if low < LONG {
+        return Some(u64::from(low));
     }
+    match behind {
+        [ONE_OCTET, count, ..] => Some(u64::from(*count)),
+        [TWO_OCTETS, high, low, ..] => Some(256 * u64::from(*high) + u64::from(*low)),
+        _ => length_read(file, n),
+    }
+}
+
+// The same, by reading the text.
+fn length_read(file: &BinFile, n: u64) -> Option<u64>
+    requires { n < (trailer_of (octets_of file.now)).count }
+{
     match file.object(n) {
         Ok(Object::Scalar(ScalarRef::Text(text))) => Some(text.len() as u64),
         _ => None,
