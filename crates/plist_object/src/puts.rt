@@ -328,8 +328,43 @@ fn push_ascii(out: &mut Vec<u8>, text: &TextRef)
 {
     if let Some(octets) = text.octets() {
         push_octets(out, octets);
-        return;
+    } else if let Some(units) = text.units() {
+        push_low_octets(out, units);
+    } else {
+        push_each_low_octet(out, text);
     }
+}
+
+// Each unit in one octet, four at a time.
+fn push_low_octets(out: &mut Vec<u8>, units: &[u16])
+    requires ascii { list_all (λ unit. nat_lt unit 128) units.now ≡ true }
+    requires room { HasRoom out.old (length units.now) }
+    ensures { Appends out.old out.new units.now }
+{
+    let mut rest = units;
+    while let [a, b, c, d, behind @ ..] = rest {
+        push_octets(out, &[*a as u8, *b as u8, *c as u8, *d as u8]);
+        rest = behind;
+    }
+    push_few_low_octets(out, rest);
+}
+
+fn push_few_low_octets(out: &mut Vec<u8>, units: &[u16])
+    requires ascii { list_all (λ unit. nat_lt unit 128) units.now ≡ true }
+    requires room { HasRoom out.old (length units.now) }
+    ensures { Appends out.old out.new units.now }
+{
+    for unit in units {
+        push_octet(out, *unit as u8);
+    }
+}
+
+// However the text is kept.
+fn push_each_low_octet(out: &mut Vec<u8>, text: &TextRef)
+    requires ascii { list_all (λ unit. nat_lt unit 128) (units_of text.now) ≡ true }
+    requires room { HasRoom out.old (length (units_of text.now)) }
+    ensures { Appends out.old out.new (units_of text.now) }
+{
     let text = *text;
     for i in 0..text.len() {
         push_octet(out, text.unit(i) as u8);

@@ -116,16 +116,11 @@ impl<'a> TextRef<'a> {
     pub fn is_ascii(&self) -> bool
         ensures { result ≡ list_all (λ unit. nat_lt unit 128) (units_of self.now) }
     {
-        if let Kept::Ascii(_) = self.kept {
-            return true;
+        match self.kept {
+            Kept::Units(units) => are_ascii(units),
+            Kept::Ascii(_) => true,
+            Kept::Wide(_) => is_each_ascii(self),
         }
-        let text = *self;
-        for i in 0..text.len() {
-            if text.unit(i) >= 128 {
-                return false;
-            }
-        }
-        true
     }
 
     /// The octets of a text that is kept as ASCII octets, one for each unit: exactly a text that
@@ -210,6 +205,30 @@ impl<'a> TextRef<'a> {
         prove!(self.len() - i >= 2);
         u32::from(self.unit(i)) + 65_536 * u32::from(self.unit(i + 1))
     }
+}
+
+fn are_ascii(units: &[u16]) -> bool
+    ensures { result ≡ list_all (λ unit. nat_lt unit 128) units.now }
+{
+    for unit in units {
+        if *unit >= 128 {
+            return false;
+        }
+    }
+    true
+}
+
+// However the text is kept; a slice of units is read faster.
+fn is_each_ascii(text: &TextRef) -> bool
+    ensures { result ≡ list_all (λ unit. nat_lt unit 128) (units_of text.now) }
+{
+    let text = *text;
+    for i in 0..text.len() {
+        if text.unit(i) >= 128 {
+            return false;
+        }
+    }
+    true
 }
 
 fn plain_unit(units: &[u16], i: usize) -> u16

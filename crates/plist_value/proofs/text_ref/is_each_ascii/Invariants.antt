@@ -1,7 +1,7 @@
 use Rattle.std.proofs.Common.{◌≡◌, nat_lt, drop}
 use Rattle.std.specs.List.{list_all}
 use Rattle.plist_value.specs.Texts.{units_of}
-use Rattle.plist_value.proofs.text_ref.TextRef.is_ascii.Given as goal
+use Rattle.plist_value.proofs.text_ref.is_each_ascii.Given as goal
 
 -- all that follow decide
 abbrev pub invariant-loop-i : goal.invariant-loop-i
