@@ -34,6 +34,11 @@ impl<'a> Cursor<'a> {
         self.end - self.source.len()
     }
 
+    /// Whether the input is UTF-8.
+    pub(crate) fn is_utf8(self) -> bool {
+        matches!(self.source, Source::Utf8(_))
+    }
+
     /// The first character from the cursor on, and the cursor behind it.
     #[inline(always)]
     #[tactic(auto, unfolding(crate::specs::Cursor::ahead, crate::specs::Cursor::places_in))]

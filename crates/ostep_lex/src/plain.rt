@@ -64,6 +64,9 @@ pub fn next_plain(cursor: Cursor<'_>) -> Option<(TextRef<'_>, Cursor<'_>)>
     ensures shorter { IfSome result (λ found.
         length (ahead found.1) < length (ahead cursor.entry)) }
 {
+    if !cursor.is_utf8() {
+        return None;
+    }
     let Ok(start) = gap(cursor) else {
         return None;
     };

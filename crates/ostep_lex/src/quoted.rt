@@ -35,7 +35,7 @@ pub fn run(alloc: Global, cursor: Cursor<'_>) -> Result<(Vec<u16>, Cursor<'_>), 
 }
 
 /// For how many units more there is room where a string has to grow by a character.
-const LEAST_ROOM: usize = 16;
+const LEAST_ROOM: usize = 32;
 
 /// Appends the units of the character.
 #[tactic(auto, using(crate::proofs::StretchSteps::one_unit))]

@@ -48,10 +48,23 @@ pub fn front_unit(order: ByteOrder, octets: &[u8]) -> Option<(u16, &[u8])>
     }
 }
 
-/// The character at the front of UTF-16 octets, and the octets behind it. Its code stands where it
-/// is called.
+/// The character at the front of UTF-16 octets, and the octets behind it. The code for a unit that
+/// is no surrogate is inlined.
 #[inline(always)]
-fn character_in_place(order: ByteOrder, octets: &[u8]) -> Option<(char, &[u8])>
+fn first_character(order: ByteOrder, octets: &[u8]) -> Option<(char, &[u8])>
+    ensures { MatchOption result (BeginsWithNone (encoding_by order) octets.now)
+        (λ found. BeginsWith (encoding_by order) octets.now found.0 found.1.now) }
+{
+    let (unit, behind) = front_unit(order, octets)?;
+    if (0xd800..0xe000).contains(&unit) {
+        return surrogate_character(order, octets);
+    }
+    Some((char::from_u32(u32::from(unit))?, behind))
+}
+
+/// The same, for a character of two units.
+#[inline(never)]
+fn surrogate_character(order: ByteOrder, octets: &[u8]) -> Option<(char, &[u8])>
     ensures { MatchOption result (BeginsWithNone (encoding_by order) octets.now)
         (λ found. BeginsWith (encoding_by order) octets.now found.0 found.1.now) }
 {
@@ -67,22 +80,13 @@ fn character_in_place(order: ByteOrder, octets: &[u8]) -> Option<(char, &[u8])>
     Some((char::from_u32(code)?, behind))
 }
 
-/// The character at the front of UTF-16 octets, and the octets behind it.
-#[inline(never)]
-fn front_character(order: ByteOrder, octets: &[u8]) -> Option<(char, &[u8])>
-    ensures { MatchOption result (BeginsWithNone (encoding_by order) octets.now)
-        (λ found. BeginsWith (encoding_by order) octets.now found.0 found.1.now) }
-{
-    character_in_place(order, octets)
-}
-
 /// The octets from the first place on at which no UTF-16 character begins.
 pub fn behind_characters(order: ByteOrder, octets: &[u8]) -> &[u8]
     ensures fronts { FrontsOf (encoding_by order) octets.now result.now }
     ensures none { BeginsWithNone (encoding_by order) result.now }
 {
     let mut rest = octets;
-    while let Some((_, behind)) = character_in_place(order, rest) {
+    while let Some((_, behind)) = first_character(order, rest) {
         rest = behind;
     }
     rest
@@ -123,7 +127,7 @@ impl<'a> Source<'a> {
                 Some((first, Source::Utf8(behind)))
             }
             Source::Utf16(order, octets) => {
-                let (first, behind) = front_character(order, octets)?;
+                let (first, behind) = first_character(order, octets)?;
                 Some((first, Source::Utf16(order, behind)))
             }
         }
