@@ -104,7 +104,7 @@ impl Draft {
             self.recent.hit(role);
             return Ok(known);
         }
-        self.recent.keep(role, hash, number);
+        self.recent.keep(role, hash, number, place);
         self.places.push_reserved(place);
         Ok(number)
     }

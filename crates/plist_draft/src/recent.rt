@@ -8,7 +8,7 @@ use std::alloc::{AllocError, Global};
 use std::hash::{BuildHasher, Hasher};
 
 /// The number of slots at first, and the greatest: of a table that the processor keeps near, in
-/// 128 KiB, and of one that it does not, in 2 MiB.
+/// 192 KiB, and of one that it does not, in 3 MiB.
 const LEAST: usize = 64;
 
 const NEAR: usize = 16_384;
@@ -37,13 +37,16 @@ pub enum Role {
 /// Stands in a slot that nothing came to: no object has this number.
 const NOTHING: Entry = Entry {
     number: u32::MAX,
+    place: u32::MAX,
     mark: 0,
 };
 
-// A number that is kept, and the upper half of the hash, which tells the slot.
+// A number that is kept, the place of its object, and the upper half of the hash, which tells the
+// slot. With the place at hand the octets are compared without waiting for the table of places.
 #[derive(Clone, Copy)]
 struct Entry {
     number: u32,
+    place: u32,
     mark: u32,
 }
 
@@ -78,12 +81,12 @@ impl Slots {
         mark as usize & self.entries.len().wrapping_sub(1)
     }
 
-    // The number that is kept under the mark.
+    // What is kept under the mark.
     #[inline(always)]
-    fn find(&self, mark: u32) -> Option<u32> {
+    fn find(&self, mark: u32) -> Option<Entry> {
         let entry = self.entries.get(self.slot_of(mark))?;
         if entry.mark == mark {
-            Some(entry.number)
+            Some(*entry)
         } else {
             None
         }
@@ -203,17 +206,17 @@ impl Recent {
             StandsAgain octets.now places.now number spelled.now) }
     {
         let mark = mark_of(hash);
-        if let Some(number) = self.near.find(mark)
-            && stands_again(octets, places, number, spelled)
+        if let Some(entry) = self.near.find(mark)
+            && stands_again(octets, places, entry, spelled)
         {
-            return Some(number);
+            return Some(entry.number);
         }
-        let number = self.far.find(mark)?;
-        if !stands_again(octets, places, number, spelled) {
+        let entry = self.far.find(mark)?;
+        if !stands_again(octets, places, entry, spelled) {
             return None;
         }
-        self.near.put(Entry { number, mark });
-        Some(number)
+        self.near.put(entry);
+        Some(entry.number)
     }
 
     /// Counts a scalar of this role that was found.
@@ -232,12 +235,16 @@ impl Recent {
         }
     }
 
-    /// Keeps the number of a scalar of this role with this hash, which was not found.
-    pub(crate) fn keep(&mut self, role: Role, hash: u64, number: u32) {
+    /// Keeps the number and the place of a scalar of this role with this hash, which was not found.
+    pub(crate) fn keep(&mut self, role: Role, hash: u64, number: u32, place: u32) {
         self.miss(role);
-        let mark = mark_of(hash);
-        self.near.put(Entry { number, mark });
-        self.far.put(Entry { number, mark });
+        let entry = Entry {
+            number,
+            place,
+            mark: mark_of(hash),
+        };
+        self.near.put(entry);
+        self.far.put(entry);
     }
 }
 
@@ -252,17 +259,20 @@ pub(crate) fn hash_of(spelled: &[u8]) -> u64 {
     hasher.finish()
 }
 
-// Whether these octets stand where the object with the number begins.
-fn stands_again(octets: &[u8], places: &[u32], number: u32, spelled: &[u8]) -> bool
-    ensures { OnTrue result (StandsAgain octets.now places.now number spelled.now) }
+// Whether these octets stand where the object of the entry begins.
+fn stands_again(octets: &[u8], places: &[u32], entry: Entry, spelled: &[u8]) -> bool
+    ensures { OnTrue result (StandsAgain octets.now places.now entry.number spelled.now) }
 {
-    let Some(place) = places.get(number as usize) else {
-        return false;
-    };
-    let start = *place as usize;
+    let start = entry.place as usize;
     if start > octets.len() {
         return false;
     }
     let (_, behind) = octets.split_at(start);
-    behind.starts_with(spelled)
+    if !behind.starts_with(spelled) {
+        return false;
+    }
+    match places.get(entry.number as usize) {
+        Some(place) => *place == entry.place,
+        None => false,
+    }
 }

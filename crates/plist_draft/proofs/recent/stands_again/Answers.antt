@@ -1,5 +1,4 @@
-use Rattle.std.proofs.Common.{◌≡◌, ◌∙◌, ◌++◌, ℕ, ◌<◌, List, length, drop, true, refl, ap, sym, arith}
-use Rattle.std.specs.Prelude.{nat_eq}
+use Rattle.std.proofs.Common.{◌≡◌, ◌∙◌, ◌++◌, ℕ, ◌<◌, List, Some, nat_eq, length, drop, true, refl, ap, sym, arith}
 use Rattle.std.specs.List.{starts_with}
 use Rattle.std.proofs.lemmas.Bool.{OnTrue_from}
 use Rattle.std.proofs.lemmas.Bool.Decides.{Decides-eqb, nat_tests}
@@ -11,13 +10,18 @@ use Rattle.plist_draft.proofs.recent.stands_again.Goals as goal
 starts_so : (spelled octets : List ℕ) → starts_with nat_eq octets spelled ≡ true → octets ≡ spelled ++ drop (length spelled) octets
 starts_so spelled octets met = (starts_is Decides-eqb octets spelled true (sym met)).0 refl
 
-pub returns : goal.returns
-returns c =
+pub returns-in-Some : goal.returns-in-Some
+returns-in-Some c =
+    let octets = c.args.octets.now in
+    let places = c.args.places.now in
+    let entry = c.args.entry in
+    let spelled = c.args.spelled.now in
     let inside = c.in-Some.ensures.lookup.0 in
-    let within : c.args.number < length c.args.places.now = grind (arith, nat_tests) in
-    OnTrue_from c.starts_with.result (StandsAgain c.args.octets.now c.args.places.now c.args.number c.args.spelled.now) (λ same. record {
-      place = c.in-Some.place.now;
+    let within : entry.number < length places = grind (arith, nat_tests) in
+    let begins : c.starts_with.result ≡ true = c.if-not-starts_with.false in
+    OnTrue_from (nat_eq c.in-Some.place.now entry.place) (StandsAgain octets places entry.number spelled) (λ same. record {
+      place = entry.place;
       behind = _;
-      placed = slice_get_read c.args.places.now _ c.args.number c.in-Some.place.now refl within c.in-Some.ensures.lookup.1;
-      stands = starts_so c.args.spelled.now (drop c.in-Some.place.now c.args.octets.now) (ap (λ xs. starts_with nat_eq xs c.args.spelled.now) (sym c.split_at.ensures.back) ∙ sym c.starts_with.ensures.value ∙ same);
+      placed = slice_get_read places _ entry.number c.in-Some.place.now refl within c.in-Some.ensures.lookup.1 ∙ ap Some ((Decides-eqb c.in-Some.place.now entry.place).0 same);
+      stands = starts_so spelled (drop entry.place octets) (ap (λ xs. starts_with nat_eq xs spelled) (sym c.split_at.ensures.back) ∙ sym c.starts_with.ensures.value ∙ begins);
     })
