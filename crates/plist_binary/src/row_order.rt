@@ -41,6 +41,9 @@ const MOST_HEADS: usize = 8;
 // Where more than one of so many rows is tied, the heads of all keys are read.
 const FEW_TIED: usize = 8;
 
+// So many keys are touched at once before they are compared.
+const AHEAD: usize = 16;
+
 // The places of the keys in the order of their texts, if the keys are many and their heads tell
 // that order. Rows are sorted in place of keys, which take more than three times the room.
 pub(crate) fn places_by_heads(alloc: Global, keys: &[Key]) -> Result<Option<Vec<u64>>, AllocError>
@@ -276,12 +279,29 @@ fn wide_head(text: &TextRef, front: usize) -> u64 {
 fn texts_ascend(keys: &[Key], rows: &[Row]) -> bool
     ensures { IsTrue result → TextsAscend keys.now rows.now }
 {
+    let mut touched = 0;
     for i in 1..rows.len() {
+        if i % AHEAD == 1 {
+            touch(keys, &rows[i..], &mut touched);
+        }
         if !is_below(keys, &rows[i - 1], &rows[i]) {
             return false;
         }
     }
     true
+}
+
+// Reads a unit of each of the next keys, which are scattered over the file, so that the processor
+// waits for all of them together. The sum keeps the compiler from dropping the loads.
+#[inline(never)]
+fn touch(keys: &[Key], rows: &[Row], touched: &mut u64) {
+    for row in rows.iter().take(AHEAD) {
+        if let Some(key) = keys.get(row.place as usize)
+            && !key.text.is_empty()
+        {
+            *touched = touched.wrapping_add(u64::from(key.text.unit(0)));
+        }
+    }
 }
 
 fn is_below(keys: &[Key], row: &Row, next: &Row) -> bool
