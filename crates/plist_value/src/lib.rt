@@ -10,6 +10,7 @@ pub mod laws;
 pub mod limits;
 pub mod refusals;
 pub mod scalar_ref;
+mod text_hash;
 pub mod text_ref;
 pub mod utf16;
 pub mod value;

@@ -1,22 +1,20 @@
 //! Texts that are borrowed.
-ghost use Rattle.std.specs.Prelude.{◌≡◌, ◌<◌, ◌≤◌, ◌+◌, ◌%◌, ◌↔◌, IsSome};
-ghost use Rattle.std.specs.Prelude.{IfSome, All, true, false, nat_eq, length, slice_index, drop};
-ghost use Rattle.std.specs.Prelude.{fold, nat_lt};
+ghost use Rattle.std.specs.Prelude.{◌≡◌, ◌<◌, ◌%◌, ◌↔◌, IsSome};
+ghost use Rattle.std.specs.Prelude.{IfSome, All, true, nat_eq, nat_lt, length, slice_index};
 ghost use Rattle.std.specs.List.{list_all};
 ghost use Rattle.std.specs.Ordering.{nat_cmp, on, as_partial_cmp};
 ghost use Rattle.std.specs.Cmp.{partial_order_from_own_ties};
 ghost use Rattle.std.specs.Cmp.Lexicographic.{pointwise, slice_cmp, bytes_decides};
 ghost use Rattle.std.specs.Cmp.Rules.{comparing};
 ghost use Rattle.std.specs.Hash.{on_Alike, same_Alike};
-ghost use Rattle.plist_value.specs.Narrow.{are_narrow};
-ghost use Rattle.plist_value.specs.Hashes.{fed_narrow, fed_text, fed_units, fed_wide};
-ghost use Rattle.plist_value.specs.Hashes.{pair_from, seven_and, word_from};
+ghost use Rattle.plist_value.specs.Hashes.{fed_text};
 ghost use Rattle.std.proofs.Common.{rules};
 ghost use Rattle.plist_value.specs.Texts.{units_of, wide_units};
 ghost use Rattle.plist_value.specs.Texts.{is_ascii_kept, is_units_kept, is_wide_kept};
 
 use crate::ascii::Ascii;
-use crate::words::{compare, feed, feed_octets, word};
+use crate::text_hash::feed_text;
+use crate::words::{compare, feed_octets};
 use std::cmp::Ordering;
 use std::hash::{Hash, Hasher};
 
@@ -157,54 +155,6 @@ impl<'a> TextRef<'a> {
             _ => None,
         }
     }
-
-    // The unit that stands `k` places behind the place `i`, or 0 behind the end.
-    fn octet(&self, i: usize, k: usize) -> u8
-        requires narrow { are_narrow (units_of self.now) ≡ true }
-        requires within { i ≤ length (units_of self.now) }
-        ensures { result ≡ slice_index (drop i (units_of self.now)) k }
-    {
-        if k < self.len() - i {
-            self.unit(i + k) as u8
-        } else {
-            0
-        }
-    }
-
-    // The seven units from the place `i` on, zeros behind the end, and another octet.
-    fn seven_and(&self, i: usize, last: u8) -> [u8; 8]
-        requires narrow { are_narrow (units_of self.now) ≡ true }
-        requires within { i ≤ length (units_of self.now) }
-        ensures { result ≡ seven_and (drop i (units_of self.now)) last }
-    {
-        [
-            self.octet(i, 0),
-            self.octet(i, 1),
-            self.octet(i, 2),
-            self.octet(i, 3),
-            self.octet(i, 4),
-            self.octet(i, 5),
-            self.octet(i, 6),
-            last,
-        ]
-    }
-
-    // The four units from the place `i` on, the first in the lowest bits.
-    fn word_at(&self, i: usize) -> u64
-        requires { i + 4 ≤ length (units_of self.now) }
-        ensures { result ≡ word_from i (units_of self.now) }
-    {
-        prove!(self.len() - i >= 4);
-        u64::from(self.pair_at(i)) + 4_294_967_296 * u64::from(self.pair_at(i + 2))
-    }
-
-    fn pair_at(&self, i: usize) -> u32
-        requires { i + 2 ≤ length (units_of self.now) }
-        ensures { result ≡ pair_from i (units_of self.now) }
-    {
-        prove!(self.len() - i >= 2);
-        u32::from(self.unit(i)) + 65_536 * u32::from(self.unit(i + 1))
-    }
 }
 
 fn are_ascii(units: &[u16]) -> bool
@@ -304,65 +254,9 @@ impl<'a> Hash for TextRef<'a> {
     fn hash<H: Hasher>(&self, state: &mut H) {
         if let Kept::Ascii(ascii) = self.kept {
             feed_octets(ascii.text.as_bytes(), state);
-        } else if is_narrow(self) {
-            feed_narrow(self, state);
         } else {
-            feed_wide(self, state);
+            feed_text(self, state);
         }
-    }
-}
-
-// Whether all units are below 256.
-fn is_narrow(text: &TextRef) -> bool
-    ensures { result ≡ are_narrow (units_of text.now) }
-{
-    let text = *text;
-    for i in 0..text.len() {
-        if text.unit(i) >= 256 {
-            return false;
-        }
-    }
-    true
-}
-
-// However it is kept; the octets of a slice are fed faster.
-fn feed_narrow<H: Hasher>(text: &TextRef, state: &mut H)
-    requires { are_narrow (units_of text.now) ≡ true }
-    ensures { state.new ≡ fold H.write state.old (fed_narrow (units_of text.now)) }
-{
-    let words = text.len() / 8;
-    for i in 0..words {
-        state.write(&text.seven_and(8 * i, text.octet(8 * i, 7)));
-    }
-    let i = 8 * words;
-    state.write(&text.seven_and(i, 128 + (text.len() - i) as u8));
-}
-
-fn feed_wide<H: Hasher>(text: &TextRef, state: &mut H)
-    ensures { state.new ≡ fold H.write state.old (fed_wide (units_of text.now)) }
-{
-    state.write_usize(text.len());
-    match text.kept {
-        Kept::Units(units) => feed(units, state),
-        _ => feed_each(text, state),
-    }
-    state.write_u8(255);
-}
-
-// However it is kept; the units of a slice are fed faster.
-fn feed_each<H: Hasher>(text: &TextRef, state: &mut H)
-    ensures { state.new ≡ fold H.write state.old (fed_units (units_of text.now)) }
-{
-    let words = text.len() / 4;
-    for i in 0..words {
-        state.write_u64(text.word_at(4 * i));
-    }
-    let i = 4 * words;
-    match text.len() - i {
-        0 => {}
-        1 => state.write_u64(word(text.unit(i), 0, 0, 0)),
-        2 => state.write_u64(word(text.unit(i), text.unit(i + 1), 0, 0)),
-        _ => state.write_u64(word(text.unit(i), text.unit(i + 1), text.unit(i + 2), 0)),
     }
 }
 

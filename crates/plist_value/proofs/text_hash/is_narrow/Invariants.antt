@@ -1,7 +1,7 @@
 use Rattle.std.proofs.Common.{◌≡◌, drop}
 use Rattle.plist_value.specs.Narrow.{are_narrow}
 use Rattle.plist_value.specs.Texts.{units_of}
-use Rattle.plist_value.proofs.text_ref.is_narrow.Given as goal
+use Rattle.plist_value.proofs.text_hash.is_narrow.Given as goal
 
 -- all that follow decide
 abbrev pub invariant-loop-i : goal.invariant-loop-i

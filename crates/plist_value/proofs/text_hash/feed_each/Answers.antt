@@ -2,7 +2,7 @@ use Rattle.std.proofs.Common.{◌≡◌, ◌+◌, ◌*◌, arith}
 use Rattle.plist_value.specs.Texts.{units_of}
 use Rattle.plist_value.proofs.Hashes.{fed_units-word}
 use Rattle.std.proofs.lemmas.Grind.{common_steps}
-use Rattle.plist_value.proofs.text_ref.feed_each.Goals as goal
+use Rattle.plist_value.proofs.text_hash.feed_each.Goals as goal
 
 pub loop-i-preserved : goal.loop-i-preserved
 loop-i-preserved g c =

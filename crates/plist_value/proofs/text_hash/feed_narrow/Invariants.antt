@@ -1,7 +1,7 @@
 use Rattle.std.proofs.Common.{◌≡◌, ◌*◌, drop, fold}
 use Rattle.plist_value.specs.Texts.{units_of}
 use Rattle.plist_value.specs.Hashes.{fed_narrow}
-use Rattle.plist_value.proofs.text_ref.feed_narrow.Given as goal
+use Rattle.plist_value.proofs.text_hash.feed_narrow.Given as goal
 
 -- feeding what is left gives what feeding all gave
 abbrev pub invariant-loop-i : goal.invariant-loop-i

@@ -2,7 +2,7 @@ use Rattle.std.proofs.Common.{◌≡◌, ◌+◌, ◌-◌, ◌*◌, ◌/◌, ◌
 use Rattle.std.proofs.lemmas.List.{drop-drop, length-drop}
 use Rattle.plist_value.specs.Texts.{units_of}
 use Rattle.plist_value.proofs.Hashes.{fed_narrow-eight, fed_narrow-last, seven_and-eight}
-use Rattle.plist_value.proofs.text_ref.feed_narrow.Goals as goal
+use Rattle.plist_value.proofs.text_hash.feed_narrow.Goals as goal
 
 pub loop-i-preserved : goal.loop-i-preserved
 loop-i-preserved g c =
