@@ -15,6 +15,7 @@ mod reading;
 pub mod refs;
 mod shortest;
 pub mod sorted;
+mod texts;
 
 pub use keys::Keys;
 pub use layout::{BinFile, LayoutFault};

@@ -1,11 +1,9 @@
 //! Objects in their canonical spelling.
 ghost use Rattle.std.specs.Prelude.{◌≡◌, ◌+◌, ◌*◌, ◌<◌, ◌≤◌, ◌^◌, [], ◌∷◌, ◌++◌};
-ghost use Rattle.std.specs.Prelude.{ℕ, List, length, All, OnOk, OnErr, IfSome};
-ghost use Rattle.std.specs.Prelude.{nat_lt, replicate, true};
-ghost use Rattle.std.specs.List.{list_all};
+ghost use Rattle.std.specs.Prelude.{ℕ, List, length, All, OnOk, OnErr, replicate};
 ghost use Rattle.byteorder.specs.Endian.{big_bytes};
 ghost use Rattle.plist_value.specs.Plist.{IsWhole};
-ghost use Rattle.plist_value.specs.Texts.{units_of, wide_units};
+ghost use Rattle.plist_value.specs.Texts.{units_of};
 ghost use Rattle.plist_value.specs.Scalars.{content_of};
 ghost use Rattle.plist_object.specs.Appending.{Appends, HasRoom};
 ghost use Rattle.plist_object.specs.Sizes.{IsSmall, IsWidth};
@@ -13,12 +11,13 @@ ghost use Rattle.plist_object.specs.Spelling.{head, least_integer, list_spelling
 ghost use Rattle.plist_object.specs.Spelling.{references, table_spelling, scalar_spelling};
 ghost use Rattle.plist_object.specs.Spelling.{text_spelling, whole_spelling};
 
-use crate::digits::{push_four, push_number, push_octet, push_octets, push_two};
+use crate::digits::{push_four, push_number, push_octet, push_octets};
 use crate::lengths::{head_length, list_length, table_length, width_of};
 use crate::markers::{
     ASCII, DATA, FALSE, LIST, MOMENT_8, REAL_4, REAL_8, TABLE, TRUE, WHOLE_1, WHOLE_2, WHOLE_4,
     WHOLE_8, WHOLE_16, WIDE,
 };
+use crate::texts::{push_ascii, push_wide};
 use plist_value::{ScalarRef, TextRef};
 use std::alloc::AllocError;
 
@@ -318,107 +317,4 @@ fn push_long_whole(out: &mut Vec<u8>, n: u64)
 {
     push_marked(out, WHOLE_16, &[0; 8]);
     push_number(out, n, 8);
-}
-
-// Each unit in one octet.
-fn push_ascii(out: &mut Vec<u8>, text: &TextRef)
-    requires ascii { list_all (λ unit. nat_lt unit 128) (units_of text.now) ≡ true }
-    requires room { HasRoom out.old (length (units_of text.now)) }
-    ensures { Appends out.old out.new (units_of text.now) }
-{
-    if let Some(octets) = text.octets() {
-        push_octets(out, octets);
-    } else if let Some(units) = text.units() {
-        push_low_octets(out, units);
-    } else {
-        push_each_low_octet(out, text);
-    }
-}
-
-// Each unit in one octet, four at a time.
-fn push_low_octets(out: &mut Vec<u8>, units: &[u16])
-    requires ascii { list_all (λ unit. nat_lt unit 128) units.now ≡ true }
-    requires room { HasRoom out.old (length units.now) }
-    ensures { Appends out.old out.new units.now }
-{
-    let mut rest = units;
-    while let [a, b, c, d, behind @ ..] = rest {
-        push_octets(out, &[*a as u8, *b as u8, *c as u8, *d as u8]);
-        rest = behind;
-    }
-    push_few_low_octets(out, rest);
-}
-
-fn push_few_low_octets(out: &mut Vec<u8>, units: &[u16])
-    requires ascii { list_all (λ unit. nat_lt unit 128) units.now ≡ true }
-    requires room { HasRoom out.old (length units.now) }
-    ensures { Appends out.old out.new units.now }
-{
-    for unit in units {
-        push_octet(out, *unit as u8);
-    }
-}
-
-// However the text is kept.
-fn push_each_low_octet(out: &mut Vec<u8>, text: &TextRef)
-    requires ascii { list_all (λ unit. nat_lt unit 128) (units_of text.now) ≡ true }
-    requires room { HasRoom out.old (length (units_of text.now)) }
-    ensures { Appends out.old out.new (units_of text.now) }
-{
-    let text = *text;
-    for i in 0..text.len() {
-        push_octet(out, text.unit(i) as u8);
-    }
-}
-
-// Each unit in two octets. What is kept so is copied.
-fn push_wide(out: &mut Vec<u8>, text: &TextRef)
-    requires { HasRoom out.old (length (references 2 (units_of text.now))) }
-    ensures { Appends out.old out.new (references 2 (units_of text.now)) }
-{
-    if let Some(octets) = wide_spelling(text) {
-        push_octets(out, octets);
-    } else if let Some(units) = text.units() {
-        push_units(out, units);
-    } else {
-        push_each(out, text);
-    }
-}
-
-// The octets of a text that is kept in two octets a unit.
-fn wide_spelling<'a>(text: &TextRef<'a>) -> Option<&'a [u8]>
-    ensures { IfSome result (λ octets. octets.now ≡ references 2 (units_of text.now)) }
-{
-    pairs(text.wide_octets()?)
-}
-
-// The octets, if they spell the units that stand in them two by two: none is left over.
-fn pairs(octets: &[u8]) -> Option<&[u8]>
-    ensures { IfSome result (λ pairs. pairs.now ≡ references 2 (wide_units octets.now)) }
-{
-    if octets.len() % 2 == 0 {
-        Some(octets)
-    } else {
-        None
-    }
-}
-
-fn push_units(out: &mut Vec<u8>, units: &[u16])
-    requires { HasRoom out.old (length (references 2 units.now)) }
-    ensures { Appends out.old out.new (references 2 units.now) }
-{
-    for unit in units {
-        push_two(out, *unit);
-    }
-}
-
-// However the text is kept.
-fn push_each(out: &mut Vec<u8>, text: &TextRef)
-    requires { HasRoom out.old (length (references 2 (units_of text.now))) }
-    ensures { Appends out.old out.new (references 2 (units_of text.now)) }
-{
-    let text = *text;
-    for i in 0..text.len() {
-        push_two(out, text.unit(i));
-    }
 }

@@ -1,6 +1,6 @@
 use Rattle.std.proofs.Common.{◌≡◌, ◌+◌, ◌≤◌, ◌++◌, drop, length, true, nat_lt, vec_len, vec_capacity}
 use Rattle.std.specs.List.{list_all}
-use Rattle.plist_object.proofs.puts.push_few_low_octets.Given as goal
+use Rattle.plist_object.proofs.texts.push_few_low_octets.Given as goal
 
 abbrev pub invariant-loop-unit : goal.invariant-loop-unit
 invariant-loop-unit l =

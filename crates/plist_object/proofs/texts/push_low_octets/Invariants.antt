@@ -1,6 +1,6 @@
 use Rattle.std.proofs.Common.{◌≡◌, ◌+◌, ◌≤◌, ◌++◌, length, true, nat_lt, vec_len, vec_capacity}
 use Rattle.std.specs.List.{list_all}
-use Rattle.plist_object.proofs.puts.push_low_octets.Given as goal
+use Rattle.plist_object.proofs.texts.push_low_octets.Given as goal
 
 abbrev pub invariant-loop-rest : goal.invariant-loop-rest
 invariant-loop-rest l = record {

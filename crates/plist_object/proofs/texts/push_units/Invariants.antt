@@ -1,6 +1,6 @@
 use Rattle.std.proofs.Common.{◌≡◌, ◌+◌, ◌≤◌, ◌++◌, drop, length, vec_len, vec_capacity}
 use Rattle.plist_object.specs.Spelling.{references}
-use Rattle.plist_object.proofs.puts.push_units.Given as goal
+use Rattle.plist_object.proofs.texts.push_units.Given as goal
 
 abbrev pub invariant-loop-unit : goal.invariant-loop-unit
 invariant-loop-unit l =

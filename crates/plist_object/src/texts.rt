@@ -1,0 +1,112 @@
+//! The units of a text, behind its head.
+ghost use Rattle.std.specs.Prelude.{◌≡◌, length, IfSome, nat_lt, true};
+ghost use Rattle.std.specs.List.{list_all};
+ghost use Rattle.plist_object.specs.Appending.{Appends, HasRoom};
+ghost use Rattle.plist_object.specs.Spelling.{references};
+ghost use Rattle.plist_value.specs.Texts.{units_of, wide_units};
+
+use crate::digits::{push_octet, push_octets, push_two};
+use plist_value::TextRef;
+
+/// Each unit in one octet.
+pub fn push_ascii(out: &mut Vec<u8>, text: &TextRef)
+    requires ascii { list_all (λ unit. nat_lt unit 128) (units_of text.now) ≡ true }
+    requires room { HasRoom out.old (length (units_of text.now)) }
+    ensures { Appends out.old out.new (units_of text.now) }
+{
+    if let Some(octets) = text.octets() {
+        push_octets(out, octets);
+    } else if let Some(units) = text.units() {
+        push_low_octets(out, units);
+    } else {
+        push_each_low_octet(out, text);
+    }
+}
+
+// Each unit in one octet, four at a time.
+fn push_low_octets(out: &mut Vec<u8>, units: &[u16])
+    requires ascii { list_all (λ unit. nat_lt unit 128) units.now ≡ true }
+    requires room { HasRoom out.old (length units.now) }
+    ensures { Appends out.old out.new units.now }
+{
+    let mut rest = units;
+    while let [a, b, c, d, behind @ ..] = rest {
+        push_octets(out, &[*a as u8, *b as u8, *c as u8, *d as u8]);
+        rest = behind;
+    }
+    push_few_low_octets(out, rest);
+}
+
+fn push_few_low_octets(out: &mut Vec<u8>, units: &[u16])
+    requires ascii { list_all (λ unit. nat_lt unit 128) units.now ≡ true }
+    requires room { HasRoom out.old (length units.now) }
+    ensures { Appends out.old out.new units.now }
+{
+    for unit in units {
+        push_octet(out, *unit as u8);
+    }
+}
+
+// However the text is kept.
+fn push_each_low_octet(out: &mut Vec<u8>, text: &TextRef)
+    requires ascii { list_all (λ unit. nat_lt unit 128) (units_of text.now) ≡ true }
+    requires room { HasRoom out.old (length (units_of text.now)) }
+    ensures { Appends out.old out.new (units_of text.now) }
+{
+    let text = *text;
+    for i in 0..text.len() {
+        push_octet(out, text.unit(i) as u8);
+    }
+}
+
+/// Each unit in two octets. What is kept so is copied.
+pub fn push_wide(out: &mut Vec<u8>, text: &TextRef)
+    requires { HasRoom out.old (length (references 2 (units_of text.now))) }
+    ensures { Appends out.old out.new (references 2 (units_of text.now)) }
+{
+    if let Some(octets) = wide_spelling(text) {
+        push_octets(out, octets);
+    } else if let Some(units) = text.units() {
+        push_units(out, units);
+    } else {
+        push_each(out, text);
+    }
+}
+
+// The octets of a text that is kept in two octets a unit.
+fn wide_spelling<'a>(text: &TextRef<'a>) -> Option<&'a [u8]>
+    ensures { IfSome result (λ octets. octets.now ≡ references 2 (units_of text.now)) }
+{
+    pairs(text.wide_octets()?)
+}
+
+// The octets, if they spell the units that stand in them two by two: none is left over.
+fn pairs(octets: &[u8]) -> Option<&[u8]>
+    ensures { IfSome result (λ pairs. pairs.now ≡ references 2 (wide_units octets.now)) }
+{
+    if octets.len() % 2 == 0 {
+        Some(octets)
+    } else {
+        None
+    }
+}
+
+fn push_units(out: &mut Vec<u8>, units: &[u16])
+    requires { HasRoom out.old (length (references 2 units.now)) }
+    ensures { Appends out.old out.new (references 2 units.now) }
+{
+    for unit in units {
+        push_two(out, *unit);
+    }
+}
+
+// However the text is kept.
+fn push_each(out: &mut Vec<u8>, text: &TextRef)
+    requires { HasRoom out.old (length (references 2 (units_of text.now))) }
+    ensures { Appends out.old out.new (references 2 (units_of text.now)) }
+{
+    let text = *text;
+    for i in 0..text.len() {
+        push_two(out, text.unit(i));
+    }
+}
