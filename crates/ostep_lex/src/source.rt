@@ -57,14 +57,14 @@ fn first_character(order: ByteOrder, octets: &[u8]) -> Option<(char, &[u8])>
 {
     let (unit, behind) = front_unit(order, octets)?;
     if (0xd800..0xe000).contains(&unit) {
-        return surrogate_character(order, octets);
+        return front_character(order, octets);
     }
     Some((char::from_u32(u32::from(unit))?, behind))
 }
 
-/// The same, for a character of two units.
+/// The same, behind a call: for a character of two units, and where texts in UTF-8 come first.
 #[inline(never)]
-fn surrogate_character(order: ByteOrder, octets: &[u8]) -> Option<(char, &[u8])>
+fn front_character(order: ByteOrder, octets: &[u8]) -> Option<(char, &[u8])>
     ensures { MatchOption result (BeginsWithNone (encoding_by order) octets.now)
         (λ found. BeginsWith (encoding_by order) octets.now found.0 found.1.now) }
 {
@@ -127,7 +127,7 @@ impl<'a> Source<'a> {
                 Some((first, Source::Utf8(behind)))
             }
             Source::Utf16(order, octets) => {
-                let (first, behind) = first_character(order, octets)?;
+                let (first, behind) = front_character(order, octets)?;
                 Some((first, Source::Utf16(order, behind)))
             }
         }
