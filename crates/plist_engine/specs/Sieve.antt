@@ -16,7 +16,8 @@ abbrev pub HoldsIt : List ℕ → ℕ → Scalar → Type 0
 HoldsIt f i s = what_holds f i ≡ Ok (holds_scalar s)
 
 -- The objects before i were noted: the bit of each that holds a scalar is kept, the scalar came to
--- it, and where an equal one came before, it came again. What has a bit holds a scalar.
+-- it, and where an equal one came before, it came again. What has another bit than that of
+-- containers holds a scalar.
 pub record HasNoted (f : List ℕ) (i : ℕ) (sieve : Sieve) : Type 0 where
   pub noted : length sieve.bits.items ≡ i
   pub kept : (k : ℕ) (s : Scalar) → k < i → HoldsIt f k s → slice_index sieve.bits.items k ≡ bit_of sieve.once s
@@ -28,6 +29,6 @@ pub record HasNoted (f : List ℕ) (i : ℕ) (sieve : Sieve) : Type 0 where
 abbrev pub MayRepeat : Sieve → ℕ → Type 0
 MayRepeat sieve i = HasBit sieve.again (slice_index sieve.bits.items i)
 
--- the object i holds a scalar, and no other may hold it
+-- the bits tell that the object i holds a scalar, and that no other holds it
 abbrev pub IsUnlike : Sieve → ℕ → Type 0
 IsUnlike sieve i = (slice_index sieve.bits.items i ≢ no_bit) × (MayRepeat sieve i → ⊥)

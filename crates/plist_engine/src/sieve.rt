@@ -103,11 +103,11 @@ impl Sieve {
         self.again.has(self.bits[object])
     }
 
-    /// Whether the object, which was noted, holds a scalar that no other object holds which was
-    /// noted. Where it does not, some still are such objects.
+    /// Whether the bits tell that the object, which was noted, holds a scalar that no other object
+    /// holds which was noted. `false` says nothing: the object may still be one.
     pub(crate) fn is_unlike(&self, object: usize) -> bool
         requires { object < length self.now.bits.items }
-        ensures { IsTrue result → IsUnlike self.now object }
+        ensures { IsTrue result ↔ IsUnlike self.now object }
     {
         let bit = self.bits[object];
         bit != NO_BIT && !self.again.has(bit)
