@@ -12,10 +12,9 @@ use Rattle.plist_object.specs.Views.{numbers_of}
 use Rattle.plist_object.specs.declared.refs.Refs.{Refs}
 use Rattle.plist_canon.specs.Rules.{HoldsScalar, HasAscendingKeys}
 use Rattle.plist_canon.specs.declared.weights.Weight.{Weight}
-use Rattle.plist_canon.specs.declared.weights.Weight.TheVariants.{Container}
 use Rattle.plist_canon.specs.declared.preorder.Frame.{Frame}
 use Rattle.plist_canon.specs.declared.progress.Progress.{Progress}
-use Rattle.plist_canon.specs.Weights.{Weighs, AreAllWeights}
+use Rattle.plist_canon.specs.Weights.{container, Weighs, AreAllWeights}
 use Rattle.plist_canon.specs.Preorders.{Group, grouped, groups_of, frame_group, path_groups, references_left, new_frame, IsWalking, IsNoneMet, Advances, Enters}
 use Rattle.plist_canon.specs.Owing.{Pays}
 use Rattle.plist_canon.specs.Steps.{Stands, Passes, GoesOn, GroupGoesOn, FrameGoesOn}
@@ -68,7 +67,7 @@ module _ (f : List ℕ) (weight : Weight) (octets : AreOctets f) where
 
 module _ (f : List ℕ) (weights : List Weight) (all : AreAllWeights f weights) (owner levels i : ℕ) (refs : List ℕ) (outer : List Group)
     (before after : Progress) (passes : Passes weights levels i before after) (stands : Stands f before (grouped owner levels (i ∷ refs) ∷ outer)) where
-  weighs : Weighs f i (slice_index_or weights i Container)
+  weighs : Weighs f i (slice_index_or weights i container)
   weighs = all.each i passes.listed
 
   is_scalar : HoldsScalar f i
@@ -92,7 +91,7 @@ module _ (f : List ℕ) (weights : List Weight) (all : AreAllWeights f weights) 
   pub Stands-passed : Stands f after (grouped owner levels refs ∷ outer)
   Stands-passed = record {
     walking = walking_past;
-    owed = Owes-passed f owner levels i refs outer (slice_index_or weights i Container) weighs before.left after.left is_scalar passes.pays stands.owed;
+    owed = Owes-passed f owner levels i refs outer (slice_index_or weights i container) weighs before.left after.left is_scalar passes.pays stands.owed;
   }
 
 module _ (weights : List Weight) (first : Group) (owner levels : ℕ) (refs : List ℕ) (k : ℕ) (before here : Progress)

@@ -1,16 +1,17 @@
 -- The weights of objects.
-use Rattle.std.proofs.Common.{◌≡◌, ℕ, ◌+◌, ◌<◌, List, [], ◌∷◌, ◌++◌, length, true, sym, ap, subst, ◌∙◌, arith, length-append, inl, inr}
+use Rattle.std.proofs.Common.{◌≡◌, ℕ, suc, ◌+◌, ◌<◌, min, List, [], ◌∷◌, ◌++◌, length, true, sym, ap, subst, ◌∙◌, arith, length-append, inl, inr}
 use Rattle.std.specs.Prelude.{slice_index_or}
-use Rattle.std.proofs.lemmas.Bool.{cases_lt, true≢false}
+use Rattle.std.proofs.lemmas.Bool.{cases_lt, lt-ltb, true≢false}
 use Rattle.std.proofs.lemmas.List.{get_or_append_left, get_or_push}
+use Rattle.plist_value.specs.Limits.{payload_of_scalar}
 use Rattle.plist_object.specs.Layout.{trailer_of}
 use Rattle.plist_object.specs.Objects.{Held, holds_scalar, holds_list, holds_table}
 use Rattle.plist_object.specs.Places.{Holds}
 use Rattle.plist_object.proofs.Uniqueness.{same_held}
+use Rattle.plist_canon.specs.declared.weights.TheConstants.{MOST_TOLD}
 use Rattle.plist_canon.specs.declared.weights.Weight.{Weight}
-use Rattle.plist_canon.specs.declared.weights.Weight.TheVariants.{Container}
 use Rattle.plist_canon.specs.Rules.{HoldsScalar}
-use Rattle.plist_canon.specs.Weights.{weight_of, is_scalar_weight, Weighs, AreWeights, AreAllWeights}
+use Rattle.plist_canon.specs.Weights.{container, weight_of, is_scalar_weight, Weighs, AreWeights, AreAllWeights}
 
 -- what an object holds is what was weighed
 pub Weighs-held : (f : List ℕ) (i : ℕ) (weight : Weight) (held : Held) → Weighs f i weight → Holds f i held → weight ≡ weight_of held
@@ -26,16 +27,17 @@ Weighs-scalar f i weight weighs is = scalar-holds f i weighs.held weighs.holds (
 
 pub scalar-Weighs : (f : List ℕ) (i : ℕ) (weight : Weight) → Weighs f i weight → HoldsScalar f i → is_scalar_weight weight ≡ true
 scalar-Weighs f i weight weighs scalar =
-    ap is_scalar_weight (Weighs-held f i weight (holds_scalar scalar.0) weighs scalar.1)
+    let is = Weighs-held f i weight (holds_scalar scalar.0) weighs scalar.1 in
+    ap is_scalar_weight is ∙ lt-ltb 0 (suc (min (payload_of_scalar scalar.0) MOST_TOLD)) (omega arith)
 
 weights-more : (f : List ℕ) (weights : List Weight) (number : ℕ) (weight : Weight) → AreWeights f weights → length weights ≡ number → Weighs f number weight → AreWeights f (weights ++ (weight ∷ []))
 weights-more f weights number weight weighed counted weighs i below =
     elim (cases_lt i (length weights)) [
-      | inl before ↦ rw (get_or_append_left weights (weight ∷ []) Container i before) (weighed i before)
+      | inl before ↦ rw (get_or_append_left weights (weight ∷ []) container i before) (weighed i before)
       | inr past ↦ (
           let long = length-append weights (weight ∷ []) in
           let is : length weights ≡ i = omega arith in
-          rw (get_or_push weights weight Container i is) (subst (λ (k : ℕ). Weighs f k weight) (sym counted ∙ is) weighs))
+          rw (get_or_push weights weight container i is) (subst (λ (k : ℕ). Weighs f k weight) (sym counted ∙ is) weighs))
     ]
 
 -- the weight of one object more was pushed
@@ -49,7 +51,7 @@ length-more weights pushed number weight is counted =
     let same : length pushed ≡ length (weights ++ (weight ∷ [])) = ap length is in
     omega arith
 
-pub AreAllWeights-at : (f : List ℕ) (weights : List Weight) → AreAllWeights f weights → (i : ℕ) → i < (trailer_of f).count → Weighs f i (slice_index_or weights i Container)
+pub AreAllWeights-at : (f : List ℕ) (weights : List Weight) → AreAllWeights f weights → (i : ℕ) → i < (trailer_of f).count → Weighs f i (slice_index_or weights i container)
 AreAllWeights-at f weights all i below =
     let counted = all.all in
     all.each i (omega arith)

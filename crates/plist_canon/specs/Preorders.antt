@@ -6,9 +6,8 @@ use Rattle.plist_object.specs.Places.{Holds}
 use Rattle.plist_object.specs.Views.{numbers_of}
 use Rattle.plist_object.specs.declared.refs.Refs.{Refs}
 use Rattle.plist_canon.specs.Rules.{Walks, MeetsInOrder, IsNumberedInPreorder, Reference, held_by, ComesTo}
-use Rattle.plist_canon.specs.Weights.{is_scalar_weight}
+use Rattle.plist_canon.specs.Weights.{container, is_scalar_weight}
 use Rattle.plist_canon.specs.declared.weights.Weight.{Weight}
-use Rattle.plist_canon.specs.declared.weights.Weight.TheVariants.{Container}
 use Rattle.plist_canon.specs.declared.preorder.Frame.{Frame}
 
 -- the references can be walked so that, where the objects below `met` were met, all are met in
@@ -70,7 +69,7 @@ pub record Enters (f : List ℕ) (number levels : ℕ) (old new : List Frame) : 
 -- where the objects below `met` were met, the number is not that of a scalar among them
 abbrev pub IsNoneMet : List Weight → ℕ → ℕ → Type 0
 IsNoneMet weights met i =
-    i < met → i < length weights → is_scalar_weight (slice_index_or weights i Container) ≡ false
+    i < met → i < length weights → is_scalar_weight (slice_index_or weights i container) ≡ false
 
 -- no fewer objects were met than before, and no more than there are
 pub record Advances (weights : List Weight) (old new : ℕ) : Type 0 where

@@ -8,9 +8,8 @@ use Rattle.plist_canon.specs.declared.preorder.Frame.{Frame}
 use Rattle.plist_canon.specs.declared.preorder.Visit.{Visit}
 use Rattle.plist_canon.specs.declared.progress.Progress.{Progress}
 use Rattle.plist_canon.specs.declared.weights.Weight.{Weight}
-use Rattle.plist_canon.specs.declared.weights.Weight.TheVariants.{Container}
 use Rattle.plist_canon.specs.Rules.{IsNumberedInPreorder}
-use Rattle.plist_canon.specs.Weights.{is_scalar_weight, AreAllWeights}
+use Rattle.plist_canon.specs.Weights.{container, is_scalar_weight, AreAllWeights}
 use Rattle.plist_canon.specs.Preorders.{IsWalking, Group, grouped, references_left, frame_group, path_groups}
 use Rattle.plist_canon.specs.Owing.{Owes, Pays}
 
@@ -22,9 +21,9 @@ pub record Stands (f : List ℕ) (progress : Progress) (groups : List Group) : T
 -- the reference is to a scalar that was met before, or is met now
 pub record Passes (weights : List Weight) (levels i : ℕ) (before after : Progress) : Type 0 where
   pub listed : i < length weights
-  pub is_scalar : is_scalar_weight (slice_index_or weights i Container) ≡ true
+  pub is_scalar : is_scalar_weight (slice_index_or weights i container) ≡ true
   pub meets : ((i < before.met) × (after.met ≡ before.met)) ⊎ ((i ≡ before.met) × (after.met ≡ suc before.met))
-  pub pays : Pays levels (slice_index_or weights i Container) before.left after.left
+  pub pays : Pays levels (slice_index_or weights i container) before.left after.left
 
 -- from the first groups the walk comes to the others, past scalars of these weights
 abbrev pub GoesOn : List Weight → List Group → Progress → List Group → Progress → Type 0

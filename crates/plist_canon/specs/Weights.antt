@@ -1,27 +1,30 @@
 -- What the limits ask of an object besides its references.
-use Rattle.std.specs.Prelude.{◌≡◌, ℕ, ◌<◌, min, Bool, true, false, List, length, slice_index_or}
+use Rattle.std.specs.Prelude.{◌≡◌, ℕ, suc, ◌-◌, ◌<◌, min, Bool, nat_lt, List, length, slice_index_or}
 use Rattle.plist_value.specs.Limits.{payload_of_scalar}
 use Rattle.plist_object.specs.Layout.{trailer_of}
 use Rattle.plist_object.specs.Objects.{Held, holds_scalar, holds_list, holds_table}
 use Rattle.plist_object.specs.Places.{Holds}
 use Rattle.plist_canon.specs.declared.weights.Weight.{Weight}
 use Rattle.plist_canon.specs.declared.weights.TheConstants.{MOST_TOLD}
-use Rattle.plist_canon.specs.declared.weights.Weight.TheVariants.{Payload, Container}
 
--- a scalar's payload, told only so far, which is past the limit
+abbrev pub container : Weight
+container = record { told = 0 }
+
+-- that of a scalar: one more than its payload, which is told only so far, past the limit
+abbrev pub of_payload : ℕ → Weight
+of_payload n = record { told = suc (min n MOST_TOLD) }
+
 abbrev pub weight_of : Held → Weight
-weight_of (holds_scalar s) = Payload (min (payload_of_scalar s) MOST_TOLD)
-weight_of (holds_list refs) = Container
-weight_of (holds_table keys values) = Container
+weight_of (holds_scalar s) = of_payload (payload_of_scalar s)
+weight_of (holds_list refs) = container
+weight_of (holds_table keys values) = container
 
 abbrev pub is_scalar_weight : Weight → Bool
-is_scalar_weight (Payload n) = true
-is_scalar_weight Container = false
+is_scalar_weight weight = nat_lt 0 weight.told
 
 -- a container has no payload of its own
 abbrev pub payload_of_weight : Weight → ℕ
-payload_of_weight (Payload n) = n
-payload_of_weight Container = 0
+payload_of_weight weight = weight.told - 1
 
 -- the object reads, and this is the weight of what it holds
 pub record Weighs (f : List ℕ) (i : ℕ) (weight : Weight) : Type 0 where
@@ -31,7 +34,7 @@ pub record Weighs (f : List ℕ) (i : ℕ) (weight : Weight) : Type 0 where
 
 -- these are the weights of the first objects
 abbrev pub AreWeights : List ℕ → List Weight → Type 0
-AreWeights f weights = (i : ℕ) → i < length weights → Weighs f i (slice_index_or weights i Container)
+AreWeights f weights = (i : ℕ) → i < length weights → Weighs f i (slice_index_or weights i container)
 
 -- these are the weights of all objects
 pub record AreAllWeights (f : List ℕ) (weights : List Weight) : Type 0 where
