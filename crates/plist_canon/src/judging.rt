@@ -10,7 +10,7 @@ ghost use Rattle.plist_canon.specs.Rules.{IsSpelledCanonically, HasAscendingKeys
 ghost use Rattle.plist_canon.specs.Checking.{IsFlaw, RefersWell, IsEndBefore};
 ghost use Rattle.plist_canon.specs.Checking.{Follows, IsJudged};
 ghost use Rattle.plist_canon.specs.KnownKeys.{AreKnown};
-ghost use Rattle.plist_engine.specs.Sieve.{HasNoted};
+ghost use Rattle.plist_engine.specs.Sieve.{AreNoted};
 ghost use Rattle.plist_canon.specs.Weights.{AreAllWeights};
 
 use crate::beginning::begins_plainly;
@@ -19,7 +19,7 @@ use crate::lengths::{is_width, spelled_length};
 use crate::references::object_keys_ascend;
 use crate::repeats::judge_repeats;
 use crate::weights::Weight;
-use plist_engine::Sieve;
+use plist_engine::Notes;
 use plist_object::{BinFile, Object, scalar_length, width_of};
 use plist_value::MAX_NODES;
 use std::alloc::{AllocError, AllocFailed, Global};
@@ -111,21 +111,21 @@ pub(crate) fn judge_objects<'a, S: BuildHasher + Copy>(
         (λ weights. AreAllWeights (octets_of file.now) weights.items) }
     ensures err { IfErr result (IsFlaw (octets_of file.now)) }
 {
-    let mut sieve = Sieve::new(alloc, &hasher, file.count())?;
+    let mut notes = Notes::new(alloc, &hasher, file.count());
     let mut weights = Vec::with_capacity(alloc, file.count().min(MAX_NODES) as usize)?;
     let mut known = KnownKeys::new(alloc, objects, file)?;
     let mut end = 8;
     for i in 0..file.count() {
         match judge_object(alloc, objects, file, i, end, &mut known) {
             Ok(judged) => {
-                sieve.note(&judged.object)?;
+                notes.note(&judged.object)?;
                 weights.push(Weight::of(&judged.object))?;
                 end = judged.end;
             }
-            Err(flaw) => return Err(first_flaw(alloc, hasher, file, &sieve, flaw)),
+            Err(flaw) => return Err(first_flaw(alloc, hasher, file, notes, flaw)),
         }
     }
-    judge_repeats(alloc, hasher, file, &sieve)?;
+    judge_repeats(alloc, hasher, file, notes)?;
     judge_table(file, end)?;
     Ok(weights)
 }
@@ -135,15 +135,15 @@ fn first_flaw<S: BuildHasher + Copy>(
     alloc: Global,
     hasher: S,
     file: &BinFile,
-    sieve: &Sieve,
+    notes: Notes,
     flaw: Flaw,
 ) -> Flaw
-    requires noted { HasNoted (octets_of file.now) (length sieve.now.bits.items) sieve.now }
-    requires listed { length sieve.now.bits.items ≤ (trailer_of (octets_of file.now)).count }
+    requires noted { AreNoted (octets_of file.now) (length notes.bits.items) notes }
+    requires listed { length notes.bits.items ≤ (trailer_of (octets_of file.now)).count }
     requires flaw { IsFlaw (octets_of file.now) flaw }
     ensures { IsFlaw (octets_of file.now) result }
 {
-    match judge_repeats(alloc, hasher, file, sieve) {
+    match judge_repeats(alloc, hasher, file, notes) {
         Ok(()) => flaw,
         Err(earlier) => earlier,
     }

@@ -4,12 +4,12 @@ ghost use Rattle.plist_object.specs.Layout.{trailer_of};
 ghost use Rattle.plist_object.specs.Views.{octets_of};
 ghost use Rattle.plist_canon.specs.Rules.{IsNoRepeat};
 ghost use Rattle.plist_canon.specs.Checking.{IsFlaw};
-ghost use Rattle.plist_engine.specs.Sieve.{HasNoted};
+ghost use Rattle.plist_engine.specs.Sieve.{AreNoted, HasNoted};
 ghost use Rattle.plist_canon.specs.Met.{HasMet};
 
 use crate::judging::Flaw;
 use crate::objects::scalar_of;
-use plist_engine::{Scalars, Sieve};
+use plist_engine::{Notes, Scalars, Sieve};
 use plist_object::BinFile;
 use std::alloc::Global;
 use std::hash::BuildHasher;
@@ -22,17 +22,18 @@ pub(crate) fn judge_repeats<S: BuildHasher + Copy>(
     alloc: Global,
     hasher: S,
     file: &BinFile,
-    sieve: &Sieve,
+    notes: Notes,
 ) -> Result<(), Flaw>
-    requires noted { HasNoted (octets_of file.now) (length sieve.now.bits.items) sieve.now }
-    requires listed { length sieve.now.bits.items ≤ (trailer_of (octets_of file.now)).count }
+    requires noted { AreNoted (octets_of file.now) (length notes.bits.items) notes }
+    requires listed { length notes.bits.items ≤ (trailer_of (octets_of file.now)).count }
     ensures ok { OnOk result
-        ((i : ℕ) → i < length sieve.now.bits.items → IsNoRepeat (octets_of file.now) i) }
+        ((i : ℕ) → i < length notes.bits.items → IsNoRepeat (octets_of file.now) i) }
     ensures err { IfErr result (IsFlaw (octets_of file.now)) }
 {
+    let sieve = notes.sieve(alloc)?;
     let mut met = Scalars::new(alloc, hasher, sieve.len());
     for i in 0..sieve.len() {
-        judge_repeat(file, sieve, i, &mut met)?;
+        judge_repeat(file, &sieve, i, &mut met)?;
     }
     Ok(())
 }

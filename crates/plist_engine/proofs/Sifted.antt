@@ -4,7 +4,6 @@ use Rattle.std.proofs.lemmas.Bool.{cases_eq, cases_lt}
 use Rattle.std.proofs.lemmas.List.{length-set, get_or-set_same, get_or-set_other}
 use Rattle.plist_value.specs.Plist.{Scalar}
 use Rattle.plist_object.specs.Layout.{trailer_of}
-use Rattle.plist_engine.specs.Bits.{HasBit}
 use Rattle.plist_engine.specs.Memo.{single, kept_at, IsAlone, IsSingle, Marks, Sifts}
 use Rattle.plist_engine.specs.Naturals.{no_number}
 use Rattle.plist_engine.specs.declared.memo.Memo.{Memo}
@@ -14,12 +13,10 @@ use Rattle.plist_engine.specs.declared.sieve.Sieve.{Sieve}
 module _ (f : List ℕ) (n : ℕ) (sieve : Sieve) (noted : HasNoted f n sieve) where
   -- of two equal scalars both may repeat another
   pub later_may : (j k : ℕ) (s : Scalar) → j < k → k < n → HoldsIt f j s → HoldsIt f k s → MayRepeat sieve k
-  later_may j k s apart below first second =
-      subst (HasBit sieve.again) (sym (noted.kept k s below second)) (noted.again j k s apart below first second)
+  later_may j k s apart below first second = (noted.again j k s apart below first second).1
 
   pub earlier_may : (j k : ℕ) (s : Scalar) → j < k → k < n → HoldsIt f j s → HoldsIt f k s → MayRepeat sieve j
-  earlier_may j k s apart below first second =
-      subst (HasBit sieve.again) (sym (noted.kept j s (omega arith) first)) (noted.again j k s apart below first second)
+  earlier_may j k s apart below first second = (noted.again j k s apart below first second).0
 
 -- a scalar that shares no bit is that of one object
 pub alone-apart : (f : List ℕ) (sieve : Sieve) → HasNoted f (trailer_of f).count sieve → (i : ℕ) → (MayRepeat sieve i → ⊥) → IsAlone f i

@@ -1,5 +1,5 @@
 -- A bit for each scalar, which some share.
-use Rattle.std.specs.Prelude.{◌≡◌, ℕ, ◌≤◌, ◌/◌, ◌%◌, List, slice_index_or, bit_and, fold, nat_le, if◌then◌else◌, Option, Some, None}
+use Rattle.std.specs.Prelude.{◌≡◌, ℕ, ◌≤◌, ◌/◌, ◌%◌, List, slice_index_or, bit_and, fold, max, nat_le, if◌then◌else◌, Option, Some, None}
 use Rattle.std.specs.Int.{bit_at}
 use Rattle.std.specs.Hash as fed
 use Rattle.std.specs.Hash.FoldHasher as folding
@@ -17,18 +17,13 @@ IsSet words n = bit_at (slice_index_or words (n / 64) 18446744073709551615) (n %
 abbrev pub HasBit : Bits → ℕ → Type 0
 HasBit bits n = IsSet bits.words.items n
 
--- no bit up to the mask is set
-abbrev pub IsClear : Bits → Type 0
-IsClear bits = (n : ℕ) → n ≤ bits.mask → HasBit bits n → ⊥
+-- no bit up to this one is set
+abbrev pub IsClear : ℕ → Bits → Type 0
+IsClear most bits = (n : ℕ) → n ≤ most → HasBit bits n → ⊥
 
 -- each bit that was set is set
 abbrev pub KeepsBits : Bits → Bits → Type 0
 KeepsBits old new = (n : ℕ) → HasBit old n → HasBit new n
-
--- which bit a scalar has is as it was
-pub record KeepsBitOf (old new : Bits) : Type 0 where
-  pub mask : new.mask ≡ old.mask
-  pub seed : new.seed ≡ old.seed
 
 -- a hash of the scalar behind the seed
 unfoldable pub fast_hash : ℕ → Scalar → ℕ
@@ -49,6 +44,10 @@ abbrev pub up_to : ℕ → ℕ → Option ℕ → ℕ
 up_to most other (Some n) = if nat_le n most then n else other
 up_to most other None = other
 
--- the bit of the scalar
-abbrev pub bit_of : Bits → Scalar → ℕ
-bit_of bits s = up_to bits.mask (bit_and (hash_of bits.seed s) bits.mask) (natural_in s)
+-- the bit of the scalar, up to the mask
+abbrev pub any_bit_of : ℕ → ℕ → Scalar → ℕ
+any_bit_of mask seed s = up_to mask (bit_and (hash_of seed s) mask) (natural_in s)
+
+-- and from 1 on
+abbrev pub bit_of : ℕ → ℕ → Scalar → ℕ
+bit_of mask seed s = max (any_bit_of mask seed s) 1

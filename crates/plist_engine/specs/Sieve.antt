@@ -6,29 +6,41 @@ use Rattle.plist_value.specs.declared.scalar_ref.ScalarRef.{ScalarRef}
 use Rattle.plist_object.specs.Objects.{holds_scalar}
 use Rattle.plist_object.specs.Places.{what_holds}
 use Rattle.plist_engine.specs.Bits.{HasBit, bit_of}
+use Rattle.plist_engine.specs.declared.bits.Bits.{Bits}
+use Rattle.plist_engine.specs.declared.sieve.Notes.{Notes}
 use Rattle.plist_engine.specs.declared.sieve.Sieve.{Sieve}
 
--- stands for the bit of an object that holds a container
+-- stands for the bit of an object that holds a container; no scalar has it
 abbrev pub no_bit : ℕ
 no_bit = 0
 
 abbrev pub HoldsIt : List ℕ → ℕ → Scalar → Type 0
 HoldsIt f i s = what_holds f i ≡ Ok (holds_scalar s)
 
--- The objects before i were noted: the bit of each that holds a scalar is kept, the scalar came to
--- it, and where an equal one came before, it came again. What has another bit than that of
--- containers holds a scalar.
-pub record HasNoted (f : List ℕ) (i : ℕ) (sieve : Sieve) : Type 0 where
-  pub noted : length sieve.bits.items ≡ i
-  pub kept : (k : ℕ) (s : Scalar) → k < i → HoldsIt f k s → slice_index sieve.bits.items k ≡ bit_of sieve.once s
-  pub came : (k : ℕ) (s : Scalar) → k < i → HoldsIt f k s → HasBit sieve.once (bit_of sieve.once s)
-  pub again : (j k : ℕ) (s : Scalar) → j < k → k < i → HoldsIt f j s → HoldsIt f k s → HasBit sieve.again (bit_of sieve.once s)
-  pub told : (k : ℕ) → k < i → slice_index sieve.bits.items k ≢ no_bit → (r : ScalarRef) × HoldsIt f k (content_of r)
+-- what has another bit than that of containers holds a scalar
+abbrev pub AreScalars : List ℕ → ℕ → List ℕ → Type 0
+AreScalars f i bits = (k : ℕ) → k < i → slice_index bits k ≢ no_bit → (r : ScalarRef) × HoldsIt f k (content_of r)
 
--- another object may hold what the object i holds
+-- the objects before i were noted: the bit of each that holds a scalar is kept
+pub record AreNoted (f : List ℕ) (i : ℕ) (notes : Notes) : Type 0 where
+  pub noted : length notes.bits.items ≡ i
+  pub kept : (k : ℕ) (s : Scalar) → k < i → HoldsIt f k s → slice_index notes.bits.items k ≡ bit_of notes.mask notes.seed s
+  pub told : AreScalars f i notes.bits.items
+
+-- each bit that stands more than once among the first n is set
+abbrev pub AreMetAgain : ℕ → List ℕ → Bits → Type 0
+AreMetAgain n bits again = (j k : ℕ) → j < k → k < n → slice_index bits j ≡ slice_index bits k → HasBit again (slice_index bits k)
+
+-- the object i holds a scalar, and another may hold it
 abbrev pub MayRepeat : Sieve → ℕ → Type 0
-MayRepeat sieve i = HasBit sieve.again (slice_index sieve.bits.items i)
+MayRepeat sieve i = (slice_index sieve.bits.items i ≢ no_bit) × HasBit sieve.again (slice_index sieve.bits.items i)
 
 -- the bits tell that the object i holds a scalar, and that no other holds it
 abbrev pub IsUnlike : Sieve → ℕ → Type 0
 IsUnlike sieve i = (slice_index sieve.bits.items i ≢ no_bit) × (MayRepeat sieve i → ⊥)
+
+-- what is told of the objects before i: where two of them hold one scalar, both may repeat another
+pub record HasNoted (f : List ℕ) (i : ℕ) (sieve : Sieve) : Type 0 where
+  pub noted : length sieve.bits.items ≡ i
+  pub again : (j k : ℕ) (s : Scalar) → j < k → k < i → HoldsIt f j s → HoldsIt f k s → MayRepeat sieve j × MayRepeat sieve k
+  pub told : AreScalars f i sieve.bits.items

@@ -1,64 +1,34 @@
 //! A bit for each scalar, which some share: where it is not set, no equal scalar set it.
 ghost use Rattle.std.specs.Prelude.{◌≡◌, ◌≤◌, ◌↔◌, ℕ, IsTrue, IfOk, bit_and};
 ghost use Rattle.plist_value.specs.Scalars.{content_of};
-ghost use Rattle.plist_engine.specs.Bits.{KeepsBitOf, HasBit, IsClear, IsSet, KeepsBits};
-ghost use Rattle.plist_engine.specs.Bits.{bit_of, fast_hash, hash_of, strong_hash};
+ghost use Rattle.plist_engine.specs.Bits.{HasBit, IsClear, IsSet, KeepsBits};
+ghost use Rattle.plist_engine.specs.Bits.{any_bit_of, bit_of, fast_hash, hash_of, strong_hash};
 
 use crate::numbered::is_long_data;
 use crate::scalars::natural_in;
 use plist_value::ScalarRef;
 use std::alloc::{AllocError, Global};
-use std::hash::{BuildHasher, DefaultHasher, FoldHasher, Hash, Hasher};
+use std::hash::{DefaultHasher, FoldHasher, Hash, Hasher};
 
 // The least and the greatest number of bits.
 const LEAST: u64 = 64;
 
 const MOST: u64 = 1 << 31;
 
-// What a hasher makes of it is a seed: who does not know the builder does not know the seed.
-const SEED: u64 = 0;
-
-/// Bits in words, 64 in each. The mask is the greatest number of a bit. Who knows the seed can pick
-/// scalars that share one.
+/// Bits in words, 64 in each.
 #[derive(Drop)]
 pub(crate) struct Bits {
     pub(crate) words: Vec<u64>,
-    pub(crate) mask: u32,
-    pub(crate) seed: u64,
 }
 
 impl Bits {
-    /// No bit is set. For each of so many scalars there are `each` bits, or up to twice as many.
-    /// The seed comes from the builder.
-    pub(crate) fn new<S: BuildHasher>(
-        alloc: Global,
-        hasher: &S,
-        scalars: u64,
-        each: u64,
-    ) -> Result<Bits, AllocError>
-        ensures { IfOk result IsClear }
+    /// No bit is set up to the greatest one.
+    pub(crate) fn new(alloc: Global, mask: u32) -> Result<Bits, AllocError>
+        ensures { IfOk result (IsClear mask) }
     {
-        let mask = mask_for(scalars.saturating_mul(each));
         let mut words = Vec::new(alloc);
         words.resize(mask as usize / 64 + 1, 0)?;
-        Ok(Bits {
-            words,
-            mask,
-            seed: hasher.hash_one(SEED),
-        })
-    }
-
-    /// The bit of the scalar. Whole numbers from 0 up to the mask have one each, all others by a
-    /// hash.
-    #[inline(always)]
-    #[tactic(auto, using(std::proofs::lemmas::Nat::and_le_r))]
-    pub(crate) fn bit_of(&self, scalar: &ScalarRef) -> u32
-        ensures { result ≡ bit_of self.now (content_of scalar.now) }
-    {
-        match natural_in(*scalar) {
-            Some(natural) if natural <= u64::from(self.mask) => natural as u32,
-            _ => (hash_of(self.seed, scalar) & u64::from(self.mask)) as u32,
-        }
+        Ok(Bits { words })
     }
 
     /// Whether the bit is set. Each bit behind the words is.
@@ -74,7 +44,6 @@ impl Bits {
     pub(crate) fn set(&mut self, bit: u32)
         ensures set { HasBit self.new bit }
         ensures kept { KeepsBits self.old self.new }
-        ensures alike { KeepsBitOf self.old self.new }
     {
         set_bit(&mut self.words, bit);
     }
@@ -84,7 +53,6 @@ impl Bits {
     pub(crate) fn set_if(&mut self, bit: u32, wanted: bool)
         ensures set { IsTrue wanted → HasBit self.new bit }
         ensures kept { KeepsBits self.old self.new }
-        ensures alike { KeepsBitOf self.old self.new }
     {
         set_bit_if(&mut self.words, bit, wanted);
     }
@@ -123,10 +91,31 @@ fn set_bit_if(words: &mut [u64], bit: u32, wanted: bool)
     }
 }
 
-// A mask of about so many bits.
-fn mask_for(bits: u64) -> u32 {
+/// A mask of about so many bits: the greatest of them, in which all below is set.
+pub(crate) fn mask_for(bits: u64) -> u32 {
     let bits = bits.clamp(LEAST, MOST) as u32;
     u32::MAX.checked_shr(bits.leading_zeros()).unwrap_or(0)
+}
+
+/// The bit of the scalar, from 1 up to the mask. Whole numbers up to the mask have one each, but
+/// for 0 and 1, and all others by a hash.
+#[inline(always)]
+pub(crate) fn bit_of(mask: u32, seed: u64, scalar: &ScalarRef) -> u32
+    ensures { result ≡ bit_of mask seed (content_of scalar.now) }
+{
+    any_bit_of(mask, seed, scalar).max(1)
+}
+
+// The same, from 0 on.
+#[inline(always)]
+#[tactic(auto, using(std::proofs::lemmas::Nat::and_le_r))]
+fn any_bit_of(mask: u32, seed: u64, scalar: &ScalarRef) -> u32
+    ensures { result ≡ any_bit_of mask seed (content_of scalar.now) }
+{
+    match natural_in(*scalar) {
+        Some(natural) if natural <= u64::from(mask) => natural as u32,
+        _ => (hash_of(seed, scalar) & u64::from(mask)) as u32,
+    }
 }
 
 // A fast hash, but for data: some of these share one whatever the seed. Long data are not hashed.

@@ -29,4 +29,4 @@ pub use pending::{Pending, flush};
 pub use plist_devices::{DeviceFault, ListSink, Sink};
 pub use scalars::{Scalars, natural_in};
 pub use sending::{write_canonical_of, write_canonical_of_sorted, write_canonical_of_with_hasher};
-pub use sieve::Sieve;
+pub use sieve::{Notes, Sieve};

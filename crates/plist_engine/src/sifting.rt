@@ -4,7 +4,7 @@ ghost use Rattle.plist_object.specs.Layout.{trailer_of};
 ghost use Rattle.plist_object.specs.Views.{octets_of};
 ghost use Rattle.plist_engine.specs.Sieve.{HasNoted};
 
-use crate::sieve::Sieve;
+use crate::sieve::{Notes, Sieve};
 use plist_object::{BinFile, Object};
 use plist_value::ScalarRef;
 use std::alloc::{AllocError, Global};
@@ -21,7 +21,7 @@ pub(crate) fn sift<S: BuildHasher>(
     ensures { IfOk result (λ sieve. IfSome sieve
         (HasNoted (octets_of file.now) (trailer_of (octets_of file.now)).count)) }
 {
-    let mut sieve = Sieve::new(alloc, hasher, file.count())?;
+    let mut notes = Notes::new(alloc, hasher, file.count());
     let mut left = file.table();
     for i in 0..file.count() {
         let Ok(object) = file.object(i) else {
@@ -32,8 +32,9 @@ pub(crate) fn sift<S: BuildHasher>(
             return Ok(None);
         }
         left -= length;
-        sieve.note(&object)?;
+        notes.note(&object)?;
     }
+    let sieve = notes.sieve(alloc)?;
     Ok(Some(sieve))
 }
 

@@ -4,7 +4,7 @@ ghost use Rattle.plist_value.specs.Plist.{Plist};
 ghost use Rattle.plist_object.specs.Spelled.{IsBinary};
 
 use plist_binary::read;
-use plist_engine::{Scalars, Sieve, canonical_of, natural_in};
+use plist_engine::{Notes, Scalars, canonical_of, natural_in};
 use plist_object::{BinFile, Object};
 use plist_value::{FixedHasher, ScalarRef, Whole};
 use std::alloc::{AllocError, Global};
@@ -218,10 +218,11 @@ fn data_share_objects_where_there_are_many(rt: HostRuntime) -> Result<(), Fail> 
 
 #[test]
 fn sieves_tell_what_may_repeat(rt: HostRuntime) -> Result<(), Fail> {
-    let mut sieve = Sieve::new(rt.alloc(), &FixedHasher::new(), 3)?;
+    let mut notes = Notes::new(rt.alloc(), &FixedHasher::new(), 3);
     for octets in [b"a", b"b", b"a"] {
-        sieve.note(&Object::Scalar(ScalarRef::Bytes(octets)))?;
+        notes.note(&Object::Scalar(ScalarRef::Bytes(octets)))?;
     }
+    let sieve = notes.sieve(rt.alloc())?;
     assert_eq!(rt; sieve.len(), 3);
     assert_eq!(rt; sieve.may_repeat(0), true);
     assert_eq!(rt; sieve.may_repeat(1), false);

@@ -2,7 +2,7 @@ use Rattle.std.proofs.Common.{◌≡◌, ℕ, ◌<◌, refl, sym, subst, ◌∙�
 use Rattle.plist_object.specs.Views.{held_of, octets_of}
 use Rattle.plist_object.specs.Layout.{trailer_of}
 use Rattle.plist_canon.specs.Checking.{IsJudged, IsEndBefore}
-use Rattle.plist_engine.specs.Sieve.{HasNoted}
+use Rattle.plist_engine.specs.Sieve.{AreNoted}
 use Rattle.plist_engine.proofs.Noted.{noted-nothing}
 use Rattle.plist_canon.specs.Weights.{Weighs}
 use Rattle.plist_canon.proofs.Judges.{below_or_last}
@@ -14,7 +14,7 @@ loop-i-init g c = record {
   known = c.in_ok-known.ensures (octets_of c.args.file.now);
   judged = λ j below. absurd (omega (arith, below));
   ends = refl;
-  noted = noted-nothing (octets_of c.args.file.now) c.in_ok-sieve.sieve c.in_ok-sieve.ensures;
+  noted = noted-nothing (octets_of c.args.file.now) c.new-notes.result c.new-notes.ensures;
   weighed = rw c.in_ok-weights.ensures.items (λ j below. absurd (omega (arith, below)));
   counted = rw c.in_ok-weights.ensures.items refl;
 }
@@ -35,7 +35,7 @@ loop-i-preserved g c =
       known = told.known;
       judged = below_or_last (λ j. IsJudged f j) i before.judged told.judged;
       ends = subst (λ (n : ℕ). IsEndBefore f n judged.end) (sym (add-one i)) (c.loop-i.end, told.ends);
-      noted = subst (λ (n : ℕ). HasNoted f n c.note.new.self) (sym (add-one i)) (c.in_ok-note-in-Ok.ensures f i told.holds before.noted);
+      noted = subst (λ (n : ℕ). AreNoted f n c.note.new.self) (sym (add-one i)) (c.in_ok-note-in-Ok.ensures f i told.holds before.noted);
       weighed = AreWeights-more f weights pushed i weight added before.weighed before.counted weighs;
       counted = length-more weights pushed i weight added before.counted;
     }
@@ -45,7 +45,7 @@ first_flaw-requires g c =
     let f = octets_of c.args.file.now in
     let noted = c.loop-i.invariant.noted in
     record {
-      noted = subst (λ (n : ℕ). HasNoted f n c.loop-i.sieve) (sym noted.noted) noted;
+      noted = subst (λ (n : ℕ). AreNoted f n c.loop-i.notes) (sym noted.noted) noted;
       listed = rw noted.noted (omega (arith, c.loop-i-test.true, c.count-i-end.ensures));
       flaw = c.in-Err.ensures.err;
     }
@@ -55,7 +55,7 @@ judge_repeats-requires g c =
     let f = octets_of c.args.file.now in
     let noted = c.loop-i.invariant.noted in
     record {
-      noted = subst (λ (n : ℕ). HasNoted f n c.loop-i.sieve) (sym noted.noted) noted;
+      noted = subst (λ (n : ℕ). AreNoted f n c.loop-i.notes) (sym noted.noted) noted;
       listed = rw noted.noted (omega (arith, c.count-i-end.ensures, c.loop-i.auto.i-end));
     }
 

@@ -1,7 +1,7 @@
 use Rattle.std.proofs.Common.{◌≡◌, ℕ, ◌<◌, length}
 use Rattle.plist_object.specs.Views.{octets_of}
 use Rattle.plist_canon.specs.Checking.{IsJudged, IsEndBefore}
-use Rattle.plist_engine.specs.Sieve.{HasNoted}
+use Rattle.plist_engine.specs.Sieve.{AreNoted}
 use Rattle.plist_canon.specs.KnownKeys.{AreKnown}
 use Rattle.plist_canon.specs.Weights.{AreWeights}
 use Rattle.plist_canon.proofs.judging.judge_objects.Given as goal
@@ -13,7 +13,7 @@ invariant-loop-i g l =
       known : AreKnown f l.known;
       judged : (j : ℕ) → j < l.i → IsJudged f j;
       ends : IsEndBefore f l.i l.end;
-      noted : HasNoted f l.i l.sieve;
+      noted : AreNoted f l.i l.notes;
       weighed : AreWeights f l.weights.items;
       counted : length l.weights.items ≡ l.i;
     }

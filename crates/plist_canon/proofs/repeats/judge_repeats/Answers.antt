@@ -1,7 +1,8 @@
-use Rattle.std.proofs.Common.{ℕ, sym, ap, subst, ◌∙◌, arith, add-one, true≢false}
+use Rattle.std.proofs.Common.{ℕ, length, sym, ap, subst, ◌∙◌, arith, add-one, true≢false}
 use Rattle.std.specs.Option.{is_some}
 use Rattle.plist_object.specs.Views.{octets_of}
 use Rattle.plist_canon.specs.Rules.{IsNoRepeat}
+use Rattle.plist_engine.specs.Sieve.{HasNoted}
 use Rattle.plist_canon.specs.Met.{HasMet}
 use Rattle.plist_canon.proofs.Judges.{below_or_last}
 use Rattle.plist_canon.proofs.repeats.judge_repeats.Goals as goal
@@ -15,15 +16,28 @@ loop-i-init g c = record {
   };
 }
 
+pub judge_repeat-requires : goal.judge_repeat-requires
+judge_repeat-requires g c =
+    let f = octets_of c.args.file.now in
+    let sieve = c.in_ok-sieve.sieve in
+    let noted = c.in_ok-sieve.ensures f (length c.args.notes.bits.items) c.requires.noted in
+    record {
+      noted = subst (λ (n : ℕ). HasNoted f n sieve) (sym noted.noted) noted;
+      among = omega (arith, c.loop-i-test.true, c.len-i-end.ensures);
+      listed = omega (arith, c.loop-i-test.true, c.len-i-end.ensures, noted.noted, c.requires.listed);
+      met = c.loop-i.invariant.met;
+    }
+
 pub loop-i-preserved : goal.loop-i-preserved
 loop-i-preserved g c =
     let f = octets_of c.args.file.now in
     let i = c.loop-i.i in
     record {
       single = below_or_last (λ j. IsNoRepeat f j) i c.loop-i.invariant.single c.in_ok-judge_repeat.ensures.ok;
-      met = subst (λ (n : ℕ). HasMet c.args.sieve.now f n c.judge_repeat.new.met) (sym (add-one i)) c.in_ok-judge_repeat.ensures.met;
+      met = subst (λ (n : ℕ). HasMet c.in_ok-sieve.sieve f n c.judge_repeat.new.met) (sym (add-one i)) c.in_ok-judge_repeat.ensures.met;
     }
 
 pub returns-clause-ok : goal.returns-clause-ok
 returns-clause-ok g c =
-    λ i below. c.loop-i.invariant.single i (omega (arith, below, c.loop-i-test.false))
+    let noted = c.in_ok-sieve.ensures (octets_of c.args.file.now) (length c.args.notes.bits.items) c.requires.noted in
+    λ i below. c.loop-i.invariant.single i (omega (arith, below, c.loop-i-test.false, c.len-i-end.ensures, noted.noted))

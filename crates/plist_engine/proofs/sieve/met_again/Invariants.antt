@@ -1,0 +1,12 @@
+use Rattle.std.proofs.Common.{ℕ, ◌<◌}
+use Rattle.std.specs.Prelude.{slice_index}
+use Rattle.plist_engine.specs.Bits.{HasBit}
+use Rattle.plist_engine.specs.Sieve.{AreMetAgain}
+use Rattle.plist_engine.proofs.sieve.met_again.Given as goal
+
+-- the bits so far came, and those that came before came again
+abbrev pub invariant-loop-bit : goal.invariant-loop-bit
+invariant-loop-bit l = record {
+  once : (k : ℕ) → k < l.bit-index → HasBit l.once (slice_index l.bits k);
+  again : AreMetAgain l.bit-index l.bits l.again;
+}
