@@ -116,14 +116,16 @@ pub(crate) fn judge_objects<'a, S: BuildHasher + Copy>(
     let mut known = KnownKeys::new(alloc, objects, file)?;
     let mut end = 8;
     for i in 0..file.count() {
-        match judge_object(alloc, objects, file, i, end, &mut known) {
-            Ok(judged) => {
-                notes.note(&judged.object)?;
-                weights.push(Weight::of(&judged.object))?;
-                end = judged.end;
-            }
+        let read = file.object(i);
+        let Ok(object) = &read else {
+            return Err(first_flaw(alloc, hasher, file, notes, Flaw::at(0, i)));
+        };
+        match judge_object(alloc, objects, file, i, end, object, &mut known) {
+            Ok(next) => end = next,
             Err(flaw) => return Err(first_flaw(alloc, hasher, file, notes, flaw)),
         }
+        notes.note(object)?;
+        weights.push(Weight::of(object))?;
     }
     judge_repeats(alloc, hasher, file, notes)?;
     judge_table(file, end)?;
@@ -165,73 +167,58 @@ fn judge_table(file: &BinFile, end: u64) -> Result<(), Flaw>
     Ok(())
 }
 
-// What is told of an object of which the rules hold: what it holds, and where it ends.
-#[derive(Clone, Copy)]
-struct Judged<'a> {
-    object: Object<'a>,
-    end: u64,
-}
-
-// The rules of the object but for rule 6, where the one before it ends at the place.
+// The rules of the object but for rule 6, where it holds this and the one before it ends at the
+// place. Where it ends is answered.
 fn judge_object<'a>(
     alloc: Global,
     objects: &[u8],
     file: &BinFile<'a>,
     i: u64,
     place: u64,
+    object: &Object<'a>,
     known: &mut KnownKeys<'a>,
-) -> Result<Judged<'a>, Flaw>
+) -> Result<u64, Flaw>
     requires objects { objects.now
         ≡ take (trailer_of (octets_of file.now)).table (octets_of file.now) }
-    requires listed { i < (trailer_of (octets_of file.now)).count }
     requires before { IsEndBefore (octets_of file.now) i place }
+    requires holds { Holds (octets_of file.now) i (held_of object.now) }
+    requires valid { IsHeld (held_of object.now) }
     requires known { AreKnown (octets_of file.now) known.old }
-    ensures judged { IfOk result (λ _. IsJudged (octets_of file.now) i) }
-    ensures ends { IfOk result
-        (λ judged. span_of (octets_of file.now) i ≡ Ok (place, judged.end)) }
-    ensures holds { IfOk result
-        (λ judged. Holds (octets_of file.now) i (held_of judged.object)) }
+    ensures judged { OnOk result (IsJudged (octets_of file.now) i) }
+    ensures ends { IfOk result (λ end. span_of (octets_of file.now) i ≡ Ok (place, end)) }
     ensures known { OnOk result (AreKnown (octets_of file.now) known.new) }
     ensures err { IfErr result (IsFlaw (octets_of file.now)) }
 {
-    let (object, ascend) = judge_reading(alloc, file, known, i)?;
+    let ascend = judge_references(alloc, file, known, i, object)?;
     judge_start(file, i, place)?;
-    judge_spelling(objects, file, i, place, &object)?;
+    judge_spelling(objects, file, i, place, object)?;
     if !ascend {
         return Err(Flaw::at(5, i));
     }
-    Ok(Judged {
-        end: end_of(file, i, place, &object),
-        object,
-    })
+    Ok(end_of(file, i, place, object))
 }
 
-// Rule 0 of the object: what it holds. Beside it is told whether rule 5 holds.
+// Rule 0 of the references of an object that holds this. Whether rule 5 holds is answered.
 #[inline(always)]
-fn judge_reading<'a>(
+fn judge_references<'a>(
     alloc: Global,
     file: &BinFile<'a>,
     known: &mut KnownKeys<'a>,
     i: u64,
-) -> Result<(Object<'a>, bool), Flaw>
+    object: &Object<'a>,
+) -> Result<bool, Flaw>
     requires known { AreKnown (octets_of file.now) known.old }
-    requires listed { i < (trailer_of (octets_of file.now)).count }
-    ensures holds { IfOk result (λ read. Holds (octets_of file.now) i (held_of read.0)) }
-    ensures valid { IfOk result (λ read. IsHeld (held_of read.0)) }
-    ensures refers { IfOk result (λ read. RefersWell (octets_of file.now) (held_of read.0)) }
+    requires holds { Holds (octets_of file.now) i (held_of object.now) }
+    ensures refers { OnOk result (RefersWell (octets_of file.now) (held_of object.now)) }
     ensures ascend { IfOk result
-        (λ read. IsTrue read.1 ↔ HasAscendingKeys (octets_of file.now) i) }
+        (λ ascend. IsTrue ascend ↔ HasAscendingKeys (octets_of file.now) i) }
     ensures known { OnOk result (AreKnown (octets_of file.now) known.new) }
     ensures err { IfErr result (IsFlaw (octets_of file.now)) }
 {
-    let Ok(object) = file.object(i) else {
-        return Err(Flaw::at(0, i));
-    };
-    let told = object_keys_ascend(alloc, file, known, i, &object)?;
-    let Some(ascend) = told else {
-        return Err(Flaw::at(0, i));
-    };
-    Ok((object, ascend))
+    match object_keys_ascend(alloc, file, known, i, object)? {
+        Some(ascend) => Ok(ascend),
+        None => Err(Flaw::at(0, i)),
+    }
 }
 
 // Rule 3 of an object that reads, but for the place of the offset table: it begins at the place.
