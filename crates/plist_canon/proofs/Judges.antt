@@ -17,6 +17,7 @@ use Rattle.plist_object.specs.Views.{held_of}
 use Rattle.plist_object.specs.Layout.{trailer_of}
 use Rattle.plist_object.specs.Objects.{Held, holds_scalar, holds_list, holds_table, ◌>>=◌}
 use Rattle.plist_object.specs.Places.{Holds, object_at, place_of, what_holds, span_of}
+use Rattle.plist_object.proofs.Readable.{Holds-reads}
 use Rattle.plist_object.proofs.Uniqueness.{same_held}
 use Rattle.plist_canon.specs.Rules.{HoldsText, HoldTexts, IsWellRead, HasAscendingKeys, Adjoins}
 use Rattle.plist_canon.specs.Checking.{RefersWell, AreInOrder, AscendInTurn, IsEndBefore, Follows}
@@ -42,15 +43,6 @@ all_front P (x ∷ xs) ys all = (all.0, all_front P xs ys all.1)
 pub all_rest : (P : ℕ → Type 0) (xs ys : List ℕ) → AllByRecursion P (xs ++ ys) → AllByRecursion P ys
 all_rest P [] ys all = all
 all_rest P (x ∷ xs) ys all = all_rest P xs ys all.1
-
--- an object that holds something reads
-object_reads : (m : Result (Held × List ℕ) ObjectFault) (held : Held) → (m >>= λ read. Ok read.0) ≡ Ok held → IsOk m
-object_reads (Ok read) held e = refl
-object_reads (Err fault) held e = absurd (let no : Err fault ≡ Ok held = e in cc)
-
-pub Holds-reads : (f : List ℕ) (i : ℕ) (held : Held) → Holds f i held → IsOk (object_at f i)
-unfolding what_holds
-Holds-reads f i held holds = object_reads (object_at f i) held holds.reads
 
 span_reads : (m : Result (Held × List ℕ) ObjectFault) (g : Held × List ℕ → ℕ × ℕ) → IsOk m → IsOk (m >>= λ read. Ok (g read))
 span_reads (Ok read) g ok = refl

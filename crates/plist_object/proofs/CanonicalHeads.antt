@@ -45,7 +45,7 @@ content_by_test : {B : Type 0} (unit n : ℕ) (octets : List ℕ) (next : ℕ ×
 content_by_test unit n octets next y true is e = absurd cc
 content_by_test unit n octets next y false is e = record { enough = ltb-false (length octets) (n * unit) is; goes_on = e }
 
-was_content : {B : Type 0} (unit low n : ℕ) (b tail : List ℕ) (next : ℕ × List ℕ × List ℕ → Result B ObjectFault) (y : B) → count_of_content low b ≡ Ok (n, tail) → (content unit low b >>= next) ≡ Ok y → WasContent unit n tail next y
+pub was_content : {B : Type 0} (unit low n : ℕ) (b tail : List ℕ) (next : ℕ × List ℕ × List ℕ → Result B ObjectFault) (y : B) → count_of_content low b ≡ Ok (n, tail) → (content unit low b >>= next) ≡ Ok y → WasContent unit n tail next y
 unfolding content
 was_content unit low n b tail next y counts e =
     content_by_test unit n tail next y (ltb (length tail) (n * unit)) refl (rw counts at e)
@@ -60,7 +60,7 @@ pub record Headed (width kind n : ℕ) (octets : List ℕ) (y : Held × List ℕ
   pub counts : count_of_content low behind ≡ Ok (n, tail)
   pub reads : marked_object width kind low behind ≡ Ok y
 
-headed : (width kind n : ℕ) (octets : List ℕ) (y : Held × List ℕ) → n < 2 ^ 64 → AreOctets octets → Begins (head kind n) octets → object_in width octets ≡ Ok y → Headed width kind n octets y
+pub headed : (width kind n : ℕ) (octets : List ℕ) (y : Held × List ℕ) → n < 2 ^ 64 → AreOctets octets → Begins (head kind n) octets → object_in width octets ≡ Ok y → Headed width kind n octets y
 headed width kind n octets y small are_octets begins read =
     let tail = drop (length (head kind n)) octets in
     let parts : octets ≡ head kind n ++ tail = split_head (head kind n) octets begins in

@@ -1,11 +1,13 @@
 pub mod Ascending
 pub mod Uniqueness
 pub mod CanonicalHeads
+pub mod Copies
 pub mod Counts
 pub mod HeldRanges
 pub mod Listed
 pub mod Read
 pub mod ReadBack
+pub mod Readable
 pub mod ReadReferences
 pub mod ReadScalars
 pub mod SameOctets

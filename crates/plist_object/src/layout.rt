@@ -1,6 +1,6 @@
 //! The layout of a binary file: header, objects, offset table and trailer.
 ghost use Rattle.std.specs.Prelude.{◌≡◌, ◌+◌, ◌*◌, ◌<◌, ◌≤◌, ◌^◌, ◌↔◌};
-ghost use Rattle.std.specs.Prelude.{IsTrue, IsOk, IfOk, MatchResult, length};
+ghost use Rattle.std.specs.Prelude.{IsTrue, IsOk, IfOk, IfSome, MatchResult, length};
 ghost use Rattle.std.specs.Option.{SomeIff};
 ghost use Rattle.plist_object.specs.Layout.{IsLaid, IsLayoutFault, slack_of, trailer_of};
 
@@ -8,7 +8,7 @@ use crate::markers::HEADER;
 use crate::object::{Object, ObjectFault};
 use crate::reading;
 use crate::refs::number_at;
-use crate::shortest::begins_canonically;
+use crate::shortest::{begins_canonically, spelled_size};
 use byteorder::{BigEndian, ByteOrder};
 use plist_value::{Place, Refusal, Report};
 use std::fmt;
@@ -118,7 +118,7 @@ impl<'a> BinFile<'a> {
     ghost use Rattle.plist_object.specs.Objects.{IsHeld};
     ghost use Rattle.plist_object.specs.Places.{marker_at, octets_at, object_at, place_of};
     ghost use Rattle.plist_object.specs.Places.{span_of, what_holds};
-    ghost use Rattle.plist_object.specs.Shortest.{IsShortest};
+    ghost use Rattle.plist_object.specs.Shortest.{IsShortest, IsSpelledScalar};
     ghost use Rattle.plist_object.specs.Views.{Gives, held_of, octets_of};
 
     /// The file in these octets.
@@ -254,6 +254,23 @@ impl<'a> BinFile<'a> {
         let octets = self.octets_at(n)?;
         let (object, _) = reading::object(octets, self.trailer.reference_width)?;
         Ok(begins_canonically(octets, &object))
+    }
+
+    /// The octets of the object `n`, which is below `count` and reads, where its first ones tell
+    /// that it holds a string or data in the canonical spelling, of below 256 units or octets.
+    /// `None` says nothing. Its content is not read.
+    #[tactic(auto, unfolding(crate::specs::Places::object_at))]
+    pub fn spelled(&self, n: u64) -> Option<&'a [u8]>
+        requires listed { n < (trailer_of (octets_of self.now)).count }
+        requires reads { IsOk (object_at (octets_of self.now) n) }
+        ensures { IfSome result
+            (λ octets. IsSpelledScalar (octets_of self.now) n octets.now) }
+    {
+        let Ok(octets) = self.octets_at(n) else {
+            return None;
+        };
+        let size = spelled_size(octets)?;
+        Some(&octets[..size])
     }
 
     // What the object holds, and the octets behind it.

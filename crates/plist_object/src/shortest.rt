@@ -1,19 +1,20 @@
 //! Whether an object begins as the canonical spelling of what it holds: with the marker, and the
 //! count or the whole number, in the least width.
 ghost use Rattle.std.specs.Prelude.{◌≡◌, ◌<◌, ◌≤◌, ◌^◌, ◌↔◌, ◌+◌, ◌++◌};
-ghost use Rattle.std.specs.Prelude.{IsTrue, length, replicate, take};
+ghost use Rattle.std.specs.Prelude.{ℕ, IsOk, IsTrue, IfSome, length, replicate, take};
 ghost use Rattle.byteorder.specs.Endian.{big_bytes};
 ghost use Rattle.plist_value.specs.Plist.{AreOctets, IsWhole};
 ghost use Rattle.plist_value.specs.Texts.{units_of};
 ghost use Rattle.plist_value.specs.Scalars.{content_of};
 ghost use Rattle.plist_object.specs.Heads.{Begins, BeginsCanonically, BeginsScalar};
 ghost use Rattle.plist_object.specs.Heads.{IsCounted, text_head};
-ghost use Rattle.plist_object.specs.Objects.{holds_scalar};
+ghost use Rattle.plist_object.specs.Objects.{holds_scalar, object_in};
+ghost use Rattle.plist_object.specs.Shortest.{BeginsPlainly, LeadsScalar};
 ghost use Rattle.plist_object.specs.Spelling.{head, least_integer, whole_spelling};
 ghost use Rattle.plist_object.specs.Views.{held_of};
 
 use crate::Object;
-use crate::lengths::width_of;
+use crate::lengths::{head_length, width_of};
 use crate::markers::{
     ASCII, DATA, FALSE, LIST, MOMENT_8, REAL_4, REAL_8, TABLE, TRUE, WHOLE_1, WHOLE_2, WHOLE_4,
     WHOLE_8, WHOLE_16, WIDE,
@@ -129,4 +130,36 @@ fn begins(octets: &[u8], first: &[u8]) -> bool
     ensures { IsTrue result ↔ Begins first.now octets.now }
 {
     octets.starts_with(first)
+}
+
+/// How many octets the canonical spelling has of the scalar that stands at the front of these,
+/// where their first ones tell that it is a string or data of below 256 units or octets, and stands
+/// there in that spelling.
+pub(crate) fn spelled_size(octets: &[u8]) -> Option<usize>
+    ensures { IfSome result (λ size. (width : ℕ) → IsOk (object_in width octets.now)
+        → LeadsScalar width size octets.now) }
+{
+    let (_, count) = plain_head(octets)?;
+    Some((head_length(count) + count) as usize)
+}
+
+// The kind of a string or of data that begins with these octets, and its count, where it is below
+// 256 and stands there in its least width.
+fn plain_head(octets: &[u8]) -> Option<(u8, u64)>
+    ensures head { IfSome result (λ head. BeginsPlainly head.0 head.1 octets.now) }
+    ensures octets { AreOctets octets.now }
+{
+    let (marker, behind) = octets.split_first()?;
+    let kind = marker / 16;
+    if kind != DATA && kind != ASCII {
+        return None;
+    }
+    let low = marker % 16;
+    if low < 15 {
+        return Some((kind, u64::from(low)));
+    }
+    match behind {
+        [WHOLE_1, count, ..] if *count >= 15 => Some((kind, u64::from(*count))),
+        _ => None,
+    }
 }

@@ -6,7 +6,7 @@ use Rattle.plist_object.specs.Shortest.{spelling_of}
 use Rattle.plist_object.specs.Views.{held_of, octets_of}
 use Rattle.plist_canon.specs.Rules.{IsSpelledCanonically}
 use Rattle.plist_canon.proofs.Ending.{small-held}
-use Rattle.plist_canon.proofs.Judges.{Holds-reads}
+use Rattle.plist_object.proofs.Readable.{Holds-reads}
 use Rattle.plist_canon.proofs.Occupied.{Occupies, occupies}
 use Rattle.plist_canon.proofs.judging.end_of_any.Goals as goal
 

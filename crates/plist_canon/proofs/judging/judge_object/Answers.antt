@@ -1,6 +1,7 @@
 use Rattle.plist_object.specs.Views.{held_of, octets_of}
 use Rattle.plist_canon.specs.Rules.{HasAscendingKeys, breaks_c5}
-use Rattle.plist_canon.proofs.Judges.{Holds-reads, refuted}
+use Rattle.plist_object.proofs.Readable.{Holds-reads}
+use Rattle.plist_canon.proofs.Judges.{refuted}
 use Rattle.plist_canon.proofs.judging.judge_object.Goals as goal
 
 pub judge_start-requires-clause-reads : goal.judge_start-requires-clause-reads

@@ -2,7 +2,8 @@ use Rattle.plist_object.specs.Places.{object_at}
 use Rattle.plist_object.specs.Views.{held_of, octets_of}
 use Rattle.plist_object.specs.Shortest.{IsShortest}
 use Rattle.plist_canon.specs.Rules.{breaks_c4}
-use Rattle.plist_canon.proofs.Judges.{refuted, Holds-reads}
+use Rattle.plist_object.proofs.Readable.{Holds-reads}
+use Rattle.plist_canon.proofs.Judges.{refuted}
 use Rattle.plist_canon.proofs.Plainly.{Holds-inside, begins-shortest, is_ok_of}
 use Rattle.plist_canon.proofs.judging.judge_spelling.Goals as goal
 

@@ -1,0 +1,14 @@
+-- An object that holds something reads.
+use Rattle.std.proofs.Common.{◌≡◌, ℕ, List, Result, Ok, Err, refl}
+use Rattle.std.specs.Prelude.{IsOk}
+use Rattle.plist_object.specs.declared.object.ObjectFault.{ObjectFault}
+use Rattle.plist_object.specs.Objects.{Held, ◌>>=◌}
+use Rattle.plist_object.specs.Places.{Holds, object_at, what_holds}
+
+object_reads : (m : Result (Held × List ℕ) ObjectFault) (held : Held) → (m >>= λ read. Ok read.0) ≡ Ok held → IsOk m
+object_reads (Ok read) held e = refl
+object_reads (Err fault) held e = absurd (let no : Err fault ≡ Ok held = e in cc)
+
+pub Holds-reads : (f : List ℕ) (i : ℕ) (held : Held) → Holds f i held → IsOk (object_at f i)
+unfolding what_holds
+Holds-reads f i held holds = object_reads (object_at f i) held holds.reads
