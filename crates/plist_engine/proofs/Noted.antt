@@ -15,7 +15,6 @@ use Rattle.plist_engine.specs.Bits.{HasBit, bit_of}
 use Rattle.plist_engine.specs.Sieve.{no_bit, AreMetAgain, AreNoted, HasNoted, HoldsIt}
 use Rattle.plist_engine.specs.declared.bits.Bits.{Bits}
 use Rattle.plist_engine.specs.declared.sieve.Notes.{Notes}
-use Rattle.plist_engine.specs.declared.sieve.Sieve.{Sieve}
 
 pub noted-nothing : (f : List ℕ) (notes : Notes) → notes.bits.items ≡ [] → AreNoted f 0 notes
 noted-nothing f notes none = record {

@@ -2,12 +2,10 @@
 use Rattle.std.proofs.Common.{◌≡◌, ℕ, ◌+◌, ◌<◌, ◌≤◌, List, [], ◌∷◌, ◌++◌, length, get_or, drop, sym, ap, subst, ◌∙◌, arith, length-append, append_assoc}
 use Rattle.std.specs.List.{concat}
 use Rattle.std.proofs.lemmas.List.{drop_more, drop_all, append-nil}
-use Rattle.plist_object.specs.Objects.{Held}
 use Rattle.plist_object.specs.Shortest.{spelling_of}
 use Rattle.plist_engine.specs.Canonical.{starts}
 use Rattle.plist_engine.specs.Spelling.{IsRead}
-use Rattle.plist_engine.specs.Pieces.{CanSpell, CanSpellAll, held_in_part}
-use Rattle.plist_engine.specs.declared.putting.Part.{Part}
+use Rattle.plist_engine.specs.Pieces.{CanSpell, CanSpellAll}
 use Rattle.plist_engine.specs.Parts.{held_in, reference_count, renumbered, helds_of, AreSound, octets_for}
 
 -- what the object i wants of the file and of the numbers
@@ -22,11 +20,11 @@ sound-next f start i x numbers h is sound =
     record { read = both.0; enough = both.1.0 }
 
 -- the object i can be spelled
-pub spellable-next : (width : ℕ) (f start : List ℕ) (i x : ℕ) (numbers : List ℕ) (part : Part) → i < length start → x ≡ get_or start i x → held_in_part part ≡ renumbered (held_in f x) numbers → CanSpellAll width (helds_of f (drop i start) numbers) → CanSpell width (held_in_part part)
-spellable-next width f start i x numbers part h is is_part spellable =
+pub spellable-next : (width : ℕ) (f start : List ℕ) (i x : ℕ) (numbers : List ℕ) → i < length start → x ≡ get_or start i x → CanSpellAll width (helds_of f (drop i start) numbers) → CanSpell width (renumbered (held_in f x) numbers)
+spellable-next width f start i x numbers h is spellable =
     let split : drop i start ≡ x ∷ drop (i + 1) start = drop_more start i x h ∙ ap (λ y. y ∷ drop (i + 1) start) (sym is) in
     let can = subst (λ (os : List ℕ). CanSpellAll width (helds_of f os numbers)) split spellable in
-    subst (λ (held : Held). CanSpell width held) (sym is_part) can.0
+    can.0
 
 -- what is left behind the object i
 pub record Step (width : ℕ) (f start : List ℕ) (i : ℕ) (numbers behind octets : List ℕ) : Type 0 where
@@ -34,8 +32,8 @@ pub record Step (width : ℕ) (f start : List ℕ) (i : ℕ) (numbers behind oct
   pub spellable : CanSpellAll width (helds_of f (drop (i + 1) start) behind)
   pub split : octets_for width f (drop i start) numbers ≡ octets ∷ octets_for width f (drop (i + 1) start) behind
 
-pub step : (width : ℕ) (f start : List ℕ) (i x : ℕ) (numbers behind : List ℕ) (part : Part) → i < length start → x ≡ get_or start i x → held_in_part part ≡ renumbered (held_in f x) numbers → behind ≡ drop (reference_count (held_in f x)) numbers → AreSound f (drop i start) numbers → CanSpellAll width (helds_of f (drop i start) numbers) → Step width f start i numbers behind (spelling_of width (held_in_part part))
-step width f start i x numbers behind part h is is_part is_behind sound spellable =
+pub step : (width : ℕ) (f start : List ℕ) (i x : ℕ) (numbers behind octets : List ℕ) → i < length start → x ≡ get_or start i x → octets ≡ spelling_of width (renumbered (held_in f x) numbers) → behind ≡ drop (reference_count (held_in f x)) numbers → AreSound f (drop i start) numbers → CanSpellAll width (helds_of f (drop i start) numbers) → Step width f start i numbers behind octets
+step width f start i x numbers behind octets h is is_part is_behind sound spellable =
     let split : drop i start ≡ x ∷ drop (i + 1) start = drop_more start i x h ∙ ap (λ y. y ∷ drop (i + 1) start) (sym is) in
     let left = drop (i + 1) start in
     let both = subst (λ (os : List ℕ). AreSound f os numbers) split sound in
@@ -43,7 +41,7 @@ step width f start i x numbers behind part h is is_part is_behind sound spellabl
     record {
       sound = subst (λ (rs : List ℕ). AreSound f left rs) (sym is_behind) both.1.1;
       spellable = subst (λ (rs : List ℕ). CanSpellAll width (helds_of f left rs)) (sym is_behind) can.1;
-      split = ap (λ os. octets_for width f os numbers) split ∙ ap (λ rs. spelling_of width (renumbered (held_in f x) numbers) ∷ octets_for width f left rs) (sym is_behind) ∙ ap (λ held. spelling_of width held ∷ octets_for width f left behind) (sym is_part);
+      split = ap (λ os. octets_for width f os numbers) split ∙ ap (λ rs. spelling_of width (renumbered (held_in f x) numbers) ∷ octets_for width f left rs) (sym is_behind) ∙ ap (λ os. os ∷ octets_for width f left behind) (sym is_part);
     }
 
 pub measured-next : (place size all : ℕ) (octets : List ℕ) (left rest : List (List ℕ)) → size ≡ length octets → left ≡ octets ∷ rest → place + length (concat left) ≡ all → (place + size + length (concat rest) ≡ all) × (size ≤ length (concat left))

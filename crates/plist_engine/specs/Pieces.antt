@@ -1,17 +1,19 @@
--- What objects hold that are sent, and what they need to be spelled.
-use Rattle.std.specs.Prelude.{◌≡◌, ℕ, ◌<◌, ◌^◌, List, length, All}
+-- The octets of objects that are sent, and what these need to be spelled.
+use Rattle.std.specs.Prelude.{◌≡◌, ℕ, ◌<◌, ◌^◌, List, length, All, ⊤}
 use Rattle.std.specs.List.{AllByRecursion}
 use Rattle.plist_value.specs.Scalars.{content_of}
 use Rattle.plist_object.specs.Objects.{Held, holds_scalar, holds_list, holds_table}
 use Rattle.plist_object.specs.Sizes.{IsSmall}
+use Rattle.plist_object.specs.Spelling.{scalar_spelling, list_spelling, table_spelling}
 use Rattle.plist_engine.specs.declared.putting.Part.{Part}
 use Rattle.plist_engine.specs.declared.putting.Part.TheVariants as part
 
--- what an object holds
-abbrev pub held_in_part : Part → Held
-held_in_part (part.Scalar s) = holds_scalar (content_of s)
-held_in_part (part.List refs) = holds_list refs.now
-held_in_part (part.Table keys values) = holds_table keys.now values.now
+-- the octets of an object whose references have so many octets each
+abbrev pub octets_in_part : ℕ → Part → List ℕ
+octets_in_part width (part.Spelled octets) = octets.now
+octets_in_part width (part.Scalar s) = scalar_spelling (content_of s)
+octets_in_part width (part.List refs) = list_spelling width refs.now
+octets_in_part width (part.Table keys values) = table_spelling width keys.now values.now
 
 -- there are below 2^32 references, and each fits the width
 pub record AreSpellable (width : ℕ) (refs : List ℕ) : Type 0 where
@@ -25,3 +27,10 @@ CanSpell width (holds_table keys values) = (length keys ≡ length values) × Ar
 
 abbrev pub CanSpellAll : ℕ → List Held → Type 0
 CanSpellAll width helds = AllByRecursion (CanSpell width) helds
+
+-- what is spelled already needs nothing
+abbrev pub CanSpellPart : ℕ → Part → Type 0
+CanSpellPart width (part.Spelled octets) = ⊤
+CanSpellPart width (part.Scalar s) = CanSpell width (holds_scalar (content_of s))
+CanSpellPart width (part.List refs) = CanSpell width (holds_list refs.now)
+CanSpellPart width (part.Table keys values) = CanSpell width (holds_table keys.now values.now)

@@ -1,8 +1,9 @@
 //! The objects of the canonical file, taken from the file and the numbers of their children.
-ghost use Rattle.std.specs.Prelude.{◌≡◌, ◌≤◌, length, drop};
+ghost use Rattle.std.specs.Prelude.{◌≡◌, ◌≤◌, ℕ, length, drop};
+ghost use Rattle.plist_object.specs.Shortest.{spelling_of};
 ghost use Rattle.plist_object.specs.Views.{octets_of};
 ghost use Rattle.plist_engine.specs.Spelling.{IsRead};
-ghost use Rattle.plist_engine.specs.Pieces.{held_in_part};
+ghost use Rattle.plist_engine.specs.Pieces.{CanSpell, CanSpellPart, octets_in_part};
 ghost use Rattle.plist_engine.specs.Parts.{held_in, reference_count, renumbered};
 
 use crate::objects::object_of;
@@ -10,7 +11,7 @@ use crate::putting::Part;
 use plist_object::{BinFile, Object};
 
 /// The object that stands for one of the file, with the first of the numbers as its references, and
-/// the numbers behind them.
+/// the numbers behind them. A scalar that is seen to stand in its canonical spelling is not read.
 pub(crate) fn part_of<'a, 'b>(
     file: &BinFile<'a>,
     object: u64,
@@ -19,11 +20,17 @@ pub(crate) fn part_of<'a, 'b>(
     requires read { IsRead (octets_of file.now) object }
     requires numbers { reference_count (held_in (octets_of file.now) object)
         ≤ length numbers.now }
-    ensures part { held_in_part result.0
-        ≡ renumbered (held_in (octets_of file.now) object) numbers.entry.now }
+    ensures part { (width : ℕ) → octets_in_part width result.0
+        ≡ spelling_of width (renumbered (held_in (octets_of file.now) object) numbers.entry.now) }
+    ensures spellable { (width : ℕ)
+        → CanSpell width (renumbered (held_in (octets_of file.now) object) numbers.entry.now)
+        → CanSpellPart width result.0 }
     ensures behind { result.1.now
         ≡ drop (reference_count (held_in (octets_of file.now) object)) numbers.entry.now }
 {
+    if let Some(octets) = file.spelled(object) {
+        return (Part::Spelled(octets), numbers);
+    }
     match object_of(file, object) {
         Object::Scalar(scalar) => (Part::Scalar(scalar), numbers),
         Object::List(items) => {

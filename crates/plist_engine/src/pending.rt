@@ -4,10 +4,9 @@ ghost use Rattle.std.specs.Prelude.{All, IfOk};
 ghost use Rattle.std.specs.Prelude.{OnOk};
 ghost use Rattle.plist_value.specs.Plist.{bytes};
 ghost use Rattle.plist_object.specs.Sizes.{IsWidth};
-ghost use Rattle.plist_object.specs.Shortest.{spelling_of};
 ghost use Rattle.plist_object.specs.Spelling.{references, scalar_spelling};
 ghost use Rattle.plist_engine.specs.Canonical.{trailer_octets};
-ghost use Rattle.plist_engine.specs.Pieces.{CanSpell, held_in_part};
+ghost use Rattle.plist_engine.specs.Pieces.{CanSpellPart, octets_in_part};
 ghost use Rattle.plist_devices.specs.Sink.{IsLongest};
 ghost use Rattle.plist_engine.specs.Sending.{Allows, Sends};
 ghost use Rattle.plist_engine.specs.Pending.{AreBefore, Goes, KeepsShort, LeavesRoom, end_of};
@@ -49,14 +48,14 @@ pub(crate) fn send_part<W: Sink>(
     out: &mut W,
 ) -> Result<(), WriteFault>
     requires width { IsWidth width }
-    requires spellable { CanSpell width (held_in_part part.now) }
+    requires spellable { CanSpellPart width part.now }
     requires room { pending.old.sent + (length pending.old.octets.items
-        + length (spelling_of width (held_in_part part.now))) < 2 ^ 64 }
-    ensures goes { Goes (spelling_of width (held_in_part part.now)) pending.old pending.new
+        + length (octets_in_part width part.now)) < 2 ^ 64 }
+    ensures goes { Goes (octets_in_part width part.now) pending.old pending.new
         (W.taken out.old) (W.taken out.new) (W.failures out.old) (W.failures out.new) result }
     ensures same { W.device out.new ≡ W.device out.old }
-    ensures pieces { size ≡ length (spelling_of width (held_in_part part.now))
-        → KeepsShort (spelling_of width (held_in_part part.now) ∷ []) 0 pending.old pending.new
+    ensures pieces { size ≡ length (octets_in_part width part.now)
+        → KeepsShort (octets_in_part width part.now ∷ []) 0 pending.old pending.new
         (W.longest out.old) (W.longest out.new) result }
 {
     match part {

@@ -64,6 +64,37 @@ fn markers_of_objects(rt: HostRuntime) -> Result<(), Fail> {
     Ok(())
 }
 
+// A list of `ab`, the octet ff, 7, fifteen letters, and one letter with a longer count than it takes.
+const SCALARS: &[u8] = b"bplist00\xa5\x01\x02\x03\x04\x05\x52ab\x41\xff\x10\x07\
+                         \x5f\x10\x0fabcdefghijklmno\x5f\x10\x01a\
+                         \x08\x0e\x11\x13\x15\x27\0\0\0\0\0\0\x01\x01\0\0\0\0\0\0\0\x06\
+                         \0\0\0\0\0\0\0\0\0\0\0\0\0\0\0\x2b";
+
+fn spelled_of(octets: &[u8], object: u64) -> Option<&[u8]> {
+    let file = BinFile::of(octets).ok()?;
+    if object >= file.count() {
+        return None;
+    }
+    match file.is_shortest(object) {
+        Ok(_) => file.spelled(object),
+        Err(_) => None,
+    }
+}
+
+#[test]
+fn strings_and_data_as_they_stand(rt: HostRuntime) -> Result<(), Fail> {
+    assert_eq!(rt; spelled_of(SCALARS, 0), None);
+    assert_eq!(rt; spelled_of(SCALARS, 1), Some(b"\x52ab".as_slice()));
+    assert_eq!(rt; spelled_of(SCALARS, 2), Some(b"\x41\xff".as_slice()));
+    assert_eq!(rt; spelled_of(SCALARS, 3), None);
+    assert_eq!(rt;
+        spelled_of(SCALARS, 4),
+        Some(b"\x5f\x10\x0fabcdefghijklmno".as_slice())
+    );
+    assert_eq!(rt; spelled_of(SCALARS, 5), None);
+    Ok(())
+}
+
 // Whether these octets stand in a list that held aa before the put. A refused put is an error, if
 // the list holds aa alone.
 fn is_put(put: Result<(), AllocError>, out: &[u8], octets: &[u8]) -> Result<bool, AllocError> {

@@ -2,9 +2,8 @@ use Rattle.std.proofs.Common.{◌≡◌, ◌+◌, ◌<◌, ◌≤◌, ◌++◌, 
 use Rattle.std.specs.List.{concat}
 use Rattle.std.proofs.lemmas.List.{length-drop}
 use Rattle.std.proofs.lemmas.Result.{err_from_is_err_and}
-use Rattle.plist_object.specs.Shortest.{spelling_of}
 use Rattle.plist_object.specs.Views.{octets_of}
-use Rattle.plist_engine.specs.Pieces.{held_in_part}
+use Rattle.plist_engine.specs.Pieces.{octets_in_part}
 use Rattle.plist_engine.specs.Parts.{octets_for, octets_planned}
 use Rattle.plist_engine.proofs.Gathering.{Gathers-append, Gathers-same, Stops-front, Stops-next, Goes-err, room-left}
 use Rattle.plist_engine.proofs.ObjectSteps.{sound-next, spellable-next, step, measured-next, none-left, split-next, split-end, placed-next, placed-end}
@@ -31,7 +30,7 @@ part_length-size-requires-clause-spellable g c =
     let original = c.from.result in
     let below : i < length start = search rules in
     let is : original ≡ get_or start i original = search rules in
-    spellable-next c.args.width f start i original l.numbers.now c.part_of.result.0 below is c.part_of.ensures.part l.invariant.spellable
+    c.part_of.ensures.spellable c.args.width (spellable-next c.args.width f start i original l.numbers.now below is l.invariant.spellable)
 
 pub push_reserved-requires : goal.push_reserved-requires
 push_reserved-requires g c =
@@ -49,7 +48,7 @@ send_part-requires-clause-spellable g c =
     let original = c.from.result in
     let below : i < length start = search rules in
     let is : original ≡ get_or start i original = search rules in
-    spellable-next c.args.width f start i original l.numbers.now c.part_of.result.0 below is c.part_of.ensures.part l.invariant.spellable
+    c.part_of.ensures.spellable c.args.width (spellable-next c.args.width f start i original l.numbers.now below is l.invariant.spellable)
 
 pub send_part-requires-clause-room : goal.send_part-requires-clause-room
 send_part-requires-clause-room g c =
@@ -61,8 +60,8 @@ send_part-requires-clause-room g c =
     let part = c.part_of.result.0 in
     let below : i < length start = search rules in
     let is : original ≡ get_or start i original = search rules in
-    let one = step c.args.width f start i original l.numbers.now c.part_of.result.1.now part below is c.part_of.ensures.part c.part_of.ensures.behind l.invariant.sound l.invariant.spellable in
-    let octets = spelling_of c.args.width (held_in_part part) in
+    let one = step c.args.width f start i original l.numbers.now c.part_of.result.1.now (octets_in_part c.args.width part) below is (c.part_of.ensures.part c.args.width) c.part_of.ensures.behind l.invariant.sound l.invariant.spellable in
+    let octets = octets_in_part c.args.width part in
     let later = concat (octets_for c.args.width f (drop (i + 1) start) c.part_of.result.1.now) in
     let all = concat (octets_planned c.args.width f c.args.objects.now) in
     let rest = concat (octets_for c.args.width f (drop i start) l.numbers.now) in
@@ -81,8 +80,8 @@ returns-in_err-send_part-clause-goes g c =
     let part = c.part_of.result.0 in
     let below : i < length start = search rules in
     let is : original ≡ get_or start i original = search rules in
-    let one = step c.args.width f start i original l.numbers.now c.part_of.result.1.now part below is c.part_of.ensures.part c.part_of.ensures.behind l.invariant.sound l.invariant.spellable in
-    let octets = spelling_of c.args.width (held_in_part part) in
+    let one = step c.args.width f start i original l.numbers.now c.part_of.result.1.now (octets_in_part c.args.width part) below is (c.part_of.ensures.part c.args.width) c.part_of.ensures.behind l.invariant.sound l.invariant.spellable in
+    let octets = octets_in_part c.args.width part in
     let later = concat (octets_for c.args.width f (drop (i + 1) start) c.part_of.result.1.now) in
     let all = concat (octets_planned c.args.width f c.args.objects.now) in
     let whole : l.invariant.done ++ (octets ++ later) ≡ all = ap (λ os. l.invariant.done ++ concat os) (sym one.split) ∙ l.invariant.split in
@@ -99,9 +98,9 @@ overflow_add-place g c =
     let part = c.part_of.result.0 in
     let below : i < length start = search rules in
     let is : original ≡ get_or start i original = search rules in
-    let one = step c.args.width f start i original l.numbers.now c.part_of.result.1.now part below is c.part_of.ensures.part c.part_of.ensures.behind l.invariant.sound l.invariant.spellable in
+    let one = step c.args.width f start i original l.numbers.now c.part_of.result.1.now (octets_in_part c.args.width part) below is (c.part_of.ensures.part c.args.width) c.part_of.ensures.behind l.invariant.sound l.invariant.spellable in
     let all = concat (octets_planned c.args.width f c.args.objects.now) in
-    let measured = measured-next l.place c.part_length-size.result (8 + length all) (spelling_of c.args.width (held_in_part part)) _ _ c.part_length-size.ensures one.split l.invariant.measured in
+    let measured = measured-next l.place c.part_length-size.result (8 + length all) (octets_in_part c.args.width part) _ _ c.part_length-size.ensures one.split l.invariant.measured in
     let bound = measured.0 in
     let room = c.requires.room in
     omega (arith, bound, room)
@@ -116,8 +115,8 @@ loop-original-preserved g c =
     let part = c.part_of.result.0 in
     let below : i < length start = search rules in
     let is : original ≡ get_or start i original = search rules in
-    let one = step c.args.width f start i original l.numbers.now c.part_of.result.1.now part below is c.part_of.ensures.part c.part_of.ensures.behind l.invariant.sound l.invariant.spellable in
-    let octets = spelling_of c.args.width (held_in_part part) in
+    let one = step c.args.width f start i original l.numbers.now c.part_of.result.1.now (octets_in_part c.args.width part) below is (c.part_of.ensures.part c.args.width) c.part_of.ensures.behind l.invariant.sound l.invariant.spellable in
+    let octets = octets_in_part c.args.width part in
     let later = octets_for c.args.width f (drop (i + 1) start) c.part_of.result.1.now in
     let all = octets_planned c.args.width f c.args.objects.now in
     let size = c.part_length-size.result in
@@ -171,7 +170,7 @@ returns-in_err-send_part-clause-pieces g c = λ most allows fits before.
     let part = c.part_of.result.0 in
     let below : i < length start = search rules in
     let is : original ≡ get_or start i original = search rules in
-    let one = step c.args.width f start i original l.numbers.now c.part_of.result.1.now part below is c.part_of.ensures.part c.part_of.ensures.behind l.invariant.sound l.invariant.spellable in
+    let one = step c.args.width f start i original l.numbers.now c.part_of.result.1.now (octets_in_part c.args.width part) below is (c.part_of.ensures.part c.args.width) c.part_of.ensures.behind l.invariant.sound l.invariant.spellable in
     let here = rw one.split at (l.invariant.allowed most allows) in
     let now = l.invariant.short most allows before in
     let sent = c.in_err-send_part.ensures.pieces c.part_length-size.ensures most (record { least = here.least; each = (here.each.0, tt) }) (omega arith) now in

@@ -1,4 +1,4 @@
-use Rattle.std.proofs.Common.{◌≡◌, ◌∷◌, [], ◌++◌, refl, sym, ap, ◌∙◌}
+use Rattle.std.proofs.Common.{◌≡◌, ◌∷◌, [], ◌++◌, refl, ◌∙◌}
 use Rattle.plist_value.specs.Scalars.{content_of}
 use Rattle.plist_engine.specs.Sieve.{HoldsIt}
 use Rattle.plist_engine.specs.declared.sieve.Notes.{Notes}
