@@ -17,7 +17,7 @@ use Rattle.plist_object.proofs.ReadScalars.{object_in-scalar}
 use Rattle.plist_object.proofs.SameOctets.{AreOctets-take, AreOctets-drop, references-numbers, references-wide_units}
 
 -- octets that begin with some are these and others
-split_head : (first octets : List ℕ) → Begins first octets → octets ≡ first ++ drop (length first) octets
+pub split_head : (first octets : List ℕ) → Begins first octets → octets ≡ first ++ drop (length first) octets
 split_head first octets begins =
     sym (take-append-drop (length first) octets) ∙ ap (λ (xs : List ℕ). xs ++ drop (length first) octets) begins
 
@@ -33,7 +33,7 @@ cut_by_test : {B : Type 0} (n : ℕ) (octets : List ℕ) (next : List ℕ × Lis
 cut_by_test n octets next y true is e = absurd cc
 cut_by_test n octets next y false is e = record { enough = ltb-false (length octets) n is; goes_on = e }
 
-was_cut : {B : Type 0} (n : ℕ) (octets : List ℕ) (next : List ℕ × List ℕ → Result B ObjectFault) (y : B) → (cut n octets >>= next) ≡ Ok y → WasCut n octets next y
+pub was_cut : {B : Type 0} (n : ℕ) (octets : List ℕ) (next : List ℕ × List ℕ → Result B ObjectFault) (y : B) → (cut n octets >>= next) ≡ Ok y → WasCut n octets next y
 was_cut n octets next y e = cut_by_test n octets next y (ltb (length octets) n) refl e
 
 -- the same for content whose count is known

@@ -75,7 +75,7 @@ ascii_leads width n octets y small are begins read =
       spelled = copied 5 n octets h.tail h.parts ∙ rw (long, all) refl ∙ sym spelled;
     }
 
-read_at : (width : ℕ) (octets : List ℕ) (read : Result (Held × List ℕ) ObjectFault) → object_in width octets ≡ read → IsOk read → (y : Held × List ℕ) × (object_in width octets ≡ Ok y)
+pub read_at : (width : ℕ) (octets : List ℕ) (read : Result (Held × List ℕ) ObjectFault) → object_in width octets ≡ read → IsOk read → (y : Held × List ℕ) × (object_in width octets ≡ Ok y)
 read_at width octets (Ok y) is reads = (y, is)
 read_at width octets (Err e) is reads = absurd (true≢false (sym reads))
 

@@ -1,5 +1,5 @@
 -- Which objects stand in their canonical spelling.
-use Rattle.std.specs.Prelude.{◌≡◌, ◌⊎◌, ◌<◌, ◌≤◌, ℕ, List, ◌++◌, length, take, Ok}
+use Rattle.std.specs.Prelude.{◌≡◌, ◌⊎◌, ◌<◌, ◌≤◌, ℕ, List, [], ◌∷◌, ◌++◌, length, take, Ok}
 use Rattle.plist_value.specs.Plist.{Scalar}
 use Rattle.plist_object.specs.Layout.{trailer_of}
 use Rattle.plist_object.specs.Objects.{Held, holds_scalar, holds_list, holds_table, object_in}
@@ -29,6 +29,21 @@ pub record BeginsPlainly (kind count : ℕ) (octets : List ℕ) : Type 0 where
   pub either : (kind ≡ 4) ⊎ (kind ≡ 5)
   pub few : count < 256
   pub begins : Begins (head kind count) octets
+
+-- each scalar with this marker has n octets, and no other spelling
+pub data IsFixed : ℕ → ℕ → Type 0 where
+  no : IsFixed 8 1
+  yes : IsFixed 9 1
+  octet : IsFixed 16 2
+  short : IsFixed 34 5
+  long : IsFixed 35 9
+  date : IsFixed 51 9
+
+-- the octets begin with such a marker
+pub record BeginsFixed (n : ℕ) (octets : List ℕ) : Type 0 where
+  pub marker : ℕ
+  pub fixed : IsFixed marker n
+  pub begins : Begins (marker ∷ []) octets
 
 -- the object that begins with these octets holds a scalar, and the first n are its canonical
 -- spelling

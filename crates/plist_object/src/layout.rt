@@ -257,8 +257,9 @@ impl<'a> BinFile<'a> {
     }
 
     /// The octets of the object `n`, which is below `count` and reads, where its first ones tell
-    /// that it holds a string or data in the canonical spelling, of below 256 units or octets.
-    /// `None` says nothing. Its content is not read.
+    /// that it holds a scalar in the canonical spelling: a flag, a whole number of one octet, a
+    /// real or a date, or a string of ASCII or data of below 256 octets. `None` says nothing. The
+    /// content of a string or of data is not read.
     #[tactic(auto, unfolding(crate::specs::Places::object_at))]
     pub fn spelled(&self, n: u64) -> Option<&'a [u8]>
         requires listed { n < (trailer_of (octets_of self.now)).count }

@@ -9,7 +9,7 @@ ghost use Rattle.plist_value.specs.Scalars.{content_of};
 ghost use Rattle.plist_object.specs.Heads.{Begins, BeginsCanonically, BeginsScalar};
 ghost use Rattle.plist_object.specs.Heads.{IsCounted, text_head};
 ghost use Rattle.plist_object.specs.Objects.{holds_scalar, object_in};
-ghost use Rattle.plist_object.specs.Shortest.{BeginsPlainly, LeadsScalar};
+ghost use Rattle.plist_object.specs.Shortest.{BeginsFixed, BeginsPlainly, LeadsScalar};
 ghost use Rattle.plist_object.specs.Spelling.{head, least_integer, whole_spelling};
 ghost use Rattle.plist_object.specs.Views.{held_of};
 
@@ -133,14 +133,36 @@ fn begins(octets: &[u8], first: &[u8]) -> bool
 }
 
 /// How many octets the canonical spelling has of the scalar that stands at the front of these,
-/// where their first ones tell that it is a string or data of below 256 units or octets, and stands
-/// there in that spelling.
+/// where their first ones tell that it stands there in that spelling: a flag, a whole number of one
+/// octet, a real or a date, which have one spelling each, or a string of ASCII or data of below 256
+/// octets.
 pub(crate) fn spelled_size(octets: &[u8]) -> Option<usize>
     ensures { IfSome result (λ size. (width : ℕ) → IsOk (object_in width octets.now)
         → LeadsScalar width size octets.now) }
 {
+    if let Some(size) = fixed_size(octets) {
+        return Some(size);
+    }
     let (_, count) = plain_head(octets)?;
     Some((head_length(count) + count) as usize)
+}
+
+// How many octets there are of a scalar that begins with these, where its marker tells it, and no
+// two of that marker have as many and spell the same.
+fn fixed_size(octets: &[u8]) -> Option<usize>
+    ensures size { IfSome result (λ size. BeginsFixed size octets.now) }
+    ensures octets { AreOctets octets.now }
+{
+    let (marker, _) = octets.split_first()?;
+    match *marker {
+        FALSE => Some(1),
+        TRUE => Some(1),
+        WHOLE_1 => Some(2),
+        REAL_4 => Some(5),
+        REAL_8 => Some(9),
+        MOMENT_8 => Some(9),
+        _ => None,
+    }
 }
 
 // The kind of a string or of data that begins with these octets, and its count, where it is below

@@ -64,7 +64,8 @@ fn markers_of_objects(rt: HostRuntime) -> Result<(), Fail> {
     Ok(())
 }
 
-// A list of `ab`, the octet ff, 7, fifteen letters, and one letter with a longer count than it takes.
+// A list of `ab`, the octet ff, 7, fifteen letters, and one letter whose count stands behind the
+// marker.
 const SCALARS: &[u8] = b"bplist00\xa5\x01\x02\x03\x04\x05\x52ab\x41\xff\x10\x07\
                          \x5f\x10\x0fabcdefghijklmno\x5f\x10\x01a\
                          \x08\x0e\x11\x13\x15\x27\0\0\0\0\0\0\x01\x01\0\0\0\0\0\0\0\x06\
@@ -82,16 +83,41 @@ fn spelled_of(octets: &[u8], object: u64) -> Option<&[u8]> {
 }
 
 #[test]
-fn strings_and_data_as_they_stand(rt: HostRuntime) -> Result<(), Fail> {
+fn scalars_as_they_stand(rt: HostRuntime) -> Result<(), Fail> {
     assert_eq!(rt; spelled_of(SCALARS, 0), None);
     assert_eq!(rt; spelled_of(SCALARS, 1), Some(b"\x52ab".as_slice()));
     assert_eq!(rt; spelled_of(SCALARS, 2), Some(b"\x41\xff".as_slice()));
-    assert_eq!(rt; spelled_of(SCALARS, 3), None);
+    assert_eq!(rt; spelled_of(SCALARS, 3), Some(b"\x10\x07".as_slice()));
     assert_eq!(rt;
         spelled_of(SCALARS, 4),
         Some(b"\x5f\x10\x0fabcdefghijklmno".as_slice())
     );
     assert_eq!(rt; spelled_of(SCALARS, 5), None);
+    Ok(())
+}
+
+// A list of true, two reals, a date, and 7 in two octets.
+const FIXED: &[u8] = b"bplist00\xa5\x01\x02\x03\x04\x05\x09\x22\x40\x49\x0f\xdb\
+                       \x23\x40\x09\x21\xfb\x54\x44\x2d\x18\x33\x41\xc6\0\0\0\0\0\0\x11\0\x07\
+                       \x08\x0e\x0f\x14\x1d\x26\0\0\0\0\0\0\x01\x01\0\0\0\0\0\0\0\x06\
+                       \0\0\0\0\0\0\0\0\0\0\0\0\0\0\0\x29";
+
+#[test]
+fn scalars_of_fixed_length_as_they_stand(rt: HostRuntime) -> Result<(), Fail> {
+    assert_eq!(rt; spelled_of(FIXED, 1), Some(b"\x09".as_slice()));
+    assert_eq!(rt;
+        spelled_of(FIXED, 2),
+        Some(b"\x22\x40\x49\x0f\xdb".as_slice())
+    );
+    assert_eq!(rt;
+        spelled_of(FIXED, 3),
+        Some(b"\x23\x40\x09\x21\xfb\x54\x44\x2d\x18".as_slice())
+    );
+    assert_eq!(rt;
+        spelled_of(FIXED, 4),
+        Some(b"\x33\x41\xc6\0\0\0\0\0\0".as_slice())
+    );
+    assert_eq!(rt; spelled_of(FIXED, 5), None);
     Ok(())
 }
 
