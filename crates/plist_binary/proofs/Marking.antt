@@ -13,7 +13,7 @@ use Rattle.plist_binary.specs.Memos.{IsMemo, IsState, state_of, AreStates, IsMar
 wider : (f path : List ℕ) (j i : ℕ) (state : State) → IsState f path i state → IsState f (j ∷ path) i state
 wider f path j i Unseen is = tt
 wider f path j i Open is = Contains-among i (j ∷ path) (inr (Among-contains i path is))
-wider f path j i (Passed memo) is = is
+wider f path j i (Passed deep n size) is = is
 
 -- a path without its last container, for another object
 narrower : (f path : List ℕ) (j i : ℕ) (state : State) → i ≢ j → IsState f (j ∷ path) i state → IsState f path i state
@@ -23,7 +23,7 @@ narrower f path j i Open apart is =
     (λ (same : i ≡ j). absurd (apart same))
     (λ (later : Among i path). Contains-among i path later)
     (Among-contains i (j ∷ path) is)
-narrower f path j i (Passed memo) apart is = is
+narrower f path j i (Passed deep n size) apart is = is
 
 -- the object itself, or another one
 marked : (P : ℕ → State → Type 0) (before after : List State) (j : ℕ) (state : State) (i : ℕ) → IsMarked before j state after → P j state → (i ≢ j → P i (state_of before i)) → P i (state_of after i)
@@ -42,9 +42,9 @@ AreStates-open f path before after j mark are = record {
 }
 
 -- the object was passed, and leaves the path
-pub AreStates-passed : (f path : List ℕ) (before after : List State) (j : ℕ) (memo : Memo) → IsMarked before j (Passed memo) after → IsMemo f j memo → AreStates f (j ∷ path) before → AreStates f path after
+pub AreStates-passed : (f path : List ℕ) (before after : List State) (j : ℕ) (memo : Memo) → IsMarked before j (Passed memo.depth memo.nodes memo.payload) after → IsMemo f j memo → AreStates f (j ∷ path) before → AreStates f path after
 AreStates-passed f path before after j memo mark is are = record {
-  each = λ i. marked (IsState f path) before after j (Passed memo) i mark is (λ apart. narrower f path j i (state_of before i) apart (are.each i));
+  each = λ i. marked (IsState f path) before after j (Passed memo.depth memo.nodes memo.payload) i mark is (λ apart. narrower f path j i (state_of before i) apart (are.each i));
 }
 
 -- nothing changes under a longer path
@@ -59,5 +59,5 @@ Open-among f path states i are is =
     Among-contains i path (subst (IsState f path i) is (are.each i))
 
 -- what was passed has its memo
-pub Passed-memo : (f path : List ℕ) (states : List State) (i : ℕ) (memo : Memo) → AreStates f path states → state_of states i ≡ Passed memo → IsMemo f i memo
+pub Passed-memo : (f path : List ℕ) (states : List State) (i : ℕ) (memo : Memo) → AreStates f path states → state_of states i ≡ Passed memo.depth memo.nodes memo.payload → IsMemo f i memo
 Passed-memo f path states i memo are is = subst (IsState f path i) is (are.each i)

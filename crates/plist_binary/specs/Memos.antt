@@ -21,7 +21,7 @@ pub record IsMemo (f : List ℕ) (i : ℕ) (memo : Memo) : Type 0 where
 abbrev pub IsState : List ℕ → List ℕ → ℕ → State → Type 0
 IsState f path i Unseen = ⊤
 IsState f path i Open = Contains path i
-IsState f path i (Passed memo) = IsMemo f i memo
+IsState f path i (Passed deep n size) = IsMemo f i (record { depth = deep; nodes = n; payload = size })
 
 abbrev pub state_of : List State → ℕ → State
 state_of states i = slice_index_or states i Unseen

@@ -3,6 +3,7 @@ ghost use Rattle.std.specs.Prelude.{◌≡◌, ◌+◌, ◌<◌, ◌≤◌, IfSo
 ghost use Rattle.plist_value.specs.declared.TheConstants.{MAX_NODES, MAX_DEPTH, MAX_PAYLOAD};
 ghost use Rattle.plist_value.specs.Budget.{Spends};
 ghost use Rattle.plist_binary.specs.Memos.{IsMarked, state_of};
+ghost use Rattle.plist_binary.specs.declared.memos.State.TheVariants.{Passed};
 
 use plist_value::Budget;
 use std::alloc::AllocError;
@@ -10,20 +11,24 @@ use std::alloc::AllocError;
 // What the value takes of the limits that an object spells.
 #[derive(Clone, Copy)]
 pub(crate) struct Memo {
+    pub(crate) depth: u16,
     pub(crate) nodes: u32,
     pub(crate) payload: u32,
-    pub(crate) depth: u16,
 }
 
-// What is known of an object.
+// What is known of an object. The depth stands first, beside the tag: so a state has 12 octets.
 #[derive(Clone, Copy)]
 pub(crate) enum State {
     // Nothing yet.
     Unseen,
     // It is a container on the path to what is judged now.
     Open,
-    // It was judged, and spells a value of this size.
-    Passed(Memo),
+    // It was judged, and spells a value that takes this of the limits.
+    Passed {
+        depth: u16,
+        nodes: u32,
+        payload: u32,
+    },
 }
 
 impl Memo {
@@ -39,9 +44,20 @@ impl Memo {
         ensures depth { result.depth ≡ depth }
     {
         Memo {
+            depth: depth as u16,
             nodes: (before.nodes - left.nodes) as u32,
             payload: (before.payload - left.payload) as u32,
-            depth: depth as u16,
+        }
+    }
+
+    // That an object was judged whose value takes this.
+    pub(crate) fn passed(self) -> State
+        ensures { result ≡ Passed self.depth self.nodes self.payload }
+    {
+        State::Passed {
+            depth: self.depth,
+            nodes: self.nodes,
+            payload: self.payload,
         }
     }
 

@@ -5,7 +5,7 @@ ghost use Rattle.plist_binary.specs.Passing.{IsWithinLimits, Passes};
 ghost use Rattle.plist_binary.specs.Progress.{IsProgress};
 
 use crate::known_keys::KnownKeys;
-use crate::memos::{State, state_at};
+use crate::memos::{Memo, State, state_at};
 use plist_value::Budget;
 use std::alloc::Global;
 
@@ -36,8 +36,18 @@ impl<'a> Progress<'a> {
         ensures { IfSome result (λ known. (f path : List ℕ) → AreStates f path self.now.states.items
             → Passes f object levels self.now.left known.0 known.1) }
     {
-        let State::Passed(memo) = state_at(&self.states, object) else {
+        let State::Passed {
+            depth,
+            nodes,
+            payload,
+        } = state_at(&self.states, object)
+        else {
             return None;
+        };
+        let memo = Memo {
+            depth,
+            nodes,
+            payload,
         };
         let deep = u64::from(memo.depth);
         if levels < deep {

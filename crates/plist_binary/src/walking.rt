@@ -105,7 +105,7 @@ impl<'a, 'r> Walker<'a, 'r> {
         let deep = self.content(progress, path, object, levels)?;
         let memo = Memo::of(before, progress.left, deep);
         let count = self.visitor.file.count();
-        mark(&mut progress.states, count, object, State::Passed(memo))?;
+        mark(&mut progress.states, count, object, memo.passed())?;
         Ok(deep)
     }
 

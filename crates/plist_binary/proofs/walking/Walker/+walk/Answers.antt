@@ -5,6 +5,8 @@ use Rattle.plist_value.specs.Scalars.{content_of}
 use Rattle.plist_object.specs.Objects.{holds_scalar, holds_list, holds_table}
 use Rattle.plist_object.specs.Places.{what_holds}
 use Rattle.plist_object.specs.Views.{octets_of, numbers_of}
+use Rattle.plist_binary.specs.declared.memos.State.{State}
+use Rattle.plist_binary.specs.Memos.{IsMarked}
 use Rattle.plist_binary.specs.declared.fault.BinaryFault.TheVariants.{BadReference, TooMuchPayload}
 use Rattle.plist_binary.specs.Passing.{PassesItems}
 use Rattle.plist_binary.specs.Paths.{containers_of}
@@ -177,7 +179,7 @@ walk-returns-clause-progress t c =
     let known = IsMemo-passed f c.args.object c.args.levels c.args.progress.now.left c.content.new.progress.left c.in_ok-deep.deep c.of-memo.result c.in_ok-deep.ensures.passed c.of-memo.ensures.nodes c.of-memo.ensures.payload c.of-memo.ensures.depth in
     let so_far = c.in_ok-deep.ensures.progress in
     record {
-      states = AreStates-passed f (containers_of c.args.path.now) c.content.new.progress.states.items c.mark.new.states.items c.args.object c.of-memo.result c.in_ok-mark.ensures known so_far.states;
+      states = AreStates-passed f (containers_of c.args.path.now) c.content.new.progress.states.items c.mark.new.states.items c.args.object c.of-memo.result (subst (λ (state : State). IsMarked c.content.new.progress.states.items c.args.object state c.mark.new.states.items) c.passed.ensures c.in_ok-mark.ensures) known so_far.states;
       known = so_far.known;
       within = so_far.within;
     }
