@@ -13,6 +13,7 @@ use Rattle.plist_object.specs.Views.{numbers_of}
 use Rattle.plist_object.specs.Order.{AreSortedIfAny, IsOrder}
 use Rattle.plist_engine.specs.declared.order.Row.{Row}
 use Rattle.plist_engine.specs.declared.order.KeyOrder.{KeyOrder}
+use Rattle.plist_engine.specs.declared.known_orders.KnownOrders.{KnownOrders}
 
 abbrev pub place_of : Row → ℕ
 place_of row = row.place
@@ -37,8 +38,13 @@ pub record ArePlaced (keys : List ℕ) (rows : List Row) : Type 0 where
   pub within : All (λ row. place_of row < length keys) rows
   pub moved : (values : List ℕ) → length keys ≡ length values → IsPermutation (zip keys values) (map (pair_at keys values) rows)
 
--- what is kept of the last table's keys, if anything is, is their order, and so it is of keys that
--- were sorted before
+-- what is known of keys is their order
+abbrev pub AreKnown : List ℕ → KnownOrders → Type 0
+AreKnown f known = All (AreSortedIfAny f) known.slots.items
+
+-- what is kept of the last table's keys, if anything is, is their order, and so it is of those that
+-- came before, and of keys that were sorted before
 pub record IsOrdered (f : List ℕ) (order : KeyOrder) : Type 0 where
   pub last : IfSome order.last (λ keys. IsOrder f (numbers_of keys) order.places.items)
+  pub known : AreKnown f order.known
   pub sorted : AreSortedIfAny f order.sorted

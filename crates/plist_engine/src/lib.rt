@@ -6,6 +6,7 @@ mod ahead;
 mod bits;
 pub mod faults;
 mod hashed;
+pub mod known_orders;
 pub mod laws;
 mod making;
 mod memo;

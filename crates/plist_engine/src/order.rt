@@ -10,11 +10,13 @@ ghost use Rattle.plist_engine.specs.Order.{ArePlaced, HoldsKey, IsOrdered};
 ghost use Rattle.plist_engine.specs.Order.{by_text, pair_at, place_of};
 ghost use Rattle.plist_engine.specs.Spelling.{IsTable, SpellTable, in_turn};
 
+use crate::known_orders::KnownOrders;
 use crate::objects::text_of;
 use crate::putting::short;
 use plist_object::{BinFile, Refs, SortedKeys};
 use plist_value::TextRef;
 use std::alloc::{AllocError, Global};
+use std::mem;
 
 // A key of a table, and its place among the table's references.
 #[derive(Clone, Copy)]
@@ -24,12 +26,13 @@ struct Row<'a> {
 }
 
 /// The references to the keys of the table that came last, and their places in the order of their
-/// texts. The next table often has the same keys. Beside them stand the keys that were sorted
-/// before, if any were.
+/// texts. The next table often has the same keys, or those of one that came before, whose order is
+/// known. Beside them stand the keys that were sorted before, if any were.
 #[derive(Drop)]
 pub struct KeyOrder<'a> {
     last: Option<Refs<'a>>,
     places: Vec<u64>,
+    known: KnownOrders<'a>,
     sorted: Option<SortedKeys<'a>>,
 }
 
@@ -44,6 +47,7 @@ impl<'a> KeyOrder<'a> {
         KeyOrder {
             last: None,
             places: Vec::new(alloc),
+            known: KnownOrders::none(alloc),
             sorted,
         }
     }
@@ -107,16 +111,42 @@ impl<'a> KeyOrder<'a> {
         {
             return Ok(());
         }
-        self.places = match self.take_places(keys) {
+        let places = match self.take_places(keys) {
             Some(places) => places,
             None => places_of(alloc, file, keys, values)?,
         };
+        self.keep_last(alloc)?;
+        self.places = places;
         self.last = Some(*keys);
         Ok(())
     }
 
-    // The order of the keys, where they are those that were sorted before: it is given up.
+    // Lets the order of the last table's keys be known.
+    fn keep_last(&mut self, alloc: Global) -> Result<(), AllocError>
+        ensures { OnOk result ((f : List ℕ) → IsOrdered f self.old → IsOrdered f self.new) }
+    {
+        let Some(refs) = self.last.take() else {
+            return Ok(());
+        };
+        let places = mem::replace(&mut self.places, Vec::new(alloc));
+        self.known.keep(SortedKeys { refs, places })
+    }
+
+    // The order of the keys, where they are those that were sorted before or it is known: it is
+    // given up.
     fn take_places(&mut self, keys: &Refs) -> Option<Vec<u64>>
+        ensures order { IfSome result (λ places. (f : List ℕ) → IsOrdered f self.old
+            → IsOrder f (numbers_of keys.now) places.items) }
+        ensures ordered { (f : List ℕ) → IsOrdered f self.old → IsOrdered f self.new }
+    {
+        if let Some(places) = self.take_sorted(keys) {
+            return Some(places);
+        }
+        self.known.take(keys)
+    }
+
+    // The order of the keys, where they are those that were sorted before.
+    fn take_sorted(&mut self, keys: &Refs) -> Option<Vec<u64>>
         ensures order { IfSome result (λ places. (f : List ℕ) → IsOrdered f self.old
             → IsOrder f (numbers_of keys.now) places.items) }
         ensures ordered { (f : List ℕ) → IsOrdered f self.old → IsOrdered f self.new }
