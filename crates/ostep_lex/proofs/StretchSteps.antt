@@ -1,6 +1,6 @@
 -- What stands behind a stretch goes on before it.
 use Rattle.std.specs.Char.Escape.{encode_utf16}
-use Rattle.std.proofs.Common.{ℕ, Bool, true, false, not, ◌<◌, ◌≤◌, ◌&&◌, List, [], ◌∷◌, ◌++◌, length, ◌≡◌, ◌==◌, refl, sym, ap, subst, arith, lt-ltb, length-append}
+use Rattle.std.proofs.Common.{ℕ, Bool, true, false, not, ◌<◌, ◌≤◌, ◌&&◌, List, [], ◌∷◌, ◌++◌, length, ◌≡◌, ◌==◌, refl, sym, ap, subst, ◌∙◌, arith, lt-ltb, length-append}
 use Rattle.std.specs.Prelude.{nat_lt}
 use Rattle.std.proofs.lemmas.Bool.Decides.{nat_tests}
 use Rattle.ostep_lex.specs.declared.stretch.Class.{Class}
@@ -14,9 +14,9 @@ use Rattle.ostep_lex.specs.Gap.{LineComment, BlockComment, NeverCloses, Gap, Gap
 use Rattle.ostep_lex.specs.Quoted
 use Rattle.ostep_lex.specs.Quoted.{Run as RunOf, Quoted, Piece, is_raw}
 use Rattle.ostep_lex.specs.Stands
-use Rattle.ostep_lex.specs.Stands.{QuotedFault}
+use Rattle.ostep_lex.specs.Stands.{QuotedFault, FaultBehind}
 use Rattle.ostep_lex.specs.Stretch.{belongs, is_stretch}
-use Rattle.ostep_lex.specs.Cursor.{ahead, PassesStretch}
+use Rattle.ostep_lex.specs.Cursor.{ahead, places_in, PassesStretch, SkipsStretch, PassesGap}
 use Rattle.ostep_lex.proofs.EncodingLemmas.{and_left, and_right}
 
 here : (kind : Class) (c : ℕ) (cs : List ℕ) → is_stretch 0xD800 kind (c ∷ cs) ≡ true → belongs kind c ≡ true
@@ -89,6 +89,18 @@ fault_stretch {places} {start} {mark} {old} {new} {front} {fault} p r =
 
 pub gap_stretch : {old new : Cursor} {front end : List ℕ} → PassesStretch White old front new → Gap (ahead new) end → Gap (ahead old) end
 gap_stretch {old} {new} {front} {end} p r = subst (λ t. Gap t end) (sym p.text) (gap_front front (ahead new) end p.stretch r)
+
+-- a gap, or a fault behind one, where white stands before
+pub gap_behind_white : {old new end : Cursor} → SkipsStretch White old new → PassesGap new end → PassesGap old end
+gap_behind_white white passes =
+    record { gap = gap_stretch white.passes passes.gap; whole = passes.whole; input = passes.input ∙ white.passes.input }
+
+fault_in_gap : {old new : Cursor} {front : List ℕ} {p : Places} {fault : LexFault} → PassesStretch White old front new → FaultBehind p (ahead new) fault → FaultBehind p (ahead old) fault
+fault_in_gap white (Stands.gap behind at) = Stands.gap (gap_stretch white behind) at
+
+pub fault_behind_white : {old new : Cursor} {fault : LexFault} → SkipsStretch White old new → FaultBehind (places_in new) (ahead new) fault → FaultBehind (places_in old) (ahead old) fault
+fault_behind_white {old} {new} {fault} white stands =
+    subst (λ p. FaultBehind p (ahead old) fault) white.passes.input (fault_in_gap white.passes stands)
 
 pub line_stretch : {old new : Cursor} {front end : List ℕ} → PassesStretch Line old front new → LineComment (ahead new) end → LineComment (ahead old) end
 line_stretch {old} {new} {front} {end} p r = subst (λ t. LineComment t end) (sym p.text) (line_front front (ahead new) end p.stretch r)

@@ -1,5 +1,5 @@
 //! What stands between tokens: white and comments.
-ghost use Rattle.std.specs.Prelude.{◌≡◌, false, ◌∷◌, MatchOption, IfOk, IfErr};
+ghost use Rattle.std.specs.Prelude.{◌≡◌, false, ◌∷◌, IsTrue, MatchOption, IfOk, IfErr};
 ghost use Rattle.ostep_lex.specs.Character.{slash as slash_code, star};
 ghost use Rattle.ostep_lex.specs.Gap.{LineComment, BlockComment, NeverCloses};
 ghost use Rattle.ostep_lex.specs.Gap.{closes_comment, begins_gap};
@@ -90,12 +90,38 @@ fn gap_piece(cursor: Cursor<'_>) -> Result<Option<Cursor<'_>>, LexFault>
     }
 }
 
-/// Behind all white and all comments at the cursor.
+/// Whether neither a white character nor a comment stands at the cursor: `false` says nothing.
+#[inline(always)]
+fn is_over(cursor: Cursor<'_>) -> bool
+    ensures { IsTrue result → begins_gap (ahead cursor.entry) ≡ false }
+{
+    match cursor.first() {
+        Some((c, _)) => c != '/' && !is_white(c),
+        None => true,
+    }
+}
+
+/// Behind all white and all comments at the cursor, with less work where it is white alone.
+#[inline(always)]
 pub fn gap(cursor: Cursor<'_>) -> Result<Cursor<'_>, LexFault>
     ensures ok { IfOk result (PassesGap cursor.entry) }
     ensures err { IfErr result (FaultBehind (places_in cursor.entry) (ahead cursor.entry)) }
 {
-    let mut rest = cursor.behind_stretch(Class::White);
+    let rest = cursor.behind_stretch(Class::White);
+    if is_over(rest) {
+        Ok(rest)
+    } else {
+        whole_gap(rest)
+    }
+}
+
+/// Behind all white and all comments at the cursor.
+#[inline(never)]
+fn whole_gap(cursor: Cursor<'_>) -> Result<Cursor<'_>, LexFault>
+    ensures ok { IfOk result (PassesGap cursor.entry) }
+    ensures err { IfErr result (FaultBehind (places_in cursor.entry) (ahead cursor.entry)) }
+{
+    let mut rest = cursor;
     while let Some(behind) = gap_piece(rest)? {
         rest = behind.behind_stretch(Class::White);
     }

@@ -113,15 +113,17 @@ fn behind_units_in_place(class: Class, order: ByteOrder, octets: &[u8]) -> &[u8]
     rest
 }
 
-/// Behind the longest stretch at the front of UTF-16 octets. What stands raw in a string has a loop
-/// of its own.
+/// Behind the longest stretch at the front of UTF-16 octets. Each class has a loop of its own.
 #[inline(never)]
 pub fn behind_units(class: Class, order: ByteOrder, octets: &[u8]) -> &[u8]
     ensures { BeginsWithUnits class order octets.now result.now }
 {
     match class {
+        Class::Run => behind_units_in_place(Class::Run, order, octets),
+        Class::White => behind_units_in_place(Class::White, order, octets),
         Class::Raw(mark) => behind_units_in_place(Class::Raw(mark), order, octets),
-        _ => behind_units_in_place(class, order, octets),
+        Class::Line => behind_units_in_place(Class::Line, order, octets),
+        Class::Starless => behind_units_in_place(Class::Starless, order, octets),
     }
 }
 
