@@ -3,4 +3,5 @@ pub mod Storing
 pub mod Files
 pub mod Finishing
 pub mod Valued
+pub mod Wanting
 mod Rows

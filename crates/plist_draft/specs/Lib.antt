@@ -5,6 +5,7 @@ pub use Rattle.plist_object.specs.Objects
 pub use Rattle.plist_object.specs.Spelled
 pub mod Files
 pub mod Stored
+pub mod Wanted
 pub mod OneProof
 pub mod Told
 pub mod View

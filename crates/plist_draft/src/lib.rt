@@ -7,6 +7,7 @@ mod ends;
 pub mod laws;
 mod recent;
 pub mod values;
+mod wanted;
 
 pub use draft::Draft;
 pub use recent::Role;

@@ -2,7 +2,9 @@
 ghost use Rattle.std.specs.Prelude.{IfSome};
 ghost use Rattle.std.specs.Bool.{OnTrue};
 ghost use Rattle.plist_draft.specs.Stored.{StandsAgain};
+ghost use Rattle.plist_draft.specs.Wanted.{wanted_octets};
 
+use crate::wanted::Wanted;
 use plist_value::FixedHasher;
 use std::alloc::{AllocError, Global};
 use std::hash::{BuildHasher, Hasher};
@@ -193,26 +195,26 @@ impl Recent {
         Ok(())
     }
 
-    /// The number of an object that begins with these octets, if one is kept under this hash.
+    /// The number of an object that is spelled so, if one is kept under this hash.
     #[inline(always)]
     pub(crate) fn find_again(
         &mut self,
         hash: u64,
-        spelled: &[u8],
+        wanted: Wanted,
         octets: &[u8],
         places: &[u32],
     ) -> Option<u32>
         ensures { IfSome result (λ number.
-            StandsAgain octets.now places.now number spelled.now) }
+            StandsAgain octets.now places.now number (wanted_octets wanted.entry)) }
     {
         let mark = mark_of(hash);
         if let Some(entry) = self.near.find(mark)
-            && stands_again(octets, places, entry, spelled)
+            && stands_again(octets, places, entry, wanted)
         {
             return Some(entry.number);
         }
         let entry = self.far.find(mark)?;
-        if !stands_again(octets, places, entry, spelled) {
+        if !stands_again(octets, places, entry, wanted) {
             return None;
         }
         self.near.put(entry);
@@ -252,23 +254,24 @@ fn mark_of(hash: u64) -> u32 {
     (hash >> 32) as u32
 }
 
-/// The hash of a scalar that is spelled by these octets.
-pub(crate) fn hash_of(spelled: &[u8]) -> u64 {
+/// The hash of a scalar that these octets tell.
+pub(crate) fn hash_of(octets: &[u8]) -> u64 {
     let mut hasher = FixedHasher::new().build_hasher();
-    hasher.write(spelled);
+    hasher.write(octets);
     hasher.finish()
 }
 
-// Whether these octets stand where the object of the entry begins.
-fn stands_again(octets: &[u8], places: &[u32], entry: Entry, spelled: &[u8]) -> bool
-    ensures { OnTrue result (StandsAgain octets.now places.now entry.number spelled.now) }
+// Whether what is wanted stands where the object of the entry begins.
+fn stands_again(octets: &[u8], places: &[u32], entry: Entry, wanted: Wanted) -> bool
+    ensures { OnTrue result (StandsAgain octets.now places.now entry.number
+        (wanted_octets wanted.entry)) }
 {
     let start = entry.place as usize;
     if start > octets.len() {
         return false;
     }
     let (_, behind) = octets.split_at(start);
-    if !behind.starts_with(spelled) {
+    if !wanted.stands_first(behind) {
         return false;
     }
     match places.get(entry.number as usize) {
