@@ -39,6 +39,19 @@ units_more {kind} {order} {octets} {rest} {behind} c a e t =
           ∙ ap (λ w. w ++ behind) (sym (octets_of-append (encoding_by order) a.front (c ∷ []) ∙ ap (λ w. octets_of (encoding_by order) a.front ++ w) (append-nil (spelling (encoding_by order) c))));
     }
 
+-- a stretch behind another
+pub units_behind : {kind : Class} {order : ByteOrder} {octets rest behind : List ℕ} → BeginsWithUnits kind order octets rest → BeginsWithUnits kind order rest behind
+    → BeginsWithUnits kind order octets behind
+units_behind {kind} {order} {octets} {rest} {behind} a b =
+    let e = encoding_by order in
+    record {
+      front = a.front ++ b.front;
+      stretch = is_stretch-append 0xD800 kind a.front b.front a.stretch b.stretch;
+      split = a.split ∙ ap (λ w. octets_of e a.front ++ w) b.split
+          ∙ sym (append_assoc (octets_of e a.front) (octets_of e b.front) behind)
+          ∙ ap (λ w. w ++ behind) (sym (octets_of-append e a.front b.front));
+    }
+
 -- the units of a stretch are its characters
 units_of_stretch : (kind : Class) (order : ByteOrder) (front : List ℕ) → is_stretch 0xD800 kind front ≡ true → units_in order (octets_of (encoding_by order) front) ≡ front
 units_of_stretch kind order [] s = refl

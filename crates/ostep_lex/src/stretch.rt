@@ -1,6 +1,7 @@
 //! Stretches: characters of one class at the front of a text, found in its octets. They are ASCII
 //! in UTF-8, and below the surrogates in UTF-16.
-ghost use Rattle.std.specs.Prelude.{◌≡◌, ◌++◌, ◌&&◌, nat_lt, true, chars, OnOk, IfOk, IsUtf8};
+ghost use Rattle.std.specs.Prelude.{◌≡◌, ◌<◌, ◌++◌, ◌&&◌, nat_lt, true, length, chars};
+ghost use Rattle.std.specs.Prelude.{OnOk, IfOk, IfSome, IsUtf8};
 ghost use Rattle.ostep_lex.specs.Stretch.{belongs, is_stretch, BeginsWithStretch};
 ghost use Rattle.ostep_lex.specs.Stretch.{BeginsWithUnits, AppendsUnits};
 ghost use Rattle.ostep_lex.specs.Source.{units_in};
@@ -98,19 +99,58 @@ pub fn push_octets(units: &mut Vec<u16>, octets: &[u8]) -> Result<(), AllocError
     Ok(())
 }
 
+/// Behind the unit at the front of UTF-16 octets, if it is of the class.
+#[inline(always)]
+fn behind_unit(class: Class, order: ByteOrder, octets: &[u8]) -> Option<&[u8]>
+    ensures begins { IfSome result (λ behind. BeginsWithUnits class order octets.now behind.now) }
+    ensures shorter { IfSome result (λ behind. length behind.now < length octets.now) }
+{
+    let (unit, behind) = front_unit(order, octets)?;
+    if is_unit_in(class, unit) {
+        Some(behind)
+    } else {
+        None
+    }
+}
+
+/// Behind the first four units, if all are of the class. Room is tested once for all of them.
+#[inline(always)]
+fn behind_four_units(class: Class, order: ByteOrder, octets: &[u8]) -> Option<&[u8]>
+    ensures begins { IfSome result (λ behind. BeginsWithUnits class order octets.now behind.now) }
+    ensures shorter { IfSome result (λ behind. length behind.now < length octets.now) }
+{
+    if octets.len() < 8 {
+        return None;
+    }
+    let first = behind_unit(class, order, octets)?;
+    let second = behind_unit(class, order, first)?;
+    let third = behind_unit(class, order, second)?;
+    let fourth = behind_unit(class, order, third)?;
+    Some(fourth)
+}
+
 /// Behind the longest stretch at the front of UTF-16 octets. Its code stands where it is called.
 #[inline(always)]
 fn behind_units_in_place(class: Class, order: ByteOrder, octets: &[u8]) -> &[u8]
     ensures { BeginsWithUnits class order octets.now result.now }
 {
     let mut rest = octets;
-    while let Some((unit, behind)) = front_unit(order, rest) {
-        if !is_unit_in(class, unit) {
-            break;
-        }
+    while let Some(behind) = behind_unit(class, order, rest) {
         rest = behind;
     }
     rest
+}
+
+/// The same, four units at a time: for a class whose stretches are long.
+#[inline(always)]
+fn behind_many_units(class: Class, order: ByteOrder, octets: &[u8]) -> &[u8]
+    ensures { BeginsWithUnits class order octets.now result.now }
+{
+    let mut rest = octets;
+    while let Some(behind) = behind_four_units(class, order, rest) {
+        rest = behind;
+    }
+    behind_units_in_place(class, order, rest)
 }
 
 /// Behind the longest stretch at the front of UTF-16 octets. Each class has a loop of its own.
@@ -121,9 +161,9 @@ pub fn behind_units(class: Class, order: ByteOrder, octets: &[u8]) -> &[u8]
     match class {
         Class::Run => behind_units_in_place(Class::Run, order, octets),
         Class::White => behind_units_in_place(Class::White, order, octets),
-        Class::Raw(mark) => behind_units_in_place(Class::Raw(mark), order, octets),
-        Class::Line => behind_units_in_place(Class::Line, order, octets),
-        Class::Starless => behind_units_in_place(Class::Starless, order, octets),
+        Class::Raw(mark) => behind_many_units(Class::Raw(mark), order, octets),
+        Class::Line => behind_many_units(Class::Line, order, octets),
+        Class::Starless => behind_many_units(Class::Starless, order, octets),
     }
 }
 
