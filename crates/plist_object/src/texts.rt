@@ -1,5 +1,5 @@
 //! The units of a text, behind its head.
-ghost use Rattle.std.specs.Prelude.{◌≡◌, length, IfSome, nat_lt, true};
+ghost use Rattle.std.specs.Prelude.{◌≡◌, ◌/◌, ◌%◌, [], ◌∷◌, length, IfSome, nat_lt, true};
 ghost use Rattle.std.specs.List.{list_all};
 ghost use Rattle.plist_object.specs.Appending.{Appends, HasRoom};
 ghost use Rattle.plist_object.specs.Spelling.{references};
@@ -91,7 +91,53 @@ fn pairs(octets: &[u8]) -> Option<&[u8]>
     }
 }
 
+// Each unit in two octets, four units at a time.
 fn push_units(out: &mut Vec<u8>, units: &[u16])
+    requires { HasRoom out.old (length (references 2 units.now)) }
+    ensures { Appends out.old out.new (references 2 units.now) }
+{
+    let mut rest = units;
+    while let [a, b, c, d, behind @ ..] = rest {
+        push_four_units(out, *a, *b, *c, *d);
+        rest = behind;
+    }
+    push_few_units(out, rest);
+}
+
+fn push_four_units(out: &mut Vec<u8>, a: u16, b: u16, c: u16, d: u16)
+    requires { HasRoom out.old 8 }
+    ensures { Appends out.old out.new (references 2 (a ∷ b ∷ c ∷ d ∷ [])) }
+{
+    push_octets(
+        out,
+        &[
+            high(a),
+            low(a),
+            high(b),
+            low(b),
+            high(c),
+            low(c),
+            high(d),
+            low(d),
+        ],
+    );
+}
+
+#[inline(always)]
+fn high(unit: u16) -> u8
+    ensures { result ≡ unit / 256 % 256 }
+{
+    (unit / 256) as u8
+}
+
+#[inline(always)]
+fn low(unit: u16) -> u8
+    ensures { result ≡ unit % 256 }
+{
+    (unit % 256) as u8
+}
+
+fn push_few_units(out: &mut Vec<u8>, units: &[u16])
     requires { HasRoom out.old (length (references 2 units.now)) }
     ensures { Appends out.old out.new (references 2 units.now) }
 {
