@@ -1,6 +1,7 @@
 //! What an object that begins with some octets holds, and the octets behind it. The octets reach up
 //! to the offset table.
-ghost use Rattle.std.specs.Prelude.{◌≡◌, ◌≢◌, ◌+◌, ◌*◌, ◌<◌, ◌≤◌, ◌/◌, ◌%◌, ◌^◌, length, IfOk};
+ghost use Rattle.std.specs.Prelude.{◌≡◌, ◌≢◌, ◌+◌, ◌*◌, ◌<◌, ◌≤◌, ◌/◌, ◌%◌, ◌^◌, ◌∷◌, length};
+ghost use Rattle.std.specs.Prelude.{IfOk, IfSome};
 ghost use Rattle.byteorder.specs.Endian.{big_number};
 ghost use Rattle.plist_object.specs.Objects.{IsHeld, holds_scalar, cut, integer_length};
 ghost use Rattle.plist_object.specs.Objects.{count_spelled, content, whole_in};
@@ -74,6 +75,17 @@ fn count_in(octets: &[u8], n: usize) -> u128
     }
 }
 
+// A count in one octet, as most are that stand behind a marker, and the octets behind it.
+#[inline(always)]
+fn short_count(octets: &[u8]) -> Option<(u8, &[u8])>
+    ensures { IfSome result (λ found. octets.now ≡ 16 ∷ found.0 ∷ found.1.now) }
+{
+    match octets {
+        [WHOLE_1, count, behind @ ..] => Some((*count, behind)),
+        _ => None,
+    }
+}
+
 // So many items of so many octets each.
 #[derive(Clone, Copy)]
 struct Counted<'a> {
@@ -93,6 +105,9 @@ fn content(octets: &[u8], low: u8, unit: usize) -> Read<'_, Counted<'_>>
 {
     if low < 15 {
         return items(octets, usize::from(low), unit);
+    }
+    if let Some((count, behind)) = short_count(octets) {
+        return items(behind, usize::from(count), unit);
     }
     let (count, octets) = count_spelled(octets)?;
     if count > (octets.len() / unit) as u128 {

@@ -1,7 +1,7 @@
-use Rattle.std.proofs.Common.{◌≡◌, ◌<◌, ◌*◌, length, nat_lt, true, false, refl, arith, lt-ltb, inl, inr}
+use Rattle.std.proofs.Common.{◌≡◌, ◌<◌, ◌+◌, ◌*◌, suc, length, nat_lt, true, false, refl, arith, rules, lt-ltb, inl, inr}
 use Rattle.std.proofs.lemmas.Bool.{cases_lt, le-ltb}
 use Rattle.std.proofs.lemmas.Nat.{le-div}
-use Rattle.plist_object.specs.Objects.{content, count_of_content}
+use Rattle.plist_object.specs.Objects.{content, count_of_content, count_spelled}
 use Rattle.plist_object.proofs.reading.content.Goals as goal
 
 -- more items than there are octets for
@@ -18,3 +18,12 @@ returns-then-count-octets-clause-read c =
     let long : nat_lt c.args.low 15 ≡ false = le-ltb c.args.low 15 (omega arith) in
     let cut : nat_lt (length octets) (count * unit) ≡ true = lt-ltb (length octets) (count * unit) over in
     rw (long, c.in_ok-count.ensures.read, cut) refl
+
+-- a count in one octet
+pub returns-in-Some-clause-read : goal.returns-in-Some-clause-read
+unfolding content count_of_content count_spelled
+returns-in-Some-clause-read c =
+    let long : nat_lt c.args.low 15 ≡ false = le-ltb c.args.low 15 (omega arith) in
+    let some : nat_lt (suc (length c.in-Some.behind.now)) 1 ≡ false = le-ltb (suc (length c.in-Some.behind.now)) 1 (omega arith) in
+    let one : c.in-Some.count * 1 + 0 ≡ c.in-Some.count = omega arith in
+    rw (c.in-Some.ensures, long, some, one) (search rules)
