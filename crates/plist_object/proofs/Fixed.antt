@@ -16,7 +16,7 @@ use Rattle.plist_object.proofs.ReadScalars.{object_in-scalar}
 use Rattle.plist_object.proofs.SameOctets.{AreOctets-take, AreOctets-drop}
 
 -- the spelling of a scalar and others behind it
-leads : (width n : ℕ) (s : Scalar) (octets tail : List ℕ) → IsScalar s → IsSmall s → octets ≡ scalar_spelling s ++ tail → length (scalar_spelling s) ≡ n → LeadsScalar width n octets
+pub leads : (width n : ℕ) (s : Scalar) (octets tail : List ℕ) → IsScalar s → IsSmall s → octets ≡ scalar_spelling s ++ tail → length (scalar_spelling s) ≡ n → LeadsScalar width n octets
 leads width n s octets tail valid small parts size = record {
   scalar = s;
   reads = ap first_of (ap (object_in width) parts ∙ object_in-scalar width s tail valid small);

@@ -3,6 +3,7 @@ pub mod Uniqueness
 pub mod CanonicalHeads
 pub mod Copies
 pub mod Fixed
+pub mod Wholes
 pub mod Counts
 pub mod HeldRanges
 pub mod Listed

@@ -29,7 +29,7 @@ object_in-ascii width xs rest h ascii =
     let all : length xs ≡ length xs * 1 = omega arith in
     rw (append_assoc, object_in-head width 5 (length xs) (xs ++ rest) small, content-counted 1 x.low (length xs) x.behind xs rest x.counts all, ascii) refl
 
-length-pairs : (us : List ℕ) → length (references 2 us) ≡ length us * 2
+pub length-pairs : (us : List ℕ) → length (references 2 us) ≡ length us * 2
 length-pairs [] = refl
 length-pairs (u ∷ us) = let others = length-pairs us in omega (arith, others)
 

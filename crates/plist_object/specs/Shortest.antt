@@ -1,11 +1,14 @@
 -- Which objects stand in their canonical spelling.
-use Rattle.std.specs.Prelude.{◌≡◌, ◌⊎◌, ◌<◌, ◌≤◌, ℕ, List, [], ◌∷◌, ◌++◌, length, take, Ok}
-use Rattle.plist_value.specs.Plist.{Scalar}
+use Rattle.std.specs.Prelude.{◌≡◌, ◌<◌, ◌≤◌, ◌*◌, ℕ, ℤ, nat_lt, false, List, [], ◌∷◌, ◌++◌, length, take, drop, Ok}
+use Rattle.std.specs.List.{list_all}
+use Rattle.plist_value.specs.Plist.{Scalar, IsWhole}
+use Rattle.plist_value.specs.Texts.{wide_units}
 use Rattle.plist_object.specs.Layout.{trailer_of}
 use Rattle.plist_object.specs.Objects.{Held, holds_scalar, holds_list, holds_table, object_in}
 use Rattle.plist_object.specs.Places.{octets_at, what_holds}
 use Rattle.plist_object.specs.Heads.{Begins}
-use Rattle.plist_object.specs.Spelling.{head, scalar_spelling, list_spelling, table_spelling}
+use Rattle.plist_object.specs.Sizes.{head_size}
+use Rattle.plist_object.specs.Spelling.{head, scalar_spelling, whole_spelling, list_spelling, table_spelling}
 use Rattle.plist_object.specs.Views.{first_of}
 
 -- the canonical spelling of what is held, its references in so many octets
@@ -24,13 +27,17 @@ pub record IsShortest (f : List ℕ) (i : ℕ) : Type 0 where
   pub reads : object_in (trailer_of f).reference_width octets ≡ Ok (held, behind)
   pub spelled : octets ≡ spelling_of (trailer_of f).reference_width held ++ behind
 
--- data or an ASCII text of below 256 octets begins there canonically
-pub record BeginsPlainly (kind count : ℕ) (octets : List ℕ) : Type 0 where
-  pub either : (kind ≡ 4) ⊎ (kind ≡ 5)
+-- an object of this kind begins there canonically, and its count is below 256
+pub record BeginsShort (kind count : ℕ) (octets : List ℕ) : Type 0 where
   pub few : count < 256
   pub begins : Begins (head kind count) octets
 
--- each scalar with this marker has n octets, and no other spelling
+-- of so many units that stand behind their head one is not ASCII
+abbrev pub HasWideUnit : ℕ → List ℕ → Type 0
+HasWideUnit count octets =
+    list_all (λ u. nat_lt u 128) (wide_units (take (2 * count) (drop (head_size count) octets))) ≡ false
+
+-- each scalar with this marker has n octets, which are its canonical spelling
 pub data IsFixed : ℕ → ℕ → Type 0 where
   no : IsFixed 8 1
   yes : IsFixed 9 1
@@ -44,6 +51,13 @@ pub record BeginsFixed (n : ℕ) (octets : List ℕ) : Type 0 where
   pub marker : ℕ
   pub fixed : IsFixed marker n
   pub begins : Begins (marker ∷ []) octets
+
+-- the canonical spelling of a whole number begins there, and has n octets
+pub record BeginsWhole (n : ℕ) (octets : List ℕ) : Type 0 where
+  pub number : ℤ
+  pub whole : IsWhole number
+  pub begins : Begins (whole_spelling number) octets
+  pub size : length (whole_spelling number) ≡ n
 
 -- the object that begins with these octets holds a scalar, and the first n are its canonical
 -- spelling

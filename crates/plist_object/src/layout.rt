@@ -257,9 +257,11 @@ impl<'a> BinFile<'a> {
     }
 
     /// The octets of the object `n`, which is below `count` and reads, where its first ones tell
-    /// that it holds a scalar in the canonical spelling: a flag, a whole number of one octet, a
-    /// real or a date, or a string of ASCII or data of below 256 octets. `None` says nothing. The
-    /// content of a string or of data is not read.
+    /// that it holds a scalar in the canonical spelling: a flag, a whole number of at most eight
+    /// octets, a real or a date, a string of ASCII or data of below 256 octets, or a UTF-16 string
+    /// of below 256 units that are not all ASCII. `None` says nothing. The content of an ASCII
+    /// string or of data is not read, and of a UTF-16 string the units are read up to the first
+    /// that is not ASCII.
     #[tactic(auto, unfolding(crate::specs::Places::object_at))]
     pub fn spelled(&self, n: u64) -> Option<&'a [u8]>
         requires listed { n < (trailer_of (octets_of self.now)).count }

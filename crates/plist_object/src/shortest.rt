@@ -1,24 +1,29 @@
 //! Whether an object begins as the canonical spelling of what it holds: with the marker, and the
 //! count or the whole number, in the least width.
-ghost use Rattle.std.specs.Prelude.{◌≡◌, ◌<◌, ◌≤◌, ◌^◌, ◌↔◌, ◌+◌, ◌++◌};
-ghost use Rattle.std.specs.Prelude.{ℕ, IsOk, IsTrue, IfSome, length, replicate, take};
+ghost use Rattle.std.specs.Prelude.{◌≡◌, ◌<◌, ◌≤◌, ◌^◌, ◌↔◌, ◌+◌, ◌*◌, ◌++◌, false};
+ghost use Rattle.std.specs.Prelude.{ℕ, IsOk, IsTrue, IfSome, length, nat_lt, replicate, take};
+ghost use Rattle.std.specs.List.{list_all};
 ghost use Rattle.byteorder.specs.Endian.{big_bytes};
 ghost use Rattle.plist_value.specs.Plist.{AreOctets, IsWhole};
-ghost use Rattle.plist_value.specs.Texts.{units_of};
+ghost use Rattle.plist_value.specs.Texts.{units_of, wide_units};
 ghost use Rattle.plist_value.specs.Scalars.{content_of};
 ghost use Rattle.plist_object.specs.Heads.{Begins, BeginsCanonically, BeginsScalar};
 ghost use Rattle.plist_object.specs.Heads.{IsCounted, text_head};
 ghost use Rattle.plist_object.specs.Objects.{holds_scalar, object_in};
-ghost use Rattle.plist_object.specs.Shortest.{BeginsFixed, BeginsPlainly, LeadsScalar};
-ghost use Rattle.plist_object.specs.Spelling.{head, least_integer, whole_spelling};
+ghost use Rattle.plist_object.specs.Shortest.{BeginsFixed, BeginsShort, BeginsWhole};
+ghost use Rattle.plist_object.specs.Shortest.{HasWideUnit, LeadsScalar};
+ghost use Rattle.plist_object.specs.Sizes.{head_size};
+ghost use Rattle.plist_object.specs.Spelling.{head, integer_marker, least_integer, least_width};
+ghost use Rattle.plist_object.specs.Spelling.{whole_spelling};
 ghost use Rattle.plist_object.specs.Views.{held_of};
 
 use crate::Object;
 use crate::lengths::{head_length, width_of};
 use crate::markers::{
-    ASCII, DATA, FALSE, LIST, MOMENT_8, REAL_4, REAL_8, TABLE, TRUE, WHOLE_1, WHOLE_2, WHOLE_4,
-    WHOLE_8, WHOLE_16, WIDE,
+    ASCII, DATA, FALSE, LIST, MOMENT_8, REAL_4, REAL_8, TABLE, TRUE, WHOLE, WHOLE_1, WHOLE_2,
+    WHOLE_4, WHOLE_8, WHOLE_16, WIDE,
 };
+use crate::refs::number_in;
 use byteorder::{BigEndian, ByteOrder};
 use plist_value::{ScalarRef, TextRef};
 
@@ -133,9 +138,10 @@ fn begins(octets: &[u8], first: &[u8]) -> bool
 }
 
 /// How many octets the canonical spelling has of the scalar that stands at the front of these,
-/// where their first ones tell that it stands there in that spelling: a flag, a whole number of one
-/// octet, a real or a date, which have one spelling each, or a string of ASCII or data of below 256
-/// octets.
+/// where their first ones tell that it stands there in that spelling: a flag, a real or a date,
+/// which have one spelling each, a whole number of at most eight octets, a string of ASCII or data
+/// of below 256 octets, or a UTF-16 string of below 256 units that are not all ASCII. Of that one
+/// the units are read up to the first that is not.
 pub(crate) fn spelled_size(octets: &[u8]) -> Option<usize>
     ensures { IfSome result (λ size. (width : ℕ) → IsOk (object_in width octets.now)
         → LeadsScalar width size octets.now) }
@@ -143,12 +149,17 @@ pub(crate) fn spelled_size(octets: &[u8]) -> Option<usize>
     if let Some(size) = fixed_size(octets) {
         return Some(size);
     }
-    let (_, count) = plain_head(octets)?;
-    Some((head_length(count) + count) as usize)
+    let (kind, count) = short_head(octets)?;
+    match kind {
+        DATA | ASCII => Some((head_length(count) + count) as usize),
+        WIDE => wide_size(octets, count),
+        WHOLE => whole_size(octets),
+        _ => None,
+    }
 }
 
-// How many octets there are of a scalar that begins with these, where its marker tells it, and no
-// two of that marker have as many and spell the same.
+// How many octets there are of a scalar that begins with these, where its marker tells that number
+// and that they are its canonical spelling.
 fn fixed_size(octets: &[u8]) -> Option<usize>
     ensures size { IfSome result (λ size. BeginsFixed size octets.now) }
     ensures octets { AreOctets octets.now }
@@ -165,17 +176,47 @@ fn fixed_size(octets: &[u8]) -> Option<usize>
     }
 }
 
-// The kind of a string or of data that begins with these octets, and its count, where it is below
-// 256 and stands there in its least width.
-fn plain_head(octets: &[u8]) -> Option<(u8, u64)>
-    ensures head { IfSome result (λ head. BeginsPlainly head.0 head.1 octets.now) }
+// How many octets a whole number has, with its marker, that begins with these, if it stands behind
+// the marker in 2, 4 or 8 octets and would not fit in fewer.
+fn whole_size(octets: &[u8]) -> Option<usize>
+    ensures { IfSome result (λ size. BeginsWhole size octets.now) }
+{
+    let (marker, digits) = octets.split_first()?;
+    let width = whole_width(*marker)?;
+    if digits.len() < width {
+        return None;
+    }
+    let number = number_in(digits, width);
+    if usize::from(width_of(number)) == width {
+        Some(1 + width)
+    } else {
+        None
+    }
+}
+
+// How many octets, of 2, 4 or 8, stand behind the marker of a whole number.
+fn whole_width(marker: u8) -> Option<usize>
+    ensures least { IfSome result (λ width. 1 ≤ width) }
+    ensures most { IfSome result (λ width. width ≤ 8) }
+    ensures marker { IfSome result
+        (λ width. (n : ℕ) → least_width n ≡ width → integer_marker n ≡ marker) }
+{
+    match marker {
+        WHOLE_2 => Some(2),
+        WHOLE_4 => Some(4),
+        WHOLE_8 => Some(8),
+        _ => None,
+    }
+}
+
+// The kind of the object that begins with these octets, and its count, where it is below 256 and
+// stands there in its least width. Of what is not counted it is the low half of the marker.
+fn short_head(octets: &[u8]) -> Option<(u8, u64)>
+    ensures head { IfSome result (λ head. BeginsShort head.0 head.1 octets.now) }
     ensures octets { AreOctets octets.now }
 {
     let (marker, behind) = octets.split_first()?;
     let kind = marker / 16;
-    if kind != DATA && kind != ASCII {
-        return None;
-    }
     let low = marker % 16;
     if low < 15 {
         return Some((kind, u64::from(low)));
@@ -184,4 +225,35 @@ fn plain_head(octets: &[u8]) -> Option<(u8, u64)>
         [WHOLE_1, count, ..] if *count >= 15 => Some((kind, u64::from(*count))),
         _ => None,
     }
+}
+
+// How many octets a UTF-16 string of so many units has that begins with these, if one of the units
+// is not ASCII.
+fn wide_size(octets: &[u8], count: u64) -> Option<usize>
+    requires { count < 256 }
+    ensures size { IfSome result (λ size. size ≡ head_size count + 2 * count) }
+    ensures wide { IfSome result (λ _. HasWideUnit count octets.now) }
+{
+    let start = head_length(count) as usize;
+    let size = start + 2 * count as usize;
+    let units = octets.get(start..size)?;
+    if has_wide_unit(units) {
+        Some(size)
+    } else {
+        None
+    }
+}
+
+// Whether one of the units that stand in the octets two by two is not ASCII.
+fn has_wide_unit(octets: &[u8]) -> bool
+    ensures { IsTrue result ↔ (list_all (λ unit. nat_lt unit 128) (wide_units octets.now) ≡ false) }
+{
+    let mut rest = octets;
+    while let [high, low, behind @ ..] = rest {
+        if *high != 0 || *low >= 128 {
+            return true;
+        }
+        rest = behind;
+    }
+    false
 }
