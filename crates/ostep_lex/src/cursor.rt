@@ -6,8 +6,8 @@ ghost use Rattle.ostep_lex.specs.Source.{IsWhole, octets_in};
 use crate::fault::LexFault;
 use crate::source::{ByteOrder, Source, behind_characters};
 use crate::stretch::Class;
+use simdutf8::compat::from_utf8;
 use std::alloc::AllocError;
-use std::str;
 
 /// A place in an input, and the characters from there on. It is passed by value.
 #[derive(Clone, Copy)]
@@ -134,7 +134,7 @@ impl<'a> Cursor<'a> {
         ensures ok { IfOk result (Holds utf8 octets.now end) }
         ensures err { IfErr result (IsBadUtf8 (StopsBehind utf8 octets.now end)) }
     {
-        match str::from_utf8(octets) {
+        match from_utf8(octets) {
             Ok(text) => Ok(Cursor {
                 source: Source::Utf8(text),
                 end,

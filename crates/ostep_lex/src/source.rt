@@ -1,5 +1,5 @@
 //! The octets that are still to be read, and the characters at their front.
-ghost use Rattle.std.specs.Prelude.{◌≡◌, ◌+◌, ◌++◌, [], ◌∷◌, ◌<◌, length, chars};
+ghost use Rattle.std.specs.Prelude.{◌≡◌, ◌+◌, ◌++◌, [], ◌∷◌, ◌<◌, ◌≤◌, length, chars};
 ghost use Rattle.std.specs.Prelude.{MatchOption, IfSome, IfOk};
 ghost use Rattle.std.specs.Char.{IsScalar};
 ghost use Rattle.ostep_lex.specs.Encoding.{BeginsWith, BeginsWithNone};
@@ -48,21 +48,7 @@ pub fn front_unit(order: ByteOrder, octets: &[u8]) -> Option<(u16, &[u8])>
     }
 }
 
-/// The character at the front of UTF-16 octets, and the octets behind it. The code for a unit that
-/// is no surrogate is inlined.
-#[inline(always)]
-fn first_character(order: ByteOrder, octets: &[u8]) -> Option<(char, &[u8])>
-    ensures { MatchOption result (BeginsWithNone (encoding_by order) octets.now)
-        (λ found. BeginsWith (encoding_by order) octets.now found.0 found.1.now) }
-{
-    let (unit, behind) = front_unit(order, octets)?;
-    if (0xd800..0xe000).contains(&unit) {
-        return front_character(order, octets);
-    }
-    Some((char::from_u32(u32::from(unit))?, behind))
-}
-
-/// The same, behind a call: for a character of two units, and where texts in UTF-8 come first.
+/// The character at the front of UTF-16 octets, and the octets behind it.
 #[inline(never)]
 fn front_character(order: ByteOrder, octets: &[u8]) -> Option<(char, &[u8])>
     ensures { MatchOption result (BeginsWithNone (encoding_by order) octets.now)
@@ -80,14 +66,57 @@ fn front_character(order: ByteOrder, octets: &[u8]) -> Option<(char, &[u8])>
     Some((char::from_u32(code)?, behind))
 }
 
+/// Behind the unit at the front of UTF-16 octets, if it is no surrogate: a character by itself.
+#[inline(always)]
+fn behind_character(order: ByteOrder, octets: &[u8]) -> Option<&[u8]>
+    ensures fronts { IfSome result (λ behind. FrontsOf (encoding_by order) octets.now behind.now) }
+    ensures shorter { IfSome result (λ behind. length behind.now < length octets.now) }
+{
+    let (unit, behind) = front_unit(order, octets)?;
+    if (0xd800..0xe000).contains(&unit) {
+        return None;
+    }
+    let _character = char::from_u32(u32::from(unit))?;
+    Some(behind)
+}
+
+/// Behind the first four units, if none is a surrogate. Room is tested once for all of them.
+#[inline(always)]
+fn behind_four_characters(order: ByteOrder, octets: &[u8]) -> Option<&[u8]>
+    ensures fronts { IfSome result (λ behind. FrontsOf (encoding_by order) octets.now behind.now) }
+    ensures shorter { IfSome result (λ behind. length behind.now < length octets.now) }
+{
+    if octets.len() < 8 {
+        return None;
+    }
+    let first = behind_character(order, octets)?;
+    let second = behind_character(order, first)?;
+    let third = behind_character(order, second)?;
+    let fourth = behind_character(order, third)?;
+    Some(fourth)
+}
+
+/// Behind four units that are no surrogates, and four more, as often as such stand there.
+#[inline(always)]
+fn behind_many_characters(order: ByteOrder, octets: &[u8]) -> &[u8]
+    ensures fronts { FrontsOf (encoding_by order) octets.now result.now }
+    ensures shorter { length result.now ≤ length octets.now }
+{
+    let mut rest = octets;
+    while let Some(behind) = behind_four_characters(order, rest) {
+        rest = behind;
+    }
+    rest
+}
+
 /// The octets from the first place on at which no UTF-16 character begins.
 pub fn behind_characters(order: ByteOrder, octets: &[u8]) -> &[u8]
     ensures fronts { FrontsOf (encoding_by order) octets.now result.now }
     ensures none { BeginsWithNone (encoding_by order) result.now }
 {
-    let mut rest = octets;
-    while let Some((_, behind)) = first_character(order, rest) {
-        rest = behind;
+    let mut rest = behind_many_characters(order, octets);
+    while let Some((_, behind)) = front_character(order, rest) {
+        rest = behind_many_characters(order, behind);
     }
     rest
 }

@@ -154,8 +154,8 @@ fn behind_many_units(class: Class, order: ByteOrder, octets: &[u8]) -> &[u8]
 }
 
 /// Behind the longest stretch at the front of UTF-16 octets. Each class has a loop of its own.
-#[inline(never)]
-pub fn behind_units(class: Class, order: ByteOrder, octets: &[u8]) -> &[u8]
+#[inline(always)]
+fn behind_class(class: Class, order: ByteOrder, octets: &[u8]) -> &[u8]
     ensures { BeginsWithUnits class order octets.now result.now }
 {
     match class {
@@ -164,6 +164,17 @@ pub fn behind_units(class: Class, order: ByteOrder, octets: &[u8]) -> &[u8]
         Class::Raw(mark) => behind_many_units(Class::Raw(mark), order, octets),
         Class::Line => behind_many_units(Class::Line, order, octets),
         Class::Starless => behind_many_units(Class::Starless, order, octets),
+    }
+}
+
+/// The same. Each order of octets has loops of its own too, in which it is not asked for.
+#[inline(never)]
+pub fn behind_units(class: Class, order: ByteOrder, octets: &[u8]) -> &[u8]
+    ensures { BeginsWithUnits class order octets.now result.now }
+{
+    match order {
+        ByteOrder::Big => behind_class(class, ByteOrder::Big, octets),
+        ByteOrder::Little => behind_class(class, ByteOrder::Little, octets),
     }
 }
 
