@@ -30,7 +30,7 @@ fn draft(alloc: Global, octets: &[u8]) -> Result<Vec<u8>, NoDraft>
 {
     let cursor = open(octets)?;
     let draft = Draft::new(alloc)?;
-    let tokens = Tokens { alloc, cursor };
+    let tokens = Tokens::new(alloc, cursor);
     let mut reader = Reader {
         alloc,
         tokens,

@@ -94,6 +94,7 @@ impl<'a> Reader<'a> {
         }
         match first {
             First::Plain(text) => self.put_text(text, Role::Value),
+            First::Units(units) => self.put_units(units, Role::Value),
             First::Other(token) => self.token_value(token, levels - 1),
         }
     }
@@ -236,6 +237,18 @@ impl<'a> Reader<'a> {
         Ok(self.draft.share_scalar(&scalar, role)?)
     }
 
+    // Puts the text of these units, and answers its number. They leave their room to those of the
+    // next string.
+    fn put_units(&mut self, units: Vec<u16>, role: Role) -> Result<u32, NoDraft>
+        ensures put { IfOk result (Puts (objects self.old.draft) (objects self.new.draft)
+            (holds_scalar (one_text units.items))) }
+        ensures cursor { self.new.tokens.cursor ≡ self.old.tokens.cursor }
+    {
+        let number = self.put_text(TextRef::of_units(units.as_slice()), role)?;
+        self.tokens.room = units;
+        Ok(number)
+    }
+
     // Puts the text of a string as a key, and answers its number.
     #[inline(always)]
     fn put_key(&mut self, first: First<'_>) -> Result<u32, NoDraft>
@@ -246,6 +259,7 @@ impl<'a> Reader<'a> {
     {
         match first {
             First::Plain(text) => self.put_text(text, Role::Key),
+            First::Units(units) => self.put_units(units, Role::Key),
             First::Other(token) => self.put_key_token(&token.kind),
         }
     }

@@ -1,6 +1,6 @@
 //! Tokens a step at a time, and with memory refused.
-use ostep_lex::{LexFault, next_mark, next_plain, next_token, open, tokens};
-use std::alloc::Global;
+use ostep_lex::{LexFault, next_mark, next_plain, next_token, next_units, open, tokens};
+use std::alloc::{AllocError, Global};
 use std::test::Fail;
 
 const TABLE: &[u8] = b"{a = <0F>;}";
@@ -75,6 +75,37 @@ fn a_string_where_it_stands(rt: HostRuntime) -> Result<(), Fail> {
     assert_eq!(rt; plain_of(b"/* a")?, None);
     assert_eq!(rt; plain_of(b"{a=b;}")?, None);
     assert_eq!(rt; plain_of(b"\xfe\xff\0a")?, None);
+    Ok(())
+}
+
+// An input that begins with a string, the units of the string, and the place behind it.
+type UnitsRow = (&'static [u8], &'static [u16], usize);
+
+const UNITS: [UnitsRow; 5] = [
+    (b" \"a\\n\\\"b\" ", &[0x61, 0xa, 0x22, 0x62], 9),
+    (b"x;", &[0x78], 1),
+    (b"'\xc3\xa9'", &[0xe9], 4),
+    (b"\xff\xfe\"\0\xac\x20\"\0", &[0x20ac], 8),
+    (b"//\n''", &[], 5),
+];
+
+// Inputs of which no string is read: another token, a fault, a string that begins with a slash.
+const NO_UNITS: [&[u8]; 5] = [b"{", b"<00>", b"\"a", b"/a", b""];
+
+#[test]
+fn units_in_the_room_of_those_before(rt: HostRuntime) -> Result<(), Fail> {
+    let mut room = Vec::new(rt.alloc());
+    for (octets, wanted, place) in UNITS {
+        let Some((units, behind)) = next_units(rt.alloc(), open(octets)?, &mut room) else {
+            return Err(Fail::from(AllocError));
+        };
+        assert_eq!(rt; units.as_slice(), wanted);
+        assert_eq!(rt; behind.place(), place);
+        room = units;
+    }
+    for octets in NO_UNITS {
+        assert!(rt; next_units(rt.alloc(), open(octets)?, &mut room).is_none());
+    }
     Ok(())
 }
 
