@@ -7,7 +7,7 @@ use std::alloc::{AllocError, Global};
 use std::hash::{BuildHasher, Hash};
 
 // A set of so many keys is given the room that it is likely to need. One of fewer grows by itself.
-const MANY: usize = 4_096;
+const MANY: usize = 8_192;
 
 /// Keys that have numbers: these stand in a list, each at the index of its key.
 #[derive(Drop)]

@@ -15,7 +15,7 @@ use std::hash::BuildHasher;
 pub(crate) const SINGLE: u32 = NO_NUMBER - 1;
 
 // From so many scalars in a set on it pays to look for single objects.
-const MANY: usize = 8_192;
+const MANY: usize = 4_096;
 
 /// The number of each object of the file that was met as a scalar.
 #[derive(Drop)]
