@@ -103,10 +103,13 @@ compared front first us vs shared_us shared_vs =
     ap (λ (ws : List ℕ). slice_cmp nat_cmp ws vs) whole_us ∙ ap (λ (ws : List ℕ). slice_cmp nat_cmp (take front first ++ drop front us) ws) whole_vs ∙ compared_behind (take front first) (drop front us) (drop front vs)
 
 -- of two texts the lower has no higher head
+no_higher_head : (front : ℕ) (first us vs : List ℕ) → take front us ≡ take front first → take front vs ≡ take front first → slice_cmp nat_cmp us vs ≡ Less → head_of 8 (drop front us) ≤ head_of 8 (drop front vs)
+no_higher_head front first us vs shared_us shared_vs less =
+    monotone 8 (drop front us) (drop front vs) (sym (compared front first us vs shared_us shared_vs) ∙ less)
+
 no_higher : (front : ℕ) (first : List ℕ) (key next : Key) → IsHeaded front first key → IsHeaded front first next → slice_cmp nat_cmp (units_at key) (units_at next) ≡ Less → key.head ≤ next.head
 no_higher front first key next is is_next less =
-    let rest = sym (compared front first (units_at key) (units_at next) is.0 is_next.0) ∙ less in
-    let most = monotone 8 (drop front (units_at key)) (drop front (units_at next)) rest in
+    let most = no_higher_head front first (units_at key) (units_at next) is.0 is_next.0 less in
     omega (arith, most, is.1, is_next.1)
 
 -- a text that is lower goes first by its head too
@@ -173,19 +176,23 @@ units_headless [] = refl
 units_headless (key ∷ keys) = ap (λ (us : List (List ℕ)). units_at key ∷ us) (units_headless keys)
 
 -- of two texts in whichever order the lower has no higher head
-pub not_lower : (front : ℕ) (first : List ℕ) (key next : Key) (o : Ordering) → IsHeaded front first key → IsHeaded front first next → slice_cmp nat_cmp (units_at key) (units_at next) ≡ o → key.head < next.head → o ≡ Less
-not_lower front first key next Less is is_next order below = refl
-not_lower front first key next Equal is is_next order below =
-    absurd (let same = exact_bytes (units_at key) (units_at next) order in let heads : head_of 8 (drop front (units_at key)) ≡ head_of 8 (drop front (units_at next)) = ap (λ (us : List ℕ). head_of 8 (drop front us)) same in omega (arith, below, heads, is.1, is_next.1))
-not_lower front first key next Greater is is_next order below =
-    absurd (let less : slice_cmp nat_cmp (units_at next) (units_at key) ≡ Less = nat_list_cmp_total.antisymm (units_at next) (units_at key) ∙ ap ordering_reverse order in let most = no_higher front first next key is_next is less in omega (arith, below, most))
+pub lower_by_head : (front : ℕ) (first us vs : List ℕ) (o : Ordering) → take front us ≡ take front first → take front vs ≡ take front first → slice_cmp nat_cmp us vs ≡ o → head_of 8 (drop front us) < head_of 8 (drop front vs) → o ≡ Less
+lower_by_head front first us vs Less shared_us shared_vs order below = refl
+lower_by_head front first us vs Equal shared_us shared_vs order below =
+    absurd (let same = exact_bytes us vs order in let heads : head_of 8 (drop front us) ≡ head_of 8 (drop front vs) = ap (λ (ws : List ℕ). head_of 8 (drop front ws)) same in omega (arith, below, heads))
+lower_by_head front first us vs Greater shared_us shared_vs order below =
+    absurd (let less : slice_cmp nat_cmp vs us ≡ Less = nat_list_cmp_total.antisymm vs us ∙ ap ordering_reverse order in let most = no_higher_head front first vs us shared_vs shared_us less in omega (arith, below, most))
+
+not_lower : (front : ℕ) (first : List ℕ) (key next : Key) → IsHeaded front first key → IsHeaded front first next → key.head < next.head → slice_cmp nat_cmp (units_at key) (units_at next) ≡ Less
+not_lower front first key next is is_next below =
+    lower_by_head front first (units_at key) (units_at next) (slice_cmp nat_cmp (units_at key) (units_at next)) is.0 is_next.0 refl (omega (arith, below, is.1, is_next.1))
 
 -- two keys of different heads compare by these
 pub below_by_heads : (key next : Key) → AreHeaded (key ∷ next ∷ []) → (key.head ≡ next.head → ⊥) → (key.head < next.head) ↔ (slice_cmp nat_cmp (units_at key) (units_at next) ≡ Less)
 below_by_heads key next are apart =
     let is = are.each 0 key (omega arith) in
     let is_next = are.each 1 key (omega arith) in (
-      λ below. not_lower are.front are.first key next (slice_cmp nat_cmp (units_at key) (units_at next)) is is_next refl below,
+      λ below. not_lower are.front are.first key next is is_next below,
       λ less. elim (cases_lt key.head next.head) [
         | inl below ↦ below
         | inr above ↦ (let most = no_higher are.front are.first key next is is_next less in absurd (apart (omega (arith, above, most))))

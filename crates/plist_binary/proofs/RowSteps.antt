@@ -1,21 +1,22 @@
--- Rows in the order of their heads stand for keys in the order of their texts.
-use Rattle.std.proofs.Common.{◌≡◌, ℕ, zero, suc, ◌+◌, ◌-◌, ◌<◌, ◌≤◌, List, [], ◌∷◌, length, get_or, set, map, take, refl, sym, ap, ◌∙◌, subst, ⊎_elim, arith}
+-- Rows in the order of their heads stand for texts in their order.
+use Rattle.std.proofs.Common.{◌≡◌, ℕ, zero, suc, ◌+◌, ◌-◌, ◌<◌, ◌≤◌, List, [], ◌∷◌, ◌++◌, length, get_or, set, map, take, drop, refl, sym, ap, ◌∙◌, subst, ⊎_elim, arith}
 use Rattle.std.specs.Prelude.{All}
-use Rattle.std.specs.declared.cmp.Ordering.TheVariants.{Less}
 use Rattle.std.specs.Ordering.{nat_cmp}
 use Rattle.std.specs.Cmp.Lexicographic.{slice_cmp}
-use Rattle.std.specs.List.{swap}
+use Rattle.std.specs.List.{range_with_len, swap}
 use Rattle.std.specs.List.Sorted.{IsPermutation, IsStrictlySortedBy, SwapsInRange, apply_swaps}
 use Rattle.std.proofs.lemmas.Bool.{cases_lt}
 use Rattle.std.proofs.lemmas.List.{get_or-map, get_or_default, length-map}
+use Rattle.std.proofs.lemmas.List.FromFn.{get_or-range_with_len, length-range_with_len, map-range_with_len_more}
+use Rattle.std.proofs.lemmas.List.Elements.{All-map}
 use Rattle.std.proofs.lemmas.List.Sorted.{All-permutation}
+use Rattle.plist_value.specs.Texts.{units_of}
+use Rattle.plist_value.specs.declared.text_ref.TextRef.{TextRef}
 use Rattle.plist_binary.specs.declared.row_order.Row.{Row}
-use Rattle.plist_binary.specs.declared.tables.Key.{Key}
-use Rattle.plist_binary.specs.Heads.{with_head}
-use Rattle.plist_binary.specs.Keys.{units_at, place_of}
-use Rattle.plist_binary.specs.RowOrder.{row_of, place_in, AreOrdered, HeadsAscend}
+use Rattle.plist_binary.specs.Heads.{head_of}
+use Rattle.plist_binary.specs.RowOrder.{row_of, place_in, text_at, all_places, AreOrdered, HeadsAscend, TextsAscend}
 use Rattle.plist_binary.proofs.Ascents.{sorted_from_ascent}
-use Rattle.plist_binary.proofs.HeadSteps.{not_lower}
+use Rattle.plist_binary.proofs.HeadSteps.{lower_by_head}
 
 map_get : {A B : Type 0} (f : A → B) (xs : List A) (i : ℕ) (d : A) → f (get_or xs i d) ≡ get_or (map f xs) i (f d)
 map_get f [] i d = refl
@@ -42,55 +43,74 @@ map_swaps f xs [] = refl
 map_swaps {A} {B} f xs (move ∷ moves) =
     map_swap f (apply_swaps xs moves) move.0 move.1 ∙ ap (λ (ys : List B). swap ys move.0 move.1) (map_swaps f xs moves)
 
--- a head that is lower is that of a text that is lower
-lower_by_head : (front : ℕ) (first : List ℕ) (key next : Key) → take front (units_at key) ≡ take front first → take front (units_at next) ≡ take front first → (row_of front key).head < (row_of front next).head → slice_cmp nat_cmp (units_at key) (units_at next) ≡ Less
-lower_by_head front first key next shared shared_next below =
-    not_lower front first (with_head front key) (with_head front next) (slice_cmp nat_cmp (units_at key) (units_at next)) (shared, refl) (shared_next, refl) refl below
+-- where all texts share units at the front, those at their places do
+shared_at : (front : ℕ) (first : List ℕ) (texts : List (List ℕ)) → All (λ units. take front units ≡ take front first) texts → All (λ place. take front (text_at texts place) ≡ take front first) (all_places texts)
+shared_at front first texts shared k d within =
+    let inside : k < length texts = omega (arith, within, length-range_with_len 0 (length texts)) in
+    let place : get_or (all_places texts) k d ≡ 0 + k = get_or-range_with_len 0 (length texts) k d inside in
+    let at : k ≡ get_or (all_places texts) k d = omega arith in
+    subst (λ (p : ℕ). take front (text_at texts p) ≡ take front first) at (shared k [] inside)
 
-ascend_from : (front : ℕ) (first : List ℕ) (keys : List Key) (d : Key) → All (λ key. take front (units_at key) ≡ take front first) keys → HeadsAscend (length keys) (map (row_of front) keys) → IsStrictlySortedBy (slice_cmp nat_cmp) (map units_at keys)
-ascend_from front first keys d shared heads =
-    let texts = map units_at keys in
-    let row = row_of front in
-    let long = length-map keys units_at in
+ascend_from : (front : ℕ) (first : List ℕ) (texts : List (List ℕ)) (places : List ℕ) (d : ℕ) → All (λ place. take front (text_at texts place) ≡ take front first) places → HeadsAscend (length places) (map (row_of front texts) places) → TextsAscend texts places
+ascend_from front first all places d shared heads =
+    let text = text_at all in
+    let texts = map text places in
+    let row = row_of front all in
+    let long = length-map places text in
     sorted_from_ascent texts (λ k h.
-    let here : k < length keys = omega arith in
-    let there : k + 1 < length keys = omega arith in
-    let key = get_or keys k d in
-    let next = get_or keys (k + 1) d in
-    let lower : get_or texts k [] ≡ units_at key = get_or-map units_at keys k d [] here in
-    let upper : get_or texts (k + 1) [] ≡ units_at next = get_or-map units_at keys (k + 1) d [] there in
-    let low : (get_or (map row keys) k (row d)).head ≡ (row key).head = ap (λ (r : Row). r.head) (get_or-map row keys k d (row d) here) in
-    let high : (get_or (map row keys) (k + 1) (row d)).head ≡ (row next).head = ap (λ (r : Row). r.head) (get_or-map row keys (k + 1) d (row d) there) in
+    let here : k < length places = omega arith in
+    let there : k + 1 < length places = omega arith in
+    let place = get_or places k d in
+    let next = get_or places (k + 1) d in
+    let lower : get_or texts k [] ≡ text place = get_or-map text places k d [] here in
+    let upper : get_or texts (k + 1) [] ≡ text next = get_or-map text places (k + 1) d [] there in
+    let low : (get_or (map row places) k (row d)).head ≡ (row place).head = ap (λ (r : Row). r.head) (get_or-map row places k d (row d) here) in
+    let high : (get_or (map row places) (k + 1) (row d)).head ≡ (row next).head = ap (λ (r : Row). r.head) (get_or-map row places (k + 1) d (row d) there) in
     let told = heads k (row d) there in
-    let below : (row key).head < (row next).head = omega (arith, told, low, high) in
-    ap (λ (us : List ℕ). slice_cmp nat_cmp us (get_or texts (k + 1) [])) lower ∙ ap (λ (us : List ℕ). slice_cmp nat_cmp (units_at key) us) upper ∙ lower_by_head front first key next (shared k d here) (shared (k + 1) d there) below)
+    let below : (row place).head < (row next).head = omega (arith, told, low, high) in
+    ap (λ (us : List ℕ). slice_cmp nat_cmp us (get_or texts (k + 1) [])) lower ∙ ap (λ (us : List ℕ). slice_cmp nat_cmp (text place) us) upper ∙ lower_by_head front first (text place) (text next) (slice_cmp nat_cmp (text place) (text next)) (shared k d here) (shared (k + 1) d there) refl below)
 
-ascend_by_heads : (front : ℕ) (first : List ℕ) (keys : List Key) → All (λ key. take front (units_at key) ≡ take front first) keys → HeadsAscend (length keys) (map (row_of front) keys) → IsStrictlySortedBy (slice_cmp nat_cmp) (map units_at keys)
+ascend_by_heads : (front : ℕ) (first : List ℕ) (texts : List (List ℕ)) (places : List ℕ) → All (λ place. take front (text_at texts place) ≡ take front first) places → HeadsAscend (length places) (map (row_of front texts) places) → TextsAscend texts places
 unfolding IsStrictlySortedBy
-ascend_by_heads front first [] shared heads = tt
-ascend_by_heads front first (key ∷ keys) shared heads = ascend_from front first (key ∷ keys) key shared heads
+ascend_by_heads front first texts [] shared heads = tt
+ascend_by_heads front first texts (place ∷ places) shared heads =
+    ascend_from front first texts (place ∷ places) place shared heads
 
--- rows have the places of their keys
-pub places_of_rows : (front : ℕ) (keys : List Key) → map place_of keys ≡ map place_in (map (row_of front) keys)
-places_of_rows front [] = refl
-places_of_rows front (key ∷ keys) = ap (λ (ps : List ℕ). place_of key ∷ ps) (places_of_rows front keys)
+-- rows have their places
+pub places_of_rows : (front : ℕ) (texts : List (List ℕ)) (places : List ℕ) → map place_in (map (row_of front texts) places) ≡ places
+places_of_rows front texts [] = refl
+places_of_rows front texts (place ∷ places) =
+    ap (λ (ps : List ℕ). place ∷ ps) (places_of_rows front texts places)
 
 -- the places of rows whose heads ascend
-pub ordered_by_heads : (front : ℕ) (first : List ℕ) (keys : List Key) (rows : List Row) (places : List ℕ) → All (λ key. take front (units_at key) ≡ take front first) keys → IsPermutation (map (row_of front) keys) rows → HeadsAscend (length rows) rows → places ≡ map place_in rows → AreOrdered keys places
-ordered_by_heads front first keys rows places shared moved heads are =
-    let row = row_of front in
-    let sorted = apply_swaps keys moved.moves in
-    let below : SwapsInRange (length keys) moved.moves = subst (λ (n : ℕ). SwapsInRange n moved.moves) (length-map keys row) moved.below in
-    let keys_moved : IsPermutation keys sorted = record { moves = moved.moves; below = below; is = refl } in
-    let same : map row sorted ≡ rows = map_swaps row keys moved.moves ∙ sym moved.is in
+pub ordered_by_heads : (front : ℕ) (first : List ℕ) (refs : List TextRef) (rows : List Row) (places : List ℕ) → All (λ text. take front (units_of text) ≡ take front first) refs → IsPermutation (map (row_of front (map units_of refs)) (all_places (map units_of refs))) rows → HeadsAscend (length rows) rows → places ≡ map place_in rows → AreOrdered (map units_of refs) places
+ordered_by_heads front first refs rows places shared moved heads are =
+    let texts = map units_of refs in
+    let row = row_of front texts in
+    let all = all_places texts in
+    let sorted = apply_swaps all moved.moves in
+    let below : SwapsInRange (length all) moved.moves = subst (λ (n : ℕ). SwapsInRange n moved.moves) (length-map all row) moved.below in
+    let places_moved : IsPermutation all sorted = record { moves = moved.moves; below = below; is = refl } in
+    let same : map row sorted ≡ rows = map_swaps row all moved.moves ∙ sym moved.is in
     let many : length rows ≡ length sorted = sym (ap (λ (rs : List Row). length rs) same) ∙ length-map sorted row in
     let ascend : HeadsAscend (length sorted) (map row sorted) = subst (λ (rs : List Row). HeadsAscend (length sorted) rs) (sym same) (subst (λ (n : ℕ). HeadsAscend n rows) many heads) in
+    let at : sorted ≡ places = sym (places_of_rows front texts sorted) ∙ ap (map place_in) same ∙ sym are in
+    let shares = All-permutation (λ place. take front (text_at texts place) ≡ take front first) all sorted places_moved (shared_at front first texts (All-map (λ (units : List ℕ). take front units ≡ take front first) units_of refs shared)) in
     record {
-      sorted = sorted;
-      moved = keys_moved;
-      ascend = ascend_by_heads front first sorted (All-permutation (λ key. take front (units_at key) ≡ take front first) keys sorted keys_moved shared) ascend;
-      placed = places_of_rows front sorted ∙ ap (map place_in) same ∙ sym are;
+      moved = subst (λ (ps : List ℕ). IsPermutation all ps) at places_moved;
+      ascend = subst (λ (ps : List ℕ). TextsAscend texts ps) at (ascend_by_heads front first texts sorted shares ascend);
     }
+
+-- a row more, of the next text
+pub row_more : (front i : ℕ) (texts : List TextRef) (text : TextRef) (head place : ℕ) (rows : List Row) → i < length texts → text ≡ get_or texts i text → head ≡ head_of 8 (drop front (units_of text)) → place ≡ i → rows ≡ map (row_of front (map units_of texts)) (range_with_len 0 i) → rows ++ (record { head = head; run = 0; place = place }) ∷ [] ≡ map (row_of front (map units_of texts)) (range_with_len 0 (i + 1))
+row_more front i texts text head place rows within is head_is place_is before =
+    let row = row_of front (map units_of texts) in
+    let units : text_at (map units_of texts) i ≡ units_of text = get_or-map units_of texts i text [] within ∙ ap units_of (sym is) in
+    let all : head ≡ head_of 8 (drop front (text_at (map units_of texts) i)) = head_is ∙ ap (λ (us : List ℕ). head_of 8 (drop front us)) (sym units) in
+    let next : record { head = head; run = 0; place = place } ≡ row i = ap (λ (n : ℕ). record { head = n; run = 0; place = place }) all ∙ ap (λ (p : ℕ). record { head = head_of 8 (drop front (text_at (map units_of texts) i)); run = 0; place = p }) place_is in
+    ap (λ (rs : List Row). rs ++ (record { head = head; run = 0; place = place }) ∷ []) before
+    ∙ ap (λ (r : Row). map row (range_with_len 0 i) ++ r ∷ []) next
+    ∙ sym (map-range_with_len_more row 0 i i (omega arith))
 
 -- one row more has a higher head than that before it
 pub heads_more : (i : ℕ) (rows : List Row) (d e : Row) → 1 ≤ i → i < length rows → (get_or rows (i - 1) d).head < (get_or rows i e).head → HeadsAscend i rows → HeadsAscend (i + 1) rows

@@ -1,18 +1,17 @@
--- Rows that keep their places, and rows in the order of the texts of their keys.
-use Rattle.std.proofs.Common.{◌≡◌, ℕ, zero, suc, ◌<◌, List, [], ◌∷◌, ◌++◌, length, get_or, set, map, take, drop, refl, sym, ap, ◌∙◌, subst, arith}
-use Rattle.std.specs.Prelude.{All}
+-- Rows that keep their places, and rows in the order of their texts.
+use Rattle.std.proofs.Common.{◌≡◌, ℕ, zero, suc, ◌<◌, List, [], ◌∷◌, ◌++◌, length, get_or, set, map, take, drop, sym, ap, ◌∙◌, subst, arith, refl}
 use Rattle.std.specs.declared.cmp.Ordering.TheVariants.{Less}
 use Rattle.std.specs.Ordering.{nat_cmp}
 use Rattle.std.specs.Cmp.Lexicographic.{slice_cmp}
 use Rattle.std.specs.List.Sorted.{IsPermutation, IsStrictlySortedBy}
-use Rattle.std.proofs.lemmas.List.{get_or-map, take-append-drop}
-use Rattle.std.proofs.lemmas.List.Sorted.{All-permutation, IsPermutation-append_left, IsPermutation-append_right, IsPermutation-map, IsPermutation-trans}
+use Rattle.std.proofs.lemmas.List.{get_or-map, length-map, take-append-drop}
+use Rattle.std.proofs.lemmas.List.Sorted.{IsPermutation-append_left, IsPermutation-append_right, IsPermutation-map, IsPermutation-trans}
+use Rattle.plist_value.specs.Texts.{units_of}
+use Rattle.plist_value.specs.declared.text_ref.TextRef.{TextRef}
 use Rattle.plist_binary.specs.declared.row_order.Row.{Row}
-use Rattle.plist_binary.specs.declared.tables.Key.{Key}
-use Rattle.plist_binary.specs.Keys.{units_at, place_of, AreInPlace}
-use Rattle.plist_binary.specs.RowOrder.{row_of, place_in, text_at, AreOrdered, TextsAscend}
+use Rattle.plist_binary.specs.RowOrder.{row_of, place_in, text_at, all_places, AreOrdered, TextsAscend}
+use Rattle.plist_binary.proofs.Ascents.{AscendTo, sorted_from_ascent}
 use Rattle.plist_binary.proofs.RowSteps.{places_of_rows}
-use Rattle.plist_binary.proofs.Rows.{pull}
 use Rattle.plist_binary.proofs.Sorting.{seen_sorted}
 
 -- a row is changed, and keeps its place
@@ -23,10 +22,10 @@ same_places (first ∷ rows) zero row d within same =
 same_places (first ∷ rows) (suc i) row d within same =
     ap (λ (ps : List ℕ). place_in first ∷ ps) (same_places rows i row d (omega arith) same)
 
--- the rows of keys, in another order
-pub moved_places : (front : ℕ) (keys : List Key) (rows : List Row) → IsPermutation (map (row_of front) keys) rows → IsPermutation (map place_of keys) (map place_in rows)
-moved_places front keys rows moved =
-    subst (λ (ps : List ℕ). IsPermutation ps (map place_in rows)) (sym (places_of_rows front keys)) (IsPermutation-map place_in (map (row_of front) keys) rows moved)
+-- the rows of texts, in another order
+pub moved_places : (front : ℕ) (texts : List (List ℕ)) (rows : List Row) → IsPermutation (map (row_of front texts) (all_places texts)) rows → IsPermutation (all_places texts) (map place_in rows)
+moved_places front texts rows moved =
+    subst (λ (ps : List ℕ). IsPermutation ps (map place_in rows)) (places_of_rows front texts (all_places texts)) (IsPermutation-map place_in (map (row_of front texts) (all_places texts)) rows moved)
 
 -- rows of which a part is sorted
 pub part_moved : (start n : ℕ) (rows part : List Row) → IsPermutation (take n (drop start rows)) part → IsPermutation rows (take start rows ++ (part ++ drop n (drop start rows)))
@@ -45,48 +44,32 @@ sorted_again n places rows marked read written sorted seen moved same again long
     IsPermutation-trans places (map place_in read) (map place_in seen) before (IsPermutation-map place_in read seen after)
 
 -- the text that is read at a row's place
-read_text : (keys : List Key) (row : Row) (key : Key) → row.place < length keys → key ≡ get_or keys row.place key → text_at keys row ≡ units_at key
-read_text keys row key within is =
-    get_or-map units_at keys row.place key [] within ∙ ap units_at (sym is)
+read_text : (texts : List TextRef) (row : Row) (text : TextRef) → row.place < length texts → text ≡ get_or texts row.place text → text_at (map units_of texts) row.place ≡ units_of text
+read_text texts row text within is =
+    get_or-map units_of texts row.place text [] within ∙ ap units_of (sym is)
 
 -- the texts that are read at the places of two rows
-pub texts_below : (keys : List Key) (row next : Row) (key above : Key) → row.place < length keys → key ≡ get_or keys row.place key → next.place < length keys → above ≡ get_or keys next.place above → slice_cmp nat_cmp (units_at key) (units_at above) ≡ Less → slice_cmp nat_cmp (text_at keys row) (text_at keys next) ≡ Less
-texts_below keys row next key above within is within_next is_next less =
-    ap (λ (us : List ℕ). slice_cmp nat_cmp us (text_at keys next)) (read_text keys row key within is)
-    ∙ ap (λ (us : List ℕ). slice_cmp nat_cmp (units_at key) us) (read_text keys next above within_next is_next)
+pub texts_below : (texts : List TextRef) (row next : Row) (text above : TextRef) → row.place < length texts → text ≡ get_or texts row.place text → next.place < length texts → above ≡ get_or texts next.place above → slice_cmp nat_cmp (units_of text) (units_of above) ≡ Less → slice_cmp nat_cmp (text_at (map units_of texts) row.place) (text_at (map units_of texts) next.place) ≡ Less
+texts_below texts row next text above within is within_next is_next less =
+    ap (λ (us : List ℕ). slice_cmp nat_cmp us (text_at (map units_of texts) next.place)) (read_text texts row text within is)
+    ∙ ap (λ (us : List ℕ). slice_cmp nat_cmp (units_of text) us) (read_text texts next above within_next is_next)
     ∙ less
 
--- the text of the key stands at its place among the keys
-abbrev IsAmong : List Key → Key → Type 0
-IsAmong keys key = get_or (map units_at keys) key.place [] ≡ units_at key
+-- the texts at the places of rows
+texts_of_rows : (texts : List (List ℕ)) (rows : List Row) → map (λ row. text_at texts (place_in row)) rows ≡ map (text_at texts) (map place_in rows)
+texts_of_rows texts [] = refl
+texts_of_rows texts (row ∷ rows) =
+    ap (λ (us : List (List ℕ)). text_at texts (place_in row) ∷ us) (texts_of_rows texts rows)
 
-all_among : (keys : List Key) → AreInPlace keys → All (IsAmong keys) keys
-all_among keys placed k d within =
-    ap (λ (p : ℕ). get_or (map units_at keys) p []) (placed k d within) ∙ get_or-map units_at keys k d [] within
+-- rows of which the text of each is below that of the next
+pub rows_ascend : (texts : List (List ℕ)) (rows : List Row) → AscendTo (length rows) (map (λ row. text_at texts (place_in row)) rows) → TextsAscend texts (map place_in rows)
+rows_ascend texts rows ascend =
+    let us = map (λ row. text_at texts (place_in row)) rows in
+    subst (λ (us : List (List ℕ)). IsStrictlySortedBy (slice_cmp nat_cmp) us) (texts_of_rows texts rows) (sorted_from_ascent us (λ k h. ascend k (omega (arith, length-map rows (λ row. text_at texts (place_in row))))))
 
-texts_of_rows : (keys sorted : List Key) (rows : List Row) → All (IsAmong keys) sorted → map place_of sorted ≡ map place_in rows → map (text_at keys) rows ≡ map units_at sorted
-texts_of_rows keys [] [] among same = refl
-texts_of_rows keys [] (row ∷ rows) among same =
-    absurd (let none : [] ≡ place_in row ∷ map place_in rows = same in cc)
-texts_of_rows keys (key ∷ sorted) [] among same =
-    absurd (let none : place_of key ∷ map place_of sorted ≡ [] = same in cc)
-texts_of_rows keys (key ∷ sorted) (row ∷ rows) among same =
-    let all : place_of key ∷ map place_of sorted ≡ place_in row ∷ map place_in rows = same in
-    let first : place_of key ≡ place_in row = cc in
-    let rest : map place_of sorted ≡ map place_in rows = cc in
-    let text : text_at keys row ≡ units_at key = ap (λ (p : ℕ). get_or (map units_at keys) p []) (sym first) ∙ among zero key (omega arith) in
-    ap (λ (us : List ℕ). us ∷ map (text_at keys) rows) text
-    ∙ ap (λ (texts : List (List ℕ)). units_at key ∷ texts) (texts_of_rows keys sorted rows (λ k d h. among (suc k) d (omega arith)) rest)
-
--- the places of rows of which the key of each is below that of the next
-pub ordered_by_texts : (keys : List Key) (rows : List Row) (places : List ℕ) → AreInPlace keys → IsPermutation (map place_of keys) (map place_in rows) → TextsAscend keys rows → places ≡ map place_in rows → AreOrdered keys places
-ordered_by_texts keys rows places placed moved texts are =
-    let pulled = pull place_of keys (map place_in rows) moved in
-    let sorted = pulled.moved_list in
-    let among = All-permutation (IsAmong keys) keys sorted pulled.moved (all_among keys placed) in
-    record {
-      sorted = sorted;
-      moved = pulled.moved;
-      ascend = subst (λ (us : List (List ℕ)). IsStrictlySortedBy (slice_cmp nat_cmp) us) (texts_of_rows keys sorted rows among pulled.maps) texts;
-      placed = pulled.maps ∙ sym are;
-    }
+-- the places of rows whose texts ascend
+pub ordered_by_texts : (texts : List (List ℕ)) (rows : List Row) (places : List ℕ) → IsPermutation (all_places texts) (map place_in rows) → TextsAscend texts (map place_in rows) → places ≡ map place_in rows → AreOrdered texts places
+ordered_by_texts texts rows places moved ascend are = record {
+  moved = subst (λ (ps : List ℕ). IsPermutation (all_places texts) ps) (sym are) moved;
+  ascend = subst (λ (ps : List ℕ). TextsAscend texts ps) (sym are) ascend;
+}

@@ -1,12 +1,15 @@
 -- The places of keys that were read and sorted.
 use Rattle.std.proofs.Common.{◌≡◌, ℕ, zero, suc, ◌+◌, ◌<◌, List, [], ◌∷◌, ◌++◌, Ok, length, get_or, map, take, drop, slice_index, refl, sym, ap, subst, ◌∙◌, arith}
+use Rattle.std.specs.Prelude.{All}
 use Rattle.std.specs.Ordering.{nat_cmp}
 use Rattle.std.specs.Cmp.Lexicographic.{slice_cmp}
-use Rattle.std.specs.List.{AllByRecursion, zip}
+use Rattle.std.specs.List.{AllByRecursion, range_with_len, zip}
 use Rattle.std.specs.List.Sorted.{IsPermutation, IsStrictlySortedBy}
-use Rattle.std.proofs.lemmas.List.{length-map, take_at}
+use Rattle.std.proofs.lemmas.List.{length-map, map-id, take_at}
+use Rattle.std.proofs.lemmas.List.FromFn.{fill_by_all, get_or-range_with_len, length-range_with_len}
 use Rattle.std.proofs.lemmas.List.Elements.{All-from_recursion}
 use Rattle.std.proofs.lemmas.List.Sorted.{IsPermutation-map, All-permutation, length_permutation}
+use Rattle.std.proofs.lemmas.Slice.Zip.{get_or-zip, length-zip}
 use Rattle.plist_value.specs.Plist.{text}
 use Rattle.plist_object.specs.Objects.{holds_scalar}
 use Rattle.plist_object.specs.Places.{what_holds}
@@ -17,7 +20,8 @@ use Rattle.plist_binary.specs.declared.tables.Key.{Key}
 use Rattle.plist_binary.specs.Keys.{units_at, place_of, AreInPlace}
 use Rattle.plist_binary.specs.Readings.{texts}
 use Rattle.plist_binary.proofs.Placed.{places_within_moved}
-use Rattle.plist_binary.proofs.TableSteps.{length-texts}
+use Rattle.plist_binary.specs.RowOrder.{text_at, all_places, AreOrdered}
+use Rattle.plist_binary.proofs.TableSteps.{key_held, length-texts}
 
 -- each key stands at its place, counted from n
 abbrev StandFrom : ℕ → List Key → Type 0
@@ -71,6 +75,39 @@ IsOrder-read f refs keys sorted spell placed moved ascend =
     let whole : (xs : List ℕ) → IsBehind 0 xs xs = λ xs k. let at : 0 + k ≡ k = omega arith in ap (λ p. get_or xs p 0) at in
     let held = All-from_recursion (HoldsKey f refs) keys (held_from 0 keys f refs refs spell stand (whole refs)) in
     IsOrder-rows place_of units_at f refs sorted (places_within_moved keys sorted (length refs) as_many placed moved) (λ values equal. let pairs = IsPermutation-map (λ key. pair_of refs values (place_of key)) keys sorted moved in subst (λ (ps : List (ℕ × ℕ)). IsPermutation ps (map (λ key. pair_of refs values (place_of key)) sorted)) (sym (zip_from 0 keys refs values refs values as_many equal stand (whole refs) (whole values))) pairs) (All-permutation (HoldsKey f refs) keys sorted moved held) ascend
+
+-- each text stands at its place
+texts_at_places : (us : List (List ℕ)) → us ≡ map (text_at us) (all_places us)
+texts_at_places us = fill_by_all (text_at us) us (length us) [] refl (λ k h. refl)
+
+pairs_at_places : (refs values : List ℕ) → length refs ≡ length values → zip refs values ≡ map (pair_of refs values) (range_with_len 0 (length refs))
+pairs_at_places refs values long =
+    fill_by_all (pair_of refs values) (zip refs values) (length refs) (0, 0) (omega (arith, length-zip refs values)) (λ k h. get_or-zip refs values k (0, 0) h (omega arith))
+
+-- what holds at each place holds at places in another order
+at_places : (P : ℕ → Type 0) (us : List (List ℕ)) (places : List ℕ) → ((k : ℕ) → k < length us → P k) → IsPermutation (all_places us) places → All P places
+at_places P us places each moved =
+    All-permutation P (all_places us) places moved (λ k d h.
+    let inside : k < length us = omega (arith, h, length-range_with_len 0 (length us)) in
+    let at : get_or (all_places us) k d ≡ 0 + k = get_or-range_with_len 0 (length us) k d inside in
+    let same : k ≡ get_or (all_places us) k d = omega arith in
+    subst P same (each k inside))
+
+-- the texts in their order
+pub texts_moved : (us : List (List ℕ)) (places : List ℕ) → AreOrdered us places → IsPermutation us (map (text_at us) places)
+texts_moved us places are =
+    subst (λ (ts : List (List ℕ)). IsPermutation ts (map (text_at us) places)) (sym (texts_at_places us)) (IsPermutation-map (text_at us) (all_places us) places are.moved)
+
+-- the places of texts once they ascend
+pub IsOrder-ordered : (f refs : List ℕ) (us : List (List ℕ)) (places : List ℕ) → SpellItems f refs (texts us) → AreOrdered us places → IsOrder f refs places
+IsOrder-ordered f refs us places spell are =
+    let long : length refs ≡ length us = length-texts f refs us spell in
+    let within = at_places (λ p. p < length refs) us places (λ k h. omega arith) are.moved in
+    let held = at_places (λ p. what_holds f (slice_index refs p) ≡ Ok (holds_scalar (text (text_at us p)))) us places (λ k h. let holds = key_held f refs us k h spell in holds.reads) are.moved in
+    let pairs : (values : List ℕ) → length refs ≡ length values → IsPermutation (zip refs values) (map (pair_of refs values) places) = λ values equal.
+    let all : zip refs values ≡ map (pair_of refs values) (all_places us) = pairs_at_places refs values equal ∙ ap (λ (n : ℕ). map (pair_of refs values) (range_with_len 0 n)) long in
+    subst (λ (ps : List (ℕ × ℕ)). IsPermutation ps (map (pair_of refs values) places)) (sym all) (IsPermutation-map (pair_of refs values) (all_places us) places are.moved) in
+    subst (IsOrder f refs) (map-id places) (IsOrder-rows (λ p. p) (text_at us) f refs places within pairs held are.ascend)
 
 -- a list that was sorted in place
 pub seen_sorted : {A : Type 0} (n : ℕ) (keys written sorted seen : List A) → n ≡ length keys → written ≡ keys → IsPermutation written sorted → seen ≡ take n (sorted ++ drop (length sorted) keys) → seen ≡ sorted

@@ -167,7 +167,7 @@ length-items f (k ∷ refs) [] spell = absurd (let none : k ∷ refs ≡ [] = sp
 length-items f [] (v ∷ vs) spell = absurd spell
 length-items f (k ∷ refs) (v ∷ vs) spell = omega (arith, length-items f refs vs spell.1)
 
-key_held : (f keys : List ℕ) (us : List (List ℕ)) (k : ℕ) → k < length us → SpellItems f keys (texts us) → Holds f (slice_index keys k) (holds_scalar (text (get_or us k [])))
+pub key_held : (f keys : List ℕ) (us : List (List ℕ)) (k : ℕ) → k < length us → SpellItems f keys (texts us) → Holds f (slice_index keys k) (holds_scalar (text (get_or us k [])))
 key_held f keys [] k within spell = absurd (omega arith)
 key_held f [] (u ∷ us) k within spell = absurd spell
 key_held f (i ∷ keys) (u ∷ us) zero within spell = spell.0

@@ -25,7 +25,20 @@ pub(crate) fn shared(keys: &[Key], first: &TextRef) -> usize
     count
 }
 
+// How many units at the front all texts share with the first.
+pub(crate) fn shared_by_texts(texts: &[TextRef], first: &TextRef) -> usize
+    ensures { All (λ text. take result (units_of text) ≡ take result (units_of first.now))
+        texts.now }
+{
+    let mut count = first.len();
+    for text in texts {
+        count = alike(first, text, count);
+    }
+    count
+}
+
 // How many units at the front the two texts share, of so many at most.
+#[inline(always)]
 fn alike(first: &TextRef, text: &TextRef, most: usize) -> usize
     ensures within { result ≤ most }
     ensures same { take result (units_of text.now) ≡ take result (units_of first.now) }

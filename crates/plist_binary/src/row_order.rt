@@ -1,20 +1,18 @@
-//! The places of the keys of a long table in the order of their texts, where the heads of the texts
-//! tell it.
+//! The places of the texts of a long table in the order of the texts, where their heads tell it.
 ghost use Rattle.std.specs.Prelude.{◌≡◌, ◌<◌, ◌≤◌, ◌^◌, IsTrue, IfOk, IfSome, OnOk, length, map};
 ghost use Rattle.std.specs.Ordering.{nat_cmp};
 ghost use Rattle.std.specs.Cmp.Lexicographic.{slice_cmp};
 ghost use Rattle.std.specs.List.Sorted.{IsPermutation};
-ghost use Rattle.plist_binary.specs.Keys.{place_of, AreInPlace};
-ghost use Rattle.plist_binary.specs.RowOrder.{row_of, place_in, text_at};
+ghost use Rattle.plist_value.specs.Texts.{units_of};
+ghost use Rattle.plist_binary.specs.RowOrder.{row_of, place_in, text_at, all_places};
 ghost use Rattle.plist_binary.specs.RowOrder.{AreOrdered, HeadsAscend, TextsAscend};
 
 use crate::heads;
-use crate::tables::{Key, have_ranks};
 use plist_value::TextRef;
 use std::alloc::{AllocError, Global};
 use std::cmp::Ordering;
 
-// A head of a key's text, and the place of the key. Rows whose heads were equal so far stand in a
+// A head of a text, and the place of the text. Rows whose heads were equal so far stand in a
 // run, and have its number.
 #[derive(Clone, Copy)]
 pub(crate) struct Row {
@@ -23,10 +21,7 @@ pub(crate) struct Row {
     place: u32,
 }
 
-// The keys of a table of up to so many are sorted themselves.
-const FEW: usize = 64;
-
-// The places of more keys do not fit a row.
+// The places of more texts do not fit a row.
 const MANY: usize = 4_294_967_295;
 
 // A head is of so many octets, one for each unit.
@@ -35,66 +30,69 @@ const HEAD_UNITS: usize = 8;
 // A wide head is of so many units, none of which is cut off.
 const WIDE_UNITS: usize = 4;
 
-// So many heads of a key are read: the first behind what all keys share.
+// So many heads of a text are read: the first behind what all texts share.
 const MOST_HEADS: usize = 8;
 
-// Where more than one of so many rows is tied, the heads of all keys are read.
+// Where more than one of so many rows is tied, the heads of all texts are read.
 const FEW_TIED: usize = 8;
 
-// So many keys are touched at once before they are compared.
+// So many texts are touched at once before they are compared.
 const AHEAD: usize = 16;
 
-// The places of the keys in the order of their texts, if the keys are many and their heads tell
-// that order. Rows are sorted in place of keys, which take more than three times the room.
-pub(crate) fn places_by_heads(alloc: Global, keys: &[Key]) -> Result<Option<Vec<u64>>, AllocError>
-    requires { AreInPlace keys.now }
-    ensures { IfOk result (λ told. IfSome told (λ places. AreOrdered keys.now places.items)) }
+// The places of the texts in their order, if there is any text, and their heads tell that order.
+// Rows are sorted in place of texts, which take half as much room again.
+pub(crate) fn places_by_heads(
+    alloc: Global,
+    texts: &[TextRef],
+) -> Result<Option<Vec<u64>>, AllocError>
+    ensures { IfOk result (λ told. IfSome told (λ places. AreOrdered (map units_of texts.now)
+        places.items)) }
 {
-    if keys.len() <= FEW || keys.len() > MANY || have_ranks(keys) {
+    if texts.is_empty() || texts.len() > MANY {
         return Ok(None);
     }
-    let first = keys[0].text;
-    let front = heads::shared(keys, &first);
-    let mut rows = rows_of(alloc, keys, front)?;
+    let first = texts[0];
+    let front = heads::shared_by_texts(texts, &first);
+    let mut rows = rows_of(alloc, texts, front)?;
     rows.sort_unstable_by_key(|row| row.head);
     let sorted = rows.as_slice();
     if ascend(sorted) {
         return Ok(Some(places_of(alloc, sorted)?));
     }
-    places_by_more_heads(alloc, keys, rows, front)
+    places_by_more_heads(alloc, texts, rows, front)
 }
 
 // The same for rows in the order of their first heads, of which some are equal.
 fn places_by_more_heads(
     alloc: Global,
-    keys: &[Key],
+    texts: &[TextRef],
     rows: Vec<Row>,
     front: usize,
 ) -> Result<Option<Vec<u64>>, AllocError>
-    requires placed { AreInPlace keys.now }
-    requires moved { IsPermutation (map place_of keys.now) (map place_in rows.items) }
-    ensures { IfOk result (λ told. IfSome told (λ places. AreOrdered keys.now places.items)) }
+    requires { IsPermutation (all_places (map units_of texts.now)) (map place_in rows.items) }
+    ensures { IfOk result (λ told. IfSome told (λ places. AreOrdered (map units_of texts.now)
+        places.items)) }
 {
     let mut rows = rows;
-    order_runs(alloc, keys, &mut rows, front)?;
+    order_runs(alloc, texts, &mut rows, front)?;
     let sorted = rows.as_slice();
-    if !texts_ascend(keys, sorted) {
+    if !texts_ascend(texts, sorted) {
         return Ok(None);
     }
     Ok(Some(places_of(alloc, sorted)?))
 }
 
-// The rows of the keys as they stand, with heads behind so many units, in one run.
-fn rows_of(alloc: Global, keys: &[Key], front: usize) -> Result<Vec<Row>, AllocError>
-    requires placed { AreInPlace keys.now }
-    requires within { length keys.now < 2 ^ 32 }
-    ensures { IfOk result (λ rows. rows.items ≡ map (row_of front) keys.now) }
+// The rows of the texts as they stand, with heads behind so many units, in one run.
+fn rows_of(alloc: Global, texts: &[TextRef], front: usize) -> Result<Vec<Row>, AllocError>
+    requires { length texts.now < 2 ^ 32 }
+    ensures { let units = map units_of texts.now in IfOk result (λ rows. rows.items ≡
+        map (row_of front units) (all_places units)) }
 {
-    let mut rows = Vec::with_capacity(alloc, keys.len())?;
-    for key in keys {
-        let head = heads::head(&key.text, front);
+    let mut rows = Vec::with_capacity(alloc, texts.len())?;
+    for text in texts {
+        let head = heads::head(text, front);
         let run = 0;
-        let place = key.place as u32;
+        let place = rows.len() as u32;
         rows.push(Row { head, run, place })?;
     }
     Ok(rows)
@@ -115,7 +113,7 @@ fn ascend(rows: &[Row]) -> bool
 // Puts the rows of equal heads, which stand together, in the order of the heads that follow.
 fn order_runs(
     alloc: Global,
-    keys: &[Key],
+    texts: &[TextRef],
     rows: &mut Vec<Row>,
     front: usize,
 ) -> Result<(), AllocError>
@@ -134,30 +132,30 @@ fn order_runs(
         if tied == 0 {
             return Ok(());
         }
-        let heads = heads_if_many(alloc, keys, tied, front, wide)?;
-        read_heads(keys, heads.as_slice(), &mut *rows, front, wide);
+        let heads = heads_if_many(alloc, texts, tied, front, wide)?;
+        read_heads(texts, heads.as_slice(), &mut *rows, front, wide);
         sort_runs(rows.as_mut_slice());
         front = front.saturating_add(step);
     }
     Ok(())
 }
 
-// The heads of all keys behind so many units, if many rows are tied: keys are read faster in the
+// The heads of all texts behind so many units, if many rows are tied: texts are read faster in the
 // order of the file than in that of the rows. Else none.
 fn heads_if_many(
     alloc: Global,
-    keys: &[Key],
+    texts: &[TextRef],
     tied: usize,
     front: usize,
     wide: bool,
 ) -> Result<Vec<u64>, AllocError> {
     let mut heads = Vec::new(alloc);
-    if tied < keys.len() / FEW_TIED {
+    if tied < texts.len() / FEW_TIED {
         return Ok(heads);
     }
-    heads.reserve(keys.len())?;
-    for key in keys {
-        heads.push(head_behind(&key.text, front, wide))?;
+    heads.reserve(texts.len())?;
+    for text in texts {
+        heads.push(head_behind(text, front, wide))?;
     }
     Ok(heads)
 }
@@ -213,20 +211,20 @@ fn mark_runs(rows: &mut Vec<Row>) -> usize
     tied
 }
 
-// Gives the rows the heads of their keys behind so many units, wide ones or others. They are these,
-// if there are any.
-fn read_heads(keys: &[Key], heads: &[u64], rows: &mut Vec<Row>, front: usize, wide: bool)
+// Gives the rows the heads of their texts behind so many units, wide ones or others. They are
+// these, if there are any.
+fn read_heads(texts: &[TextRef], heads: &[u64], rows: &mut Vec<Row>, front: usize, wide: bool)
     ensures { map place_in rows.new.items ≡ map place_in rows.old.items }
 {
     for i in 0..rows.len() {
-        let head = next_head(keys, heads, &*rows, i, front, wide);
+        let head = next_head(texts, heads, &*rows, i, front, wide);
         rows[i].head = head;
     }
 }
 
-// The head of a row's key behind so many units, or 0 where the row is alone in its run.
+// The head of a row's text behind so many units, or 0 where the row is alone in its run.
 fn next_head(
-    keys: &[Key],
+    texts: &[TextRef],
     heads: &[u64],
     rows: &Vec<Row>,
     i: usize,
@@ -245,8 +243,8 @@ fn next_head(
     if let Some(head) = heads.get(place) {
         return *head;
     }
-    match keys.get(place) {
-        Some(key) => head_behind(&key.text, front, wide),
+    match texts.get(place) {
+        Some(text) => head_behind(text, front, wide),
         None => 0,
     }
 }
@@ -275,41 +273,44 @@ fn wide_head(text: &TextRef, front: usize) -> u64 {
     head
 }
 
-// Whether the key of each row is below that of the next.
-fn texts_ascend(keys: &[Key], rows: &[Row]) -> bool
-    ensures { IsTrue result → TextsAscend keys.now rows.now }
+// Whether the text of each row is below that of the next.
+fn texts_ascend(texts: &[TextRef], rows: &[Row]) -> bool
+    ensures { IsTrue result → TextsAscend (map units_of texts.now) (map place_in rows.now) }
 {
     let mut touched = 0;
     for i in 1..rows.len() {
         if i % AHEAD == 1 {
-            touch(keys, &rows[i..], &mut touched);
+            touch(texts, &rows[i..], &mut touched);
         }
-        if !is_below(keys, &rows[i - 1], &rows[i]) {
+        if !is_below(texts, &rows[i - 1], &rows[i]) {
             return false;
         }
     }
     true
 }
 
-// Reads a unit of each of the next keys, which are scattered over the file, so that the processor
+// Reads a unit of each of the next texts, which are scattered over the file, so that the processor
 // waits for all of them together. The sum keeps the compiler from dropping the loads.
 #[inline(never)]
-fn touch(keys: &[Key], rows: &[Row], touched: &mut u64) {
+fn touch(texts: &[TextRef], rows: &[Row], touched: &mut u64) {
     for row in rows.iter().take(AHEAD) {
-        if let Some(key) = keys.get(row.place as usize)
-            && !key.text.is_empty()
+        if let Some(text) = texts.get(row.place as usize)
+            && !text.is_empty()
         {
-            *touched = touched.wrapping_add(u64::from(key.text.unit(0)));
+            *touched = touched.wrapping_add(u64::from(text.unit(0)));
         }
     }
 }
 
-fn is_below(keys: &[Key], row: &Row, next: &Row) -> bool
-    ensures { IsTrue result → slice_cmp nat_cmp (text_at keys.now row.now)
-        (text_at keys.now next.now) ≡ Ordering.Less }
+fn is_below(texts: &[TextRef], row: &Row, next: &Row) -> bool
+    ensures { let units = map units_of texts.now in IsTrue result → slice_cmp nat_cmp
+        (text_at units row.now.place) (text_at units next.now.place) ≡ Ordering.Less }
 {
-    match (keys.get(row.place as usize), keys.get(next.place as usize)) {
-        (Some(key), Some(above)) => key.text < above.text,
+    match (
+        texts.get(row.place as usize),
+        texts.get(next.place as usize),
+    ) {
+        (Some(text), Some(above)) => *text < *above,
         _ => false,
     }
 }

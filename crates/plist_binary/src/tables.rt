@@ -5,7 +5,8 @@ ghost use Rattle.std.specs.Cmp.Lexicographic.{slice_cmp};
 ghost use Rattle.std.specs.List.{IsDistinct};
 ghost use Rattle.std.specs.List.Sorted.{IsPermutation, IsSorted, IsStrictlySortedBy};
 ghost use Rattle.std.specs.Map.{keys_of};
-ghost use Rattle.plist_binary.specs.Keys.{units_at, place_of, pair_at};
+ghost use Rattle.plist_value.specs.Texts.{units_of};
+ghost use Rattle.plist_binary.specs.Keys.{units_at, place_of, pair_at, AreInPlace};
 ghost use Rattle.plist_binary.specs.Keys.{AreRanked, AreRankedAlike, HasRank};
 ghost use Rattle.plist_binary.specs.Heads.{AreHeadless};
 
@@ -27,6 +28,29 @@ pub(crate) struct Key<'a> {
     pub(crate) rank: Option<u64>,
     pub(crate) place: usize,
     pub(crate) head: u64,
+}
+
+// The keys of these texts, each at its place, without ranks.
+pub(crate) fn keys_in_place<'a>(
+    alloc: Global,
+    texts: &[TextRef<'a>],
+) -> Result<Vec<Key<'a>>, AllocError>
+    ensures units { IfOk result (λ keys. map units_at keys.items ≡ map units_of texts.now) }
+    ensures placed { IfOk result (λ keys. AreInPlace keys.items) }
+    ensures ranked { IfOk result (λ keys. AreRanked keys.items) }
+    ensures headless { IfOk result (λ keys. AreHeadless keys.items) }
+{
+    let mut keys = Vec::with_capacity(alloc, texts.len())?;
+    for text in texts {
+        let place = keys.len();
+        keys.push(Key {
+            text: *text,
+            rank: None,
+            place,
+            head: 0,
+        })?;
+    }
+    Ok(keys)
 }
 
 // Whether no two of the keys are equal, which then ascend.
@@ -81,7 +105,7 @@ fn order(keys: &mut [Key])
     keys.sort_unstable_by_key(|key| key.text);
 }
 
-pub(crate) fn have_ranks(keys: &[Key]) -> bool
+fn have_ranks(keys: &[Key]) -> bool
     ensures { IsTrue result → All HasRank keys.now }
 {
     keys.iter().all(|key| key.rank.is_some())

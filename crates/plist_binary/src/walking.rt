@@ -1,5 +1,6 @@
 //! The walk through the objects of a file.
 ghost use Rattle.std.specs.Prelude.{◌≡◌, ◌+◌, ◌<◌, ◌∷◌, length, map, max, IfOk, IfErr, OnOk};
+ghost use Rattle.plist_value.specs.Texts.{units_of};
 ghost use Rattle.plist_object.specs.Layout.{trailer_of};
 ghost use Rattle.plist_object.specs.Views.{numbers_of, octets_of};
 ghost use Rattle.plist_object.specs.Order.{AreSortedIfAny};
@@ -21,8 +22,11 @@ use crate::tables::Key;
 use crate::visiting::{Visitor, take_payload};
 use crate::{BinaryFault, row_order, tables};
 use plist_object::{Object, Refs, SortedKeys};
-use plist_value::MAX_DEPTH;
+use plist_value::{MAX_DEPTH, TextRef};
 use std::alloc::Global;
+
+// The keys of a table of up to so many are sorted themselves.
+const FEW: u64 = 64;
 
 // Walks through the objects of a file, each of which the visitor reads.
 #[derive(Clone, Copy)]
@@ -211,14 +215,47 @@ impl<'a, 'r> Walker<'a, 'r> {
             progress.left = rest;
             return Ok(());
         }
-        let payload = progress.left.payload;
-        let mut keys = self.keys(progress, table, before, refs, levels)?;
-        let payload = payload - progress.left.payload;
-        if let Some(places) = row_order::places_by_heads(self.alloc, keys.as_slice())? {
-            progress.known.last = Some(LastKeys { refs, payload });
-            progress.known.keep_places(refs, places);
-            return Ok(());
-        }
+        self.read_apart(progress, table, before, refs, levels)
+    }
+
+    // Reads keys that are not those of the last table. It stands by itself, so that the walk of an
+    // object that has no keys makes no room for them.
+    #[inline(never)]
+    fn read_apart(
+        &self,
+        progress: &mut Progress<'a>,
+        table: u64,
+        before: &Path,
+        refs: Refs<'a>,
+        levels: u64,
+    ) -> Result<(), BinaryFault>
+        requires entered { IsEntered (octets_of self.now.visitor.file) (containers_of before.now)
+            table self.now.visitor.whole progress.old.left }
+        requires keys { HasKeys (octets_of self.now.visitor.file) table (numbers_of refs) }
+        requires depth { length (containers_of before.now) + 1 + levels ≡ MAX_DEPTH }
+        requires progress { IsProgress (octets_of self.now.visitor.file)
+            (table ∷ containers_of before.now) progress.old }
+        ensures read { OnOk result (ReadsApart (octets_of self.now.visitor.file)
+            (numbers_of refs.entry) levels progress.old.left progress.new.left) }
+        ensures refused { IfErr result (RefusesTable (octets_of self.now.visitor.file)
+            self.now.visitor.whole table (numbers_of refs.entry) levels progress.old.left) }
+        ensures progress { OnOk result (IsProgress (octets_of self.now.visitor.file)
+            (table ∷ containers_of before.now) progress.new) }
+    {
+        let whole = progress.left.payload;
+        let mut keys = if self.are_many_unranked(&refs) {
+            let texts = self.key_texts(progress, table, before, refs, levels)?;
+            if let Some(places) = row_order::places_by_heads(self.alloc, texts.as_slice())? {
+                let payload = whole - progress.left.payload;
+                progress.known.last = Some(LastKeys { refs, payload });
+                progress.known.keep_places(refs, places);
+                return Ok(());
+            }
+            tables::keys_in_place(self.alloc, texts.as_slice())?
+        } else {
+            self.keys(progress, table, before, refs, levels)?
+        };
+        let payload = whole - progress.left.payload;
         if !tables::sort(keys.as_mut_slice()) {
             return Err(BinaryFault::DuplicateKey { object: table });
         }
@@ -229,7 +266,47 @@ impl<'a, 'r> Walker<'a, 'r> {
         Ok(())
     }
 
-    // The texts that the references of the table spell, each at its place.
+    // Whether the references are to many keys, which have no ranks: their texts are enough to tell
+    // their order.
+    fn are_many_unranked(&self, refs: &Refs) -> bool {
+        refs.len() > FEW && self.visitor.ranks.get(refs.get(0)).is_none()
+    }
+
+    // The texts that the references of the table spell.
+    fn key_texts(
+        &self,
+        progress: &mut Progress<'a>,
+        table: u64,
+        before: &Path,
+        refs: Refs,
+        levels: u64,
+    ) -> Result<Vec<TextRef<'a>>, BinaryFault>
+        requires entered { IsEntered (octets_of self.now.visitor.file) (containers_of before.now)
+            table self.now.visitor.whole progress.old.left }
+        requires keys { HasKeys (octets_of self.now.visitor.file) table (numbers_of refs) }
+        requires depth { length (containers_of before.now) + 1 + levels ≡ MAX_DEPTH }
+        requires progress { IsProgress (octets_of self.now.visitor.file)
+            (table ∷ containers_of before.now) progress.old }
+        ensures read { IfOk result (λ keys. ReadsItems (octets_of self.now.visitor.file)
+            (numbers_of refs.entry) levels progress.old.left (texts (map units_of keys.items))
+            progress.new.left) }
+        ensures refused { IfErr result (RefusesKeys (octets_of self.now.visitor.file)
+            self.now.visitor.whole (numbers_of refs.entry) levels progress.old.left) }
+        ensures progress { OnOk result (IsProgress (octets_of self.now.visitor.file)
+            (table ∷ containers_of before.now) progress.new) }
+    {
+        let mut keys = Vec::with_capacity(self.alloc, refs.len() as usize)?;
+        for i in 0..refs.len() {
+            let object = self.visitor.referred(table, refs.get(i))?;
+            let text = self
+                .visitor
+                .key(&mut *progress, table, before, object, levels)?;
+            keys.push(text)?;
+        }
+        Ok(keys)
+    }
+
+    // The keys that the references of the table spell, each at its place.
     fn keys(
         &self,
         progress: &mut Progress<'a>,

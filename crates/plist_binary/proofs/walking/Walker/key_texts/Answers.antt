@@ -1,0 +1,44 @@
+use Rattle.std.proofs.Common.{◌≡◌, ◌∷◌, ◌++◌, ◌+◌, [], ℕ, List, map, take, rules, subst, sym, ap, ◌∙◌, arith}
+use Rattle.std.proofs.lemmas.List.{map-append}
+use Rattle.plist_value.specs.Texts.{units_of}
+use Rattle.plist_object.specs.Views.{octets_of, numbers_of}
+use Rattle.plist_binary.specs.declared.fault.BinaryFault.TheVariants.{BadReference}
+use Rattle.plist_binary.specs.Paths.{containers_of}
+use Rattle.plist_binary.specs.Readings.{ReadsItems, texts, RefusesKeys}
+use Rattle.plist_binary.proofs.Beginning.{AreNext-keys, IsBegun-next, IsEntered-leads}
+use Rattle.plist_binary.proofs.LoopSteps.{ReadsKeys-next, RefusesKeys-next, RefusesKeys-none}
+use Rattle.plist_binary.proofs.walking.Walker.key_texts.Goals as goal
+
+pub returns-in_err-object-clause-refused : goal.returns-in_err-object-clause-refused
+returns-in_err-object-clause-refused c =
+    let f = octets_of c.args.self.now.visitor.file in
+    let refs = numbers_of c.args.refs in
+    let refused : RefusesKeys f c.args.self.now.visitor.whole refs c.args.levels c.args.progress.now.left (BadReference c.args.table) = RefusesKeys-none f c.args.self.now.visitor.whole (containers_of c.args.before.now) refs c.args.table c.loop-i.i c.get.result c.args.levels c.args.progress.now.left c.args.self.now.visitor.laid (IsEntered-leads f (containers_of c.args.before.now) c.args.table c.args.self.now.visitor.whole c.args.progress.now.left c.requires.entered) c.requires.keys (omega arith) c.get.ensures c.in_err-object.ensures.above.1 in
+    search rules
+
+pub returns-in_err-text-clause-refused : goal.returns-in_err-text-clause-refused
+returns-in_err-text-clause-refused c =
+    let f = octets_of c.args.self.now.visitor.file in
+    let refs = numbers_of c.args.refs in
+    let refused : RefusesKeys f c.args.self.now.visitor.whole refs c.args.levels c.args.progress.now.left c.in_err-text.field-0.0 = RefusesKeys-next f c.args.self.now.visitor.whole refs c.loop-i.i c.in_ok-object.object c.args.levels c.args.progress.now.left c.loop-i.progress.left (texts (map units_of c.loop-i.keys.items)) c.in_err-text.field-0.0 (omega arith) (c.in_ok-object.ensures.same ∙ c.get.ensures) c.in_ok-object.ensures.below c.loop-i.invariant.read c.in_err-text.ensures.refused in
+    search rules
+
+pub key-requires-clause-begun : goal.key-requires-clause-begun
+key-requires-clause-begun c =
+    let f = octets_of c.args.self.now.visitor.file in
+    let refs = numbers_of c.args.refs in
+    let whole = c.args.self.now.visitor.whole in
+    let before = containers_of c.args.before.now in
+    let next = AreNext-keys f before c.args.table refs whole c.args.progress.now.left c.requires.entered c.requires.keys in
+    IsBegun-next f before c.args.table refs c.loop-i.i c.in_ok-object.object c.args.levels whole c.args.progress.now.left c.loop-i.progress.left (texts (map units_of c.loop-i.keys.items)) next (omega arith) (c.in_ok-object.ensures.same ∙ c.get.ensures) c.loop-i.invariant.read
+
+pub loop-i-preserved : goal.loop-i-preserved
+loop-i-preserved c =
+    let f = octets_of c.args.self.now.visitor.file in
+    let refs = numbers_of c.args.refs in
+    let read = ReadsKeys-next f refs c.loop-i.i c.in_ok-object.object c.args.levels c.args.progress.now.left c.loop-i.progress.left c.key.new.progress.left (map units_of c.loop-i.keys.items) (units_of c.in_ok-text.text) (omega arith) (c.in_ok-object.ensures.same ∙ c.get.ensures) c.in_ok-object.ensures.below c.loop-i.invariant.read c.in_ok-text.ensures.read in
+    let pushed : map units_of c.push.new.self.items ≡ map units_of c.loop-i.keys.items ++ units_of c.in_ok-text.text ∷ [] = ap (map units_of) c.in_ok-push.ensures.items ∙ map-append units_of c.loop-i.keys.items _ in
+    record {
+      read = subst (λ (keys : List (List ℕ)). ReadsItems f (take (c.loop-i.i + 1) refs) c.args.levels c.args.progress.now.left (texts keys) c.key.new.progress.left) (sym pushed) read;
+      progress = c.in_ok-text.ensures.progress;
+    }

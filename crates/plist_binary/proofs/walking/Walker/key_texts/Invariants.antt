@@ -1,0 +1,14 @@
+use Rattle.std.proofs.Common.{◌∷◌, take, map}
+use Rattle.plist_value.specs.Texts.{units_of}
+use Rattle.plist_object.specs.Views.{octets_of, numbers_of}
+use Rattle.plist_binary.specs.Paths.{containers_of}
+use Rattle.plist_binary.specs.Progress.{IsProgress}
+use Rattle.plist_binary.specs.Readings.{ReadsItems, texts}
+use Rattle.plist_binary.proofs.walking.Walker.key_texts.Given as goal
+
+abbrev pub invariant-loop-i : goal.invariant-loop-i
+invariant-loop-i l =
+    record {
+      read : ReadsItems (octets_of l.self.visitor.file) (take l.i (numbers_of l.refs)) l.levels l.initial.progress.left (texts (map units_of l.keys.items)) l.progress.left;
+      progress : IsProgress (octets_of l.self.visitor.file) (l.table ∷ containers_of l.before) l.progress;
+    }
