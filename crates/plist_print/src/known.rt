@@ -56,7 +56,7 @@ impl<'a> KnownKeys<'a> {
     }
 }
 
-/// The order of the last table's keys, and keys that were read.
+/// The orders of the keys of tables that came before, and keys that were read.
 #[derive(Drop)]
 pub(crate) struct Seen<'a> {
     pub(crate) order: KeyOrder<'a>,
