@@ -104,13 +104,13 @@ ordered_by_heads front first refs rows places shared moved heads are =
 -- a row more, of the next text
 pub row_more : (front i : ℕ) (texts : List TextRef) (text : TextRef) (head place : ℕ) (rows : List Row) → i < length texts → text ≡ get_or texts i text → head ≡ head_of 8 (drop front (units_of text)) → place ≡ i → rows ≡ map (row_of front (map units_of texts)) (range_with_len 0 i) → rows ++ (record { head = head; run = 0; place = place }) ∷ [] ≡ map (row_of front (map units_of texts)) (range_with_len 0 (i + 1))
 row_more front i texts text head place rows within is head_is place_is before =
-    let row = row_of front (map units_of texts) in
+    let made = row_of front (map units_of texts) in
     let units : text_at (map units_of texts) i ≡ units_of text = get_or-map units_of texts i text [] within ∙ ap units_of (sym is) in
     let all : head ≡ head_of 8 (drop front (text_at (map units_of texts) i)) = head_is ∙ ap (λ (us : List ℕ). head_of 8 (drop front us)) (sym units) in
-    let next : record { head = head; run = 0; place = place } ≡ row i = ap (λ (n : ℕ). record { head = n; run = 0; place = place }) all ∙ ap (λ (p : ℕ). record { head = head_of 8 (drop front (text_at (map units_of texts) i)); run = 0; place = p }) place_is in
+    let next : record { head = head; run = 0; place = place } ≡ made i = ap (λ (n : ℕ). record { head = n; run = 0; place = place }) all ∙ ap (λ (p : ℕ). record { head = head_of 8 (drop front (text_at (map units_of texts) i)); run = 0; place = p }) place_is in
     ap (λ (rs : List Row). rs ++ (record { head = head; run = 0; place = place }) ∷ []) before
-    ∙ ap (λ (r : Row). map row (range_with_len 0 i) ++ r ∷ []) next
-    ∙ sym (map-range_with_len_more row 0 i i (omega arith))
+    ∙ ap (λ (r : Row). map made (range_with_len 0 i) ++ r ∷ []) next
+    ∙ sym (map-range_with_len_more made 0 i i (omega arith))
 
 -- one row more has a higher head than that before it
 pub heads_more : (i : ℕ) (rows : List Row) (d e : Row) → 1 ≤ i → i < length rows → (get_or rows (i - 1) d).head < (get_or rows i e).head → HeadsAscend i rows → HeadsAscend (i + 1) rows

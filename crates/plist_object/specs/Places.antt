@@ -10,13 +10,16 @@ use Rattle.plist_object.specs.declared.object.ObjectFault.TheVariants.{BadOffset
 abbrev pub place_of : List ℕ → ℕ → ℕ
 place_of f i = let x = trailer_of f in big_number x.offset_width (drop (x.table + i * x.offset_width) f)
 
--- the octets from the place of the object i up to the offset table, where it is behind the header
--- and before the offset table
-unfoldable pub octets_at : List ℕ → ℕ → Result (List ℕ) ObjectFault
-octets_at f i =
-    let place = place_of f i in
+-- the octets from a place up to the offset table, where it is behind the header and before the
+-- offset table
+abbrev pub octets_from : List ℕ → ℕ → Result (List ℕ) ObjectFault
+octets_from f place =
     let table = (trailer_of f).table in
     if nat_le 8 place && nat_lt place table then Ok (drop place (take table f)) else Err BadOffset
+
+-- those from the place of the object i
+unfoldable pub octets_at : List ℕ → ℕ → Result (List ℕ) ObjectFault
+octets_at f i = octets_from f (place_of f i)
 
 -- the octet at the place of the object i, where that is before the offset table
 abbrev pub marker_at : List ℕ → ℕ → ℕ

@@ -152,7 +152,7 @@ impl<'a> Keys<'a> {
         if self.seen[object as usize] {
             return Ok(true);
         }
-        let Some(text) = text_of(file, object) else {
+        let Some(text) = file.text(object) else {
             return Ok(false);
         };
         self.seen[object as usize] = true;
@@ -182,15 +182,4 @@ impl<'a> Keys<'a> {
 // What may be read after so many octets more, if they were not too many.
 fn less(room: Option<u64>, read: u64) -> Option<u64> {
     room?.checked_sub(read)
-}
-
-// The text that the object holds, if it holds one.
-fn text_of<'a>(file: &BinFile<'a>, object: u64) -> Option<TextRef<'a>>
-    requires { object < (trailer_of (octets_of file.now)).count }
-    ensures { IfSome result (λ t. HoldsText (octets_of file.now) object (units_of t)) }
-{
-    match file.object(object) {
-        Ok(Object::Scalar(ScalarRef::Text(text))) => Some(text),
-        _ => None,
-    }
 }

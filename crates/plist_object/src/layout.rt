@@ -1,6 +1,6 @@
 //! The layout of a binary file: header, objects, offset table and trailer.
-ghost use Rattle.std.specs.Prelude.{◌≡◌, ◌+◌, ◌*◌, ◌<◌, ◌≤◌, ◌^◌, ◌↔◌};
-ghost use Rattle.std.specs.Prelude.{IsTrue, IsOk, IfOk, IfSome, MatchResult, length};
+ghost use Rattle.std.specs.Prelude.{◌≡◌, ◌+◌, ◌*◌, ◌<◌, ◌≤◌, ◌^◌, ◌↔◌, ℕ, List};
+ghost use Rattle.std.specs.Prelude.{IsTrue, IsOk, IfOk, IfSome, IfNone, MatchResult, length};
 ghost use Rattle.std.specs.Option.{SomeIff};
 ghost use Rattle.plist_object.specs.Layout.{IsLaid, IsLayoutFault, slack_of, trailer_of};
 
@@ -10,7 +10,7 @@ use crate::reading;
 use crate::refs::number_at;
 use crate::shortest::{begins_canonically, spelled_size};
 use byteorder::{BigEndian, ByteOrder};
-use plist_value::{Place, Refusal, Report};
+use plist_value::{Place, Refusal, Report, ScalarRef, TextRef};
 use std::fmt;
 use thiserror::Error;
 
@@ -76,6 +76,17 @@ pub struct BinFile<'a> {
     ghost table_read: { trailer.table ≡ (trailer_of octets.now).table },
 }
 
+/// What an object holds, and where it stands.
+#[derive(Clone, Copy, Debug)]
+pub struct Spanned<'a> {
+    /// What it holds.
+    pub object: Object<'a>,
+    /// The place of its first octet, in octets from the file's first.
+    pub start: u64,
+    /// The place of the octet behind its last.
+    pub end: u64,
+}
+
 // The numbers in the trailer.
 #[derive(Clone, Copy, Debug)]
 struct Trailer {
@@ -115,9 +126,11 @@ impl Trailer {
 }
 
 impl<'a> BinFile<'a> {
-    ghost use Rattle.plist_object.specs.Objects.{IsHeld};
-    ghost use Rattle.plist_object.specs.Places.{marker_at, octets_at, object_at, place_of};
-    ghost use Rattle.plist_object.specs.Places.{span_of, what_holds};
+    ghost use Rattle.plist_value.specs.Plist.{AreUnits, text};
+    ghost use Rattle.plist_value.specs.Texts.{units_of};
+    ghost use Rattle.plist_object.specs.Objects.{IsHeld, holds_scalar};
+    ghost use Rattle.plist_object.specs.Places.{Holds, marker_at, octets_at, octets_from};
+    ghost use Rattle.plist_object.specs.Places.{object_at, place_of, span_of, what_holds};
     ghost use Rattle.plist_object.specs.Shortest.{IsShortest, IsSpelledScalar};
     ghost use Rattle.plist_object.specs.Views.{Gives, held_of, octets_of};
 
@@ -227,18 +240,66 @@ impl<'a> BinFile<'a> {
         reading::held(octets, self.trailer.reference_width)
     }
 
+    /// The text of the object `n`, which is below `count`: `None` of one that holds something else,
+    /// or does not read.
+    #[tactic(auto, unfolding(crate::specs::Places::what_holds, crate::specs::Places::object_at))]
+    pub fn text(&self, n: u64) -> Option<TextRef<'a>>
+        requires { n < (trailer_of (octets_of self.now)).count }
+        ensures some { IfSome result
+            (λ t. Holds (octets_of self.now) n (holds_scalar (text (units_of t)))) }
+        ensures valid { IfSome result (λ t. AreUnits (units_of t)) }
+        ensures none { IfNone result
+            (¬ ((units : List ℕ) × Holds (octets_of self.now) n (holds_scalar (text units)))) }
+    {
+        if let Some(text) = self.ascii_text(n) {
+            return Some(text);
+        }
+        match self.object(n) {
+            Ok(Object::Scalar(ScalarRef::Text(text))) => Some(text),
+            _ => None,
+        }
+    }
+
+    // The same, of a text that stands in ASCII: most do.
+    #[inline(always)]
+    #[tactic(auto, unfolding(crate::specs::Places::what_holds, crate::specs::Places::object_at))]
+    fn ascii_text(&self, n: u64) -> Option<TextRef<'a>>
+        requires { n < (trailer_of (octets_of self.now)).count }
+        ensures some { IfSome result
+            (λ t. what_holds (octets_of self.now) n ≡ Ok (holds_scalar (text (units_of t)))) }
+        ensures valid { IfSome result (λ t. AreUnits (units_of t)) }
+    {
+        let Ok(octets) = self.octets_at(n) else {
+            return None;
+        };
+        reading::ascii_text(octets)
+    }
+
+    /// What the object `n`, which is below `count`, holds, and where it stands; or its first fault.
+    pub fn spanned(&self, n: u64) -> Result<Spanned<'a>, ObjectFault>
+        requires { n < (trailer_of (octets_of self.now)).count }
+        ensures read { Gives (λ s. held_of s.object) result (what_holds (octets_of self.now) n) }
+        ensures span { Gives (λ s. (s.start, s.end)) result (span_of (octets_of self.now) n) }
+        ensures valid { IfOk result (λ s. IsHeld (held_of s.object)) }
+    {
+        let start = self.place(n);
+        let octets = self.octets_from(start)?;
+        let (object, behind) = reading::object(octets, self.trailer.reference_width)?;
+        Ok(Spanned {
+            object,
+            start,
+            end: self.trailer.table.saturating_sub(behind.len() as u64),
+        })
+    }
+
     /// The place of the first octet of the object `n`, which is below `count`, and that of the
     /// octet behind its last; or its first fault.
-    #[tactic(auto, unfolding(crate::specs::Places::span_of))]
     pub fn span(&self, n: u64) -> Result<(u64, u64), ObjectFault>
         requires { n < (trailer_of (octets_of self.now)).count }
         ensures { result ≡ span_of (octets_of self.now) n }
     {
-        let (_, behind) = self.read(n)?;
-        Ok((
-            self.place(n),
-            self.trailer.table.saturating_sub(behind.len() as u64),
-        ))
+        let spanned = self.spanned(n)?;
+        Ok((spanned.start, spanned.end))
     }
 
     /// Whether the octets of the object `n`, which is below `count`, are the canonical spelling of
@@ -276,24 +337,19 @@ impl<'a> BinFile<'a> {
         Some(&octets[..size])
     }
 
-    // What the object holds, and the octets behind it.
-    #[tactic(auto, unfolding(crate::specs::Places::object_at))]
-    fn read(&self, n: u64) -> Result<(Object<'a>, &'a [u8]), ObjectFault>
-        requires { n < (trailer_of (octets_of self.now)).count }
-        ensures read { Gives (λ p. (held_of p.0, p.1.now)) result
-            (object_at (octets_of self.now) n) }
-        ensures valid { IfOk result (λ p. IsHeld (held_of p.0)) }
-    {
-        let octets = self.octets_at(n)?;
-        reading::object(octets, self.trailer.reference_width)
-    }
-
     #[tactic(auto, unfolding(crate::specs::Places::octets_at))]
     fn octets_at(&self, n: u64) -> Result<&'a [u8], ObjectFault>
         requires { n < (trailer_of (octets_of self.now)).count }
         ensures { Gives (λ octets. octets.now) result (octets_at (octets_of self.now) n) }
     {
-        let place = self.place(n);
+        self.octets_from(self.place(n))
+    }
+
+    // The octets from the place up to the offset table.
+    #[inline(always)]
+    fn octets_from(&self, place: u64) -> Result<&'a [u8], ObjectFault>
+        ensures { Gives (λ octets. octets.now) result (octets_from (octets_of self.now) place) }
+    {
         let table = self.trailer.table;
         if place < 8 || table <= place {
             return Err(ObjectFault::BadOffset);

@@ -13,12 +13,12 @@ pub mod puts;
 pub mod ranks;
 mod reading;
 pub mod refs;
-mod shortest;
+pub mod shortest;
 pub mod sorted;
 mod texts;
 
 pub use keys::Keys;
-pub use layout::{BinFile, LayoutFault};
+pub use layout::{BinFile, LayoutFault, Spanned};
 pub use lengths::{list_length, scalar_length, table_length, width_of};
 pub use markers::HEADER;
 pub use object::{Object, ObjectFault};
@@ -27,4 +27,5 @@ pub use puts::{
 };
 pub use ranks::Ranks;
 pub use refs::Refs;
+pub use shortest::begins_canonically;
 pub use sorted::SortedKeys;

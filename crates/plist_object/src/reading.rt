@@ -1,7 +1,7 @@
 //! What an object that begins with some octets holds, and the octets behind it. The octets reach up
 //! to the offset table.
 ghost use Rattle.std.specs.Prelude.{◌≡◌, ◌≢◌, ◌+◌, ◌*◌, ◌<◌, ◌≤◌, ◌/◌, ◌%◌, ◌^◌, ◌∷◌, length};
-ghost use Rattle.std.specs.Prelude.{IfOk, IfSome};
+ghost use Rattle.std.specs.Prelude.{IfOk, IfSome, Ok, ℕ};
 ghost use Rattle.byteorder.specs.Endian.{big_number};
 ghost use Rattle.plist_object.specs.Objects.{IsHeld, holds_scalar, cut, integer_length};
 ghost use Rattle.plist_object.specs.Objects.{count_spelled, content, whole_in};
@@ -9,7 +9,8 @@ ghost use Rattle.plist_object.specs.Objects.{simple_object, whole_object, real_o
 ghost use Rattle.plist_object.specs.Objects.{moment_object, data_object, ascii_object, wide_object};
 ghost use Rattle.plist_object.specs.Objects.{list_object, table_object, marked_object, object_in};
 ghost use Rattle.plist_object.specs.Views.{Gives, first_of, held_of};
-ghost use Rattle.plist_value.specs.Plist.{AreOctets};
+ghost use Rattle.plist_value.specs.Plist.{AreOctets, AreUnits, text};
+ghost use Rattle.plist_value.specs.Texts.{units_of};
 ghost use Rattle.plist_value.specs.Plist as kind;
 ghost use Rattle.plist_value.specs.Wholes.{number_of};
 
@@ -292,6 +293,24 @@ fn wide(octets: &[u8], low: u8) -> Read<'_, Object<'_>>
     let (wide, rest) = content(octets, low, 2)?;
     let text = TextRef::of_wide(wide.octets).ok_or(ObjectFault::CutObject)?;
     Ok((Object::Scalar(ScalarRef::Text(text)), rest))
+}
+
+/// The text that the object holds which begins with these octets, if it stands there in ASCII.
+#[inline(always)]
+#[tactic(auto, unfolding(crate::specs::Objects::marked_object))]
+pub(crate) fn ascii_text(octets: &[u8]) -> Option<TextRef<'_>>
+    ensures some { IfSome result (λ t. (width : ℕ)
+        → first_of (object_in width octets.entry.now) ≡ Ok (holds_scalar (text (units_of t)))) }
+    ensures valid { IfSome result (λ t. AreUnits (units_of t)) }
+{
+    let (marker, octets) = octets.split_first()?;
+    if marker / 16 != ASCII {
+        return None;
+    }
+    match ascii(octets, marker % 16) {
+        Ok((Object::Scalar(ScalarRef::Text(text)), _)) => Some(text),
+        _ => None,
+    }
 }
 
 /// What the object that begins with these octets holds, its references of so many octets each, and

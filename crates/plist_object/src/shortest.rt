@@ -27,8 +27,10 @@ use crate::refs::number_in;
 use byteorder::{BigEndian, ByteOrder};
 use plist_value::{ScalarRef, TextRef};
 
-/// Whether the octets begin as the canonical spelling of what they hold.
-pub(crate) fn begins_canonically(octets: &[u8], object: &Object) -> bool
+/// Whether the octets, which the object was read from, begin as its canonical spelling: with the
+/// marker, and the count or the whole number, in the least width. No content is read but that of a
+/// UTF-16 string, up to the first unit that is not ASCII.
+pub fn begins_canonically(octets: &[u8], object: &Object) -> bool
     ensures begins { IsTrue result ↔ BeginsCanonically (held_of object.now) octets.now }
     ensures counted { IsCounted (held_of object.now) }
     ensures octets { AreOctets octets.now }
@@ -117,9 +119,7 @@ fn begins_with_number(octets: &[u8], n: u64, width: u8) -> bool
     ensures { IsTrue result ↔ (take width octets.now ≡ big_bytes width n) }
 {
     let width = usize::from(width);
-    let mut digits = [0; 8];
-    BigEndian::write_uint(&mut digits, n, width);
-    begins(octets, &digits[..width])
+    octets.len() >= width && number_in(octets, width) == n
 }
 
 // Eight zero octets, and the number in eight.

@@ -1,6 +1,7 @@
 //! Single objects: how they are measured, and that a refused one leaves the list.
 use plist_object::{
-    BinFile, list_length, put_list, put_scalar, put_table, scalar_length, table_length, width_of,
+    BinFile, begins_canonically, list_length, put_list, put_scalar, put_table, scalar_length,
+    table_length, width_of,
 };
 use plist_value::{ScalarRef, TextRef};
 use std::alloc::{AllocError, Global};
@@ -93,6 +94,54 @@ fn scalars_as_they_stand(rt: HostRuntime) -> Result<(), Fail> {
         Some(b"\x5f\x10\x0fabcdefghijklmno".as_slice())
     );
     assert_eq!(rt; spelled_of(SCALARS, 5), None);
+    Ok(())
+}
+
+fn text_of(octets: &[u8], object: u64) -> Option<TextRef<'_>> {
+    let file = BinFile::of(octets).ok()?;
+    if object < file.count() {
+        file.text(object)
+    } else {
+        None
+    }
+}
+
+// Whether the octets begin as the canonical spelling of what the object holds.
+fn begin_as(octets: &[u8], object: u64) -> bool {
+    let Ok(file) = BinFile::of(SCALARS) else {
+        return false;
+    };
+    if object >= file.count() {
+        return false;
+    }
+    match file.object(object) {
+        Ok(object) => begins_canonically(octets, &object),
+        Err(_) => false,
+    }
+}
+
+// Where the object stands.
+fn span_of(octets: &[u8], object: u64) -> Option<(u64, u64)> {
+    let file = BinFile::of(octets).ok()?;
+    if object >= file.count() {
+        return None;
+    }
+    let read = file.spanned(object).ok()?;
+    Some((read.start, read.end))
+}
+
+#[test]
+fn texts_and_beginnings_of_objects(rt: HostRuntime) -> Result<(), Fail> {
+    assert_eq!(rt; text_of(SCALARS, 1), TextRef::of_ascii(b"ab"));
+    assert_eq!(rt; text_of(SCALARS, 5), TextRef::of_ascii(b"a"));
+    assert_eq!(rt; text_of(SCALARS, 3), None);
+    assert_eq!(rt; span_of(SCALARS, 1), Some((14, 17)));
+    assert_eq!(rt; span_of(SCALARS, 5), Some((39, 43)));
+    assert!(rt; begin_as(b"\xa5", 0));
+    assert!(rt; begin_as(b"\x52", 1));
+    assert!(rt; begin_as(b"\x5f\x10\x0f", 4));
+    assert!(rt; begin_as(b"\x51", 5));
+    assert!(rt; !begin_as(b"\x5f\x10\x01", 5));
     Ok(())
 }
 

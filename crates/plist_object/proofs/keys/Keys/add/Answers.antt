@@ -11,8 +11,9 @@ pub returns : goal.returns
 returns c =
     let f = octets_of c.args.file.now in
     let old = c.args.self.now in
+    let told = c.in-Some.ensures in
     let key : Key = record { text = c.in-Some.text; object = c.args.object } in
     record {
-      held = subst (λ (keys : List Key). All (HoldsKey f) keys) (sym c.in_ok-push.ensures.items) (All-push (HoldsKey f) old.entries.items key c.requires.held c.in-Some.ensures);
+      held = subst (λ (keys : List Key). All (HoldsKey f) keys) (sym c.in_ok-push.ensures.items) (All-push (HoldsKey f) old.entries.items key c.requires.held (told.some, told.valid));
       marked = length-set old.seen.items c.args.object _ ∙ c.requires.marked;
     }
