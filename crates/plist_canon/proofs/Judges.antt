@@ -143,6 +143,11 @@ same_span f i a b c d first second =
     let e : (a, b) ≡ (c, d) = (let e2 : ok_pair (a, b) ≡ ok_pair (c, d) = sym first ∙ second in cc) in
     (ap (λ (p : ℕ × ℕ). p.0) e, ap (λ (p : ℕ × ℕ). p.1) e)
 
+pub span-place : (f : List ℕ) (i start end : ℕ) → IsOk (object_at f i) → span_of f i ≡ Ok (start, end) → place_of f i ≡ start
+span-place f i start end reads span =
+    let starts = span-starts f i reads in
+    (same_span f i (place_of f i) starts.0 start end starts.1 span).0
+
 pub Adjoins-follows : (f : List ℕ) (i : ℕ) → Follows f i → ((start end : ℕ) → suc i ≡ (trailer_of f).count → span_of f i ≡ Ok (start, end) → end ≡ (trailer_of f).table) → Adjoins f i
 Adjoins-follows f zero follows last = record {
   first = λ start end at span. (same_span f zero start end follows.place follows.end span follows.span).0 ∙ follows.before;

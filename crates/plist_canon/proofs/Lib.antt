@@ -1,7 +1,6 @@
 pub mod Every
 pub mod Pieced
 pub mod Occupied
-pub mod Ending
 pub mod Plainly
 pub mod Trailed
 pub mod Filed

@@ -1,27 +1,16 @@
 -- Objects that begin as the canonical spelling of what they hold.
-use Rattle.std.proofs.Common.{◌≡◌, ℕ, suc, ◌+◌, ◌-◌, ◌*◌, ◌<◌, ◌≤◌, arith, List, ◌∷◌, length, take, drop, Result, Ok, Err, refl, sym, ap, subst, ◌∙◌}
-use Rattle.std.specs.Prelude.{IsOk, MatchResult}
-use Rattle.byteorder.specs.Endian.{big_bytes, big_number}
-use Rattle.byteorder.specs.Numbers.{length-bytes_high_first}
+use Rattle.std.proofs.Common.{◌≡◌, ℕ, ◌+◌, ◌-◌, ◌*◌, ◌<◌, ◌≤◌, arith, List, length, take, drop, Result, Ok, Err, refl, sym, ap, subst, ◌∙◌}
+use Rattle.std.specs.Prelude.{◌↔◌}
 use Rattle.plist_value.specs.Plist.{AreOctets}
 use Rattle.plist_object.specs.declared.object.ObjectFault.{ObjectFault}
 use Rattle.std.proofs.lemmas.List.{length-take-le, take_rest}
 use Rattle.plist_object.specs.Layout.{trailer_of, IsTrailer}
 use Rattle.plist_object.specs.Objects.{Held, IsHeld, object_in, ◌>>=◌}
-use Rattle.plist_object.specs.Heads.{Begins, BeginsCanonically, IsCounted}
+use Rattle.plist_object.specs.Heads.{BeginsCanonically, IsCounted}
 use Rattle.plist_object.specs.Places.{Holds, octets_at, object_at, what_holds, place_of}
 use Rattle.plist_object.specs.Shortest.{IsShortest}
-use Rattle.plist_object.proofs.SameOctets.{AreOctets-drop, big_bytes-big_number}
 use Rattle.plist_object.proofs.CanonicalHeads.{shortest_iff}
 use Rattle.plist_canon.proofs.Occupied.{is_placed}
-
--- a marker, and the number in so many octets behind it
-pub begins_number : (marker n width : ℕ) (octets digits : List ℕ) → octets ≡ marker ∷ digits → AreOctets octets → width ≤ length digits → big_number width digits ≡ n → Begins (marker ∷ big_bytes width n) octets
-begins_number marker n width octets digits is are_octets enough read =
-    let digits_octets : AreOctets digits = subst (λ (xs : List ℕ). AreOctets (drop 1 xs)) is (AreOctets-drop 1 octets are_octets) in
-    let same : big_bytes width n ≡ take width digits = ap (big_bytes width) (sym read) ∙ big_bytes-big_number width digits digits_octets enough in
-    let long : length (big_bytes width n) ≡ width = length-bytes_high_first width n in
-    ap (λ (k : ℕ). take (suc k) octets) long ∙ ap (take (suc width)) is ∙ ap (λ (xs : List ℕ). marker ∷ xs) (sym same)
 
 -- the octets from the place of an object on, as they were read
 record AreParts (f : List ℕ) (i : ℕ) (held : Held) : Type 0 where
@@ -56,26 +45,30 @@ Holds-placed f i held holds =
     let x = are_parts f i held holds.reads in
     (is_placed f i x.octets x.stands).before
 
-pub begins-shortest : (f : List ℕ) (i place : ℕ) (objects : List ℕ) (held : Held) → Holds f i held → IsHeld held → IsCounted held → place_of f i ≡ place → objects ≡ take (trailer_of f).table f → AreOctets (take (length objects - place) (drop place objects)) → BeginsCanonically held (take (length objects - place) (drop place objects)) → IsShortest f i
-begins-shortest f i place objects held holds valid counted starts is are_octets begins =
+-- an object that begins there is in its shortest spelling exactly if it begins canonically
+pub begins-shortest : (f : List ℕ) (i place : ℕ) (objects : List ℕ) (held : Held) → Holds f i held → IsHeld held → IsCounted held → place_of f i ≡ place → objects ≡ take (trailer_of f).table f → AreOctets (take (length objects - place) (drop place objects)) → BeginsCanonically held (take (length objects - place) (drop place objects)) ↔ IsShortest f i
+begins-shortest f i place objects held holds valid counted starts is are_octets =
     let x = are_parts f i held holds.reads in
     let at = is_placed f i x.octets x.stands in
     let same : take (length objects - place) (drop place objects) ≡ x.octets = take_rest objects place ∙ ap (λ (xs : List ℕ). drop place xs) is ∙ ap (λ (n : ℕ). drop n (take (trailer_of f).table f)) (sym starts) ∙ at.stands in
-    (shortest_iff f i x.octets held x.behind x.stands x.reads valid counted (subst AreOctets same are_octets)).0 (subst (λ (xs : List ℕ). BeginsCanonically held xs) same begins)
+    let both = shortest_iff f i x.octets held x.behind x.stands x.reads valid counted (subst AreOctets same are_octets) in (
+      λ begins. both.0 (subst (λ (xs : List ℕ). BeginsCanonically held xs) same begins),
+      λ shortest. subst (λ (xs : List ℕ). BeginsCanonically held xs) (sym same) (both.1 shortest),
+    )
 
 first_part : (a b c : ℕ) → a + b + 32 ≡ c → a ≤ c
 first_part a b c is = omega arith
+
+-- the offset table begins within the file
+table-within : (f : List ℕ) → IsTrailer (length f) (trailer_of f) → (trailer_of f).table ≤ length f
+table-within f trailed =
+    let x = trailer_of f in
+    first_part x.table (x.count * x.offset_width) (length f) trailed.ends
 
 -- the place of an object lies in the octets before the offset table
 pub Holds-inside : (f : List ℕ) (i place : ℕ) (objects : List ℕ) (held : Held) → IsTrailer (length f) (trailer_of f) → Holds f i held → place_of f i ≡ place → objects ≡ take (trailer_of f).table f → place ≤ length objects
 Holds-inside f i place objects held trailed holds starts is =
     let x = trailer_of f in
     let placed = Holds-placed f i held holds in
-    let most : x.table ≤ length f = first_part x.table (x.count * x.offset_width) (length f) trailed.ends in
-    let long : length objects ≡ x.table = ap length is ∙ length-take-le x.table f most in
+    let long : length objects ≡ x.table = ap length is ∙ length-take-le x.table f (table-within f trailed) in
     omega arith
-
--- where an object reads, so does what tells of its spelling
-pub is_ok_of : {A B : Type 0} → (told : Result A ObjectFault) (read : Result B ObjectFault) → IsOk read → MatchResult told (λ _. IsOk read) (λ fault. read ≡ Err fault) → IsOk told
-is_ok_of (Ok a) read reads told = refl
-is_ok_of (Err fault) read reads told = subst (λ r. IsOk r) told reads

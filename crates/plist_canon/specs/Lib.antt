@@ -12,7 +12,6 @@ pub mod Checking
 pub mod KnownKeys
 pub mod Codes
 pub mod Weights
-pub mod Small
 pub mod Met
 pub mod Preorders
 pub mod Owing

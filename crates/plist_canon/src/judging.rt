@@ -13,14 +13,12 @@ ghost use Rattle.plist_canon.specs.KnownKeys.{AreKnown};
 ghost use Rattle.plist_engine.specs.Sieve.{AreNoted};
 ghost use Rattle.plist_canon.specs.Weights.{AreAllWeights};
 
-use crate::beginning::begins_plainly;
 use crate::known_keys::KnownKeys;
-use crate::lengths::{is_width, spelled_length};
 use crate::references::object_keys_ascend;
 use crate::repeats::judge_repeats;
 use crate::weights::Weight;
 use plist_engine::Notes;
-use plist_object::{BinFile, Object, scalar_length, width_of};
+use plist_object::{BinFile, Object, Spanned, begins_canonically, width_of};
 use plist_value::MAX_NODES;
 use std::alloc::{AllocError, AllocFailed, Global};
 use std::hash::BuildHasher;
@@ -97,7 +95,7 @@ fn has_least_widths(file: &BinFile) -> bool
 pub(crate) fn judge_objects<'a, S: BuildHasher + Copy>(
     alloc: Global,
     hasher: S,
-    objects: &'a [u8],
+    objects: &[u8],
     file: &BinFile<'a>,
 ) -> Result<Vec<Weight>, Flaw>
     requires { objects.now ≡ take (trailer_of (octets_of file.now)).table (octets_of file.now) }
@@ -113,19 +111,19 @@ pub(crate) fn judge_objects<'a, S: BuildHasher + Copy>(
 {
     let mut notes = Notes::new(alloc, &hasher, file.count());
     let mut weights = Vec::with_capacity(alloc, file.count().min(MAX_NODES) as usize)?;
-    let mut known = KnownKeys::new(alloc, objects, file)?;
+    let mut known = KnownKeys::new(alloc, file)?;
     let mut end = 8;
     for i in 0..file.count() {
-        let read = file.object(i);
-        let Ok(object) = &read else {
+        let read = file.spanned(i);
+        let Ok(read) = &read else {
             return Err(first_flaw(alloc, hasher, file, notes, Flaw::at(0, i)));
         };
-        match judge_object(alloc, objects, file, i, end, object, &mut known) {
-            Ok(next) => end = next,
-            Err(flaw) => return Err(first_flaw(alloc, hasher, file, notes, flaw)),
+        if let Err(flaw) = judge_object(alloc, objects, file, i, end, read, &mut known) {
+            return Err(first_flaw(alloc, hasher, file, notes, flaw));
         }
-        notes.note(object)?;
-        weights.push(Weight::of(object))?;
+        end = read.end;
+        notes.note(&read.object)?;
+        weights.push(Weight::of(&read.object))?;
     }
     judge_repeats(alloc, hasher, file, notes)?;
     judge_table(file, end)?;
@@ -167,35 +165,39 @@ fn judge_table(file: &BinFile, end: u64) -> Result<(), Flaw>
     Ok(())
 }
 
-// The rules of the object but for rule 6, where it holds this and the one before it ends at the
-// place. Where it ends is answered.
+// The rules of the object but for rule 6, where it holds this and stands there, and the one before
+// it ends at the place.
 fn judge_object<'a>(
     alloc: Global,
     objects: &[u8],
     file: &BinFile<'a>,
     i: u64,
     place: u64,
-    object: &Object<'a>,
+    read: &Spanned<'a>,
     known: &mut KnownKeys<'a>,
-) -> Result<u64, Flaw>
+) -> Result<(), Flaw>
     requires objects { objects.now
         ≡ take (trailer_of (octets_of file.now)).table (octets_of file.now) }
     requires before { IsEndBefore (octets_of file.now) i place }
-    requires holds { Holds (octets_of file.now) i (held_of object.now) }
-    requires valid { IsHeld (held_of object.now) }
+    requires holds { Holds (octets_of file.now) i (held_of read.now.object) }
+    requires span { span_of (octets_of file.now) i ≡ Ok (read.now.start, read.now.end) }
+    requires valid { IsHeld (held_of read.now.object) }
     requires known { AreKnown (octets_of file.now) known.old }
     ensures judged { OnOk result (IsJudged (octets_of file.now) i) }
-    ensures ends { IfOk result (λ end. span_of (octets_of file.now) i ≡ Ok (place, end)) }
     ensures known { OnOk result (AreKnown (octets_of file.now) known.new) }
     ensures err { IfErr result (IsFlaw (octets_of file.now)) }
 {
-    let ascend = judge_references(alloc, file, known, i, object)?;
-    judge_start(file, i, place)?;
-    judge_spelling(objects, file, i, place, object)?;
+    let ascend = judge_references(alloc, file, known, i, &read.object)?;
+    if read.start != place {
+        return Err(Flaw::at(3, i));
+    }
+    if !begins_canonically(&objects[place as usize..], &read.object) {
+        return Err(Flaw::at(4, i));
+    }
     if !ascend {
         return Err(Flaw::at(5, i));
     }
-    Ok(end_of(file, i, place, object))
+    Ok(())
 }
 
 // Rule 0 of the references of an object that holds this. Whether rule 5 holds is answered.
@@ -219,86 +221,4 @@ fn judge_references<'a>(
         Some(ascend) => Ok(ascend),
         None => Err(Flaw::at(0, i)),
     }
-}
-
-// Rule 3 of an object that reads, but for the place of the offset table: it begins at the place.
-#[inline(always)]
-fn judge_start(file: &BinFile, i: u64, place: u64) -> Result<(), Flaw>
-    requires listed { i < (trailer_of (octets_of file.now)).count }
-    requires before { IsEndBefore (octets_of file.now) i place }
-    requires reads { IsOk (object_at (octets_of file.now) i) }
-    ensures ok { OnOk result (place_of (octets_of file.now) i ≡ place) }
-    ensures err { IfErr result (IsFlaw (octets_of file.now)) }
-{
-    if file.place(i) != place {
-        return Err(Flaw::at(3, i));
-    }
-    Ok(())
-}
-
-// Where an object ends that begins at the place, in its canonical spelling.
-#[inline(always)]
-fn end_of(file: &BinFile, i: u64, place: u64, object: &Object) -> u64
-    requires starts { place_of (octets_of file.now) i ≡ place }
-    requires holds { Holds (octets_of file.now) i (held_of object.now) }
-    requires valid { IsHeld (held_of object.now) }
-    requires spelled { IsSpelledCanonically (octets_of file.now) i }
-    ensures { span_of (octets_of file.now) i ≡ Ok (place, result) }
-{
-    match object {
-        Object::Scalar(scalar) if file.table() < 1 << 32 => place + scalar_length(scalar),
-        _ => end_of_any(file, i, place, object),
-    }
-}
-
-// The same, also of a list or a table, and in a file of 2^32 octets and more.
-fn end_of_any(file: &BinFile, i: u64, place: u64, object: &Object) -> u64
-    requires starts { place_of (octets_of file.now) i ≡ place }
-    requires holds { Holds (octets_of file.now) i (held_of object.now) }
-    requires valid { IsHeld (held_of object.now) }
-    requires spelled { IsSpelledCanonically (octets_of file.now) i }
-    ensures { span_of (octets_of file.now) i ≡ Ok (place, result) }
-{
-    let width = file.reference_width();
-    if file.table() < 1 << 32 && is_width(width) {
-        place + spelled_length(object, width)
-    } else {
-        end_read(file, i)
-    }
-}
-
-// Where an object ends, by reading it again.
-fn end_read(file: &BinFile, i: u64) -> u64
-    requires listed { i < (trailer_of (octets_of file.now)).count }
-    requires reads { IsOk (object_at (octets_of file.now) i) }
-    ensures { span_of (octets_of file.now) i ≡ Ok (place_of (octets_of file.now) i, result) }
-{
-    file.span(i).unwrap().1
-}
-
-// Rule 4 of the object, which begins at the place. Mostly its first octets tell, so it is not read
-// again.
-#[inline(always)]
-fn judge_spelling(
-    objects: &[u8],
-    file: &BinFile,
-    i: u64,
-    place: u64,
-    object: &Object,
-) -> Result<(), Flaw>
-    requires objects { objects.now
-        ≡ take (trailer_of (octets_of file.now)).table (octets_of file.now) }
-    requires starts { place_of (octets_of file.now) i ≡ place }
-    requires holds { Holds (octets_of file.now) i (held_of object.now) }
-    requires valid { IsHeld (held_of object.now) }
-    ensures ok { OnOk result (IsSpelledCanonically (octets_of file.now) i) }
-    ensures err { IfErr result (IsFlaw (octets_of file.now)) }
-{
-    if begins_plainly(&objects[place as usize..], object) {
-        return Ok(());
-    }
-    if !file.is_shortest(i).unwrap() {
-        return Err(Flaw::at(4, i));
-    }
-    Ok(())
 }

@@ -1,13 +1,16 @@
 //! What is known of keys while the objects of a file are judged.
-ghost use Rattle.std.specs.Prelude.{◌≡◌, List, ℕ, IfOk, IfErr, OnOk};
+ghost use Rattle.std.specs.Prelude.{◌≡◌, ◌<◌, ◌↔◌, IsTrue, EachIndex, List, ℕ};
+ghost use Rattle.std.specs.Prelude.{IfOk, IfErr, OnOk, slice_index};
 ghost use Rattle.std.specs.Bool.{OnTrue};
+ghost use Rattle.plist_object.specs.Layout.{trailer_of};
 ghost use Rattle.plist_object.specs.Views.{numbers_of, octets_of};
-ghost use Rattle.plist_canon.specs.Checking.{IsFlaw};
+ghost use Rattle.plist_canon.specs.Checking.{AscendInTurn, IsFlaw};
 ghost use Rattle.plist_canon.specs.KnownKeys.{AreKnown, NamesInOrder};
 
 use crate::judging::Flaw;
 use crate::naming::Named;
 use crate::ranking::rank_keys;
+use crate::references::keys_ascend;
 use plist_object::{BinFile, Ranks, Refs};
 use std::alloc::{AllocError, Global};
 
@@ -18,22 +21,18 @@ pub(crate) struct KnownKeys<'a> {
     pub(crate) last: Option<Refs<'a>>,
     pub(crate) ranks: Ranks<'a>,
     // The keys that were named, until there are ranks.
-    named: Option<Named<'a>>,
+    named: Option<Named>,
 }
 
 impl<'a> KnownKeys<'a> {
-    /// No table came yet. All objects stand in these octets.
-    pub(crate) fn new(
-        alloc: Global,
-        objects: &'a [u8],
-        file: &BinFile,
-    ) -> Result<KnownKeys<'a>, AllocError>
+    /// No table came yet.
+    pub(crate) fn new(alloc: Global, file: &BinFile) -> Result<KnownKeys<'a>, AllocError>
         ensures { IfOk result (λ known. (f : List ℕ) → AreKnown f known) }
     {
         Ok(KnownKeys {
             last: None,
             ranks: Ranks::none(alloc),
-            named: Some(Named::new(alloc, objects, file)?),
+            named: Some(Named::new(alloc, file)?),
         })
     }
 
@@ -48,23 +47,30 @@ impl<'a> KnownKeys<'a> {
         }
     }
 
-    /// Names the keys of a table, and ranks all keys of the file if one of these was named before.
-    pub(crate) fn name(
+    /// Whether the texts that a table names as keys ascend, unit by unit. All keys of the file are
+    /// ranked once a text is named a second time.
+    pub(crate) fn ascend(
         &mut self,
         alloc: Global,
         file: &BinFile<'a>,
         keys: &Refs,
-    ) -> Result<(), Flaw>
-        requires { AreKnown (octets_of file.now) self.old }
+    ) -> Result<bool, Flaw>
+        requires known { AreKnown (octets_of file.now) self.old }
+        requires below { EachIndex (numbers_of keys.now)
+            (λ k. slice_index (numbers_of keys.now) k < (trailer_of (octets_of file.now)).count) }
+        ensures ascend { IfOk result
+            (λ ascend. IsTrue ascend ↔ AscendInTurn (octets_of file.now) (numbers_of keys.now)) }
         ensures known { OnOk result (AreKnown (octets_of file.now) self.new) }
         ensures err { IfErr result (IsFlaw (octets_of file.now)) }
     {
-        if let Some(named) = &mut self.named
-            && !named.names_all(file, keys)
-        {
-            self.ranks = rank_keys(alloc, file)?;
-            self.named = None;
+        let Some(named) = &mut self.named else {
+            return Ok(keys_ascend(file, &self.ranks, keys));
+        };
+        if let Some(ascend) = named.ascend(file, keys) {
+            return Ok(ascend);
         }
-        Ok(())
+        self.ranks = rank_keys(alloc, file)?;
+        self.named = None;
+        Ok(keys_ascend(file, &self.ranks, keys))
     }
 }

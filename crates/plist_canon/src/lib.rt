@@ -2,12 +2,10 @@
 //! made.
 #![tactic(auto)]
 
-mod beginning;
 pub mod checking;
 mod judging;
 mod known_keys;
 pub mod laws;
-mod lengths;
 mod naming;
 mod objects;
 mod preorder;

@@ -1,110 +1,94 @@
-//! The texts that tables name as keys, as long as each is named once.
-ghost use Rattle.std.specs.Prelude.{◌<◌};
+//! Keys of tables that are compared by their texts, as long as each object is named once.
+ghost use Rattle.std.specs.Prelude.{◌≡◌, ◌<◌, ◌↔◌, IsTrue, EachIndex, IfSome};
+ghost use Rattle.std.specs.Prelude.{slice_index};
+ghost use Rattle.plist_value.specs.Plist.{text};
+ghost use Rattle.plist_value.specs.Texts.{units_of};
 ghost use Rattle.plist_object.specs.Layout.{trailer_of};
-ghost use Rattle.plist_object.specs.Views.{octets_of};
+ghost use Rattle.plist_object.specs.Objects.{holds_scalar};
+ghost use Rattle.plist_object.specs.Places.{Holds};
+ghost use Rattle.plist_object.specs.Views.{numbers_of, octets_of};
+ghost use Rattle.plist_canon.specs.Checking.{AreInOrder, AscendInTurn};
 
-use plist_object::{BinFile, Object, Refs};
-use plist_value::ScalarRef;
+use plist_object::{BinFile, Refs};
+use plist_value::TextRef;
 use std::alloc::{AllocError, Global};
-
-// The upper halves of the markers of texts.
-const ASCII: u8 = 0x5;
-
-const WIDE: u8 = 0x6;
-
-// A count from here on stands behind the marker.
-const LONG: u8 = 15;
-
-// The markers of counts in one octet and in two.
-const ONE_OCTET: u8 = 0x10;
-
-const TWO_OCTETS: u8 = 0x11;
 
 /// The objects that tables named as keys, and how many units more such texts may have.
 ///
 /// If each text is named once, and all together have no more units than the file has octets before
 /// the offset table, to compare them unit by unit takes no longer than to read the file, and ranks
-/// are of no use. A wrong answer would cost time alone.
+/// are of no use. Which keys are compared so costs time alone.
 #[derive(Drop)]
-pub(crate) struct Named<'a> {
-    octets: &'a [u8],
+pub(crate) struct Named {
     objects: Vec<bool>,
     left: u64,
 }
 
-impl<'a> Named<'a> {
-    /// None was named. All objects stand in these octets.
-    pub(crate) fn new(
-        alloc: Global,
-        octets: &'a [u8],
-        file: &BinFile,
-    ) -> Result<Named<'a>, AllocError> {
+impl Named {
+    /// None was named.
+    pub(crate) fn new(alloc: Global, file: &BinFile) -> Result<Named, AllocError> {
         let mut objects = Vec::new(alloc);
         objects.resize(file.count() as usize, false)?;
         Ok(Named {
-            octets,
             objects,
             left: file.table(),
         })
     }
 
-    /// Names the keys of a table. Whether they are texts that were not named before, of not too
-    /// many units.
-    pub(crate) fn names_all(&mut self, file: &BinFile, keys: &Refs) -> bool {
-        for k in 0..keys.len() {
-            if !self.names(file, keys.get(k)) {
-                return false;
-            }
+    /// Whether the texts that a table names as keys ascend, unit by unit; all of them are named
+    /// then. `None` says nothing: it is answered at a text that was named before, or that is too
+    /// long, or is none.
+    pub(crate) fn ascend(&mut self, file: &BinFile, keys: &Refs) -> Option<bool>
+        requires { EachIndex (numbers_of keys.now)
+            (λ k. slice_index (numbers_of keys.now) k < (trailer_of (octets_of file.now)).count) }
+        ensures { IfSome result
+            (λ ascend. IsTrue ascend ↔ AscendInTurn (octets_of file.now) (numbers_of keys.now)) }
+    {
+        if keys.is_empty() {
+            return Some(true);
         }
-        true
+        let mut before = self.name(file, keys.get(0))?;
+        let mut ascend = true;
+        for k in 1..keys.len() {
+            let text = self.name(file, keys.get(k))?;
+            let below = is_below(file, keys.get(k - 1), before, keys.get(k), text);
+            ascend = are_both(ascend, below);
+            before = text;
+        }
+        Some(ascend)
     }
 
-    fn names(&mut self, file: &BinFile, key: u64) -> bool {
+    // The text that the object holds, which was not named before and is not too long.
+    #[inline(always)]
+    fn name<'a>(&mut self, file: &BinFile<'a>, key: u64) -> Option<TextRef<'a>>
+        requires { key < (trailer_of (octets_of file.now)).count }
+        ensures { IfSome result
+            (λ t. Holds (octets_of file.now) key (holds_scalar (text (units_of t)))) }
+    {
         let place = key as usize;
-        if key >= file.count() || place >= self.objects.len() || self.objects[place] {
-            return false;
+        if place >= self.objects.len() || self.objects[place] {
+            return None;
         }
         self.objects[place] = true;
-        let Some(length) = length_of(self.octets, file, key) else {
-            return false;
-        };
-        match self.left.checked_sub(length) {
-            Some(left) => {
-                self.left = left;
-                true
-            }
-            None => false,
-        }
+        let text = file.text(key)?;
+        self.left = self.left.checked_sub(text.len() as u64)?;
+        Some(text)
     }
 }
 
-// How many units the text has that the object holds, if it holds one. Its first octets tell that of
-// most, and the text is not read.
-fn length_of(octets: &[u8], file: &BinFile, n: u64) -> Option<u64>
-    requires { n < (trailer_of (octets_of file.now)).count }
+// Whether the text that the first object holds is below the one that the second holds.
+#[inline(always)]
+fn is_below(file: &BinFile, first: u64, lower: TextRef, second: u64, higher: TextRef) -> bool
+    requires lower { Holds (octets_of file.now) first (holds_scalar (text (units_of lower))) }
+    requires higher { Holds (octets_of file.now) second (holds_scalar (text (units_of higher))) }
+    ensures { IsTrue result ↔ AreInOrder (octets_of file.now) first second }
 {
-    let (marker, behind) = octets.get(file.place(n) as usize..)?.split_first()?;
-    let kind = marker / 16;
-    if kind != ASCII && kind != WIDE {
-        return None;
-    }
-    let low = marker % 16;
-    if low < LONG {
-        return Some(u64::from(low));
-    }
-    match behind {
-        [ONE_OCTET, count, ..] => Some(u64::from(*count)),
-        [TWO_OCTETS, high, low, ..] => Some(256 * u64::from(*high) + u64::from(*low)),
-        _ => length_read(file, n),
-    }
+    lower < higher
 }
 
-// The same, by reading the text.
-fn length_read(file: &BinFile, n: u64) -> Option<u64>
-    requires { n < (trailer_of (octets_of file.now)).count }
+#[inline(always)]
+fn are_both(first: bool, second: bool) -> bool
+    ensures { IsTrue result ↔ (IsTrue first × IsTrue second) }
 {
-    match file.object(n) {
-        Ok(Object::Scalar(ScalarRef::Text(text))) => Some(text.len() as u64),
-        _ => None,
-    }
+    first && second
 }

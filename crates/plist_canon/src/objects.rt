@@ -22,19 +22,6 @@ pub(crate) fn object_of<'a>(file: &BinFile<'a>, n: u64) -> Object<'a>
     file.object(n).unwrap()
 }
 
-/// The text that the object holds, if it holds one.
-pub(crate) fn text_of<'a>(file: &BinFile<'a>, n: u64) -> Option<TextRef<'a>>
-    requires { n < (trailer_of (octets_of file.now)).count }
-    ensures some { IfSome result
-        (λ t. Holds (octets_of file.now) n (holds_scalar (text (units_of t)))) }
-    ensures none { IfNone result (¬ HoldsText (octets_of file.now) n) }
-{
-    match file.object(n) {
-        Ok(Object::Scalar(ScalarRef::Text(text))) => Some(text),
-        _ => None,
-    }
-}
-
 /// The scalar that the object holds, if it holds one.
 pub(crate) fn scalar_of<'a>(file: &BinFile<'a>, n: u64) -> Option<ScalarRef<'a>>
     requires { n < (trailer_of (octets_of file.now)).count }

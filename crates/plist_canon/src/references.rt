@@ -15,7 +15,6 @@ ghost use Rattle.plist_canon.specs.KnownKeys.{AreKnown};
 
 use crate::judging::Flaw;
 use crate::known_keys::KnownKeys;
-use crate::objects::text_of;
 use plist_object::{BinFile, Object, Ranks, Refs};
 use plist_value::TextRef;
 use std::alloc::Global;
@@ -90,8 +89,7 @@ fn table_keys_ascend<'a>(
     if known.are_last(keys) {
         return Ok(Some(true));
     }
-    known.name(alloc, file, keys)?;
-    let Some(ascend) = named_texts_ascend(file, &known.ranks, keys) else {
+    let Some(ascend) = named_texts_ascend(alloc, file, known, keys)? else {
         return Ok(None);
     };
     if ascend {
@@ -102,24 +100,33 @@ fn table_keys_ascend<'a>(
 
 // Whether the texts that the references name ascend, if each names one. Mostly they ascend, and
 // then each of several was seen to name a text.
-fn named_texts_ascend(file: &BinFile, ranks: &Ranks, keys: &Refs) -> Option<bool>
-    requires ranks { AreRanks (octets_of file.now) ranks.now }
-    ensures some { IfSome result (λ _. NameTexts (octets_of file.now) (numbers_of keys.now)) }
-    ensures ascend { IfSome result
-        (λ ascend. IsTrue ascend ↔ AscendInTurn (octets_of file.now) (numbers_of keys.now)) }
-    ensures none { IfNone result (¬ NameTexts (octets_of file.now) (numbers_of keys.now)) }
+fn named_texts_ascend<'a>(
+    alloc: Global,
+    file: &BinFile<'a>,
+    known: &mut KnownKeys<'a>,
+    keys: &Refs,
+) -> Result<Option<bool>, Flaw>
+    requires known { AreKnown (octets_of file.now) known.old }
+    ensures some { IfOk result (λ told. IfSome told
+        (λ _. NameTexts (octets_of file.now) (numbers_of keys.now))) }
+    ensures ascend { IfOk result (λ told. IfSome told
+        (λ ascend. IsTrue ascend ↔ AscendInTurn (octets_of file.now) (numbers_of keys.now))) }
+    ensures none { IfOk result (λ told. IfNone told
+        (¬ NameTexts (octets_of file.now) (numbers_of keys.now))) }
+    ensures known { OnOk result (AreKnown (octets_of file.now) known.new) }
+    ensures err { IfErr result (IsFlaw (octets_of file.now)) }
 {
     if !are_below(keys, file.count()) {
-        return None;
+        return Ok(None);
     }
-    let ascend = keys_ascend(file, ranks, keys);
+    let ascend = known.ascend(alloc, file, keys)?;
     if ascend && keys.len() > 1 {
-        return Some(true);
+        return Ok(Some(true));
     }
-    if !name_texts(file, ranks, keys) {
-        return None;
+    if !name_texts(file, &known.ranks, keys) {
+        return Ok(None);
     }
-    Some(ascend)
+    Ok(Some(ascend))
 }
 
 fn are_below(refs: &Refs, count: u64) -> bool
@@ -154,62 +161,22 @@ fn names_text(file: &BinFile, ranks: &Ranks, key: u64) -> bool
     requires below { key < (trailer_of (octets_of file.now)).count }
     ensures { IsTrue result ↔ HoldsText (octets_of file.now) key }
 {
-    ranks.get(key).is_some() || text_of(file, key).is_some()
+    ranks.get(key).is_some() || file.text(key).is_some()
 }
 
-// Whether the texts that the references name ascend, unit by unit.
-fn keys_ascend(file: &BinFile, ranks: &Ranks, keys: &Refs) -> bool
+/// Whether the texts that the references name ascend, unit by unit.
+pub(crate) fn keys_ascend(file: &BinFile, ranks: &Ranks, keys: &Refs) -> bool
     requires ranks { AreRanks (octets_of file.now) ranks.now }
     requires below { EachIndex (numbers_of keys.now)
         (λ k. slice_index (numbers_of keys.now) k < (trailer_of (octets_of file.now)).count) }
     ensures { IsTrue result ↔ AscendInTurn (octets_of file.now) (numbers_of keys.now) }
 {
-    if keys.len() > 1 && ranks.get(keys.get(0)).is_none() {
-        return texts_ascend(file, keys);
-    }
     for k in 1..keys.len() {
         if !are_in_order(file, ranks, keys.get(k - 1), keys.get(k)) {
             return false;
         }
     }
     true
-}
-
-// The same of at least two, each of which is read once.
-fn texts_ascend(file: &BinFile, keys: &Refs) -> bool
-    requires some { 1 < length (numbers_of keys.now) }
-    requires below { EachIndex (numbers_of keys.now)
-        (λ k. slice_index (numbers_of keys.now) k < (trailer_of (octets_of file.now)).count) }
-    ensures { IsTrue result ↔ AscendInTurn (octets_of file.now) (numbers_of keys.now) }
-{
-    let Some(mut before) = text_of(file, keys.get(0)) else {
-        return false;
-    };
-    for k in 1..keys.len() {
-        let Some(text) = text_above(file, keys.get(k - 1), before, keys.get(k)) else {
-            return false;
-        };
-        before = text;
-    }
-    true
-}
-
-// The text that the second object holds, if it is above this one, which the first object holds.
-fn text_above<'a>(
-    file: &BinFile<'a>,
-    first: u64,
-    lower: TextRef<'a>,
-    second: u64,
-) -> Option<TextRef<'a>>
-    requires second { second < (trailer_of (octets_of file.now)).count }
-    requires lower { Holds (octets_of file.now) first (holds_scalar (text (units_of lower))) }
-    ensures holds { IfSome result
-        (λ t. Holds (octets_of file.now) second (holds_scalar (text (units_of t)))) }
-    ensures some { IfSome result (λ _. AreInOrder (octets_of file.now) first second) }
-    ensures none { IfNone result (¬ AreInOrder (octets_of file.now) first second) }
-{
-    let text = text_of(file, second)?;
-    if lower < text { Some(text) } else { None }
 }
 
 // Whether the objects hold texts, the first below the second.
@@ -230,7 +197,7 @@ fn texts_are_in_order(file: &BinFile, first: u64, second: u64) -> bool
     requires second { second < (trailer_of (octets_of file.now)).count }
     ensures { IsTrue result ↔ AreInOrder (octets_of file.now) first second }
 {
-    match (text_of(file, first), text_of(file, second)) {
+    match (file.text(first), file.text(second)) {
         (Some(first), Some(second)) => first < second,
         _ => false,
     }

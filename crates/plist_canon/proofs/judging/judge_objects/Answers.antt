@@ -27,7 +27,7 @@ first_flaw-requires g c =
     let i = c.loop-i.i in
     let noted = c.loop-i.invariant.noted in
     let listed : i < (trailer_of f).count = omega (arith, c.loop-i-test.true, c.count-i-end.ensures) in
-    let none = rw c.in_default.is at c.object-read.ensures.read in
+    let none = rw c.in_default.is at c.spanned-read.ensures.read in
     record {
       noted = subst (λ (n : ℕ). AreNoted f n c.loop-i.notes) (sym noted.noted) noted;
       listed = rw noted.noted (omega (arith, listed));
@@ -36,16 +36,16 @@ first_flaw-requires g c =
 
 pub judge_object-requires-clause-holds : goal.judge_object-requires-clause-holds
 judge_object-requires-clause-holds g c =
-    record { listed = omega (arith, c.loop-i-test.true, c.count-i-end.ensures); reads = rw c.in-Ok.is at c.object-read.ensures.read }
+    record { listed = omega (arith, c.loop-i-test.true, c.count-i-end.ensures); reads = rw c.in-Ok.is at c.spanned-read.ensures.read }
 
 pub loop-i-preserved : goal.loop-i-preserved
 loop-i-preserved g c =
     let f = octets_of c.args.file.now in
     let i = c.loop-i.i in
-    let held = held_of c.in-Ok.object in
-    let holds : Holds f i held = record { listed = omega (arith, c.loop-i-test.true, c.count-i-end.ensures); reads = rw c.in-Ok.is at c.object-read.ensures.read } in
-    let told = c.in-Ok-judge_object.ensures in
-    let end = c.in-Ok-judge_object.next in
+    let read = c.in-Ok.read in
+    let held = held_of read.object in
+    let holds : Holds f i held = record { listed = omega (arith, c.loop-i-test.true, c.count-i-end.ensures); reads = rw c.in-Ok.is at c.spanned-read.ensures.read } in
+    let told = c.in_default-judge_object.ensures in
     let before = c.loop-i.invariant in
     let weights = c.loop-i.weights.items in
     let weight = c.of.result in
@@ -55,7 +55,7 @@ loop-i-preserved g c =
     record {
       known = told.known;
       judged = below_or_last (λ j. IsJudged f j) i before.judged told.judged;
-      ends = subst (λ (n : ℕ). IsEndBefore f n end) (sym (add-one i)) (c.loop-i.end, told.ends);
+      ends = subst (λ (n : ℕ). IsEndBefore f n read.end) (sym (add-one i)) (read.start, rw c.in-Ok.is at c.spanned-read.ensures.span);
       noted = subst (λ (n : ℕ). AreNoted f n c.note.new.self) (sym (add-one i)) (c.in_ok-note.ensures f i holds before.noted);
       weighed = AreWeights-more f weights pushed i weight added before.weighed before.counted weighs;
       counted = length-more weights pushed i weight added before.counted;

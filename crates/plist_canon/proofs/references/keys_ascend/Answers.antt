@@ -7,5 +7,5 @@ pub loop-k-preserved : goal.loop-k-preserved
 loop-k-preserved c =
     let f = octets_of c.args.file.now in
     let keys = numbers_of c.args.keys.now in
-    let here : AreInOrder f c.get-in-loop-k.result c.get-in-loop-k-2.result = c.are_in_order.ensures.0 c.if-not-are_in_order.false in
-    turns_more f keys c.loop-k.k c.loop-k.auto.k c.loop-k.invariant (rw (c.get-in-loop-k.ensures, c.get-in-loop-k-2.ensures) at here)
+    let here : AreInOrder f c.get.result c.get-in-loop-k.result = c.are_in_order.ensures.0 c.if-not-are_in_order.false in
+    turns_more f keys c.loop-k.k c.loop-k.auto.k c.loop-k.invariant (rw (c.get.ensures, c.get-in-loop-k.ensures) at here)

@@ -16,11 +16,11 @@ returns-then-len-gt1-clause-some c =
     let keys = numbers_of c.args.keys.now in
     record {
       numbers = rw c.count.ensures at (c.are_below.ensures.0 c.if-not-are_below.false);
-      texts = ascending_name f keys (omega (arith, c.if-len-gt1.true, c.len.ensures)) (c.keys_ascend-ascend.ensures.0 c.if-ascend.true);
+      texts = ascending_name f keys (omega (arith, c.if-len-gt1.true, c.len.ensures)) (c.in_ok-ascend.ensures.ascend.0 c.if-ascend.true);
     }
 
 pub returns-then-len-gt1-clause-ascend : goal.returns-then-len-gt1-clause-ascend
-returns-then-len-gt1-clause-ascend c = (λ yes. c.keys_ascend-ascend.ensures.0 c.if-ascend.true, λ has. refl)
+returns-then-len-gt1-clause-ascend c = (λ yes. c.in_ok-ascend.ensures.ascend.0 c.if-ascend.true, λ has. refl)
 
 pub name_texts-requires-clause-below : goal.name_texts-requires-clause-below
 name_texts-requires-clause-below c = rw c.count.ensures at (c.are_below.ensures.0 c.if-not-are_below.false)

@@ -34,30 +34,32 @@ returns-then-ascend-clause-some c =
     let f = octets_of c.args.file.now in
     let values = numbers_of c.args.values.now in
     let below : EachIndex values (λ k. slice_index values k < (trailer_of f).count) = rw c.count.ensures at (c.are_below.ensures.0 c.if-not-are_below.false) in
-    let named = c.in-Some.ensures.some in
+    let named = rw c.in-Some.is at c.in_ok-ascend.ensures.some in
     RefersWell-table f (numbers_of c.args.keys.now) values named.numbers below named.texts
 
 pub returns-then-ascend-clause-ascend : goal.returns-then-ascend-clause-ascend
 returns-then-ascend-clause-ascend c =
-    let told = c.in-Some.ensures in
-    ascend-both (octets_of c.args.file.now) c.args.i (numbers_of c.args.keys.now) (numbers_of c.args.values.now) c.in-Some.ascend c.requires.holds told.some.texts told.ascend
+    let named = rw c.in-Some.is at c.in_ok-ascend.ensures.some in
+    let ascend = rw c.in-Some.is at c.in_ok-ascend.ensures.ascend in
+    ascend-both (octets_of c.args.file.now) c.args.i (numbers_of c.args.keys.now) (numbers_of c.args.values.now) c.in-Some.ascend c.requires.holds named.texts ascend
 
 pub returns-else-ascend-clause-some : goal.returns-else-ascend-clause-some
 returns-else-ascend-clause-some c =
     let f = octets_of c.args.file.now in
     let values = numbers_of c.args.values.now in
     let below : EachIndex values (λ k. slice_index values k < (trailer_of f).count) = rw c.count.ensures at (c.are_below.ensures.0 c.if-not-are_below.false) in
-    let named = c.in-Some.ensures.some in
+    let named = rw c.in-Some.is at c.in_ok-ascend.ensures.some in
     RefersWell-table f (numbers_of c.args.keys.now) values named.numbers below named.texts
 
 pub returns-else-ascend-clause-ascend : goal.returns-else-ascend-clause-ascend
 returns-else-ascend-clause-ascend c =
-    let told = c.in-Some.ensures in
-    ascend-both (octets_of c.args.file.now) c.args.i (numbers_of c.args.keys.now) (numbers_of c.args.values.now) c.in-Some.ascend c.requires.holds told.some.texts told.ascend
+    let named = rw c.in-Some.is at c.in_ok-ascend.ensures.some in
+    let ascend = rw c.in-Some.is at c.in_ok-ascend.ensures.ascend in
+    ascend-both (octets_of c.args.file.now) c.args.i (numbers_of c.args.keys.now) (numbers_of c.args.values.now) c.in-Some.ascend c.requires.holds named.texts ascend
 
 pub returns-in_default-clause-none : goal.returns-in_default-clause-none
 returns-in_default-clause-none c = λ refers.
     let f = octets_of c.args.file.now in
     let keys = numbers_of c.args.keys.now in
     let values = numbers_of c.args.values.now in
-    c.in_default.ensures.none (record { numbers = keys_below f keys values refers; texts = keys_named f keys values refers })
+    (rw c.in_default.is at c.in_ok-ascend.ensures.none) (record { numbers = keys_below f keys values refers; texts = keys_named f keys values refers })
