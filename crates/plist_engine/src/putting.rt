@@ -35,6 +35,7 @@ pub(crate) fn short(number: u64) -> Result<u32, AllocError>
 }
 
 /// How many octets the object has, where its references have so many octets each.
+#[inline(always)]
 pub(crate) fn part_length(width: u8, part: &Part) -> u64
     requires width { IsWidth width }
     requires spellable { CanSpellPart width part.now }
