@@ -24,6 +24,9 @@ use std::alloc::Global;
 // How many levels deep what lies in a table without braces may be.
 const BARE_LEVELS: u64 = MAX_DEPTH - 1;
 
+// The greatest capacity, in UTF-16 units, that a string leaves to the next.
+const MOST_ROOM: usize = 65_536;
+
 // The tokens that are to be read of an input, and what was put for those before.
 #[derive(Drop)]
 pub(crate) struct Reader<'a> {
@@ -238,14 +241,16 @@ impl<'a> Reader<'a> {
     }
 
     // Puts the text of these units, and answers its number. They leave their room to those of the
-    // next string.
+    // next string, unless it is large.
     fn put_units(&mut self, units: Vec<u16>, role: Role) -> Result<u32, NoDraft>
         ensures put { IfOk result (Puts (objects self.old.draft) (objects self.new.draft)
             (holds_scalar (one_text units.items))) }
         ensures cursor { self.new.tokens.cursor ≡ self.old.tokens.cursor }
     {
         let number = self.put_text(TextRef::of_units(units.as_slice()), role)?;
-        self.tokens.room = units;
+        if units.capacity() <= MOST_ROOM {
+            self.tokens.room = units;
+        }
         Ok(number)
     }
 
