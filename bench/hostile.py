@@ -60,6 +60,19 @@ def overlapping_keys(size):
     return file(table + heads + b"a" * length + b"\x10\x00", places, 2)
 
 
+def unordered_keys(size):
+    """A table whose first two keys do not ascend, and of which all others reach into one long run of octets."""
+    keys = size // 40
+    length = size // 2
+    width = 2 if keys + 3 < 1 << 16 else 4
+    names = b"".join(number(n, width) for n in range(1, keys + 3))
+    table = head(0xD0, keys + 2) + names + number(keys + 3, width) * (keys + 2)
+    heads = b"".join(b"\x5f\x12" + bytes(octet & 0x7F for octet in number(length, 4)) for _ in range(keys))
+    start = 8 + len(table)
+    places = [8, start, start + 2, *(start + 4 + 6 * n for n in range(keys)), start + 4 + len(heads) + length]
+    return file(table + b"QbQa" + heads + b"a" * length + b"\x10\x00", places, width)
+
+
 def one_table_often(size):
     """Objects that are all one table, whose keys are all one text."""
     count = size // 10
@@ -88,8 +101,8 @@ def main():
     print("|---|---|---|---|---|---|")
     with tempfile.TemporaryDirectory() as folder:
         path, measure = os.path.join(folder, "file"), Measure(folder)
-        for word, make in (("check", shared_keys), ("check", overlapping_keys), ("check", one_table_often),
-                           ("check", one_text_often), ("lint", shared_keys), ("lint", one_key)):
+        for word, make in (("check", shared_keys), ("check", overlapping_keys), ("check", unordered_keys),
+                           ("check", one_table_often), ("check", one_text_often), ("lint", shared_keys), ("lint", one_key)):
             for size in (250_000, 500_000, 1_000_000):
                 with open(path, "wb") as target:
                     target.write(make(size))
