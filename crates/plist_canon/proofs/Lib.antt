@@ -20,6 +20,7 @@ mod RuleRows
 pub mod Weighing
 pub mod Visiting
 pub mod Judges
+pub mod Turning
 pub mod Meeting
 pub mod TableParts
 pub mod Spending

@@ -12,6 +12,7 @@ pub mod Checking
 pub mod KnownKeys
 pub mod Codes
 pub mod Weights
+pub mod Turns
 pub mod Met
 pub mod Preorders
 pub mod Owing

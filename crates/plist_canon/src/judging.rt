@@ -16,10 +16,10 @@ ghost use Rattle.plist_canon.specs.Weights.{AreAllWeights};
 use crate::known_keys::KnownKeys;
 use crate::references::object_keys_ascend;
 use crate::repeats::judge_repeats;
+use crate::turns::{Turns, take_keys};
 use crate::weights::Weight;
 use plist_engine::Notes;
 use plist_object::{BinFile, Object, Spanned, begins_canonically, width_of};
-use plist_value::MAX_NODES;
 use std::alloc::{AllocError, AllocFailed, Global};
 use std::hash::BuildHasher;
 
@@ -37,6 +37,15 @@ impl Flaw {
         ensures { result ≡ Broken rule object }
     {
         Flaw::Broken { rule, object }
+    }
+
+    // Whether it is at an object before that of the other. Want of memory is before all.
+    fn is_before(self, other: Flaw) -> bool {
+        match (self, other) {
+            (Flaw::Broken { object, .. }, Flaw::Broken { object: later, .. }) => object < later,
+            (Flaw::Broken { .. }, Flaw::NoMemory) => false,
+            (Flaw::NoMemory, _) => true,
+        }
     }
 }
 
@@ -109,28 +118,26 @@ pub(crate) fn judge_objects<'a, S: BuildHasher + Copy>(
         (λ weights. AreAllWeights (octets_of file.now) weights.items) }
     ensures err { IfErr result (IsFlaw (octets_of file.now)) }
 {
-    let mut notes = Notes::new(alloc, &hasher, file.count());
-    let mut weights = Vec::with_capacity(alloc, file.count().min(MAX_NODES) as usize)?;
+    let mut turns = Turns::new(alloc, &hasher, file)?;
     let mut known = KnownKeys::new(alloc, file)?;
-    let mut end = 8;
-    for i in 0..file.count() {
+    while turns.done() < file.count() {
+        let (i, place) = (turns.done(), turns.end);
         let read = file.spanned(i);
         let Ok(read) = &read else {
-            return Err(first_flaw(alloc, hasher, file, notes, Flaw::at(0, i)));
+            return Err(first_flaw(alloc, hasher, file, turns.notes, Flaw::at(0, i)));
         };
-        if let Err(flaw) = judge_object(alloc, objects, file, i, end, read, &mut known) {
-            return Err(first_flaw(alloc, hasher, file, notes, flaw));
+        turns.take(read)?;
+        take_keys(objects, file, &mut turns, &mut known, &read.object)?;
+        if let Err(flaw) = judge_object(alloc, objects, file, i, place, read, &mut known) {
+            return Err(first_flaw(alloc, hasher, file, turns.notes, flaw));
         }
-        end = read.end;
-        notes.note(&read.object)?;
-        weights.push(Weight::of(&read.object))?;
     }
-    judge_repeats(alloc, hasher, file, notes)?;
-    judge_table(file, end)?;
-    Ok(weights)
+    judge_repeats(alloc, hasher, file, turns.notes)?;
+    judge_table(file, turns.end)?;
+    Ok(turns.weights)
 }
 
-// The flaw, where rule 6 holds of the objects before: else that of rule 6.
+// The flaw, or that of rule 6 of the objects that were noted, where it is at one before.
 fn first_flaw<S: BuildHasher + Copy>(
     alloc: Global,
     hasher: S,
@@ -144,8 +151,8 @@ fn first_flaw<S: BuildHasher + Copy>(
     ensures { IsFlaw (octets_of file.now) result }
 {
     match judge_repeats(alloc, hasher, file, notes) {
-        Ok(()) => flaw,
-        Err(earlier) => earlier,
+        Err(repeat) if repeat.is_before(flaw) => repeat,
+        _ => flaw,
     }
 }
 
@@ -188,14 +195,38 @@ fn judge_object<'a>(
     ensures err { IfErr result (IsFlaw (octets_of file.now)) }
 {
     let ascend = judge_references(alloc, file, known, i, &read.object)?;
+    judge_standing(objects, file, i, place, read)?;
+    if !ascend {
+        return Err(Flaw::at(5, i));
+    }
+    Ok(())
+}
+
+/// Rules 3 and 4 of the object, where it holds this and stands there, and the one before it ends at
+/// the place.
+#[inline(always)]
+pub(crate) fn judge_standing(
+    objects: &[u8],
+    file: &BinFile,
+    i: u64,
+    place: u64,
+    read: &Spanned,
+) -> Result<(), Flaw>
+    requires objects { objects.now
+        ≡ take (trailer_of (octets_of file.now)).table (octets_of file.now) }
+    requires before { IsEndBefore (octets_of file.now) i place }
+    requires holds { Holds (octets_of file.now) i (held_of read.now.object) }
+    requires span { span_of (octets_of file.now) i ≡ Ok (read.now.start, read.now.end) }
+    requires valid { IsHeld (held_of read.now.object) }
+    ensures follows { OnOk result (Follows (octets_of file.now) i) }
+    ensures spelled { OnOk result (IsSpelledCanonically (octets_of file.now) i) }
+    ensures err { IfErr result (IsFlaw (octets_of file.now)) }
+{
     if read.start != place {
         return Err(Flaw::at(3, i));
     }
     if !begins_canonically(&objects[place as usize..], &read.object) {
         return Err(Flaw::at(4, i));
-    }
-    if !ascend {
-        return Err(Flaw::at(5, i));
     }
     Ok(())
 }

@@ -13,6 +13,7 @@ mod progress;
 mod ranking;
 mod references;
 mod repeats;
+mod turns;
 mod weights;
 mod writing;
 

@@ -1,69 +1,25 @@
-use Rattle.std.proofs.Common.{◌≡◌, ◌∙◌}
-use Rattle.plist_object.specs.Places.{place_of}
 use Rattle.plist_object.specs.Views.{held_of, octets_of}
-use Rattle.plist_canon.specs.Rules.{HasAscendingKeys, breaks_c3, breaks_c4, breaks_c5}
-use Rattle.plist_object.proofs.Readable.{Holds-reads}
-use Rattle.plist_canon.proofs.Judges.{not-Adjoins, refuted, span-place}
-use Rattle.plist_canon.proofs.Plainly.{Holds-inside, begins-shortest}
+use Rattle.plist_canon.specs.Rules.{HasAscendingKeys, breaks_c5}
+use Rattle.plist_canon.proofs.Judges.{refuted}
 use Rattle.plist_canon.proofs.judging.judge_object.Goals as goal
-
-pub returns-then-read-place-clause-err : goal.returns-then-read-place-clause-err
-returns-then-read-place-clause-err c =
-    let f = octets_of c.args.file.now in
-    let read = c.args.read.now in
-    rw c.at.ensures
-    (breaks_c3 c.args.i c.requires.holds.listed (not-Adjoins f c.args.i c.args.place read.start read.end c.requires.before c.requires.span c.if-read-place.true))
-
-pub slice_bounds-begins_canonically-count : goal.slice_bounds-begins_canonically-count
-slice_bounds-begins_canonically-count c =
-    let f = octets_of c.args.file.now in
-    let read = c.args.read.now in
-    let held = held_of read.object in
-    let starts : place_of f c.args.i ≡ c.args.place = span-place f c.args.i read.start read.end (Holds-reads f c.args.i held c.requires.holds) c.requires.span ∙ c.if-read-place.false in
-    Holds-inside f c.args.i c.args.place c.args.objects.now held c.args.file.now.laid.trailed c.requires.holds starts c.requires.objects
-
-pub slice_bounds-begins_canonically-start : goal.slice_bounds-begins_canonically-start
-slice_bounds-begins_canonically-start c =
-    let f = octets_of c.args.file.now in
-    let read = c.args.read.now in
-    let held = held_of read.object in
-    let starts : place_of f c.args.i ≡ c.args.place = span-place f c.args.i read.start read.end (Holds-reads f c.args.i held c.requires.holds) c.requires.span ∙ c.if-read-place.false in
-    Holds-inside f c.args.i c.args.place c.args.objects.now held c.args.file.now.laid.trailed c.requires.holds starts c.requires.objects
-
-pub returns-then-not-begins_canonically-clause-err : goal.returns-then-not-begins_canonically-clause-err
-returns-then-not-begins_canonically-clause-err c =
-    let f = octets_of c.args.file.now in
-    let read = c.args.read.now in
-    let held = held_of read.object in
-    let reads = Holds-reads f c.args.i held c.requires.holds in
-    let begins = c.begins_canonically.ensures in
-    let starts : place_of f c.args.i ≡ c.args.place = span-place f c.args.i read.start read.end reads c.requires.span ∙ c.if-read-place.false in
-    let both = begins-shortest f c.args.i c.args.place c.args.objects.now held c.requires.holds c.requires.valid begins.counted starts c.requires.objects begins.octets in
-    rw c.at-then-not-begins_canonically.ensures
-    (breaks_c4 c.args.i c.requires.holds.listed (λ spelled. refuted _ c.begins_canonically.result begins.begins c.if-not-begins_canonically.true (both.1 (spelled reads))))
 
 pub returns-then-not-ascend-clause-err : goal.returns-then-not-ascend-clause-err
 returns-then-not-ascend-clause-err c =
     let f = octets_of c.args.file.now in
-    rw c.at-then-not-ascend.ensures (breaks_c5 c.args.i c.requires.holds.listed (refuted (HasAscendingKeys f c.args.i) c.in_ok-ascend.ascend c.in_ok-ascend.ensures.ascend c.if-not-ascend.true))
+    rw c.at.ensures (breaks_c5 c.args.i c.requires.holds.listed (refuted (HasAscendingKeys f c.args.i) c.in_ok-ascend.ascend c.in_ok-ascend.ensures.ascend c.if-not-ascend.true))
 
 pub returns-clause-judged : goal.returns-clause-judged
 returns-clause-judged c =
-    let f = octets_of c.args.file.now in
-    let read = c.args.read.now in
-    let held = held_of read.object in
     let told = c.in_ok-ascend.ensures in
-    let begins = c.begins_canonically.ensures in
-    let starts : place_of f c.args.i ≡ c.args.place = span-place f c.args.i read.start read.end (Holds-reads f c.args.i held c.requires.holds) c.requires.span ∙ c.if-read-place.false in
-    let both = begins-shortest f c.args.i c.args.place c.args.objects.now held c.requires.holds c.requires.valid begins.counted starts c.requires.objects begins.octets in
+    let standing = c.in_ok-judge_standing.ensures in
     record {
       read = record {
-        held = held;
+        held = held_of c.args.read.now.object;
         holds = c.requires.holds;
         numbers = told.refers.numbers;
         texts = told.refers.texts;
       };
-      follows = record { place = c.args.place; end = read.end; before = c.requires.before; span = rw c.if-read-place.false at c.requires.span };
-      spelled = λ _. both.0 (begins.begins.0 c.if-not-begins_canonically.false);
+      follows = standing.follows;
+      spelled = standing.spelled;
       ascending = told.ascend.0 c.if-not-ascend.false;
     }

@@ -1,0 +1,72 @@
+-- The objects of a file in their turns.
+use Rattle.std.proofs.Common.{◌≡◌, ℕ, zero, suc, ◌+◌, ◌-◌, ◌<◌, ◌≤◌, List, length, Option, Some, None, refl, subst, arith, inl, inr}
+use Rattle.std.specs.Prelude.{slice_index}
+use Rattle.std.proofs.lemmas.Bool.{cases_lt}
+use Rattle.plist_value.specs.Plist.{text}
+use Rattle.plist_value.specs.Texts.{units_of}
+use Rattle.plist_value.specs.declared.text_ref.TextRef.{TextRef}
+use Rattle.plist_object.specs.Layout.{trailer_of}
+use Rattle.plist_object.specs.Objects.{holds_scalar}
+use Rattle.plist_object.specs.Places.{Holds}
+use Rattle.plist_canon.specs.Rules.{IsSpelledCanonically}
+use Rattle.plist_canon.specs.Checking.{AreInOrder, Follows, IsJudged}
+use Rattle.plist_canon.specs.Turns.{AreJudgedFrom, IsAbove}
+use Rattle.plist_canon.proofs.Judges.{HasAscendingKeys-other, below_or_last, turns_more}
+
+-- what rules 3 and 4 hold of, and holds a text, is judged
+pub text-judged : (f : List ℕ) (i : ℕ) (units : List ℕ) → Holds f i (holds_scalar (text units)) → Follows f i → IsSpelledCanonically f i → IsJudged f i
+text-judged f i units holds follows spelled = record {
+  read = record { held = holds_scalar (text units); holds = holds; numbers = tt; texts = tt };
+  follows = follows;
+  spelled = spelled;
+  ascending = HasAscendingKeys-other f i (holds_scalar (text units)) holds (λ keys values e. absurd cc);
+}
+
+pub judged-more : (f : List ℕ) (first behind : ℕ) → AreJudgedFrom f first behind → IsJudged f behind → AreJudgedFrom f first (behind + 1)
+judged-more f first behind judged last i least below =
+    below_or_last (λ j. first ≤ j → IsJudged f j) behind (λ j before from. judged j from before) (λ from. last) i below least
+
+-- the objects before one, that one, and those behind it
+pub judged-all : (f : List ℕ) (i behind : ℕ) → ((j : ℕ) → j < i → IsJudged f j) → IsJudged f i → AreJudgedFrom f (i + 1) behind → (j : ℕ) → j < behind → IsJudged f j
+judged-all f i behind before here later j below =
+    elim (cases_lt i j) [
+      | inl past ↦ later j (omega (arith, past)) below
+      | inr not ↦ below_or_last (λ k. IsJudged f k) i before here j (omega (arith, not))
+    ]
+
+-- the last of the first keys holds this text, if there is one
+abbrev pub IsLastKey : List ℕ → List ℕ → ℕ → Option TextRef → Type 0
+IsLastKey f keys k (Some t) = Holds f (slice_index keys (k - 1)) (holds_scalar (text (units_of t)))
+IsLastKey f keys k None = k ≡ 0
+
+-- a key above it
+pub above-in-order : (f keys : List ℕ) (k : ℕ) (last : Option TextRef) (t : TextRef) → ((j : ℕ) → suc j < k → AreInOrder f (slice_index keys j) (slice_index keys (suc j))) → IsLastKey f keys k last → IsAbove last t → Holds f (slice_index keys k) (holds_scalar (text (units_of t))) → (j : ℕ) → suc j < k + 1 → AreInOrder f (slice_index keys j) (slice_index keys (suc j))
+above-in-order f keys k None t before none above holds j below =
+    let empty : k ≡ 0 = none in
+    absurd (omega (arith, below, empty))
+above-in-order f keys zero (Some lower) t before last above holds j below = absurd (omega (arith, below))
+above-in-order f keys (suc k) (Some lower) t before last above holds j below =
+    turns_more f keys (suc k) (omega arith) before (record {
+      first = units_of lower;
+      second = units_of t;
+      holds_first = last;
+      holds_second = holds;
+      below = above;
+    }) j below
+
+-- no more objects are judged than there are
+pub judged-most : (f : List ℕ) (first behind : ℕ) → first ≤ (trailer_of f).count → AreJudgedFrom f first behind → behind ≤ (trailer_of f).count
+judged-most f first zero some judged = omega arith
+judged-most f first (suc n) some judged =
+    elim (cases_lt n first) [
+      | inl before ↦ omega (arith, some, before)
+      | inr not ↦ (
+          let listed = (judged n (omega (arith, not)) (omega arith)).read.holds.listed in
+          omega (arith, listed))
+    ]
+
+-- where no fewer are, all are
+pub judged-whole : (f : List ℕ) (n : ℕ) → ((j : ℕ) → j < n → IsJudged f j) → (trailer_of f).count ≤ n → n ≡ (trailer_of f).count
+judged-whole f n judged whole =
+    let most = judged-most f 0 n (omega arith) (λ j least below. judged j below) in
+    omega (arith, most, whole)

@@ -1,0 +1,26 @@
+-- The objects of a file in their turns.
+use Rattle.std.specs.Prelude.{◌≡◌, ℕ, ◌<◌, ◌≤◌, ⊤, List, length, Option, Some, None}
+use Rattle.std.specs.declared.cmp.Ordering.TheVariants.{Less}
+use Rattle.std.specs.Ordering.{nat_cmp}
+use Rattle.std.specs.Cmp.Lexicographic.{slice_cmp}
+use Rattle.plist_value.specs.Texts.{units_of}
+use Rattle.plist_value.specs.declared.text_ref.TextRef.{TextRef}
+use Rattle.plist_engine.specs.Sieve.{AreNoted}
+use Rattle.plist_canon.specs.Checking.{IsEndBefore, IsJudged}
+use Rattle.plist_canon.specs.Weights.{AreWeights}
+use Rattle.plist_canon.specs.declared.turns.Turns.{Turns}
+
+-- the first objects were noted and weighed, and the last of them ends there
+pub record HaveTurned (f : List ℕ) (turns : Turns) : Type 0 where
+  pub noted : AreNoted f (length turns.weights.items) turns.notes
+  pub weighed : AreWeights f turns.weights.items
+  pub ends : IsEndBefore f (length turns.weights.items) turns.end
+
+-- the objects from one number up to another are judged, but for the last
+abbrev pub AreJudgedFrom : List ℕ → ℕ → ℕ → Type 0
+AreJudgedFrom f first behind = (i : ℕ) → first ≤ i → i < behind → IsJudged f i
+
+-- the text is above the other, if there is one
+abbrev pub IsAbove : Option TextRef → TextRef → Type 0
+IsAbove (Some lower) t = slice_cmp nat_cmp (units_of lower) (units_of t) ≡ Less
+IsAbove None t = ⊤

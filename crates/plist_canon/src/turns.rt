@@ -1,0 +1,168 @@
+//! The objects of a file in their turns.
+ghost use Rattle.std.specs.Prelude.{◌≡◌, ◌∷◌, ◌<◌, ◌≤◌, ℕ, List, Ok, IfSome, IfNone, IfOk, OnOk};
+ghost use Rattle.std.specs.Prelude.{◌+◌, ◌↔◌, IsTrue, length, take};
+ghost use Rattle.std.specs.declared.cmp.Ordering.TheVariants.{Less};
+ghost use Rattle.std.specs.Ordering.{nat_cmp};
+ghost use Rattle.std.specs.Cmp.Lexicographic.{slice_cmp};
+ghost use Rattle.plist_value.specs.Plist.{text};
+ghost use Rattle.plist_value.specs.Texts.{units_of};
+ghost use Rattle.plist_object.specs.Layout.{trailer_of};
+ghost use Rattle.plist_object.specs.Objects.{holds_scalar};
+ghost use Rattle.plist_object.specs.Places.{Holds, span_of};
+ghost use Rattle.plist_object.specs.Views.{held_of, octets_of};
+ghost use Rattle.plist_canon.specs.Checking.{IsJudged};
+ghost use Rattle.plist_canon.specs.KnownKeys.{AreKnown};
+ghost use Rattle.plist_canon.specs.Turns.{HaveTurned, AreJudgedFrom, IsAbove};
+
+use crate::judging::judge_standing;
+use crate::known_keys::KnownKeys;
+use crate::weights::Weight;
+use plist_engine::Notes;
+use plist_object::{BinFile, Object, Spanned};
+use plist_value::{MAX_NODES, ScalarRef, TextRef};
+use std::alloc::{AllocError, Global};
+use std::hash::BuildHasher;
+
+/// What is kept of the objects that had their turn, which are the first of the file.
+#[derive(Drop)]
+pub(crate) struct Turns {
+    // Where the last of them ends, or the header.
+    pub(crate) end: u64,
+    pub(crate) notes: Notes,
+    // There is one for each.
+    pub(crate) weights: Vec<Weight>,
+}
+
+impl Turns {
+    /// No object had its turn.
+    pub(crate) fn new<S: BuildHasher>(
+        alloc: Global,
+        hasher: &S,
+        file: &BinFile,
+    ) -> Result<Turns, AllocError>
+        ensures none { IfOk result (λ turns. length turns.weights.items ≡ 0) }
+        ensures turned { IfOk result (HaveTurned (octets_of file.now)) }
+    {
+        Ok(Turns {
+            end: 8,
+            notes: Notes::new(alloc, hasher, file.count()),
+            weights: Vec::with_capacity(alloc, file.count().min(MAX_NODES) as usize)?,
+        })
+    }
+
+    /// How many objects had their turn: the number of the next.
+    pub(crate) fn done(&self) -> u64
+        ensures { result ≡ length self.now.weights.items }
+    {
+        self.weights.len() as u64
+    }
+
+    /// The next object has its turn, which was read as this.
+    #[inline(always)]
+    pub(crate) fn take(&mut self, read: &Spanned) -> Result<(), AllocError>
+        ensures one { OnOk result
+            (length self.new.weights.items ≡ length self.old.weights.items + 1) }
+        ensures turned { OnOk result ((f : List ℕ)
+            → Holds f (length self.old.weights.items) (held_of read.now.object)
+            → span_of f (length self.old.weights.items) ≡ Ok (read.now.start, read.now.end)
+            → HaveTurned f self.old → HaveTurned f self.new) }
+    {
+        self.end = read.end;
+        self.notes.note(&read.object)?;
+        self.weights.push(Weight::of(&read.object))?;
+        Ok(())
+    }
+}
+
+/// The turns of the keys of the object, if it is a table and they are the next objects, as long as
+/// each of them holds a text above the one before and is well judged. The others have theirs later.
+#[inline(always)]
+pub(crate) fn take_keys<'a>(
+    objects: &[u8],
+    file: &BinFile<'a>,
+    turns: &mut Turns,
+    known: &mut KnownKeys<'a>,
+    object: &Object<'a>,
+) -> Result<(), AllocError>
+    requires objects { objects.now
+        ≡ take (trailer_of (octets_of file.now)).table (octets_of file.now) }
+    requires turned { HaveTurned (octets_of file.now) turns.old }
+    requires known { AreKnown (octets_of file.now) known.old }
+    ensures turned { OnOk result (HaveTurned (octets_of file.now) turns.new) }
+    ensures more { OnOk result
+        (length turns.old.weights.items ≤ length turns.new.weights.items) }
+    ensures judged { OnOk result (AreJudgedFrom (octets_of file.now)
+        (length turns.old.weights.items) (length turns.new.weights.items)) }
+    ensures known { OnOk result (AreKnown (octets_of file.now) known.new) }
+{
+    let Object::Table(keys, _) = object else {
+        return Ok(());
+    };
+    let mut last = None;
+    for k in 0..keys.len() {
+        if keys.get(k) != turns.done() {
+            return Ok(());
+        }
+        let Some(text) = take_key(objects, file, turns, last)? else {
+            return Ok(());
+        };
+        last = Some(text);
+    }
+    known.last = Some(*keys);
+    Ok(())
+}
+
+// The turn of the next object, if it holds a text above this one and is well judged; and the text.
+#[inline(always)]
+fn take_key<'a>(
+    objects: &[u8],
+    file: &BinFile<'a>,
+    turns: &mut Turns,
+    lower: Option<TextRef>,
+) -> Result<Option<TextRef<'a>>, AllocError>
+    requires objects { objects.now
+        ≡ take (trailer_of (octets_of file.now)).table (octets_of file.now) }
+    requires turned { HaveTurned (octets_of file.now) turns.old }
+    ensures none { IfOk result (λ told. IfNone told (turns.new ≡ turns.old)) }
+    ensures turned { OnOk result (HaveTurned (octets_of file.now) turns.new) }
+    ensures one { IfOk result (λ told. IfSome told (λ _.
+        length turns.new.weights.items ≡ length turns.old.weights.items + 1)) }
+    ensures judged { IfOk result (λ told. IfSome told (λ _.
+        IsJudged (octets_of file.now) (length turns.old.weights.items))) }
+    ensures holds { IfOk result (λ told. IfSome told (λ t. Holds (octets_of file.now)
+        (length turns.old.weights.items) (holds_scalar (text (units_of t))))) }
+    ensures above { IfOk result (λ told. IfSome told (λ t. IsAbove lower.entry t)) }
+{
+    let i = turns.done();
+    if i >= file.count() {
+        return Ok(None);
+    }
+    let Ok(read) = file.spanned(i) else {
+        return Ok(None);
+    };
+    let Object::Scalar(scalar) = read.object else {
+        return Ok(None);
+    };
+    let ScalarRef::Text(text) = scalar else {
+        return Ok(None);
+    };
+    if !is_above(lower, text) {
+        return Ok(None);
+    }
+    let Ok(()) = judge_standing(objects, file, i, turns.end, &read) else {
+        return Ok(None);
+    };
+    turns.take(&read)?;
+    Ok(Some(text))
+}
+
+// Whether the text is above the lower one, if there is one.
+#[inline(always)]
+fn is_above(lower: Option<TextRef>, text: TextRef) -> bool
+    ensures { IsTrue result ↔ IsAbove lower.entry text.entry }
+{
+    match lower {
+        Some(lower) => lower < text,
+        None => true,
+    }
+}
