@@ -26,5 +26,6 @@ pub mod TableParts
 pub mod Spending
 pub mod Walking
 pub mod Paths
+pub mod Walked
 pub mod Ranked
 pub mod Repeating

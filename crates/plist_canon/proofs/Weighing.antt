@@ -1,17 +1,15 @@
 -- The weights of objects.
-use Rattle.std.proofs.Common.{◌≡◌, ℕ, suc, ◌+◌, ◌<◌, min, List, [], ◌∷◌, ◌++◌, length, true, sym, ap, subst, ◌∙◌, arith, length-append, inl, inr}
-use Rattle.std.specs.Prelude.{slice_index_or}
+use Rattle.std.proofs.Common.{◌≡◌, ℕ, suc, ◌+◌, min, List, [], ◌∷◌, ◌++◌, length, true, sym, ap, subst, ◌∙◌, arith, length-append, inl, inr}
 use Rattle.std.proofs.lemmas.Bool.{cases_lt, lt-ltb, true≢false}
 use Rattle.std.proofs.lemmas.List.{get_or_append_left, get_or_push}
 use Rattle.plist_value.specs.Limits.{payload_of_scalar}
-use Rattle.plist_object.specs.Layout.{trailer_of}
 use Rattle.plist_object.specs.Objects.{Held, holds_scalar, holds_list, holds_table}
 use Rattle.plist_object.specs.Places.{Holds}
 use Rattle.plist_object.proofs.Uniqueness.{same_held}
 use Rattle.plist_canon.specs.declared.weights.TheConstants.{MOST_TOLD}
 use Rattle.plist_canon.specs.declared.weights.Weight.{Weight}
 use Rattle.plist_canon.specs.Rules.{HoldsScalar}
-use Rattle.plist_canon.specs.Weights.{container, weight_of, is_scalar_weight, Weighs, AreWeights, AreAllWeights}
+use Rattle.plist_canon.specs.Weights.{container, weight_of, is_scalar_weight, Weighs, AreWeights}
 
 -- what an object holds is what was weighed
 pub Weighs-held : (f : List ℕ) (i : ℕ) (weight : Weight) (held : Held) → Weighs f i weight → Holds f i held → weight ≡ weight_of held
@@ -50,8 +48,3 @@ length-more weights pushed number weight is counted =
     let long = length-append weights (weight ∷ []) in
     let same : length pushed ≡ length (weights ++ (weight ∷ [])) = ap length is in
     omega arith
-
-pub AreAllWeights-at : (f : List ℕ) (weights : List Weight) → AreAllWeights f weights → (i : ℕ) → i < (trailer_of f).count → Weighs f i (slice_index_or weights i container)
-AreAllWeights-at f weights all i below =
-    let counted = all.all in
-    all.each i (omega arith)

@@ -1,10 +1,8 @@
 -- What is left to visit in the walk from object 0.
-use Rattle.std.specs.Prelude.{◌≡◌, ◌↔◌, ℕ, ◌-◌, ◌<◌, ◌≤◌, false, List, [], ◌∷◌, ◌++◌, length, drop, slice_index_or}
+use Rattle.std.specs.Prelude.{◌≡◌, ◌↔◌, ℕ, ◌<◌, false, List, [], ◌∷◌, ◌++◌, length, drop, slice_index_or}
 use Rattle.plist_object.specs.Layout.{trailer_of}
 use Rattle.plist_object.specs.Objects.{Held, holds_scalar, holds_list, holds_table}
-use Rattle.plist_object.specs.Places.{Holds}
 use Rattle.plist_object.specs.Views.{numbers_of}
-use Rattle.plist_object.specs.declared.refs.Refs.{Refs}
 use Rattle.plist_canon.specs.Rules.{Walks, MeetsInOrder, IsNumberedInPreorder, Reference, held_by, ComesTo}
 use Rattle.plist_canon.specs.Weights.{container, is_scalar_weight}
 use Rattle.plist_canon.specs.declared.weights.Weight.{Weight}
@@ -50,28 +48,13 @@ abbrev pub path_groups : List Frame → List Group
 path_groups [] = []
 path_groups (frame ∷ frames) = path_groups frames ++ (frame_group frame ∷ [])
 
--- references none of which was visited
-abbrev pub new_frame : ℕ → ℕ → Refs → Frame
-new_frame owner levels refs = record { owner = owner; levels = levels; refs = refs; done = 0 }
-
 -- the references of what an object holds, to values of so many levels
 abbrev pub groups_of : ℕ → ℕ → Held → List Group
 groups_of owner levels (holds_scalar s) = []
 groups_of owner levels (holds_list refs) = grouped owner levels refs ∷ []
 groups_of owner levels (holds_table keys values) = grouped owner levels keys ∷ grouped owner levels values ∷ []
 
--- the object was met: its references are next, one level further down
-pub record Enters (f : List ℕ) (number levels : ℕ) (old new : List Frame) : Type 0 where
-  pub held : Held
-  pub holds : Holds f number held
-  pub groups : path_groups new ≡ groups_of number (levels - 1) held ++ path_groups old
-
--- where the objects below `met` were met, the number is not that of a scalar among them
-abbrev pub IsNoneMet : List Weight → ℕ → ℕ → Type 0
-IsNoneMet weights met i =
-    i < met → i < length weights → is_scalar_weight (slice_index_or weights i container) ≡ false
-
--- no fewer objects were met than before, and no more than there are
-pub record Advances (weights : List Weight) (old new : ℕ) : Type 0 where
-  pub least : old ≤ new
-  pub most : old ≤ length weights → new ≤ length weights
+-- the number is not that of a scalar which was met, where these are the weights of the objects
+-- that were
+abbrev pub IsNoneMet : List Weight → ℕ → Type 0
+IsNoneMet weights i = i < length weights → is_scalar_weight (slice_index_or weights i container) ≡ false

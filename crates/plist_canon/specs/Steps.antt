@@ -1,52 +1,92 @@
 -- The steps of the walk from object 0, and what they take from the limits.
-use Rattle.std.specs.Prelude.{◌≡◌, ◌⊎◌, ℕ, suc, ◌<◌, true, List, [], ◌∷◌, length, drop, slice_index_or, Option, Some, None}
-use Rattle.plist_value.specs.Plist.{Plist, IsPlist}
+use Rattle.std.specs.Prelude.{◌≡◌, ℕ, zero, suc, ◌-◌, ◌<◌, true, List, [], ◌∷◌, ◌++◌, length, drop, slice_index_or, Option, Some, None, Result, Ok, Err, MatchOption}
+use Rattle.plist_value.specs.Plist.{Plist, AreOctets, IsPlist}
 use Rattle.plist_value.specs.Limits.{Fits}
+use Rattle.plist_value.specs.declared.TheConstants.{MAX_DEPTH}
+use Rattle.plist_value.specs.declared.budget.Budget.{Budget}
+use Rattle.plist_object.specs.Layout.{trailer_of}
+use Rattle.plist_object.specs.Objects.{Held}
+use Rattle.plist_object.specs.Places.{Holds}
 use Rattle.plist_object.specs.Spelled.{Spells}
 use Rattle.plist_object.specs.Views.{numbers_of}
 use Rattle.plist_canon.specs.declared.preorder.Frame.{Frame}
 use Rattle.plist_canon.specs.declared.preorder.Visit.{Visit}
-use Rattle.plist_canon.specs.declared.progress.Progress.{Progress}
+use Rattle.plist_canon.specs.declared.preorder.Walk.{Walk}
 use Rattle.plist_canon.specs.declared.weights.Weight.{Weight}
-use Rattle.plist_canon.specs.Rules.{IsNumberedInPreorder}
-use Rattle.plist_canon.specs.Weights.{container, is_scalar_weight, AreAllWeights}
-use Rattle.plist_canon.specs.Preorders.{IsWalking, Group, grouped, references_left, frame_group, path_groups}
+use Rattle.plist_canon.specs.Rules.{IsNumberedInPreorder, IsBroken}
+use Rattle.plist_canon.specs.Checking.{AllRead, AllAscend}
+use Rattle.plist_canon.specs.Weights.{container, weight_of, is_scalar_weight, AreWeights}
+use Rattle.plist_canon.specs.Preorders.{IsWalking, Group, grouped, groups_of, references_left, frame_group, path_groups}
 use Rattle.plist_canon.specs.Owing.{Owes, Pays}
 
--- The walk has come this far, and the groups are left.
-pub record Stands (f : List ℕ) (progress : Progress) (groups : List Group) : Type 0 where
-  pub walking : IsWalking f progress.met (references_left groups)
-  pub owed : Owes f groups progress.left
+-- The objects below `met` were met, and the groups are left.
+pub record Stands (f : List ℕ) (met : ℕ) (left : Option Budget) (groups : List Group) : Type 0 where
+  pub walking : IsWalking f met (references_left groups)
+  pub owed : AreOctets f → AllAscend f → Owes f groups left
 
--- the reference is to a scalar that was met before, or is met now
-pub record Passes (weights : List Weight) (levels i : ℕ) (before after : Progress) : Type 0 where
+-- the reference is to a scalar that was met, where these are the weights of the objects that were
+pub record Passes (weights : List Weight) (levels i : ℕ) (before after : Option Budget) : Type 0 where
   pub listed : i < length weights
   pub is_scalar : is_scalar_weight (slice_index_or weights i container) ≡ true
-  pub meets : ((i < before.met) × (after.met ≡ before.met)) ⊎ ((i ≡ before.met) × (after.met ≡ suc before.met))
-  pub pays : Pays levels (slice_index_or weights i container) before.left after.left
+  pub pays : Pays levels (slice_index_or weights i container) before after
 
 -- from the first groups the walk comes to the others, past scalars of these weights
-abbrev pub GoesOn : List Weight → List Group → Progress → List Group → Progress → Type 0
+abbrev pub GoesOn : List Weight → List Group → Option Budget → List Group → Option Budget → Type 0
 GoesOn weights groups before others after =
-    (f : List ℕ) → AreAllWeights f weights → Stands f before groups → Stands f after others
+    (f : List ℕ) → AreWeights f weights → Stands f (length weights) before groups → Stands f (length weights) after others
 
 -- from the first group it comes to the other, whatever is behind them
-abbrev pub GroupGoesOn : List Weight → Group → Progress → Group → Progress → Type 0
+abbrev pub GroupGoesOn : List Weight → Group → Option Budget → Group → Option Budget → Type 0
 GroupGoesOn weights first before other after =
     (outer : List Group) → GoesOn weights (first ∷ outer) before (other ∷ outer) after
 
 -- it comes to a reference in the frame, or past all of them
-abbrev pub FrameGoesOn : List Weight → Frame → Progress → Option (ℕ × ℕ) → Progress → Type 0
+abbrev pub FrameGoesOn : List Weight → Frame → Option Budget → Option (ℕ × ℕ) → Option Budget → Type 0
 FrameGoesOn weights frame before (Some p) after =
     GroupGoesOn weights (frame_group frame) before (grouped frame.owner frame.levels (p.1 ∷ drop p.0 (numbers_of frame.refs))) after
 FrameGoesOn weights frame before None after =
     (outer : List Group) → GoesOn weights (frame_group frame ∷ outer) before outer after
 
 -- it comes to this visit, or to the end of the path
-abbrev pub PathGoesOn : List Weight → List Frame → Progress → Option Visit → List Frame → Progress → Type 0
+abbrev pub PathGoesOn : List Weight → List Frame → Option Budget → Option Visit → List Frame → Option Budget → Type 0
 PathGoesOn weights old before (Some visit) new after =
     GoesOn weights (path_groups old) before (grouped visit.owner visit.levels (visit.reference ∷ []) ∷ path_groups new) after
 PathGoesOn weights old before None new after = GoesOn weights (path_groups old) before [] after
+
+-- after the turns of so many objects; before the first one nothing is spent
+abbrev pub StandsAfter : List ℕ → ℕ → Option Budget → List Group → Type 0
+StandsAfter f zero left groups = (groups ≡ []) × Owes f (grouped 0 MAX_DEPTH (0 ∷ []) ∷ []) left
+StandsAfter f (suc before) left groups = Stands f (suc before) left groups
+
+-- the object is the next to be met, where so many levels are allowed, and then the groups are left
+abbrev pub Awaits : List ℕ → ℕ → ℕ → Option Budget → List Group → Type 0
+Awaits f i levels left groups =
+    (held : Held) (after : Option Budget) → Holds f i held → Pays levels (weight_of held) left after → Stands f (suc i) after (groups_of i (levels - 1) held ++ groups)
+
+-- it comes to the object whose turn is next, with the levels that are allowed there, or breaks rule 7
+abbrev pub ComesToNext : List Weight → List Frame → Option Budget → Result ℕ ℕ → List Frame → Option Budget → Type 0
+ComesToNext weights old before (Ok levels) new after =
+    (f : List ℕ) → AreWeights f weights → StandsAfter f (length weights) before (path_groups old) → Awaits f (length weights) levels after (path_groups new)
+ComesToNext weights old before (Err owner) new after =
+    (f : List ℕ) → AreWeights f weights → StandsAfter f (length weights) before (path_groups old) → length weights < (trailer_of f).count → IsBroken f 7 owner
+
+-- the walk met the objects below i, and no other, in their turns
+pub record MetInTurn (f : List ℕ) (i : ℕ) (walk : Walk) : Type 0 where
+  pub counted : length walk.weights.items ≡ i
+  pub weighed : AreWeights f walk.weights.items
+  pub stands : StandsAfter f (length walk.weights.items) walk.left (path_groups walk.path.items)
+
+-- the objects below i had their turns: the walk met them, or rule 7 is broken
+abbrev pub Walked : List ℕ → ℕ → Walk → Type 0
+Walked f i walk = MatchOption walk.broken_at (MetInTurn f i walk) (λ holder. IsBroken f 7 holder)
+
+-- all objects of a file had their turns, and are well read, and the keys of each table ascend
+pub record WalkedAll (f : List ℕ) (walk : Walk) : Type 0 where
+  pub some : 0 < (trailer_of f).count
+  pub octets : AreOctets f
+  pub read : AllRead f
+  pub ascending : AllAscend f
+  pub walked : Walked f (trailer_of f).count walk
 
 -- The walk meets all objects in order, and the value that object 0 spells is within the limits.
 pub record WalksWithinLimits (f : List ℕ) : Type 0 where

@@ -7,14 +7,14 @@ use Rattle.plist_value.specs.Texts.{units_of}
 use Rattle.plist_value.specs.declared.text_ref.TextRef.{TextRef}
 use Rattle.plist_engine.specs.Sieve.{AreNoted}
 use Rattle.plist_canon.specs.Checking.{IsEndBefore, IsJudged}
-use Rattle.plist_canon.specs.Weights.{AreWeights}
+use Rattle.plist_canon.specs.Steps.{Walked}
 use Rattle.plist_canon.specs.declared.turns.Turns.{Turns}
 
--- the first objects were noted and weighed, and the last of them ends there
+-- the first objects were noted, the walk went along with them, and the last of them ends there
 pub record HaveTurned (f : List ℕ) (turns : Turns) : Type 0 where
-  pub noted : AreNoted f (length turns.weights.items) turns.notes
-  pub weighed : AreWeights f turns.weights.items
-  pub ends : IsEndBefore f (length turns.weights.items) turns.end
+  pub noted : AreNoted f (length turns.walk.weights.items) turns.notes
+  pub walked : Walked f (length turns.walk.weights.items) turns.walk
+  pub ends : IsEndBefore f (length turns.walk.weights.items) turns.end
 
 -- the objects from one number up to another are judged, but for the last
 abbrev pub AreJudgedFrom : List ℕ → ℕ → ℕ → Type 0

@@ -1,7 +1,6 @@
 -- What the limits ask of an object besides its references.
 use Rattle.std.specs.Prelude.{◌≡◌, ℕ, suc, ◌-◌, ◌<◌, min, Bool, nat_lt, List, length, slice_index_or}
 use Rattle.plist_value.specs.Limits.{payload_of_scalar}
-use Rattle.plist_object.specs.Layout.{trailer_of}
 use Rattle.plist_object.specs.Objects.{Held, holds_scalar, holds_list, holds_table}
 use Rattle.plist_object.specs.Places.{Holds}
 use Rattle.plist_canon.specs.declared.weights.Weight.{Weight}
@@ -35,8 +34,3 @@ pub record Weighs (f : List ℕ) (i : ℕ) (weight : Weight) : Type 0 where
 -- these are the weights of the first objects
 abbrev pub AreWeights : List ℕ → List Weight → Type 0
 AreWeights f weights = (i : ℕ) → i < length weights → Weighs f i (slice_index_or weights i container)
-
--- these are the weights of all objects
-pub record AreAllWeights (f : List ℕ) (weights : List Weight) : Type 0 where
-  pub each : AreWeights f weights
-  pub all : length weights ≡ (trailer_of f).count

@@ -9,7 +9,6 @@ ghost use Rattle.plist_canon.specs.Checking.{IsCheckFault, IsFlaw, IsVerdict};
 ghost use Rattle.plist_canon.specs.Codes.{check_code, check_report};
 
 use crate::judging::{Flaw, judge_objects, judge_trailer};
-use crate::preorder::judge_walk;
 use plist_object::{BinFile, LayoutFault};
 use plist_value::{FixedHasher, Place, Refusal, Report};
 use std::alloc::Global;
@@ -170,6 +169,5 @@ fn judge<'a, S: BuildHasher + Copy>(
 {
     judge_trailer(file)?;
     let objects = &octets[..file.table() as usize];
-    let weights = judge_objects(alloc, hasher, objects, file)?;
-    judge_walk(alloc, file, &weights)
+    judge_objects(alloc, hasher, objects, file)?.finish()
 }

@@ -11,13 +11,13 @@ ghost use Rattle.plist_canon.specs.Checking.{IsFlaw, RefersWell, IsEndBefore};
 ghost use Rattle.plist_canon.specs.Checking.{Follows, IsJudged};
 ghost use Rattle.plist_canon.specs.KnownKeys.{AreKnown};
 ghost use Rattle.plist_engine.specs.Sieve.{AreNoted};
-ghost use Rattle.plist_canon.specs.Weights.{AreAllWeights};
+ghost use Rattle.plist_canon.specs.Steps.{Walked};
 
 use crate::known_keys::KnownKeys;
+use crate::preorder::Walk;
 use crate::references::object_keys_ascend;
 use crate::repeats::judge_repeats;
 use crate::turns::{Turns, take_keys};
-use crate::weights::Weight;
 use plist_engine::Notes;
 use plist_object::{BinFile, Object, Spanned, begins_canonically, width_of};
 use std::alloc::{AllocError, AllocFailed, Global};
@@ -99,14 +99,14 @@ fn has_least_widths(file: &BinFile) -> bool
 }
 
 /// Rules 0, 3, 4, 5 and 6 of each object in turn, but for the limits; then the place of the offset
-/// table. All objects stand in these octets before the table. What the limits ask of each object is
+/// table. All objects stand in these octets before the table. The walk that went along with them is
 /// answered.
 pub(crate) fn judge_objects<'a, S: BuildHasher + Copy>(
     alloc: Global,
     hasher: S,
     objects: &[u8],
     file: &BinFile<'a>,
-) -> Result<Vec<Weight>, Flaw>
+) -> Result<Walk<'a>, Flaw>
     requires { objects.now ≡ take (trailer_of (octets_of file.now)).table (octets_of file.now) }
     ensures judged { OnOk result
         ((i : ℕ) → i < (trailer_of (octets_of file.now)).count → IsJudged (octets_of file.now) i) }
@@ -114,12 +114,12 @@ pub(crate) fn judge_objects<'a, S: BuildHasher + Copy>(
         → i < (trailer_of (octets_of file.now)).count → IsNoRepeat (octets_of file.now) i) }
     ensures adjoin { OnOk result
         ((i : ℕ) → i < (trailer_of (octets_of file.now)).count → Adjoins (octets_of file.now) i) }
-    ensures weights { IfOk result
-        (λ weights. AreAllWeights (octets_of file.now) weights.items) }
+    ensures walked { IfOk result
+        (Walked (octets_of file.now) (trailer_of (octets_of file.now)).count) }
     ensures err { IfErr result (IsFlaw (octets_of file.now)) }
 {
     let mut turns = Turns::new(alloc, &hasher, file)?;
-    let mut known = KnownKeys::new(alloc, file)?;
+    let mut known = KnownKeys::new(alloc, file);
     while turns.done() < file.count() {
         let (i, place) = (turns.done(), turns.end);
         let read = file.spanned(i);
@@ -134,7 +134,7 @@ pub(crate) fn judge_objects<'a, S: BuildHasher + Copy>(
     }
     judge_repeats(alloc, hasher, file, turns.notes)?;
     judge_table(file, turns.end)?;
-    Ok(turns.weights)
+    Ok(turns.walk)
 }
 
 // The flaw, or that of rule 6 of the objects that were noted, where it is at one before.

@@ -12,28 +12,28 @@ use crate::naming::Named;
 use crate::ranking::rank_keys;
 use crate::references::keys_ascend;
 use plist_object::{BinFile, Ranks, Refs};
-use std::alloc::{AllocError, Global};
+use std::alloc::Global;
 
 /// The keys of the last table, if they ascend: those of the next are often the same. And the ranks
-/// of all keys, once a text is named a second time.
+/// of all keys, once the texts that were named are too long.
 #[derive(Drop)]
 pub(crate) struct KnownKeys<'a> {
     pub(crate) last: Option<Refs<'a>>,
     pub(crate) ranks: Ranks<'a>,
-    // The keys that were named, until there are ranks.
+    // How long texts may be still that are named, until there are ranks.
     named: Option<Named>,
 }
 
 impl<'a> KnownKeys<'a> {
     /// No table came yet.
-    pub(crate) fn new(alloc: Global, file: &BinFile) -> Result<KnownKeys<'a>, AllocError>
-        ensures { IfOk result (λ known. (f : List ℕ) → AreKnown f known) }
+    pub(crate) fn new(alloc: Global, file: &BinFile) -> KnownKeys<'a>
+        ensures { (f : List ℕ) → AreKnown f result }
     {
-        Ok(KnownKeys {
+        KnownKeys {
             last: None,
             ranks: Ranks::none(alloc),
-            named: Some(Named::new(alloc, file)?),
-        })
+            named: Some(Named::new(file)),
+        }
     }
 
     /// Whether the keys are those of the last table, which ascend.
@@ -48,7 +48,7 @@ impl<'a> KnownKeys<'a> {
     }
 
     /// Whether the texts that a table names as keys ascend, unit by unit. All keys of the file are
-    /// ranked once a text is named a second time.
+    /// ranked once the texts that were named are too long.
     pub(crate) fn ascend(
         &mut self,
         alloc: Global,

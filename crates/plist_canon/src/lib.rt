@@ -9,7 +9,6 @@ pub mod laws;
 mod naming;
 mod objects;
 mod preorder;
-mod progress;
 mod ranking;
 mod references;
 mod repeats;

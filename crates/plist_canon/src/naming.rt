@@ -1,4 +1,4 @@
-//! Keys of tables that are compared by their texts, as long as each object is named once.
+//! Keys of tables that are compared by their texts, as long as these are not too long.
 ghost use Rattle.std.specs.Prelude.{◌≡◌, ◌<◌, ◌↔◌, IsTrue, EachIndex, IfSome};
 ghost use Rattle.std.specs.Prelude.{slice_index};
 ghost use Rattle.plist_value.specs.Plist.{text};
@@ -11,33 +11,25 @@ ghost use Rattle.plist_canon.specs.Checking.{AreInOrder, AscendInTurn};
 
 use plist_object::{BinFile, Refs};
 use plist_value::TextRef;
-use std::alloc::{AllocError, Global};
 
-/// The objects that tables named as keys, and how many units more such texts may have.
+/// How many units more the texts may have that tables name as keys.
 ///
-/// If each text is named once, and all together have no more units than the file has octets before
-/// the offset table, to compare them unit by unit takes no longer than to read the file, and ranks
-/// are of no use. Which keys are compared so costs time alone.
-#[derive(Drop)]
+/// As long as all together have no more units than the file has octets before the offset table, to
+/// compare them unit by unit takes no longer than to read the file, and ranks are of no use. Which
+/// keys are compared so costs time alone.
+#[derive(Clone, Copy)]
 pub(crate) struct Named {
-    objects: Vec<bool>,
     left: u64,
 }
 
 impl Named {
     /// None was named.
-    pub(crate) fn new(alloc: Global, file: &BinFile) -> Result<Named, AllocError> {
-        let mut objects = Vec::new(alloc);
-        objects.resize(file.count() as usize, false)?;
-        Ok(Named {
-            objects,
-            left: file.table(),
-        })
+    pub(crate) fn new(file: &BinFile) -> Named {
+        Named { left: file.table() }
     }
 
     /// Whether the texts that a table names as keys ascend, unit by unit; all of them are named
-    /// then. `None` says nothing: it is answered at a text that was named before, or that is too
-    /// long, or is none.
+    /// then. `None` says nothing: it is answered at a text that is too long, or is none.
     pub(crate) fn ascend(&mut self, file: &BinFile, keys: &Refs) -> Option<bool>
         requires { EachIndex (numbers_of keys.now)
             (λ k. slice_index (numbers_of keys.now) k < (trailer_of (octets_of file.now)).count) }
@@ -58,18 +50,13 @@ impl Named {
         Some(ascend)
     }
 
-    // The text that the object holds, which was not named before and is not too long.
+    // The text that the object holds, if it is not too long.
     #[inline(always)]
     fn name<'a>(&mut self, file: &BinFile<'a>, key: u64) -> Option<TextRef<'a>>
         requires { key < (trailer_of (octets_of file.now)).count }
         ensures { IfSome result
             (λ t. Holds (octets_of file.now) key (holds_scalar (text (units_of t)))) }
     {
-        let place = key as usize;
-        if place >= self.objects.len() || self.objects[place] {
-            return None;
-        }
-        self.objects[place] = true;
         let text = file.text(key)?;
         self.left = self.left.checked_sub(text.len() as u64)?;
         Some(text)

@@ -1,26 +1,13 @@
 //! What objects hold.
 ghost use Rattle.std.specs.Prelude.{◌<◌, IfSome, IfNone};
-ghost use Rattle.plist_value.specs.Plist.{Scalar, text};
+ghost use Rattle.plist_value.specs.Plist.{Scalar};
 ghost use Rattle.plist_value.specs.Scalars.{content_of};
-ghost use Rattle.plist_value.specs.Texts.{units_of};
 ghost use Rattle.plist_object.specs.Layout.{trailer_of};
-ghost use Rattle.plist_object.specs.Objects.{IsHeld, holds_scalar};
-ghost use Rattle.plist_object.specs.Places.{Holds};
-ghost use Rattle.plist_object.specs.Views.{held_of, octets_of};
-ghost use Rattle.plist_canon.specs.Rules.{HoldsText, IsWellRead};
+ghost use Rattle.plist_object.specs.Views.{octets_of};
 ghost use Rattle.plist_engine.specs.Sieve.{HoldsIt};
 
 use plist_object::{BinFile, Object};
-use plist_value::{ScalarRef, TextRef};
-
-/// What an object that reads holds.
-pub(crate) fn object_of<'a>(file: &BinFile<'a>, n: u64) -> Object<'a>
-    requires { IsWellRead (octets_of file.now) n }
-    ensures holds { Holds (octets_of file.now) n (held_of result) }
-    ensures valid { IsHeld (held_of result) }
-{
-    file.object(n).unwrap()
-}
+use plist_value::ScalarRef;
 
 /// The scalar that the object holds, if it holds one.
 pub(crate) fn scalar_of<'a>(file: &BinFile<'a>, n: u64) -> Option<ScalarRef<'a>>

@@ -1,20 +1,19 @@
 //! The walk in preorder from object 0.
-ghost use Rattle.std.specs.Prelude.{◌≡◌, ◌∷◌, ◌++◌, [], IfErr, IfOk, IfSome, OnOk};
-ghost use Rattle.plist_value.specs.Plist.{AreOctets};
-ghost use Rattle.plist_object.specs.Views.{octets_of};
-ghost use Rattle.plist_canon.specs.Rules.{IsNumberedInPreorder, IsWellRead};
-ghost use Rattle.plist_canon.specs.Checking.{IsFlaw, AllRead, AllAscend};
-ghost use Rattle.plist_canon.specs.Preorders.{Advances, Enters, IsNoneMet, new_frame};
-ghost use Rattle.plist_canon.specs.Owing.{Owes};
-ghost use Rattle.plist_canon.specs.Steps.{FrameGoesOn, PathGoesOn, WalksWithinLimits};
-ghost use Rattle.plist_canon.specs.Weights.{Weighs, AreAllWeights};
+ghost use Rattle.std.specs.Prelude.{◌≡◌, ◌∷◌, ◌++◌, ◌+◌, ◌-◌, ◌<◌, ℕ, List, suc, length, false};
+ghost use Rattle.std.specs.Prelude.{IsTrue, IfErr, IfOk, IfSome, IfNone, Option, OnOk};
+ghost use Rattle.plist_value.specs.declared.budget.Budget.{Budget};
+ghost use Rattle.plist_object.specs.Places.{Holds};
+ghost use Rattle.plist_object.specs.Views.{held_of, numbers_of};
+ghost use Rattle.plist_canon.specs.Checking.{IsFlaw};
+ghost use Rattle.plist_canon.specs.Preorders.{IsNoneMet, grouped, groups_of, path_groups};
+ghost use Rattle.plist_canon.specs.Owing.{Pays};
+ghost use Rattle.plist_canon.specs.Steps.{Awaits, ComesToNext, FrameGoesOn, Passes, PathGoesOn};
+ghost use Rattle.plist_canon.specs.Steps.{StandsAfter, Walked, WalkedAll, WalksWithinLimits};
 
 use crate::judging::Flaw;
-use crate::objects::object_of;
-use crate::progress::{Progress, spend};
 use crate::weights::Weight;
-use plist_object::{BinFile, Object, Refs};
-use plist_value::{Budget, MAX_DEPTH};
+use plist_object::{Object, Refs};
+use plist_value::{Budget, MAX_DEPTH, MAX_NODES};
 use std::alloc::{AllocError, Global};
 
 // References on the path of the walk, how many levels the values may have that they name, and how
@@ -35,140 +34,250 @@ struct Visit {
     reference: u64,
 }
 
-/// Rule 7: the walk meets the objects in the order of their numbers, and only scalars again. Then
-/// rule 0 of the limits: the value that object 0 spells is within them.
-pub(crate) fn judge_walk(alloc: Global, file: &BinFile, weights: &[Weight]) -> Result<(), Flaw>
-    requires valid { AreOctets (octets_of file.now) }
-    requires read { AllRead (octets_of file.now) }
-    requires weights { AreAllWeights (octets_of file.now) weights.now }
-    requires ascending { AllAscend (octets_of file.now) }
-    ensures ok { OnOk result (WalksWithinLimits (octets_of file.now)) }
-    ensures err { IfErr result (IsFlaw (octets_of file.now)) }
-{
-    match walk(alloc, file, weights)? {
-        Some(_) => Ok(()),
-        None => Err(Flaw::at(0, 0)),
-    }
+/// The walk in preorder from object 0, which meets the objects in the order of their numbers.
+#[derive(Drop)]
+pub(crate) struct Walk<'a> {
+    // Those of the objects that had their turn.
+    weights: Vec<Weight>,
+    path: Vec<Frame<'a>>,
+    // What is left of the limits: `None` once one is passed.
+    left: Option<Budget>,
+    // Where rule 7 is broken: the container that holds the first bad reference, or 0 where an
+    // object is left over. The walk ends there.
+    broken_at: Option<u64>,
 }
 
-// What the walk leaves of the limits, where rule 7 holds.
-fn walk(alloc: Global, file: &BinFile, weights: &[Weight]) -> Result<Option<Budget>, Flaw>
-    requires valid { AreOctets (octets_of file.now) }
-    requires read { AllRead (octets_of file.now) }
-    requires weights { AreAllWeights (octets_of file.now) weights.now }
-    requires ascending { AllAscend (octets_of file.now) }
-    ensures ok { OnOk result (IsNumberedInPreorder (octets_of file.now)) }
-    ensures left { IfOk result (Owes (octets_of file.now) []) }
-    ensures err { IfErr result (IsFlaw (octets_of file.now)) }
-{
-    let mut path = Vec::new(alloc);
-    let left = spend(Some(Budget::whole()), weights[0], MAX_DEPTH);
-    let mut progress = Progress { met: 1, left };
-    enter(file, 0, MAX_DEPTH, weights[0], &mut path)?;
-    while let Some(visit) = next_visit(&mut path, &mut progress, weights) {
-        let number = progress.met;
-        if visit.reference != number || number >= file.count() {
+impl<'a> Walk<'a> {
+    /// Before object 0, in a file of so many objects.
+    pub(crate) fn new(alloc: Global, count: u64) -> Result<Walk<'a>, AllocError>
+        ensures none { IfOk result (λ walk. length walk.weights.items ≡ 0) }
+        ensures walked { IfOk result (λ walk. (f : List ℕ) → Walked f 0 walk) }
+    {
+        Ok(Walk {
+            weights: Vec::with_capacity(alloc, count.min(MAX_NODES) as usize)?,
+            path: Vec::new(alloc),
+            left: Some(Budget::whole()),
+            broken_at: None,
+        })
+    }
+
+    /// How many objects had their turn.
+    pub(crate) fn done(&self) -> u64
+        ensures { result ≡ length self.now.weights.items }
+    {
+        self.weights.len() as u64
+    }
+
+    /// The next object has its turn, and holds this.
+    #[inline(always)]
+    pub(crate) fn meet(&mut self, object: &Object<'a>) -> Result<(), AllocError>
+        ensures one { OnOk result
+            (length self.new.weights.items ≡ length self.old.weights.items + 1) }
+        ensures walked { OnOk result ((f : List ℕ) (i : ℕ) → Holds f i (held_of object.now)
+            → Walked f i self.old → Walked f (suc i) self.new) }
+    {
+        let weight = Weight::of(object);
+        if self.broken_at.is_some() {
+            self.weights.push(weight)?;
+            return Ok(());
+        }
+        let levels = match next_levels(&mut self.path, &mut self.left, &self.weights) {
+            Ok(levels) => levels,
+            Err(owner) => {
+                self.broken_at = Some(owner);
+                self.weights.push(weight)?;
+                return Ok(());
+            }
+        };
+        let number = self.weights.len() as u64;
+        self.left = spend(self.left, weight, levels);
+        self.weights.push(weight)?;
+        enter(object, number, levels, &mut self.path)?;
+        Ok(())
+    }
+
+    /// Rule 7, after the turns of all objects: the walk meets them in the order of their numbers,
+    /// and only scalars again. Then rule 0 of the limits: the value that object 0 spells is within
+    /// them.
+    pub(crate) fn finish(self) -> Result<(), Flaw>
+        ensures ok { OnOk result ((f : List ℕ) → WalkedAll f self.entry → WalksWithinLimits f) }
+        ensures err { IfErr result (λ flaw. (f : List ℕ) → WalkedAll f self.entry → IsFlaw f flaw) }
+    {
+        let Walk {
+            weights,
+            mut path,
+            mut left,
+            broken_at,
+        } = self;
+        if let Some(owner) = broken_at {
+            return Err(Flaw::at(7, owner));
+        }
+        if let Some(visit) = next_visit(&mut path, &mut left, &weights) {
             return Err(Flaw::at(7, visit.owner));
         }
-        let weight = weights[number as usize];
-        let left = spend(progress.left, weight, visit.levels);
-        progress = Progress {
-            met: number + 1,
-            left,
-        };
-        enter(file, number, visit.levels, weight, &mut path)?;
-    }
-    if progress.met < file.count() {
-        return Err(Flaw::at(7, 0));
-    }
-    Ok(progress.left)
-}
-
-// The object, which has this weight, is met for the first time, where its value may be so many
-// levels deep. Its references are next, where it has some.
-fn enter<'a>(
-    file: &BinFile<'a>,
-    number: u64,
-    levels: u64,
-    weight: Weight,
-    path: &mut Vec<Frame<'a>>,
-) -> Result<(), AllocError>
-    requires read { IsWellRead (octets_of file.now) number }
-    requires weighs { Weighs (octets_of file.now) number weight }
-    ensures { OnOk result
-        (Enters (octets_of file.now) number levels path.old.items path.new.items) }
-{
-    // A scalar has no references, and is not read again.
-    if weight.is_scalar() {
-        return Ok(());
-    }
-    let below = levels.saturating_sub(1);
-    match object_of(file, number) {
-        Object::Scalar(_) => Ok(()),
-        Object::List(items) => push_part(path, number, below, items),
-        Object::Table(keys, values) => {
-            push_part(path, number, below, values)?;
-            push_part(path, number, below, keys)
+        match left {
+            Some(_) => Ok(()),
+            None => Err(Flaw::at(0, 0)),
         }
     }
 }
 
-// References none of which was visited.
+// How many levels the value may have that the object spells whose turn is next, where the walk
+// meets it; else where rule 7 is broken.
+#[inline(always)]
+fn next_levels(
+    path: &mut Vec<Frame>,
+    left: &mut Option<Budget>,
+    weights: &[Weight],
+) -> Result<u64, u64>
+    ensures { ComesToNext weights.now path.old.items left.old result path.new.items left.new }
+{
+    match levels_at(path, weights.len() as u64) {
+        Some(levels) => Ok(levels),
+        None => levels_behind(path, left, weights),
+    }
+}
+
+// The same where the next reference is to the object of this number: most often it is.
+#[inline(always)]
+fn levels_at(path: &mut Vec<Frame>, number: u64) -> Option<u64>
+    ensures some { IfSome result (λ levels. (f : List ℕ) (left : Option Budget)
+        → StandsAfter f number left (path_groups path.old.items)
+        → Awaits f number levels left (path_groups path.new.items)) }
+    ensures none { IfNone result (path.new.items ≡ path.old.items) }
+{
+    let frame = path.last_mut()?;
+    if frame.done >= frame.refs.len() || frame.refs.get(frame.done) != number {
+        return None;
+    }
+    frame.done += 1;
+    Some(frame.levels)
+}
+
+// The same past references to scalars that were met, and of object 0.
+#[inline(never)]
+fn levels_behind(
+    path: &mut Vec<Frame>,
+    left: &mut Option<Budget>,
+    weights: &[Weight],
+) -> Result<u64, u64>
+    ensures { ComesToNext weights.now path.old.items left.old result path.new.items left.new }
+{
+    if weights.is_empty() {
+        return Ok(MAX_DEPTH);
+    }
+    let Some(visit) = next_visit(path, left, weights) else {
+        return Err(0);
+    };
+    if visit.reference != weights.len() as u64 {
+        return Err(visit.owner);
+    }
+    Ok(visit.levels)
+}
+
+// What was met at so many levels has its references next, one level further down.
+#[inline(always)]
+fn enter<'a>(
+    object: &Object<'a>,
+    number: u64,
+    levels: u64,
+    path: &mut Vec<Frame<'a>>,
+) -> Result<(), AllocError>
+    ensures { OnOk result (path_groups path.new.items
+        ≡ groups_of number (levels - 1) (held_of object.now) ++ path_groups path.old.items) }
+{
+    match object {
+        Object::Scalar(_) => Ok(()),
+        Object::List(items) => push_part(path, number, levels, *items),
+        Object::Table(keys, values) => {
+            push_part(path, number, levels, *values)?;
+            push_part(path, number, levels, *keys)
+        }
+    }
+}
+
+// References none of which was visited, of an object that was met at so many levels.
 fn push_part<'a>(
     path: &mut Vec<Frame<'a>>,
     owner: u64,
     levels: u64,
     refs: Refs<'a>,
 ) -> Result<(), AllocError>
-    ensures { OnOk result
-        (path.new.items ≡ path.old.items ++ new_frame owner levels refs.entry ∷ []) }
+    ensures { OnOk result (path_groups path.new.items
+        ≡ grouped owner (levels - 1) (numbers_of refs.entry) ∷ path_groups path.old.items) }
 {
     path.push(Frame {
         owner,
-        levels,
+        levels: levels.saturating_sub(1),
         refs,
         done: 0,
     })?;
     Ok(())
 }
 
-// The next reference on the path but those to scalars that were met before or are met on the way.
-fn next_visit(path: &mut Vec<Frame>, progress: &mut Progress, weights: &[Weight]) -> Option<Visit>
-    ensures goes { PathGoesOn weights.now path.old.items progress.old result path.new.items
-        progress.new }
-    ensures none { IfSome result
-        (λ visit. IsNoneMet weights.now progress.new.met visit.reference) }
-    ensures advances { Advances weights.now progress.old.met progress.new.met }
+// The next reference on the path but those to scalars that were met.
+#[inline(always)]
+fn next_visit(path: &mut Vec<Frame>, left: &mut Option<Budget>, weights: &[Weight]) -> Option<Visit>
+    ensures goes { PathGoesOn weights.now path.old.items left.old result path.new.items left.new }
+    ensures none { IfSome result (λ visit. IsNoneMet weights.now visit.reference) }
 {
-    while let Some(frame) = path.pop() {
-        if let Some((done, reference)) = first_other(&frame, progress, weights) {
-            let (owner, levels) = (frame.owner, frame.levels);
-            path.push_reserved(Frame { done, ..frame });
+    while let Some(frame) = path.last_mut() {
+        if let Some((done, reference)) = first_other(frame, left, weights) {
+            frame.done = done;
             return Some(Visit {
-                owner,
-                levels,
+                owner: frame.owner,
+                levels: frame.levels,
                 reference,
             });
+        }
+        path.pop();
+    }
+    None
+}
+
+// The first reference of the frame that is still to be visited, but those to scalars that were
+// met, and the place behind it.
+#[inline(always)]
+fn first_other(frame: &Frame, left: &mut Option<Budget>, weights: &[Weight]) -> Option<(u64, u64)>
+    ensures goes { FrameGoesOn weights.now frame.now left.old result left.new }
+    ensures none { IfSome result (λ p. IsNoneMet weights.now p.1) }
+{
+    for place in frame.done..frame.refs.len() {
+        let reference = frame.refs.get(place);
+        if !pass(left, weights, reference, frame.levels) {
+            return Some((place + 1, reference));
         }
     }
     None
 }
 
-// The first reference of the frame that is still to be visited, but those to scalars that were met
-// before or are met on the way, and the place behind it.
-fn first_other(frame: &Frame, progress: &mut Progress, weights: &[Weight]) -> Option<(u64, u64)>
-    ensures goes { FrameGoesOn weights.now frame.now progress.old result progress.new }
-    ensures none { IfSome result (λ p. IsNoneMet weights.now progress.new.met p.1) }
-    ensures advances { Advances weights.now progress.old.met progress.new.met }
+// Goes past a reference to a scalar that was met, and tells whether it was one. The value that it
+// names may be so many levels deep.
+#[inline(always)]
+fn pass(left: &mut Option<Budget>, weights: &[Weight], reference: u64, levels: u64) -> bool
+    ensures passed { IsTrue result → Passes weights.now levels reference left.old left.new }
+    ensures stays { result ≡ false → left.new ≡ left.old }
+    ensures none { result ≡ false → IsNoneMet weights.now reference }
 {
-    let mut now = *progress;
-    for place in frame.done..frame.refs.len() {
-        let reference = frame.refs.get(place);
-        if !now.pass(weights, reference, frame.levels) {
-            *progress = now;
-            return Some((place + 1, reference));
-        }
+    if reference >= weights.len() as u64 {
+        return false;
     }
-    *progress = now;
-    None
+    let weight = weights[reference as usize];
+    if !weight.is_scalar() {
+        return false;
+    }
+    *left = spend(*left, weight, levels);
+    true
+}
+
+// What is left of the limits after an object of this weight, whose value may be so many levels
+// deep.
+#[inline(always)]
+fn spend(left: Option<Budget>, weight: Weight, levels: u64) -> Option<Budget>
+    ensures { Pays levels weight left result }
+{
+    if levels == 0 {
+        return None;
+    }
+    weight.spend(left?)
 }

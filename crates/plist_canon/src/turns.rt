@@ -16,60 +16,59 @@ ghost use Rattle.plist_canon.specs.Turns.{HaveTurned, AreJudgedFrom, IsAbove};
 
 use crate::judging::judge_standing;
 use crate::known_keys::KnownKeys;
-use crate::weights::Weight;
+use crate::preorder::Walk;
 use plist_engine::Notes;
 use plist_object::{BinFile, Object, Spanned};
-use plist_value::{MAX_NODES, ScalarRef, TextRef};
+use plist_value::{ScalarRef, TextRef};
 use std::alloc::{AllocError, Global};
 use std::hash::BuildHasher;
 
 /// What is kept of the objects that had their turn, which are the first of the file.
 #[derive(Drop)]
-pub(crate) struct Turns {
+pub(crate) struct Turns<'a> {
     // Where the last of them ends, or the header.
     pub(crate) end: u64,
     pub(crate) notes: Notes,
-    // There is one for each.
-    pub(crate) weights: Vec<Weight>,
+    pub(crate) walk: Walk<'a>,
 }
 
-impl Turns {
+impl<'a> Turns<'a> {
     /// No object had its turn.
     pub(crate) fn new<S: BuildHasher>(
         alloc: Global,
         hasher: &S,
         file: &BinFile,
-    ) -> Result<Turns, AllocError>
-        ensures none { IfOk result (λ turns. length turns.weights.items ≡ 0) }
+    ) -> Result<Turns<'a>, AllocError>
+        ensures none { IfOk result (λ turns. length turns.walk.weights.items ≡ 0) }
         ensures turned { IfOk result (HaveTurned (octets_of file.now)) }
     {
         Ok(Turns {
             end: 8,
             notes: Notes::new(alloc, hasher, file.count()),
-            weights: Vec::with_capacity(alloc, file.count().min(MAX_NODES) as usize)?,
+            walk: Walk::new(alloc, file.count())?,
         })
     }
 
     /// How many objects had their turn: the number of the next.
     pub(crate) fn done(&self) -> u64
-        ensures { result ≡ length self.now.weights.items }
+        ensures { result ≡ length self.now.walk.weights.items }
     {
-        self.weights.len() as u64
+        self.walk.done()
     }
 
     /// The next object has its turn, which was read as this.
     #[inline(always)]
-    pub(crate) fn take(&mut self, read: &Spanned) -> Result<(), AllocError>
+    pub(crate) fn take(&mut self, read: &Spanned<'a>) -> Result<(), AllocError>
         ensures one { OnOk result
-            (length self.new.weights.items ≡ length self.old.weights.items + 1) }
+            (length self.new.walk.weights.items ≡ length self.old.walk.weights.items + 1) }
         ensures turned { OnOk result ((f : List ℕ)
-            → Holds f (length self.old.weights.items) (held_of read.now.object)
-            → span_of f (length self.old.weights.items) ≡ Ok (read.now.start, read.now.end)
+            → Holds f (length self.old.walk.weights.items) (held_of read.now.object)
+            → span_of f (length self.old.walk.weights.items) ≡ Ok (read.now.start, read.now.end)
             → HaveTurned f self.old → HaveTurned f self.new) }
     {
         self.end = read.end;
         self.notes.note(&read.object)?;
-        self.weights.push(Weight::of(&read.object))?;
+        self.walk.meet(&read.object)?;
         Ok(())
     }
 }
@@ -80,7 +79,7 @@ impl Turns {
 pub(crate) fn take_keys<'a>(
     objects: &[u8],
     file: &BinFile<'a>,
-    turns: &mut Turns,
+    turns: &mut Turns<'a>,
     known: &mut KnownKeys<'a>,
     object: &Object<'a>,
 ) -> Result<(), AllocError>
@@ -90,9 +89,9 @@ pub(crate) fn take_keys<'a>(
     requires known { AreKnown (octets_of file.now) known.old }
     ensures turned { OnOk result (HaveTurned (octets_of file.now) turns.new) }
     ensures more { OnOk result
-        (length turns.old.weights.items ≤ length turns.new.weights.items) }
+        (length turns.old.walk.weights.items ≤ length turns.new.walk.weights.items) }
     ensures judged { OnOk result (AreJudgedFrom (octets_of file.now)
-        (length turns.old.weights.items) (length turns.new.weights.items)) }
+        (length turns.old.walk.weights.items) (length turns.new.walk.weights.items)) }
     ensures known { OnOk result (AreKnown (octets_of file.now) known.new) }
 {
     let Object::Table(keys, _) = object else {
@@ -117,7 +116,7 @@ pub(crate) fn take_keys<'a>(
 fn take_key<'a>(
     objects: &[u8],
     file: &BinFile<'a>,
-    turns: &mut Turns,
+    turns: &mut Turns<'a>,
     lower: Option<TextRef>,
 ) -> Result<Option<TextRef<'a>>, AllocError>
     requires objects { objects.now
@@ -126,11 +125,11 @@ fn take_key<'a>(
     ensures none { IfOk result (λ told. IfNone told (turns.new ≡ turns.old)) }
     ensures turned { OnOk result (HaveTurned (octets_of file.now) turns.new) }
     ensures one { IfOk result (λ told. IfSome told (λ _.
-        length turns.new.weights.items ≡ length turns.old.weights.items + 1)) }
+        length turns.new.walk.weights.items ≡ length turns.old.walk.weights.items + 1)) }
     ensures judged { IfOk result (λ told. IfSome told (λ _.
-        IsJudged (octets_of file.now) (length turns.old.weights.items))) }
+        IsJudged (octets_of file.now) (length turns.old.walk.weights.items))) }
     ensures holds { IfOk result (λ told. IfSome told (λ t. Holds (octets_of file.now)
-        (length turns.old.weights.items) (holds_scalar (text (units_of t))))) }
+        (length turns.old.walk.weights.items) (holds_scalar (text (units_of t))))) }
     ensures above { IfOk result (λ told. IfSome told (λ t. IsAbove lower.entry t)) }
 {
     let i = turns.done();

@@ -30,6 +30,7 @@ use plist_value::{ScalarRef, TextRef};
 /// Whether the octets, which the object was read from, begin as its canonical spelling: with the
 /// marker, and the count or the whole number, in the least width. No content is read but that of a
 /// UTF-16 string, up to the first unit that is not ASCII.
+#[inline(always)]
 pub fn begins_canonically(octets: &[u8], object: &Object) -> bool
     ensures begins { IsTrue result ↔ BeginsCanonically (held_of object.now) octets.now }
     ensures counted { IsCounted (held_of object.now) }
@@ -42,6 +43,7 @@ pub fn begins_canonically(octets: &[u8], object: &Object) -> bool
     }
 }
 
+#[inline(always)]
 fn begins_scalar(octets: &[u8], scalar: &ScalarRef) -> bool
     ensures begins { IsTrue result ↔ BeginsScalar (content_of scalar.now) octets.now }
     ensures counted { IsCounted (holds_scalar (content_of scalar.now)) }

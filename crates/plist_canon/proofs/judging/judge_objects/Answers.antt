@@ -1,8 +1,9 @@
-use Rattle.std.proofs.Common.{◌≡◌, ℕ, ◌+◌, ◌<◌, ◌≤◌, length, sym, subst, arith}
+use Rattle.std.proofs.Common.{◌≡◌, ℕ, ◌+◌, ◌<◌, ◌≤◌, length, subst, arith}
 use Rattle.plist_object.specs.Views.{octets_of}
 use Rattle.plist_object.specs.Layout.{trailer_of}
 use Rattle.plist_canon.specs.Rules.{breaks_c0}
 use Rattle.plist_canon.specs.Checking.{IsJudged, IsEndBefore}
+use Rattle.plist_canon.specs.Steps.{Walked}
 use Rattle.plist_canon.specs.Turns.{AreJudgedFrom}
 use Rattle.plist_canon.proofs.Judges.{unread}
 use Rattle.plist_canon.proofs.Turning.{judged-all, judged-most, judged-whole}
@@ -10,7 +11,7 @@ use Rattle.plist_canon.proofs.judging.judge_objects.Goals as goal
 
 pub loop-turns-init : goal.loop-turns-init
 loop-turns-init g c = record {
-  known = c.in_ok-known.ensures (octets_of c.args.file.now);
+  known = c.new-known.ensures (octets_of c.args.file.now);
   turned = c.in_ok-turns.ensures.turned;
   judged = λ j below. absurd (omega (arith, below, c.in_ok-turns.ensures.none));
 }
@@ -27,29 +28,29 @@ pub first_flaw-requires-in-Err-clause-listed : goal.first_flaw-requires-in-Err-c
 first_flaw-requires-in-Err-clause-listed g c =
     let f = octets_of c.args.file.now in
     let kept = c.in_ok-take_keys.ensures in
-    let first = length c.take.new.self.weights.items in
+    let first = length c.take.new.self.walk.weights.items in
     let some : first ≤ (trailer_of f).count = omega (arith, c.in_ok-take.ensures.one, c.loop-turns-test.true, c.count.ensures, c.done.ensures) in
-    rw kept.turned.noted.noted (judged-most f first (length c.take_keys.new.turns.weights.items) some kept.judged)
+    rw kept.turned.noted.noted (judged-most f first (length c.take_keys.new.turns.walk.weights.items) some kept.judged)
 
 pub loop-turns-preserved : goal.loop-turns-preserved
 loop-turns-preserved g c =
     let f = octets_of c.args.file.now in
-    let i = length c.loop-turns.turns.weights.items in
+    let i = length c.loop-turns.turns.walk.weights.items in
     let kept = c.in_ok-take_keys.ensures in
     let told = c.in_default-judge_object.ensures in
     let here : IsJudged f i = rw c.done-i.ensures at told.judged in
-    let later : AreJudgedFrom f (i + 1) (length c.take_keys.new.turns.weights.items) = rw c.in_ok-take.ensures.one at kept.judged in
+    let later : AreJudgedFrom f (i + 1) (length c.take_keys.new.turns.walk.weights.items) = rw c.in_ok-take.ensures.one at kept.judged in
     record {
       known = told.known;
       turned = kept.turned;
-      judged = judged-all f i (length c.take_keys.new.turns.weights.items) c.loop-turns.invariant.judged here later;
+      judged = judged-all f i (length c.take_keys.new.turns.walk.weights.items) c.loop-turns.invariant.judged here later;
     }
 
 pub judge_repeats-requires-clause-listed : goal.judge_repeats-requires-clause-listed
 judge_repeats-requires-clause-listed g c =
     let f = octets_of c.args.file.now in
     let before = c.loop-turns.invariant in
-    rw before.turned.noted.noted (judged-most f 0 (length c.loop-turns.turns.weights.items) (omega arith) (λ j least below. before.judged j below))
+    rw before.turned.noted.noted (judged-most f 0 (length c.loop-turns.turns.walk.weights.items) (omega arith) (λ j least below. before.judged j below))
 
 pub judge_table-requires-clause-follows : goal.judge_table-requires-clause-follows
 judge_table-requires-clause-follows g c =
@@ -58,7 +59,7 @@ judge_table-requires-clause-follows g c =
 pub judge_table-requires-clause-ends : goal.judge_table-requires-clause-ends
 judge_table-requires-clause-ends g c =
     let f = octets_of c.args.file.now in
-    let n = length c.loop-turns.turns.weights.items in
+    let n = length c.loop-turns.turns.walk.weights.items in
     let before = c.loop-turns.invariant in
     let all : n ≡ (trailer_of f).count = judged-whole f n before.judged (omega (arith, c.loop-turns-test.false, c.count.ensures, c.done.ensures)) in
     subst (λ (k : ℕ). IsEndBefore f k c.loop-turns.turns.end) all before.turned.ends
@@ -68,12 +69,10 @@ returns-clause-single g c =
     let noted = c.loop-turns.invariant.turned.noted in
     λ i below. c.in_ok-judge_repeats.ensures.ok i (rw noted.noted (omega (arith, below, c.loop-turns-test.false, c.count.ensures, c.done.ensures)))
 
-pub returns-clause-weights : goal.returns-clause-weights
-returns-clause-weights g c =
+pub returns-clause-walked : goal.returns-clause-walked
+returns-clause-walked g c =
     let f = octets_of c.args.file.now in
-    let n = length c.loop-turns.turns.weights.items in
+    let n = length c.loop-turns.turns.walk.weights.items in
     let before = c.loop-turns.invariant in
-    record {
-      each = before.turned.weighed;
-      all = judged-whole f n before.judged (omega (arith, c.loop-turns-test.false, c.count.ensures, c.done.ensures));
-    }
+    let all : n ≡ (trailer_of f).count = judged-whole f n before.judged (omega (arith, c.loop-turns-test.false, c.count.ensures, c.done.ensures)) in
+    subst (λ (k : ℕ). Walked f k c.loop-turns.turns.walk) all before.turned.walked

@@ -12,8 +12,8 @@ invariant-loop-turns g l =
     record {
       known : AreKnown f l.known;
       turned : HaveTurned f l.turns;
-      judged : (j : ℕ) → j < length l.turns.weights.items → IsJudged f j;
+      judged : (j : ℕ) → j < length l.turns.walk.weights.items → IsJudged f j;
     }
 
 abbrev pub decreases-loop-turns : goal.decreases-loop-turns
-decreases-loop-turns g l = (trailer_of (octets_of l.file)).count - length l.turns.weights.items
+decreases-loop-turns g l = (trailer_of (octets_of l.file)).count - length l.turns.walk.weights.items

@@ -1,12 +1,10 @@
 use Rattle.std.proofs.Common.{drop}
 use Rattle.plist_object.specs.Views.{numbers_of}
-use Rattle.plist_canon.specs.Preorders.{Advances, grouped, frame_group}
+use Rattle.plist_canon.specs.Preorders.{grouped, frame_group}
 use Rattle.plist_canon.specs.Steps.{GroupGoesOn}
 use Rattle.plist_canon.proofs.preorder.first_other.Given as goal
 
 -- the walk went past the references before the place
 abbrev pub invariant-loop-place : goal.invariant-loop-place
-invariant-loop-place l = record {
-  goes : GroupGoesOn l.weights (frame_group l.frame) l.initial.progress (grouped l.frame.owner l.frame.levels (drop l.place (numbers_of l.frame.refs))) l.now;
-  advances : Advances l.weights l.initial.progress.met l.now.met;
-}
+invariant-loop-place l =
+    GroupGoesOn l.weights (frame_group l.frame) l.initial.left (grouped l.frame.owner l.frame.levels (drop l.place (numbers_of l.frame.refs))) l.left

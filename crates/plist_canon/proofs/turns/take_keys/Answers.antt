@@ -1,4 +1,4 @@
-use Rattle.std.proofs.Common.{◌≡◌, ℕ, ◌+◌, ◌-◌, ◌<◌, ◌≤◌, length, refl, sym, ◌∙◌, arith}
+use Rattle.std.proofs.Common.{◌≡◌, ◌+◌, ◌-◌, length, refl, sym, ◌∙◌, arith}
 use Rattle.std.specs.Prelude.{slice_index}
 use Rattle.plist_value.specs.Plist.{text}
 use Rattle.plist_value.specs.Texts.{units_of}
@@ -27,12 +27,12 @@ loop-k-preserved c =
     let f = octets_of c.args.file.now in
     let keys = numbers_of c.in-Table.keys in
     let k = c.loop-k.k in
-    let first = length c.args.turns.now.weights.items in
-    let i = length c.loop-k.turns.weights.items in
+    let first = length c.args.turns.now.walk.weights.items in
+    let i = length c.loop-k.turns.walk.weights.items in
     let before = c.loop-k.invariant in
     let told = c.in_ok-text.ensures in
     let t = c.in-Some.text in
-    let one : length c.take_key.new.turns.weights.items ≡ i + 1 = rw c.in-Some.is at told.one in
+    let one : length c.take_key.new.turns.walk.weights.items ≡ i + 1 = rw c.in-Some.is at told.one in
     let judged : IsJudged f i = rw c.in-Some.is at told.judged in
     let above : IsAbove c.loop-k.last t = rw c.in-Some.is at told.above in
     let holds : Holds f i (holds_scalar (text (units_of t))) = rw c.in-Some.is at told.holds in

@@ -11,11 +11,11 @@ abbrev pub invariant-loop-k : goal.invariant-loop-k
 invariant-loop-k l =
     let f = octets_of l.file in
     let keys = numbers_of l.keys in
-    let first = length l.initial.turns.weights.items in
+    let first = length l.initial.turns.walk.weights.items in
     record {
       turned : HaveTurned f l.turns;
-      more : first ≤ length l.turns.weights.items;
-      judged : AreJudgedFrom f first (length l.turns.weights.items);
+      more : first ≤ length l.turns.walk.weights.items;
+      judged : AreJudgedFrom f first (length l.turns.walk.weights.items);
       named : (j : ℕ) → j < l.k → HoldsText f (slice_index keys j);
       ascend : (j : ℕ) → suc j < l.k → AreInOrder f (slice_index keys j) (slice_index keys (suc j));
       last : IsLastKey f keys l.k l.last;
