@@ -1,5 +1,5 @@
 //! What is known of keys while the objects of a file are judged.
-ghost use Rattle.std.specs.Prelude.{◌≡◌, ◌<◌, ◌↔◌, IsTrue, EachIndex, List, ℕ};
+ghost use Rattle.std.specs.Prelude.{◌<◌, ◌↔◌, IsTrue, EachIndex, List, ℕ};
 ghost use Rattle.std.specs.Prelude.{IfOk, IfErr, OnOk, slice_index};
 ghost use Rattle.std.specs.Bool.{OnTrue};
 ghost use Rattle.plist_object.specs.Layout.{trailer_of};

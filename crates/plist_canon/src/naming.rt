@@ -1,5 +1,5 @@
 //! Keys of tables that are compared by their texts, as long as these are not too long.
-ghost use Rattle.std.specs.Prelude.{◌≡◌, ◌<◌, ◌↔◌, IsTrue, EachIndex, IfSome};
+ghost use Rattle.std.specs.Prelude.{◌<◌, ◌↔◌, IsTrue, EachIndex, IfSome};
 ghost use Rattle.std.specs.Prelude.{slice_index};
 ghost use Rattle.plist_value.specs.Plist.{text};
 ghost use Rattle.plist_value.specs.Texts.{units_of};

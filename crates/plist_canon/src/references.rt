@@ -1,10 +1,9 @@
 //! The rules of an object's references.
-ghost use Rattle.std.specs.Prelude.{◌≡◌, ◌<◌, ◌↔◌, IsTrue, EachIndex, length, slice_index};
+ghost use Rattle.std.specs.Prelude.{◌<◌, ◌↔◌, IsTrue, EachIndex, slice_index};
 ghost use Rattle.std.specs.Prelude.{IfSome, IfNone, IfOk, IfErr, OnOk};
 ghost use Rattle.plist_value.specs.Plist.{text};
-ghost use Rattle.plist_value.specs.Texts.{units_of};
 ghost use Rattle.plist_object.specs.Layout.{trailer_of};
-ghost use Rattle.plist_object.specs.Objects.{holds_list, holds_scalar, holds_table};
+ghost use Rattle.plist_object.specs.Objects.{holds_list, holds_table};
 ghost use Rattle.plist_object.specs.Places.{Holds};
 ghost use Rattle.plist_object.specs.Views.{held_of, numbers_of, octets_of};
 ghost use Rattle.plist_object.specs.Ranks.{AreRanks};

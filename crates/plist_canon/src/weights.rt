@@ -1,5 +1,5 @@
 //! What the limits ask of an object.
-ghost use Rattle.std.specs.Prelude.{◌≡◌, suc, min, IfSome, IfNone};
+ghost use Rattle.std.specs.Prelude.{◌≡◌, IfSome, IfNone};
 ghost use Rattle.plist_value.specs.Budget.{Spends, IsOver};
 ghost use Rattle.plist_object.specs.Views.{held_of};
 ghost use Rattle.plist_canon.specs.Weights.{container, of_payload, weight_of};
