@@ -1,8 +1,10 @@
 -- Worked rows, shown on the definitions by computing.
-use Rattle.std.proofs.Common.{ℕ, [], ◌∷◌, refl, lit<}
+use Rattle.std.proofs.Common.{ℕ, List, [], ◌∷◌, refl, lit<}
 use Rattle.std.specs.Prelude.{codes}
 use Rattle.std.specs.Char.{encode_utf8}
+use Rattle.ostep_lex.specs.declared.fault.LexFault.{LexFault}
 use Rattle.ostep_lex.specs.declared.fault.LexFault.TheVariants.{UnexpectedCharacter, OctalRange, OddData, BadData, BadEscape, UnclosedString, UnclosedComment}
+use Rattle.ostep_lex.specs.Encoding.{Spells, places_of}
 use Rattle.ostep_lex.specs.Gap
 use Rattle.ostep_lex.specs.Quoted
 use Rattle.ostep_lex.specs.Octets
@@ -10,10 +12,19 @@ use Rattle.ostep_lex.specs.Lexeme
 use Rattle.ostep_lex.specs.Lexeme.{Lexeme, Placed, brace_open, brace_close, paren_open, paren_close, comma, semicolon, equals, text, octets}
 use Rattle.ostep_lex.specs.Lexing.{HasTokens, none, next, here, token}
 use Rattle.ostep_lex.specs.Stands
-use Rattle.ostep_lex.specs.Stands.{HasFault, HasXml}
+use Rattle.ostep_lex.specs.Stands.{FaultAt, HasFault, HasXml}
 
-abbrev at : Lexeme → ℕ → ℕ → Placed
+abbrev pub at : Lexeme → ℕ → ℕ → Placed
 at lexeme start end = record { lexeme = lexeme; start = start; end = end }
+
+-- a fault behind no token
+first_at : {bytes : List ℕ} {fault : LexFault} (rest : List ℕ) → Spells bytes rest → FaultAt (places_of bytes) rest fault → HasFault bytes fault
+first_at rest spells stands = record {
+  tokens = [];
+  rest = rest;
+  before = record { text = rest; spells = spells; lexes = here };
+  stands = Stands.gap Gap.none stands;
+}
 
 -- `{a = <0F>;}`
 pub six_tokens : HasTokens (codes "{a = <0F>;}") (at brace_open 0 1 ∷ at (text (97 ∷ [])) 1 2 ∷ at equals 3 4 ∷ at (octets (15 ∷ [])) 5 9 ∷ at semicolon 9 10 ∷ at brace_close 10 11 ∷ [])
@@ -29,22 +40,10 @@ six_tokens = record {
       (next Gap.none (Lexeme.mark refl) (none Gap.none))))));
 }
 
--- no octets, and one space
-pub no_token : HasTokens [] []
-no_token = record { text = []; spells = record { scalars = refl; spelled = refl }; lexes = none Gap.none }
-
+-- one space
 pub white_alone : HasTokens (codes " ") []
 unfolding encode_utf8
 white_alone = record { text = codes " "; spells = record { scalars = refl; spelled = refl }; lexes = none (Gap.piece (Gap.white refl) Gap.none) }
-
--- `<>`
-pub empty_data : HasTokens (codes "<>") (at (octets []) 0 2 ∷ [])
-unfolding encode_utf8
-empty_data = record {
-  text = codes "<>";
-  spells = record { scalars = refl; spelled = refl };
-  lexes = next Gap.none (Lexeme.data_token Octets.close) (none Gap.none);
-}
 
 -- `"\177\1234\U41"`: an octal escape has at most three digits
 pub escapes : HasTokens (codes "\"\\177\\1234\\U41\"") (at (text (0x7f ∷ 0x53 ∷ 0x34 ∷ 0x41 ∷ [])) 0 15 ∷ [])
@@ -62,12 +61,7 @@ escapes = record {
 -- `"\200"`
 pub octal_too_high : HasFault (codes "\"\\200\"") (OctalRange 1)
 unfolding encode_utf8
-octal_too_high = record {
-  tokens = [];
-  rest = codes "\"\\200\"";
-  before = record { text = codes "\"\\200\""; spells = record { scalars = refl; spelled = refl }; lexes = here };
-  stands = Stands.gap Gap.none (Stands.quoted refl (Stands.escape (Stands.too_high refl (lit< tt))));
-}
+octal_too_high = first_at (codes "\"\\200\"") (record { scalars = refl; spelled = refl }) (Stands.quoted refl (Stands.escape (Stands.too_high refl (lit< tt))))
 
 -- `(/usr/bin, a//b, /* c */ d)`: no comment begins inside a run
 pub slashes : HasTokens (codes "(/usr/bin, a//b, /* c */ d)")
@@ -116,60 +110,26 @@ little_endian_pair = record {
   lexes = next Gap.none (Lexeme.quoted refl (Quoted.piece (Quoted.raw refl) (Quoted.close refl))) (none Gap.none);
 }
 
--- the same in UTF-8 behind a mark
-pub utf8_pair : HasTokens (0xef ∷ 0xbb ∷ 0xbf ∷ 0x22 ∷ 0xf0 ∷ 0x9f ∷ 0x98 ∷ 0x80 ∷ 0x22 ∷ []) (at (text (0xd83d ∷ 0xde00 ∷ [])) 3 9 ∷ [])
-unfolding encode_utf8
-utf8_pair = record {
-  text = 0x22 ∷ 0x1f600 ∷ 0x22 ∷ [];
-  spells = record { scalars = refl; spelled = refl };
-  lexes = next Gap.none (Lexeme.quoted refl (Quoted.piece (Quoted.raw refl) (Quoted.close refl))) (none Gap.none);
-}
-
 -- `<0f b>`, `<0f,>`, `"\Ug"`, `"a`, `/* a`, `<?xml version="1.0"?>`
 pub odd_digit : HasFault (codes "<0f b>") (OddData 4)
 unfolding encode_utf8
-odd_digit = record {
-  tokens = [];
-  rest = codes "<0f b>";
-  before = record { text = codes "<0f b>"; spells = record { scalars = refl; spelled = refl }; lexes = here };
-  stands = Stands.gap Gap.none (Stands.data_token (Stands.piece (Octets.pair refl refl) (Stands.piece (Octets.white refl) (Stands.odd refl refl))));
-}
+odd_digit = first_at (codes "<0f b>") (record { scalars = refl; spelled = refl }) (Stands.data_token (Stands.piece (Octets.pair refl refl) (Stands.piece (Octets.white refl) (Stands.odd refl refl))))
 
 pub comma_in_data : HasFault (codes "<0f,>") (BadData 3)
 unfolding encode_utf8
-comma_in_data = record {
-  tokens = [];
-  rest = codes "<0f,>";
-  before = record { text = codes "<0f,>"; spells = record { scalars = refl; spelled = refl }; lexes = here };
-  stands = Stands.gap Gap.none (Stands.data_token (Stands.piece (Octets.pair refl refl) (Stands.other refl)));
-}
+comma_in_data = first_at (codes "<0f,>") (record { scalars = refl; spelled = refl }) (Stands.data_token (Stands.piece (Octets.pair refl refl) (Stands.other refl)))
 
 pub no_digit_behind_letter : HasFault (codes "\"\\Ug\"") (BadEscape 1)
 unfolding encode_utf8
-no_digit_behind_letter = record {
-  tokens = [];
-  rest = codes "\"\\Ug\"";
-  before = record { text = codes "\"\\Ug\""; spells = record { scalars = refl; spelled = refl }; lexes = here };
-  stands = Stands.gap Gap.none (Stands.quoted refl (Stands.escape (Stands.no_digit refl)));
-}
+no_digit_behind_letter = first_at (codes "\"\\Ug\"") (record { scalars = refl; spelled = refl }) (Stands.quoted refl (Stands.escape (Stands.no_digit refl)))
 
 pub string_cut : HasFault (codes "\"a") (UnclosedString 0)
 unfolding encode_utf8
-string_cut = record {
-  tokens = [];
-  rest = codes "\"a";
-  before = record { text = codes "\"a"; spells = record { scalars = refl; spelled = refl }; lexes = here };
-  stands = Stands.gap Gap.none (Stands.quoted refl (Stands.piece (Quoted.raw refl) Stands.cut_string));
-}
+string_cut = first_at (codes "\"a") (record { scalars = refl; spelled = refl }) (Stands.quoted refl (Stands.piece (Quoted.raw refl) Stands.cut_string))
 
 pub comment_cut : HasFault (codes "/* a") (UnclosedComment 0)
 unfolding encode_utf8
-comment_cut = record {
-  tokens = [];
-  rest = codes "/* a";
-  before = record { text = codes "/* a"; spells = record { scalars = refl; spelled = refl }; lexes = here };
-  stands = Stands.gap Gap.none (Stands.comment (Gap.more refl (Gap.more refl Gap.text_end)));
-}
+comment_cut = first_at (codes "/* a") (record { scalars = refl; spelled = refl }) (Stands.comment (Gap.more refl (Gap.more refl Gap.text_end)))
 
 pub xml_form : HasXml (codes "<?xml version=\"1.0\"?>") 0
 unfolding encode_utf8
@@ -184,18 +144,4 @@ xml_form = record {
 
 -- `fe ff fe ff`: a second mark is a character
 pub second_mark : HasFault (0xfe ∷ 0xff ∷ 0xfe ∷ 0xff ∷ []) (UnexpectedCharacter 2)
-second_mark = record {
-  tokens = [];
-  rest = 0xfeff ∷ [];
-  before = record { text = 0xfeff ∷ []; spells = record { scalars = refl; spelled = refl }; lexes = here };
-  stands = Stands.gap Gap.none (Stands.unexpected refl refl);
-}
-
--- `"\Ug"` in big-endian UTF-16
-pub no_digit_in_utf16 : HasFault (0xfe ∷ 0xff ∷ 0 ∷ 0x22 ∷ 0 ∷ 0x5c ∷ 0 ∷ 0x55 ∷ 0 ∷ 0x67 ∷ 0 ∷ 0x22 ∷ []) (BadEscape 4)
-no_digit_in_utf16 = record {
-  tokens = [];
-  rest = codes "\"\\Ug\"";
-  before = record { text = codes "\"\\Ug\""; spells = record { scalars = refl; spelled = refl }; lexes = here };
-  stands = Stands.gap Gap.none (Stands.quoted refl (Stands.escape (Stands.no_digit refl)));
-}
+second_mark = first_at (0xfeff ∷ []) (record { scalars = refl; spelled = refl }) (Stands.unexpected refl refl)

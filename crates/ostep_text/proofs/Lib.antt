@@ -1,7 +1,4 @@
 pub mod Rows
-pub mod StandsRows
-pub mod ExpectedRows
-pub mod TextRows
 pub mod SortedLemmas
 pub mod PhraseLemmas
 pub mod SizeLemmas
