@@ -9,12 +9,12 @@ use Rattle.ostep_lex.specs.Lexing.{HasTokens}
 use Rattle.ostep_lex.specs.Cursor.{StandsBehind}
 use Rattle.ostep_lex.specs.declared.cursor.Cursor.{Cursor}
 use Rattle.ostep_text.proofs.SortingSteps.{pairs-ascend}
+use Rattle.ostep_text.proofs.ReadSteps.{string-read, data-read, list-read, table-read, no-items-read, item-read, last_item-read, items-read, ended-read, row-read, alone-read, no-rows-read, row-more-read, rows-read, whole-phrase, rows-phrase}
 use Rattle.ostep_draft.specs.Held.{AllRemain, Puts}
 use Rattle.ostep_draft.specs.Read.{ReadsValue, ReadsItems, ReadsRow, ReadsRows, Says, AreRows}
 use Rattle.ostep_draft.specs.Drafted.{DraftsValue, DraftsEnded, DraftsItems, DraftsRow, DraftsRows, DraftsText}
 use Rattle.ostep_draft.proofs.Orders.{in-turn, turned-rows, push-rows}
 use Rattle.ostep_draft.proofs.Spelling.{holds-old, scalar-spelled, list-spelled, table-spelled, key-spelled, last-item, push-items, LastRow, last-row, zip-push}
-use Rattle.ostep_draft.proofs.ReadSteps.{string-read, data-read, list-read, table-read, no-items-read, item-read, last_item-read, items-read, ended-read, row-read, alone-read, no-rows-read, row-more-read, rows-read, value-says, rows-say}
 
 pub more-even : {all_keys all_values : List ℕ} (keys values : List ℕ) (k v : ℕ) → all_keys ≡ keys ++ k ∷ [] → all_values ≡ values ++ v ∷ [] → length keys ≡ length values
     → length all_keys ≡ length all_values
@@ -94,12 +94,12 @@ pub drafts-ended : {octets : List ℕ} {mid after : Cursor} (helds : List Held) 
     → DraftsValue octets tokens first.lexeme number helds mid → StepsBy octets mid token after → DraftsEnded octets tokens number helds after
 drafts-ended helds tokens first number token e d step = λ f holds v valid s. let r = d f holds v valid s in ended-read tokens first r token e (step r.reads.all r.reads.has)
 
-pub drafts-row : {octets : List ℕ} {begin after : Cursor} (old mid new : List Held) (tokens : List Placed) (at token : Placed) (units : List ℕ) (number value : ℕ) → at.lexeme ≡ string units
-    → token.lexeme ≡ equals → StandsBehind octets (tokens ++ at ∷ []) begin → Puts old mid (holds_scalar (text units)) number → AllRemain mid new
+pub drafts-row : {octets : List ℕ} {after : Cursor} (old mid new : List Held) (tokens : List Placed) (at token : Placed) (units : List ℕ) (number value : ℕ) → at.lexeme ≡ string units
+    → token.lexeme ≡ equals → Puts old mid (holds_scalar (text units)) number → AllRemain mid new
     → DraftsEnded octets ((tokens ++ at ∷ []) ++ token ∷ []) value new after → DraftsRow octets tokens (number, value) new after
-drafts-row {octets} {after = after} old mid new tokens at token units number value l e h put kept d = λ f holds key v valid k s.
+drafts-row {octets} {after} old mid new tokens at token units number value l e put kept d = λ f holds key v valid k s.
     let is = key-spelled f number units key (holds-old mid new kept holds number (holds_scalar (text units)) put.tells) k in
-    subst (λ x. ReadsRow octets tokens x v after) (sym is) (row-read tokens at token units l e h (d f holds v valid s))
+    subst (λ x. ReadsRow octets tokens x v after) (sym is) (row-read tokens at token units l e (d f holds v valid s))
 
 pub drafts-alone : {octets : List ℕ} {after : Cursor} (old new : List Held) (tokens : List Placed) (at token : Placed) (units : List ℕ) (number : ℕ) → at.lexeme ≡ string units
     → token.lexeme ≡ semicolon → StandsBehind octets ((tokens ++ at ∷ []) ++ token ∷ []) after → Puts old new (holds_scalar (text units)) number
@@ -145,7 +145,9 @@ module _ {octets : List ℕ} {tokens : List Placed} {begin key_read after : Curs
 -- whole texts
 pub value-drafts : {octets : List ℕ} {first : Lexeme} {cursor : Cursor} (helds : List Held) (number : ℕ) → DraftsValue octets [] first number helds cursor
     → ((all : List Placed) → StandsBehind octets all cursor → HasTokens octets all) → DraftsText octets number helds
-value-drafts helds number d ends = λ f holds v valid s. let r = d f holds v valid s in value-says r (ends r.reads.all r.reads.has)
+value-drafts helds number d ends = λ f holds v valid s.
+    let r = d f holds v valid s in
+    record { tokens = r.reads.all; has = ends r.reads.all r.reads.has; phrase = whole-phrase r }
 
 pub rows-draft : {octets : List ℕ} {cursor : Cursor} (old new : List Held) (keys values : List ℕ) (number : ℕ) → DraftsRows octets [] [] keys values old cursor
     → ((all : List Placed) → StandsBehind octets all cursor → HasTokens octets all) → Puts old new (holds_table keys values) number → DraftsText octets number new
@@ -154,4 +156,8 @@ rows-draft {octets} old new keys values number d ends put = λ f holds v valid s
     let are : ArePairs t.pairs = subst IsPlist t.is valid in
     let turn = in-turn f keys values t.refs t.pairs t.moved t.spell in
     let r = d f (holds-old old new put.kept holds) turn.rows (turned-rows turn.same are) turn.spell in
-    subst (λ x. Says octets x) (sym t.is) (rows-say r (ends r.reads.all r.reads.has) (record { same = turn.same; ascending = pairs-ascend t.pairs are }))
+    subst (λ x. Says octets x) (sym t.is) (record {
+      tokens = r.reads.all;
+      has = ends r.reads.all r.reads.has;
+      phrase = rows-phrase r (record { same = turn.same; ascending = pairs-ascend t.pairs are });
+    })

@@ -1,4 +1,3 @@
 pub mod Orders
 pub mod Spelling
-pub mod ReadSteps
 pub mod DraftSteps

@@ -19,10 +19,6 @@ use Rattle.ostep_text.proofs.Standing.{before-are, node-refuses}
 pub same-read : {octets : List ℕ} {tokens : List Placed} {old new : Tokens} → HasRead octets tokens old → new ≡ old → HasRead octets tokens new
 same-read {octets} {tokens} h e = subst (λ x. HasRead octets tokens x) (sym e) h
 
-pub whole-phrase : {octets : List ℕ} {first : Lexeme} {v : Plist} {source : Tokens} (r : ReadsValue octets [] first v source) → TopPhrase (lexemes r.reads.all) v
-whole-phrase {first = first} {v = v} r =
-    subst (λ ls. TopPhrase ls v) (sym (before-are r.reads.all (λ rest. first ∷ r.inside rest) (r.reads.follow (λ rest. rest) (λ rest. refl)))) (a_value (r.spells []))
-
 pub value-ends : {octets : List ℕ} {first : Lexeme} {v : Plist} {source : Tokens} (r : ReadsValue octets [] first v source) → at_front first ≡ begun Machine.top first
     → (l : Lexeme) (rest : List Lexeme) → runs Machine.front (first ∷ r.inside (l ∷ rest)) ≡ Machine.dead
 value-ends {first = first} r e l rest =

@@ -7,6 +7,7 @@ pub mod Stands
 pub mod Written
 pub mod Laws
 pub mod Machine
+pub mod Read
 pub mod Reading
 pub mod Due
 pub mod WriteFault

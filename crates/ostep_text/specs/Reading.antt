@@ -1,28 +1,21 @@
 -- What the reader has read of an input, and what is left of the limits.
-use Rattle.std.specs.Prelude.{◌≡◌, ℕ, ◌+◌, ◌*◌, ◌<◌, ◌≤◌, List, ◌∷◌, ◌++◌, length}
+use Rattle.std.specs.Prelude.{◌≡◌, ℕ, ◌+◌, ◌*◌, ◌<◌, ◌≤◌, List, length}
 use Rattle.plist_value.specs.declared.budget.Budget.{Budget}
 use Rattle.plist_value.specs.declared.TheConstants.{MAX_NODES, MAX_DEPTH, MAX_PAYLOAD}
 use Rattle.plist_value.specs.Budget.{Spends}
 use Rattle.plist_value.specs.Plist.{Plist, Items, Pairs, IsPlist, AreItems, ArePairs, AreUnits}
 use Rattle.plist_value.specs.Limits.{nodes, depth, payload, nodes_of_items, depth_of_items, payload_of_items, nodes_of_pairs, depth_of_pairs, payload_of_pairs}
-use Rattle.ostep_lex.specs.Lexeme.{Lexeme, semicolon, Placed}
+use Rattle.ostep_lex.specs.Lexeme.{Lexeme, Placed}
 use Rattle.ostep_lex.specs.Lexing.{HasTokens}
 use Rattle.ostep_lex.specs.Cursor.{StandsBehind}
 use Rattle.ostep_text.specs.declared.fault.TextFault.{TextFault}
 use Rattle.ostep_text.specs.declared.fault.TextFault.TheVariants.{TooDeep, TooManyNodes, TooMuchPayload}
-use Rattle.ostep_text.specs.Phrase.{Phrase, ItemsPhrase, RowPhrase, RowsPhrase}
 use Rattle.ostep_text.specs.Sorting.{AreReordered}
 use Rattle.ostep_text.specs.Begun.{Before}
-use Rattle.ostep_text.specs.Text.{lexemes}
+use Rattle.ostep_text.specs.Read
+pub use Rattle.ostep_text.specs.Read.{Front, AreBefore}
 use Rattle.ostep_text.specs.Stands.{Stands}
 use Rattle.ostep_text.specs.declared.tokens.Tokens.{Tokens}
-
--- the tokens that are read, as a function: to those that are left it gives all
-abbrev pub Front : Type 0
-Front = List Lexeme → List Lexeme
-
-abbrev pub AreBefore : List Placed → Front → Type 0
-AreBefore tokens whole = (rest : List Lexeme) → lexemes tokens ++ rest ≡ whole rest
 
 -- of the input these tokens were read
 pub record HasRead (octets : List ℕ) (tokens : List Placed) (source : Tokens) : Type 0 where
@@ -45,43 +38,24 @@ pub record IsLeft (left : Budget) (levels : ℕ) (b : Before) : Type 0 where
   pub payload_left : left.payload + b.payload ≡ MAX_PAYLOAD
   pub levels_left : levels + b.open_containers ≡ MAX_DEPTH
 
--- more tokens were read, which stand where `inside` puts them
-pub record ReadsOn (octets : List ℕ) (tokens : List Placed) (inside : Front) (source : Tokens) : Type 0 where
-  pub all : List Placed
-  pub has : HasRead octets all source
-  pub follow : (whole : Front) → AreBefore tokens whole → AreBefore all (λ rest. whole (inside rest))
+-- what was read of the input up to there
+abbrev pub ReadsValue : List ℕ → List Placed → Lexeme → Plist → Tokens → Type 0
+ReadsValue octets tokens first v source = Read.ReadsValue (λ all. HasRead octets all source) tokens first v
 
--- from the first on these were a phrase of the value; or one and the `;` behind it
-pub record ReadsValue (octets : List ℕ) (tokens : List Placed) (first : Lexeme) (v : Plist) (source : Tokens) : Type 0 where
-  pub inside : Front
-  pub spells : (rest : List Lexeme) → Phrase (first ∷ inside rest) v rest
-  pub reads : ReadsOn octets tokens (λ rest. first ∷ inside rest) source
+abbrev pub ReadsEnded : List ℕ → List Placed → Plist → Tokens → Type 0
+ReadsEnded octets tokens v source = Read.ReadsEnded (λ all. HasRead octets all source) tokens v
 
-pub record ReadsEnded (octets : List ℕ) (tokens : List Placed) (v : Plist) (source : Tokens) : Type 0 where
-  pub inside : Front
-  pub spells : (rest : List Lexeme) → Phrase (inside rest) v (semicolon ∷ rest)
-  pub reads : ReadsOn octets tokens inside source
+abbrev pub ReadsItems : List ℕ → List Placed → List Lexeme → Items → Tokens → Type 0
+ReadsItems octets tokens end vs source = Read.ReadsItems (λ all. HasRead octets all source) tokens end vs
 
--- these were items, so far, or all and the parenthesis behind them
-pub record ReadsItems (octets : List ℕ) (tokens : List Placed) (end : List Lexeme) (vs : Items) (source : Tokens) : Type 0 where
-  pub inside : Front
-  pub spells : (rest : List Lexeme) → ItemsPhrase (inside rest) vs (end ++ rest)
-  pub reads : ReadsOn octets tokens inside source
+abbrev pub ReadsRow : List ℕ → List Placed → List ℕ → Plist → Tokens → Type 0
+ReadsRow octets tokens key v source = Read.ReadsRow (λ all. HasRead octets all source) tokens key v
 
--- these were a row
-pub record ReadsRow (octets : List ℕ) (tokens : List Placed) (key : List ℕ) (v : Plist) (source : Tokens) : Type 0 where
-  pub inside : Front
-  pub spells : (rest : List Lexeme) → RowPhrase (inside rest) key v rest
-  pub reads : ReadsOn octets tokens inside source
-
--- these were rows, so far, or all and the brace behind them; in the order of their keys they are
--- the pairs
+-- and rows that are, in the order of their keys, the pairs
 pub record ReadsRows (octets : List ℕ) (tokens : List Placed) (end : List Lexeme) (pairs : Pairs) (source : Tokens) : Type 0 where
-  pub inside : Front
   pub rows : Pairs
-  pub spells : (rest : List Lexeme) → RowsPhrase (inside rest) rows (end ++ rest)
+  pub read : Read.ReadsRows (λ all. HasRead octets all source) tokens end rows
   pub same : AreReordered rows pairs
-  pub reads : ReadsOn octets tokens inside source
 
 -- a value, items, pairs, or a row, as they must be to lie so many levels deep, with what is left
 -- then

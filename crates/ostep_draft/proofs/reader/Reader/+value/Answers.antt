@@ -120,7 +120,7 @@ row-returns-in-Equals-clause-read t c octets tokens at l h =
     let has : StandsBehind octets (tokens ++ at ∷ []) c.put_key.new.self.tokens.cursor = subst (λ x. StandsBehind octets (tokens ++ at ∷ []) x) (sym c.in_ok-number.ensures.cursor) h in
     let token = placed c.in_ok-behind.behind in
     drafts-row (objects c.args.self.now.draft) (objects c.put_key.new.self.draft) (objects c.row_value.new.self.draft) tokens at token c.in_ok-number.ensures.put.units c.in_ok-number.number c.in_ok-value-in-Equals.value
-    (l ∙ c.in_ok-number.ensures.put.is) (ap lexeme_of c.in-Equals.is) has c.in_ok-number.ensures.put.put c.in_ok-value-in-Equals.ensures.kept
+    (l ∙ c.in_ok-number.ensures.put.is) (ap lexeme_of c.in-Equals.is) c.in_ok-number.ensures.put.put c.in_ok-value-in-Equals.ensures.kept
     (c.in_ok-value-in-Equals.ensures.read octets ((tokens ++ at ∷ []) ++ token ∷ []) (c.in_ok-behind.ensures.read octets (tokens ++ at ∷ []) has))
 
 pub row-returns-in-Semicolon-clause-read : goal.row-returns-in-Semicolon-clause-read

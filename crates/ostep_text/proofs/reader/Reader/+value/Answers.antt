@@ -29,7 +29,7 @@ use Rattle.ostep_text.proofs.DueSteps.{list-due, items-open, item-due, item-lead
 use Rattle.ostep_text.proofs.TakeSteps.{no-items-taken, no-pairs-taken, item-taken-at, pair-taken-at, row-taken, scalar-taken, opened-left, items-left, rows-left, key-left, spends-same}
 use Rattle.ostep_text.proofs.Wholes.{same-read, value-refuses}
 use Rattle.ostep_text.proofs.Refusals.{before-at, before-key, key-refuses, alone-refuses, twice-stands}
-use Rattle.ostep_text.proofs.ReadSteps.{string-read, data-read, list-read, table-read, no-items-read, item-read, last_item-read, items-read, ended-read, row-read, alone-read, no-rows-read, row-more-read, rows-read}
+use Rattle.ostep_text.proofs.ReadSteps.{string-read, data-read, list-read, no-items-read, item-read, last_item-read, items-read, ended-read, row-read, alone-read, no-pairs-read, pair-read, pairs-read, pairs-table}
 use Rattle.ostep_text.proofs.reader.Reader.+value.Goals as goal
 
 pub items-loop-items-init : goal.items-loop-items-init
@@ -165,7 +165,7 @@ row-returns-in-Equals-clause-read t c octets tokens at l h =
     let has_behind = c.in_ok-behind.ensures.read octets (tokens ++ at ∷ []) has in
     IfOk-weaker c.row_value.result (λ v. ReadsEnded octets ((tokens ++ at ∷ []) ++ token ∷ []) (view v) c.row_value.new.self.tokens)
     (λ v. ReadsRow octets tokens c.args.key.now (view v) c.row_value.new.self.tokens)
-    (λ v r. row-read tokens at token c.args.key.now l (ap lexeme_of c.in-Equals.is) has r) (c.row_value.ensures.read octets ((tokens ++ at ∷ []) ++ token ∷ []) has_behind)
+    (λ v r. row-read tokens at token c.args.key.now l (ap lexeme_of c.in-Equals.is) r) (c.row_value.ensures.read octets ((tokens ++ at ∷ []) ++ token ∷ []) has_behind)
 
 pub row-returns-in-Equals-clause-stands : goal.row-returns-in-Equals-clause-stands
 row-returns-in-Equals-clause-stands t c octets tokens at whole b around before pairs l s f h d k i =
@@ -280,20 +280,20 @@ rows-loop-rows-init t c =
     record {
       shorter = omega arith;
       taken = rw c.new-rows.ensures.empty (no-pairs-taken c.args.self.now.left c.args.levels);
-      read = λ octets tokens h. rw c.new-rows.ensures.empty (no-rows-read h);
+      read = λ octets tokens h. rw c.new-rows.ensures.empty (no-pairs-read h);
     }
 
 pub rows-returns-in_err-token-clause-stands : goal.rows-returns-in_err-token-clause-stands
 rows-returns-in_err-token-clause-stands t c octets tokens whole b a f h d i =
     let r = c.loop-rows.invariant.read octets tokens h in
     passed_on (Stands octets) c.in_err-token.field-0.0 c.from_residual.result c.from_residual.ensures.1
-    (c.in_err-token.ensures.stands octets r.reads.all (λ rest. whole (r.inside rest)) (r.reads.follow whole f) r.reads.has
-    (rows-open (row-due r.inside d r.spells r.same c.loop-rows.invariant.taken.valid)))
+    (c.in_err-token.ensures.stands octets r.read.reads.all (λ rest. whole (r.read.inside rest)) (r.read.reads.follow whole f) r.read.reads.has
+    (rows-open (row-due r.read.inside d r.read.spells r.same c.loop-rows.invariant.taken.valid)))
 
 pub rows-returns-in-BraceClose-clause-read : goal.rows-returns-in-BraceClose-clause-read
 rows-returns-in-BraceClose-clause-read t c octets tokens h =
     let r = c.loop-rows.invariant.read octets tokens h in
-    rows-read r (placed c.in_ok-token.token) (ap lexeme_of c.in-BraceClose.is) (c.in_ok-token.ensures.read octets r.reads.all r.reads.has)
+    pairs-read r (placed c.in_ok-token.token) (ap lexeme_of c.in-BraceClose.is) (c.in_ok-token.ensures.read octets r.read.reads.all r.read.reads.has)
 
 pub rows-returns-in_err-value-in-Text-clause-stands : goal.rows-returns-in_err-value-in-Text-clause-stands
 rows-returns-in_err-value-in-Text-clause-stands t c octets tokens whole b a f h d i =
@@ -303,9 +303,9 @@ rows-returns-in_err-value-in-Text-clause-stands t c octets tokens whole b a f h 
     let same : c.in-Text.key ≡ c.key.result.now = exact_bytes c.in-Text.key _ (rw c.in-Text.is at place.ensures.same_key) ∙ sym c.key.ensures in
     let known : has_key c.in-Text.key (view_pairs rows.entries) ≡ c.is_known-known.result = known-has c.is_known-known.result c.in-Text.key rows (c.is_known-known.ensures rows c.in-Text.key (rw c.in-Text.is at place.ensures.found)) in
     passed_on (Stands octets) c.in_err-value-in-Text.field-0.0 c.from_residual-in_err-value-in-Text.result c.from_residual-in_err-value-in-Text.ensures.1
-    (c.in_err-value-in-Text.ensures.stands octets r.reads.all (placed c.in_ok-token.token) (λ rest. whole (r.inside rest)) (opened b) (Machine.in_braces a) r.rows (view_pairs rows.entries)
-    (ap lexeme_of c.in-Text.is ∙ ap string same) refl (r.reads.follow whole f) (c.in_ok-token.ensures.read octets r.reads.all r.reads.has)
-    (row-due r.inside d r.spells r.same c.loop-rows.invariant.taken.valid) (subst (λ x. has_key x (view_pairs rows.entries) ≡ c.is_known-known.result) same known)
+    (c.in_err-value-in-Text.ensures.stands octets r.read.reads.all (placed c.in_ok-token.token) (λ rest. whole (r.read.inside rest)) (opened b) (Machine.in_braces a) r.rows (view_pairs rows.entries)
+    (ap lexeme_of c.in-Text.is ∙ ap string same) refl (r.read.reads.follow whole f) (c.in_ok-token.ensures.read octets r.read.reads.all r.read.reads.has)
+    (row-due r.read.inside d r.read.spells r.same c.loop-rows.invariant.taken.valid) (subst (λ x. has_key x (view_pairs rows.entries) ≡ c.is_known-known.result) same known)
     (rows-left i c.loop-rows.invariant.taken r.same))
 
 pub rows-loop-rows-preserved : goal.rows-loop-rows-preserved
@@ -330,8 +330,8 @@ rows-loop-rows-preserved t c =
       read = λ octets tokens h.
           let r = c.loop-rows.invariant.read octets tokens h in
           subst (λ x. ReadsRows octets tokens [] x c.row.new.self.tokens) (sym put)
-          (row-more-read r (subst (λ x. ReadsRow octets r.reads.all x (view value) c.row.new.self.tokens) (sym same)
-          (c.in_ok-value-in-Text.ensures.read octets r.reads.all (placed c.in_ok-token.token) (ap lexeme_of c.in-Text.is ∙ ap string same) (c.in_ok-token.ensures.read octets r.reads.all r.reads.has))) once);
+          (pair-read r (subst (λ x. ReadsRow octets r.read.reads.all x (view value) c.row.new.self.tokens) (sym same)
+          (c.in_ok-value-in-Text.ensures.read octets r.read.reads.all (placed c.in_ok-token.token) (ap lexeme_of c.in-Text.is ∙ ap string same) (c.in_ok-token.ensures.read octets r.read.reads.all r.read.reads.has))) once);
     }
 
 pub rows-returns-in_default : goal.rows-returns-in_default
@@ -343,11 +343,11 @@ rows-returns-in_default t c =
       stands = λ octets tokens whole b a f h d i.
           let r = c.loop-rows.invariant.read octets tokens h in
           let token = placed c.in_ok-token.token in
-          let has = c.in_ok-token.ensures.read octets r.reads.all r.reads.has in
-          let due = row-due r.inside d r.spells r.same c.loop-rows.invariant.taken.valid in
-          c.refuse.ensures octets (r.reads.all ++ token ∷ []) has
-          (expected-at r.reads.all token (λ rest. whole (r.inside rest)) (r.reads.follow whole f) has (rows-open due)
-          (leads-nowhere (λ rest. whole (r.inside rest)) (Machine.rows (Machine.in_braces a)) token.lexeme due.leads
+          let has = c.in_ok-token.ensures.read octets r.read.reads.all r.read.reads.has in
+          let due = row-due r.read.inside d r.read.spells r.same c.loop-rows.invariant.taken.valid in
+          c.refuse.ensures octets (r.read.reads.all ++ token ∷ []) has
+          (expected-at r.read.reads.all token (λ rest. whole (r.read.inside rest)) (r.read.reads.follow whole f) has (rows-open due)
+          (leads-nowhere (λ rest. whole (r.read.inside rest)) (Machine.rows (Machine.in_braces a)) token.lexeme due.leads
           (table-ended a c.in_ok-token.token.kind c.in_default.not-BraceClose c.in_default.not-Text)));
     }
 
@@ -449,7 +449,7 @@ value-returns-in_ok-rows-in-BraceOpen-clause-read t c octets tokens h =
     let charged = c.charge-in-BraceOpen.new.self.tokens in
     let has : HasRead octets (tokens ++ placed c.args.first ∷ []) charged = same-read h c.in_ok-charge-in-BraceOpen.ensures.tokens in
     subst (λ x. ReadsValue octets tokens (lexeme_of c.args.first.kind) x c.rows.new.self.tokens) (sym (view-table c.in_ok-rows-in-BraceOpen.rows))
-    (table-read tokens (placed c.args.first) (ap lexeme_of c.in-BraceOpen.is) (c.in_ok-rows-in-BraceOpen.ensures.read octets (tokens ++ placed c.args.first ∷ []) has)
+    (pairs-table tokens (placed c.args.first) (ap lexeme_of c.in-BraceOpen.is) (c.in_ok-rows-in-BraceOpen.ensures.read octets (tokens ++ placed c.args.first ∷ []) has)
     c.in_ok-rows-in-BraceOpen.ensures.taken.valid)
 
 pub value-returns-in_default : goal.value-returns-in_default

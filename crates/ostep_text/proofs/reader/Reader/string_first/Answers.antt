@@ -112,7 +112,7 @@ returns-in_ok-value-in-Equals-clause-read c octets at l s h i =
     let value = c.in_ok-value-in-Equals.value in
     let taken : Takes keyed.left 511 (view value) c.row_value.new.self.left = c.in_ok-value-in-Equals.ensures.taken in
     let row : ReadsRow octets [] c.args.text (view value) c.row_value.new.self.tokens =
-    row-read [] at second c.args.text l (ap lexeme_of c.in-Equals.is) h (c.in_ok-value-in-Equals.ensures.read octets (at ∷ second ∷ []) three) in
+    row-read [] at second c.args.text l (ap lexeme_of c.in-Equals.is) (c.in_ok-value-in-Equals.ensures.read octets (at ∷ second ∷ []) three) in
     let first = first-taken c.args.text (view value) i c.in_ok-first_key-in-Equals.ensures.spent taken c.in_ok-first_key-in-Equals.ensures.valid in
     c.bare_table.ensures.read octets first.left first.is_left first.taken row
 
@@ -126,7 +126,7 @@ returns-in_ok-value-in-Equals-clause-stands c octets at l s h i =
     let value = c.in_ok-value-in-Equals.value in
     let taken : Takes keyed.left 511 (view value) c.row_value.new.self.left = c.in_ok-value-in-Equals.ensures.taken in
     let row : ReadsRow octets [] c.args.text (view value) c.row_value.new.self.tokens =
-    row-read [] at second c.args.text l (ap lexeme_of c.in-Equals.is) h (c.in_ok-value-in-Equals.ensures.read octets (at ∷ second ∷ []) three) in
+    row-read [] at second c.args.text l (ap lexeme_of c.in-Equals.is) (c.in_ok-value-in-Equals.ensures.read octets (at ∷ second ∷ []) three) in
     let first = first-taken c.args.text (view value) i c.in_ok-first_key-in-Equals.ensures.spent taken c.in_ok-first_key-in-Equals.ensures.valid in
     c.bare_table.ensures.stands octets first.left first.is_left first.taken row
 
