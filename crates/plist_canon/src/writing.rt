@@ -9,7 +9,7 @@ ghost use Rattle.plist_engine.specs.Tree.{preorder};
 
 use crate::{Sink, WriteFault};
 use plist_draft::{Draft, put_value};
-use plist_engine::{canonical_of_with_hasher, write_canonical_of_with_hasher};
+use plist_engine::{canonical_of, write_canonical_of};
 use plist_object::BinFile;
 use plist_value::{FixedHasher, Value};
 use std::alloc::{AllocError, Global};
@@ -48,7 +48,7 @@ pub fn canonical_with_hasher<S: BuildHasher + Copy>(
     let Ok(file) = BinFile::of(&octets) else {
         unreachable!();
     };
-    canonical_of_with_hasher(alloc, hasher, &file, None)
+    canonical_of(alloc, hasher, &file, None)
 }
 
 /// Sends the canonical file of a value that is within the limits, object after object, and answers
@@ -101,7 +101,7 @@ pub fn write_canonical_with_hasher<S: BuildHasher + Copy, W: Sink>(
     let Ok(file) = BinFile::of(&octets) else {
         unreachable!();
     };
-    write_canonical_of_with_hasher(alloc, hasher, &file, None, out)
+    write_canonical_of(alloc, hasher, &file, None, out)
 }
 
 // A binary file of the value, in which each use of a scalar is an object of its own.

@@ -25,9 +25,9 @@ mod sifting;
 mod walk;
 
 pub use faults::WriteFault;
-pub use making::{canonical_of, canonical_of_sorted, canonical_of_with_hasher};
+pub use making::canonical_of;
 pub use pending::{Pending, flush};
 pub use plist_devices::{DeviceFault, ListSink, Sink};
 pub use scalars::{Scalars, natural_in};
-pub use sending::{write_canonical_of, write_canonical_of_sorted, write_canonical_of_with_hasher};
+pub use sending::write_canonical_of;
 pub use sieve::{Notes, Sieve};

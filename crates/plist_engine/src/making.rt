@@ -6,10 +6,9 @@ ghost use Rattle.plist_object.specs.Views.{octets_of};
 ghost use Rattle.plist_object.specs.Order.{AreSortedIfAny};
 ghost use Rattle.plist_engine.specs.Canonical.{canon};
 
-use crate::sending::write_canonical_of_with_hasher;
+use crate::sending::write_canonical_of;
 use crate::{DeviceFault, Sink};
 use plist_object::{BinFile, SortedKeys};
-use plist_value::FixedHasher;
 use std::alloc::{AllocError, Global};
 use std::hash::BuildHasher;
 
@@ -50,43 +49,13 @@ impl Sink for GrowingSink {
 /// So one file is made for each value: it is a binary file of it (the layout of CFBinaryPList.c;
 /// which of those files it is, is our profile).
 ///
+/// Keys that were sorted are not sorted again where they are met first. The hasher is as in
+/// [`write_canonical_of`].
+///
 /// # Errors
 ///
 /// Where there is no memory for the file, or for the plan of its objects.
-pub fn canonical_of(alloc: Global, file: &BinFile) -> Result<Vec<u8>, AllocError>
-    requires { (v : Plist) × IsBinary (octets_of file.now) v }
-    ensures { IfOk result (λ octets. (v : Plist) → IsBinary (octets_of file.now) v
-        → octets.items ≡ canon v) }
-{
-    canonical_of_sorted(alloc, file, None)
-}
-
-/// The same as [`canonical_of`], of a file of which these keys were sorted: they are not sorted
-/// again where they are met first.
-///
-/// # Errors
-///
-/// Those of [`canonical_of`].
-pub fn canonical_of_sorted<'a>(
-    alloc: Global,
-    file: &BinFile<'a>,
-    sorted: Option<SortedKeys<'a>>,
-) -> Result<Vec<u8>, AllocError>
-    requires binary { (v : Plist) × IsBinary (octets_of file.now) v }
-    requires sorted { AreSortedIfAny (octets_of file.now) sorted }
-    ensures { IfOk result (λ octets. (v : Plist) → IsBinary (octets_of file.now) v
-        → octets.items ≡ canon v) }
-{
-    canonical_of_with_hasher(alloc, FixedHasher::new(), file, sorted)
-}
-
-/// The same as [`canonical_of_sorted`], whose scalars are hashed by what the builder makes, as
-/// [`write_canonical_of_with_hasher`] says.
-///
-/// # Errors
-///
-/// Those of [`canonical_of`].
-pub fn canonical_of_with_hasher<'a, S: BuildHasher + Copy>(
+pub fn canonical_of<'a, S: BuildHasher + Copy>(
     alloc: Global,
     hasher: S,
     file: &BinFile<'a>,
@@ -101,7 +70,7 @@ pub fn canonical_of_with_hasher<'a, S: BuildHasher + Copy>(
         octets: Vec::new(alloc),
         failures: 0,
     };
-    match write_canonical_of_with_hasher(alloc, hasher, file, sorted, &mut sink) {
+    match write_canonical_of(alloc, hasher, file, sorted, &mut sink) {
         Ok(_) => Ok(sink.octets),
         Err(_) => Err(AllocError),
     }

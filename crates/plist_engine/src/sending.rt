@@ -22,7 +22,6 @@ use crate::putting::part_length;
 use crate::walk::objects_of;
 use crate::{Sink, WriteFault};
 use plist_object::{BinFile, HEADER, SortedKeys, width_of};
-use plist_value::FixedHasher;
 use std::alloc::Global;
 use std::hash::BuildHasher;
 
@@ -30,59 +29,17 @@ use std::hash::BuildHasher;
 /// many octets it has. Neither that value nor its canonical file is in memory: no piece is longer
 /// than the longest object, or than 4,096 octets.
 ///
+/// Keys that were sorted are not sorted again where they are met first. Scalars are hashed by what
+/// the builder makes. Where somebody else picks the files, hand it a
+/// [`RandomState`](std::hash::RandomState): scalars that were picked to collide under a
+/// [`FixedHasher`](plist_value::FixedHasher) cost no more than others then.
+///
 /// # Errors
 ///
 /// [`WriteFault::WriteFailed`] (51) where the sink fails, and [`WriteFault::OutOfMemory`] (60)
 /// where there is no memory for the plan of the objects or for one of them. Exactly the first
 /// `sent` octets of the file went out then.
-pub fn write_canonical_of<W: Sink>(
-    alloc: Global,
-    file: &BinFile,
-    out: &mut W,
-) -> Result<u64, WriteFault>
-    requires { (v : Plist) × IsBinary (octets_of file.now) v }
-    ensures written { (v : Plist) → IsBinary (octets_of file.now) v
-        → IsWritten (canon v) (W.taken out.old) (W.taken out.new)
-        (W.failures out.old) (W.failures out.new) result }
-    ensures same { W.device out.new ≡ W.device out.old }
-    ensures pieces { (v : Plist) → IsBinary (octets_of file.now) v
-        → ArePieces (objects_of (preorder v)) (W.longest out.old) (W.longest out.new) }
-{
-    write_canonical_of_sorted(alloc, file, None, out)
-}
-
-/// The same as [`write_canonical_of`], of a file of which these keys were sorted: they are not
-/// sorted again where they are met first.
-///
-/// # Errors
-///
-/// Those of [`write_canonical_of`].
-pub fn write_canonical_of_sorted<'a, W: Sink>(
-    alloc: Global,
-    file: &BinFile<'a>,
-    sorted: Option<SortedKeys<'a>>,
-    out: &mut W,
-) -> Result<u64, WriteFault>
-    requires binary { (v : Plist) × IsBinary (octets_of file.now) v }
-    requires sorted { AreSortedIfAny (octets_of file.now) sorted }
-    ensures written { (v : Plist) → IsBinary (octets_of file.now) v
-        → IsWritten (canon v) (W.taken out.old) (W.taken out.new)
-        (W.failures out.old) (W.failures out.new) result }
-    ensures same { W.device out.new ≡ W.device out.old }
-    ensures pieces { (v : Plist) → IsBinary (octets_of file.now) v
-        → ArePieces (objects_of (preorder v)) (W.longest out.old) (W.longest out.new) }
-{
-    write_canonical_of_with_hasher(alloc, FixedHasher::new(), file, sorted, out)
-}
-
-/// The same as [`write_canonical_of_sorted`], whose scalars are hashed by what the builder makes.
-/// Where somebody else picks the files, hand it a [`RandomState`](std::hash::RandomState): scalars
-/// that were picked to collide under [`FixedHasher`] cost no more than others then.
-///
-/// # Errors
-///
-/// Those of [`write_canonical_of`].
-pub fn write_canonical_of_with_hasher<'a, S: BuildHasher + Copy, W: Sink>(
+pub fn write_canonical_of<'a, S: BuildHasher + Copy, W: Sink>(
     alloc: Global,
     hasher: S,
     file: &BinFile<'a>,

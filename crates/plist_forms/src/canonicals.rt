@@ -11,7 +11,7 @@ use crate::judged::{draft_of, judge_binary, judge_draft};
 use crate::{Fault, PairFault};
 use ostep_text::read_text;
 use plist_binary::JudgedFile;
-use plist_engine::canonical_of_with_hasher;
+use plist_engine::canonical_of;
 use plist_value::{FixedHasher, Value};
 use std::alloc::Global;
 use std::hash::BuildHasher;
@@ -118,7 +118,7 @@ fn canonicalise_binary<S: BuildHasher + Copy>(
     ensures refused { IfErr result (IsRefused octets.now) }
 {
     let JudgedFile { file, sorted } = judge_binary(alloc, octets)?;
-    Ok(canonical_of_with_hasher(alloc, hasher, &file, sorted)?)
+    Ok(canonical_of(alloc, hasher, &file, sorted)?)
 }
 
 // The canonical file of what a text says, by the binary file that it is read into.
@@ -133,7 +133,7 @@ fn canonicalise_text<S: BuildHasher + Copy>(
 {
     let draft = draft_of(alloc, octets)?;
     let JudgedFile { file, sorted } = judge_draft(alloc, &draft, octets)?;
-    Ok(canonical_of_with_hasher(alloc, hasher, &file, sorted)?)
+    Ok(canonical_of(alloc, hasher, &file, sorted)?)
 }
 
 /// Whether the two octet lists spell equal values, which is whether their canonical files are

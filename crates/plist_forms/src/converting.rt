@@ -15,7 +15,7 @@ use crate::sending::send;
 use crate::texts::text_of;
 use plist_binary::JudgedFile;
 use plist_devices::{Sink, Source};
-use plist_engine::write_canonical_of_with_hasher;
+use plist_engine::write_canonical_of;
 use plist_value::FixedHasher;
 use std::alloc::Global;
 use std::hash::BuildHasher;
@@ -164,7 +164,7 @@ fn write_binary1<H: BuildHasher + Copy, W: Sink>(
     let draft = draft_of(alloc, octets.as_slice())?;
     let JudgedFile { file, sorted } = judge_draft(alloc, &draft, octets.as_slice())?;
     drop(octets);
-    Ok(write_canonical_of_with_hasher(alloc, hasher, &file, sorted, to)?)
+    Ok(write_canonical_of(alloc, hasher, &file, sorted, to)?)
 }
 
 // The canonical file of what a binary file spells.
@@ -181,7 +181,7 @@ fn write_file<H: BuildHasher + Copy, W: Sink>(
     ensures same { W.device to.new ≡ W.device to.old }
 {
     let JudgedFile { file, sorted } = judge_binary(alloc, octets)?;
-    Ok(write_canonical_of_with_hasher(alloc, hasher, &file, sorted, to)?)
+    Ok(write_canonical_of(alloc, hasher, &file, sorted, to)?)
 }
 
 // The OpenStep text of what the octets spell.

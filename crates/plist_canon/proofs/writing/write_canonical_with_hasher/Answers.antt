@@ -9,4 +9,4 @@ returns-clause-pieces g c =
     let v = view c.args.value.now in
     let same : c.in-Ok.octets.items ≡ octets_of c.in-Ok-of.file = search rules in
     let binary : IsBinary (octets_of c.in-Ok-of.file) v = subst (λ (os : List ℕ). IsBinary os v) same c.in-Ok.ensures in
-    c.write_canonical_of_with_hasher.ensures.pieces v binary
+    c.write_canonical_of.ensures.pieces v binary

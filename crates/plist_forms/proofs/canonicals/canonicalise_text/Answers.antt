@@ -14,7 +14,7 @@ pub returns-clause-canonical : goal.returns-clause-canonical
 returns-clause-canonical g c =
     let read : c.deref.result.now ≡ c.in_ok-draft.draft.items = search rules in
     let spelled = c.in_ok-file.ensures.binary in
-    let canonical = rw c.in_ok-file.ensures.file at c.in_ok-canonical_of_with_hasher.ensures in
+    let canonical = rw c.in_ok-file.ensures.file at c.in_ok-canonical_of.ensures in
     record {
       value = spelled.0;
       accepted = c.in_ok-draft.ensures.drafted spelled.0 (rw read at spelled.1);

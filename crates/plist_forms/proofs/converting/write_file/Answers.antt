@@ -11,19 +11,19 @@ returns-in_err-file-clause-writes g c =
 pub returns-in_err-file-clause-untouched : goal.returns-in_err-file-clause-untouched
 returns-in_err-file-clause-untouched g c = untouched _ c.from_residual.result refl
 
-pub returns-in_err-write_canonical_of_with_hasher-clause-writes : goal.returns-in_err-write_canonical_of_with_hasher-clause-writes
-returns-in_err-write_canonical_of_with_hasher-clause-writes g c =
+pub returns-in_err-write_canonical_of-clause-writes : goal.returns-in_err-write_canonical_of-clause-writes
+returns-in_err-write_canonical_of-clause-writes g c =
     let spelled = c.in_ok-file.ensures.binary in
     let accepted = inl (c.requires, spelled.1) in
-    let written = rw c.in_ok-file.ensures.file at c.in_err-write_canonical_of_with_hasher.ensures.written in
-    file_sent c.args.octets.now spelled.0 accepted _ _ _ _ _ c.from_residual-in_err-write_canonical_of_with_hasher.result (failed_answer _ _ c.from_residual-in_err-write_canonical_of_with_hasher.ensures.1) (written spelled.0 spelled.1)
+    let written = rw c.in_ok-file.ensures.file at c.in_err-write_canonical_of.ensures.written in
+    file_sent c.args.octets.now spelled.0 accepted _ _ _ _ _ c.from_residual-in_err-write_canonical_of.result (failed_answer _ _ c.from_residual-in_err-write_canonical_of.ensures.1) (written spelled.0 spelled.1)
 
-pub returns-in_err-write_canonical_of_with_hasher-clause-untouched : goal.returns-in_err-write_canonical_of_with_hasher-clause-untouched
-returns-in_err-write_canonical_of_with_hasher-clause-untouched g c = after_put _ _ c.from_residual-in_err-write_canonical_of_with_hasher.result c.from_residual-in_err-write_canonical_of_with_hasher.ensures.1
+pub returns-in_err-write_canonical_of-clause-untouched : goal.returns-in_err-write_canonical_of-clause-untouched
+returns-in_err-write_canonical_of-clause-untouched g c = after_put _ _ c.from_residual-in_err-write_canonical_of.result c.from_residual-in_err-write_canonical_of.ensures.1
 
 pub returns-clause-writes : goal.returns-clause-writes
 returns-clause-writes g c =
     let spelled = c.in_ok-file.ensures.binary in
     let accepted = inl (c.requires, spelled.1) in
-    let written = rw c.in_ok-file.ensures.file at c.in_ok-write_canonical_of_with_hasher.ensures.written in
+    let written = rw c.in_ok-file.ensures.file at c.in_ok-write_canonical_of.ensures.written in
     file_sent c.args.octets.now spelled.0 accepted _ _ _ _ _ _ refl (written spelled.0 spelled.1)

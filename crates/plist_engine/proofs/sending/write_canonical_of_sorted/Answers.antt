@@ -1,7 +1,0 @@
-use Rattle.plist_engine.proofs.sending.write_canonical_of_sorted.Goals as goal
-
-pub returns-clause-written : goal.returns-clause-written
-returns-clause-written g c = c.write_canonical_of_with_hasher.ensures.written
-
-pub returns-clause-pieces : goal.returns-clause-pieces
-returns-clause-pieces g c = c.write_canonical_of_with_hasher.ensures.pieces
