@@ -16,11 +16,8 @@ use Rattle.ostep_lex.specs.Lexing.{Lexes, none, next, HasTokens, HasNoTokens}
 use Rattle.ostep_lex.specs.Stands
 use Rattle.ostep_lex.specs.Stands.{White, is_of_data, begins_xml, EscapeFault, QuotedFault, OctetsFault, FaultAt, FaultBehind, HasFault, HasXml, Stands}
 use Rattle.ostep_lex.specs.Laws.{OneLexing, TokensContinue, FaultyHasNone}
-use Rattle.ostep_lex.proofs.GapLemmas.{GapPiece-same}
-use Rattle.ostep_lex.proofs.TokenLemmas.{IsToken-gapless, other-octets}
-use Rattle.ostep_lex.proofs.LexingLemmas.{Lexes-same, LexesTo-continue, behind-fault}
-use Rattle.ostep_lex.proofs.OpenLemmas.{behind_mark}
-use Rattle.ostep_lex.proofs.TextLemmas.{Spells-same, StopsAt-none}
+use Rattle.ostep_lex.proofs.TokenLemmas.{GapPiece-same, IsToken-gapless, other-octets, Lexes-same, LexesTo-continue, behind-fault}
+use Rattle.ostep_lex.proofs.TextLemmas.{behind_mark, Spells-same, StopsAt-none}
 
 -- tokens of one text are tokens of another that the same octets spell
 pub lexes_at : {octets text : List ℕ} {tokens : List Placed} → Spells octets text → HasTokens octets tokens → Lexes (places_of octets) text tokens

@@ -15,7 +15,7 @@ use Rattle.ostep_lex.specs.Lexeme.{Lexeme, IsToken, Placed, placed, mark_token}
 use Rattle.ostep_lex.specs.Lexing.{LexesTo, here, HasTokens, HasNoTokens}
 use Rattle.ostep_lex.specs.Stands.{FaultBehind, HasFault, HasXml, White, begins_xml, Stands}
 use Rattle.ostep_lex.specs.Cursor.{ahead, places_in, place_at, SameInput, PassesGap, PassesToken, Opens, StandsBehind, UnlessMemory}
-use Rattle.ostep_lex.proofs.LexingLemmas.{LexesTo-more, LexesTo-all}
+use Rattle.ostep_lex.proofs.TokenLemmas.{LexesTo-more, LexesTo-all}
 use Rattle.ostep_lex.proofs.LawProofs.{stands_unless, HasFault-none}
 use Rattle.ostep_lex.proofs.WhiteSteps.{white_gap}
 use Rattle.ostep_lex.proofs.TokenSteps.{token_mark}

@@ -12,7 +12,7 @@ use Rattle.ostep_lex.specs.declared.source.Source.{Source}
 use Rattle.ostep_lex.specs.declared.source.Source.TheVariants.{Utf8}
 use Rattle.ostep_lex.specs.Source.{IsWhole}
 use Rattle.ostep_lex.specs.Pairs.{Pairs, IsDigitOf, IsPair, AppendsPairs, AppendsFront, AppendsLead}
-use Rattle.ostep_lex.proofs.OpenLemmas.{whole_utf8}
+use Rattle.ostep_lex.proofs.TextLemmas.{whole_utf8}
 use Rattle.ostep_lex.proofs.StretchLemmas.{AsciiFront}
 
 ascii : (c : ℕ) → is_hexadecimal c ≡ true → c < 128

@@ -9,9 +9,9 @@ use Rattle.ostep_lex.specs.Gap.{Gap, begins_gap, begins_comment}
 use Rattle.ostep_lex.specs.Quoted.{Run, Quoted}
 use Rattle.ostep_lex.specs.Lexeme.{Lexeme}
 use Rattle.ostep_lex.specs.Cursor.{ahead, places_in, SameInput, PassesStretch, PassesRun, PassesQuoted, PassesToken, AddsToken}
-use Rattle.ostep_lex.proofs.ClassLemmas.{white-run}
+use Rattle.ostep_lex.proofs.TokenLemmas.{white-run}
 use Rattle.ostep_lex.proofs.StringSteps.{quoted_close}
-use Rattle.ostep_lex.proofs.StretchSteps.{run_stretch, quoted_stretch}
+use Rattle.ostep_lex.proofs.StretchLemmas.{run_stretch, quoted_stretch}
 use Rattle.ostep_lex.proofs.LexerSteps.{PassesPlaced, placed_shorter, behind_more}
 
 pub plain_run : {old new : Cursor} {front : List ℕ} → PassesStretch RunClass old front new → Run (ahead new) [] (ahead new) → PassesRun old new front

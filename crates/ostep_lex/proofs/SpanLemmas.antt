@@ -13,7 +13,7 @@ use Rattle.ostep_lex.specs.Lexeme
 use Rattle.ostep_lex.specs.Lexeme.{Lexeme, IsToken, Placed}
 use Rattle.ostep_lex.specs.Lexing.{Lexes, none, next, HasTokens}
 use Rattle.ostep_lex.specs.Spans.{StandsFirst, StandInTurn, HasSpans}
-use Rattle.ostep_lex.proofs.EncodingLemmas.{octets_of-append}
+use Rattle.ostep_lex.proofs.TextLemmas.{octets_of-append}
 
 -- the rest is the end of the text
 abbrev Ends : List ℕ → List ℕ → Type 0

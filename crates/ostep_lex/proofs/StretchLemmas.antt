@@ -1,19 +1,33 @@
--- Stretches, and what stands behind them.
-use Rattle.std.proofs.Common.{ℕ, Bool, true, ◌<◌, ◌-◌, ◌&&◌, List, [], ◌∷◌, ◌++◌, length, take, drop, ◌≡◌, refl, sym, ap, subst, ◌∙◌, arith, append_assoc, length-append}
+-- Stretches of characters of one class, in octets and in units, and what stands behind them.
+use Rattle.std.proofs.Common.{ℕ, Bool, true, ◌<◌, ◌-◌, ◌&&◌, List, [], ◌∷◌, ◌++◌, length, take, drop, ◌≡◌, refl, sym, ap, subst, ◌∙◌, arith, append_assoc, length-append, ◌≤◌, append-nil, lt-ltb, false, not, ◌==◌}
 use Rattle.std.specs.Prelude.{IsUtf8, chars, nat_lt}
 use Rattle.std.proofs.lemmas.Bool.Decides.{nat_tests}
 use Rattle.std.specs.Str.{IsCharBoundary}
 use Rattle.std.proofs.Math.Seq.{take-append_seam, drop-append_seam}
 use Rattle.std.proofs.lemmas.Str.{IsCharBoundary-at_seam, encode_ascii, IsUtf8-past_char, chars_past_char}
+use Rattle.std.specs.Borrow.{Bor}
+use Rattle.std.specs.Char.{IsScalar}
+use Rattle.std.specs.Char.Escape.{encode_utf16}
 use lib.Utf8.{encode}
 use Rattle.ostep_lex.specs.declared.stretch.Class.{Class}
-use Rattle.ostep_lex.specs.Stretch.{belongs, is_stretch, BeginsWithStretch}
-use Rattle.std.specs.Borrow.{Bor}
+use Rattle.ostep_lex.specs.Stretch.{belongs, is_stretch, BeginsWithStretch, LeadsStretch, BeginsWithUnits}
 use Rattle.ostep_lex.specs.declared.source.Source.{Source}
-use Rattle.ostep_lex.specs.declared.source.Source.TheVariants.{Utf8}
-use Rattle.ostep_lex.specs.Stretch.{LeadsStretch}
-use Rattle.ostep_lex.proofs.EncodingLemmas.{and_left, and_right}
-use Rattle.ostep_lex.proofs.OpenLemmas.{whole_utf8}
+use Rattle.ostep_lex.specs.declared.source.Source.TheVariants.{Utf8, Utf16}
+use Rattle.ostep_lex.specs.declared.source.ByteOrder.{ByteOrder}
+use Rattle.ostep_lex.specs.Encoding.{spelling, octets_of, Places}
+use Rattle.ostep_lex.specs.Source.{encoding_by, unit_octets, units_in, utf16_characters, IsWhole}
+use Rattle.ostep_lex.specs.declared.stretch.Class.TheVariants.{Run, White, Raw, Line, Starless}
+use Rattle.ostep_lex.specs.declared.cursor.Cursor.{Cursor}
+use Rattle.ostep_lex.specs.declared.fault.LexFault.{LexFault}
+use Rattle.ostep_lex.specs.Character.{is_line_end, star}
+use Rattle.ostep_lex.specs.Gap
+use Rattle.ostep_lex.specs.Gap.{LineComment, BlockComment, NeverCloses, Gap, GapPiece, closes_comment}
+use Rattle.ostep_lex.specs.Quoted
+use Rattle.ostep_lex.specs.Quoted.{Run as RunOf, Quoted, Piece, is_raw}
+use Rattle.ostep_lex.specs.Stands
+use Rattle.ostep_lex.specs.Stands.{QuotedFault, FaultBehind}
+use Rattle.ostep_lex.specs.Cursor.{ahead, places_in, PassesStretch, SkipsStretch, PassesGap}
+use Rattle.ostep_lex.proofs.TextLemmas.{and_left, and_right, whole_utf8, octets_of-append, WholeText, WholeText-behind, spelling_one, utf16_characters-spelling, units_in-first}
 
 pub stretch_none : (kind : Class) (octets : List ℕ) → BeginsWithStretch kind octets octets
 stretch_none kind octets = record { front = []; stretch = refl; split = refl }
@@ -33,8 +47,8 @@ stretch_more {kind} {octets} {rest} {behind} {c} f e t = record {
   split = f.split ∙ ap (λ w. f.front ++ w) e ∙ sym (append_assoc f.front (c ∷ []) behind);
 }
 
-low : (c : ℕ) (b : Bool) → (nat_lt c 128 && b) ≡ true → c < 128
-low c b e = grind (arith, nat_tests, and_left (nat_lt c 128) b e)
+below_128 : (c : ℕ) (b : Bool) → (nat_lt c 128 && b) ≡ true → c < 128
+below_128 c b e = grind (arith, nat_tests, and_left (nat_lt c 128) b e)
 
 pub record AsciiFront (front rest : List ℕ) : Type 0 where
   pub utf8 : IsUtf8 rest
@@ -45,13 +59,13 @@ pub ascii_front : (kind : Class) (front rest : List ℕ) → is_stretch 128 kind
 ascii_front kind [] rest a u = record { utf8 = u; characters = refl }
 ascii_front kind (o ∷ os) rest a u =
     let here = and_left (nat_lt o 128 && belongs kind o) (is_stretch 128 kind os) a in
-    let e : o ∷ (os ++ rest) ≡ encode o ++ (os ++ rest) = sym (ap (λ w. w ++ (os ++ rest)) (encode_ascii o (low o (belongs kind o) here))) in
+    let e : o ∷ (os ++ rest) ≡ encode o ++ (os ++ rest) = sym (ap (λ w. w ++ (os ++ rest)) (encode_ascii o (below_128 o (belongs kind o) here))) in
     let h = ascii_front kind os rest (and_right (nat_lt o 128 && belongs kind o) (is_stretch 128 kind os) a) (IsUtf8-past_char (o ∷ (os ++ rest)) (os ++ rest) o u e) in
     record { utf8 = h.utf8; characters = chars_past_char (o ∷ (os ++ rest)) (os ++ rest) o u e ∙ ap (λ w. o ∷ w) h.characters }
 
 below : (c : ℕ) (b : Bool) → (nat_lt c 128 && b) ≡ true → (nat_lt c 0xD800 && b) ≡ true
 below c b e =
-    let small : nat_lt c 0xD800 ≡ true = (let h = low c b e in grind (arith, nat_tests)) in
+    let small : nat_lt c 0xD800 ≡ true = (let h = below_128 c b e in grind (arith, nat_tests)) in
     rw small (and_right (nat_lt c 128) b e)
 
 -- ASCII characters are below the surrogates
@@ -90,3 +104,173 @@ pub leads_stretch : {kind : Class} {source : Source} {text behind : Bor (List �
     → chars text.now ≡ front ++ chars behind.now → text.now ≡ front ++ behind.now → IsUtf8 behind.now → LeadsStretch kind source front (Utf8 behind)
 leads_stretch {kind} {source} {text} {behind} {front} e s t o u = subst (λ x. LeadsStretch kind x front (Utf8 behind)) (sym e)
     (record { stretch = ascii_stretch kind front s; text = t; whole = whole_utf8 behind u; encoding = refl; shorter = omega (arith, length-append front behind.now, ap length o) })
+
+low : (c : ℕ) (b : Bool) → (nat_lt c 0xD800 && b) ≡ true → c < 0xD800
+low c b e = grind (arith, nat_tests, and_left (nat_lt c 0xD800) b e)
+
+low_scalar : (c : ℕ) → c < 0xD800 → IsScalar c
+low_scalar c h = rw (lt-ltb c 0xD800 h) refl
+
+pub units_none : (kind : Class) (order : ByteOrder) (octets : List ℕ) → BeginsWithUnits kind order octets octets
+units_none kind order octets = record { front = []; stretch = refl; split = refl }
+
+pub units_more : {kind : Class} {order : ByteOrder} {octets rest behind : List ℕ} (c : ℕ) → BeginsWithUnits kind order octets rest
+    → rest ≡ unit_octets order c ++ behind → (nat_lt c 0xD800 && belongs kind c) ≡ true → BeginsWithUnits kind order octets behind
+units_more {kind} {order} {octets} {rest} {behind} c a e t =
+    let small : c < 0xD800 = low c (belongs kind c) t in
+    let one : c < 0x1_0000 = omega arith in
+    let first : rest ≡ spelling (encoding_by order) c ++ behind = e ∙ sym (spelling_one order c behind one) in
+    record {
+      front = a.front ++ c ∷ [];
+      stretch = is_stretch-append 0xD800 kind a.front (c ∷ []) a.stretch (rw t refl);
+      split = a.split ∙ ap (λ w. octets_of (encoding_by order) a.front ++ w) first
+          ∙ sym (append_assoc (octets_of (encoding_by order) a.front) (spelling (encoding_by order) c) behind)
+          ∙ ap (λ w. w ++ behind) (sym (octets_of-append (encoding_by order) a.front (c ∷ []) ∙ ap (λ w. octets_of (encoding_by order) a.front ++ w) (append-nil (spelling (encoding_by order) c))));
+    }
+
+-- a stretch behind another
+pub units_behind : {kind : Class} {order : ByteOrder} {octets rest behind : List ℕ} → BeginsWithUnits kind order octets rest → BeginsWithUnits kind order rest behind
+    → BeginsWithUnits kind order octets behind
+units_behind {kind} {order} {octets} {rest} {behind} a b =
+    let e = encoding_by order in
+    record {
+      front = a.front ++ b.front;
+      stretch = is_stretch-append 0xD800 kind a.front b.front a.stretch b.stretch;
+      split = a.split ∙ ap (λ w. octets_of e a.front ++ w) b.split
+          ∙ sym (append_assoc (octets_of e a.front) (octets_of e b.front) behind)
+          ∙ ap (λ w. w ++ behind) (sym (octets_of-append e a.front b.front));
+    }
+
+-- the units of a stretch are its characters
+units_of_stretch : (kind : Class) (order : ByteOrder) (front : List ℕ) → is_stretch 0xD800 kind front ≡ true → units_in order (octets_of (encoding_by order) front) ≡ front
+units_of_stretch kind order [] s = refl
+units_of_stretch kind order (c ∷ cs) s =
+    let here : (nat_lt c 0xD800 && belongs kind c) ≡ true = and_left (nat_lt c 0xD800 && belongs kind c) (is_stretch 0xD800 kind cs) s in
+    let small : c < 0xD800 = low c (belongs kind c) here in
+    units_in-first order _ _ c (spelling_one order c (octets_of (encoding_by order) cs) (omega arith))
+    ∙ ap (λ us. c ∷ us) (units_of_stretch kind order cs (and_right (nat_lt c 0xD800 && belongs kind c) (is_stretch 0xD800 kind cs) s))
+
+pub units_of_front : {kind : Class} {order : ByteOrder} {octets behind : List ℕ} (b : BeginsWithUnits kind order octets behind)
+    → units_in order (take (length octets - length behind) octets) ≡ b.front
+units_of_front {kind} {order} {octets} {behind} b =
+    let front = octets_of (encoding_by order) b.front in
+    let at : length octets - length behind ≡ length front = omega (arith, length-append front behind, ap length b.split) in
+    ap (λ n. units_in order (take n octets)) at ∙ ap (λ os. units_in order (take (length front) os)) b.split
+    ∙ ap (units_in order) (take-append_seam front behind) ∙ units_of_stretch kind order b.front b.stretch
+
+-- of whole octets, a stretch and what is behind it
+record Behind (order : ByteOrder) (front octets behind : List ℕ) : Type 0 where
+  text : utf16_characters order octets ≡ front ++ utf16_characters order behind
+  whole : WholeText (encoding_by order) (utf16_characters order behind) behind
+  shorter : length behind ≤ length octets
+
+behind_front : (kind : Class) (order : ByteOrder) (front octets behind : List ℕ) → is_stretch 0xD800 kind front ≡ true → octets ≡ octets_of (encoding_by order) front ++ behind
+    → WholeText (encoding_by order) (utf16_characters order octets) octets → Behind order front octets behind
+behind_front kind order [] octets behind s e w = subst (λ b. Behind order [] octets b) e (record { text = refl; whole = w; shorter = omega arith })
+behind_front kind order (c ∷ cs) octets behind s e w =
+    let o = encoding_by order in
+    let here : (nat_lt c 0xD800 && belongs kind c) ≡ true = and_left (nat_lt c 0xD800 && belongs kind c) (is_stretch 0xD800 kind cs) s in
+    let mid : List ℕ = octets_of o cs ++ behind in
+    let first : octets ≡ spelling o c ++ mid = e ∙ append_assoc (spelling o c) (octets_of o cs) behind in
+    let t : utf16_characters order octets ≡ c ∷ utf16_characters order mid =
+    ap (utf16_characters order) first ∙ utf16_characters-spelling order c mid (low_scalar c (low c (belongs kind c) here)) in
+    let r = behind_front kind order cs mid behind (and_right (nat_lt c 0xD800 && belongs kind c) (is_stretch 0xD800 kind cs) s) refl (WholeText-behind w t first) in
+    record { text = t ∙ ap (λ w. c ∷ w) r.text; whole = r.whole; shorter = omega (arith, r.shorter, length-append (spelling o c) mid, ap length first) }
+
+pub leads_units : {kind : Class} {order : ByteOrder} {source : Source} {octets behind : Bor (List ℕ)} → source ≡ Utf16 order octets → IsWhole source
+    → (a : BeginsWithUnits kind order octets.now behind.now) → LeadsStretch kind source a.front (Utf16 order behind)
+leads_units {kind} {order} {source} {octets} {behind} e w a = subst (λ s. IsWhole s → LeadsStretch kind s a.front (Utf16 order behind)) (sym e)
+    (λ v. let b = behind_front kind order a.front octets.now behind.now a.stretch a.split (record { scalars = v.scalars; spelled = v.spelled }) in
+    record { stretch = a.stretch; text = b.text; whole = record { scalars = b.whole.scalars; spelled = b.whole.spelled }; encoding = refl; shorter = b.shorter }) w
+
+here : (kind : Class) (c : ℕ) (cs : List ℕ) → is_stretch 0xD800 kind (c ∷ cs) ≡ true → belongs kind c ≡ true
+here kind c cs s = and_right (nat_lt c 0xD800) (belongs kind c) (and_left (nat_lt c 0xD800 && belongs kind c) (is_stretch 0xD800 kind cs) s)
+
+after : (kind : Class) (c : ℕ) (cs : List ℕ) → is_stretch 0xD800 kind (c ∷ cs) ≡ true → is_stretch 0xD800 kind cs ≡ true
+after kind c cs s = and_right (nat_lt c 0xD800 && belongs kind c) (is_stretch 0xD800 kind cs) s
+
+not_true : (b : Bool) → not b ≡ true → b ≡ false
+not_true true e = sym e
+not_true false e = refl
+
+pub one_unit : (c : ℕ) → c < 0xD800 → encode_utf16 c ≡ c ∷ []
+one_unit c h = let w : c < 0x1_0000 = omega arith in rw (lt-ltb c 0x1_0000 w) refl
+
+run_front : (front rest more end : List ℕ) → is_stretch 0xD800 Run front ≡ true → RunOf rest more end → RunOf (front ++ rest) (front ++ more) end
+run_front [] rest more end s r = r
+run_front (c ∷ cs) rest more end s r = Quoted.more (here Run c cs s) (run_front cs rest more end (after Run c cs s) r)
+
+quoted_front : (mark : ℕ) (front rest more end : List ℕ) → is_stretch 0xD800 (Raw mark) front ≡ true → Quoted mark rest more end → Quoted mark (front ++ rest) (front ++ more) end
+quoted_front mark [] rest more end s r = r
+quoted_front mark (c ∷ cs) rest more end s r =
+    let h = quoted_front mark cs rest more end (after (Raw mark) c cs s) r in
+    let small = low c (is_raw mark c) (and_left (nat_lt c 0xD800 && is_raw mark c) (is_stretch 0xD800 (Raw mark) cs) s) in
+    subst (λ us. Quoted mark (c ∷ (cs ++ rest)) (us ++ (cs ++ more)) end) (one_unit c small) (Quoted.piece (Quoted.raw (here (Raw mark) c cs s)) h)
+
+fault_front : (p : Places) (start mark : ℕ) (front rest : List ℕ) (fault : LexFault) → is_stretch 0xD800 (Raw mark) front ≡ true → QuotedFault p start mark rest fault
+    → QuotedFault p start mark (front ++ rest) fault
+fault_front p start mark [] rest fault s r = r
+fault_front p start mark (c ∷ cs) rest fault s r = Stands.piece (Quoted.raw (here (Raw mark) c cs s)) (fault_front p start mark cs rest fault (after (Raw mark) c cs s) r)
+
+gap_front : (front rest end : List ℕ) → is_stretch 0xD800 White front ≡ true → Gap rest end → Gap (front ++ rest) end
+gap_front [] rest end s r = r
+gap_front (c ∷ cs) rest end s r = Gap.piece (Gap.white (here White c cs s)) (gap_front cs rest end (after White c cs s) r)
+
+line_front : (front rest end : List ℕ) → is_stretch 0xD800 Line front ≡ true → LineComment rest end → LineComment (front ++ rest) end
+line_front [] rest end s r = r
+line_front (c ∷ cs) rest end s r = Gap.more (not_true (is_line_end c) (here Line c cs s)) (line_front cs rest end (after Line c cs s) r)
+
+goes_on : (c : ℕ) (rest : List ℕ) → (c == star) ≡ false → closes_comment (c ∷ rest) ≡ false
+goes_on c [] e = refl
+goes_on c (d ∷ rest) e = rw e refl
+
+block_front : (front rest end : List ℕ) → is_stretch 0xD800 Starless front ≡ true → BlockComment rest end → BlockComment (front ++ rest) end
+block_front [] rest end s r = r
+block_front (c ∷ cs) rest end s r =
+    Gap.more (goes_on c (cs ++ rest) (not_true (c == star) (here Starless c cs s))) (block_front cs rest end (after Starless c cs s) r)
+
+never_front : (front rest : List ℕ) → is_stretch 0xD800 Starless front ≡ true → NeverCloses rest → NeverCloses (front ++ rest)
+never_front [] rest s r = r
+never_front (c ∷ cs) rest s r =
+    Gap.more (goes_on c (cs ++ rest) (not_true (c == star) (here Starless c cs s))) (never_front cs rest (after Starless c cs s) r)
+
+-- the same by what a cursor passes
+pub run_stretch : {old new : Cursor} {front more end : List ℕ} → PassesStretch Run old front new → RunOf (ahead new) more end → RunOf (ahead old) (front ++ more) end
+run_stretch {old} {new} {front} {more} {end} p r = subst (λ t. RunOf t (front ++ more) end) (sym p.text) (run_front front (ahead new) more end p.stretch r)
+
+pub quoted_stretch : {mark : ℕ} {old new : Cursor} {front more end : List ℕ} → PassesStretch (Raw mark) old front new → Quoted mark (ahead new) more end
+    → Quoted mark (ahead old) (front ++ more) end
+quoted_stretch {mark} {old} {new} {front} {more} {end} p r =
+    subst (λ t. Quoted mark t (front ++ more) end) (sym p.text) (quoted_front mark front (ahead new) more end p.stretch r)
+
+pub fault_stretch : {places : Places} {start mark : ℕ} {old new : Cursor} {front : List ℕ} {fault : LexFault} → PassesStretch (Raw mark) old front new
+    → QuotedFault places start mark (ahead new) fault → QuotedFault places start mark (ahead old) fault
+fault_stretch {places} {start} {mark} {old} {new} {front} {fault} p r =
+    subst (λ t. QuotedFault places start mark t fault) (sym p.text) (fault_front places start mark front (ahead new) fault p.stretch r)
+
+pub gap_stretch : {old new : Cursor} {front end : List ℕ} → PassesStretch White old front new → Gap (ahead new) end → Gap (ahead old) end
+gap_stretch {old} {new} {front} {end} p r = subst (λ t. Gap t end) (sym p.text) (gap_front front (ahead new) end p.stretch r)
+
+-- a gap, or a fault behind one, where white stands before
+pub gap_behind_white : {old new end : Cursor} → SkipsStretch White old new → PassesGap new end → PassesGap old end
+gap_behind_white white passes =
+    record { gap = gap_stretch white.passes passes.gap; whole = passes.whole; input = passes.input ∙ white.passes.input }
+
+fault_in_gap : {old new : Cursor} {front : List ℕ} {p : Places} {fault : LexFault} → PassesStretch White old front new → FaultBehind p (ahead new) fault → FaultBehind p (ahead old) fault
+fault_in_gap white (Stands.gap behind at) = Stands.gap (gap_stretch white behind) at
+
+pub fault_behind_white : {old new : Cursor} {fault : LexFault} → SkipsStretch White old new → FaultBehind (places_in new) (ahead new) fault → FaultBehind (places_in old) (ahead old) fault
+fault_behind_white {old} {new} {fault} white stands =
+    subst (λ p. FaultBehind p (ahead old) fault) white.passes.input (fault_in_gap white.passes stands)
+
+pub line_stretch : {old new : Cursor} {front end : List ℕ} → PassesStretch Line old front new → LineComment (ahead new) end → LineComment (ahead old) end
+line_stretch {old} {new} {front} {end} p r = subst (λ t. LineComment t end) (sym p.text) (line_front front (ahead new) end p.stretch r)
+
+pub block_stretch : {old new : Cursor} {front end : List ℕ} → PassesStretch Starless old front new → BlockComment (ahead new) end → BlockComment (ahead old) end
+block_stretch {old} {new} {front} {end} p r = subst (λ t. BlockComment t end) (sym p.text) (block_front front (ahead new) end p.stretch r)
+
+pub never_stretch : {old new : Cursor} {front : List ℕ} → PassesStretch Starless old front new → NeverCloses (ahead new) → NeverCloses (ahead old)
+never_stretch {old} {new} {front} p r = subst NeverCloses (sym p.text) (never_front front (ahead new) p.stretch r)
+
+pub stretch_shorter : {kind : Class} {old new : Cursor} {front : List ℕ} → PassesStretch kind old front new → length (ahead new) ≤ length (ahead old)
+stretch_shorter {kind} {old} {new} {front} p = omega (arith, length-append front (ahead new), ap length p.text)

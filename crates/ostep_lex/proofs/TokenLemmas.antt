@@ -1,21 +1,111 @@
--- What stands at a place is one token, and no token where a fault stands.
-use Rattle.std.proofs.Common.{ℕ, ◌<◌, List, [], ◌∷◌, ◌≡◌, ◌==◌, true, false, refl, ap, subst, arith}
+-- A text has one list of tokens at most, and none where a fault stands in it: the classes of
+-- characters exclude each other, and gaps and tokens end at one place.
+use Rattle.std.proofs.Common.{ℕ, Bool, true, false, ◌≡◌, ◌||◌, Some, refl, arith, List, subst, ◌<◌, [], ◌∷◌, ◌==◌, ap, ◌++◌, sym}
+use Rattle.std.proofs.lemmas.Bool.Decides.{nat_tests}
+use Rattle.ostep_lex.specs.Character.{is_white, is_run, is_quote, is_hexadecimal, backslash, greater_than}
+use Rattle.ostep_lex.specs.Quoted.{is_raw, Run, Escape, Piece, Quoted}
+use Rattle.ostep_lex.specs.Lexeme.{Lexeme, mark_token, IsToken, Placed}
+use Rattle.ostep_lex.specs.Stands.{is_of_data, begins_other, EscapeFault, QuotedFault, OctetsFault, FaultAt, FaultBehind}
+use Rattle.ostep_lex.specs.Gap.{LineComment, BlockComment, NeverCloses, GapPiece, Gap}
 use Rattle.ostep_lex.specs.declared.fault.LexFault.{LexFault}
-use Rattle.ostep_lex.specs.Encoding.{Places}
-use Rattle.ostep_lex.specs.Character.{is_quote, greater_than, is_hexadecimal}
+use Rattle.ostep_lex.specs.Encoding.{Places, place}
 use Rattle.ostep_lex.specs.Digits.{begins_digit, octal_number}
 use Rattle.ostep_lex.specs.Gap
-use Rattle.ostep_lex.specs.Gap.{GapPiece, NeverCloses}
 use Rattle.ostep_lex.specs.Quoted
-use Rattle.ostep_lex.specs.Quoted.{Run, Escape, Piece, Quoted}
 use Rattle.ostep_lex.specs.Octets
 use Rattle.ostep_lex.specs.Octets.{OctetsPiece, Octets}
 use Rattle.ostep_lex.specs.Lexeme
-use Rattle.ostep_lex.specs.Lexeme.{Lexeme, IsToken}
 use Rattle.ostep_lex.specs.Stands
-use Rattle.ostep_lex.specs.Stands.{is_of_data, EscapeFault, QuotedFault, OctetsFault, FaultAt}
-use Rattle.ostep_lex.proofs.ClassLemmas.{white-run, white-quote, run-quote, white-hexadecimal, mark-white, mark-run, mark-quote, quote-backslash, close-raw, of_data-white, of_data-hexadecimal, unexpected-white, unexpected-run, unexpected-quote}
-use Rattle.ostep_lex.proofs.GapLemmas.{BlockComment-never, IsGapless}
+use Rattle.ostep_lex.specs.Lexing.{Lexes, none, next, LexesTo, here, token}
+
+pub white-run : (c : ℕ) → is_white c ≡ true → is_run c ≡ true → ⊥
+white-run c w r = grind (arith, nat_tests)
+
+pub white-quote : (c : ℕ) → is_white c ≡ true → is_quote c ≡ true → ⊥
+white-quote c w r = grind (arith, nat_tests)
+
+pub run-quote : (c : ℕ) → is_run c ≡ true → is_quote c ≡ true → ⊥
+run-quote c w r = grind (arith, nat_tests)
+
+pub white-hexadecimal : (c : ℕ) → is_white c ≡ true → is_hexadecimal c ≡ true → ⊥
+white-hexadecimal c w r = grind (arith, nat_tests)
+
+pub mark-white : (c : ℕ) (l : Lexeme) → mark_token c ≡ Some l → is_white c ≡ true → ⊥
+mark-white c l m w = grind (arith, nat_tests)
+
+pub mark-run : (c : ℕ) (l : Lexeme) → mark_token c ≡ Some l → is_run c ≡ true → ⊥
+mark-run c l m w = grind (arith, nat_tests)
+
+pub mark-quote : (c : ℕ) (l : Lexeme) → mark_token c ≡ Some l → is_quote c ≡ true → ⊥
+mark-quote c l m w = grind (arith, nat_tests)
+
+pub quote-backslash : (mark : ℕ) → is_quote mark ≡ true → (backslash == mark) ≡ true → ⊥
+quote-backslash mark q e = grind (arith, nat_tests)
+
+pub close-raw : (mark c : ℕ) → (c == mark) ≡ true → is_raw mark c ≡ true → ⊥
+close-raw mark c e r = grind (arith, nat_tests)
+
+or_left : (a b : Bool) → (a || b) ≡ false → a ≡ false
+or_left true b e = e
+or_left false b e = refl
+
+or_right : (a b : Bool) → (a || b) ≡ false → b ≡ false
+or_right true true e = e
+or_right true false e = refl
+or_right false b e = e
+
+pub of_data-white : (c : ℕ) → is_of_data c ≡ false → is_white c ≡ true → ⊥
+of_data-white c d w = cc (or_left (is_white c) (is_hexadecimal c) (or_left (is_white c || is_hexadecimal c) (c == greater_than) d))
+
+pub of_data-hexadecimal : (c : ℕ) → is_of_data c ≡ false → is_hexadecimal c ≡ true → ⊥
+of_data-hexadecimal c d w = cc (or_right (is_white c) (is_hexadecimal c) (or_left (is_white c || is_hexadecimal c) (c == greater_than) d))
+
+pub unexpected-white : (c : ℕ) → begins_other c ≡ false → is_white c ≡ true → ⊥
+unexpected-white c d w = grind (arith, nat_tests)
+
+pub unexpected-run : (c : ℕ) → begins_other c ≡ false → is_run c ≡ true → ⊥
+unexpected-run c d w = grind (arith, nat_tests)
+
+pub unexpected-quote : (c : ℕ) → begins_other c ≡ false → is_quote c ≡ true → ⊥
+unexpected-quote c d w = grind (arith, nat_tests)
+
+pub LineComment-same : {text a b : List ℕ} → LineComment text a → LineComment text b → a ≡ b
+LineComment-same Gap.text_end Gap.text_end = refl
+LineComment-same (Gap.line_end e) (Gap.line_end f) = refl
+LineComment-same (Gap.line_end e) (Gap.more f s) = cc
+LineComment-same (Gap.more e r) (Gap.line_end f) = cc
+LineComment-same (Gap.more e r) (Gap.more f s) = LineComment-same r s
+
+pub BlockComment-same : {text a b : List ℕ} → BlockComment text a → BlockComment text b → a ≡ b
+BlockComment-same Gap.close Gap.close = refl
+BlockComment-same Gap.close (Gap.more f s) = cc
+BlockComment-same (Gap.more e r) Gap.close = cc
+BlockComment-same (Gap.more e r) (Gap.more f s) = BlockComment-same r s
+
+pub BlockComment-never : {text a : List ℕ} → NeverCloses text → BlockComment text a → ⊥
+BlockComment-never Gap.text_end r = elim r [ ]
+BlockComment-never (Gap.more e n) Gap.close = cc
+BlockComment-never (Gap.more e n) (Gap.more f r) = BlockComment-never n r
+
+pub GapPiece-same : {text a b : List ℕ} → GapPiece text a → GapPiece text b → a ≡ b
+GapPiece-same (Gap.white e) (Gap.white f) = refl
+GapPiece-same (Gap.white e) (Gap.line r) = cc
+GapPiece-same (Gap.white e) (Gap.block r) = cc
+GapPiece-same (Gap.line r) (Gap.white e) = cc
+GapPiece-same (Gap.line r) (Gap.line s) = LineComment-same r s
+GapPiece-same (Gap.block r) (Gap.white e) = cc
+GapPiece-same (Gap.block r) (Gap.block s) = BlockComment-same r s
+
+-- no white and no whole comment stands at the text
+abbrev pub IsGapless : List ℕ → Type 0
+IsGapless text = (behind : List ℕ) → GapPiece text behind → ⊥
+
+-- two gaps before what begins none end together
+pub Gap-same : {text a b : List ℕ} → Gap text a → Gap text b → IsGapless a → IsGapless b → a ≡ b
+Gap-same Gap.none Gap.none g h = refl
+Gap-same Gap.none (Gap.piece p s) g h = absurd (g _ p)
+Gap-same (Gap.piece p r) Gap.none g h = absurd (h _ p)
+Gap-same {b = b} (Gap.piece p r) (Gap.piece q s) g h = Gap-same r (subst (λ x. Gap x b) (GapPiece-same q p) s) g h
 
 -- two readings of one text agree in what they mean, and in what they leave
 pub record SamePart (u v a b : List ℕ) : Type 0 where
@@ -226,3 +316,59 @@ FaultAt-nothing e = elim e [ ]
 
 pub IsToken-nothing : {behind : List ℕ} {l : Lexeme} → IsToken [] l behind → ⊥
 IsToken-nothing t = elim t [ ]
+
+-- two gaps before tokens end together, so the tokens are one
+pub next-same : {text from here a b : List ℕ} {l m : Lexeme} → Gap text from → IsToken from l a → Gap text here → IsToken here m b
+    → (from ≡ here) × SameToken l m a b
+next-same {a = a} {l = l} g t h u =
+    let e = Gap-same g h (IsToken-gapless t) (IsToken-gapless u) in
+    (e, IsToken-same (subst (λ x. IsToken x l a) e t) u)
+
+-- a gap up to the end has no token behind it
+pub end-token : {text from behind : List ℕ} {l : Lexeme} → Gap text [] → Gap text from → IsToken from l behind → ⊥
+end-token {behind = behind} {l = l} g h t =
+    IsToken-nothing (subst (λ x. IsToken x l behind) (sym (Gap-same g h nothing-gapless (IsToken-gapless t))) t)
+
+-- a gap up to the end has no fault behind it
+pub end-fault : {p : Places} {text from : List ℕ} {f : LexFault} → Gap text [] → Gap text from → FaultAt p from f → ⊥
+end-fault {p} {f = f} g h t =
+    FaultAt-nothing (subst (λ x. FaultAt p x f) (sym (Gap-same g h nothing-gapless (FaultAt-gapless t))) t)
+
+-- no token begins where a fault stands behind a gap
+pub token-fault : {p : Places} {text from here behind : List ℕ} {l : Lexeme} {f : LexFault} → Gap text from → FaultAt p from f → Gap text here → IsToken here l behind → ⊥
+token-fault {behind = behind} {l = l} g t h u =
+    IsToken-fault t (subst (λ x. IsToken x l behind) (sym (Gap-same g h (FaultAt-gapless t) (IsToken-gapless u))) u)
+
+pub Lexes-same : {p : Places} {text : List ℕ} {ts us : List Placed} → Lexes p text ts → Lexes p text us → ts ≡ us
+Lexes-same (none g) (none h) = refl
+Lexes-same (none g) (next h u s) = absurd (end-token g h u)
+Lexes-same (next g t r) (none h) = absurd (end-token h g t)
+Lexes-same {p} (next g t r) (next {tokens = us} h u s) =
+    let e = next-same g t h u in
+    cc (e.0, e.1.means, e.1.leaves, Lexes-same r (subst (λ x. Lexes p x us) (sym e.1.leaves) s))
+
+pub behind-fault : {p q : Places} {text : List ℕ} {f : LexFault} {ts : List Placed} → FaultBehind p text f → Lexes q text ts → ⊥
+behind-fault (Stands.gap g t) (none h) = end-fault h g t
+behind-fault (Stands.gap g t) (next h u s) = token-fault g t h u
+
+abbrev pub Continuing : Places → List ℕ → List Placed → List Placed → Type 0
+Continuing p rest tokens all = (others : List Placed) × (all ≡ tokens ++ others) × Lexes p rest others
+
+-- tokens that a text begins with are the first of all its tokens
+pub LexesTo-continue : {p : Places} {rest text : List ℕ} {tokens all : List Placed} → LexesTo p rest text tokens → Lexes p text all → Continuing p rest tokens all
+LexesTo-continue {all = all} here l = (all, refl, l)
+LexesTo-continue (token g t r) (none h) = absurd (end-token h g t)
+LexesTo-continue {p} (token g t r) (next {tokens = us} h u s) =
+    let e = next-same g t h u in
+    let c = LexesTo-continue r (subst (λ x. Lexes p x us) (sym e.1.leaves) s) in
+    (c.0, cc (e.0, e.1.means, e.1.leaves, c.1), c.2)
+
+-- a token more, and all tokens
+pub LexesTo-more : {p : Places} {rest from behind text : List ℕ} {lexeme : Lexeme} {tokens : List Placed} → LexesTo p rest text tokens → Gap rest from → IsToken from lexeme behind
+    → LexesTo p behind text (tokens ++ record { lexeme = lexeme; start = place p from; end = place p behind } ∷ [])
+LexesTo-more here g t = token g t here
+LexesTo-more (token h u r) g t = token h u (LexesTo-more r g t)
+
+pub LexesTo-all : {p : Places} {rest text : List ℕ} {tokens : List Placed} → LexesTo p rest text tokens → Gap rest [] → Lexes p text tokens
+LexesTo-all here g = none g
+LexesTo-all (token h u r) g = next h u (LexesTo-all r g)

@@ -8,7 +8,7 @@ use Rattle.ostep_lex.specs.Stands.{White, LacksMark}
 use Rattle.ostep_lex.specs.Gap
 use Rattle.ostep_lex.specs.Gap.{Gap}
 use Rattle.ostep_lex.specs.Lexeme.{Lexeme, mark_token}
-use Rattle.ostep_lex.proofs.ClassLemmas.{mark-white}
+use Rattle.ostep_lex.proofs.TokenLemmas.{mark-white}
 
 pub white_more : {c : ℕ} {text rest end : List ℕ} → text ≡ c ∷ rest → is_white c ≡ true → White rest end → White text end
 white_more {end = end} e w r = subst (λ x. White x end) (sym e) (Stands.more w r)

@@ -40,7 +40,7 @@ pub fn run(room: Vec<u16>, cursor: Cursor<'_>) -> Result<(Vec<u16>, Cursor<'_>),
 const LEAST_ROOM: usize = 32;
 
 /// Appends the units of the character.
-#[tactic(auto, using(crate::proofs::StretchSteps::one_unit))]
+#[tactic(auto, using(crate::proofs::StretchLemmas::one_unit))]
 fn push_character(units: &mut Vec<u16>, c: char) -> Result<(), AllocError>
     ensures { OnOk result (units.new.items ≡ units.old.items ++ encode_utf16 c) }
 {

@@ -1,6 +1,6 @@
 use Rattle.std.proofs.lemmas.Result.{IfErr-weaker, IfOk-weaker}
 use Rattle.ostep_lex.specs.Gap.{none}
-use Rattle.ostep_lex.proofs.StretchSteps.{gap_stretch, gap_behind_white, fault_behind_white}
+use Rattle.ostep_lex.proofs.StretchLemmas.{gap_stretch, gap_behind_white, fault_behind_white}
 use Rattle.ostep_lex.proofs.gap.gap.Goals as goal
 
 pub returns-then-is_over-clause-ok : goal.returns-then-is_over-clause-ok

@@ -1,6 +1,6 @@
 use Rattle.std.proofs.Common.{sym, ◌∙◌}
 use Rattle.ostep_lex.proofs.GapSteps.{line_more, line_stop, line_none}
-use Rattle.ostep_lex.proofs.StretchSteps.{line_stretch}
+use Rattle.ostep_lex.proofs.StretchLemmas.{line_stretch}
 use Rattle.ostep_lex.proofs.gap.line_comment.Goals as goal
 
 pub loop-c-init : goal.loop-c-init

@@ -3,7 +3,7 @@ use Rattle.ostep_lex.specs.Gap.{none, piece}
 use Rattle.ostep_lex.specs.Stands.{gap, FaultAt, FaultBehind}
 use Rattle.ostep_lex.specs.Cursor.{PassesPiece, ahead, places_in}
 use Rattle.ostep_lex.proofs.Exits.{passed_on}
-use Rattle.ostep_lex.proofs.StretchSteps.{gap_stretch}
+use Rattle.ostep_lex.proofs.StretchLemmas.{gap_stretch}
 use Rattle.ostep_lex.proofs.gap.whole_gap.Goals as goal
 
 pub returns-in_err-behind-clause-err : goal.returns-in_err-behind-clause-err

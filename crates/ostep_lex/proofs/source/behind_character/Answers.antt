@@ -2,8 +2,7 @@ use Rattle.std.proofs.Common.{◌<◌, sym, subst, ◌∙◌, rules}
 use Rattle.std.specs.Char.{IsScalar}
 use Rattle.ostep_lex.specs.Encoding.{BeginsWith}
 use Rattle.ostep_lex.specs.Source.{encoding_by}
-use Rattle.ostep_lex.proofs.EncodingLemmas.{FrontsOf-none, FrontsOf-more}
-use Rattle.ostep_lex.proofs.SourceLemmas.{spelling_one}
+use Rattle.ostep_lex.proofs.TextLemmas.{FrontsOf-none, FrontsOf-more, spelling_one}
 use Rattle.ostep_lex.proofs.source.behind_character.Goals as goal
 
 pub returns-clause-fronts : goal.returns-clause-fronts

@@ -1,4 +1,4 @@
-use Rattle.ostep_lex.proofs.EncodingLemmas.{FrontsOf-more, FrontsOf-behind}
+use Rattle.ostep_lex.proofs.TextLemmas.{FrontsOf-more, FrontsOf-behind}
 use Rattle.ostep_lex.proofs.source.behind_characters.Goals as goal
 
 pub loop-behind-preserved : goal.loop-behind-preserved

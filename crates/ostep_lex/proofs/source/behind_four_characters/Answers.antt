@@ -1,4 +1,4 @@
-use Rattle.ostep_lex.proofs.EncodingLemmas.{FrontsOf-behind}
+use Rattle.ostep_lex.proofs.TextLemmas.{FrontsOf-behind}
 use Rattle.ostep_lex.proofs.source.behind_four_characters.Goals as goal
 
 pub returns-clause-fronts : goal.returns-clause-fronts

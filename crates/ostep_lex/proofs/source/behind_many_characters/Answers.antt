@@ -1,5 +1,5 @@
 use Rattle.std.proofs.Common.{arith}
-use Rattle.ostep_lex.proofs.EncodingLemmas.{FrontsOf-none, FrontsOf-behind}
+use Rattle.ostep_lex.proofs.TextLemmas.{FrontsOf-none, FrontsOf-behind}
 use Rattle.ostep_lex.proofs.source.behind_many_characters.Goals as goal
 
 pub loop-behind-init : goal.loop-behind-init

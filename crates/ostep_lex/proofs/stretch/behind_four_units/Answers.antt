@@ -1,4 +1,4 @@
-use Rattle.ostep_lex.proofs.UnitsLemmas.{units_behind}
+use Rattle.ostep_lex.proofs.StretchLemmas.{units_behind}
 use Rattle.ostep_lex.proofs.stretch.behind_four_units.Goals as goal
 
 pub returns-clause-begins : goal.returns-clause-begins

@@ -1,4 +1,4 @@
-use Rattle.ostep_lex.proofs.UnitsLemmas.{units_none, units_behind}
+use Rattle.ostep_lex.proofs.StretchLemmas.{units_none, units_behind}
 use Rattle.ostep_lex.proofs.stretch.behind_many_units.Goals as goal
 
 pub loop-behind-init : goal.loop-behind-init

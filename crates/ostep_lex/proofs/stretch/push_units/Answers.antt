@@ -1,5 +1,5 @@
 use Rattle.std.proofs.Common.{◌++◌, ap, ◌∙◌}
-use Rattle.ostep_lex.proofs.UnitsLemmas.{units_of_front}
+use Rattle.ostep_lex.proofs.StretchLemmas.{units_of_front}
 use Rattle.ostep_lex.proofs.stretch.push_units.Goals as goal
 
 pub returns : goal.returns

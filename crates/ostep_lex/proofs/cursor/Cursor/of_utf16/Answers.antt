@@ -1,6 +1,6 @@
 use Rattle.std.proofs.Common.{◌≡◌, length, arith}
 use Rattle.std.proofs.lemmas.Bool.Decides.{nat_tests}
-use Rattle.ostep_lex.proofs.OpenLemmas.{whole_utf16}
+use Rattle.ostep_lex.proofs.TextLemmas.{whole_utf16}
 use Rattle.ostep_lex.proofs.cursor.Cursor.of_utf16.Goals as goal
 
 pub invariant_of-result-clause-whole : goal.invariant_of-result-clause-whole

@@ -1,7 +1,7 @@
 use Rattle.std.proofs.Common.{refl, subst, sym}
 use Rattle.std.specs.Prelude.{IsUtf8}
 use Rattle.std.specs.Str.{IsValidUpTo}
-use Rattle.ostep_lex.proofs.OpenLemmas.{whole_utf8, stops_utf8}
+use Rattle.ostep_lex.proofs.TextLemmas.{whole_utf8, stops_utf8}
 use Rattle.ostep_lex.proofs.cursor.Cursor.of_utf8.Goals as goal
 
 pub invariant_of-result-clause-whole : goal.invariant_of-result-clause-whole

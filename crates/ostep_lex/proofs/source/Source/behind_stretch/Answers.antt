@@ -1,5 +1,4 @@
-use Rattle.ostep_lex.proofs.StretchLemmas.{leads_stretch}
-use Rattle.ostep_lex.proofs.UnitsLemmas.{leads_units}
+use Rattle.ostep_lex.proofs.StretchLemmas.{leads_stretch, leads_units}
 use Rattle.ostep_lex.proofs.source.Source.behind_stretch.Goals as goal
 
 pub returns-in-Utf8 : goal.returns-in-Utf8

@@ -1,4 +1,4 @@
-use Rattle.ostep_lex.proofs.SourceLemmas.{Leads-utf8, Leads-utf16, Leads-none}
+use Rattle.ostep_lex.proofs.TextLemmas.{Leads-utf8, Leads-utf16, Leads-none}
 use Rattle.ostep_lex.proofs.source.Source.first.Goals as goal
 
 pub returns-in_err-first-in-Utf16 : goal.returns-in_err-first-in-Utf16

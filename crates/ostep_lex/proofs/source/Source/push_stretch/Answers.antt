@@ -1,5 +1,4 @@
-use Rattle.ostep_lex.proofs.StretchLemmas.{leads_stretch}
-use Rattle.ostep_lex.proofs.UnitsLemmas.{leads_units}
+use Rattle.ostep_lex.proofs.StretchLemmas.{leads_stretch, leads_units}
 use Rattle.ostep_lex.proofs.source.Source.push_stretch.Goals as goal
 
 pub returns-in_ok-push_octets-in-Utf8 : goal.returns-in_ok-push_octets-in-Utf8
