@@ -1,17 +1,17 @@
 -- A table's rows in the order of the text: the same pairs, each with a key of its own.
-use Rattle.std.proofs.Common.{◌≡◌, ℕ, zero, suc, ◌<◌, Bool, false, ◌||◌, List, [], ◌∷◌, length, get_or, set, refl, sym, subst, ◌∙◌, arith}
+use Rattle.std.proofs.Common.{◌≡◌, ℕ, zero, suc, ◌<◌, false, List, [], ◌∷◌, length, get_or, set, refl, sym, subst, ◌∙◌, arith}
 use Rattle.std.specs.Prelude.{nat_eq}
 use Rattle.std.specs.List.{swap, zip}
 use Rattle.std.specs.List.Sorted.{IsPermutation}
-use Rattle.std.specs.Cmp.Lexicographic.{pointwise, bytes_decides}
+use Rattle.std.specs.Cmp.Lexicographic.{pointwise}
 use Rattle.std.proofs.lemmas.List.Sorted.{IsPermutation-sym, IsPermutation-keeps}
 use Rattle.std.proofs.lemmas.List.Edits.{swap_is}
 use Rattle.plist_value.specs.Plist.{Plist, Pairs, no_pairs, pair, IsPlist, ArePairs}
 use Rattle.plist_object.specs.Spelled.{SpellPairs}
 use Rattle.ostep_text.specs.Sorting.{has_key, StandsAmong, first, later, AreReordered, none, row}
-use Rattle.ostep_text.proofs.PhraseSteps.{push_row, has_key-head, has_key-tail}
-use Rattle.ostep_text.proofs.SortedLemmas.{low_key, not_true}
-use Rattle.ostep_text.proofs.SortingSteps.{reordered-has, pairs-ascend}
+use Rattle.ostep_text.proofs.PhraseSteps.{push_row, has_key-head, has_key-tail, or-none, apart-sym}
+use Rattle.ostep_text.proofs.SortedLemmas.{low_key}
+use Rattle.ostep_text.proofs.SortingSteps.{reordered-has, pairs-ascend, exchange}
 use Rattle.ostep_draft.specs.Read.{AreRows}
 
 -- the same elements in another order
@@ -39,19 +39,6 @@ swap-moves (x ∷ xs) (suc i) (suc j) h k =
 
 moves : {X : Type 0} (xs ys : List X) → IsPermutation xs ys → Moves xs ys
 moves xs ys p = IsPermutation-keeps xs (λ l. Moves xs l) still (λ l i j h k m. then m (swap-moves l i j h k)) ys p
-
--- two rows among others, the later one put first
-record Exchanged (key : List ℕ) (v : Plist) (k : List ℕ) (w : Plist) (others all : Pairs) : Type 0 where
-  middle : Pairs
-  outer : StandsAmong key v others middle
-  inner : StandsAmong k w middle all
-
-exchange : {key k : List ℕ} {v w : Plist} {others ps all : Pairs} → StandsAmong k w others ps → StandsAmong key v ps all → Exchanged key v k w others all
-exchange {key} {v = v} {others = others} t first = record { middle = pair key v others; outer = first; inner = later t }
-exchange first (later {all = all} s) = record { middle = all; outer = s; inner = first }
-exchange (later {next = n} {w = u} t) (later s) =
-    let e = exchange t s in
-    record { middle = pair n u e.middle; outer = later e.outer; inner = later e.inner }
 
 -- pairs of the references, with those that are given in some order
 record Turned (f : List ℕ) (refs : List (ℕ × ℕ)) (ps : Pairs) : Type 0 where
@@ -86,13 +73,6 @@ pub in-turn : (f keys values : List ℕ) (refs : List (ℕ × ℕ)) (ps : Pairs)
 in-turn f keys values refs ps p s =
     let t = turn (moves refs (zip keys values) (IsPermutation-sym (zip keys values) refs p)) ps s (turn-same ps) in
     record { rows = t.rows; spell = t.spell; same = t.same }
-
-or-none : (b c : Bool) → b ≡ false → c ≡ false → (b || c) ≡ false
-or-none b c e f = rw e f
-
-apart-sym : (key next : List ℕ) → pointwise nat_eq key next ≡ false → pointwise nat_eq next key ≡ false
-apart-sym key next e =
-    not_true (pointwise nat_eq next key) (λ same. let is : key ≡ next = sym ((bytes_decides next key).0 same) in cc (e, (bytes_decides key next).1 is))
 
 -- a key that all lack is not that of one among them, and the others lack it
 among-head : {key : List ℕ} {v : Plist} {others all : Pairs} (next : List ℕ) → StandsAmong key v others all → has_key next all ≡ false → pointwise nat_eq next key ≡ false

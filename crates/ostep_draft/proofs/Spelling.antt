@@ -8,7 +8,8 @@ use Rattle.plist_object.specs.Places.{Holds}
 use Rattle.plist_object.specs.Spelled.{Spells, SpellItems, SpellPairs}
 use Rattle.plist_object.proofs.Uniqueness.{same_held}
 use Rattle.plist_draft.proofs.Telling.{Tells-append, Tells-last}
-use Rattle.ostep_text.proofs.PhraseSteps.{push, push_row}
+use Rattle.ostep_text.proofs.PhraseSteps.{push_row}
+use Rattle.plist_value.proofs.Items.{push}
 use Rattle.ostep_draft.specs.Held.{AllRemain, HoldsAll, Puts}
 
 -- an object that was put

@@ -13,7 +13,8 @@ use Rattle.ostep_text.specs.Machine.{Around, IsTable, braces, without, runs, acc
 use Rattle.ostep_text.specs.Reading.{Front}
 use Rattle.ostep_text.specs.Due.{IsOpen, ValueDue, RowValueDue, ListDue, TableDue, RowDue}
 use Rattle.ostep_text.proofs.MachineLemmas.{item-begins, value-runs, items-runs, row-runs, rows-runs, stays-dead}
-use Rattle.ostep_text.proofs.PhraseSteps.{push, push_row, items-last, rows-more}
+use Rattle.ostep_text.proofs.PhraseSteps.{push_row, items-last, rows-more}
+use Rattle.plist_value.proofs.Items.{push}
 use Rattle.ostep_text.proofs.SortingSteps.{reordered-more, put-stands, put-ascends, reordered-has, pairs-ascend}
 
 -- lists

@@ -1,44 +1,14 @@
 -- An item, or a row, more at the end of those that were read.
-use Rattle.std.proofs.Common.{◌≡◌, ℕ, ◌+◌, ◌≤◌, Bool, true, false, ◌||◌, List, [], ◌∷◌, ◌++◌, refl, sym, ap, ◌∙◌, arith}
-use Rattle.std.specs.Prelude.{nat_eq, map}
+use Rattle.std.proofs.Common.{◌≡◌, ℕ, Bool, true, false, ◌||◌, List, ◌∷◌, refl, sym}
+use Rattle.std.specs.Prelude.{nat_eq}
 use Rattle.std.specs.Cmp.Lexicographic.{pointwise, bytes_decides}
-use Rattle.std.proofs.lemmas.List.{map-append}
-use Rattle.plist_value.specs.declared.value.Value.{Value}
-use Rattle.plist_value.specs.Plist.{Plist, Items, no_items, item, Pairs, no_pairs, pair, IsPlist, AreItems}
-use Rattle.plist_value.specs.Limits.{nodes, depth, payload, nodes_of_items, depth_of_items, payload_of_items}
-use Rattle.plist_value.specs.View.{view, view_items, items_of}
+use Rattle.plist_value.specs.Plist.{Plist, Items, Pairs, no_pairs, pair}
 use Rattle.ostep_lex.specs.Lexeme.{Lexeme, paren_close, comma}
 use Rattle.ostep_text.specs.Phrase.{Phrase, ItemsPhrase, items_end, last_item, an_item, RowPhrase, RowsPhrase, rows_end, a_row}
 use Rattle.ostep_text.specs.Sorting.{has_key}
 use Rattle.ostep_text.proofs.PhraseLemmas.{no-phrase}
-use Rattle.ostep_text.proofs.SortedLemmas.{not_true}
-
-abbrev pub push : Items → Plist → Items
-push no_items v = item v no_items
-push (item w vs) v = item w (push vs v)
-
-items_of-push : (vs : List Plist) (v : Plist) → items_of (vs ++ v ∷ []) ≡ push (items_of vs) v
-items_of-push [] v = refl
-items_of-push (w ∷ vs) v = ap (item w) (items_of-push vs v)
-
-pub view_items-push : (vs : List Value) (v : Value) → view_items (vs ++ v ∷ []) ≡ push (view_items vs) (view v)
-view_items-push vs v = ap items_of (map-append view vs (v ∷ [])) ∙ items_of-push (map view vs) (view v)
-
-pub AreItems-push : (vs : Items) (v : Plist) → AreItems vs → IsPlist v → AreItems (push vs v)
-AreItems-push no_items v valid one = (one, tt)
-AreItems-push (item w vs) v valid one = (valid.0, AreItems-push vs v valid.1 one)
-
-pub nodes-push : (vs : Items) (v : Plist) → nodes_of_items (push vs v) ≡ nodes_of_items vs + nodes v
-nodes-push no_items v = omega arith
-nodes-push (item w vs) v = omega (arith, nodes-push vs v)
-
-pub payload-push : (vs : Items) (v : Plist) → payload_of_items (push vs v) ≡ payload_of_items vs + payload v
-payload-push no_items v = omega arith
-payload-push (item w vs) v = omega (arith, payload-push vs v)
-
-pub depth-push : (vs : Items) (v : Plist) (levels : ℕ) → depth_of_items vs ≤ levels → depth v ≤ levels → depth_of_items (push vs v) ≤ levels
-depth-push no_items v levels deep one = omega arith
-depth-push (item w vs) v levels deep one = omega (arith, depth-push vs v levels (omega arith) one)
+use Rattle.std.proofs.lemmas.Bool.{false_from_ne_true}
+use Rattle.plist_value.proofs.Items.{push}
 
 pub items-more : {inside at rest : List Lexeme} {vs : Items} {w : Plist} → ItemsPhrase inside vs at → Phrase at w (comma ∷ rest) → ItemsPhrase inside (push vs w) rest
 items-more items_end p = an_item p items_end
@@ -62,7 +32,7 @@ or-second : (b c : Bool) → (b || c) ≡ false → c ≡ false
 or-second true c e = cc e
 or-second false c e = e
 
-or-none : (b c : Bool) → b ≡ false → c ≡ false → (b || c) ≡ false
+pub or-none : (b c : Bool) → b ≡ false → c ≡ false → (b || c) ≡ false
 or-none b c e f = rw e f
 
 pub has_key-head : (key next : List ℕ) (w : Plist) (rows : Pairs) → has_key key (pair next w rows) ≡ false → pointwise nat_eq key next ≡ false
@@ -71,9 +41,9 @@ has_key-head key next w rows e = or-first (pointwise nat_eq key next) (has_key k
 pub has_key-tail : (key next : List ℕ) (w : Plist) (rows : Pairs) → has_key key (pair next w rows) ≡ false → has_key key rows ≡ false
 has_key-tail key next w rows e = or-second (pointwise nat_eq key next) (has_key key rows) e
 
-apart-sym : (key next : List ℕ) → pointwise nat_eq key next ≡ false → pointwise nat_eq next key ≡ false
+pub apart-sym : (key next : List ℕ) → pointwise nat_eq key next ≡ false → pointwise nat_eq next key ≡ false
 apart-sym key next e =
-    not_true (pointwise nat_eq next key) (λ same. let is : key ≡ next = sym ((bytes_decides next key).0 same) in cc (e, (bytes_decides key next).1 is))
+    false_from_ne_true (pointwise nat_eq next key) (λ same. let is : key ≡ next = sym ((bytes_decides next key).0 same) in cc (e, (bytes_decides key next).1 is))
 
 has_key-push : (next key : List ℕ) (v : Plist) (rows : Pairs) → pointwise nat_eq next key ≡ false → has_key next rows ≡ false → has_key next (push_row rows key v) ≡ false
 has_key-push next key v no_pairs e f = or-none (pointwise nat_eq next key) false e refl

@@ -10,7 +10,8 @@ use Rattle.ostep_text.specs.declared.tokens.Tokens.{Tokens}
 use Rattle.ostep_text.specs.Read.{Front, AreBefore, Known, ReadsOn, ReadsValue, ReadsEnded, ReadsItems, ReadsRow, ReadsRows}
 use Rattle.ostep_text.specs.Reading
 use Rattle.ostep_text.specs.Reading.{HasRead}
-use Rattle.ostep_text.proofs.PhraseSteps.{push, push_row, items-more, items-last, rows-more}
+use Rattle.ostep_text.proofs.PhraseSteps.{push_row, items-more, items-last, rows-more}
+use Rattle.plist_value.proofs.Items.{push}
 use Rattle.ostep_text.proofs.SortingSteps.{reordered-more, put-stands, reordered-has, pairs-ascend}
 use Rattle.ostep_text.proofs.Standing.{before-more, before-are}
 

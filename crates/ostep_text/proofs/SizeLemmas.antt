@@ -5,15 +5,15 @@ use Rattle.plist_value.specs.Plist.{Plist, Pairs}
 use Rattle.plist_value.specs.Limits.{nodes, nodes_of_pairs, depth, depth_of_pairs, payload, payload_of_pairs}
 use Rattle.ostep_text.specs.Sorting.{StandsAmong, first, later, AreReordered, none, row}
 
-among-nodes : {key : List ℕ} {v : Plist} {others all : Pairs} → StandsAmong key v others all → nodes_of_pairs all ≡ 1 + nodes v + nodes_of_pairs others
+pub among-nodes : {key : List ℕ} {v : Plist} {others all : Pairs} → StandsAmong key v others all → nodes_of_pairs all ≡ 1 + nodes v + nodes_of_pairs others
 among-nodes first = refl
 among-nodes (later s) = omega (arith, among-nodes s)
 
-among-depth : {key : List ℕ} {v : Plist} {others all : Pairs} → StandsAmong key v others all → depth_of_pairs all ≡ max (max 1 (depth v)) (depth_of_pairs others)
+pub among-depth : {key : List ℕ} {v : Plist} {others all : Pairs} → StandsAmong key v others all → depth_of_pairs all ≡ max (max 1 (depth v)) (depth_of_pairs others)
 among-depth first = refl
 among-depth (later s) = omega (arith, among-depth s)
 
-among-payload : {key : List ℕ} {v : Plist} {others all : Pairs} → StandsAmong key v others all
+pub among-payload : {key : List ℕ} {v : Plist} {others all : Pairs} → StandsAmong key v others all
     → payload_of_pairs all ≡ 2 * length key + payload v + payload_of_pairs others
 among-payload first = refl
 among-payload (later s) = omega (arith, among-payload s)

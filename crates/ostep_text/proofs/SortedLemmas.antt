@@ -1,21 +1,19 @@
 -- Rows have one order by their keys at most.
-use Rattle.std.proofs.Common.{◌≡◌, ℕ, Bool, true, false, List, Less, Greater, nat_cmp, refl, sym, subst, ap, ◌∙◌}
+use Rattle.std.proofs.Common.{◌≡◌, ℕ, false, List, Less, Greater, nat_cmp, refl, sym, subst, ap, ◌∙◌}
 use Rattle.std.proofs.lemmas.Cmp.{nat_list_cmp_total}
 use Rattle.std.specs.Cmp.Lexicographic.{slice_cmp, pointwise, bytes_decides}
 use Rattle.std.specs.Ordering.{ordering_reverse}
 use Rattle.std.specs.Prelude.{nat_eq}
 use Rattle.plist_value.specs.Plist.{Plist, Pairs, no_pairs, pair, IsKeyBelow}
 use Rattle.ostep_text.specs.Sorting.{StandsAmong, first, later, AreReordered, none, row, IsAscending, AreSorted, has_key}
+use Rattle.std.proofs.lemmas.Bool.{false_from_ne_true}
+use Rattle.plist_value.proofs.Keys.{below_next}
 
 -- a key below the first of ascending keys is below each of them
 below_each : {key : List ℕ} {v : Plist} {others all : Pairs} → StandsAmong key v others all → (low : List ℕ) → IsKeyBelow low all → IsAscending all
     → slice_cmp nat_cmp low key ≡ Less
 below_each first low b h = b
 below_each {key} (later {next = next} s) low b h = nat_list_cmp_total.trans low next key b (below_each s next h.0 h.1)
-
-below_next : (low key : List ℕ) (others : Pairs) → slice_cmp nat_cmp low key ≡ Less → IsKeyBelow key others → IsKeyBelow low others
-below_next low key no_pairs b h = tt
-below_next low key (pair next v ps) b h = nat_list_cmp_total.trans low key next b h
 
 below_others : {key : List ℕ} {v : Plist} {others all : Pairs} → StandsAmong key v others all → (low : List ℕ) → IsKeyBelow low all → IsAscending all
     → IsKeyBelow low others
@@ -48,13 +46,9 @@ reordered-same (row {key = key} {v = v} {all = ps} r s) (row t u) h k =
 pub AreSorted-same : {rows ps qs : Pairs} → AreSorted rows ps → AreSorted rows qs → ps ≡ qs
 AreSorted-same s t = reordered-same s.same t.same s.ascending t.ascending
 
-pub not_true : (b : Bool) → (b ≡ true → ⊥) → b ≡ false
-not_true true h = absurd (h refl)
-not_true false h = refl
-
 other_key : (key next : List ℕ) → slice_cmp nat_cmp key next ≡ Less → pointwise nat_eq key next ≡ false
 other_key key next b =
-    not_true (pointwise nat_eq key next) (λ e. let same : next ≡ key = sym ((bytes_decides key next).0 e) in
+    false_from_ne_true (pointwise nat_eq key next) (λ e. let same : next ≡ key = sym ((bytes_decides key next).0 e) in
     let below : slice_cmp nat_cmp key key ≡ Less = subst (λ x. slice_cmp nat_cmp key x ≡ Less) same b in not_both key key below below)
 
 -- a key below ascending pairs is none of theirs

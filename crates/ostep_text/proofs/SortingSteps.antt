@@ -1,6 +1,6 @@
 -- A row more goes to its place among the sorted rows.
 use Rattle.std.proofs.Common.{◌≡◌, ℕ, ◌+◌, ◌*◌, ◌≤◌, Bool, true, false, List, [], ◌∷◌, length, Ordering, Less, Equal, Greater, nat_cmp, refl, sym, ap, subst, ◌∙◌, arith}
-use Rattle.std.specs.Prelude.{nat_eq, max, Option, Some, cond, ◌||◌}
+use Rattle.std.specs.Prelude.{nat_eq, Option, Some, cond, ◌||◌}
 use Rattle.std.specs.Option.{is_some}
 use Rattle.std.specs.Map.{lookup}
 use Rattle.std.specs.BTreeMap.{is_at}
@@ -13,17 +13,18 @@ use Rattle.std.proofs.lemmas.Cmp.{nat_list_cmp_total}
 use Rattle.std.proofs.lemmas.Map.Lookups.{exact_bytes}
 use Rattle.plist_value.specs.Plist.{Plist, Pairs, no_pairs, pair, IsPlist, ArePairs, AreUnits, IsKeyBelow}
 use Rattle.plist_value.specs.Limits.{nodes, depth, payload, nodes_of_pairs, depth_of_pairs, payload_of_pairs}
-use Rattle.plist_value.proofs.Pairs.{put_pair}
+use Rattle.plist_value.proofs.Pairs.{put_pair, Entry}
 use Rattle.ostep_text.specs.Sorting.{has_key, StandsAmong, first, later, AreReordered, none, row, IsAscending}
 use Rattle.ostep_text.proofs.PhraseSteps.{push_row, has_key-head, has_key-tail}
+use Rattle.ostep_text.proofs.SizeLemmas.{among-nodes, among-depth, among-payload}
 
 -- two rows among others, the later one put first
-record Exchanged (key : List ℕ) (v : Plist) (k : List ℕ) (w : Plist) (others all : Pairs) : Type 0 where
-  middle : Pairs
-  outer : StandsAmong key v others middle
-  inner : StandsAmong k w middle all
+pub record Exchanged (key : List ℕ) (v : Plist) (k : List ℕ) (w : Plist) (others all : Pairs) : Type 0 where
+  pub middle : Pairs
+  pub outer : StandsAmong key v others middle
+  pub inner : StandsAmong k w middle all
 
-exchange : {key k : List ℕ} {v w : Plist} {others ps all : Pairs} → StandsAmong k w others ps → StandsAmong key v ps all → Exchanged key v k w others all
+pub exchange : {key k : List ℕ} {v w : Plist} {others ps all : Pairs} → StandsAmong k w others ps → StandsAmong key v ps all → Exchanged key v k w others all
 exchange {key} {v = v} {others = others} t first = record { middle = pair key v others; outer = first; inner = later t }
 exchange first (later {all = all} s) = record { middle = all; outer = s; inner = first }
 exchange (later {next = n} {w = u} t) (later s) =
@@ -81,18 +82,6 @@ pub pairs-ascend : (ps : Pairs) → ArePairs ps → IsAscending ps
 pairs-ascend no_pairs a = tt
 pairs-ascend (pair key v ps) a = (a.2, pairs-ascend ps (a.3))
 
-among-nodes : {key : List ℕ} {v : Plist} {others all : Pairs} → StandsAmong key v others all → nodes_of_pairs all ≡ 1 + nodes v + nodes_of_pairs others
-among-nodes first = refl
-among-nodes (later s) = omega (arith, among-nodes s)
-
-among-payload : {key : List ℕ} {v : Plist} {others all : Pairs} → StandsAmong key v others all → payload_of_pairs all ≡ 2 * length key + payload v + payload_of_pairs others
-among-payload first = refl
-among-payload (later s) = omega (arith, among-payload s)
-
-among-depth : {key : List ℕ} {v : Plist} {others all : Pairs} → StandsAmong key v others all → depth_of_pairs all ≡ max (max 1 (depth v)) (depth_of_pairs others)
-among-depth first = refl
-among-depth (later s) = omega (arith, among-depth s)
-
 pub put-nodes : (key : List ℕ) (v : Plist) (ps : Pairs) → has_key key ps ≡ false → nodes_of_pairs (put_pair key v ps) ≡ nodes_of_pairs ps + (1 + nodes v)
 put-nodes key v ps d = omega (arith, among-nodes (put-stands key v ps d))
 
@@ -118,9 +107,6 @@ reordered-has key none = refl
 reordered-has key (row {key = k} {rows = rows} {others = others} {all = all} r s) = ap (λ b. pointwise nat_eq key k || b) (reordered-has key r) ∙ sym (among-has key s)
 
 -- as the map looks a key up
-abbrev pub Entry : Type 0
-Entry = List ℕ × Value
-
 or-cond : (b c : Bool) (v : Value) (r : Option Value) → is_some r ≡ c → is_some (cond b (Some v) r) ≡ (b || c)
 or-cond true c v r e = refl
 or-cond false c v r e = e

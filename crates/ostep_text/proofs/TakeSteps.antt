@@ -9,7 +9,7 @@ use Rattle.ostep_text.specs.Sorting.{has_key, AreReordered}
 use Rattle.ostep_text.specs.Begun.{Before, opened, with_items, with_rows, with_key}
 use Rattle.ostep_text.proofs.SizeLemmas.{reordered-nodes, reordered-payload}
 use Rattle.ostep_text.specs.Reading.{IsLeft, Takes, TakesItems, TakesPairs, TakesRow}
-use Rattle.ostep_text.proofs.PhraseSteps.{push, nodes-push, payload-push, depth-push, AreItems-push}
+use Rattle.plist_value.proofs.Items.{push, nodes-push, payload-push, depth-push, AreItems-push}
 use Rattle.ostep_text.proofs.SortingSteps.{put-nodes, put-payload, put-depth, put-pairs}
 
 pub no-items-taken : (left : Budget) (levels : ℕ) → TakesItems left levels no_items left

@@ -11,7 +11,7 @@ use Rattle.ostep_text.specs.Sorting.{has_key}
 use Rattle.ostep_text.specs.Begun
 use Rattle.ostep_text.specs.Begun.{Before, nothing, opened, with_items, with_rows, with_key, ValueAt, RowsAt, NewKeyAt, NodeAt, begins_value}
 use Rattle.ostep_text.specs.Stands.{payload_at}
-use Rattle.ostep_text.proofs.SortedLemmas.{not_true}
+use Rattle.std.proofs.lemmas.Bool.{false_from_ne_true}
 use Rattle.ostep_text.proofs.SizeLemmas.{reordered-nodes, reordered-depth, reordered-payload}
 use Rattle.ostep_text.proofs.PhraseLemmas.{begins_row, row-begins, no-phrase, Phrase-same, Row-same, value-or-row}
 
@@ -89,7 +89,7 @@ or-neither b c e f = rw e f
 
 other_key : (key next : List ℕ) (all : Pairs) → has_key next all ≡ false → has_key key all ≡ true → pointwise nat_eq key next ≡ false
 other_key key next all e f =
-    not_true (pointwise nat_eq key next) (λ same. let is : key ≡ next = (bytes_decides key next).0 same in
+    false_from_ne_true (pointwise nat_eq key next) (λ same. let is : key ≡ next = (bytes_decides key next).0 same in
     let g : has_key key all ≡ false = subst (λ k. has_key k all ≡ false) (sym is) e in cc (f, g))
 
 behind-row : {key next : List ℕ} {rest : List Lexeme} {v : Plist} {rows all : Pairs} → has_key next all ≡ false → RowThere key rest rows all

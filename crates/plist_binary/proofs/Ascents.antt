@@ -1,9 +1,8 @@
 -- Texts that ascend, and texts of which no two are equal.
 use Rattle.std.proofs.Common.{◌≡◌, ℕ, ◌+◌, ◌-◌, ◌<◌, ◌≤◌, List, [], ◌∷◌, length, get_or, map, false, true, sym, ap, ◌∙◌, subst, ⊎_elim, arith}
 use Rattle.std.specs.Prelude.{Bool, IsTrue, ◌↔◌}
-use Rattle.std.specs.declared.cmp.Ordering.{Ordering}
-use Rattle.std.specs.declared.cmp.Ordering.TheVariants.{Less, Equal, Greater}
-use Rattle.std.specs.Ordering.{is_lt, is_eq, nat_cmp, on, ordering_reverse}
+use Rattle.std.specs.declared.cmp.Ordering.TheVariants.{Less}
+use Rattle.std.specs.Ordering.{is_lt, nat_cmp, on}
 use Rattle.std.specs.Cmp.Lexicographic.{slice_cmp}
 use Rattle.std.specs.List.{IsDistinct}
 use Rattle.std.specs.List.Sorted.{IsPermutation, IsSorted, IsStrictlySortedBy}
@@ -13,6 +12,7 @@ use Rattle.std.proofs.lemmas.List.{get_or-map, length-map}
 use Rattle.std.proofs.lemmas.List.Sorted.{IsPermutation-map}
 use Rattle.std.proofs.lemmas.Map.Keys.{Less-from_sorted, sorted_from_all_adjacent, IsDistinct-from_sorted, IsDistinct-IsPermutation, apart_from_distinct}
 use Rattle.plist_binary.proofs.Inserting.{same_key}
+use Rattle.plist_value.proofs.Keys.{turned}
 
 -- each of the first n is below the next
 abbrev pub AscendTo : ℕ → List (List ℕ) → Type 0
@@ -49,11 +49,6 @@ not_ascending g xs i x y answer some within first second says is sorted =
 
 pub sorted_from_ascent : (keys : List (List ℕ)) → AscendTo (length keys) keys → IsStrictlySortedBy (slice_cmp nat_cmp) keys
 sorted_from_ascent keys up = sorted_from_all_adjacent nat_list_cmp_total keys [] up
-
-turned : (o p : Ordering) → o ≡ ordering_reverse p → is_lt p ≡ false → is_eq o ≡ false → o ≡ Less
-turned o Less is order apart = absurd (cc)
-turned o Equal is order apart = absurd (cc)
-turned o Greater is order apart = is
 
 less_from : (a b : List ℕ) → is_lt (slice_cmp nat_cmp b a) ≡ false → same_key a b ≡ false → slice_cmp nat_cmp a b ≡ Less
 less_from a b order apart =

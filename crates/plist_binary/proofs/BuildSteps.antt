@@ -10,10 +10,10 @@ use Rattle.plist_value.specs.View.{items_of}
 use Rattle.plist_object.specs.Layout.{trailer_of}
 use Rattle.plist_object.specs.Objects.{holds_scalar, holds_list, holds_table}
 use Rattle.plist_object.specs.Places.{Holds}
-use Rattle.plist_object.specs.Spelled.{Spells, SpellItems}
+use Rattle.plist_object.specs.Spelled.{Spells, SpellItems, SpellsWithin}
 use Rattle.plist_object.proofs.Ascending.{Among, Among-contains}
 use Rattle.plist_object.proofs.Uniqueness.{same_held, same_value}
-use Rattle.plist_binary.specs.Building.{SpellsWithin, AllSpellWithin, AllSpellTexts, SpellsText, SpellsPairsWithin, HoldsSome, AreSpelled, AreTexts, PairsSpelled, IsSpelled}
+use Rattle.plist_binary.specs.Building.{AllSpellWithin, AllSpellTexts, SpellsText, SpellsPairsWithin, HoldsSome, AreSpelled, AreTexts, PairsSpelled, IsSpelled}
 use Rattle.plist_binary.specs.Passing.{PassesTop}
 use Rattle.plist_binary.specs.Readings.{texts}
 use Rattle.plist_binary.proofs.Held.{Spells-held}
@@ -21,7 +21,8 @@ use Rattle.plist_binary.proofs.Inserting.{same_key}
 use Rattle.plist_binary.proofs.KeySteps.{texts-push}
 use Rattle.plist_binary.proofs.LoopSteps.{next}
 use Rattle.plist_binary.proofs.Paired.{length-values}
-use Rattle.plist_binary.proofs.Sequences.{push, SpellItems-push, AreItems-push}
+use Rattle.plist_binary.proofs.Sequences.{SpellItems-push}
+use Rattle.plist_value.proofs.Items.{push, AreItems-push}
 use Rattle.plist_binary.proofs.TableSteps.{Unsorted, unsort}
 
 pub HoldsSome-within : (f : List ℕ) (i levels : ℕ) → SpellsWithin f i levels → HoldsSome f i

@@ -9,7 +9,7 @@ use Rattle.std.specs.Ordering.{nat_cmp, on, is_lt, ordering_then, ordering_rever
 use Rattle.std.specs.Cmp.{nat_cmp_is}
 use Rattle.std.specs.Cmp.Lexicographic.{slice_cmp}
 use Rattle.std.specs.List.Sorted.{IsPermutation, IsSorted}
-use Rattle.std.proofs.lemmas.Bool.{cases_lt, true≢false}
+use Rattle.std.proofs.lemmas.Bool.{cases_lt, true≢false, false_from_ne_true}
 use Rattle.std.proofs.lemmas.Cmp.{nat_list_cmp_total}
 use Rattle.std.proofs.lemmas.List.{get_or-map, length-map, take-append-drop}
 use Rattle.std.proofs.lemmas.Map.Lookups.{exact_bytes}
@@ -19,7 +19,7 @@ use Rattle.plist_binary.specs.declared.tables.Key.{Key}
 use Rattle.plist_binary.specs.Keys.{units_at}
 use Rattle.plist_binary.specs.Heads.{octet_of, behind, head_of, with_head, headless, IsHeaded, AreHeaded, AreHeadless}
 use Rattle.plist_binary.proofs.Monotone.{head_below, monotone, compared_behind}
-use Rattle.plist_binary.proofs.Ranking.{not_true, two}
+use Rattle.plist_binary.proofs.Ranking.{two}
 
 -- the keys up to i were changed, and now the next
 pub changed_more : (f : Key → Key) (i : ℕ) (before now : List Key) (next d : Key) → i < length before → now ≡ map f (take i before) ++ drop i before → next ≡ f (get_or now i d) → set now i next ≡ map f (take (i + 1) before) ++ drop (i + 1) before
@@ -138,7 +138,7 @@ sorted_from_heads front first before after shared moved sorted k d low high =
     let next = get_or after (k + 1) d in
     let here : get_or (map headless after) k d ≡ headless key = get_or-map headless after k d d (omega arith) in
     let there : get_or (map headless after) (k + 1) d ≡ headless next = get_or-map headless after (k + 1) d d within in
-    let order : is_lt (slice_cmp nat_cmp (units_at next) (units_at key)) ≡ false = not_true (is_lt (slice_cmp nat_cmp (units_at next) (units_at key))) (λ lower.
+    let order : is_lt (slice_cmp nat_cmp (units_at next) (units_at key)) ≡ false = false_from_ne_true (is_lt (slice_cmp nat_cmp (units_at next) (units_at key))) (λ lower.
     let wrong = lower_first front first next key (headed (k + 1) d within) (headed k d (omega arith)) (less_from_lt (slice_cmp nat_cmp (units_at next) (units_at key)) lower) in
     true≢false (sym wrong ∙ sorted k d low within)) in
     ap (λ (key : Key). is_lt (slice_cmp nat_cmp (units_at key) (units_at (get_or (map headless after) k d)))) there ∙ ap (λ (key : Key). is_lt (slice_cmp nat_cmp (units_at next) (units_at key))) here ∙ order

@@ -12,7 +12,8 @@ use Rattle.plist_value.specs.Budget.{Affords}
 use Rattle.plist_binary.specs.Paths.{Refers, Leads}
 use Rattle.plist_binary.specs.Readings.{Reads, Refuses, ReadsItems, RefusesItems}
 use Rattle.plist_binary.proofs.Held.{Spells-held}
-use Rattle.plist_binary.proofs.Sequences.{push, SpellItems-push, AreItems-push, nodes-push, payload-push, depth-push, take_apart}
+use Rattle.plist_binary.proofs.Sequences.{SpellItems-push, take_apart}
+use Rattle.plist_value.proofs.Items.{push, AreItems-push, nodes-push, payload-push, depth-push}
 
 pub ReadsItems-push : (f refs : List ℕ) (i levels : ℕ) (before left after : Budget) (vs : Items) (v : Plist) → i < (trailer_of f).count → ReadsItems f refs levels before vs left → Reads f i levels left v after → ReadsItems f (refs ++ i ∷ []) levels before (push vs v) after
 ReadsItems-push f refs i levels before left after vs v listed items one =

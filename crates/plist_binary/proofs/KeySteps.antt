@@ -15,7 +15,8 @@ use Rattle.plist_value.specs.Budget.{Affords}
 use Rattle.plist_binary.specs.Faults.{IsText}
 use Rattle.plist_binary.specs.Paths.{Refers, IsKeyOf, Leads}
 use Rattle.plist_binary.specs.Readings.{Reads, Refuses, ReadsItems, RefusesItems, texts, RefusesKey, RefusesKeys}
-use Rattle.plist_binary.proofs.Sequences.{push, take_apart}
+use Rattle.plist_binary.proofs.Sequences.{take_apart}
+use Rattle.plist_value.proofs.Items.{push}
 use Rattle.plist_binary.proofs.ItemSteps.{ReadsItems-push}
 
 pub among_left : (i : ℕ) (xs ys : List ℕ) → Among i xs → Among i (xs ++ ys)

@@ -9,7 +9,7 @@ use Rattle.plist_binary.specs.declared.fault.BinaryFault.{BinaryFault}
 use Rattle.plist_binary.specs.declared.fault.BinaryFault.TheVariants.{BadReference}
 use Rattle.plist_binary.specs.Paths.{AllRefer, HasKeys, Leads}
 use Rattle.plist_binary.specs.Readings.{Reads, Refuses, ReadsItems, RefusesItems, texts, RefusesKey, RefusesKeys}
-use Rattle.plist_binary.proofs.Sequences.{push}
+use Rattle.plist_value.proofs.Items.{push}
 use Rattle.plist_binary.proofs.ItemSteps.{ReadsItems-push, RefusesItems-at, RefusesItems-nowhere}
 use Rattle.plist_binary.proofs.KeySteps.{ReadsKeys-push, RefusesKeys-at, RefusesKeys-items, Refers-key}
 

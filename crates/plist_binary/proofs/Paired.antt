@@ -1,17 +1,14 @@
 -- A table holds as many references to values as to keys.
-use Rattle.std.proofs.Common.{◌≡◌, ℕ, zero, suc, ◌+◌, ◌*◌, ◌/◌, ◌%◌, ◌==◌, List, [], ◌∷◌, length, drop, Ok, Err, Result, Bool, true, false, refl, sym, ap, ◌∙◌, subst}
+use Rattle.std.proofs.Common.{◌≡◌, ℕ, ◌+◌, ◌*◌, ◌/◌, ◌%◌, ◌==◌, List, [], ◌∷◌, length, drop, Ok, Err, Result, Bool, true, false, sym, ◌∙◌, subst}
 use Rattle.std.specs.Prelude.{⊤, nat_lt, if◌then◌else◌}
 use Rattle.std.specs.List.{list_all}
 use Rattle.plist_value.specs.Plist.{text}
 use Rattle.plist_object.specs.declared.object.ObjectFault.{ObjectFault}
 use Rattle.plist_object.specs.declared.object.ObjectFault.TheVariants.{NotAscii}
 use Rattle.plist_object.specs.Layout.{trailer_of}
-use Rattle.plist_object.specs.Objects.{Held, holds_scalar, holds_list, holds_table, ◌>>=◌, cut, content, numbers, integer_length, whole_in, simple_object, whole_object, real_object, moment_object, data_object, ascii_object, wide_object, list_object, table_object, marked_object, object_in}
+use Rattle.plist_object.specs.Objects.{Held, holds_scalar, holds_list, holds_table, ◌>>=◌, cut, content, integer_length, whole_in, simple_object, whole_object, real_object, moment_object, data_object, ascii_object, wide_object, list_object, table_object, marked_object, object_in}
 use Rattle.plist_object.specs.Places.{Holds, object_at, octets_at, what_holds}
-
-length-numbers : (width n : ℕ) (xs : List ℕ) → length (numbers width n xs) ≡ n
-length-numbers width zero xs = refl
-length-numbers width (suc n) xs = ap suc (length-numbers width n (drop width xs))
+use Rattle.plist_object.proofs.Listed.{length-numbers}
 
 abbrev IsPaired : Held → Type 0
 IsPaired (holds_scalar s) = ⊤

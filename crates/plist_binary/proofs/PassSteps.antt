@@ -21,7 +21,7 @@ use Rattle.plist_binary.proofs.Inserting.{zip-firsts}
 use Rattle.plist_binary.proofs.LoopSteps.{ReadsItems-next}
 use Rattle.plist_binary.proofs.Making.{Reads-scalar, Reads-list, Reads-table}
 use Rattle.plist_binary.proofs.Rows.{pull}
-use Rattle.plist_binary.proofs.Sequences.{items_of-push, depth-push}
+use Rattle.plist_value.proofs.Items.{items_of-push, depth-push}
 use Rattle.plist_binary.proofs.TableSteps.{ReadsPairs-sorted, pairs_sorted, depth-texts, length-texts, length-items}
 
 -- a value that is known, and fits into what is left

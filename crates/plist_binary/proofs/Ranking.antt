@@ -1,6 +1,6 @@
 -- Keys that are compared by the ranks of their texts.
 use Rattle.std.proofs.Common.{◌≡◌, ℕ, zero, suc, ◌+◌, ◌<◌, List, [], ◌∷◌, length, get_or, subst, sym, ap, ◌∙◌, arith, refl, Some, None}
-use Rattle.std.specs.Prelude.{Option, Bool, true, false, All, IsTrue, ◌↔◌}
+use Rattle.std.specs.Prelude.{Option, true, false, All, IsTrue, ◌↔◌}
 use Rattle.std.specs.declared.cmp.Ordering.TheVariants.{Less}
 use Rattle.std.specs.Option.{is_some, option_cmp}
 use Rattle.std.specs.Ordering.{nat_cmp, on, is_lt}
@@ -8,7 +8,7 @@ use Rattle.std.specs.Cmp.{nat_cmp_is}
 use Rattle.std.specs.Cmp.Lexicographic.{slice_cmp}
 use Rattle.std.specs.List.Sorted.{IsPermutation, IsSorted, IsStrictlySortedBy}
 use Rattle.std.proofs.lemmas.List.Sorted.{All-permutation}
-use Rattle.std.proofs.lemmas.Bool.{true≢false}
+use Rattle.std.proofs.lemmas.Bool.{true≢false, false_from_ne_true}
 use Rattle.plist_value.specs.Plist.{text}
 use Rattle.plist_object.specs.Objects.{holds_scalar}
 use Rattle.plist_object.specs.Places.{Holds}
@@ -58,10 +58,6 @@ some_of : (o : Option ℕ) → IsTrue (is_some o) → (rank : ℕ) × (o ≡ Som
 some_of (Some rank) some = (rank, refl)
 some_of None some = absurd (true≢false (sym some))
 
-pub not_true : (b : Bool) → (b ≡ true → ⊥) → b ≡ false
-not_true true apart = absurd (apart refl)
-not_true false apart = refl
-
 not_lt : (r s : ℕ) (o p : Option ℕ) → o ≡ Some r → p ≡ Some s → is_lt (option_cmp nat_cmp o p) ≡ false → r < s → ⊥
 not_lt r s (Some a) (Some b) is is_next order below =
     let first : a ≡ r = cc in
@@ -80,7 +76,7 @@ sorted_from_ranks keys are all sorted k d low high =
     let first = some_of key.rank (all k d (omega arith)) in
     let second = some_of next.rank (all (k + 1) d (omega arith)) in
     let order = sorted k d low high in
-    not_true (is_lt (slice_cmp nat_cmp (units_at next) (units_at key))) (λ lower.
+    false_from_ne_true (is_lt (slice_cmp nat_cmp (units_at next) (units_at key))) (λ lower.
     let less = less_from_lt (slice_cmp nat_cmp (units_at next) (units_at key)) lower in
     let below = (below_by_rank are.texts next key second.0 first.0 are.ascending (are.each (k + 1) d (omega arith)) (are.each k d (omega arith)) second.1 first.1).1 less in
     not_lt second.0 first.0 next.rank key.rank second.1 first.1 order below)

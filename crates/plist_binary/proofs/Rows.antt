@@ -6,7 +6,6 @@ use Rattle.std.specs.Cmp.Lexicographic.{slice_cmp}
 use Rattle.std.specs.List.{AllByRecursion, IsDistinct, swap, zip, sum_by}
 use Rattle.std.specs.List.Sorted.{IsPermutation, IsStrictlySortedBy}
 use Rattle.std.specs.Map.{keys_of}
-use Rattle.std.proofs.lemmas.Cmp.{nat_list_cmp_total}
 use Rattle.std.proofs.lemmas.List.{length-map, map-set, get_or-map}
 use Rattle.std.proofs.lemmas.List.Elements.{All-from_recursion, recursion_from_All}
 use Rattle.std.proofs.lemmas.List.Sorted.{IsPermutation-refl, IsPermutation-swap, IsPermutation-trans, IsPermutation-keeps, All-permutation}
@@ -20,6 +19,7 @@ use Rattle.plist_object.specs.Spelled.{Spells, SpellItems, SpellPairs}
 use Rattle.plist_binary.specs.Readings.{texts}
 use Rattle.plist_binary.proofs.Ascents.{distinct_from_ascent}
 use Rattle.plist_binary.proofs.Inserting.{same_key}
+use Rattle.plist_value.proofs.Keys.{below_next}
 
 map-swap : {A B : Type 0} (g : A → B) (xs : List A) (i j : ℕ) → i < length xs → j < length xs → map g (swap xs i j) ≡ swap (map g xs) i j
 map-swap g [] i j h k = refl
@@ -118,10 +118,6 @@ pub payload-listed : (ps : Pairs) → payload_of_pairs ps ≡ sum_by payload_of_
 payload-listed no_pairs = refl
 payload-listed (pair key v ps) =
     omega (arith, payload-listed ps, sum_by-cons payload_of_pair (key, v) (listed ps))
-
-below_next : (key next : List ℕ) (ps : Pairs) → slice_cmp nat_cmp key next ≡ Less → IsKeyBelow next ps → IsKeyBelow key ps
-below_next key next no_pairs first below = tt
-below_next key next (pair third v ps) first below = nat_list_cmp_total.trans key next third first below
 
 keys_above : (key : List ℕ) (ps : Pairs) → ArePairs ps → IsKeyBelow key ps → AllByRecursion (λ k. slice_cmp nat_cmp key k ≡ Less) (keys_of (listed ps))
 keys_above key no_pairs valid below = tt

@@ -1,25 +1,9 @@
 -- Items that references spell in turn, one more and one after another.
-use Rattle.std.proofs.Common.{◌≡◌, ℕ, ◌+◌, ◌≤◌, List, [], ◌∷◌, ◌++◌, refl, ap, ◌∙◌, arith}
-use Rattle.std.proofs.lemmas.List.{map-append}
-use Rattle.std.specs.Prelude.{map}
-use Rattle.plist_value.specs.declared.value.Value.{Value}
-use Rattle.plist_value.specs.Plist.{Plist, Items, no_items, item, IsPlist, AreItems}
-use Rattle.plist_value.specs.Limits.{nodes, depth, payload, nodes_of_items, depth_of_items, payload_of_items}
-use Rattle.plist_value.specs.View.{view, view_items, items_of}
+use Rattle.std.proofs.Common.{◌≡◌, ℕ, ◌+◌, ◌≤◌, List, [], ◌∷◌, ◌++◌, refl, arith}
+use Rattle.plist_value.specs.Plist.{Plist, Items, no_items, item, AreItems}
+use Rattle.plist_value.specs.Limits.{nodes_of_items, depth_of_items, payload_of_items}
 use Rattle.plist_object.specs.Spelled.{Spells, SpellItems}
-
--- the items, and one more
-abbrev pub push : Items → Plist → Items
-push no_items v = item v no_items
-push (item w vs) v = item w (push vs v)
-
-pub items_of-push : (vs : List Plist) (v : Plist) → items_of (vs ++ v ∷ []) ≡ push (items_of vs) v
-items_of-push [] v = refl
-items_of-push (w ∷ vs) v = ap (item w) (items_of-push vs v)
-
-pub view_items-push : (vs : List Value) (v : Value) → view_items (vs ++ v ∷ []) ≡ push (view_items vs) (view v)
-view_items-push vs v =
-    ap items_of (map-append view vs (v ∷ [])) ∙ items_of-push (map view vs) (view v)
+use Rattle.plist_value.proofs.Items.{push}
 
 pub SpellItems-push : (f xs : List ℕ) (vs : Items) (i : ℕ) (v : Plist) → SpellItems f xs vs → Spells f i v → SpellItems f (xs ++ i ∷ []) (push vs v)
 SpellItems-push f [] no_items i v spell one = (one, refl)
@@ -27,23 +11,6 @@ SpellItems-push f (x ∷ xs) no_items i v spell one = absurd (let none : x ∷ x
 SpellItems-push f [] (item w vs) i v spell one = absurd spell
 SpellItems-push f (x ∷ xs) (item w vs) i v spell one =
     (spell.0, SpellItems-push f xs vs i v spell.1 one)
-
-pub AreItems-push : (vs : Items) (v : Plist) → AreItems vs → IsPlist v → AreItems (push vs v)
-AreItems-push no_items v valid one = (one, tt)
-AreItems-push (item w vs) v valid one = (valid.0, AreItems-push vs v valid.1 one)
-
-pub nodes-push : (vs : Items) (v : Plist) → nodes_of_items (push vs v) ≡ nodes_of_items vs + nodes v
-nodes-push no_items v = omega arith
-nodes-push (item w vs) v = omega (arith, nodes-push vs v)
-
-pub payload-push : (vs : Items) (v : Plist) → payload_of_items (push vs v) ≡ payload_of_items vs + payload v
-payload-push no_items v = omega arith
-payload-push (item w vs) v = omega (arith, payload-push vs v)
-
-pub depth-push : (vs : Items) (v : Plist) (levels : ℕ) → depth_of_items vs ≤ levels → depth v ≤ levels → depth_of_items (push vs v) ≤ levels
-depth-push no_items v levels deep one = omega arith
-depth-push (item w vs) v levels deep one =
-    omega (arith, depth-push vs v levels (omega arith) one)
 
 -- the items, and others behind them
 abbrev pub join : Items → Items → Items

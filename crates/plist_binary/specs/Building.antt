@@ -3,22 +3,15 @@ use Rattle.std.specs.Prelude.{◌≡◌, ℕ, ◌≤◌, List, length}
 use Rattle.std.specs.List.{Contains, zip}
 use Rattle.std.specs.List.Sorted.{IsPermutation}
 use Rattle.plist_value.specs.Plist.{text, Plist, Items, Pairs, IsPlist, AreItems, ArePairs}
-use Rattle.plist_value.specs.Limits.{depth, depth_of_pairs}
+use Rattle.plist_value.specs.Limits.{depth_of_pairs}
 use Rattle.plist_object.specs.Objects.{Held, holds_scalar}
 use Rattle.plist_object.specs.Places.{Holds}
-use Rattle.plist_object.specs.Spelled.{Spells, SpellItems, SpellPairs}
+use Rattle.plist_object.specs.Spelled.{Spells, SpellItems, SpellPairs, SpellsWithin}
 use Rattle.plist_binary.specs.Readings.{texts}
 
 -- the object holds something
 abbrev pub HoldsSome : List ℕ → ℕ → Type 0
 HoldsSome f i = (held : Held) × Holds f i held
-
--- the object spells a value of at most so many levels
-pub record SpellsWithin (f : List ℕ) (i levels : ℕ) : Type 0 where
-  pub value : Plist
-  pub spells : Spells f i value
-  pub valid : IsPlist value
-  pub deep : depth value ≤ levels
 
 -- the object spells a text, with these units
 abbrev pub SpellsUnits : List ℕ → ℕ → List ℕ → Type 0

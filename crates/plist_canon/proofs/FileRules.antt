@@ -8,9 +8,11 @@ use Rattle.plist_object.specs.Objects.{Held, object_in}
 use Rattle.plist_object.specs.Places.{place_of, octets_at, object_at, span_of}
 use Rattle.plist_object.specs.Spelling.{least_width, references}
 use Rattle.plist_object.specs.Shortest.{spelling_of, IsShortest}
-use Rattle.plist_engine.specs.Canonical.{starts, trailer_octets, file_of}
+use Rattle.plist_object.specs.Files.{starts}
+use Rattle.plist_engine.specs.Canonical.{trailer_octets, file_of}
 use Rattle.plist_canon.specs.Rules.{HasPlainTrailer, HasLeastWidths, Adjoins}
-use Rattle.plist_engine.proofs.File.{is_piece, before_trailer, before_table, drop-end, trailer_for, trailer_of-file, place_of-file}
+use Rattle.plist_object.proofs.Files.{is_piece, before_trailer, before_table, drop-end}
+use Rattle.plist_engine.proofs.File.{trailer_for, trailer_of-file, place_of-file}
 
 -- the object i begins at its place, and ends where the rest of its octets is left
 span_of-is : (f : List ℕ) (i start table : ℕ) (held : Held) (octets behind : List ℕ) → octets_at f i ≡ Ok octets → place_of f i ≡ start → (trailer_of f).table ≡ table → object_in (trailer_of f).reference_width octets ≡ Ok (held, behind) → span_of f i ≡ Ok (start, table - length behind)

@@ -10,7 +10,8 @@ use Rattle.plist_object.specs.Objects.{numbers}
 use Rattle.plist_object.specs.Places.{place_of}
 use Rattle.plist_object.specs.Spelling.{least_width, references}
 use Rattle.plist_object.proofs.SameOctets.{references-numbers, AreOctets-drop}
-use Rattle.plist_engine.specs.Canonical.{starts, trailer_octets, file_of}
+use Rattle.plist_object.specs.Files.{starts}
+use Rattle.plist_engine.specs.Canonical.{trailer_octets, file_of}
 use Rattle.plist_canon.specs.Rules.{HasPlainTrailer, HasLeastWidths, Adjoins}
 use Rattle.plist_canon.proofs.Pieced.{Touch, StandsAt, pieces_make, numbers-starts}
 use Rattle.plist_canon.proofs.Occupied.{Occupies}

@@ -5,8 +5,8 @@ use Rattle.plist_value.specs.Plist.{Scalar, Plist, scalar, list, table, AreOctet
 use Rattle.plist_value.specs.Limits.{Fits}
 use Rattle.plist_object.specs.Layout.{trailer_of}
 use Rattle.plist_object.specs.Objects.{holds_scalar}
-use Rattle.plist_object.specs.Places.{Holds}
-use Rattle.plist_canon.specs.Rules.{HoldsScalar, IsNoRepeat, MeetsInOrder, FollowsRules}
+use Rattle.plist_object.specs.Places.{Holds, HoldsScalar}
+use Rattle.plist_canon.specs.Rules.{IsNoRepeat, MeetsInOrder, FollowsRules}
 use Rattle.plist_engine.specs.Tree.{preorder}
 use Rattle.plist_engine.specs.Sharing.{least_place, first_place, kept_from, kept_places, count_below, value_at}
 use Rattle.plist_engine.specs.Found.{held_at, number_in}

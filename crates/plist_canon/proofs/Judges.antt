@@ -16,10 +16,10 @@ use Rattle.plist_object.specs.declared.object.ObjectFault.{ObjectFault}
 use Rattle.plist_object.specs.Views.{held_of}
 use Rattle.plist_object.specs.Layout.{trailer_of}
 use Rattle.plist_object.specs.Objects.{Held, holds_scalar, holds_list, holds_table, ◌>>=◌}
-use Rattle.plist_object.specs.Places.{Holds, object_at, place_of, what_holds, span_of}
+use Rattle.plist_object.specs.Places.{Holds, object_at, place_of, what_holds, span_of, HoldsText}
 use Rattle.plist_object.proofs.Readable.{Holds-reads}
 use Rattle.plist_object.proofs.Uniqueness.{same_held}
-use Rattle.plist_canon.specs.Rules.{HoldsText, HoldTexts, IsWellRead, HasAscendingKeys, Adjoins}
+use Rattle.plist_canon.specs.Rules.{HoldTexts, IsWellRead, HasAscendingKeys, Adjoins}
 use Rattle.plist_canon.specs.Checking.{RefersWell, AreInOrder, AscendInTurn, IsEndBefore, Follows}
 use Rattle.plist_canon.proofs.Every.{every_append}
 

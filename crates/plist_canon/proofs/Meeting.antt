@@ -10,9 +10,6 @@ use Rattle.plist_engine.specs.Scalars.{number_stored, EntersScalar}
 use Rattle.plist_engine.specs.declared.scalars.Scalars.{Scalars}
 use Rattle.plist_canon.specs.Met.{was_met}
 
-is_same : (r q : ScalarRef) → scalar_eq (content_of r) (content_of q) ≡ true → content_of r ≡ content_of q
-is_same r q e = (scalar_eq-Decides (content_of r) (content_of q)).0 e
-
 is_some-or : (had : Option ℕ) (same : Bool) (next : ℕ) → is_some (option_or had (cond same (Some next) None)) ≡ cond same true (is_some had)
 is_some-or None true next = refl
 is_some-or None false next = refl
@@ -33,7 +30,7 @@ module _ {S H : Type 0} (s : ScalarRef) (next : ℕ) (old new : Scalars S H) (ha
 
   pub met-other : (q : ScalarRef) → was_met new q ≡ true → (content_of s ≡ content_of q) ⊎ (was_met old q ≡ true)
   met-other q now = elim (cases_Bool (scalar_eq (content_of s) (content_of q))) [
-    | inl is ↦ inl (is_same s q is)
+    | inl is ↦ inl ((scalar_eq-Decides (content_of s) (content_of q)).0 is)
     | inr apart ↦ inr (let still : was_met new q ≡ was_met old q = met-each q ∙ rw apart refl in sym still ∙ now)
   ]
 

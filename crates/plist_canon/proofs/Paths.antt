@@ -7,7 +7,7 @@ use Rattle.std.proofs.Math.Seq.{take-suc-set}
 use Rattle.plist_value.specs.declared.TheConstants.{MAX_DEPTH}
 use Rattle.plist_value.specs.declared.budget.Budget.{Budget}
 use Rattle.plist_object.specs.Views.{numbers_of}
-use Rattle.plist_canon.specs.Rules.{HoldsScalar}
+use Rattle.plist_object.specs.Places.{HoldsScalar}
 use Rattle.plist_canon.specs.declared.weights.Weight.{Weight}
 use Rattle.plist_canon.specs.declared.preorder.Frame.{Frame}
 use Rattle.plist_canon.specs.Weights.{container, weight_of, Weighs, AreWeights}

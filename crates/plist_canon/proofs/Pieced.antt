@@ -4,7 +4,7 @@ use Rattle.std.specs.List.{concat}
 use Rattle.std.proofs.lemmas.List.{drop_at, drop-drop, drop_all}
 use Rattle.byteorder.specs.Endian.{big_number}
 use Rattle.plist_object.specs.Objects.{numbers}
-use Rattle.plist_engine.specs.Canonical.{starts}
+use Rattle.plist_object.specs.Files.{starts}
 
 -- the piece stands in the octets at the place
 abbrev pub StandsAt : List ℕ → ℕ → List ℕ → Type 0

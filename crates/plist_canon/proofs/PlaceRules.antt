@@ -9,12 +9,12 @@ use Rattle.std.proofs.lemmas.Cmp.{nat_list_cmp_total}
 use Rattle.plist_value.specs.Plist.{Scalar, text, Plist, scalar, list, table, Items, no_items, item, Pairs, no_pairs, pair, IsPlist, ArePairs, IsKeyBelow}
 use Rattle.plist_object.specs.Layout.{trailer_of}
 use Rattle.plist_object.specs.Objects.{holds_scalar, holds_list, holds_table}
-use Rattle.plist_object.specs.Places.{what_holds, Holds}
+use Rattle.plist_object.specs.Places.{what_holds, Holds, HoldsText}
 use Rattle.plist_object.proofs.Uniqueness.{same_held}
 use Rattle.plist_engine.specs.Tree.{key_texts, preorder, preorder_items, preorder_values, item_places, key_places, value_places}
 use Rattle.plist_engine.specs.Sharing.{first_place, kept_places, value_at}
 use Rattle.plist_engine.specs.Found.{Stands, held_at, number_in}
-use Rattle.plist_canon.specs.Rules.{HoldsText, HoldTexts, IsWellRead, HasAscendingKeys, IsNoRepeat}
+use Rattle.plist_canon.specs.Rules.{HoldTexts, IsWellRead, HasAscendingKeys, IsNoRepeat}
 use Rattle.plist_engine.proofs.Trees.{length-preorder, Stands-front, Stands-rest, Stands-tail, Stands-head, Stands-tree}
 use Rattle.plist_canon.proofs.KeptPlaces.{is_made}
 use Rattle.plist_canon.proofs.Every.{every_append}

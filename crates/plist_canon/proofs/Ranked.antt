@@ -9,7 +9,7 @@ use Rattle.std.proofs.lemmas.Bool.{true≢false}
 use Rattle.plist_object.specs.declared.ranks.Ranks.{Ranks}
 use Rattle.plist_object.specs.Ranks.{AreRanks, rank_of, texts_of}
 use Rattle.plist_object.proofs.Ranked.{below_from_ranks, ranks_from_below}
-use Rattle.plist_canon.specs.Rules.{HoldsText}
+use Rattle.plist_object.specs.Places.{HoldsText}
 use Rattle.plist_canon.specs.Checking.{AreInOrder}
 use Rattle.plist_canon.proofs.Judges.{same_text}
 

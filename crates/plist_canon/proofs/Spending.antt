@@ -6,20 +6,21 @@ use Rattle.plist_value.specs.Limits.{Fits, nodes, depth, payload, payload_of_sca
 use Rattle.plist_value.specs.declared.TheConstants.{MAX_NODES, MAX_DEPTH, MAX_PAYLOAD}
 use Rattle.plist_canon.specs.declared.weights.TheConstants.{MOST_TOLD}
 use Rattle.plist_object.specs.Objects.{IsHeld, Held, holds_scalar, holds_list, holds_table}
-use Rattle.plist_object.specs.Places.{Holds}
+use Rattle.plist_object.specs.Places.{Holds, HoldsScalar}
 use Rattle.plist_object.specs.Spelled.{Spells, SpellItems}
 use Rattle.plist_object.proofs.Uniqueness.{same_held}
 use Rattle.plist_object.proofs.HeldRanges.{Holds-held}
 use Rattle.plist_value.specs.declared.budget.Budget.{Budget}
 use Rattle.plist_value.specs.Budget.{Spends, IsOver}
-use Rattle.plist_canon.specs.Rules.{HoldsScalar, HasAscendingKeys}
+use Rattle.plist_canon.specs.Rules.{HasAscendingKeys}
 use Rattle.plist_canon.specs.declared.weights.Weight.{Weight}
 use Rattle.plist_canon.specs.Weights.{weight_of, payload_of_weight, Weighs}
 use Rattle.plist_canon.specs.Preorders.{Group, grouped, groups_of}
 use Rattle.plist_canon.specs.Owing.{Named, AllNamed, nodes_named, payload_named, AreWithin, Owes, Pays}
 use Rattle.plist_canon.proofs.KeyPairs.{put_texts}
 use Rattle.plist_canon.proofs.Weighing.{Weighs-held}
-use Rattle.plist_canon.proofs.TableParts.{some_depth, some_nodes, table_parts}
+use Rattle.plist_canon.proofs.TableParts.{some_nodes, table_parts}
+use Rattle.plist_value.proofs.Items.{some_depth}
 
 -- what holds of each value that an object may spell, by what it holds
 by_scalar : (f : List ℕ) (i : ℕ) (s : Scalar) (P : Plist → Type 0) → Holds f i (holds_scalar s) → P (scalar s) → (v : Plist) → Spells f i v → P v

@@ -7,18 +7,14 @@ use Rattle.std.specs.List.Sorted.{IsPermutation, IsStrictlySortedBy}
 use Rattle.std.proofs.lemmas.List.Elements.{All-from_recursion, recursion_from_All}
 use Rattle.std.proofs.lemmas.List.Sorted.{IsPermutation-refl, IsPermutation-sym, All-permutation}
 use Rattle.plist_value.specs.Plist.{text, Plist, scalar, list, table, Items, no_items, item, Pairs, no_pairs, pair, AreUnits, IsPlist, AreItems, ArePairs}
-use Rattle.plist_value.specs.Limits.{nodes, depth, nodes_of_items, depth_of_items, payload_of_items, nodes_of_pairs, depth_of_pairs, payload_of_pairs}
+use Rattle.plist_value.specs.Limits.{nodes, nodes_of_items, depth_of_items, payload_of_items, nodes_of_pairs, depth_of_pairs, payload_of_pairs}
 use Rattle.plist_object.specs.Objects.{holds_scalar, holds_table}
 use Rattle.plist_object.specs.Places.{Holds}
 use Rattle.plist_object.specs.Spelled.{Spells, SpellItems, SpellPairs}
 use Rattle.plist_object.proofs.Uniqueness.{same_held, same_rows, same_pairs}
 use Rattle.plist_canon.specs.Rules.{HoldTexts, HasAscendingKeys}
 use Rattle.plist_canon.proofs.KeyPairs.{pairs_of, put_texts, ArePairs-pairs_of}
-
-pub some_depth : (v : Plist) → 1 ≤ depth v
-some_depth (scalar s) = omega arith
-some_depth (list vs) = omega arith
-some_depth (table ps) = omega arith
+use Rattle.plist_value.proofs.Items.{some_depth}
 
 pub some_nodes : (v : Plist) → 1 ≤ nodes v
 some_nodes (scalar s) = omega arith

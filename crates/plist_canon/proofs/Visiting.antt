@@ -4,10 +4,10 @@ use Rattle.std.specs.Prelude.{◌↔◌, ◌⊎◌}
 use Rattle.std.proofs.lemmas.List.{append-nil}
 use Rattle.plist_object.specs.Layout.{trailer_of}
 use Rattle.plist_object.specs.Objects.{Held, holds_scalar}
-use Rattle.plist_object.specs.Places.{Holds}
+use Rattle.plist_object.specs.Places.{Holds, HoldsScalar}
 use Rattle.plist_object.proofs.Uniqueness.{same_held}
 use Rattle.plist_object.specs.References.{references_of}
-use Rattle.plist_canon.specs.Rules.{HoldsScalar, Walk, Walks, visit, end, step, MeetsInOrder, IsNumberedInPreorder}
+use Rattle.plist_canon.specs.Rules.{Walk, Walks, visit, end, step, MeetsInOrder, IsNumberedInPreorder}
 use Rattle.plist_canon.specs.Preorders.{CanFinish}
 
 -- a walk from an object, taken apart

@@ -6,7 +6,8 @@ use Rattle.plist_object.specs.Objects.{holds_scalar}
 use Rattle.plist_engine.specs.Tree.{key_texts, preorder, preorder_items, preorder_values, item_places, key_places, value_places}
 use Rattle.plist_engine.specs.Sharing.{first_place, kept_from, kept_places, count_below, value_at}
 use Rattle.plist_engine.specs.Found.{Stands, held_at, number_in}
-use Rattle.plist_canon.specs.Rules.{HoldsScalar, Walk, visit, Walks, end, step, MeetsInOrder, IsNumberedInPreorder}
+use Rattle.plist_canon.specs.Rules.{Walk, visit, Walks, end, step, MeetsInOrder, IsNumberedInPreorder}
+use Rattle.plist_object.specs.Places.{HoldsScalar}
 use Rattle.plist_engine.proofs.Numbering.{count_below-none, first_place-le, first_place-holds, first_place-first, number-top}
 use Rattle.plist_engine.proofs.Counting.{count-kept, count-shared}
 use Rattle.plist_engine.proofs.Trees.{length-preorder, Stands-front, Stands-rest, Stands-tail, Stands-head, Stands-tree, Stands-all}

@@ -6,10 +6,10 @@ use Rattle.plist_value.specs.Plist.{Scalar, text, Plist, scalar, list, table, It
 use Rattle.plist_value.specs.Limits.{nodes}
 use Rattle.plist_object.specs.Layout.{trailer_of}
 use Rattle.plist_object.specs.Objects.{Held, holds_scalar, holds_list, holds_table}
-use Rattle.plist_object.specs.Places.{Holds}
+use Rattle.plist_object.specs.Places.{Holds, HoldsText}
 use Rattle.plist_object.specs.Spelled.{Spells}
 use Rattle.plist_object.specs.References.{references_of}
-use Rattle.plist_canon.specs.Rules.{keys_of, HoldsText, HoldTexts, IsWellRead, HasAscendingKeys, Walk, visit, Walks, end, step}
+use Rattle.plist_canon.specs.Rules.{keys_of, HoldTexts, IsWellRead, HasAscendingKeys, Walk, visit, Walks, end, step}
 use Rattle.plist_engine.specs.Found.{held_at}
 use Rattle.plist_engine.specs.Sharing.{value_at}
 use Rattle.plist_engine.specs.Tree.{key_texts, preorder, preorder_items, preorder_values, item_places, key_places, value_places}

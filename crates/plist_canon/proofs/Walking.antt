@@ -4,9 +4,9 @@ use Rattle.std.specs.Prelude.{◌↔◌}
 use Rattle.std.proofs.lemmas.List.{append-nil}
 use Rattle.plist_object.specs.Layout.{trailer_of}
 use Rattle.plist_object.specs.Objects.{Held, holds_scalar, holds_list, holds_table}
-use Rattle.plist_object.specs.Places.{Holds}
+use Rattle.plist_object.specs.Places.{Holds, HoldsScalar}
 use Rattle.plist_object.specs.References.{references_of}
-use Rattle.plist_canon.specs.Rules.{HoldsScalar, IsNumberedInPreorder, Reference, held_by, ComesTo, begins, meets, passes, IsBroken, breaks_c7, leaves_over}
+use Rattle.plist_canon.specs.Rules.{IsNumberedInPreorder, Reference, held_by, ComesTo, begins, meets, passes, IsBroken, breaks_c7, leaves_over}
 use Rattle.plist_canon.specs.Preorders.{CanFinish, numbers, IsWalking, Group, groups_of, references_left}
 use Rattle.plist_canon.proofs.Visiting.{CanFinish-all, CanFinish-none, CanFinish-new, CanFinish-known, CanFinish-other}
 

@@ -8,9 +8,9 @@ use Rattle.plist_value.specs.Plist.{text}
 use Rattle.plist_object.specs.Layout.{trailer_of, IsLayoutFault}
 use Rattle.plist_object.specs.Objects.{Held, holds_scalar}
 use Rattle.plist_object.specs.declared.layout.LayoutFault.TheVariants as layout
-use Rattle.plist_object.specs.Places.{Holds, span_of}
+use Rattle.plist_object.specs.Places.{Holds, span_of, HoldsText}
 use Rattle.plist_object.specs.References.{references_of}
-use Rattle.plist_canon.specs.Rules.{keys_of, HoldsText, IsWellRead, IsSpelledCanonically, HasAscendingKeys, FollowsRules, IsBroken}
+use Rattle.plist_canon.specs.Rules.{keys_of, IsWellRead, IsSpelledCanonically, HasAscendingKeys, FollowsRules, IsBroken}
 use Rattle.plist_canon.specs.declared.checking.CheckFault.{CheckFault}
 use Rattle.plist_canon.specs.declared.checking.CheckFault.TheVariants as fault
 use Rattle.plist_canon.specs.declared.checking.Verdict.{Verdict}

@@ -8,7 +8,7 @@ use Rattle.plist_value.specs.Plist.{Scalar, text, Plist, IsPlist}
 use Rattle.plist_value.specs.Limits.{Fits}
 use Rattle.plist_object.specs.Layout.{trailer_of, slack_of}
 use Rattle.plist_object.specs.Objects.{Held, holds_scalar, holds_list, holds_table}
-use Rattle.plist_object.specs.Places.{Holds, object_at, what_holds, span_of}
+use Rattle.plist_object.specs.Places.{Holds, HoldsScalar, HoldsText, object_at, what_holds, span_of}
 use Rattle.plist_object.specs.Spelled.{Spells}
 use Rattle.plist_object.specs.Spelling.{least_width}
 use Rattle.plist_object.specs.References.{references_of}
@@ -19,12 +19,6 @@ abbrev pub keys_of : Held → List ℕ
 keys_of (holds_scalar s) = []
 keys_of (holds_list refs) = []
 keys_of (holds_table keys values) = keys
-
-abbrev pub HoldsScalar : List ℕ → ℕ → Type 0
-HoldsScalar f i = (s : Scalar) × Holds f i (holds_scalar s)
-
-abbrev pub HoldsText : List ℕ → ℕ → Type 0
-HoldsText f i = (units : List ℕ) × Holds f i (holds_scalar (text units))
 
 -- the references name these texts in turn
 abbrev pub HoldTexts : List ℕ → List ℕ → List (List ℕ) → Type 0

@@ -7,16 +7,17 @@ use Rattle.plist_value.specs.Plist.{AllUnder, AreOctets, Plist, scalar, list, ta
 use Rattle.plist_value.specs.Limits.{Fits}
 use Rattle.plist_object.specs.Layout.{header, Trailer, trailer_of}
 use Rattle.plist_object.specs.Objects.{Held, object_in}
-use Rattle.plist_object.specs.Places.{object_at, what_holds, Holds}
+use Rattle.plist_object.specs.Places.{Holds}
 use Rattle.plist_object.specs.Shortest.{spelling_of}
 use Rattle.plist_object.specs.Spelling.{references}
 use Rattle.plist_object.specs.Spelled.{Spells, SpellItems, SpellPairs, IsBinary}
-use Rattle.plist_draft.specs.Files.{starts, trailer_with}
+use Rattle.plist_object.specs.Files.{starts, trailer_with}
 use Rattle.plist_draft.specs.Stored.{IsKept, spellings, draft_file, helds_at, Stores}
 use Rattle.plist_draft.specs.Told.{Tells, SpellsBy, SpellItemsBy, SpellPairsBy, SpellsIn, Shows}
-use Rattle.plist_draft.proofs.Files.{length-starts, before_trailer, length-file_with, CanStand, trailer_of-file, is_laid, object_at-file}
+use Rattle.plist_object.proofs.Files.{length-starts, before_trailer, length-file_with, CanStand, trailer_of-file, is_laid, object_at-file}
 use Rattle.plist_draft.proofs.Storing.{object_in-kept}
 use Rattle.plist_draft.proofs.Telling.{SpellsBy-told}
+use Rattle.plist_object.proofs.Readable.{what_holds-at}
 
 -- an object has an octet or more
 some_octet : (held : Held) (octets : List ℕ) → object_in 4 (octets ++ []) ≡ Ok (held, []) → 1 ≤ length octets
@@ -56,10 +57,6 @@ mutual
   SpellPairs-holds f rows no_pairs h = h
   SpellPairs-holds f [] (pair key v ps) h = absurd h
   SpellPairs-holds f (row ∷ rows) (pair key v ps) h = (h.0, Spells-holds f row.1 v h.1, SpellPairs-holds f rows ps h.2)
-
-what_holds-at : (f : List ℕ) (i : ℕ) (held : Held) (behind : List ℕ) → object_at f i ≡ Ok (held, behind) → what_holds f i ≡ Ok held
-unfolding what_holds
-what_holds-at f i held behind h = rw h refl
 
 module _ (helds : List Held) (top : ℕ) (kept : AllByRecursion IsKept helds) (can : CanStand 4 4 top (spellings helds)) where
   Holds-told : (i : ℕ) (held : Held) → Tells helds i held → Holds (draft_file top helds) i held
@@ -111,7 +108,7 @@ can_stand octets places f top stored short long is within =
       reference_width_most = omega arith;
       top_below = omega arith;
       each = λ i h. each_some helds i stored.kept h;
-      starts_fit = subst (AllUnder 4294967296) stored.placed short;
+      starts_fit = λ i h. subst (AllUnder 4294967296) stored.placed short i;
       count_fits = omega arith;
       table_fits = omega arith;
     }

@@ -1,6 +1,5 @@
 pub mod Telling
 pub mod Storing
-pub mod Files
 pub mod Finishing
 pub mod Valued
 pub mod Wanting

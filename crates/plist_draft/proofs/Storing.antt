@@ -12,7 +12,7 @@ use Rattle.plist_object.specs.Shortest.{spelling_of}
 use Rattle.plist_object.specs.Sizes.{IsSmall}
 use Rattle.plist_object.proofs.ReadReferences.{AllFit, object_in-list, object_in-table}
 use Rattle.plist_object.proofs.ReadScalars.{object_in-scalar}
-use Rattle.plist_draft.specs.Files.{starts}
+use Rattle.plist_object.specs.Files.{starts}
 use Rattle.plist_draft.specs.Stored.{IsKept, spellings, held_from, helds_at, Stores, StandsAgain}
 use Rattle.plist_draft.specs.Told.{Tells, Keeps, SpellsIn, SpellItemsIn, SpellPairsIn}
 use Rattle.plist_draft.proofs.Telling.{appending_keeps, Tells-last}

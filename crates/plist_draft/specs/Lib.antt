@@ -3,7 +3,7 @@ pub use Rattle.plist_value.specs.Limits
 pub use Rattle.plist_value.specs.Scalars
 pub use Rattle.plist_object.specs.Objects
 pub use Rattle.plist_object.specs.Spelled
-pub mod Files
+pub use Rattle.plist_object.specs.Files
 pub mod Stored
 pub mod Wanted
 pub mod OneProof

@@ -7,7 +7,7 @@ use Rattle.plist_object.specs.Layout.{header}
 use Rattle.plist_object.specs.Objects.{Held, holds_scalar, holds_list, holds_table, object_in}
 use Rattle.plist_object.specs.Shortest.{spelling_of}
 use Rattle.plist_object.specs.Sizes.{IsSmall}
-use Rattle.plist_draft.specs.Files.{starts, file_with}
+use Rattle.plist_object.specs.Files.{starts, file_with}
 
 -- there are below 2^32 references, and each has four octets
 pub record AreKept (refs : List ℕ) : Type 0 where

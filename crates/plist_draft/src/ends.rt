@@ -2,7 +2,7 @@
 ghost use Rattle.std.specs.Prelude.{◌≡◌, ◌++◌, OnOk};
 ghost use Rattle.plist_value.specs.Plist.{AllUnder, AreOctets};
 ghost use Rattle.plist_object.specs.Spelling.{references};
-ghost use Rattle.plist_draft.specs.Files.{trailer_with};
+ghost use Rattle.plist_object.specs.Files.{trailer_with};
 
 use plist_object::put_number;
 use std::alloc::AllocError;

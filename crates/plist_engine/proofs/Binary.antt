@@ -7,7 +7,7 @@ use Rattle.plist_value.specs.Plist.{Plist, no_items, list, IsPlist, AreOctets}
 use Rattle.plist_value.specs.Limits.{nodes, payload, Fits}
 use Rattle.plist_object.specs.Layout.{trailer_of, Trailer, IsLaid}
 use Rattle.plist_object.specs.Objects.{Held, object_in}
-use Rattle.plist_object.specs.Places.{object_at, what_holds, Holds}
+use Rattle.plist_object.specs.Places.{Holds}
 use Rattle.plist_object.specs.Spelled.{Spells, IsBinary}
 use Rattle.plist_object.proofs.Uniqueness.{same_value}
 use Rattle.plist_object.specs.Spelling.{least_width}
@@ -23,10 +23,7 @@ use Rattle.plist_engine.proofs.File.{trailer_for, trailer_of-file, is_laid, obje
 use Rattle.plist_engine.proofs.Reading.{object_in-octets, held_at-first, some-object, count_below-le}
 use Rattle.plist_engine.proofs.Octets.{octets-objects, octets-file_of}
 use Rattle.plist_engine.proofs.Spelled.{held_at, Spells-tree}
-
-what_holds-at : (f : List ℕ) (i : ℕ) (held : Held) (behind : List ℕ) → object_at f i ≡ Ok (held, behind) → what_holds f i ≡ Ok held
-unfolding what_holds
-what_holds-at f i held behind h = rw h refl
+use Rattle.plist_object.proofs.Readable.{what_holds-at}
 
 module _ (all : List Plist) (some : 1 ≤ length all) (few : length all ≤ 16777216) (each : EachSound all) where
   abbrev pub count : ℕ

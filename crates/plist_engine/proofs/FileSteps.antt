@@ -7,7 +7,8 @@ use Rattle.plist_object.specs.Layout.{header}
 use Rattle.plist_object.specs.Spelling.{least_width, references}
 use Rattle.plist_engine.specs.declared.faults.WriteFault.{WriteFault}
 use Rattle.plist_engine.specs.declared.pending.Pending.{Pending}
-use Rattle.plist_engine.specs.Canonical.{file_of, starts, trailer_octets}
+use Rattle.plist_object.specs.Files.{starts}
+use Rattle.plist_engine.specs.Canonical.{file_of, trailer_octets}
 use Rattle.plist_engine.specs.Sending.{Sends}
 use Rattle.plist_engine.specs.Pending.{Gathers, Stops, Goes, end_of}
 use Rattle.plist_engine.proofs.Gathering.{Gathers-append, Gathers-all, Stops-front, Stops-behind, Stops-all}

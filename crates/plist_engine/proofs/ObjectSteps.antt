@@ -3,7 +3,7 @@ use Rattle.std.proofs.Common.{◌≡◌, ℕ, ◌+◌, ◌<◌, ◌≤◌, List,
 use Rattle.std.specs.List.{concat}
 use Rattle.std.proofs.lemmas.List.{drop_more, drop_all, append-nil}
 use Rattle.plist_object.specs.Shortest.{spelling_of}
-use Rattle.plist_engine.specs.Canonical.{starts}
+use Rattle.plist_object.specs.Files.{starts}
 use Rattle.plist_engine.specs.Spelling.{IsRead}
 use Rattle.plist_engine.specs.Pieces.{CanSpell, CanSpellAll}
 use Rattle.plist_engine.specs.Parts.{held_in, reference_count, renumbered, helds_of, AreSound, octets_for}

@@ -9,7 +9,8 @@ use Rattle.plist_object.specs.Layout.{header}
 use Rattle.plist_object.specs.Spelling.{least_width, integer_marker, least_integer, head, references, whole_spelling, text_spelling, scalar_spelling}
 use Rattle.plist_engine.specs.Tree.{key_texts, item_places, key_places, value_places}
 use Rattle.plist_engine.specs.Sharing.{kept_from}
-use Rattle.plist_engine.specs.Canonical.{object_octets, starts, trailer_octets, file_of}
+use Rattle.plist_object.specs.Files.{starts}
+use Rattle.plist_engine.specs.Canonical.{object_octets, trailer_octets, file_of}
 use Rattle.plist_engine.proofs.Sizes.{least_width-most}
 use Rattle.plist_engine.proofs.Sound.{IsSound, EachSound}
 

@@ -1,85 +1,30 @@
 -- The rows of a table in the order of their texts.
-use Rattle.std.proofs.Common.{◌≡◌, ℕ, ◌+◌, ◌<◌, ◌≤◌, List, [], ◌∷◌, ◌++◌, length, get_or, map, slice_index, take, false, refl, sym, ap, subst, ◌∙◌, arith, append_assoc, Ok, Err}
-use Rattle.std.specs.Prelude.{All, Result}
+use Rattle.std.proofs.Common.{◌≡◌, ℕ, ◌+◌, ◌<◌, ◌≤◌, List, [], ◌∷◌, ◌++◌, length, get_or, map, slice_index, take, false, refl, sym, ap, subst, ◌∙◌, arith, append_assoc, Ok}
+use Rattle.std.specs.Prelude.{All}
 use Rattle.std.specs.declared.cmp.Ordering.{Ordering}
-use Rattle.std.specs.declared.cmp.Ordering.TheVariants.{Less, Equal, Greater}
-use Rattle.std.specs.Ordering.{is_lt, is_eq, eq_by_cmp, nat_cmp, on, ordering_reverse}
-use Rattle.std.specs.Cmp.{IsTotalOrder}
+use Rattle.std.specs.declared.cmp.Ordering.TheVariants.{Less}
+use Rattle.std.specs.Ordering.{is_lt, eq_by_cmp, nat_cmp, on}
 use Rattle.std.specs.Cmp.Lexicographic.{slice_cmp}
 use Rattle.std.specs.List.{AllByRecursion, IsDistinct, zip}
 use Rattle.std.specs.List.Sorted.{IsPermutation, IsSorted, IsStrictlySortedBy}
-use Rattle.std.proofs.lemmas.Cmp.{nat_list_cmp_total, on_total, eq_by_cmp_equiv}
+use Rattle.std.proofs.lemmas.Cmp.{eq_by_cmp_equiv}
 use Rattle.std.proofs.lemmas.List.{get_or-map, length-map, map-append, take_more, take_all}
 use Rattle.std.proofs.lemmas.List.Elements.{All-from_recursion, recursion_from_All}
 use Rattle.std.proofs.lemmas.List.Sorted.{All-permutation, IsPermutation-map, IsPermutation-sym, IsPermutation-trans}
 use Rattle.std.proofs.lemmas.Map.Keys.{sorted_from_all_adjacent, IsDistinct-from_sorted, IsDistinct-IsPermutation, apart_from_distinct}
 use Rattle.std.proofs.lemmas.Slice.Zip.{get_or-zip, length-zip}
-use Rattle.plist_value.specs.Plist.{text, Pairs, no_pairs, pair, ArePairs, IsKeyBelow}
-use Rattle.plist_object.specs.declared.object.ObjectFault.{ObjectFault}
+use Rattle.plist_value.specs.Plist.{text, Pairs, no_pairs, pair}
 use Rattle.plist_object.proofs.Ascending.{same_order}
-use Rattle.plist_object.specs.Objects.{Held, holds_scalar, holds_list, holds_table}
-use Rattle.plist_object.specs.Places.{Holds, what_holds}
+use Rattle.plist_object.specs.Objects.{holds_scalar}
+use Rattle.plist_object.specs.Places.{what_holds, HoldsText}
 use Rattle.plist_object.specs.Spelled.{SpellPairs}
-use Rattle.plist_value.specs.Plist.{Scalar}
 use Rattle.plist_engine.specs.declared.order.Row.{Row}
 use Rattle.plist_object.specs.Order.{IsOrder, pair_of}
 use Rattle.plist_object.proofs.Orders.{IsOrder-rows}
 use Rattle.plist_engine.specs.Order.{ArePlaced, HoldsKey, by_text, pair_at, place_of, units_at}
-use Rattle.plist_engine.specs.Spelling.{HoldsText, IsTable, SpellTable, in_turn}
-
--- the units of the text that was read, and none where it is none
-abbrev units_in_scalar : Scalar → List ℕ
-units_in_scalar (text units) = units
-units_in_scalar s = []
-
-abbrev units_in : Result Held ObjectFault → List ℕ
-units_in (Ok (holds_scalar s)) = units_in_scalar s
-units_in (Ok (holds_list refs)) = []
-units_in (Ok (holds_table keys values)) = []
-units_in (Err e) = []
-
--- the units of the key that a row refers to
-key_of : List ℕ → (ℕ × ℕ) → List ℕ
-key_of f row = units_in (what_holds f row.0)
-
-key_of-held : (f : List ℕ) (row : ℕ × ℕ) (key : List ℕ) → Holds f row.0 (holds_scalar (text key)) → key_of f row ≡ key
-unfolding key_of
-key_of-held f row key holds = rw holds.reads refl
-
-by_key : List ℕ → (ℕ × ℕ) → (ℕ × ℕ) → Ordering
-by_key f = on (key_of f) (slice_cmp nat_cmp)
-
-by_key_total : (f : List ℕ) → IsTotalOrder (by_key f)
-unfolding by_key
-by_key_total f = on_total (key_of f) nat_list_cmp_total
-
-below_next : (key next : List ℕ) (ps : Pairs) → slice_cmp nat_cmp key next ≡ Less → IsKeyBelow next ps → IsKeyBelow key ps
-below_next key next no_pairs first below = tt
-below_next key next (pair third v ps) first below = nat_list_cmp_total.trans key next third first below
-
-rows_above : (f key : List ℕ) (rows : List (ℕ × ℕ)) (ps : Pairs) → SpellPairs f rows ps → ArePairs ps → IsKeyBelow key ps → AllByRecursion (λ row. slice_cmp nat_cmp key (key_of f row) ≡ Less) rows
-rows_above f key [] ps spells valid below = tt
-rows_above f key (row ∷ rows) no_pairs spells valid below =
-    absurd (let none : row ∷ rows ≡ [] = spells in cc)
-rows_above f key (row ∷ rows) (pair next v ps) spells valid below = (
-  subst (λ (us : List ℕ). slice_cmp nat_cmp key us ≡ Less) (sym (key_of-held f row next spells.0)) below,
-  rows_above f key rows ps spells.2 valid.3 (below_next key next ps below valid.2),
-)
-
--- rows that spell the pairs of a table ascend
-rows_ascend : (f : List ℕ) (rows : List (ℕ × ℕ)) (ps : Pairs) → SpellPairs f rows ps → ArePairs ps → IsStrictlySortedBy (by_key f) rows
-unfolding IsStrictlySortedBy by_key
-rows_ascend f [] ps spells valid = tt
-rows_ascend f (row ∷ rows) no_pairs spells valid = absurd (let none : row ∷ rows ≡ [] = spells in cc)
-rows_ascend f (row ∷ rows) (pair key v ps) spells valid = (
-  subst (λ (us : List ℕ). AllByRecursion (λ (r : ℕ × ℕ). slice_cmp nat_cmp us (key_of f r) ≡ Less) rows) (sym (key_of-held f row key spells.0)) (rows_above f key rows ps spells.2 valid.3 valid.2),
-  rows_ascend f rows ps spells.2 valid.3,
-)
-
-turned : (o p : Ordering) → o ≡ ordering_reverse p → is_lt p ≡ false → is_eq o ≡ false → o ≡ Less
-turned o Less is order apart = absurd (cc)
-turned o Equal is order apart = absurd (cc)
-turned o Greater is order apart = is
+use Rattle.plist_engine.specs.Spelling.{IsTable, SpellTable, in_turn}
+use Rattle.plist_object.proofs.Uniqueness.{units_in, key_of, key_of-held, by_key, by_key_total, rows_ascend}
+use Rattle.plist_value.proofs.Keys.{turned}
 
 module _ (f keys values : List ℕ) (sorted : List Row) (held : All (HoldsKey f keys) sorted) (order : IsSorted by_text sorted) where
   key_at : (k : ℕ) (d : ℕ × ℕ) (e : Row) → k < length sorted → key_of f (get_or (map (pair_at keys values) sorted) k d) ≡ units_at (get_or sorted k e)
@@ -172,7 +117,7 @@ rows_are f keys values places rows ps as_many order table =
 all_texts : (f : List ℕ) (rows : List (ℕ × ℕ)) (ps : Pairs) → SpellPairs f rows ps → AllByRecursion (λ row. HoldsText f row.0) rows
 all_texts f [] ps h = tt
 all_texts f (row ∷ rows) no_pairs h = absurd (let none : row ∷ rows ≡ [] = h in cc)
-all_texts f (row ∷ rows) (pair key v ps) h = (record { units = key; holds = h.0 }, all_texts f rows ps h.2)
+all_texts f (row ∷ rows) (pair key v ps) h = ((key, h.0), all_texts f rows ps h.2)
 
 pub text_at : (f keys values : List ℕ) (k i : ℕ) → IsTable f keys values → k < length keys → i ≡ get_or keys k 0 → HoldsText f i
 text_at f keys values k i table h is =

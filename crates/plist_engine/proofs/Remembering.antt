@@ -10,7 +10,7 @@ use Rattle.plist_value.specs.declared.scalar_ref.ScalarRef.{ScalarRef}
 use Rattle.plist_object.specs.Objects.{holds_scalar, holds_list, holds_table}
 use Rattle.plist_object.specs.Layout.{trailer_of}
 use Rattle.plist_object.specs.Places.{Holds, what_holds}
-use Rattle.plist_object.specs.Spelled.{Spells}
+use Rattle.plist_object.specs.Spelled.{Spells, SpellsWithin}
 use Rattle.plist_object.proofs.Uniqueness.{same_held}
 use Rattle.plist_engine.specs.declared.plan.Plan.{Plan}
 use Rattle.plist_engine.specs.declared.scalars.Scalars.{Scalars}
@@ -18,7 +18,6 @@ use Rattle.plist_engine.specs.Naturals.{no_number}
 use Rattle.plist_engine.specs.Scalars.{AreNew, EntersScalar, number_stored}
 use Rattle.plist_engine.specs.Memo.{single, kept, IsNumber, IsAlone, IsSingle, KeepsNumber, Sifts}
 use Rattle.plist_engine.specs.Plan.{is_held, number_from, number_met, IsRemembered, IsMet, IsUnmet, KnowsScalars, MeetsScalar, IsWalked, Begins}
-use Rattle.plist_engine.specs.Spelling.{SpellsWithin}
 use Rattle.plist_engine.proofs.Meeting.{cases_Option, met-added, met-beside, met-now, met-still}
 use Rattle.plist_engine.proofs.Storing.{entered-had, entered-kept, entered-unknown, entered-added}
 use Rattle.plist_engine.proofs.Walking.{Walks-known}

@@ -6,10 +6,11 @@ use Rattle.plist_value.specs.Plist.{Plist, scalar, list, table, Items, no_items,
 use Rattle.plist_value.specs.Limits.{depth, depth_of_items, depth_of_pairs}
 use Rattle.plist_object.specs.Objects.{holds_scalar, holds_list, holds_table}
 use Rattle.plist_object.specs.Places.{Holds}
-use Rattle.plist_object.specs.Spelled.{Spells, SpellItems}
+use Rattle.plist_object.specs.Spelled.{Spells, SpellItems, SpellsWithin}
 use Rattle.plist_object.proofs.Uniqueness.{same_held}
-use Rattle.plist_engine.specs.Spelling.{IsRead, SpellsWithin, SpellWithin, SpellTable, IsTable, in_turn}
+use Rattle.plist_engine.specs.Spelling.{IsRead, SpellWithin, SpellTable, IsTable, in_turn}
 use Rattle.plist_engine.proofs.Flat.{flat, spell-flat, valid-flat, deep-flat}
+use Rattle.plist_value.proofs.Items.{some_depth}
 
 read_at : (f : List ℕ) (i : ℕ) (v : Plist) → Spells f i v → IsRead f i
 read_at f i (scalar s) h = record { held = holds_scalar s; holds = h }
@@ -18,11 +19,6 @@ read_at f i (table ps) h = record { held = holds_table h.0 h.1.0; holds = h.1.1.
 
 pub read_within : (f : List ℕ) (i levels : ℕ) → SpellsWithin f i levels → IsRead f i
 read_within f i levels h = read_at f i h.value h.spells
-
-some_depth : (v : Plist) → 1 ≤ depth v
-some_depth (scalar s) = omega arith
-some_depth (list vs) = omega arith
-some_depth (table ps) = omega arith
 
 pub levels_within : (f : List ℕ) (i levels : ℕ) → SpellsWithin f i levels → 1 ≤ levels
 levels_within f i levels h = let some = some_depth h.value in let deep = h.deep in omega arith

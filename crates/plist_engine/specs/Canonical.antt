@@ -1,9 +1,8 @@
 -- The canonical file of a value (our profile): one octet list for each value.
-use Rattle.std.specs.Prelude.{ℕ, suc, ◌+◌, List, [], ◌∷◌, ◌++◌, length, map, replicate}
+use Rattle.std.specs.Prelude.{ℕ, suc, ◌+◌, List, length, map}
 use Rattle.std.specs.List.{concat}
-use Rattle.byteorder.specs.Endian.{big_bytes}
 use Rattle.plist_value.specs.Plist.{Plist, scalar, list, table}
-use Rattle.plist_object.specs.Layout.{header}
+use Rattle.plist_object.specs.Files.{trailer_with, file_with}
 use Rattle.plist_object.specs.Spelling.{least_width, references, scalar_spelling, list_spelling, table_spelling}
 use Rattle.plist_engine.specs.Tree.{preorder, key_texts, item_places, key_places, value_places}
 use Rattle.plist_engine.specs.Sharing.{kept_places, number_among}
@@ -24,23 +23,13 @@ objects_of all =
     let width = least_width (length kept) in
     map (λ p. object_octets (number_among all kept) width p.0 p.1) kept
 
--- where objects begin that stand one after another, the first at k
-abbrev pub starts : ℕ → List (List ℕ) → List ℕ
-starts k [] = []
-starts k (object ∷ objects) = k ∷ starts (k + length object) objects
-
--- The last 32 octets: six zero octets, the widths of an offset and of a reference, how many objects
--- there are, the number of the top object, which is 0, and the place of the offset table.
+-- the last 32 octets of a file whose widths are least and whose top object is the first
 abbrev pub trailer_octets : ℕ → ℕ → List ℕ
-trailer_octets count place =
-    replicate 6 0 ++ (least_width place ∷ least_width count ∷ (big_bytes 8 count ++ (big_bytes 8 0 ++ big_bytes 8 place)))
+trailer_octets count place = trailer_with (least_width place) (least_width count) count 0 place
 
--- the file of objects: the header, the objects one after another, the offset table, the trailer
+-- the file of objects, with the first at its top and the least widths
 abbrev pub file_of : List (List ℕ) → List ℕ
-file_of objects =
-    let body = concat objects in
-    let place = 8 + length body in
-    header ++ (body ++ (references (least_width place) (starts 8 objects) ++ trailer_octets (length objects) place))
+file_of objects = file_with (least_width (8 + length (concat objects))) (least_width (length objects)) 0 objects
 
 unfoldable pub canon : Plist → List ℕ
 canon v = file_of (objects_of (preorder v))

@@ -26,10 +26,6 @@ kept_at numbers i = slice_index_or numbers i no_number
 abbrev pub kept : Memo → ℕ → ℕ
 kept memo i = kept_at memo.numbers.items i
 
--- the object holds a scalar
-abbrev pub HoldsScalar : List ℕ → ℕ → Type 0
-HoldsScalar f i = (r : ScalarRef) × Holds f i (holds_scalar (content_of r))
-
 -- no other object of the file holds a scalar that the object holds
 abbrev pub IsAlone : List ℕ → ℕ → Type 0
 IsAlone f i =
@@ -37,7 +33,7 @@ IsAlone f i =
 
 -- the object holds a scalar, and no other object of the file holds it
 abbrev pub IsSingle : List ℕ → ℕ → Type 0
-IsSingle f i = HoldsScalar f i × IsAlone f i
+IsSingle f i = ((r : ScalarRef) × Holds f i (holds_scalar (content_of r))) × IsAlone f i
 
 -- The object has this number now, if it is one of those that are listed. All others are as before.
 pub record KeepsNumber (i number : ℕ) (old new : Memo) : Type 0 where

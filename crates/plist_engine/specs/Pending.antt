@@ -3,7 +3,8 @@ use Rattle.std.specs.Prelude.{◌≡◌, ℕ, ◌+◌, ◌<◌, ◌≤◌, ◌^�
 use Rattle.plist_engine.specs.declared.faults.WriteFault.{WriteFault}
 use Rattle.std.specs.List.{concat}
 use Rattle.plist_object.specs.Spelling.{least_width, references}
-use Rattle.plist_engine.specs.Canonical.{file_of, starts, trailer_octets}
+use Rattle.plist_object.specs.Files.{starts}
+use Rattle.plist_engine.specs.Canonical.{file_of, trailer_octets}
 use Rattle.plist_engine.specs.Sending.{Sends, Allows}
 use Rattle.plist_engine.specs.declared.pending.Pending.{Pending}
 

@@ -2,28 +2,16 @@
 use Rattle.std.specs.Prelude.{◌≡◌, ℕ, ◌≤◌, List, length, map, ◌++◌}
 use Rattle.std.specs.List.{zip}
 use Rattle.std.specs.List.Sorted.{IsPermutation}
-use Rattle.plist_value.specs.Plist.{Plist, Items, Pairs, text, IsPlist, AreItems, ArePairs}
-use Rattle.plist_value.specs.Limits.{depth, depth_of_items}
-use Rattle.plist_object.specs.Objects.{Held, holds_scalar}
+use Rattle.plist_value.specs.Plist.{Items, Pairs, AreItems, ArePairs}
+use Rattle.plist_value.specs.Limits.{depth_of_items}
+use Rattle.plist_object.specs.Objects.{Held}
 use Rattle.plist_object.specs.Places.{Holds}
-use Rattle.plist_object.specs.Spelled.{Spells, SpellItems, SpellPairs}
+use Rattle.plist_object.specs.Spelled.{SpellItems, SpellPairs}
 
 -- the object reads
 pub record IsRead (f : List ℕ) (i : ℕ) : Type 0 where
   pub held : Held
   pub holds : Holds f i held
-
--- the object holds a text
-pub record HoldsText (f : List ℕ) (i : ℕ) : Type 0 where
-  pub units : List ℕ
-  pub holds : Holds f i (holds_scalar (text units))
-
--- the object spells a value of at most so many levels
-pub record SpellsWithin (f : List ℕ) (i levels : ℕ) : Type 0 where
-  pub value : Plist
-  pub valid : IsPlist value
-  pub spells : Spells f i value
-  pub deep : depth value ≤ levels
 
 -- the objects spell items, in turn, of at most so many levels
 pub record SpellWithin (f refs : List ℕ) (levels : ℕ) : Type 0 where

@@ -2,9 +2,9 @@
 ghost use Rattle.plist_value.specs.Plist.{text};
 ghost use Rattle.plist_value.specs.Texts.{units_of};
 ghost use Rattle.plist_object.specs.Objects.{IsHeld, holds_scalar};
-ghost use Rattle.plist_object.specs.Places.{Holds};
+ghost use Rattle.plist_object.specs.Places.{Holds, HoldsText};
 ghost use Rattle.plist_object.specs.Views.{held_of, octets_of};
-ghost use Rattle.plist_engine.specs.Spelling.{IsRead, HoldsText};
+ghost use Rattle.plist_engine.specs.Spelling.{IsRead};
 
 use plist_object::{BinFile, Object};
 use plist_value::{ScalarRef, TextRef};

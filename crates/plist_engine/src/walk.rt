@@ -1,10 +1,10 @@
 //! The walk from the top of a file over the sorted tree of its value, which numbers the objects.
 ghost use Rattle.std.specs.Prelude.{◌≡◌, ◌≤◌, length, drop, IfOk, OnOk};
 ghost use Rattle.plist_value.specs.Plist.{Plist};
-ghost use Rattle.plist_object.specs.Spelled.{IsBinary};
+ghost use Rattle.plist_object.specs.Spelled.{IsBinary, SpellsWithin};
 ghost use Rattle.plist_object.specs.Views.{octets_of};
 ghost use Rattle.plist_object.specs.Order.{AreSortedIfAny};
-ghost use Rattle.plist_engine.specs.Spelling.{SpellsWithin, SpellWithin};
+ghost use Rattle.plist_engine.specs.Spelling.{SpellWithin};
 ghost use Rattle.plist_engine.specs.Order.{IsOrdered};
 ghost use Rattle.plist_engine.specs.Plan.{AreObjectsOf, AreWalked, IsWalked, KnowsScalars};
 ghost use Rattle.plist_engine.specs.Memo.{kept};

@@ -80,7 +80,7 @@ joined : (m : ℕ) (octets first tail content behind : List ℕ) → octets ≡ 
 joined m octets first tail content behind parts front back =
     parts ∙ rw (append_assoc, ← front, ← back, take-append-drop m tail) refl
 
-abbrev read_of : Held → List ℕ → Result (Held × List ℕ) ObjectFault
+abbrev pub read_of : Held → List ℕ → Result (Held × List ℕ) ObjectFault
 read_of x b = Ok (x, b)
 
 same_read : (x y : Held) (b d : List ℕ) → read_of x b ≡ read_of y d → (x ≡ y) × (b ≡ d)

@@ -17,7 +17,7 @@ use Rattle.plist_object.specs.Sizes.{head_size}
 use Rattle.plist_object.specs.Spelling.{head, references, scalar_spelling}
 use Rattle.plist_object.specs.Shortest.{BeginsShort, HasWideUnit, LeadsScalar, IsSpelledScalar}
 use Rattle.plist_object.specs.Views.{first_of}
-use Rattle.plist_object.proofs.CanonicalHeads.{headed, was_content}
+use Rattle.plist_object.proofs.CanonicalHeads.{headed, was_content, read_of}
 use Rattle.plist_object.proofs.Counts.{length-head}
 use Rattle.plist_object.proofs.ReadScalars.{length-pairs}
 use Rattle.plist_object.proofs.SameOctets.{AreOctets-take, references-wide_units}
@@ -52,9 +52,6 @@ data_leads width n octets y small are begins read =
       within = inside 4 n n octets h.tail h.parts (rw all at w.enough);
       spelled = copied 4 n n octets h.tail h.parts ∙ rw (long, all) refl;
     }
-
-abbrev read_of : Held → List ℕ → Result (Held × List ℕ) ObjectFault
-read_of x b = Ok (x, b)
 
 -- of an ASCII text that was read
 record WasAscii (part rest : List ℕ) (y : Held × List ℕ) : Type 0 where

@@ -1,16 +1,15 @@
 -- Scalars whose marker tells how long they are, and of which no other spelling is theirs.
-use Rattle.std.proofs.Common.{◌≡◌, ℕ, suc, ◌%◌, ◌<◌, ◌≤◌, true, false, pos, List, [], ◌∷◌, ◌++◌, length, take, drop, Result, Ok, refl, sym, ap, ◌∙◌, arith, length-append, lt-ltb}
+use Rattle.std.proofs.Common.{◌≡◌, ℕ, suc, ◌%◌, ◌<◌, ◌≤◌, true, false, pos, List, [], ◌∷◌, ◌++◌, length, take, drop, Ok, refl, sym, ap, ◌∙◌, arith, length-append, lt-ltb}
 use Rattle.std.specs.Prelude.{IsOk}
 use Rattle.std.proofs.lemmas.List.{take_at, take-append-drop, length-take-le}
 use Rattle.std.proofs.lemmas.Int.{ints}
 use Rattle.plist_value.specs.Plist.{Scalar, whole, flag, real4, real8, moment, AreOctets, IsOctetsOf, IsScalar}
-use Rattle.plist_object.specs.declared.object.ObjectFault.{ObjectFault}
 use Rattle.plist_object.specs.Objects.{Held, holds_scalar, object_in, cut, ◌>>=◌, marked_object, whole_object, real_object, moment_object}
 use Rattle.plist_object.specs.Sizes.{IsSmall}
 use Rattle.plist_object.specs.Spelling.{scalar_spelling}
 use Rattle.plist_object.specs.Shortest.{BeginsFixed, IsFixed, no, yes, octet, short, long, date, LeadsScalar}
 use Rattle.plist_object.specs.Views.{first_of}
-use Rattle.plist_object.proofs.CanonicalHeads.{split_head, was_cut}
+use Rattle.plist_object.proofs.CanonicalHeads.{split_head, was_cut, read_of}
 use Rattle.plist_object.proofs.Copies.{read_at}
 use Rattle.plist_object.proofs.ReadScalars.{object_in-scalar}
 use Rattle.plist_object.proofs.SameOctets.{AreOctets-take, AreOctets-drop}
@@ -43,9 +42,6 @@ whole_leads : (width : ℕ) (octets tail : List ℕ) (y : Held × List ℕ) → 
 unfolding marked_object whole_object
 whole_leads width octets [] y are parts read = absurd cc
 whole_leads width octets (d ∷ rest) y are parts read = one_leads width d octets rest (are 0) parts
-
-abbrev read_of : Held → List ℕ → Result (Held × List ℕ) ObjectFault
-read_of x b = Ok (x, b)
 
 -- a marker and so many octets behind it
 shown_leads : (width marker n : ℕ) (shows : List ℕ → Scalar) (octets tail : List ℕ) (y : Held × List ℕ) → AreOctets tail → octets ≡ marker ∷ tail → ((xs : List ℕ) → IsOctetsOf n xs → IsScalar (shows xs)) → ((xs : List ℕ) → IsSmall (shows xs)) → ((xs : List ℕ) → scalar_spelling (shows xs) ≡ marker ∷ xs) → (cut n tail >>= λ parts. read_of (holds_scalar (shows parts.0)) parts.1) ≡ Ok y → LeadsScalar width (suc n) octets

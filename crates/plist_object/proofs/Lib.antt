@@ -2,6 +2,7 @@ pub mod Ascending
 pub mod Uniqueness
 pub mod CanonicalHeads
 pub mod Copies
+pub mod Files
 pub mod Fixed
 pub mod Wholes
 pub mod Counts

@@ -17,7 +17,7 @@ use Rattle.plist_value.specs.declared.text_ref.TextRef.{TextRef}
 use Rattle.plist_object.specs.Layout.{trailer_of}
 use Rattle.plist_object.specs.declared.ranks.Ranks.{Ranks}
 use Rattle.plist_object.specs.declared.keys.Key.{Key}
-use Rattle.plist_object.specs.Ranks.{HoldsText, HoldsKey, AreRanks, in_order, rank_of, text_of_rank, texts_of}
+use Rattle.plist_object.specs.Ranks.{HoldsUnits, HoldsKey, AreRanks, in_order, rank_of, text_of_rank, texts_of}
 
 irreflexive : (units : List ℕ) → slice_cmp nat_cmp units units ≡ Less → ⊥
 irreflexive units below = absurd (let tied = tied_itself nat_list_cmp_total units in let e : Less ≡ Equal = sym below ∙ tied in cc)
@@ -45,12 +45,12 @@ ranks_from_below texts first second ascending within less =
     ]
 
 -- an object with a rank holds the text of the rank
-pub ranked_holds : (f : List ℕ) (ranks : Ranks) (i rank : ℕ) (t : TextRef) → AreRanks f ranks → rank_of ranks i ≡ Some rank → text_of_rank ranks rank ≡ Some t → HoldsText f i (units_of t)
+pub ranked_holds : (f : List ℕ) (ranks : Ranks) (i rank : ℕ) (t : TextRef) → AreRanks f ranks → rank_of ranks i ≡ Some rank → text_of_rank ranks rank ≡ Some t → HoldsUnits f i (units_of t)
 ranked_holds f ranks i rank t sound is found =
     let items = ranks.texts.items in
     let within : rank < length items = slice_get_within items rank t found in
     let at : get_or (texts_of ranks) rank [] ≡ units_of t = get_or-map units_of items rank t [] within ∙ ap units_of (get_or_from_slice_get items rank t t found) in
-    subst (λ (units : List ℕ). HoldsText f i units) at (sound.held i rank is)
+    subst (λ (units : List ℕ). HoldsUnits f i units) at (sound.held i rank is)
 
 -- the ranks of the texts so far, of which the last has the greatest
 pub record RankedTo (f : List ℕ) (numbers : List (Option ℕ)) (texts : List (List ℕ)) (rank : ℕ) (last : List ℕ) : Type 0 where
@@ -58,7 +58,7 @@ pub record RankedTo (f : List ℕ) (numbers : List (Option ℕ)) (texts : List (
   pub long : length texts ≡ rank + 1
   pub ends : get_or texts rank [] ≡ last
   pub within : (i r : ℕ) → get_or numbers i None ≡ Some r → r < length texts
-  pub held : (i r : ℕ) → get_or numbers i None ≡ Some r → HoldsText f i (get_or texts r [])
+  pub held : (i r : ℕ) → get_or numbers i None ≡ Some r → HoldsUnits f i (get_or texts r [])
 
 pub sorted_push : (texts : List (List ℕ)) (next : List ℕ) (rank : ℕ) → IsStrictlySortedBy (slice_cmp nat_cmp) texts → length texts ≡ rank + 1 → slice_cmp nat_cmp (get_or texts rank []) next ≡ Less → IsStrictlySortedBy (slice_cmp nat_cmp) (texts ++ next ∷ [])
 sorted_push texts next rank sorted long below =
@@ -88,16 +88,16 @@ numbered P numbers object rank i r within old new is =
       | inr other ↦ old (sym (get_or-set_other numbers object i (Some rank) None other) ∙ is)
     ]
 
-pub ranked_same : (f : List ℕ) (numbers : List (Option ℕ)) (texts : List (List ℕ)) (rank object : ℕ) (last : List ℕ) → RankedTo f numbers texts rank last → object < length numbers → HoldsText f object last → RankedTo f (slice_set numbers object (Some rank)) texts rank last
+pub ranked_same : (f : List ℕ) (numbers : List (Option ℕ)) (texts : List (List ℕ)) (rank object : ℕ) (last : List ℕ) → RankedTo f numbers texts rank last → object < length numbers → HoldsUnits f object last → RankedTo f (slice_set numbers object (Some rank)) texts rank last
 ranked_same f numbers texts rank object last ranked within holds = record {
   ascending = ranked.ascending;
   long = ranked.long;
   ends = ranked.ends;
   within = λ i r. numbered (λ _ n. n < length texts) numbers object rank i r within (ranked.within i r) (omega (arith, ranked.long));
-  held = λ i r. numbered (λ j n. HoldsText f j (get_or texts n [])) numbers object rank i r within (ranked.held i r) (rw ranked.ends holds);
+  held = λ i r. numbered (λ j n. HoldsUnits f j (get_or texts n [])) numbers object rank i r within (ranked.held i r) (rw ranked.ends holds);
 }
 
-pub ranked_next : (f : List ℕ) (numbers : List (Option ℕ)) (before : List (List ℕ)) (rank object : ℕ) (last next : List ℕ) → RankedTo f numbers before rank last → object < length numbers → slice_cmp nat_cmp last next ≡ Less → HoldsText f object next → RankedTo f (slice_set numbers object (Some (rank + 1))) (before ++ next ∷ []) (rank + 1) next
+pub ranked_next : (f : List ℕ) (numbers : List (Option ℕ)) (before : List (List ℕ)) (rank object : ℕ) (last next : List ℕ) → RankedTo f numbers before rank last → object < length numbers → slice_cmp nat_cmp last next ≡ Less → HoldsUnits f object next → RankedTo f (slice_set numbers object (Some (rank + 1))) (before ++ next ∷ []) (rank + 1) next
 ranked_next f numbers before rank object last next ranked within below holds =
     let texts = before ++ next ∷ [] in
     let longer : length texts ≡ length before + 1 = length_push before next in
@@ -107,7 +107,7 @@ ranked_next f numbers before rank object last next ranked within below holds =
       long = omega (arith, longer, ranked.long);
       ends = ends;
       within = λ i r. numbered (λ _ n. n < length texts) numbers object (rank + 1) i r within (λ is. omega (arith, longer, ranked.within i r is)) (omega (arith, longer, ranked.long));
-      held = λ i r. numbered (λ j n. HoldsText f j (get_or texts n [])) numbers object (rank + 1) i r within
+      held = λ i r. numbered (λ j n. HoldsUnits f j (get_or texts n [])) numbers object (rank + 1) i r within
           (λ is. rw (get_or_append_left before (next ∷ []) [] r (ranked.within i r is)) (ranked.held i r is))
           (rw ends holds);
     }

@@ -1,4 +1,4 @@
--- An object that holds something reads.
+-- An object that holds something reads, and one that reads holds something.
 use Rattle.std.proofs.Common.{◌≡◌, ℕ, List, Result, Ok, Err, refl}
 use Rattle.std.specs.Prelude.{IsOk}
 use Rattle.plist_object.specs.declared.object.ObjectFault.{ObjectFault}
@@ -12,3 +12,7 @@ object_reads (Err fault) held e = absurd (let no : Err fault ≡ Ok held = e in 
 pub Holds-reads : (f : List ℕ) (i : ℕ) (held : Held) → Holds f i held → IsOk (object_at f i)
 unfolding what_holds
 Holds-reads f i held holds = object_reads (object_at f i) held holds.reads
+
+pub what_holds-at : (f : List ℕ) (i : ℕ) (held : Held) (behind : List ℕ) → object_at f i ≡ Ok (held, behind) → what_holds f i ≡ Ok held
+unfolding what_holds
+what_holds-at f i held behind h = rw h refl

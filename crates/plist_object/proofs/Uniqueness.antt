@@ -14,56 +14,53 @@ use Rattle.plist_object.specs.Objects.{Held, holds_scalar, holds_list, holds_tab
 use Rattle.plist_object.specs.Places.{Holds, what_holds}
 use Rattle.plist_object.specs.Spelled.{Spells, SpellItems, SpellPairs}
 use Rattle.plist_object.proofs.Ascending.{same_order}
+use Rattle.plist_value.proofs.Keys.{below_next}
 
 -- an object holds one thing
 pub same_held : (f : List ℕ) (i : ℕ) (a b : Held) → Holds f i a → Holds f i b → a ≡ b
 same_held f i a b holds_a holds_b = cc (holds_a.reads, holds_b.reads)
 
 -- the units of the text that the object i holds, and none where it holds no text
-abbrev text_in : Result Held ObjectFault → List ℕ
-text_in (Ok (holds_scalar (text units))) = units
-text_in (Ok (holds_scalar s)) = []
-text_in (Ok (holds_list refs)) = []
-text_in (Ok (holds_table keys values)) = []
-text_in (Err e) = []
+abbrev pub units_in : Result Held ObjectFault → List ℕ
+units_in (Ok (holds_scalar (text units))) = units
+units_in (Ok (holds_scalar s)) = []
+units_in (Ok (holds_list refs)) = []
+units_in (Ok (holds_table keys values)) = []
+units_in (Err e) = []
 
-key_at : List ℕ → (ℕ × ℕ) → List ℕ
-key_at f row = text_in (what_holds f row.0)
+-- the units of the key that a row refers to
+unfoldable pub key_of : List ℕ → (ℕ × ℕ) → List ℕ
+key_of f row = units_in (what_holds f row.0)
 
-key_at-held : (f : List ℕ) (row : ℕ × ℕ) (key : List ℕ) → Holds f row.0 (holds_scalar (text key)) → key_at f row ≡ key
-unfolding key_at what_holds
-key_at-held f row key holds = rw holds.reads refl
+pub key_of-held : (f : List ℕ) (row : ℕ × ℕ) (key : List ℕ) → Holds f row.0 (holds_scalar (text key)) → key_of f row ≡ key
+unfolding key_of what_holds
+key_of-held f row key holds = rw holds.reads refl
 
 -- by their keys
-by_key : List ℕ → (ℕ × ℕ) → (ℕ × ℕ) → Ordering
-by_key f = on (key_at f) (slice_cmp nat_cmp)
+unfoldable pub by_key : List ℕ → (ℕ × ℕ) → (ℕ × ℕ) → Ordering
+by_key f = on (key_of f) (slice_cmp nat_cmp)
 
-by_key_total : (f : List ℕ) → IsTotalOrder (by_key f)
+pub by_key_total : (f : List ℕ) → IsTotalOrder (by_key f)
 unfolding by_key
-by_key_total f = on_total (key_at f) nat_list_cmp_total
-
--- what is below a key is below those behind it
-below_next : (key next : List ℕ) (ps : Pairs) → slice_cmp nat_cmp key next ≡ Less → IsKeyBelow next ps → IsKeyBelow key ps
-below_next key next no_pairs first below = tt
-below_next key next (pair third v ps) first below = nat_list_cmp_total.trans key next third first below
+by_key_total f = on_total (key_of f) nat_list_cmp_total
 
 -- a key below the first of the pairs is below the key of each row
-rows_above : (f key : List ℕ) (rows : List (ℕ × ℕ)) (ps : Pairs) → SpellPairs f rows ps → ArePairs ps → IsKeyBelow key ps → AllByRecursion (λ row. slice_cmp nat_cmp key (key_at f row) ≡ Less) rows
+rows_above : (f key : List ℕ) (rows : List (ℕ × ℕ)) (ps : Pairs) → SpellPairs f rows ps → ArePairs ps → IsKeyBelow key ps → AllByRecursion (λ row. slice_cmp nat_cmp key (key_of f row) ≡ Less) rows
 rows_above f key [] ps spells valid below = tt
 rows_above f key (row ∷ rows) no_pairs spells valid below =
     absurd (let none : row ∷ rows ≡ [] = spells in cc)
 rows_above f key (row ∷ rows) (pair next v ps) spells valid below = (
-  subst (λ (us : List ℕ). slice_cmp nat_cmp key us ≡ Less) (sym (key_at-held f row next spells.0)) below,
+  subst (λ (us : List ℕ). slice_cmp nat_cmp key us ≡ Less) (sym (key_of-held f row next spells.0)) below,
   rows_above f key rows ps spells.2 valid.3 (below_next key next ps below valid.2),
 )
 
 -- rows that spell the pairs of a table ascend
-rows_ascend : (f : List ℕ) (rows : List (ℕ × ℕ)) (ps : Pairs) → SpellPairs f rows ps → ArePairs ps → IsStrictlySortedBy (by_key f) rows
+pub rows_ascend : (f : List ℕ) (rows : List (ℕ × ℕ)) (ps : Pairs) → SpellPairs f rows ps → ArePairs ps → IsStrictlySortedBy (by_key f) rows
 unfolding IsStrictlySortedBy by_key
 rows_ascend f [] ps spells valid = tt
 rows_ascend f (row ∷ rows) no_pairs spells valid = absurd (let none : row ∷ rows ≡ [] = spells in cc)
 rows_ascend f (row ∷ rows) (pair key v ps) spells valid = (
-  subst (λ (us : List ℕ). AllByRecursion (λ (r : ℕ × ℕ). slice_cmp nat_cmp us (key_at f r) ≡ Less) rows) (sym (key_at-held f row key spells.0)) (rows_above f key rows ps spells.2 valid.3 valid.2),
+  subst (λ (us : List ℕ). AllByRecursion (λ (r : ℕ × ℕ). slice_cmp nat_cmp us (key_of f r) ≡ Less) rows) (sym (key_of-held f row key spells.0)) (rows_above f key rows ps spells.2 valid.3 valid.2),
   rows_ascend f rows ps spells.2 valid.3,
 )
 

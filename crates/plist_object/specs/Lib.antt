@@ -11,6 +11,7 @@ pub mod Places
 pub mod Views
 pub mod Spelled
 pub mod Spelling
+pub mod Files
 pub mod Appending
 pub mod Sizes
 pub mod Codes

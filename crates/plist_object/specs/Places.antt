@@ -1,8 +1,9 @@
 -- Where the objects of a laid file stand, and what they hold.
 use Rattle.std.specs.Prelude.{◌≡◌, ℕ, ◌+◌, ◌-◌, ◌*◌, ◌<◌, nat_lt, nat_le, ◌&&◌, if◌then◌else◌, List, length, take, drop, slice_index_or, Result, Ok, Err}
 use Rattle.byteorder.specs.Endian.{big_number}
+use Rattle.plist_value.specs.Plist.{Scalar, text}
 use Rattle.plist_object.specs.Layout.{trailer_of}
-use Rattle.plist_object.specs.Objects.{Held, object_in, ◌>>=◌}
+use Rattle.plist_object.specs.Objects.{Held, holds_scalar, object_in, ◌>>=◌}
 use Rattle.plist_object.specs.declared.object.ObjectFault.{ObjectFault}
 use Rattle.plist_object.specs.declared.object.ObjectFault.TheVariants.{BadOffset}
 
@@ -47,3 +48,9 @@ span_of f i = do
 pub record Holds (f : List ℕ) (i : ℕ) (held : Held) : Type 0 where
   pub listed : i < (trailer_of f).count
   pub reads : what_holds f i ≡ Ok held
+
+abbrev pub HoldsScalar : List ℕ → ℕ → Type 0
+HoldsScalar f i = (s : Scalar) × Holds f i (holds_scalar s)
+
+abbrev pub HoldsText : List ℕ → ℕ → Type 0
+HoldsText f i = (units : List ℕ) × Holds f i (holds_scalar (text units))

@@ -15,11 +15,11 @@ use Rattle.plist_object.specs.declared.keys.Keys.{Keys}
 use Rattle.plist_object.specs.declared.ranks.Ranks.{Ranks}
 
 -- the object holds the text, whose units are units
-abbrev pub HoldsText : List ℕ → ℕ → List ℕ → Type 0
-HoldsText f i units = Holds f i (holds_scalar (text units)) × AreUnits units
+abbrev pub HoldsUnits : List ℕ → ℕ → List ℕ → Type 0
+HoldsUnits f i units = Holds f i (holds_scalar (text units)) × AreUnits units
 
 abbrev pub HoldsKey : List ℕ → Key → Type 0
-HoldsKey f key = HoldsText f key.object (units_of key.text)
+HoldsKey f key = HoldsUnits f key.object (units_of key.text)
 
 -- by their texts, and where these are equal by the objects
 abbrev pub in_order : Key → Key → Ordering
@@ -46,4 +46,4 @@ texts_of ranks = map units_of ranks.texts.items
 pub record AreRanks (f : List ℕ) (ranks : Ranks) : Type 0 where
   pub ascending : IsStrictlySortedBy (slice_cmp nat_cmp) (texts_of ranks)
   pub within : (i rank : ℕ) → rank_of ranks i ≡ Some rank → rank < length (texts_of ranks)
-  pub held : (i rank : ℕ) → rank_of ranks i ≡ Some rank → HoldsText f i (slice_index_or (texts_of ranks) rank [])
+  pub held : (i rank : ℕ) → rank_of ranks i ≡ Some rank → HoldsUnits f i (slice_index_or (texts_of ranks) rank [])

@@ -1,9 +1,9 @@
 -- Which property lists a file spells.
-use Rattle.std.specs.Prelude.{◌≡◌, ℕ, List, [], ◌∷◌}
+use Rattle.std.specs.Prelude.{◌≡◌, ℕ, ◌≤◌, List, [], ◌∷◌}
 use Rattle.std.specs.List.{zip}
 use Rattle.std.specs.List.Sorted.{IsPermutation}
 use Rattle.plist_value.specs.Plist.{text, Plist, scalar, list, table, Items, no_items, item, Pairs, no_pairs, pair, AreOctets, IsPlist}
-use Rattle.plist_value.specs.Limits.{Fits}
+use Rattle.plist_value.specs.Limits.{depth, Fits}
 use Rattle.plist_object.specs.Layout.{trailer_of, IsLaid}
 use Rattle.plist_object.specs.Objects.{holds_scalar, holds_list, holds_table}
 use Rattle.plist_object.specs.Places.{Holds}
@@ -27,6 +27,13 @@ abbrev mutual
   SpellPairs f rows no_pairs = rows ≡ []
   SpellPairs f [] (pair key v ps) = ⊥
   SpellPairs f (row ∷ rows) (pair key v ps) = Holds f row.0 (holds_scalar (text key)) × Spells f row.1 v × SpellPairs f rows ps
+
+-- the object spells a value of at most so many levels
+pub record SpellsWithin (f : List ℕ) (i levels : ℕ) : Type 0 where
+  pub value : Plist
+  pub valid : IsPlist value
+  pub spells : Spells f i value
+  pub deep : depth value ≤ levels
 
 -- the octets are a binary property list that spells the value
 pub record IsBinary (f : List ℕ) (v : Plist) : Type 0 where

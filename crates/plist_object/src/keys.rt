@@ -4,7 +4,7 @@ ghost use Rattle.std.specs.Option.{is_none};
 ghost use Rattle.plist_value.specs.Texts.{units_of};
 ghost use Rattle.plist_object.specs.Layout.{trailer_of};
 ghost use Rattle.plist_object.specs.Views.{octets_of};
-ghost use Rattle.plist_object.specs.Ranks.{AreKeys, AreRanks, HoldsText};
+ghost use Rattle.plist_object.specs.Ranks.{AreKeys, AreRanks, HoldsUnits};
 
 use crate::layout::BinFile;
 use crate::markers::TABLE;

@@ -1,7 +1,8 @@
 -- References to keys, and then those to their values.
 use Rattle.std.proofs.Common.{◌≡◌, ℕ, ◌+◌, ◌/◌, ◌<◌, List, ◌++◌, length, map, get_or, sym, ap, subst, ◌∙◌, arith, length-append}
 use Rattle.std.proofs.lemmas.List.{get_or_append_left, get_or-append-add, length-map}
-use Rattle.plist_engine.specs.Spelling.{SpellWithin, SpellsWithin, in_turn}
+use Rattle.plist_engine.specs.Spelling.{SpellWithin, in_turn}
+use Rattle.plist_object.specs.Spelled.{SpellsWithin}
 use Rattle.plist_engine.proofs.Flat.{flat, spell-flat, valid-flat, deep-flat}
 use Rattle.plist_engine.proofs.Within.{value_within}
 use Rattle.plist_print.specs.Printing.{PairsWithin}

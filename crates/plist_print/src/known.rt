@@ -3,9 +3,8 @@ ghost use Rattle.std.specs.Prelude.{◌≡◌, List, ℕ};
 ghost use Rattle.plist_value.specs.Plist.{text};
 ghost use Rattle.plist_value.specs.Texts.{units_of};
 ghost use Rattle.plist_object.specs.Objects.{holds_scalar};
-ghost use Rattle.plist_object.specs.Places.{Holds};
+ghost use Rattle.plist_object.specs.Places.{Holds, HoldsText};
 ghost use Rattle.plist_object.specs.Views.{octets_of};
-ghost use Rattle.plist_engine.specs.Spelling.{HoldsText};
 
 use plist_engine::objects::text_of;
 use plist_engine::order::KeyOrder;

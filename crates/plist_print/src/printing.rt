@@ -4,13 +4,13 @@ ghost use Rattle.plist_value.specs.Plist.{Plist, Items, Pairs, list, table, text
 ghost use Rattle.plist_value.specs.Plist.{IsPlist, AreItems, ArePairs};
 ghost use Rattle.plist_value.specs.declared.TheConstants.{MAX_DEPTH};
 ghost use Rattle.plist_object.specs.Objects.{holds_scalar};
-ghost use Rattle.plist_object.specs.Places.{Holds};
-ghost use Rattle.plist_object.specs.Spelled.{IsBinary, Spells, SpellItems, SpellPairs};
+ghost use Rattle.plist_object.specs.Places.{Holds, HoldsText};
+ghost use Rattle.plist_object.specs.Spelled.{IsBinary, Spells, SpellItems, SpellPairs, SpellsWithin};
 ghost use Rattle.plist_object.specs.Views.{numbers_of, octets_of};
 ghost use Rattle.plist_engine.specs.Pending.{Goes};
 ghost use Rattle.plist_engine.specs.Sending.{IsWritten};
-ghost use Rattle.plist_engine.specs.Spelling.{HoldsText, IsTable, SpellTable};
-ghost use Rattle.plist_engine.specs.Spelling.{SpellsWithin, SpellWithin, in_turn};
+ghost use Rattle.plist_engine.specs.Spelling.{IsTable, SpellTable};
+ghost use Rattle.plist_engine.specs.Spelling.{SpellWithin, in_turn};
 ghost use Rattle.plist_print.specs.Known.{IsSeen};
 ghost use Rattle.plist_print.specs.Printed.{printed, printed_at, printed_items, printed_pairs};
 ghost use Rattle.plist_print.specs.Printing.{PairsWithin, TableWithin, item_lines, pair_lines};

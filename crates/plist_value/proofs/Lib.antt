@@ -2,6 +2,7 @@ pub mod NarrowUnits
 pub mod Keys
 pub mod WideUnits
 pub mod Pairs
+pub mod Items
 pub mod Hashes
 pub mod Orders
 pub mod Shown

@@ -4,7 +4,8 @@ use Rattle.plist_value.specs.Limits.{Fits}
 use Rattle.plist_value.specs.declared.TheConstants.{MAX_DEPTH}
 use Rattle.plist_object.specs.Layout.{trailer_of}
 use Rattle.plist_object.specs.Views.{octets_of}
-use Rattle.plist_binary.specs.Building.{IsSpelled, SpellsWithin}
+use Rattle.plist_binary.specs.Building.{IsSpelled}
+use Rattle.plist_object.specs.Spelled.{SpellsWithin}
 use Rattle.plist_binary.specs.Passing.{PassesTop}
 use Rattle.plist_binary.proofs.BuildSteps.{Fits-top, SpellsWithin-top}
 use Rattle.std.proofs.lemmas.Grind.{pieces}

@@ -2,7 +2,7 @@ use Rattle.std.proofs.Common.{◌<◌, length, sym, arith}
 use Rattle.plist_object.specs.Views.{numbers_of, octets_of}
 use Rattle.std.specs.Prelude.{slice_index}
 use Rattle.std.proofs.lemmas.Bool.{true≢false}
-use Rattle.plist_canon.specs.Rules.{HoldsText}
+use Rattle.plist_object.specs.Places.{HoldsText}
 use Rattle.plist_canon.proofs.Judges.{below_or_last, refuted}
 use Rattle.plist_canon.proofs.references.name_texts.Goals as goal
 

@@ -1,7 +1,7 @@
 use Rattle.std.proofs.Common.{◌<◌, refl, arith}
 use Rattle.std.specs.Prelude.{EachIndex, slice_index}
 use Rattle.plist_object.specs.Views.{numbers_of, octets_of}
-use Rattle.plist_canon.specs.Rules.{HoldsText}
+use Rattle.plist_object.specs.Places.{HoldsText}
 use Rattle.plist_canon.proofs.Judges.{ascending_name, refuted}
 use Rattle.plist_canon.proofs.references.named_texts_ascend.Goals as goal
 

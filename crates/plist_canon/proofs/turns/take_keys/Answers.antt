@@ -3,9 +3,8 @@ use Rattle.std.specs.Prelude.{slice_index}
 use Rattle.plist_value.specs.Plist.{text}
 use Rattle.plist_value.specs.Texts.{units_of}
 use Rattle.plist_object.specs.Objects.{holds_scalar}
-use Rattle.plist_object.specs.Places.{Holds}
+use Rattle.plist_object.specs.Places.{Holds, HoldsText}
 use Rattle.plist_object.specs.Views.{numbers_of, octets_of}
-use Rattle.plist_canon.specs.Rules.{HoldsText}
 use Rattle.plist_canon.specs.Checking.{IsJudged}
 use Rattle.plist_canon.specs.Turns.{IsAbove}
 use Rattle.plist_canon.proofs.Judges.{below_or_last}

@@ -1,7 +1,7 @@
 use Rattle.std.proofs.Common.{ℕ, suc, ◌<◌, ◌≤◌, length}
 use Rattle.std.specs.Prelude.{slice_index}
 use Rattle.plist_object.specs.Views.{numbers_of, octets_of}
-use Rattle.plist_canon.specs.Rules.{HoldsText}
+use Rattle.plist_object.specs.Places.{HoldsText}
 use Rattle.plist_canon.specs.Checking.{AreInOrder}
 use Rattle.plist_canon.specs.Turns.{HaveTurned, AreJudgedFrom}
 use Rattle.plist_canon.proofs.Turning.{IsLastKey}

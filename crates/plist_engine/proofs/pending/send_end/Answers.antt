@@ -3,10 +3,11 @@ use Rattle.std.specs.Prelude.{All}
 use Rattle.std.specs.List.{concat}
 use Rattle.std.proofs.lemmas.Result.{err_from_is_err_and}
 use Rattle.plist_object.specs.Spelling.{least_width, references}
-use Rattle.plist_engine.specs.Canonical.{starts, trailer_octets}
+use Rattle.plist_object.specs.Files.{starts}
+use Rattle.plist_engine.specs.Canonical.{trailer_octets}
 use Rattle.plist_engine.specs.declared.pending.Pending.{Pending}
 use Rattle.plist_engine.specs.Pending.{AreBefore, end_of}
-use Rattle.plist_engine.proofs.File.{length-starts}
+use Rattle.plist_object.proofs.Files.{length-starts}
 use Rattle.plist_engine.proofs.FileSteps.{file-length, starts-fit}
 use Rattle.plist_engine.proofs.Gathering.{Gathers-append, Stops-front, Stops-behind, Goes-err}
 use Rattle.plist_engine.proofs.pending.send_end.Goals as goal

@@ -3,7 +3,8 @@ use Rattle.std.specs.List.{concat}
 use Rattle.std.proofs.lemmas.Result.{err_from_is_err_and}
 use Rattle.plist_object.specs.Spelling.{least_width}
 use Rattle.plist_object.specs.Views.{octets_of}
-use Rattle.plist_engine.specs.Canonical.{file_of, starts}
+use Rattle.plist_object.specs.Files.{starts}
+use Rattle.plist_engine.specs.Canonical.{file_of}
 use Rattle.plist_engine.specs.Pending.{AreBefore}
 use Rattle.plist_engine.specs.declared.pending.Pending.{Pending}
 use Rattle.plist_engine.proofs.FileSteps.{file-length, file-stops, file-goes}

@@ -1,7 +1,7 @@
 use Rattle.std.proofs.Common.{◌≡◌, ℕ, ◌+◌, ◌≤◌, List, ◌++◌, length, drop, vec_len, vec_capacity}
 use Rattle.std.specs.List.{concat}
 use Rattle.plist_object.specs.Views.{octets_of}
-use Rattle.plist_engine.specs.Canonical.{starts}
+use Rattle.plist_object.specs.Files.{starts}
 use Rattle.plist_engine.specs.Pieces.{CanSpellAll}
 use Rattle.plist_engine.specs.Parts.{AreSound, helds_of, octets_for, octets_planned}
 use Rattle.plist_engine.specs.Sending.{Allows}

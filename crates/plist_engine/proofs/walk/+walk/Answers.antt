@@ -9,7 +9,8 @@ use Rattle.plist_object.specs.Places.{Holds}
 use Rattle.plist_engine.specs.Memo.{kept, single}
 use Rattle.plist_engine.specs.declared.plan.Plan.{Plan}
 use Rattle.plist_engine.specs.Plan.{ItemsWalked, IsUnmet, KnowsScalars}
-use Rattle.plist_engine.specs.Spelling.{SpellsWithin, SpellWithin, in_turn}
+use Rattle.plist_engine.specs.Spelling.{SpellWithin, in_turn}
+use Rattle.plist_object.specs.Spelled.{SpellsWithin}
 use Rattle.plist_engine.proofs.Filling.{filling-start, filling-long, filling-object, filling-next, filling-end, kept-behind}
 use Rattle.plist_engine.proofs.Within.{read_within, levels_within, items_within, table_within, is_table, flat_within, value_within}
 use Rattle.plist_engine.proofs.Walked.{walked-scalar, walked-list, walked-table, walked-next, walked-none}

@@ -16,7 +16,7 @@ use Rattle.ostep_text.proofs.Exits.{passed_on, no_ok, none_ok, on_ok, both_ok}
 use Rattle.plist_value.specs.declared.value.Value
 use Rattle.plist_value.proofs.Shown.{view-text, view-bytes, view-list, view-table}
 use Rattle.ostep_text.proofs.TokenKinds.{leads-nowhere, item-begun, item-ended, row-ended, key-ended, table-ended, value-ended, value-none}
-use Rattle.ostep_text.proofs.PhraseSteps.{push, view_items-push}
+use Rattle.plist_value.proofs.Items.{push, view_items-push}
 use Rattle.ostep_text.proofs.SortingSteps.{has_key-looked}
 use Rattle.ostep_text.proofs.PlaceSteps.{known-has, new-value}
 use Rattle.std.specs.Cmp.Lexicographic.{slice_cmp}

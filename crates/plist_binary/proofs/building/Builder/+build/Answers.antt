@@ -23,7 +23,7 @@ use Rattle.plist_binary.proofs.BuildSteps.{HoldsSome-within, AllSpellWithin-list
 use Rattle.plist_binary.proofs.Entering.{some_level}
 use Rattle.plist_binary.proofs.Inserting.{same_key}
 use Rattle.plist_binary.proofs.Placed.{distinct_places_moved, places_within_moved, pairs_moved}
-use Rattle.plist_binary.proofs.Sequences.{push, view_items-push}
+use Rattle.plist_value.proofs.Items.{push, view_items-push}
 use Rattle.plist_value.proofs.Shown.{view-table}
 use Rattle.plist_binary.proofs.Sorting.{seen_sorted}
 use Rattle.plist_binary.proofs.TableSteps.{length-texts, length-items, PairsSpelled-entries}

@@ -6,11 +6,11 @@ use Rattle.plist_value.specs.Scalars.{content_of}
 use Rattle.plist_value.specs.Texts.{units_of}
 use Rattle.plist_value.specs.declared.TheConstants.{MAX_DEPTH}
 use Rattle.plist_object.specs.Objects.{holds_scalar}
-use Rattle.plist_object.specs.Places.{Holds}
-use Rattle.plist_object.specs.Spelled.{Spells}
+use Rattle.plist_object.specs.Places.{Holds, HoldsText}
+use Rattle.plist_object.specs.Spelled.{Spells, SpellsWithin}
 use Rattle.plist_object.specs.Views.{octets_of, numbers_of}
 use Rattle.plist_engine.proofs.Gathering.{Gathers-same, Stops-behind, Goes-ok}
-use Rattle.plist_engine.specs.Spelling.{SpellsWithin, SpellWithin, HoldsText}
+use Rattle.plist_engine.specs.Spelling.{SpellWithin}
 use Rattle.plist_engine.proofs.Within.{read_within, levels_within, items_within, table_within, value_within}
 use Rattle.plist_print.specs.Printed.{printed_at, printed_items, printed_pairs}
 use Rattle.plist_print.specs.Printing.{item_head, item_lines, pair_head, pair_lines}
@@ -222,7 +222,7 @@ pairs-pair-requires g t c κs within =
     let far : length refs / 2 + i < length refs = omega (arith, c.loop-i-test.true) in
     let at = pair_at f all.rows c.args.level i all.pairs below all.valid all.spell in
     let key = c.from-key.ensures ∙ turn_key refs all.rows all.turn i below in
-    let named = subst (λ (n : ℕ). HoldsText f n) (sym key) (record { units = at.key; holds = at.named }) in
+    let named = subst (λ (n : ℕ). HoldsText f n) (sym key) (at.key, at.named) in
     let one = subst (λ (n : ℕ). SpellsWithin f n (MAX_DEPTH - c.args.level)) (sym c.from-object.ensures) (turn_within f refs (MAX_DEPTH - c.args.level) (length refs / 2 + i) all far) in
     (omega (arith, c.decreases), (within, (named, (one, c.loop-i.invariant.seen))))
 

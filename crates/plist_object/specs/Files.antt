@@ -12,7 +12,7 @@ starts k (object ∷ objects) = k ∷ starts (k + length object) objects
 
 -- The last 32 octets: six zero octets, the widths of an offset and of a reference, how many objects
 -- there are, the number of the top object, and the place of the offset table.
-unfoldable pub trailer_with : ℕ → ℕ → ℕ → ℕ → ℕ → List ℕ
+abbrev pub trailer_with : ℕ → ℕ → ℕ → ℕ → ℕ → List ℕ
 trailer_with offset_width reference_width count top place =
     replicate 6 0 ++ (offset_width ∷ reference_width ∷ (big_bytes 8 count ++ (big_bytes 8 top ++ big_bytes 8 place)))
 

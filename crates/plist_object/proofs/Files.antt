@@ -5,13 +5,12 @@ use Rattle.std.proofs.lemmas.List.{take_at, drop_at, drop-drop, get_or-drop, app
 use Rattle.std.proofs.Math.Nat.{mul-le-mul_right}
 use Rattle.byteorder.specs.Endian.{big_number, big_bytes}
 use Rattle.byteorder.specs.Numbers.{length-bytes_high_first, big_number-reads_back}
-use Rattle.plist_value.specs.Plist.{AllUnder}
 use Rattle.plist_object.specs.Layout.{header, Trailer, trailer_of, IsLaid}
 use Rattle.plist_object.specs.Objects.{object_in}
 use Rattle.plist_object.specs.Places.{place_of, octets_at, object_at}
 use Rattle.plist_object.specs.Spelling.{references}
 use Rattle.plist_object.proofs.Counts.{length-references}
-use Rattle.plist_draft.specs.Files.{starts, trailer_with, file_with}
+use Rattle.plist_object.specs.Files.{starts, trailer_with, file_with}
 
 pub length-starts : (k : ℕ) (objects : List (List ℕ)) → length (starts k objects) ≡ length objects
 length-starts k [] = refl
@@ -109,7 +108,6 @@ abbrev pub trailer_for : ℕ → ℕ → ℕ → ℕ → ℕ → Trailer
 trailer_for w r n top t = record { offset_width = w; reference_width = r; count = n; top = top; table = t }
 
 pub trailer_of-ended : (front : List ℕ) (w r n top t : ℕ) → n < 18446744073709551616 → top < 18446744073709551616 → t < 18446744073709551616 → trailer_of (front ++ trailer_with w r n top t) ≡ trailer_for w r n top t
-unfolding trailer_with
 trailer_of-ended front w r n top t n_fits top_fits t_fits =
     let zeros : List ℕ = replicate 6 0 in
     let a = width_at front zeros w r (big_bytes 8 n) (big_bytes 8 top) (big_bytes 8 t) refl refl refl refl in
@@ -133,7 +131,6 @@ pub before_table : (a b c d : List ℕ) → a ++ (b ++ (c ++ d)) ≡ (a ++ b) ++
 before_table a b c d = sym (append_assoc a b (c ++ d))
 
 pub length-file_with : (w r top : ℕ) (objects : List (List ℕ)) → length (file_with w r top objects) ≡ 8 + length (concat objects) + w * length objects + 32
-unfolding trailer_with
 length-file_with w r top objects =
     let entries = length-references w (starts 8 objects) in
     let count = length-starts 8 objects in
@@ -149,7 +146,7 @@ pub record CanStand (w r top : ℕ) (objects : List (List ℕ)) : Type 0 where
   pub reference_width_most : r ≤ 8
   pub top_below : top < length objects
   pub each : (i : ℕ) → i < length objects → 1 ≤ length (get_or objects i [])
-  pub starts_fit : AllUnder (256 ^ w) (starts 8 objects)
+  pub starts_fit : (i : ℕ) → i < length objects → get_or (starts 8 objects) i 0 < 256 ^ w
   pub count_fits : length objects < 18446744073709551616
   pub table_fits : 8 + length (concat objects) < 18446744073709551616
 
@@ -206,7 +203,7 @@ module _ (w r top : ℕ) (objects : List (List ℕ)) (can : CanStand w r top obj
       let past = drop_at (header ++ concat objects) (entries ++ tail) t (length-append header (concat objects)) in
       let behind : drop t f ≡ entries ++ tail = ap (drop t) (before_table header (concat objects) entries tail) ∙ past in
       let listed = length-starts 8 objects in
-      let read = references-read w (starts 8 objects) tail i (omega arith) (can.starts_fit i) in
+      let read = references-read w (starts 8 objects) tail i (omega arith) (can.starts_fit i h) in
       fields ∙ ap (big_number w) (sym (drop-drop (i * w) t f) ∙ ap (drop (i * w)) behind) ∙ read
 
   -- an object is read from its octets, whatever stands behind them
