@@ -4,12 +4,7 @@ use Rattle.std.specs.Prelude.{nat_le}
 use Rattle.std.proofs.lemmas.Bool.{cases_Bool}
 use Rattle.std.proofs.lemmas.Bool.Decides.{nat_tests}
 use Rattle.plist_print.specs.Dates.{is_leap, days_in_month, days_of_months, days_before, last_such, year_of, month_of}
-
-le-tells : (a b : ℕ) → a ≤ b → nat_le a b ≡ true
-le-tells a b h = grind (arith, nat_tests)
-
-le-denied : (a b : ℕ) → b < a → nat_le a b ≡ false
-le-denied a b h = grind (arith, nat_tests)
+use Rattle.plist_print.proofs.Compared.{le-denied, le-tells}
 
 same-or-less : (k m : ℕ) → m ≤ k → (k ≡ m) ⊎ (m < k)
 same-or-less k m h = grind arith

@@ -2,12 +2,12 @@
 use Rattle.std.proofs.Common.{◌≡◌, ℕ, zero, suc, ◌+◌, ◌-◌, ◌*◌, ◌/◌, ◌%◌, ◌^◌, ◌<◌, ◌≤◌, true, false, ◌&&◌, Option, Some, None, ◌∷◌, refl, sym, ap, subst, ◌∙◌, arith, inl, inr}
 use Rattle.std.specs.Prelude.{nat_le, nat_lt, ◌==◌, if◌then◌else◌}
 use Rattle.std.proofs.lemmas.Bool.{cases_Bool}
-use Rattle.std.proofs.lemmas.Bool.Decides.{nat_tests}
 use Rattle.std.proofs.lemmas.Nat.{mul-le, div-add-mod', mod_below}
 use Rattle.std.proofs.Math.Nat.{pow-le-pow_right, div-mul-le_self, mod-eq-sub-div-mul}
 use Rattle.plist_print.specs.Reals.{Format, Placed, single, double, value_of, nearest, reads_as, shortest, placed_in, decimal_of, last_digits}
 use Rattle.plist_print.specs.Shown.{halved}
 use Rattle.plist_print.proofs.Scaling.{shortest-halved}
+use Rattle.plist_print.proofs.Compared.{is-denied, le-denied, le-tells, lt-denied, lt-tells}
 
 -- the numerator that is tried at a power of ten
 abbrev pub tried : Placed → ℕ → Option ℕ
@@ -68,24 +68,6 @@ reads-told x over total pos is short =
     let fits : nat_lt n (2 ^ 128) ≡ true = lt-tells n (2 ^ 128) (omega arith) in
     ap (reads_as x over) near ∙ ap (λ t. t && (nat_le ((x.below + x.here) * over) (2 * (n * x.unit)) && nat_lt (2 * (n * x.unit)) ((x.here + x.above) * over))) fits
     ∙ ap (λ m. nat_le ((x.below + x.here) * over) m && nat_lt m ((x.here + x.above) * over)) middle
-  where
-    lt-tells : (a b : ℕ) → a < b → nat_lt a b ≡ true
-    lt-tells a b h = grind (arith, nat_tests)
-
-le-tells : (a b : ℕ) → a ≤ b → nat_le a b ≡ true
-le-tells a b h = grind (arith, nat_tests)
-
-lt-tells : (a b : ℕ) → a < b → nat_lt a b ≡ true
-lt-tells a b h = grind (arith, nat_tests)
-
-le-denied : (a b : ℕ) → b < a → nat_le a b ≡ false
-le-denied a b h = grind (arith, nat_tests)
-
-lt-denied : (a b : ℕ) → b ≤ a → nat_lt a b ≡ false
-lt-denied a b h = grind (arith, nat_tests)
-
-is-denied : (a b : ℕ) → (a ≡ b → ⊥) → (a == b) ≡ false
-is-denied a b h = grind (arith, nat_tests)
 
 pub zero-double : decimal_of double 0 ≡ Some (0, 1)
 unfolding decimal_of value_of

@@ -2,9 +2,8 @@
 use Rattle.std.proofs.Common.{◌≡◌, ℕ, ◌<◌, ◌≤◌, false, cond, ◌||◌, List, [], ◌∷◌, ◌++◌, refl, sym, ap, subst, arith, inl, inr}
 use Rattle.std.specs.Prelude.{◌==◌}
 use Rattle.std.specs.Char.{digit_value}
-use Rattle.std.proofs.lemmas.Bool.{cases_Bool}
-use Rattle.std.proofs.lemmas.Bool.Decides.{nat_tests}
 use Rattle.std.specs.Str.Parse.{AllDigits}
+use Rattle.plist_print.proofs.Compared.{is-denied}
 
 abbrev pub head_of : List ℕ → ℕ
 head_of [] = 0
@@ -43,11 +42,8 @@ abbrev pub kind_of_head : ℕ → ℕ
 kind_of_head h =
     cond (h == 34) 0 (cond (h == 116 || h == 102) 2 (cond (h == 100) 3 (cond (h == 60) 4 (cond (h == 91) 5 (cond (h == 123) 6 1)))))
 
-eqb-from_apart : (x y : ℕ) → (x ≡ y → ⊥) → (x == y) ≡ false
-eqb-from_apart x y apart = elim (cases_Bool (x == y)) [ inl is ↦ absurd (apart (grind (arith, nat_tests))) | inr not ↦ not ]
-
 no-digit : (d c : ℕ) → digit_value d < 10 → EndsDigits c → (d == c) ≡ false
-no-digit d c h ends = eqb-from_apart d c (λ same. unlike c d ends h (sym same))
+no-digit d c h ends = is-denied d c (λ same. unlike c d ends h (sym same))
 
 digit-kind : (d : ℕ) → digit_value d < 10 → kind_of_head d ≡ 1
 digit-kind d h =

@@ -1,4 +1,5 @@
 pub mod Rows
+pub mod Compared
 pub mod Fronts
 pub mod UnitFronts
 pub mod Neighbours
@@ -8,11 +9,9 @@ pub mod Scaling
 pub mod Steps
 pub mod Deciding
 pub mod Calendar
-pub mod DateFronts
 pub mod PrintSteps
 pub mod Enclosing
 pub mod Turns
-pub mod Ending
 pub mod Plain
 pub mod Fewest
 pub mod Padding

@@ -6,6 +6,7 @@ use Rattle.std.proofs.lemmas.Bool.Decides.{nat_tests}
 use Rattle.std.proofs.lemmas.Nat.{mul-le, div-mul-add, mod-mul-add, div-add-mod', mod_below}
 use Rattle.std.proofs.Math.Nat.{pow-suc}
 use Rattle.plist_print.specs.Reals.{Format, Placed, value_of, nearest, reads_as, shortest, placed_in, decimal_of, is_moderate}
+use Rattle.plist_print.proofs.Compared.{le-told, lt-told}
 
 below-hidden : (h b : ℕ) → b < h → value_of h b ≡ b
 unfolding value_of
@@ -114,12 +115,6 @@ pub record Between (x : Placed) (over n : ℕ) : Type 0 where
   pub short : n < 2 ^ 128
   pub from : (x.below + x.here) * over ≤ 2 * (n * x.unit)
   pub to : 2 * (n * x.unit) < (x.here + x.above) * over
-
-le-told : (a b : ℕ) → nat_le a b ≡ true → a ≤ b
-le-told a b e = grind (arith, nat_tests)
-
-lt-told : (a b : ℕ) → nat_lt a b ≡ true → a < b
-lt-told a b e = grind (arith, nat_tests)
 
 pub between : (x : Placed) (over n : ℕ) → reads_as x over n ≡ true → Between x over n
 between x over n e =

@@ -5,6 +5,7 @@ use Rattle.std.specs.Char.Utf16.{is_high_surrogate}
 use Rattle.std.proofs.lemmas.Bool.Decides.{nat_tests}
 use Rattle.std.proofs.lemmas.Str.{encode_ascii}
 use Rattle.plist_print.specs.Units.{is_unseen, printed_unit, printed_units}
+use Rattle.plist_print.proofs.Compared.{is-denied}
 
 if-false : (b : Bool) (xs ys : List ℕ) → b ≡ false → (if b then xs else ys) ≡ ys
 if-false false xs ys e = refl
@@ -17,9 +18,6 @@ pub record IsPlain (u : ℕ) : Type 0 where
   pub quote : u ≡ 34 → ⊥
   pub backslash : u ≡ 92 → ⊥
 
-not-equal : (x y : ℕ) → (x ≡ y → ⊥) → (x == y) ≡ false
-not-equal x y h = grind (arith, nat_tests)
-
 seen : (u : ℕ) → 32 ≤ u → u < 127 → is_unseen u ≡ false
 seen u low high = grind (arith, nat_tests)
 
@@ -29,11 +27,11 @@ no-high u high = grind (arith, nat_tests)
 one : (u : ℕ) → IsPlain u → printed_unit u ≡ u ∷ []
 unfolding printed_unit
 one u p =
-    if-false (u == 34) _ _ (not-equal u 34 p.quote)
-    ∙ if-false (u == 92) _ _ (not-equal u 92 p.backslash)
-    ∙ if-false (u == 10) _ _ (not-equal u 10 (λ e. omega (arith, e, p.low)))
-    ∙ if-false (u == 9) _ _ (not-equal u 9 (λ e. omega (arith, e, p.low)))
-    ∙ if-false (u == 13) _ _ (not-equal u 13 (λ e. omega (arith, e, p.low)))
+    if-false (u == 34) _ _ (is-denied u 34 p.quote)
+    ∙ if-false (u == 92) _ _ (is-denied u 92 p.backslash)
+    ∙ if-false (u == 10) _ _ (is-denied u 10 (λ e. omega (arith, e, p.low)))
+    ∙ if-false (u == 9) _ _ (is-denied u 9 (λ e. omega (arith, e, p.low)))
+    ∙ if-false (u == 13) _ _ (is-denied u 13 (λ e. omega (arith, e, p.low)))
     ∙ if-false (is_unseen u) _ _ (seen u p.low p.high)
     ∙ encode_ascii u (omega (arith, p.high))
 

@@ -1,4 +1,4 @@
--- A real that is printed is known by its front.
+-- A real or a date that is printed is known by its front.
 use Rattle.std.proofs.Common.{◌≡◌, ℕ, zero, suc, ◌+◌, ◌*◌, ◌/◌, ◌%◌, ◌^◌, ◌<◌, ◌≤◌, Bool, true, false, Option, Some, None, List, [], ◌∷◌, ◌++◌, length, refl, sym, ap, subst, ◌∙◌, arith, append_assoc, inl, inr}
 use Rattle.std.specs.Prelude.{nat_le, nat_lt, ◌==◌, codes, decimal, flat_map}
 use Rattle.std.specs.Char.{digit_value}
@@ -16,9 +16,11 @@ use Rattle.plist_value.specs.Plist.{AreOctets, IsOctetsOf}
 use Rattle.plist_object.proofs.SameOctets.{big_bytes-big_number}
 use Rattle.plist_print.specs.Units.{two_digits, printed_data}
 use Rattle.plist_print.specs.Reals.{Format, single, double, reads_as, placed_in, decimal_of, last_digits, printed_decimal, printed_size, printed_real}
+use Rattle.plist_print.specs.Dates.{second_of, in_brackets, printed_date}
 use Rattle.plist_print.proofs.Fronts.{head_of, tail_of, heads, tails, EndsDigits, digits-front, kind_of_head, digits-kind}
 use Rattle.plist_print.proofs.UnitFronts.{data-front}
 use Rattle.plist_print.proofs.Neighbours.{between, one-real, decimal-reads}
+use Rattle.plist_print.proofs.Compared.{equal, gt-told, le-told}
 
 -- how the size of a real is printed
 pub data Shape : Type 0 where
@@ -177,9 +179,6 @@ shaped-finite f xs bits octets low (Some d) e =
 shaped-finite f xs bits octets low None e =
     record { shape = as_octets xs; sized = far; valid = octets; is = rw (low, e) refl }
 
-equal : (x y : ℕ) → (x == y) ≡ true → x ≡ y
-equal x y e = grind (arith, nat_tests)
-
 shaped : (f : Format) (xs : List ℕ) (bits : ℕ) → AreOctets xs → Shaped f xs bits
 shaped f xs bits octets = elim (cases_Bool (nat_lt bits f.infinite)) [
   | inl low ↦ shaped-finite f xs bits octets low (decimal_of f bits) refl
@@ -238,12 +237,6 @@ same-bits f xs ys a b _ _ pos h e none (infinite was) = absurd (let x : 3 ≡ 2 
 pub record IsFormat (f : Format) : Type 0 where
   pub positive : 0 < f.hidden
   pub halves : (x y : ℕ) → x < 256 ^ f.octets → y < 256 ^ f.octets → nat_le f.sign x ≡ nat_le f.sign y → x % f.sign ≡ y % f.sign → x ≡ y
-
-le-told : (a b : ℕ) → nat_le a b ≡ true → a ≤ b
-le-told a b e = grind (arith, nat_tests)
-
-gt-told : (a b : ℕ) → nat_le a b ≡ false → b < a
-gt-told a b e = grind (arith, nat_tests)
 
 halves-4 : (x y : ℕ) → x < 4294967296 → y < 4294967296 → nat_le 2147483648 x ≡ nat_le 2147483648 y → x % 2147483648 ≡ y % 2147483648 → x ≡ y
 halves-4 x y h k same e = elim (cases_Bool (nat_le 2147483648 x)) [
@@ -356,3 +349,28 @@ real-whole f negative ds xs r x h k same =
     let a = shaped f xs (big_number f.octets xs % f.sign) k in
     let minus = nat_le f.sign (big_number f.octets xs) in
     signed-whole negative minus ds a.shape r x h a.valid (same ∙ ap (λ t. (sign_text minus ++ t) ++ x) a.is)
+
+-- what stands behind the seconds begins with no digit
+record Behind (moment : Option ℕ) (r : List ℕ) : Type 0 where
+  head : ℕ
+  rest : List ℕ
+  ends : EndsDigits head
+  is : in_brackets moment ++ (10 ∷ r) ≡ head ∷ rest
+
+behind : (moment : Option ℕ) (r : List ℕ) → Behind moment r
+behind None r = record { head = 10; rest = r; ends = omega arith; is = refl }
+behind (Some second) r =
+    record { head = 32; rest = tail_of (in_brackets (Some second) ++ (10 ∷ r)); ends = omega arith; is = refl }
+
+seconds-first : (xs r : List ℕ) (b : Behind (second_of xs) r) → printed_date xs ++ (10 ∷ r) ≡ printed_real double xs ++ (b.head ∷ b.rest)
+seconds-first xs r b =
+    append_assoc (printed_real double xs) (in_brackets (second_of xs)) (10 ∷ r) ∙ ap (λ t. printed_real double xs ++ t) b.is
+
+-- the seconds tell the octets, and the octets the moment
+pub date-front : (xs ys r s : List ℕ) → IsOctetsOf 8 xs → IsOctetsOf 8 ys → printed_date xs ++ (10 ∷ r) ≡ printed_date ys ++ (10 ∷ s) → (xs ≡ ys) × (r ≡ s)
+date-front xs ys r s h k same =
+    let a = behind (second_of xs) r in
+    let b = behind (second_of ys) s in
+    let both = real-front double xs ys a.head b.head a.rest b.rest double-format h k a.ends b.ends (sym (seconds-first xs r a) ∙ same ∙ seconds-first ys s b) in
+    let moment = ap (λ zs. in_brackets (second_of zs) ++ (10 ∷ s)) (sym both.0) in
+    (both.0, tails 10 10 r s (append_cancel_left (in_brackets (second_of xs)) (10 ∷ r) (10 ∷ s) (a.is ∙ both.1 ∙ sym b.is ∙ moment)))

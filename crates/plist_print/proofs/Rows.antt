@@ -13,21 +13,9 @@ pub printed_three : printed (scalar (real8 (0x40 ∷ 0x0a ∷ 0 ∷ 0 ∷ 0 ∷ 
 unfolding decimal_of value_of digits
 printed_three = refl
 
-pub printed_tenth : printed (scalar (real8 (0x3f ∷ 0xb9 ∷ 0x99 ∷ 0x99 ∷ 0x99 ∷ 0x99 ∷ 0x99 ∷ 0x9a ∷ []))) ≡ codes "0.1\n"
-unfolding decimal_of value_of digits
-printed_tenth = refl
-
 pub printed_small : printed (scalar (real4 (0x40 ∷ 0x50 ∷ 0 ∷ 0 ∷ []))) ≡ codes "3.25f\n"
 unfolding decimal_of value_of digits
 printed_small = refl
-
-pub printed_three_tenths : printed (scalar (real8 (0x3f ∷ 0xd3 ∷ 0x33 ∷ 0x33 ∷ 0x33 ∷ 0x33 ∷ 0x33 ∷ 0x34 ∷ []))) ≡ codes "0.30000000000000004\n"
-unfolding decimal_of value_of digits
-printed_three_tenths = refl
-
-pub printed_less_than_zero : printed (scalar (real8 (0x80 ∷ 0 ∷ 0 ∷ 0 ∷ 0 ∷ 0 ∷ 0 ∷ 0 ∷ []))) ≡ codes "-0.0\n"
-unfolding decimal_of value_of digits
-printed_less_than_zero = refl
 
 pub printed_infinity : printed (scalar (real4 (0xff ∷ 0x80 ∷ 0 ∷ 0 ∷ []))) ≡ codes "-infinityf\n"
 printed_infinity = refl
@@ -43,23 +31,15 @@ pub printed_date : printed (scalar (moment (0x41 ∷ 0xc7 ∷ 0x69 ∷ 0x26 ∷ 
 unfolding decimal_of value_of digits second_of printed_moment printed_day printed_month printed_time year_of month_of days_of_months
 printed_date = refl
 
-pub printed_date_below_zero : printed (scalar (moment (0x80 ∷ 0 ∷ 0 ∷ 0 ∷ 0 ∷ 0 ∷ 0 ∷ 0 ∷ []))) ≡ codes "date -0.0 (2001-01-01T00:00:00Z)\n"
-unfolding decimal_of value_of digits second_of printed_moment printed_day printed_month printed_time year_of month_of days_of_months
-printed_date_below_zero = refl
-
 -- no whole second
 pub printed_date_half : printed (scalar (moment (0x3f ∷ 0xe0 ∷ 0 ∷ 0 ∷ 0 ∷ 0 ∷ 0 ∷ 0 ∷ []))) ≡ codes "date 0.5\n"
 unfolding decimal_of value_of digits second_of printed_moment printed_day printed_month printed_time year_of month_of days_of_months
 printed_date_half = refl
 
--- the first and the last moment that are in brackets, and the seconds before and behind them
+-- the first and the last moment that are in brackets, and the second behind them
 pub printed_date_first : printed (scalar (moment (0xc2 ∷ 0x2d ∷ 0x63 ∷ 0xc3 ∷ 0x7f ∷ 0 ∷ 0 ∷ 0 ∷ []))) ≡ codes "date -63113904000.0 (0001-01-01T00:00:00Z)\n"
 unfolding decimal_of value_of digits second_of printed_moment printed_day printed_month printed_time year_of month_of days_of_months
 printed_date_first = refl
-
-pub printed_date_before : printed (scalar (moment (0xc2 ∷ 0x2d ∷ 0x63 ∷ 0xc3 ∷ 0x7f ∷ 0x02 ∷ 0 ∷ 0 ∷ []))) ≡ codes "date -63113904001.0\n"
-unfolding decimal_of value_of digits second_of printed_moment printed_day printed_month printed_time year_of month_of days_of_months
-printed_date_before = refl
 
 pub printed_date_last : printed (scalar (moment (0x42 ∷ 0x4d ∷ 0x62 ∷ 0xd2 ∷ 0x3c ∷ 0x7f ∷ 0x80 ∷ 0 ∷ []))) ≡ codes "date 252423993599.0 (9999-12-31T23:59:59Z)\n"
 unfolding decimal_of value_of digits second_of printed_moment printed_day printed_month printed_time year_of month_of days_of_months
@@ -69,10 +49,6 @@ pub printed_date_behind : printed (scalar (moment (0x42 ∷ 0x4d ∷ 0x62 ∷ 0x
 unfolding decimal_of value_of digits second_of printed_moment printed_day printed_month printed_time year_of month_of days_of_months
 printed_date_behind = refl
 
-pub printed_date_far : printed (scalar (moment (0x7e ∷ 0x37 ∷ 0xe4 ∷ 0x3c ∷ 0x88 ∷ 0 ∷ 0x75 ∷ 0x9c ∷ []))) ≡ codes "date real <7e37e43c8800759c>\n"
-unfolding decimal_of value_of digits second_of printed_moment printed_day printed_month printed_time year_of month_of days_of_months
-printed_date_far = refl
-
 -- days of the calendar, counted from 0 for 0001-01-01
 pub first_of_2001 : days_before 2001 ≡ 730485
 first_of_2001 = refl
@@ -81,29 +57,13 @@ pub leap_century : printed_day 730178 ≡ codes "2000-02-29"
 unfolding printed_day printed_month year_of month_of days_of_months
 leap_century = refl
 
-pub century : printed_day 693653 ≡ codes "1900-02-28"
-unfolding printed_day printed_month year_of month_of days_of_months
-century = refl
-
 pub after_century : printed_day 693654 ≡ codes "1900-03-01"
 unfolding printed_day printed_month year_of month_of days_of_months
 after_century = refl
 
-pub leap_day : printed_day 738944 ≡ codes "2024-02-29"
-unfolding printed_day printed_month year_of month_of days_of_months
-leap_day = refl
-
 pub year_end : printed_day 738884 ≡ codes "2023-12-31"
 unfolding printed_day printed_month year_of month_of days_of_months
 year_end = refl
-
-pub year_begin : printed_day 738885 ≡ codes "2024-01-01"
-unfolding printed_day printed_month year_of month_of days_of_months
-year_begin = refl
-
-pub leap_year_end : printed_day 739250 ≡ codes "2024-12-31"
-unfolding printed_day printed_month year_of month_of days_of_months
-leap_year_end = refl
 
 pub printed_escapes : printed (scalar (text (34 ∷ 92 ∷ 10 ∷ 9 ∷ 13 ∷ 7 ∷ 126 ∷ 127 ∷ []))) ≡ codes "\"\\\"\\\\\\n\\t\\r\\U0007~\\U007f\"\n"
 unfolding printed_unit encode_utf8

@@ -10,6 +10,7 @@ use Rattle.std.proofs.lemmas.Str.{digit_value-digit_char, encode_same, encode_as
 use Rattle.plist_value.specs.Plist.{AreUnits, AreOctets}
 use Rattle.plist_print.specs.Units.{two_digits, is_unseen, printed_unit, printed_units}
 use Rattle.plist_print.proofs.Fronts.{heads, tails}
+use Rattle.plist_print.proofs.Compared.{equal, unlike}
 
 -- the unit that an escape of one letter stands for
 abbrev unescaped : ℕ → ℕ
@@ -25,12 +26,6 @@ if-shown : (b : Bool) (u : ℕ) (xs ys : List ℕ) → (b ≡ true → Shown u x
 if-shown true u xs ys h k = h refl
 if-shown false u xs ys h k = k refl
 
-equal : (x y : ℕ) → (x == y) ≡ true → x ≡ y
-equal x y e = grind (arith, nat_tests)
-
-apart : (x y : ℕ) → (x == y) ≡ false → x ≡ y → ⊥
-apart x y e = grind (arith, nat_tests)
-
 by_letter : (u e : ℕ) → (e ≡ 85 → ⊥) → u ≡ unescaped e → Shown u (92 ∷ e ∷ [])
 by_letter u e h is = subst (λ (v : ℕ). Shown v (92 ∷ e ∷ [])) (sym is) (letter e h)
 
@@ -42,7 +37,7 @@ shown u =
     if-shown (u == 10) u _ _ (λ e. by_letter u 110 (λ h. omega arith) (equal u 10 e)) (λ n.
     if-shown (u == 9) u _ _ (λ e. by_letter u 116 (λ h. omega arith) (equal u 9 e)) (λ t.
     if-shown (u == 13) u _ _ (λ e. by_letter u 114 (λ h. omega arith) (equal u 13 e)) (λ r.
-    if-shown (is_unseen u) u _ _ (λ e. number u) (λ e. itself u (apart u 34 q) (apart u 92 b)))))))
+    if-shown (is_unseen u) u _ _ (λ e. number u) (λ e. itself u (unlike u 34 q) (unlike u 92 b)))))))
 
 two-front : (x y : ℕ) (r s : List ℕ) → x < 256 → y < 256 → two_digits x ++ r ≡ two_digits y ++ s → (x ≡ y) × (r ≡ s)
 two-front x y r s h k e =

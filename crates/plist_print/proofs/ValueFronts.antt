@@ -13,8 +13,7 @@ use Rattle.plist_print.specs.Dates.{printed_date}
 use Rattle.plist_print.specs.Printed.{printed_scalar, indent, printed_at, printed_items, printed_pairs}
 use Rattle.plist_print.proofs.Fronts.{head_of, tail_of, heads, tails, EndsDigits, digits-front, kind_of_head, digits-kind}
 use Rattle.plist_print.proofs.UnitFronts.{units-front, data-front}
-use Rattle.plist_print.proofs.DateFronts.{date-front}
-use Rattle.plist_print.proofs.RealFronts.{single-format, double-format, real-front, reals-part, real-kind, real-whole}
+use Rattle.plist_print.proofs.RealFronts.{date-front, single-format, double-format, real-front, reals-part, real-kind, real-whole}
 
 -- the digits of a whole number, or of its size
 abbrev size_of : ℤ → ℕ

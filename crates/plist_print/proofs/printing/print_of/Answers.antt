@@ -4,7 +4,7 @@ use Rattle.plist_object.specs.Spelled.{Spells}
 use Rattle.plist_object.specs.Views.{octets_of}
 use Rattle.plist_engine.specs.declared.pending.Pending.{Pending}
 use Rattle.plist_print.specs.Printed.{printed}
-use Rattle.plist_print.proofs.Ending.{ends_early, ends_last, ends_whole}
+use Rattle.plist_print.proofs.Steps.{ends_early, ends_last, ends_whole}
 use Rattle.plist_print.proofs.printing.print_of.Goals as goal
 
 pub returns-in_err-value-clause-written : goal.returns-in_err-value-clause-written
