@@ -3,7 +3,7 @@ use Rattle.std.proofs.Common.{◌≡◌, ℕ, ◌+◌, ◌<◌, List, [], ◌++�
 use Rattle.std.proofs.lemmas.List.{append-nil}
 use Rattle.plist_engine.specs.declared.faults.WriteFault.{WriteFault}
 use Rattle.plist_engine.specs.declared.faults.WriteFault.TheVariants.{OutOfMemory}
-use Rattle.plist_engine.specs.Sending.{Sends}
+use Rattle.plist_engine.specs.Sending.{Sends, Allows}
 use Rattle.plist_engine.proofs.Sends.{Sends-none, Sends-no_memory, Sends-append, Sends-stop}
 use Rattle.plist_engine.specs.declared.pending.Pending.{Pending}
 use Rattle.plist_engine.specs.Pending.{Gathers, Stops, Goes}
@@ -121,3 +121,11 @@ room-left done rest all p q t u x y bound split gathers room =
 -- the last of the octets are all
 pub Gathers-same : (done all : List ℕ) (p q : Pending) (t u : Option (List ℕ)) (x y : ℕ) → done ≡ all → Gathers done p q t u x y → Gathers all p q t u x y
 Gathers-same done all p q t u x y same a = subst (λ (os : List ℕ). Gathers os p q t u x y) same a
+
+-- pieces of 4,096 octets are allowed, whatever objects are
+pub allows_none : (most : ℕ) (objects : List (List ℕ)) → Allows most objects → Allows most []
+allows_none most objects allows = record { least = allows.least; each = tt }
+
+-- octets behind others
+pub put-length : (before after octets : List ℕ) → after ≡ before ++ octets → length after ≡ length before + length octets
+put-length before after octets is = ap length is ∙ length-append before octets

@@ -15,8 +15,6 @@ pub mod Found
 pub mod Sends
 pub mod Gathering
 pub mod FileSteps
-pub mod PlaceSteps
-pub mod Shortness
 pub mod Keys
 pub mod Numbers
 pub mod Small

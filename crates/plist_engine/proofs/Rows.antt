@@ -1,7 +1,7 @@
 -- The canonical files of worked values, by computing.
-use Rattle.std.proofs.Common.{◌≡◌, ℕ, zero, suc, ◌+◌, ◌/◌, ◌%◌, pos, true, List, [], ◌∷◌, ◌++◌, length, take, drop, replicate, refl}
+use Rattle.std.proofs.Common.{◌≡◌, ℕ, zero, suc, ◌+◌, ◌/◌, ◌%◌, pos, List, [], ◌∷◌, ◌++◌, length, replicate, refl}
 use Rattle.plist_object.specs.Layout.{header}
-use Rattle.plist_value.specs.Plist.{text, whole, flag, bytes, Plist, scalar, list, table, Items, no_items, item, no_pairs, pair}
+use Rattle.plist_value.specs.Plist.{text, whole, bytes, Plist, scalar, list, table, Items, no_items, item, no_pairs, pair}
 use Rattle.plist_engine.specs.Canonical.{canon}
 
 -- the end of a file of fewer than 256 octets: so many objects, and the place of the offset table
@@ -17,10 +17,6 @@ b = scalar (text (98 ∷ []))
 empty-table : canon (table no_pairs) ≡ header ++ (208 ∷ 8 ∷ end_of 1 9)
 unfolding canon end_of
 empty-table = refl
-
-empty-table-size : length (canon (table no_pairs)) ≡ 42
-unfolding canon
-empty-table-size = refl
 
 -- keys ascend, and the values share the objects of the keys
 two-pairs : canon (table (pair (97 ∷ []) b (pair (98 ∷ []) a no_pairs))) ≡ header ++ (210 ∷ 1 ∷ 2 ∷ 2 ∷ 1 ∷ 81 ∷ 97 ∷ 81 ∷ 98 ∷ 8 ∷ 13 ∷ 15 ∷ end_of 3 17)
@@ -46,14 +42,6 @@ wide-keys : canon (table (pair (55296 ∷ 56320 ∷ []) b (pair (65377 ∷ []) a
 unfolding canon a b end_of
 wide-keys = refl
 
-one-flag : canon (list (item (scalar (flag true)) no_items)) ≡ header ++ (161 ∷ 1 ∷ 9 ∷ 8 ∷ 10 ∷ end_of 2 11)
-unfolding canon end_of
-one-flag = refl
-
-pair-of-surrogates : canon (scalar (text (55357 ∷ 56832 ∷ []))) ≡ header ++ (98 ∷ 216 ∷ 61 ∷ 222 ∷ 0 ∷ 8 ∷ end_of 1 13)
-unfolding canon end_of
-pair-of-surrogates = refl
-
 -- so many texts of three digits, of which the first is the number k
 three_digits : ℕ → ℕ → Items
 three_digits zero k = no_items
@@ -68,23 +56,6 @@ least-references = refl
 wider-references : length (canon (list (three_digits 255 0))) ≡ 2085
 unfolding canon three_digits
 wider-references = refl
-
--- how those lists begin, and where their offset tables stand: at 1281 and at 1541
-least-references-head : take 3 (drop 8 (canon (list (three_digits 254 0)))) ≡ 175 ∷ 16 ∷ 254 ∷ []
-unfolding canon three_digits
-least-references-head = refl
-
-least-references-table : drop 1821 (canon (list (three_digits 254 0))) ≡ 5 ∷ 1 ∷ []
-unfolding canon three_digits
-least-references-table = refl
-
-wider-references-head : take 3 (drop 8 (canon (list (three_digits 255 0)))) ≡ 175 ∷ 16 ∷ 255 ∷ []
-unfolding canon three_digits
-wider-references-head = refl
-
-wider-references-table : drop 2083 (canon (list (three_digits 255 0))) ≡ 6 ∷ 5 ∷ []
-unfolding canon three_digits
-wider-references-table = refl
 
 -- offsets of one octet, and of two
 least-offsets : length (canon (scalar (bytes (replicate 244 0)))) ≡ 288

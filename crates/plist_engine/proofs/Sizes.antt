@@ -160,3 +160,17 @@ length-kept all k (v ∷ rest) =
       | true ↦ omega arith
       | false ↦ omega arith
     ]
+
+-- a head has at most ten octets
+head_size-most : (n : ℕ) → head_size n ≤ 10
+head_size-most n =
+    elim (ltb n 15) as (λ short. cond short 1 (2 + least_width n) ≤ 10) [
+      | true ↦ omega arith
+      | false ↦ (let most = least_width-most n in omega arith)
+    ]
+
+pub head-most : (kind n : ℕ) → length (head kind n) ≤ 10
+head-most kind n =
+    let size = length-head kind n in
+    let most = head_size-most n in
+    omega arith

@@ -2,8 +2,8 @@ use Rattle.std.proofs.Common.{◌++◌, length, ap, refl, arith, length-append, 
 use Rattle.std.proofs.lemmas.Result.{err_from_is_err_and}
 use Rattle.plist_object.specs.Spelling.{head}
 use Rattle.plist_engine.specs.declared.pending.Pending.{Pending}
-use Rattle.plist_engine.proofs.Gathering.{Gathers-put, Gathers-append, Gathers-keep, Gathers-straight, Stops-behind, Stops-none, Stops-no_memory, Stops-straight, Goes-ok, Goes-err}
-use Rattle.plist_engine.proofs.Shortness.{head-most, put-length}
+use Rattle.plist_engine.proofs.Gathering.{Gathers-put, Gathers-append, Gathers-keep, Gathers-straight, Stops-behind, Stops-none, Stops-no_memory, Stops-straight, Goes-ok, Goes-err, put-length}
+use Rattle.plist_engine.proofs.Sizes.{head-most}
 use Rattle.plist_engine.proofs.pending.send_data.Goals as goal
 
 pub returns-in_default-clause-goes : goal.returns-in_default-clause-goes

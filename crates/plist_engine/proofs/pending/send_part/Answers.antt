@@ -2,8 +2,7 @@ use Rattle.std.proofs.Common.{◌≡◌, [], ◌++◌, length, ap, ◌∙◌, ar
 use Rattle.std.proofs.lemmas.Result.{err_from_is_err_and}
 use Rattle.plist_object.specs.Spelling.{head}
 use Rattle.plist_engine.specs.Pieces.{octets_in_part}
-use Rattle.plist_engine.proofs.Gathering.{Stops-none, Stops-behind, Stops-no_memory, Goes-err, Goes-behind}
-use Rattle.plist_engine.proofs.Shortness.{allows_none, put-length}
+use Rattle.plist_engine.proofs.Gathering.{Stops-none, Stops-behind, Stops-no_memory, Goes-err, Goes-behind, allows_none, put-length}
 use Rattle.plist_engine.proofs.pending.send_part.Goals as goal
 
 pub returns-in_err-make_room-in_default-clause-goes : goal.returns-in_err-make_room-in_default-clause-goes

@@ -1,14 +1,25 @@
-use Rattle.std.proofs.Common.{◌≡◌, ◌∙◌, ◌++◌, drop, get_or, refl, sym, arith}
-use Rattle.std.proofs.lemmas.List.{get_or_default}
+use Rattle.std.proofs.Common.{◌≡◌, ℕ, ◌+◌, ◌<◌, ◌≤◌, List, ◌∙◌, ◌++◌, length, drop, get_or, refl, sym, ap, append_assoc, arith}
+use Rattle.std.proofs.lemmas.List.{get_or_default, drop_more, drop_all, append-nil}
 use Rattle.std.proofs.lemmas.Result.{err_from_is_err_and}
 use Rattle.byteorder.specs.Endian.{big_bytes}
 use Rattle.byteorder.specs.Numbers.{length-bytes_high_first}
 use Rattle.plist_object.specs.Spelling.{references}
 use Rattle.plist_engine.specs.declared.pending.Pending.{Pending}
-use Rattle.plist_engine.proofs.Gathering.{Gathers-put, Gathers-append, Gathers-keep, Stops-none, Stops-next, Stops-no_memory, Gathers-same, Goes-ok, Goes-err, room-left}
-use Rattle.plist_engine.proofs.PlaceSteps.{entries-next, entries-end}
-use Rattle.plist_engine.proofs.Shortness.{put-length}
+use Rattle.plist_engine.proofs.Gathering.{Gathers-put, Gathers-append, Gathers-keep, Stops-none, Stops-next, Stops-no_memory, Gathers-same, Goes-ok, Goes-err, room-left, put-length}
 use Rattle.plist_engine.proofs.pending.send_places.Goals as goal
+
+-- the offset table, entry after entry
+entries-more : (width : ℕ) (places : List ℕ) (i place : ℕ) → place ≡ get_or places i place → i < length places → references width (drop i places) ≡ big_bytes width place ++ references width (drop (i + 1) places)
+entries-more width places i place is h =
+    ap (references width) (drop_more places i place h) ∙ ap (λ p. big_bytes width p ++ references width (drop (i + 1) places)) (sym is)
+
+entries-next : (width : ℕ) (places : List ℕ) (i place : ℕ) (done all : List ℕ) → place ≡ get_or places i place → i < length places → done ++ references width (drop i places) ≡ all → (done ++ big_bytes width place) ++ references width (drop (i + 1) places) ≡ all
+entries-next width places i place done all is h split =
+    append_assoc done (big_bytes width place) (references width (drop (i + 1) places)) ∙ ap (λ xs. done ++ xs) (sym (entries-more width places i place is h)) ∙ split
+
+entries-end : (width : ℕ) (places : List ℕ) (i : ℕ) (done all : List ℕ) → length places ≤ i → done ++ references width (drop i places) ≡ all → done ≡ all
+entries-end width places i done all past split =
+    sym (append-nil done) ∙ ap (λ xs. done ++ references width xs) (sym (drop_all i places past)) ∙ split
 
 pub make_room-requires : goal.make_room-requires
 make_room-requires g c =

@@ -3,8 +3,7 @@ use Rattle.std.proofs.lemmas.Result.{err_from_is_err_and}
 use Rattle.plist_engine.specs.Canonical.{trailer_octets}
 use Rattle.plist_engine.specs.declared.pending.Pending.{Pending}
 use Rattle.plist_engine.proofs.File.{length-trailer_octets}
-use Rattle.plist_engine.proofs.Gathering.{Gathers-append, Gathers-put, Stops-none, Stops-behind, Stops-no_memory, Goes-err, Goes-after}
-use Rattle.plist_engine.proofs.Shortness.{put-length}
+use Rattle.plist_engine.proofs.Gathering.{Gathers-append, Gathers-put, Stops-none, Stops-behind, Stops-no_memory, Goes-err, Goes-after, put-length}
 use Rattle.plist_engine.proofs.pending.send_trailer.Goals as goal
 
 pub returns-in_err-make_room-clause-goes : goal.returns-in_err-make_room-clause-goes

@@ -8,7 +8,7 @@ use Rattle.plist_engine.specs.Canonical.{file_of}
 use Rattle.plist_engine.specs.Pending.{AreBefore}
 use Rattle.plist_engine.specs.declared.pending.Pending.{Pending}
 use Rattle.plist_engine.proofs.FileSteps.{file-length, file-stops, file-goes}
-use Rattle.plist_engine.proofs.Shortness.{allows_none}
+use Rattle.plist_engine.proofs.Gathering.{allows_none}
 use Rattle.plist_engine.specs.declared.plan.Objects.{Objects}
 use Rattle.plist_engine.specs.Parts.{octets_planned}
 use Rattle.plist_engine.proofs.sending.send_file.Goals as goal
