@@ -1,9 +1,24 @@
 -- What leaves a function by `?`.
 use Rattle.std.proofs.Common.{◌≡◌, Result}
-use Rattle.std.specs.Prelude.{IfErr, IsErrAnd}
+use Rattle.std.specs.Prelude.{IfOk, IfErr, IsErrAnd, Ok, Err}
+use Rattle.std.specs.Result.{OnOk}
 use Rattle.std.proofs.lemmas.Result.{err_from_is_err_and}
-use Rattle.ostep_lex.specs.declared.fault.LexFault.{LexFault}
 
 -- the fault that a callee gave, passed on as it is
-pub passed_on : {T : Type 0} (P : LexFault → Type 0) (fault : LexFault) (r : Result T LexFault) → IsErrAnd r (λ y. y ≡ fault) → P fault → IfErr r P
+pub passed_on : {T E : Type 0} (P : E → Type 0) (fault : E) (r : Result T E) → IsErrAnd r (λ y. y ≡ fault) → P fault → IfErr r P
 passed_on P fault r h p = let e = err_from_is_err_and r h in rw (e.1, e.2) p
+
+-- and no success
+pub no_ok : {T E : Type 0} (P : T → Type 0) (Q : E → Type 0) (r : Result T E) → IsErrAnd r Q → IfOk r P
+no_ok P Q r h = let e = err_from_is_err_and r h in rw (e.1) tt
+
+pub none_ok : {T E : Type 0} (P : Type 0) (Q : E → Type 0) (r : Result T E) → IsErrAnd r Q → OnOk r P
+none_ok P Q r h = let e = err_from_is_err_and r h in rw (e.1) tt
+
+pub on_ok : {T E : Type 0} (P : Type 0) (r : Result T E) → P → OnOk r P
+on_ok P (Ok x) p = p
+on_ok P (Err e) p = tt
+
+pub both_ok : {T E : Type 0} (r : Result T E) (P : T → Type 0) (Q : Type 0) (R : T → Type 0) → ((x : T) → P x → Q → R x) → IfOk r P → OnOk r Q → IfOk r R
+both_ok (Ok x) P Q R then p q = then x p q
+both_ok (Err e) P Q R then p q = tt

@@ -1,27 +1,166 @@
--- A step of the lexer: a gap and a token.
-use Rattle.std.proofs.Common.{true, ℕ, ◌<◌, ◌≤◌, List, [], ◌∷◌, ◌++◌, length, map, Some, ◌≡◌, sym, ap, subst, ◌∙◌, arith}
+-- A step over a gap or a token, by an equation that says what comes first, and the lexer's steps.
+use Rattle.std.proofs.Common.{ℕ, ◌≤◌, true, false, List, [], ◌∷◌, ◌≡◌, length, sym, ap, subst, ◌∙◌, arith, Bool, ◌==◌, Some, inl, inr, refl, ◌||◌, None, ◌<◌, ◌++◌, map, append-nil}
+use Rattle.std.proofs.lemmas.Bool.{cases_Bool}
+use Rattle.std.proofs.lemmas.Bool.Decides.{nat_tests}
 use Rattle.std.proofs.lemmas.List.{map-append}
-use Rattle.ostep_lex.specs.declared.cursor.Cursor.{Cursor}
-use Rattle.ostep_lex.specs.declared.token.Token.{Token}
-use Rattle.ostep_lex.specs.declared.fault.LexFault.{LexFault}
-use Rattle.ostep_lex.specs.Encoding.{place, places_of}
+use Rattle.ostep_lex.specs.Character.{slash, star, is_white, is_line_end, is_run, is_quote, less_than}
 use Rattle.ostep_lex.specs.Gap
-use Rattle.ostep_lex.specs.Gap.{Gap, GapPiece}
+use Rattle.ostep_lex.specs.Gap.{LineComment, BlockComment, NeverCloses, GapPiece, Gap, closes_comment, begins_gap, begins_comment}
+use Rattle.ostep_lex.specs.declared.cursor.Cursor.{Cursor}
+use Rattle.ostep_lex.specs.Encoding.{place, Places, places_of}
+use Rattle.ostep_lex.specs.Cursor.{ahead, places_in, place_at, SameInput, PassesPiece, PassesGap, PassesToken, Opens, StandsBehind, UnlessMemory, PassesStretch, PassesRun, PassesQuoted, AddsToken}
+use Rattle.ostep_lex.specs.declared.fault.LexFault.TheVariants.{UnclosedComment, UnexpectedCharacter}
+use Rattle.ostep_lex.specs.Stands.{FaultAt, White, LacksMark, QuotedFault, OctetsFault, begins_other, FaultBehind, HasFault, HasXml, begins_xml, Stands}
+use Rattle.ostep_lex.specs.Stands
+use Rattle.ostep_lex.specs.Lexeme.{Lexeme, mark_token, IsToken, Placed, placed}
 use Rattle.ostep_lex.specs.Quoted
 use Rattle.ostep_lex.specs.Quoted.{Run, Quoted}
 use Rattle.ostep_lex.specs.Octets.{Octets}
 use Rattle.ostep_lex.specs.Lexeme
-use Rattle.ostep_lex.specs.Lexeme.{Lexeme, IsToken, Placed, placed, mark_token}
+use Rattle.ostep_lex.specs.declared.fault.LexFault.{LexFault}
+use Rattle.ostep_lex.specs.declared.token.Token.{Token}
 use Rattle.ostep_lex.specs.Lexing.{LexesTo, here, HasTokens, HasNoTokens}
-use Rattle.ostep_lex.specs.Stands.{FaultBehind, HasFault, HasXml, White, begins_xml, Stands}
-use Rattle.ostep_lex.specs.Cursor.{ahead, places_in, place_at, SameInput, PassesGap, PassesToken, Opens, StandsBehind, UnlessMemory}
-use Rattle.ostep_lex.proofs.TokenLemmas.{LexesTo-more, LexesTo-all}
+use Rattle.ostep_lex.specs.declared.stretch.Class.TheVariants.{Run as RunClass, Raw}
+use Rattle.ostep_lex.proofs.TokenLemmas.{or_left, or_right, mark-white, LexesTo-more, LexesTo-all, white-run}
 use Rattle.ostep_lex.proofs.LawProofs.{stands_unless, HasFault-none}
-use Rattle.ostep_lex.proofs.WhiteSteps.{white_gap}
-use Rattle.ostep_lex.proofs.TokenSteps.{token_mark}
-use Rattle.ostep_lex.proofs.GapSteps.{line_shorter, block_shorter}
-use Rattle.ostep_lex.proofs.StringSteps.{piece_shorter}
-use Rattle.ostep_lex.proofs.OctetsSteps.{piece_shorter as octets_piece_shorter}
+use Rattle.ostep_lex.proofs.PieceSteps.{piece_shorter, octets_piece_shorter, quoted_close}
+use Rattle.ostep_lex.proofs.StretchLemmas.{run_stretch, quoted_stretch}
+
+pub line_more : {c : ℕ} {text rest end : List ℕ} → text ≡ c ∷ rest → is_line_end c ≡ false → LineComment rest end → LineComment text end
+line_more {end = end} e t r = subst (λ x. LineComment x end) (sym e) (Gap.more t r)
+
+pub line_stop : {c : ℕ} {text rest : List ℕ} → text ≡ c ∷ rest → is_line_end c ≡ true → LineComment text text
+line_stop e t = subst (λ x. LineComment x x) (sym e) (Gap.line_end t)
+
+pub line_none : {text : List ℕ} → text ≡ [] → LineComment text text
+line_none e = subst (λ x. LineComment x x) (sym e) Gap.text_end
+
+pub block_more : {c : ℕ} {text rest end : List ℕ} → text ≡ c ∷ rest → closes_comment text ≡ false → BlockComment rest end → BlockComment text end
+block_more {c} {text} {rest} {end} e t r = subst (λ x. BlockComment x end) (sym e) (Gap.more (ap closes_comment (sym e) ∙ t) r)
+
+pub never_more : {c : ℕ} {text rest : List ℕ} → text ≡ c ∷ rest → closes_comment text ≡ false → NeverCloses rest → NeverCloses text
+never_more e t r = subst NeverCloses (sym e) (Gap.more (ap closes_comment (sym e) ∙ t) r)
+
+pub block_close : {text end : List ℕ} → text ≡ star ∷ slash ∷ end → BlockComment text end
+block_close {end = end} e = subst (λ x. BlockComment x end) (sym e) Gap.close
+
+pub never_none : {text : List ℕ} → text ≡ [] → NeverCloses text
+never_none e = subst NeverCloses (sym e) Gap.text_end
+
+-- a step of a gap is shorter by its piece
+pub line_shorter : {text end : List ℕ} → LineComment text end → length end ≤ length text
+line_shorter Gap.text_end = omega arith
+line_shorter (Gap.line_end t) = omega arith
+line_shorter (Gap.more t r) = let h = line_shorter r in omega (arith, h)
+
+pub block_shorter : {text end : List ℕ} → BlockComment text end → length end ≤ length text
+block_shorter Gap.close = omega arith
+block_shorter (Gap.more t r) = let h = block_shorter r in omega (arith, h)
+
+pub piece_white : (old new : Cursor) (c : ℕ) → ahead old ≡ c ∷ ahead new → is_white c ≡ true → SameInput old new → PassesPiece old new
+piece_white old new c e w i = record {
+  piece = subst (λ x. GapPiece x (ahead new)) (sym e) (Gap.white w);
+  input = i;
+  shorter = omega (arith, ap length e);
+}
+
+pub piece_line : (old text new : Cursor) → ahead old ≡ slash ∷ slash ∷ ahead text → LineComment (ahead text) (ahead new) → SameInput old new → PassesPiece old new
+piece_line old text new e r i = record {
+  piece = subst (λ x. GapPiece x (ahead new)) (sym e) (Gap.line r);
+  input = i;
+  shorter = let h = line_shorter r in omega (arith, ap length e, h);
+}
+
+pub piece_block : (old text new : Cursor) → ahead old ≡ slash ∷ star ∷ ahead text → BlockComment (ahead text) (ahead new) → SameInput old new → PassesPiece old new
+piece_block old text new e r i = record {
+  piece = subst (λ x. GapPiece x (ahead new)) (sym e) (Gap.block r);
+  input = i;
+  shorter = let h = block_shorter r in omega (arith, ap length e, h);
+}
+
+pub comment_fault : (cursor : Cursor) (text : List ℕ) (at : ℕ) → ahead cursor ≡ slash ∷ star ∷ text → NeverCloses text → at ≡ place_at cursor
+    → FaultAt (places_in cursor) (ahead cursor) (UnclosedComment at)
+comment_fault cursor text at e n p =
+    subst (λ x. FaultAt (places_in cursor) x (UnclosedComment at)) (sym e)
+    (subst (λ q. FaultAt (places_in cursor) (slash ∷ star ∷ text) (UnclosedComment q)) (sym (p ∙ ap (place (places_in cursor)) e)) (Stands.comment n))
+
+pub white_more : {c : ℕ} {text rest end : List ℕ} → text ≡ c ∷ rest → is_white c ≡ true → White rest end → White text end
+white_more {end = end} e w r = subst (λ x. White x end) (sym e) (Stands.more w r)
+
+begins_white : List ℕ → Bool
+begins_white [] = false
+begins_white (c ∷ rest) = is_white c
+
+pub white_gap : {text rest : List ℕ} → White text rest → Gap text rest
+white_gap Stands.none = Gap.none
+white_gap (Stands.more w r) = Gap.piece (Gap.white w) (white_gap r)
+
+-- behind white one character stands
+white_same : {c : ℕ} {text from behind : List ℕ} → White text from → begins_white from ≡ false → is_white c ≡ false → White text (c ∷ behind) → from ≡ c ∷ behind
+unfolding begins_white
+white_same Stands.none f n Stands.none = refl
+white_same Stands.none f n (Stands.more w r) = cc
+white_same (Stands.more w r) f n Stands.none = cc
+white_same (Stands.more w r) f n (Stands.more v s) = white_same r f n s
+
+not_white : (c : ℕ) (lexeme : Lexeme) → mark_token c ≡ Some lexeme → is_white c ≡ false
+not_white c lexeme m = elim (cases_Bool (is_white c)) [ inl w ↦ absurd (mark-white c lexeme m w) | inr n ↦ n ]
+
+unequal : (n : ℕ) → (n == n) ≡ false → ⊥
+unequal n e = grind (arith, nat_tests)
+
+head_or : List ℕ → ℕ
+head_or [] = 0
+head_or (c ∷ rest) = c
+
+other_first : (mark c : ℕ) (rest behind : List ℕ) → (c == mark) ≡ false → c ∷ rest ≡ mark ∷ behind → ⊥
+unfolding head_or
+other_first mark c rest behind d e = unequal mark (subst (λ n. (n == mark) ≡ false) (ap head_or e) d)
+
+-- the mark does not stand behind white that another character, or nothing, follows
+lacks : {text from : List ℕ} (mark : ℕ) → White text from → begins_white from ≡ false → ((behind : List ℕ) → from ≡ mark ∷ behind → ⊥) → LacksMark mark text
+lacks mark w f other lexeme behind m r = other behind (white_same w f (not_white mark lexeme m) r)
+
+pub lacks_other : {text from rest : List ℕ} (mark c : ℕ) → White text from → from ≡ c ∷ rest → is_white c ≡ false → (c == mark) ≡ false → LacksMark mark text
+unfolding begins_white
+lacks_other {from = from} mark c w e n d = lacks mark w (subst (λ t. begins_white t ≡ false) (sym e) n) (λ behind s. other_first mark c _ behind d (sym e ∙ s))
+
+pub lacks_all : {text from : List ℕ} (mark : ℕ) → White text from → from ≡ [] → LacksMark mark text
+unfolding begins_white
+lacks_all mark w e = lacks mark w (subst (λ t. begins_white t ≡ false) (sym e) refl) (λ behind s. cc (sym e ∙ s))
+
+pub token_mark : (c : ℕ) (l : Lexeme) (text rest : List ℕ) → text ≡ c ∷ rest → mark_token c ≡ Some l → IsToken text l rest
+token_mark c l text rest e m = subst (λ x. IsToken x l rest) (sym e) (Lexeme.mark m)
+
+run_here : {c : ℕ} {rest units end : List ℕ} → is_run c ≡ true → begins_comment (c ∷ rest) ≡ false → Run (c ∷ rest) units end → IsToken (c ∷ rest) (Lexeme.text units) end
+run_here t b (Quoted.stop f) = cc
+run_here t b (Quoted.more u r) = Lexeme.run u b r
+
+pub token_run : (c : ℕ) (text rest units end : List ℕ) → text ≡ c ∷ rest → is_run c ≡ true → begins_gap text ≡ false → Run text units end → IsToken text (Lexeme.text units) end
+token_run c text rest units end e t b r =
+    let none = or_right (is_white c) (begins_comment (c ∷ rest)) (ap begins_gap (sym e) ∙ b) in
+    subst (λ x. IsToken x (Lexeme.text units) end) (sym e) (run_here t none (subst (λ x. Run x units end) e r))
+
+pub token_quoted : (c : ℕ) (text rest units end : List ℕ) → text ≡ c ∷ rest → is_quote c ≡ true → Quoted c rest units end → IsToken text (Lexeme.text units) end
+token_quoted c text rest units end e q r = subst (λ x. IsToken x (Lexeme.text units) end) (sym e) (Lexeme.quoted q r)
+
+pub token_data : (c : ℕ) (text rest octets end : List ℕ) → text ≡ c ∷ rest → c ≡ less_than → Octets rest octets end → IsToken text (Lexeme.octets octets) end
+token_data c text rest octets end e l r = subst (λ x. IsToken x (Lexeme.octets octets) end) (sym (e ∙ ap (λ d. d ∷ rest) l)) (Lexeme.data_token r)
+
+pub quoted_fault : (p : Places) (start c : ℕ) (text rest : List ℕ) (fault : LexFault) → text ≡ c ∷ rest → is_quote c ≡ true → start ≡ place p text
+    → QuotedFault p start c rest fault → FaultAt p text fault
+quoted_fault p start c text rest fault e q a f =
+    subst (λ x. FaultAt p x fault) (sym e) (Stands.quoted q (subst (λ n. QuotedFault p n c rest fault) (a ∙ ap (place p) e) f))
+
+pub data_fault : (p : Places) (c : ℕ) (text rest : List ℕ) (fault : LexFault) → text ≡ c ∷ rest → c ≡ less_than → OctetsFault p rest fault → FaultAt p text fault
+data_fault p c text rest fault e l f = subst (λ x. FaultAt p x fault) (sym (e ∙ ap (λ d. d ∷ rest) l)) (Stands.data_token f)
+
+pub unexpected_fault : (p : Places) (at c : ℕ) (text rest : List ℕ) → text ≡ c ∷ rest → mark_token c ≡ None → is_run c ≡ false → is_quote c ≡ false
+    → (c == less_than) ≡ false → begins_gap text ≡ false → at ≡ place p text → FaultAt p text (UnexpectedCharacter at)
+unexpected_fault p at c text rest e m r q l b a =
+    let white = or_left (is_white c) (begins_comment (c ∷ rest)) (ap begins_gap (sym e) ∙ b) in
+    let other : begins_other c ≡ false = rw (white, r, q, l) refl in
+    rw (a, e) (Stands.unexpected m other)
 
 gap_piece_shorter : {text rest : List ℕ} → GapPiece text rest → length rest ≤ length text
 gap_piece_shorter (Gap.white w) = omega arith
@@ -140,3 +279,41 @@ opens_xml {octets} cursor behind {at} o w i b a = record {
   begins = b;
   stands = a ∙ ap (λ p. place p (ahead behind)) (i ∙ o.places);
 }
+
+pub plain_run : {old new : Cursor} {front : List ℕ} → PassesStretch RunClass old front new → Run (ahead new) [] (ahead new) → PassesRun old new front
+plain_run {old} {new} {front} p s = record {
+  run = subst (λ us. Run (ahead old) us (ahead new)) (append-nil front) (run_stretch p s);
+  input = p.input;
+}
+
+pub plain_quoted : {mark : ℕ} {old mid new : Cursor} {front : List ℕ} → PassesStretch (Raw mark) old front mid → ahead mid ≡ mark ∷ ahead new → SameInput mid new
+    → (mark == mark) ≡ true → PassesQuoted mark old new front
+plain_quoted {mark} {old} {mid} {new} {front} p e i same = record {
+  quoted = subst (λ us. Quoted mark (ahead old) us (ahead new)) (append-nil front) (quoted_stretch p (quoted_close mark mark (ahead mid) (ahead new) e same));
+  input = i ∙ p.input;
+}
+
+no_comment : (c : ℕ) (rest : List ℕ) → (c == slash) ≡ false → begins_comment (c ∷ rest) ≡ false
+no_comment c [] e = refl
+no_comment c (d ∷ rest) e = rw e refl
+
+-- no gap begins with a run character other than a slash
+pub run_gapless : (c : ℕ) (text rest : List ℕ) → text ≡ c ∷ rest → is_run c ≡ true → (c == slash) ≡ false → begins_gap text ≡ false
+run_gapless c text rest e r s =
+    let white : is_white c ≡ false = elim (cases_Bool (is_white c)) [ inl w ↦ absurd (white-run c w r) | inr n ↦ n ] in
+    ap begins_gap e ∙ rw (white, no_comment c rest s) refl
+
+-- a gap and a token
+passes : (lexeme : Lexeme) (old start end : Cursor) → Gap (ahead old) (ahead start) → SameInput old start → PassesToken lexeme start end
+    → PassesPlaced (record { lexeme = lexeme; start = place (places_in old) (ahead start); end = place (places_in old) (ahead end) }) old end
+passes lexeme old start end g i t = record { from = ahead start; gap = g; token_at = t.token; start = refl; end = refl; input = t.input ∙ i }
+
+pub adds_token : (lexeme : Lexeme) (old start end : Cursor) → Gap (ahead old) (ahead start) → SameInput old start → PassesToken lexeme start end → AddsToken lexeme old end
+adds_token lexeme old start end g i t = record {
+  token = record { lexeme = lexeme; start = place (places_in old) (ahead start); end = place (places_in old) (ahead end) };
+  is = refl;
+  stands = λ octets tokens b. behind_more b (passes lexeme old start end g i t);
+}
+
+pub adds_shorter : (lexeme : Lexeme) (old start end : Cursor) → Gap (ahead old) (ahead start) → SameInput old start → PassesToken lexeme start end → length (ahead end) < length (ahead old)
+adds_shorter lexeme old start end g i t = placed_shorter (passes lexeme old start end g i t)

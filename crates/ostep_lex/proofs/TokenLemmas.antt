@@ -45,11 +45,11 @@ quote-backslash mark q e = grind (arith, nat_tests)
 pub close-raw : (mark c : ℕ) → (c == mark) ≡ true → is_raw mark c ≡ true → ⊥
 close-raw mark c e r = grind (arith, nat_tests)
 
-or_left : (a b : Bool) → (a || b) ≡ false → a ≡ false
+pub or_left : (a b : Bool) → (a || b) ≡ false → a ≡ false
 or_left true b e = e
 or_left false b e = refl
 
-or_right : (a b : Bool) → (a || b) ≡ false → b ≡ false
+pub or_right : (a b : Bool) → (a || b) ≡ false → b ≡ false
 or_right true true e = e
 or_right true false e = refl
 or_right false b e = e

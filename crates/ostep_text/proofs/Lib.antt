@@ -9,7 +9,6 @@ pub mod WrittenUnits
 pub mod WrittenLexing
 pub mod WrittenOctets
 pub mod WrittenProof
-pub mod Exits
 pub mod TokenKinds
 pub mod MachineLemmas
 pub mod PhraseSteps

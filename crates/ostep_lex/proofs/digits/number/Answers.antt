@@ -1,6 +1,6 @@
 use Rattle.std.proofs.Common.{◌≤◌, arith, ◌∙◌}
 use Rattle.std.proofs.Math.Nat.{mul-le-mul}
-use Rattle.ostep_lex.proofs.NumberLemmas.{pow_limit, digit_limit, number_step, number_no_digit}
+use Rattle.ostep_lex.proofs.PieceSteps.{pow_limit, digit_limit, number_step, number_no_digit}
 use Rattle.ostep_lex.proofs.digits.number.Goals as goal
 
 pub overflow_mul-value : goal.overflow_mul-value

@@ -1,5 +1,5 @@
 use Rattle.std.proofs.Common.{◌∙◌}
-use Rattle.ostep_lex.proofs.GapSteps.{block_more, never_more, block_close, never_none}
+use Rattle.ostep_lex.proofs.LexerSteps.{block_more, never_more, block_close, never_none}
 use Rattle.ostep_lex.proofs.StretchLemmas.{block_stretch, never_stretch}
 use Rattle.ostep_lex.proofs.gap.block_comment.Goals as goal
 

@@ -1,6 +1,6 @@
 use Rattle.std.proofs.Common.{ap, ◌∷◌, ◌∙◌}
 use Rattle.ostep_lex.specs.Character.{slash}
-use Rattle.ostep_lex.proofs.GapSteps.{piece_line, piece_block, comment_fault}
+use Rattle.ostep_lex.proofs.LexerSteps.{piece_line, piece_block, comment_fault}
 use Rattle.ostep_lex.proofs.gap.comment.Goals as goal
 
 pub returns-in-Some-clause-ok : goal.returns-in-Some-clause-ok

@@ -1,5 +1,5 @@
 use Rattle.std.proofs.Common.{sym}
-use Rattle.ostep_lex.proofs.GapSteps.{piece_white}
+use Rattle.ostep_lex.proofs.LexerSteps.{piece_white}
 use Rattle.ostep_lex.proofs.gap.gap_piece.Goals as goal
 
 pub returns-then-is_white-clause-ok : goal.returns-then-is_white-clause-ok

@@ -1,5 +1,5 @@
 use Rattle.std.proofs.Common.{sym, ◌∙◌}
-use Rattle.ostep_lex.proofs.GapSteps.{line_more, line_stop, line_none}
+use Rattle.ostep_lex.proofs.LexerSteps.{line_more, line_stop, line_none}
 use Rattle.ostep_lex.proofs.StretchLemmas.{line_stretch}
 use Rattle.ostep_lex.proofs.gap.line_comment.Goals as goal
 

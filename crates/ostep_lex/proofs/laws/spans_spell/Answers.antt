@@ -1,4 +1,4 @@
-use Rattle.ostep_lex.proofs.SpanLemmas.{HasTokens-spans}
+use Rattle.ostep_lex.proofs.LawProofs.{HasTokens-spans}
 use Rattle.ostep_lex.proofs.laws.spans_spell.Goals as goal
 
 pub returns : goal.returns

@@ -4,8 +4,7 @@ use Rattle.ostep_lex.specs.Character.{is_white}
 use Rattle.ostep_lex.specs.Lexeme.{lexeme_of}
 use Rattle.ostep_lex.specs.Stands.{none}
 use Rattle.ostep_lex.specs.Cursor.{ahead}
-use Rattle.ostep_lex.proofs.WhiteSteps.{white_more, lacks_other, lacks_all}
-use Rattle.ostep_lex.proofs.LexerSteps.{mark_placed, placed_shorter, behind_more}
+use Rattle.ostep_lex.proofs.LexerSteps.{white_more, lacks_other, lacks_all, mark_placed, placed_shorter, behind_more}
 use Rattle.ostep_lex.proofs.lexer.next_mark.Goals as goal
 use Rattle.ostep_lex.proofs.lexer.next_mark.Goals.{in-Some+else-c-mark+then-not-is_white, in_default}
 

@@ -6,7 +6,7 @@ use Rattle.ostep_lex.specs.Lexeme.{IsToken, lexeme_of, mark_token}
 use Rattle.ostep_lex.specs.Stands.{QuotedFault, OctetsFault, FaultAt}
 use Rattle.ostep_lex.specs.Cursor.{ahead, places_in, UnlessMemory}
 use Rattle.ostep_lex.proofs.Exits.{passed_on}
-use Rattle.ostep_lex.proofs.TokenSteps.{token_mark, token_run, token_quoted, token_data, quoted_fault, data_fault, unexpected_fault}
+use Rattle.ostep_lex.proofs.LexerSteps.{token_mark, token_run, token_quoted, token_data, quoted_fault, data_fault, unexpected_fault}
 use Rattle.ostep_lex.proofs.lexer.token_here.Goals as goal
 
 pub returns-in-Some-mark_token-clause-ok : goal.returns-in-Some-mark_token-clause-ok

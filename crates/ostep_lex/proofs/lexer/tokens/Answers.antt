@@ -3,7 +3,7 @@ use Rattle.ostep_lex.specs.Lexeme.{placed}
 use Rattle.ostep_lex.specs.Lexing.{HasTokens, HasNoTokens}
 use Rattle.ostep_lex.specs.Stands.{Stands}
 use Rattle.ostep_lex.specs.Cursor.{StandsBehind, UnlessMemory}
-use Rattle.ostep_lex.proofs.SpanLemmas.{HasTokens-spans}
+use Rattle.ostep_lex.proofs.LawProofs.{HasTokens-spans}
 use Rattle.ostep_lex.proofs.Exits.{passed_on}
 use Rattle.ostep_lex.proofs.LexerSteps.{found_more}
 use Rattle.ostep_lex.proofs.lexer.tokens.Goals as goal

@@ -3,9 +3,7 @@ use Rattle.ostep_lex.specs.Octets.{Octets, piece}
 use Rattle.ostep_lex.specs.Stands
 use Rattle.ostep_lex.specs.Encoding.{place}
 use Rattle.ostep_lex.specs.Cursor.{ahead}
-use Rattle.ostep_lex.proofs.StringSteps.{appended}
-use Rattle.ostep_lex.proofs.OctetsSteps.{octets_close, cut_fault, piece_shorter}
-use Rattle.ostep_lex.proofs.PairsSteps.{octets_pairs, fault_pairs, pairs_shorter}
+use Rattle.ostep_lex.proofs.PieceSteps.{appended, octets_close, cut_data_fault, octets_piece_shorter, octets_pairs, fault_pairs, pairs_shorter}
 use Rattle.ostep_lex.proofs.octets.octets.Goals as goal
 
 pub returns-then-c-eq62-clause-ok : goal.returns-then-c-eq62-clause-ok
@@ -26,7 +24,7 @@ loop-c-init c =
 
 pub loop-c-smaller : goal.loop-c-smaller
 loop-c-smaller c =
-    let piece : length (ahead c.in_ok-end.end) < length (ahead c.loop-c.rest) = piece_shorter c.in_ok-end.ensures.ok.piece in
+    let piece : length (ahead c.in_ok-end.end) < length (ahead c.loop-c.rest) = octets_piece_shorter c.in_ok-end.ensures.ok.piece in
     let pairs : length (ahead c.in_ok-rest-2.rest) ≤ length (ahead c.in_ok-end.end) = pairs_shorter c.in_ok-rest-2.ensures in
     omega arith
 
@@ -43,4 +41,4 @@ loop-c-preserved c =
 
 pub returns-clause-err : goal.returns-clause-err
 returns-clause-err c n =
-    c.loop-c.invariant.1 _ (cut_fault _ _ _ c.in_default.ensures (subst (λ p. c.place.result ≡ place p (ahead c.loop-c.rest)) c.loop-c.invariant.2 c.place.ensures))
+    c.loop-c.invariant.1 _ (cut_data_fault _ _ _ c.in_default.ensures (subst (λ p. c.place.result ≡ place p (ahead c.loop-c.rest)) c.loop-c.invariant.2 c.place.ensures))

@@ -1,7 +1,7 @@
 use Rattle.std.proofs.Common.{◌≡◌, ◌==◌, false, sym, arith, append-nil, ◌∙◌}
 use Rattle.std.proofs.lemmas.Bool.Decides.{nat_tests}
 use Rattle.ostep_lex.specs.Character.{greater_than}
-use Rattle.ostep_lex.proofs.OctetsSteps.{piece_white, piece_pair, other_fault, odd_fault}
+use Rattle.ostep_lex.proofs.PieceSteps.{piece_white, piece_pair, other_fault, odd_fault}
 use Rattle.ostep_lex.proofs.octets.push_octet.Goals as goal
 
 pub returns-then-is_white-clause-ok : goal.returns-then-is_white-clause-ok

@@ -1,7 +1,7 @@
 use Rattle.std.proofs.Common.{◌≡◌, true, ◌∙◌}
 use Rattle.ostep_lex.specs.Character.{is_white}
 use Rattle.ostep_lex.specs.Stands.{none}
-use Rattle.ostep_lex.proofs.WhiteSteps.{white_more}
+use Rattle.ostep_lex.proofs.LexerSteps.{white_more}
 use Rattle.ostep_lex.proofs.opening.behind_white.Goals as goal
 
 pub loop-c-preserved : goal.loop-c-preserved

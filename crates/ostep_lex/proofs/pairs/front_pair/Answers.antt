@@ -1,5 +1,5 @@
 use Rattle.std.proofs.Common.{◌≡◌, ◌∷◌}
-use Rattle.ostep_lex.proofs.PairsLemmas.{one_pair}
+use Rattle.ostep_lex.proofs.PieceSteps.{one_pair}
 use Rattle.ostep_lex.proofs.pairs.front_pair.Goals as goal
 
 pub returns : goal.returns

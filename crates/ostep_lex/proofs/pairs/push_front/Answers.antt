@@ -1,5 +1,5 @@
 use Rattle.ostep_lex.specs.Pairs.{AppendsPairs}
-use Rattle.ostep_lex.proofs.PairsLemmas.{pairs_text, pairs_boundary, pairs_dropped}
+use Rattle.ostep_lex.proofs.PieceSteps.{pairs_text, pairs_boundary, pairs_dropped}
 use Rattle.ostep_lex.proofs.pairs.push_front.Goals as goal
 
 pub split_at-requires : goal.split_at-requires

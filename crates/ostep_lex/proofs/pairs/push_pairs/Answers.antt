@@ -1,4 +1,4 @@
-use Rattle.ostep_lex.proofs.PairsLemmas.{pairs_none, pairs_more}
+use Rattle.ostep_lex.proofs.PieceSteps.{pairs_none, pairs_more}
 use Rattle.ostep_lex.proofs.pairs.push_pairs.Goals as goal
 
 pub loop-octet-init : goal.loop-octet-init

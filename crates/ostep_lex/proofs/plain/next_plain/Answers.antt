@@ -1,7 +1,7 @@
 use Rattle.std.proofs.Common.{sym, subst}
 use Rattle.ostep_lex.specs.Lexeme.{text}
 use Rattle.ostep_lex.specs.Cursor.{AddsToken}
-use Rattle.ostep_lex.proofs.PlainSteps.{adds_token, adds_shorter}
+use Rattle.ostep_lex.proofs.LexerSteps.{adds_token, adds_shorter}
 use Rattle.ostep_lex.proofs.plain.next_plain.Goals as goal
 
 pub returns-clause-token : goal.returns-clause-token

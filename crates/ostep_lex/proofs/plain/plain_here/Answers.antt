@@ -2,8 +2,7 @@ use Rattle.std.proofs.Common.{◌≡◌, ◌==◌, false, sym, arith, ◌∙◌}
 use Rattle.std.proofs.lemmas.Bool.Decides.{nat_tests}
 use Rattle.std.proofs.lemmas.Option.{IfSome_then}
 use Rattle.ostep_lex.specs.Character.{slash}
-use Rattle.ostep_lex.proofs.TokenSteps.{token_run, token_quoted}
-use Rattle.ostep_lex.proofs.PlainSteps.{run_gapless}
+use Rattle.ostep_lex.proofs.LexerSteps.{token_run, token_quoted, run_gapless}
 use Rattle.ostep_lex.proofs.plain.plain_here.Goals as goal
 
 pub returns-then-is_quote : goal.returns-then-is_quote

@@ -1,6 +1,6 @@
 use Rattle.std.proofs.Common.{◌≡◌, ◌==◌, true, arith}
 use Rattle.std.proofs.lemmas.Bool.Decides.{nat_tests}
-use Rattle.ostep_lex.proofs.PlainSteps.{plain_quoted}
+use Rattle.ostep_lex.proofs.LexerSteps.{plain_quoted}
 use Rattle.ostep_lex.proofs.plain.plain_quoted.Goals as goal
 
 pub returns : goal.returns

@@ -2,8 +2,8 @@ use Rattle.std.proofs.Common.{◌≡◌, false, []}
 use Rattle.ostep_lex.specs.Character.{is_run}
 use Rattle.ostep_lex.specs.Quoted.{Run}
 use Rattle.ostep_lex.specs.Cursor.{ahead}
-use Rattle.ostep_lex.proofs.StringSteps.{run_stop, run_none}
-use Rattle.ostep_lex.proofs.PlainSteps.{plain_run}
+use Rattle.ostep_lex.proofs.PieceSteps.{run_stop, run_none}
+use Rattle.ostep_lex.proofs.LexerSteps.{plain_run}
 use Rattle.ostep_lex.proofs.plain.plain_run.Goals as goal
 use Rattle.ostep_lex.proofs.plain.plain_run.Goals.{in_default-via-in-Some+else-is_run, in_default-via-in_default}
 

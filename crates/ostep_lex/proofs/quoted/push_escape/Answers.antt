@@ -2,7 +2,7 @@ use Rattle.std.proofs.Common.{◌∙◌, ◌≡◌, ◌==◌, ◌++◌, false, s
 use Rattle.std.proofs.lemmas.Bool.Decides.{nat_tests}
 use Rattle.ostep_lex.specs.Character.{is_octal}
 use Rattle.ostep_lex.specs.Quoted.{unit_letter}
-use Rattle.ostep_lex.proofs.StringSteps.{escape_character, cut_fault}
+use Rattle.ostep_lex.proofs.PieceSteps.{escape_character, cut_fault}
 use Rattle.ostep_lex.proofs.quoted.push_escape.Goals as goal
 
 pub returns-in_default-clause-err : goal.returns-in_default-clause-err

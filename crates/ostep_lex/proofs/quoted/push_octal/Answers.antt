@@ -1,4 +1,4 @@
-use Rattle.ostep_lex.proofs.StringSteps.{escape_octal, octal_fault}
+use Rattle.ostep_lex.proofs.PieceSteps.{escape_octal, octal_fault}
 use Rattle.ostep_lex.proofs.quoted.push_octal.Goals as goal
 
 pub returns-then-value-gt127-clause-err : goal.returns-then-value-gt127-clause-err

@@ -3,7 +3,7 @@ use Rattle.std.proofs.lemmas.Result.{IfOk-weaker}
 use Rattle.std.proofs.lemmas.Bool.Decides.{nat_tests}
 use Rattle.ostep_lex.specs.Character.{backslash}
 use Rattle.ostep_lex.specs.Cursor.{EscapeAppends, PieceAppends}
-use Rattle.ostep_lex.proofs.StringSteps.{piece_raw, piece_escape}
+use Rattle.ostep_lex.proofs.PieceSteps.{piece_raw, piece_escape}
 use Rattle.ostep_lex.proofs.quoted.push_piece.Goals as goal
 
 pub returns-then-c-eq92-clause-ok : goal.returns-then-c-eq92-clause-ok

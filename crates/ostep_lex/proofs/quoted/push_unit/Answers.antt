@@ -1,7 +1,7 @@
 use Rattle.std.proofs.Common.{◌∙◌, ◌≡◌, true, false}
 use Rattle.ostep_lex.specs.Digits.{begins_digit}
 use Rattle.ostep_lex.specs.Cursor.{ahead}
-use Rattle.ostep_lex.proofs.StringSteps.{escape_unit, unit_fault}
+use Rattle.ostep_lex.proofs.PieceSteps.{escape_unit, unit_fault}
 use Rattle.ostep_lex.proofs.quoted.push_unit.Goals as goal
 
 pub returns-then-not-begins_digit-clause-err : goal.returns-then-not-begins_digit-clause-err

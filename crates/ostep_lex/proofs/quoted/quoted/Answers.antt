@@ -5,7 +5,7 @@ use Rattle.ostep_lex.specs.Stands
 use Rattle.ostep_lex.specs.Stands.{EscapeFault, QuotedFault}
 use Rattle.ostep_lex.specs.Cursor.{ahead, places_in, UnlessMemory}
 use Rattle.ostep_lex.proofs.Exits.{passed_on}
-use Rattle.ostep_lex.proofs.StringSteps.{appended, quoted_close, piece_shorter, cut_string_fault}
+use Rattle.ostep_lex.proofs.PieceSteps.{appended, quoted_close, piece_shorter, cut_string_fault}
 use Rattle.ostep_lex.proofs.StretchLemmas.{quoted_stretch, fault_stretch, stretch_shorter}
 use Rattle.ostep_lex.proofs.quoted.quoted.Goals as goal
 

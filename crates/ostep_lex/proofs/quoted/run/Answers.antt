@@ -2,7 +2,7 @@ use Rattle.std.proofs.Common.{◌≡◌, true, false, [], ◌∷◌, ◌++◌, s
 use Rattle.ostep_lex.specs.Character.{is_run}
 use Rattle.ostep_lex.specs.Quoted.{Run}
 use Rattle.ostep_lex.specs.Cursor.{ahead}
-use Rattle.ostep_lex.proofs.StringSteps.{appended, run_more, run_stop, run_none}
+use Rattle.ostep_lex.proofs.PieceSteps.{appended, run_more, run_stop, run_none}
 use Rattle.ostep_lex.proofs.StretchLemmas.{run_stretch}
 use Rattle.ostep_lex.proofs.quoted.run.Goals as goal
 use Rattle.ostep_lex.proofs.quoted.run.Goals.{in-Some+then-not-is_run, in_default}

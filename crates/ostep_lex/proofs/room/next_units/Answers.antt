@@ -1,5 +1,5 @@
 use Rattle.ostep_lex.specs.Lexeme.{text}
-use Rattle.ostep_lex.proofs.PlainSteps.{adds_token, adds_shorter}
+use Rattle.ostep_lex.proofs.LexerSteps.{adds_token, adds_shorter}
 use Rattle.ostep_lex.proofs.room.next_units.Goals as goal
 
 pub returns-clause-token : goal.returns-clause-token

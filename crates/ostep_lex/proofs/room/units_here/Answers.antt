@@ -1,8 +1,7 @@
 use Rattle.std.proofs.Common.{◌≡◌, ◌==◌, true, false, sym, arith, ◌∙◌}
 use Rattle.std.proofs.lemmas.Bool.Decides.{nat_tests}
 use Rattle.ostep_lex.specs.Character.{is_run, slash}
-use Rattle.ostep_lex.proofs.TokenSteps.{token_run, token_quoted}
-use Rattle.ostep_lex.proofs.PlainSteps.{run_gapless}
+use Rattle.ostep_lex.proofs.LexerSteps.{token_run, token_quoted, run_gapless}
 use Rattle.ostep_lex.proofs.room.units_here.Goals as goal
 
 pub returns-then-is_quote : goal.returns-then-is_quote

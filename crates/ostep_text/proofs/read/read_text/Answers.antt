@@ -9,7 +9,7 @@ use Rattle.ostep_text.specs.Begun.{nothing}
 use Rattle.ostep_text.specs.Text.{IsText}
 use Rattle.ostep_text.specs.Stands.{Stands}
 use Rattle.ostep_text.specs.Reading.{HasRead, IsLeft}
-use Rattle.ostep_text.proofs.Exits.{passed_on}
+use Rattle.ostep_lex.proofs.Exits.{passed_on}
 use Rattle.plist_value.proofs.Shown.{view-table}
 use Rattle.ostep_text.proofs.Standing.{tokens-stand}
 use Rattle.ostep_text.proofs.TokenKinds.{front-begun}

@@ -1,4 +1,4 @@
-use Rattle.ostep_lex.proofs.PairsLemmas.{pairs_lead, no_lead}
+use Rattle.ostep_lex.proofs.PieceSteps.{pairs_lead, no_lead}
 use Rattle.ostep_lex.proofs.source.Source.push_pairs.Goals as goal
 
 pub returns-in_ok-behind-in-Utf8 : goal.returns-in_ok-behind-in-Utf8

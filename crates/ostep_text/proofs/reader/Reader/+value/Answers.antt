@@ -12,7 +12,7 @@ use Rattle.ostep_text.specs.Machine
 use Rattle.ostep_text.specs.Machine.{Around}
 use Rattle.ostep_text.specs.Reading.{Front, HasRead, ReadsValue, ReadsEnded, ReadsItems, ReadsRow, ReadsRows, Takes, TakesRow}
 use Rattle.ostep_text.specs.Due.{ValueDue}
-use Rattle.ostep_text.proofs.Exits.{passed_on, no_ok, none_ok, on_ok, both_ok}
+use Rattle.ostep_lex.proofs.Exits.{passed_on, no_ok, none_ok, on_ok, both_ok}
 use Rattle.plist_value.specs.declared.value.Value
 use Rattle.plist_value.proofs.Shown.{view-text, view-bytes, view-list, view-table}
 use Rattle.ostep_text.proofs.TokenKinds.{leads-nowhere, item-begun, item-ended, row-ended, key-ended, table-ended, value-ended, value-none}

@@ -18,7 +18,7 @@ use Rattle.ostep_text.specs.Text.{IsText}
 use Rattle.ostep_text.specs.Stands.{Stands}
 use Rattle.ostep_text.specs.Machine
 use Rattle.ostep_text.specs.Reading.{HasRead, TakesRow}
-use Rattle.ostep_text.proofs.Exits.{passed_on}
+use Rattle.ostep_lex.proofs.Exits.{passed_on}
 use Rattle.plist_value.proofs.Shown.{view-table}
 use Rattle.ostep_text.proofs.Standing.{junk-at}
 use Rattle.ostep_text.proofs.TakeSteps.{rows-left}

@@ -5,7 +5,7 @@ use Rattle.ostep_lex.specs.Lexing.{HasTokens}
 use Rattle.ostep_text.specs.Phrase.{a_value}
 use Rattle.ostep_text.specs.Stands.{Stands}
 use Rattle.ostep_text.specs.Reading.{HasRead}
-use Rattle.ostep_text.proofs.Exits.{passed_on}
+use Rattle.ostep_lex.proofs.Exits.{passed_on}
 use Rattle.ostep_text.proofs.Standing.{junk-at}
 use Rattle.ostep_text.proofs.ReadSteps.{whole-phrase}
 use Rattle.ostep_text.proofs.Wholes.{value-ends}

@@ -4,7 +4,7 @@ use Rattle.plist_value.specs.declared.TheConstants.{MAX_DEPTH}
 use Rattle.ostep_text.specs.Begun.{nothing, opened, with_rows}
 use Rattle.ostep_text.specs.Stands.{Stands}
 use Rattle.ostep_text.specs.Reading.{HasRead, IsLeft}
-use Rattle.ostep_text.proofs.Exits.{passed_on}
+use Rattle.ostep_lex.proofs.Exits.{passed_on}
 use Rattle.ostep_text.proofs.Wholes.{same-read, front-refuses, first_key-refuses}
 use Rattle.ostep_text.proofs.reader.Reader.first_key.Goals as goal
 

@@ -10,7 +10,7 @@ use Rattle.ostep_text.specs.Text.{IsText}
 use Rattle.ostep_text.specs.Stands.{Stands}
 use Rattle.ostep_text.specs.Machine
 use Rattle.ostep_text.specs.Reading.{HasRead, ReadsRow, Takes}
-use Rattle.ostep_text.proofs.Exits.{passed_on, no_ok}
+use Rattle.ostep_lex.proofs.Exits.{passed_on, no_ok}
 use Rattle.plist_value.proofs.Shown.{view-text}
 use Rattle.ostep_text.proofs.Standing.{junk-at}
 use Rattle.ostep_text.proofs.TakeSteps.{scalar-taken}

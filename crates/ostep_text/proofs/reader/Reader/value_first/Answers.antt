@@ -4,7 +4,7 @@ use Rattle.ostep_text.specs.Begun.{nothing, begins_value}
 use Rattle.ostep_text.specs.Stands.{Stands}
 use Rattle.ostep_text.specs.Machine
 use Rattle.ostep_text.specs.Machine.{runs}
-use Rattle.ostep_text.proofs.Exits.{passed_on}
+use Rattle.ostep_lex.proofs.Exits.{passed_on}
 use Rattle.ostep_text.proofs.MachineLemmas.{stays-dead}
 use Rattle.ostep_text.proofs.Standing.{expected-front}
 use Rattle.ostep_text.proofs.TokenKinds.{none-begins}

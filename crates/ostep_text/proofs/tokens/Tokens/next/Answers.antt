@@ -3,7 +3,7 @@ use Rattle.ostep_lex.specs.Lexeme.{placed}
 use Rattle.ostep_lex.specs.Cursor.{StandsBehind}
 use Rattle.ostep_text.specs.Fault.{of_tokens}
 use Rattle.ostep_text.specs.Stands.{Stands}
-use Rattle.ostep_text.proofs.Exits.{passed_on}
+use Rattle.ostep_lex.proofs.Exits.{passed_on}
 use Rattle.ostep_text.proofs.Standing.{tokens-stand}
 use Rattle.ostep_text.proofs.tokens.Tokens.next.Goals as goal
 

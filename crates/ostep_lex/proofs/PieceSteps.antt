@@ -1,0 +1,268 @@
+-- A step over a string, a number or data, by an equation that says what comes first.
+use Rattle.std.proofs.Common.{ℕ, zero, suc, ◌+◌, ◌-◌, ◌*◌, ◌^◌, ◌<◌, ◌≤◌, false, List, [], ◌∷◌, ◌≡◌, refl, sym, ap, ◌∙◌, arith, lit≤, le-ltb, lt-ltb, add-one, length, cond, true, Bool, ◌++◌, ◌==◌, subst, append_assoc, drop, append-nil, length-append}
+use Rattle.std.proofs.Math.Nat.{pow-zero, pow-suc, mul-le-mul}
+use Rattle.std.specs.Char.{digit_value, is_digit}
+use Rattle.std.specs.Char.Escape.{encode_utf16}
+use Rattle.std.specs.Prelude.{IsUtf8, chars}
+use Rattle.std.specs.Str.{IsCharBoundary}
+use Rattle.std.specs.Borrow.{Bor}
+use Rattle.std.proofs.Math.Seq.{drop-append_seam}
+use Rattle.std.proofs.lemmas.Bool.Decides.{nat_tests}
+use Rattle.std.proofs.lemmas.Str.{IsCharBoundary-at_seam, encode_ascii, IsUtf8-past_char, chars_past_char}
+use lib.Utf8.{encode}
+use Rattle.ostep_lex.specs.Digits.{number_from, begins_digit, octal_number, hexadecimal_number, Number}
+use Rattle.ostep_lex.specs.Character.{is_run, is_octal, backslash, is_white, is_hexadecimal, greater_than}
+use Rattle.ostep_lex.specs.declared.fault.LexFault.TheVariants.{UnclosedString, BadEscape, OctalRange, BadData, OddData}
+use Rattle.ostep_lex.specs.Encoding.{Places, place}
+use Rattle.ostep_lex.specs.Stands
+use Rattle.ostep_lex.specs.Stands.{EscapeFault, QuotedFault, OctetsFault}
+use Rattle.ostep_lex.specs.Quoted
+use Rattle.ostep_lex.specs.Quoted.{Run, begins_run, Escape, Piece, Quoted, escaped, is_raw, unit_letter}
+use Rattle.ostep_lex.specs.Octets
+use Rattle.ostep_lex.specs.Octets.{OctetsPiece, Octets}
+use Rattle.ostep_lex.specs.declared.source.Source.{Source}
+use Rattle.ostep_lex.specs.declared.source.Source.TheVariants.{Utf8}
+use Rattle.ostep_lex.specs.Source.{IsWhole}
+use Rattle.ostep_lex.specs.Pairs.{Pairs, IsDigitOf, IsPair, AppendsPairs, AppendsFront, AppendsLead}
+use Rattle.ostep_lex.specs.declared.cursor.Cursor.{Cursor}
+use Rattle.ostep_lex.specs.declared.fault.LexFault.{LexFault}
+use Rattle.ostep_lex.specs.Cursor.{ahead, PassesPairs}
+use Rattle.ostep_lex.proofs.TextLemmas.{whole_utf8}
+use Rattle.ostep_lex.proofs.StretchLemmas.{AsciiFront}
+
+pub number_stop : (base count high : ℕ) (text : List ℕ) → begins_digit base text ≡ false → number_from base count high text ≡ record { value = high; behind = text }
+number_stop base zero high text e = refl
+number_stop base (suc count) high [] e = refl
+number_stop base (suc count) high (c ∷ rest) e = rw e refl
+
+pub number_more : (base count high c : ℕ) (text rest : List ℕ) → text ≡ c ∷ rest → digit_value c < base
+    → number_from base (suc count) high text ≡ number_from base count (high * base + digit_value c) rest
+number_more base count high c text rest e d = rw (e, lt-ltb (digit_value c) base d) refl
+
+pow_base : (base k : ℕ) → base ≤ 16 → base ^ k ≤ 16 ^ k
+pow_base base zero h = rw (pow-zero base) (lit≤ tt)
+pow_base base (suc k) h = rw (pow-suc base k, pow-suc 16 k) (mul-le-mul (pow_base base k h) h)
+
+pow_16 : (k : ℕ) → k ≤ 4 → 16 ^ k ≤ 65536
+pow_16 zero h = lit≤ tt
+pow_16 (suc zero) h = lit≤ tt
+pow_16 (suc (suc zero)) h = lit≤ tt
+pow_16 (suc (suc (suc zero))) h = lit≤ tt
+pow_16 (suc (suc (suc (suc zero)))) h = lit≤ tt
+pow_16 (suc (suc (suc (suc (suc k))))) h = absurd (omega arith)
+
+pub pow_limit : (base k : ℕ) → base ≤ 16 → k ≤ 4 → base ^ k ≤ 65536
+pow_limit base k b h = omega (arith, pow_base base k b, pow_16 k h)
+
+pub digit_limit : (base k value digit : ℕ) → value < base ^ k → digit < base → value * base + digit < base ^ (k + 1)
+digit_limit base k value digit v d =
+    let e : base ^ (k + 1) ≡ base ^ k * base = ap (λ n. base ^ n) (add-one k) ∙ pow-suc base k in
+    let m : (value + 1) * base ≤ base ^ k * base = mul-le-mul (omega arith) (omega arith) in
+    omega (arith, e, m)
+
+-- one digit more, in a loop that has read some of them
+pub number_step : (base count read high digit c : ℕ) (text rest : List ℕ) → text ≡ c ∷ rest → read < count → (digit_value c < base) × (digit ≡ digit_value c)
+    → number_from base (count - read) high text ≡ number_from base (count - (read + 1)) (high * base + digit) rest
+number_step base count read high digit c text rest e below d =
+    let left : count - read ≡ suc (count - (read + 1)) = omega arith in
+    ap (λ n. number_from base n high text) left ∙ number_more base (count - (read + 1)) high c text rest e d.0
+    ∙ ap (λ v. number_from base (count - (read + 1)) (high * base + v) rest) (sym d.1)
+
+pub number_no_digit : (base count high c : ℕ) (text rest : List ℕ) → text ≡ c ∷ rest → ¬ (digit_value c < base) → number_from base count high text ≡ record { value = high; behind = text }
+number_no_digit base count high c text rest e d =
+    number_stop base count high text (ap (begins_digit base) e ∙ le-ltb (digit_value c) base (omega arith))
+
+pub number_no_text : (base count high : ℕ) (text : List ℕ) → text ≡ [] → number_from base count high text ≡ record { value = high; behind = text }
+number_no_text base count high text e = number_stop base count high text (ap (begins_digit base) e)
+
+-- a list with a piece at its end, before more
+pub appended : {A : Type 0} (old new piece more : List A) → new ≡ old ++ piece → old ++ (piece ++ more) ≡ new ++ more
+appended old new piece more e = sym (ap (λ w. w ++ more) e ∙ append_assoc old piece more)
+
+pub run_more : {c : ℕ} {text rest more end : List ℕ} → text ≡ c ∷ rest → is_run c ≡ true → Run rest more end → Run text (c ∷ more) end
+run_more {c} {more = more} {end = end} e t r = subst (λ x. Run x (c ∷ more) end) (sym e) (Quoted.more t r)
+
+pub run_stop : {c : ℕ} {text rest : List ℕ} → text ≡ c ∷ rest → is_run c ≡ false → Run text [] text
+run_stop e t = Quoted.stop (ap begins_run e ∙ t)
+
+pub run_none : {text : List ℕ} → text ≡ [] → Run text [] text
+run_none e = Quoted.stop (ap begins_run e)
+
+pub escape_octal : (text end : List ℕ) (value : ℕ) → begins_digit 8 text ≡ true → octal_number text ≡ record { value = value; behind = end } → value ≤ 0x7f
+    → Escape text (value ∷ []) end
+escape_octal text end value d n low =
+    let limit : (octal_number text).value ≤ 0x7f = rw n low in
+    subst (λ (m : Number). Escape text (m.value ∷ []) m.behind) n (Quoted.octal d limit)
+
+pub escape_unit : (text digits end : List ℕ) (value : ℕ) → text ≡ unit_letter ∷ digits → begins_digit 16 digits ≡ true
+    → hexadecimal_number digits ≡ record { value = value; behind = end } → Escape text (value ∷ []) end
+escape_unit text digits end value e d n =
+    subst (λ x. Escape x (value ∷ []) end) (sym e) (subst (λ (m : Number). Escape (unit_letter ∷ digits) (m.value ∷ []) m.behind) n (Quoted.unit d))
+
+pub escape_character : (text rest : List ℕ) (c : ℕ) → text ≡ c ∷ rest → is_octal c ≡ false → (c == unit_letter) ≡ false → Escape text (escaped c) rest
+escape_character text rest c e o u = subst (λ x. Escape x (escaped c) rest) (sym e) (Quoted.character o u)
+
+pub octal_fault : (p : Places) (start at value : ℕ) (text rest end : List ℕ) → text ≡ backslash ∷ rest → begins_digit 8 rest ≡ true
+    → octal_number rest ≡ record { value = value; behind = end } → 0x7f < value → at ≡ place p text → EscapeFault p start text (OctalRange at)
+octal_fault p start at value text rest end e d n high a =
+    let limit : 0x7f < (octal_number rest).value = rw n high in
+    rw (a, e) (Stands.too_high d limit)
+
+pub unit_fault : (p : Places) (start at : ℕ) (text letter rest : List ℕ) → text ≡ backslash ∷ letter → letter ≡ unit_letter ∷ rest → begins_digit 16 rest ≡ false
+    → at ≡ place p text → EscapeFault p start text (BadEscape at)
+unit_fault p start at text letter rest e l d a = rw (a, e, l) (Stands.no_digit d)
+
+pub cut_fault : (p : Places) (start : ℕ) (text rest : List ℕ) → text ≡ backslash ∷ rest → rest ≡ [] → EscapeFault p start text (UnclosedString start)
+cut_fault p start text rest e r = rw (e, r) Stands.cut_escape
+
+number_shorter : (base count high : ℕ) (text : List ℕ) → length (number_from base count high text).behind ≤ length text
+number_shorter base zero high text = omega arith
+number_shorter base (suc count) high [] = omega arith
+number_shorter base (suc count) high (c ∷ rest) = either (is_digit c base) (number_shorter base count (high * base + digit_value c) rest)
+  where
+    either : (b : Bool) → length (number_from base count (high * base + digit_value c) rest).behind ≤ length rest
+        → length (cond b (number_from base count (high * base + digit_value c) rest) (record { value = high; behind = c ∷ rest })).behind ≤ length (c ∷ rest)
+    either true h = omega arith
+    either false h = omega arith
+
+escape_shorter : {text units rest : List ℕ} → Escape text units rest → length rest ≤ length text
+escape_shorter (Quoted.octal {text = text} d l) = number_shorter 8 3 0 text
+escape_shorter (Quoted.unit {text = text} d) = let h = number_shorter 16 4 0 text in omega (arith, h)
+escape_shorter (Quoted.character o u) = omega arith
+
+pub piece_shorter : {mark : ℕ} {text units rest : List ℕ} → Piece mark text units rest → length rest < length text
+piece_shorter (Quoted.raw r) = omega arith
+piece_shorter (Quoted.escape e) = let h = escape_shorter e in omega (arith, h)
+
+pub piece_raw : (mark c : ℕ) (text rest : List ℕ) → text ≡ c ∷ rest → (c == backslash) ≡ false → (c == mark) ≡ false → Piece mark text (encode_utf16 c) rest
+piece_raw mark c text rest e b m =
+    subst (λ x. Piece mark x (encode_utf16 c) rest) (sym e) (Quoted.raw (rw (b, m) refl))
+
+pub piece_escape : (mark c : ℕ) (text rest units end : List ℕ) → text ≡ c ∷ rest → c ≡ backslash → Escape rest units end → Piece mark text units end
+piece_escape mark c text rest units end e b r =
+    subst (λ x. Piece mark x units end) (sym (e ∙ ap (λ d. d ∷ rest) b)) (Quoted.escape r)
+
+pub quoted_close : (mark c : ℕ) (text rest : List ℕ) → text ≡ c ∷ rest → (c == mark) ≡ true → Quoted mark text [] rest
+quoted_close mark c text rest e m = subst (λ x. Quoted mark x [] rest) (sym e) (Quoted.close m)
+
+pub cut_string_fault : (p : Places) (start mark : ℕ) (text : List ℕ) → text ≡ [] → QuotedFault p start mark text (UnclosedString start)
+cut_string_fault p start mark text e = subst (λ x. QuotedFault p start mark x (UnclosedString start)) (sym e) Stands.cut_string
+
+pub piece_white : (c : ℕ) (text rest : List ℕ) → text ≡ c ∷ rest → is_white c ≡ true → OctetsPiece text [] rest
+piece_white c text rest e w = subst (λ x. OctetsPiece x [] rest) (sym e) (Octets.white w)
+
+pub piece_pair : (c d : ℕ) (high low : ℕ) (text middle rest : List ℕ) → text ≡ c ∷ middle → middle ≡ d ∷ rest → is_hexadecimal c ≡ true → is_hexadecimal d ≡ true
+    → high ≡ digit_value c → low ≡ digit_value d → OctetsPiece text ((high * 16 + low) ∷ []) rest
+piece_pair c d high low text middle rest e f h i v w = rw (e, f, v, w) (Octets.pair h i)
+
+pub octets_close : (c : ℕ) (text rest : List ℕ) → text ≡ c ∷ rest → c ≡ greater_than → Octets text [] rest
+octets_close c text rest e g = rw (e, g) Octets.close
+
+pub octets_piece_shorter : {text octets rest : List ℕ} → OctetsPiece text octets rest → length rest < length text
+octets_piece_shorter (Octets.white w) = omega arith
+octets_piece_shorter (Octets.pair h i) = omega arith
+
+none_of_data : (c : ℕ) → is_white c ≡ false → is_hexadecimal c ≡ false → (c == greater_than) ≡ false → Stands.is_of_data c ≡ false
+none_of_data c w h g = rw (w, h, g) refl
+
+pub other_fault : (p : Places) (at c : ℕ) (text rest : List ℕ) → text ≡ c ∷ rest → is_white c ≡ false → begins_digit 16 text ≡ false → (c == greater_than) ≡ false
+    → at ≡ place p text → OctetsFault p text (BadData at)
+other_fault p at c text rest e w h g a =
+    rw (a, e) (Stands.other (none_of_data c w (ap (begins_digit 16) (sym e) ∙ h) g))
+
+pub odd_fault : (p : Places) (at c : ℕ) (text rest : List ℕ) → text ≡ c ∷ rest → is_hexadecimal c ≡ true → begins_digit 16 rest ≡ false
+    → at ≡ place p text → OctetsFault p text (OddData at)
+odd_fault p at c text rest e h d a = rw (a, e) (Stands.odd h d)
+
+pub cut_data_fault : (p : Places) (at : ℕ) (text : List ℕ) → text ≡ [] → at ≡ place p text → OctetsFault p text (BadData at)
+cut_data_fault p at text e a = rw (a, e) Stands.cut_data
+
+ascii : (c : ℕ) → is_hexadecimal c ≡ true → c < 128
+ascii c h = grind (arith, nat_tests)
+
+pub one_pair : {text second behind : List ℕ} {c d high low : ℕ} → text ≡ c ∷ second → second ≡ d ∷ behind → IsDigitOf c high → IsDigitOf d low
+    → IsPair text (high * 16 + low) behind
+one_pair {text} {second} {behind} {c} {d} {high} {low} e f h l = record {
+  high = c;
+  low = d;
+  first = e ∙ ap (λ w. c ∷ w) f;
+  pair = rw (h.valued, l.valued) (Pairs.more h.hexadecimal l.hexadecimal Pairs.none);
+}
+
+pairs-append : {xs us ys vs : List ℕ} → Pairs xs us → Pairs ys vs → Pairs (xs ++ ys) (us ++ vs)
+pairs-append Pairs.none q = q
+pairs-append (Pairs.more h l p) q = Pairs.more h l (pairs-append p q)
+
+pub pairs_none : (octets text : List ℕ) → AppendsPairs octets octets text text
+pairs_none octets text = record { digits = []; values = []; pairs = Pairs.none; split = refl; appended = sym (append-nil octets) }
+
+pub pairs_more : {octets found more text rest behind : List ℕ} {octet : ℕ} → AppendsPairs octets found text rest → IsPair rest octet behind → more ≡ found ++ octet ∷ []
+    → AppendsPairs octets more text behind
+pairs_more {octets} {found} {more} {text} {rest} {behind} {octet} a p e = record {
+  digits = a.digits ++ p.high ∷ p.low ∷ [];
+  values = a.values ++ octet ∷ [];
+  pairs = pairs-append a.pairs p.pair;
+  split = a.split ∙ ap (λ w. a.digits ++ w) p.first ∙ sym (append_assoc a.digits (p.high ∷ p.low ∷ []) behind);
+  appended = e ∙ ap (λ w. w ++ octet ∷ []) a.appended ∙ append_assoc octets a.values (octet ∷ []);
+}
+
+-- of a text, the characters of pairs of digits are their octets, and behind these stands a text
+front_text : {digits values : List ℕ} (rest : List ℕ) → Pairs digits values → IsUtf8 (digits ++ rest) → AsciiFront digits rest
+front_text rest Pairs.none u = record { utf8 = u; characters = refl }
+front_text rest (Pairs.more {c = c} {d = d} {digits = cs} h l p) u =
+    let e : c ∷ d ∷ (cs ++ rest) ≡ encode c ++ (d ∷ (cs ++ rest)) = sym (ap (λ w. w ++ (d ∷ (cs ++ rest))) (encode_ascii c (ascii c h))) in
+    let v = IsUtf8-past_char (c ∷ d ∷ (cs ++ rest)) (d ∷ (cs ++ rest)) c u e in
+    let f : d ∷ (cs ++ rest) ≡ encode d ++ (cs ++ rest) = sym (ap (λ w. w ++ (cs ++ rest)) (encode_ascii d (ascii d l))) in
+    let r = front_text rest p (IsUtf8-past_char (d ∷ (cs ++ rest)) (cs ++ rest) d v f) in
+    record {
+      utf8 = r.utf8;
+      characters = chars_past_char (c ∷ d ∷ (cs ++ rest)) (d ∷ (cs ++ rest)) c u e
+          ∙ ap (λ w. c ∷ w) (chars_past_char (d ∷ (cs ++ rest)) (cs ++ rest) d v f ∙ ap (λ w. d ∷ w) r.characters);
+    }
+
+pub pairs_text : {octets more text behind : List ℕ} → AppendsPairs octets more text behind → IsUtf8 text → AppendsFront octets more text behind
+pairs_text {octets} {more} {text} {behind} a u =
+    let r = front_text behind a.pairs (subst IsUtf8 a.split u) in
+    record { passes = a; characters = ap chars a.split ∙ r.characters; utf8 = r.utf8 }
+
+pub pairs_boundary : {octets more text behind : List ℕ} → AppendsPairs octets more text behind → IsUtf8 text → IsCharBoundary text (length text - length behind)
+pairs_boundary {octets} {more} {text} {behind} a u =
+    let at : length a.digits ≡ length text - length behind = omega (arith, length-append a.digits behind, ap length a.split) in
+    subst (IsCharBoundary text) at (IsCharBoundary-at_seam text a.digits behind a.split (pairs_text a u).utf8)
+
+pub pairs_dropped : {octets more text behind : List ℕ} → AppendsPairs octets more text behind → drop (length text - length behind) text ≡ behind
+pairs_dropped {octets} {more} {text} {behind} a =
+    let at : length text - length behind ≡ length a.digits = omega (arith, length-append a.digits behind, ap length a.split) in
+    ap (λ n. drop n text) at ∙ ap (drop (length a.digits)) a.split ∙ drop-append_seam a.digits behind
+
+pub pairs_lead : {octets more : List ℕ} {source : Source} {text behind : Bor (List ℕ)} → source ≡ Utf8 text → AppendsFront octets more text.now behind.now
+    → AppendsLead octets more source (Utf8 behind)
+pairs_lead {octets} {more} {source} {text} {behind} e f = subst (λ x. AppendsLead octets more x (Utf8 behind)) (sym e)
+    (let a = f.passes in record {
+      passes = record { digits = a.digits; values = a.values; pairs = a.pairs; split = f.characters; appended = a.appended };
+      whole = whole_utf8 behind f.utf8;
+      encoding = refl;
+      shorter = omega (arith, length-append a.digits behind.now, ap length a.split);
+    })
+
+pub no_lead : {octets : List ℕ} {source : Source} → IsWhole source → AppendsLead octets octets source source
+no_lead {octets} {source} w = record { passes = pairs_none octets _; whole = w; encoding = refl; shorter = omega arith }
+
+octets_front : {digits values : List ℕ} (rest more end : List ℕ) → Pairs digits values → Octets rest more end → Octets (digits ++ rest) (values ++ more) end
+octets_front rest more end Pairs.none r = r
+octets_front rest more end (Pairs.more h l p) r = Octets.piece (Octets.pair h l) (octets_front rest more end p r)
+
+fault_front : {digits values : List ℕ} (places : Places) (rest : List ℕ) (fault : LexFault) → Pairs digits values → OctetsFault places rest fault → OctetsFault places (digits ++ rest) fault
+fault_front places rest fault Pairs.none r = r
+fault_front places rest fault (Pairs.more h l p) r = Stands.piece (Octets.pair h l) (fault_front places rest fault p r)
+
+pub octets_pairs : {octets appended text behind : List ℕ} {more end : List ℕ} (a : AppendsPairs octets appended text behind) → Octets behind more end
+    → Octets text (a.values ++ more) end
+octets_pairs {behind = behind} {more} {end} a r = subst (λ t. Octets t (a.values ++ more) end) (sym a.split) (octets_front behind more end a.pairs r)
+
+pub fault_pairs : {places : Places} {octets appended text behind : List ℕ} {fault : LexFault} → AppendsPairs octets appended text behind
+    → OctetsFault places behind fault → OctetsFault places text fault
+fault_pairs {places} {behind = behind} {fault} a r = subst (λ t. OctetsFault places t fault) (sym a.split) (fault_front places behind fault a.pairs r)
+
+pub pairs_shorter : {octets more : List ℕ} {old new : Cursor} → PassesPairs octets more old new → length (ahead new) ≤ length (ahead old)
+pairs_shorter {octets} {more} {old} {new} p = omega (arith, length-append p.passes.digits (ahead new), ap length p.passes.split)
