@@ -29,8 +29,7 @@ use Rattle.ostep_text.specs.Due.{ValueDue, RowValueDue, RowDue}
 use Rattle.ostep_text.proofs.MachineLemmas.{stays-dead}
 use Rattle.ostep_text.proofs.PhraseSteps.{push_row, rows-more}
 use Rattle.ostep_text.proofs.SortingSteps.{reordered-has}
-use Rattle.ostep_text.proofs.Standing.{before-are}
-use Rattle.ostep_text.proofs.Wholes.{string-refuses}
+use Rattle.ostep_text.proofs.Standing.{before-are, string-refuses}
 use Rattle.ostep_text.proofs.DueSteps.{row-more, bare-due}
 use Rattle.ostep_text.proofs.TakeSteps.{no-pairs-taken, pair-taken}
 

@@ -9,7 +9,6 @@ pub mod WrittenUnits
 pub mod WrittenLexing
 pub mod WrittenOctets
 pub mod WrittenProof
-pub mod TokenKinds
 pub mod MachineLemmas
 pub mod PhraseSteps
 pub mod SortingSteps
@@ -17,8 +16,6 @@ pub mod PlaceSteps
 pub mod Standing
 pub mod DueSteps
 pub mod TakeSteps
-pub mod Wholes
-pub mod Refusals
 pub mod ReadSteps
 pub mod BareSteps
 mod AsciiLemmas

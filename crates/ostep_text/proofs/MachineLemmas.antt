@@ -1,12 +1,18 @@
--- A phrase leads the machine from where a value is due to what is behind it; so a whole phrase is
--- accepted.
+-- A phrase leads the machine from where a value is due to what is behind it, so a whole phrase is
+-- accepted; and tokens that lead it nowhere.
 use Rattle.std.proofs.Common.{◌≡◌, ℕ, true, false, List, [], ◌∷◌, refl, ap, ◌∙◌}
+use Rattle.std.specs.Prelude.{Vec}
+use Rattle.std.specs.declared.alloc.Global.{Global}
 use Rattle.plist_value.specs.Plist.{Plist, Items, Pairs}
-use Rattle.ostep_lex.specs.Lexeme.{Lexeme, semicolon, paren_close, brace_close}
+use Rattle.ostep_lex.specs.Lexeme.{Lexeme, semicolon, paren_close, brace_close, lexeme_of}
 use Rattle.ostep_text.specs.Phrase.{Phrase, a_string, some_data, a_list, a_table, ItemsPhrase, items_end, last_item, an_item, RowPhrase, with_value, key_alone, RowsPhrase, rows_end, a_row, TopPhrase, a_value, bare_table}
 use Rattle.ostep_text.specs.Stands.{IsPhrase}
 use Rattle.ostep_text.specs.Machine
-use Rattle.ostep_text.specs.Machine.{Around, State, IsTable, braces, without, runs, accepts}
+use Rattle.ostep_text.specs.Machine.{Around, State, IsTable, braces, without, runs, accepts, step, begun, item_or_end, ended, row_or_end, behind_key}
+use Rattle.ostep_lex.specs.declared.token.TokenKind.{TokenKind}
+use Rattle.ostep_lex.specs.declared.token.TokenKind.TheVariants.{BraceOpen, BraceClose, ParenOpen, ParenClose, Comma, Semicolon, Equals, Text, Octets}
+use Rattle.ostep_text.specs.Begun.{begins_value}
+use Rattle.ostep_text.specs.Reading.{Front}
 
 behind-value : {t : Around} → IsTable t → (rest : List Lexeme) → runs (Machine.behind t) (semicolon ∷ rest) ≡ runs (Machine.rows t) rest
 behind-value braces rest = refl
@@ -72,3 +78,131 @@ not-accepted e p = cc (e, phrase-accepted p)
 pub stays-dead : (tokens : List Lexeme) → runs Machine.dead tokens ≡ Machine.dead
 stays-dead [] = refl
 stays-dead (l ∷ ls) = stays-dead ls
+
+-- from a state that the token ends nothing goes on
+pub leads-nowhere : (whole : Front) (s : State) (l : Lexeme) → ((rest : List Lexeme) → runs Machine.front (whole rest) ≡ runs s rest) → step s l ≡ Machine.dead
+    → (rest : List Lexeme) → runs Machine.front (whole (l ∷ rest)) ≡ Machine.dead
+leads-nowhere whole s l d e rest = d (l ∷ rest) ∙ (ap (λ x. runs x rest) e ∙ stays-dead rest)
+
+pub item-begun : (a : Around) (kind : TokenKind) → ¬ (kind ≡ ParenClose) → item_or_end a (lexeme_of kind) ≡ begun (Machine.in_list a) (lexeme_of kind)
+item-begun a BraceOpen n = refl
+item-begun a BraceClose n = refl
+item-begun a ParenOpen n = refl
+item-begun a ParenClose n = absurd (n refl)
+item-begun a Comma n = refl
+item-begun a Semicolon n = refl
+item-begun a Equals n = refl
+item-begun a (Text units) n = refl
+item-begun a (Octets xs) n = refl
+
+pub item-ended : (a : Around) (kind : TokenKind) → ¬ (kind ≡ ParenClose) → ¬ (kind ≡ Comma) → ended (Machine.in_list a) (lexeme_of kind) ≡ Machine.dead
+item-ended a BraceOpen n m = refl
+item-ended a BraceClose n m = refl
+item-ended a ParenOpen n m = refl
+item-ended a ParenClose n m = absurd (n refl)
+item-ended a Comma n m = absurd (m refl)
+item-ended a Semicolon n m = refl
+item-ended a Equals n m = refl
+item-ended a (Text units) n m = refl
+item-ended a (Octets xs) n m = refl
+
+pub row-ended : {t : Around} → IsTable t → (kind : TokenKind) → ¬ (kind ≡ Semicolon) → ended t (lexeme_of kind) ≡ Machine.dead
+row-ended braces BraceOpen n = refl
+row-ended braces BraceClose n = refl
+row-ended braces ParenOpen n = refl
+row-ended braces ParenClose n = refl
+row-ended braces Comma n = refl
+row-ended braces Semicolon n = absurd (n refl)
+row-ended braces Equals n = refl
+row-ended braces (Text units) n = refl
+row-ended braces (Octets xs) n = refl
+row-ended without BraceOpen n = refl
+row-ended without BraceClose n = refl
+row-ended without ParenOpen n = refl
+row-ended without ParenClose n = refl
+row-ended without Comma n = refl
+row-ended without Semicolon n = absurd (n refl)
+row-ended without Equals n = refl
+row-ended without (Text units) n = refl
+row-ended without (Octets xs) n = refl
+
+pub key-ended : (t : Around) (kind : TokenKind) → ¬ (kind ≡ Equals) → ¬ (kind ≡ Semicolon) → behind_key t (lexeme_of kind) ≡ Machine.dead
+key-ended t BraceOpen n m = refl
+key-ended t BraceClose n m = refl
+key-ended t ParenOpen n m = refl
+key-ended t ParenClose n m = refl
+key-ended t Comma n m = refl
+key-ended t Semicolon n m = absurd (m refl)
+key-ended t Equals n m = absurd (n refl)
+key-ended t (Text units) n m = refl
+key-ended t (Octets xs) n m = refl
+
+pub table-ended : (a : Around) (kind : TokenKind) → ¬ (kind ≡ BraceClose) → ((units : List ℕ) → ¬ (kind ≡ Text units))
+    → row_or_end (Machine.in_braces a) (lexeme_of kind) ≡ Machine.dead
+table-ended a BraceOpen n m = refl
+table-ended a BraceClose n m = absurd (n refl)
+table-ended a ParenOpen n m = refl
+table-ended a ParenClose n m = refl
+table-ended a Comma n m = refl
+table-ended a Semicolon n m = refl
+table-ended a Equals n m = refl
+table-ended a (Text units) n m = absurd (m units refl)
+table-ended a (Octets xs) n m = refl
+
+pub bare-ended : (kind : TokenKind) → ((units : List ℕ) → ¬ (kind ≡ Text units)) → row_or_end Machine.bare (lexeme_of kind) ≡ Machine.dead
+bare-ended BraceOpen m = refl
+bare-ended BraceClose m = refl
+bare-ended ParenOpen m = refl
+bare-ended ParenClose m = refl
+bare-ended Comma m = refl
+bare-ended Semicolon m = refl
+bare-ended Equals m = refl
+bare-ended (Text units) m = absurd (m units refl)
+bare-ended (Octets xs) m = refl
+
+pub value-ended : (a : Around) (kind : TokenKind) → ((units : List ℕ) → ¬ (kind ≡ Text units)) → ((xs : Vec ℕ Global) → ¬ (kind ≡ Octets xs)) → ¬ (kind ≡ ParenOpen) → ¬ (kind ≡ BraceOpen)
+    → begun a (lexeme_of kind) ≡ Machine.dead
+value-ended a BraceOpen t o p b = absurd (b refl)
+value-ended a BraceClose t o p b = refl
+value-ended a ParenOpen t o p b = absurd (p refl)
+value-ended a ParenClose t o p b = refl
+value-ended a Comma t o p b = refl
+value-ended a Semicolon t o p b = refl
+value-ended a Equals t o p b = refl
+value-ended a (Text units) t o p b = absurd (t units refl)
+value-ended a (Octets xs) t o p b = absurd (o xs refl)
+
+pub value-none : (kind : TokenKind) → ((units : List ℕ) → ¬ (kind ≡ Text units)) → ((xs : Vec ℕ Global) → ¬ (kind ≡ Octets xs)) → ¬ (kind ≡ ParenOpen) → ¬ (kind ≡ BraceOpen)
+    → begins_value (lexeme_of kind ∷ []) ≡ false
+value-none BraceOpen t o p b = absurd (b refl)
+value-none BraceClose t o p b = refl
+value-none ParenOpen t o p b = absurd (p refl)
+value-none ParenClose t o p b = refl
+value-none Comma t o p b = refl
+value-none Semicolon t o p b = refl
+value-none Equals t o p b = refl
+value-none (Text units) t o p b = absurd (t units refl)
+value-none (Octets xs) t o p b = absurd (o xs refl)
+
+-- at the front too, but for a string
+pub front-begun : (kind : TokenKind) → ((units : List ℕ) → ¬ (kind ≡ Text units)) → Machine.at_front (lexeme_of kind) ≡ begun Machine.top (lexeme_of kind)
+front-begun BraceOpen t = refl
+front-begun BraceClose t = refl
+front-begun ParenOpen t = refl
+front-begun ParenClose t = refl
+front-begun Comma t = refl
+front-begun Semicolon t = refl
+front-begun Equals t = refl
+front-begun (Text units) t = absurd (t units refl)
+front-begun (Octets xs) t = refl
+
+pub none-begins : (a : Around) (kind : TokenKind) → begins_value (lexeme_of kind ∷ []) ≡ false → begun a (lexeme_of kind) ≡ Machine.dead
+none-begins a BraceOpen e = cc e
+none-begins a BraceClose e = refl
+none-begins a ParenOpen e = cc e
+none-begins a ParenClose e = refl
+none-begins a Comma e = refl
+none-begins a Semicolon e = refl
+none-begins a Equals e = refl
+none-begins a (Text units) e = cc e
+none-begins a (Octets xs) e = cc e

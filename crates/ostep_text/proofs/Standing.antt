@@ -1,25 +1,31 @@
--- Faults that stand if the octets have tokens, from what was read.
-use Rattle.std.proofs.Common.{◌≡◌, ℕ, ◌≤◌, true, false, List, [], ◌∷◌, ◌++◌, length, refl, sym, ap, subst, ◌∙◌, append_assoc, append-nil, arith}
+-- Faults that are true if the octets have tokens, from what was read, and the front of a text.
+use Rattle.std.proofs.Common.{◌≡◌, ℕ, ◌≤◌, true, false, List, [], ◌∷◌, ◌++◌, length, refl, sym, ap, subst, ◌∙◌, append_assoc, append-nil, arith, ◌*◌}
 use Rattle.std.proofs.lemmas.List.{map-append}
 use Rattle.plist_value.specs.declared.budget.Budget.{Budget}
-use Rattle.ostep_lex.specs.Lexeme.{Lexeme, Placed}
+use Rattle.ostep_lex.specs.Lexeme.{Lexeme, Placed, text as string, semicolon}
 use Rattle.ostep_lex.specs.Lexing.{HasTokens}
 use Rattle.ostep_lex.specs.declared.fault.LexFault.{LexFault}
 use Rattle.ostep_lex.specs.declared.fault.LexFault.TheVariants as lexer
 use Rattle.ostep_lex.specs.Stands.{Stands as StandsInTokens}
 use Rattle.ostep_lex.proofs.LawProofs.{tokens_continue}
-use Rattle.ostep_text.specs.declared.fault.TextFault.TheVariants.{Expected, Junk}
+use Rattle.ostep_text.specs.declared.fault.TextFault.TheVariants.{Expected, Junk, DuplicateKey}
 use Rattle.ostep_text.specs.Fault.{of_tokens}
-use Rattle.ostep_text.specs.Begun.{Before, NodeAt}
+use Rattle.ostep_text.specs.Begun.{Before, NodeAt, ValueAt, nothing, opened, with_rows, begins_value, RowsAt, with_key}
 use Rattle.ostep_text.specs.Text.{lexemes}
 use Rattle.ostep_text.specs.Stands as Faults
 use Rattle.ostep_text.specs.Stands.{Stands, Splits, BeginsAt, BeginsPhrase, IsPhrase, payload_at}
 use Rattle.ostep_text.specs.declared.tokens.Tokens.{Tokens}
 use Rattle.ostep_text.specs.Machine
-use Rattle.ostep_text.specs.Machine.{runs, accepts}
-use Rattle.ostep_text.specs.Reading.{Front, AreBefore, HasRead, StandsIfLexed, MayRefuse, IsLeft}
-use Rattle.ostep_text.specs.Due.{IsOpen}
-use Rattle.ostep_text.proofs.MachineLemmas.{not-accepted, phrase-accepted}
+use Rattle.ostep_text.specs.Machine.{runs, accepts, at_front, begun, Around}
+use Rattle.ostep_text.specs.Reading.{Front, AreBefore, HasRead, StandsIfLexed, MayRefuse, IsLeft, ReadsValue}
+use Rattle.ostep_text.specs.Due.{IsOpen, RowDue}
+use Rattle.plist_value.specs.Plist.{Plist, no_pairs, Pairs}
+use Rattle.ostep_text.specs.Phrase.{rows_end, TopPhrase, a_value}
+use Rattle.ostep_text.specs.Begun
+use Rattle.ostep_text.specs.Sorting.{has_key}
+use Rattle.ostep_text.proofs.MachineLemmas.{not-accepted, phrase-accepted, value-runs, stays-dead}
+use Rattle.ostep_text.proofs.DueSteps.{key-node, alone-node}
+use Rattle.ostep_text.proofs.SortingSteps.{reordered-has}
 
 -- a fault of the tokens
 pub tokens-stand : (octets : List ℕ) (fault : LexFault) → StandsInTokens octets fault → Stands octets (of_tokens fault)
@@ -152,3 +158,88 @@ node-refuses {octets} {b = b} tokens more token whole levels load left f h n m i
       let load_is : load ≤ payload_at (token.lexeme ∷ lexemes (more ++ g.0)) = m (lexemes (more ++ g.0)) in
       record { before = b; from = token.lexeme ∷ lexemes (more ++ g.0); begins = g.1; within = omega (arith, i.payload_left); past = omega (arith, i.payload_left, load_is) };
 }
+
+-- the same tokens were read
+pub same-read : {octets : List ℕ} {tokens : List Placed} {old new : Tokens} → HasRead octets tokens old → new ≡ old → HasRead octets tokens new
+same-read {octets} {tokens} h e = subst (λ x. HasRead octets tokens x) (sym e) h
+
+pub value-ends : {octets : List ℕ} {first : Lexeme} {v : Plist} {source : Tokens} (r : ReadsValue octets [] first v source) → at_front first ≡ begun Machine.top first
+    → (l : Lexeme) (rest : List Lexeme) → runs Machine.front (first ∷ r.inside (l ∷ rest)) ≡ Machine.dead
+value-ends {first = first} r e l rest =
+    ap (λ s. runs s (r.inside (l ∷ rest))) e ∙ (value-runs Machine.top (r.spells (l ∷ rest)) ∙ stays-dead rest)
+
+payload-string : (l : Lexeme) (key : List ℕ) (rest : List Lexeme) → l ≡ string key → payload_at (l ∷ rest) ≡ 2 * length key
+payload-string l key rest e = rw e refl
+
+-- at a string, a node whose payload is at most that of the string
+pub string-refuses : {octets : List ℕ} {source : Tokens} {b : Before} (tokens more : List Placed) (at : Placed) (octet : ℕ) (key : List ℕ) (whole : Front) (levels load : ℕ) (left : Budget)
+    → at.lexeme ≡ string key → at.start ≡ octet → ((rest : List Lexeme) → lexemes tokens ++ rest ≡ whole rest) → HasRead octets (tokens ++ at ∷ more) source
+    → ((others : List Placed) → NodeAt (whole (string key ∷ lexemes (more ++ others))) b (string key ∷ lexemes (more ++ others)))
+    → load ≤ 2 * length key → IsLeft left levels b → MayRefuse octets octet levels load left
+string-refuses {octets} {b = b} tokens more at octet key whole levels load left l s f h n m i =
+    subst (λ x. MayRefuse octets x levels load left) s
+    (node-refuses tokens more at whole levels load left f h
+    (λ others. subst (λ x. NodeAt (whole (x ∷ lexemes (more ++ others))) b (x ∷ lexemes (more ++ others))) (sym l) (n others))
+    (λ rest. let load_is : payload_at (at.lexeme ∷ rest) ≡ 2 * length key = payload-string at.lexeme key rest l in omega (arith, load_is, m)) i)
+
+-- the string at the front, as a value or a table that begins there, and as the first key
+pub front-refuses : {octets : List ℕ} {source : Tokens} (more : List Placed) (at : Placed) (octet : ℕ) (key : List ℕ) (levels load : ℕ) (left : Budget)
+    → at.lexeme ≡ string key → at.start ≡ octet → HasRead octets (at ∷ more) source → load ≤ 2 * length key → IsLeft left levels nothing → MayRefuse octets octet levels load left
+front-refuses more at octet key levels load left l s h m i =
+    string-refuses [] more at octet key (λ rest. rest) levels load left l s (λ rest. refl) h (λ others. Begun.value Begun.front refl) m i
+
+pub first_key-refuses : {octets : List ℕ} {source : Tokens} (more : List Placed) (at : Placed) (octet : ℕ) (key : List ℕ) (levels load : ℕ) (left : Budget)
+    → at.lexeme ≡ string key → at.start ≡ octet → HasRead octets (at ∷ more) source → load ≤ 2 * length key → IsLeft left levels (with_rows no_pairs (opened nothing))
+    → MayRefuse octets octet levels load left
+first_key-refuses more at octet key levels load left l s h m i =
+    string-refuses [] more at octet key (λ rest. rest) levels load left l s (λ rest. refl) h (λ others. Begun.key Begun.bare rows_end) m i
+
+-- a value that begins with the token
+pub value-refuses : {octets : List ℕ} {source : Tokens} {b : Before} (tokens : List Placed) (first : Placed) (l : Lexeme) (whole : Front) (levels load : ℕ) (left : Budget)
+    → first.lexeme ≡ l → AreBefore tokens whole → HasRead octets (tokens ++ first ∷ []) source → ((rest : List Lexeme) → ValueAt (whole rest) b rest)
+    → ((rest : List Lexeme) → begins_value (l ∷ rest) ≡ true) → ((rest : List Lexeme) → load ≤ payload_at (l ∷ rest)) → IsLeft left levels b
+    → MayRefuse octets first.start levels load left
+value-refuses {b = b} tokens first l whole levels load left e f h at begins m i =
+    node-refuses tokens [] first whole levels load left f h
+    (λ others. Begun.value (at (first.lexeme ∷ lexemes others)) (subst (λ x. begins_value (x ∷ lexemes others) ≡ true) (sym e) (begins (lexemes others))))
+    (λ rest. subst (λ x. load ≤ payload_at (x ∷ rest)) (sym e) (m rest)) i
+
+pub before-at : (tokens : List Placed) (token : Placed) (l : Lexeme) (whole : Front) → token.lexeme ≡ l → AreBefore tokens whole
+    → AreBefore (tokens ++ token ∷ []) (λ rest. whole (l ∷ rest))
+before-at tokens token l whole e f = subst (λ x. AreBefore (tokens ++ token ∷ []) (λ rest. whole (x ∷ rest))) e (before-more tokens token whole f)
+
+pub before-key : (tokens : List Placed) (at : Placed) (key : List ℕ) (whole : Front) → at.lexeme ≡ string key → AreBefore tokens whole
+    → AreBefore (tokens ++ at ∷ []) (λ rest. whole (string key ∷ rest))
+before-key tokens at key whole l f = subst (λ x. AreBefore (tokens ++ at ∷ []) (λ rest. whole (x ∷ rest))) l (before-more tokens at whole f)
+
+pub key-refuses : {octets : List ℕ} {source : Tokens} {b : Before} {t : Around} {rows pairs : Pairs} (tokens : List Placed) (at : Placed) (octet : ℕ) (key : List ℕ) (whole : Front)
+    (levels load : ℕ) (left : Budget) → at.lexeme ≡ string key → at.start ≡ octet → AreBefore tokens whole → HasRead octets (tokens ++ at ∷ []) source → RowDue whole b t rows pairs
+    → load ≤ 2 * length key → IsLeft left levels (with_rows rows b) → MayRefuse octets octet levels load left
+key-refuses tokens at octet key whole levels load left l s f h d m i =
+    string-refuses tokens [] at octet key whole levels load left l s f h (λ others. key-node key d (lexemes others)) m i
+
+pub alone-refuses : {octets : List ℕ} {source : Tokens} {b : Before} {t : Around} {rows pairs : Pairs} (tokens : List Placed) (at behind : Placed) (octet : ℕ) (key : List ℕ) (whole : Front)
+    (levels : ℕ) (left : Budget) → at.lexeme ≡ string key → at.start ≡ octet → behind.lexeme ≡ semicolon → AreBefore tokens whole → HasRead octets (tokens ++ at ∷ behind ∷ []) source
+    → RowDue whole b t rows pairs → has_key key pairs ≡ false → IsLeft left levels (with_key key (with_rows rows b)) → MayRefuse octets octet levels (2 * length key) left
+alone-refuses tokens at behind octet key whole levels left l s e f h d n i =
+    string-refuses tokens (behind ∷ []) at octet key whole levels (2 * length key) left l s f h
+    (λ others. rw e (alone-node key d n (lexemes others))) (omega arith) i
+
+pub twice-stands : {octets : List ℕ} {source : Tokens} {b : Before} {t : Around} {rows pairs : Pairs} (tokens : List Placed) (at : Placed) (octet : ℕ) (key : List ℕ) (whole : Front)
+    → at.lexeme ≡ string key → at.start ≡ octet → AreBefore tokens whole → HasRead octets (tokens ++ at ∷ []) source → RowDue whole b t rows pairs → has_key key pairs ≡ true
+    → StandsIfLexed octets (DuplicateKey octet)
+twice-stands {octets} {b = b} {rows = rows} tokens at octet key whole l s f h d y all t =
+    let p = splits-at tokens [] at whole f h all t in
+    let behind : List Lexeme = lexemes p.others in
+    record {
+      key = key;
+      before = whole [];
+      behind = behind;
+      splits = subst (λ x. Splits octets x (whole []) (string key ∷ behind)) s (subst (λ x. Splits octets at.start (whole []) (x ∷ behind)) l p.splits);
+      counted = b;
+      inside = d.inside (string key ∷ behind);
+      rows = rows;
+      table = subst (λ ls. RowsAt ls b (d.inside (string key ∷ behind))) (sym (whole-append tokens whole f (string key ∷ behind))) (d.at (string key ∷ behind));
+      rows_before = d.spells (string key ∷ behind);
+      twice = reordered-has key d.sorted.same ∙ y;
+    }

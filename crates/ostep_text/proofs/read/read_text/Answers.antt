@@ -12,7 +12,7 @@ use Rattle.ostep_text.specs.Reading.{HasRead, IsLeft}
 use Rattle.ostep_lex.proofs.Exits.{passed_on}
 use Rattle.plist_value.proofs.Shown.{view-table}
 use Rattle.ostep_text.proofs.Standing.{tokens-stand}
-use Rattle.ostep_text.proofs.TokenKinds.{front-begun}
+use Rattle.ostep_text.proofs.MachineLemmas.{front-begun}
 use Rattle.ostep_text.proofs.BareSteps.{empty-text, whole-left, refused-by}
 use Rattle.ostep_text.proofs.read.read_text.Goals as goal
 

@@ -15,7 +15,7 @@ use Rattle.ostep_text.specs.Due.{ValueDue}
 use Rattle.ostep_lex.proofs.Exits.{passed_on, no_ok, none_ok, on_ok, both_ok}
 use Rattle.plist_value.specs.declared.value.Value
 use Rattle.plist_value.proofs.Shown.{view-text, view-bytes, view-list, view-table}
-use Rattle.ostep_text.proofs.TokenKinds.{leads-nowhere, item-begun, item-ended, row-ended, key-ended, table-ended, value-ended, value-none}
+use Rattle.ostep_text.proofs.MachineLemmas.{leads-nowhere, item-begun, item-ended, row-ended, key-ended, table-ended, value-ended, value-none}
 use Rattle.plist_value.proofs.Items.{push, view_items-push}
 use Rattle.ostep_text.proofs.SortingSteps.{has_key-looked}
 use Rattle.ostep_text.proofs.PlaceSteps.{known-has, new-value}
@@ -24,11 +24,9 @@ use Rattle.std.specs.Option.{is_some}
 use Rattle.std.specs.BTreeMap.{insert_entry}
 use Rattle.std.specs.BTreeMap.Entry.{entry_value, map_with_value}
 use Rattle.std.proofs.lemmas.Map.Lookups.{exact_bytes}
-use Rattle.ostep_text.proofs.Standing.{expected-at}
+use Rattle.ostep_text.proofs.Standing.{expected-at, same-read, value-refuses, before-at, before-key, key-refuses, alone-refuses, twice-stands}
 use Rattle.ostep_text.proofs.DueSteps.{list-due, items-open, item-due, item-leads, item-open, table-due, row-due, rows-open, key-open, row_value-due, row_value-first, row_value-open, row_value-leads, row_value-behind, value-open, value-nowhere}
 use Rattle.ostep_text.proofs.TakeSteps.{no-items-taken, no-pairs-taken, item-taken-at, pair-taken-at, row-taken, scalar-taken, opened-left, items-left, rows-left, key-left, spends-same}
-use Rattle.ostep_text.proofs.Wholes.{same-read, value-refuses}
-use Rattle.ostep_text.proofs.Refusals.{before-at, before-key, key-refuses, alone-refuses, twice-stands}
 use Rattle.ostep_text.proofs.ReadSteps.{string-read, data-read, list-read, no-items-read, item-read, last_item-read, items-read, ended-read, row-read, alone-read, no-pairs-read, pair-read, pairs-read, pairs-table}
 use Rattle.ostep_text.proofs.reader.Reader.+value.Goals as goal
 

@@ -22,7 +22,7 @@ use Rattle.ostep_lex.proofs.Exits.{passed_on}
 use Rattle.plist_value.proofs.Shown.{view-table}
 use Rattle.ostep_text.proofs.Standing.{junk-at}
 use Rattle.ostep_text.proofs.TakeSteps.{rows-left}
-use Rattle.ostep_text.proofs.TokenKinds.{bare-ended}
+use Rattle.ostep_text.proofs.MachineLemmas.{bare-ended}
 use Rattle.ostep_text.proofs.BareSteps.{BareRead, bare-first, bare-more, bare-phrase, bare-text, bare-ends}
 use Rattle.ostep_text.proofs.reader.Reader.bare_table.Goals as goal
 

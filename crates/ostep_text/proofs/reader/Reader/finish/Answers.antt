@@ -6,9 +6,8 @@ use Rattle.ostep_text.specs.Phrase.{a_value}
 use Rattle.ostep_text.specs.Stands.{Stands}
 use Rattle.ostep_text.specs.Reading.{HasRead}
 use Rattle.ostep_lex.proofs.Exits.{passed_on}
-use Rattle.ostep_text.proofs.Standing.{junk-at}
+use Rattle.ostep_text.proofs.Standing.{junk-at, value-ends}
 use Rattle.ostep_text.proofs.ReadSteps.{whole-phrase}
-use Rattle.ostep_text.proofs.Wholes.{value-ends}
 use Rattle.ostep_text.proofs.reader.Reader.finish.Goals as goal
 
 pub returns-in_err-next-clause-stands : goal.returns-in_err-next-clause-stands

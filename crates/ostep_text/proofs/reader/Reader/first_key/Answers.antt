@@ -5,7 +5,7 @@ use Rattle.ostep_text.specs.Begun.{nothing, opened, with_rows}
 use Rattle.ostep_text.specs.Stands.{Stands}
 use Rattle.ostep_text.specs.Reading.{HasRead, IsLeft}
 use Rattle.ostep_lex.proofs.Exits.{passed_on}
-use Rattle.ostep_text.proofs.Wholes.{same-read, front-refuses, first_key-refuses}
+use Rattle.ostep_text.proofs.Standing.{same-read, front-refuses, first_key-refuses}
 use Rattle.ostep_text.proofs.reader.Reader.first_key.Goals as goal
 
 pub returns-in_err-charge-clause-stands : goal.returns-in_err-charge-clause-stands

@@ -12,10 +12,9 @@ use Rattle.ostep_text.specs.Machine
 use Rattle.ostep_text.specs.Reading.{HasRead, ReadsRow, Takes}
 use Rattle.ostep_lex.proofs.Exits.{passed_on, no_ok}
 use Rattle.plist_value.proofs.Shown.{view-text}
-use Rattle.ostep_text.proofs.Standing.{junk-at}
+use Rattle.ostep_text.proofs.Standing.{junk-at, same-read, front-refuses}
 use Rattle.ostep_text.proofs.TakeSteps.{scalar-taken}
-use Rattle.ostep_text.proofs.TokenKinds.{leads-nowhere, key-ended}
-use Rattle.ostep_text.proofs.Wholes.{same-read, front-refuses}
+use Rattle.ostep_text.proofs.MachineLemmas.{leads-nowhere, key-ended}
 use Rattle.ostep_text.proofs.ReadSteps.{row-read, alone-read}
 use Rattle.ostep_text.proofs.BareSteps.{before-two, first_value-due, first_key-left, first_alone-refuses, first-taken, lone-text}
 use Rattle.ostep_text.proofs.reader.Reader.string_first.Goals as goal

@@ -5,9 +5,8 @@ use Rattle.ostep_text.specs.Stands.{Stands}
 use Rattle.ostep_text.specs.Machine
 use Rattle.ostep_text.specs.Machine.{runs}
 use Rattle.ostep_lex.proofs.Exits.{passed_on}
-use Rattle.ostep_text.proofs.MachineLemmas.{stays-dead}
+use Rattle.ostep_text.proofs.MachineLemmas.{stays-dead, none-begins}
 use Rattle.ostep_text.proofs.Standing.{expected-front}
-use Rattle.ostep_text.proofs.TokenKinds.{none-begins}
 use Rattle.ostep_text.proofs.BareSteps.{whole-fits, front-due}
 use Rattle.ostep_text.proofs.reader.Reader.value_first.Goals as goal
 
