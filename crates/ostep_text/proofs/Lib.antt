@@ -4,10 +4,7 @@ pub mod PhraseLemmas
 pub mod SizeLemmas
 pub mod WholeLemmas
 pub mod FaultyProof
-pub mod WrittenLemmas
-pub mod WrittenUnits
 pub mod WrittenLexing
-pub mod WrittenOctets
 pub mod WrittenProof
 pub mod MachineLemmas
 pub mod PhraseSteps
@@ -18,4 +15,3 @@ pub mod DueSteps
 pub mod TakeSteps
 pub mod ReadSteps
 pub mod BareSteps
-mod AsciiLemmas

@@ -1,21 +1,236 @@
--- A written text has the tokens of its value.
-use Rattle.std.proofs.Common.{◌≡◌, ℕ, Bool, true, false, not, Some, List, [], ◌∷◌, ◌++◌, refl, ap, ◌∙◌, append_assoc, if◌then◌else◌}
+-- The tokens of a written text are those of its value.
+use Rattle.std.proofs.Common.{◌≡◌, ℕ, ◌+◌, ◌*◌, ◌≤◌, Bool, true, false, ◌&&◌, List, [], ◌∷◌, ◌++◌, length, refl, arith, length-append, lit≤, ◌/◌, ◌%◌, ◌<◌, sym, ap, subst, ◌∙◌, if◌then◌else◌, suc, append_assoc, not, Some}
 use Rattle.std.specs.Prelude.{◌==◌, codes, flat_map, nat_eq}
-use Rattle.std.specs.Char.{is_ascii_alphanumeric}
+use Rattle.std.specs.Int.{is_in_range}
+use Rattle.std.specs.Char.{digit_char, digit_value, is_digit, is_ascii_alphanumeric}
+use Rattle.std.specs.Char.Escape.{encode_utf16}
+use Rattle.std.proofs.lemmas.Bool.Decides.{nat_tests}
+use Rattle.std.proofs.lemmas.Str.{digit_value-digit_char}
 use Rattle.std.specs.List.{starts_with}
-use Rattle.plist_value.specs.Plist.{Scalar, text, whole, flag, real4, real8, moment, bytes, Plist, scalar, list, table, Items, no_items, item, Pairs, no_pairs, pair, AreUnits, AreOctets, AreItems, ArePairs, IsPlist}
-use Rattle.ostep_lex.specs.Character.{is_white}
+use Rattle.plist_value.specs.Plist.{Scalar, text, whole, flag, real4, real8, moment, bytes, Plist, scalar, list, table, Items, no_items, item, Pairs, no_pairs, pair, AreItems, ArePairs, IsPlist, AreUnits, AreOctets}
+use Rattle.plist_value.specs.Limits.{nodes, nodes_of_items, nodes_of_pairs, payload, payload_of_items, payload_of_pairs}
+use Rattle.ostep_lex.specs.Lexeme.{Lexeme, brace_open, brace_close, paren_open, paren_close, comma, semicolon, equals, text as string, octets as data_token, IsToken, Placed, mark_token}
+use Rattle.ostep_text.specs.Sorting
+use Rattle.ostep_text.specs.Sorting.{AreReordered, IsAscending}
+use Rattle.ostep_text.specs.Phrase.{Phrase, a_string, some_data, a_list, a_table, ItemsPhrase, items_end, an_item, RowsPhrase, with_value, rows_end, a_row}
+use Rattle.ostep_text.specs.Written.{is_writable, are_writable_items, are_writable_pairs, two_digits, written_data, is_plain, quoted_unit, written_text, written, written_items, written_pairs, are_alphanumeric}
+use Rattle.ostep_lex.specs.Character.{is_octal, is_run, is_white}
+use Rattle.ostep_lex.specs.Digits.{Number, hexadecimal_number, begins_digit}
+use Rattle.ostep_lex.specs.Quoted
+use Rattle.ostep_lex.specs.Quoted.{Piece, Quoted, escaped, is_raw, Run, begins_run}
+use Rattle.ostep_lex.specs.Octets
+use Rattle.ostep_lex.specs.Octets.{Octets, OctetsPiece}
 use Rattle.ostep_lex.specs.Encoding.{Places, place}
 use Rattle.ostep_lex.specs.Gap
 use Rattle.ostep_lex.specs.Gap.{begins_comment}
-use Rattle.ostep_lex.specs.Quoted.{begins_run}
 use Rattle.ostep_lex.specs.Lexeme
-use Rattle.ostep_lex.specs.Lexeme.{Lexeme, IsToken, Placed, mark_token, brace_close, paren_close, comma, semicolon, equals, text as string, octets as data_token}
 use Rattle.ostep_lex.specs.Lexing.{Lexes, none, next}
 use Rattle.ostep_text.specs.Text.{lexemes}
-use Rattle.ostep_text.specs.Written.{is_writable, are_writable_items, are_writable_pairs, two_digits, written_data, are_alphanumeric, is_plain, quoted_unit, written_text, written, written_items, written_pairs}
-use Rattle.ostep_text.proofs.WrittenLemmas.{both, value_tokens, item_tokens, pair_tokens}
-use Rattle.ostep_text.proofs.WrittenUnits.{units-quoted, octets-data, alphanumeric-run, alphanumeric-slash, units-run}
+use Rattle.ostep_text.proofs.SortedLemmas.{low_key}
+
+-- the tokens of a written value, and those behind it
+abbrev pub scalar_tokens : Scalar → List Lexeme → List Lexeme
+scalar_tokens (text units) rest = string units ∷ rest
+scalar_tokens (bytes xs) rest = data_token xs ∷ rest
+scalar_tokens _ rest = rest
+
+abbrev mutual
+  pub value_tokens : Plist → List Lexeme → List Lexeme
+  value_tokens (scalar s) rest = scalar_tokens s rest
+  value_tokens (list vs) rest = paren_open ∷ item_tokens vs (paren_close ∷ rest)
+  value_tokens (table ps) rest = brace_open ∷ pair_tokens ps (brace_close ∷ rest)
+
+  pub item_tokens : Items → List Lexeme → List Lexeme
+  item_tokens no_items rest = rest
+  item_tokens (item v vs) rest = value_tokens v (comma ∷ item_tokens vs rest)
+
+  pub pair_tokens : Pairs → List Lexeme → List Lexeme
+  pair_tokens no_pairs rest = rest
+  pair_tokens (pair key v ps) rest = string key ∷ equals ∷ value_tokens v (semicolon ∷ pair_tokens ps rest)
+
+pub both : (x y : Bool) → (x && y) ≡ true → (x ≡ true) × (y ≡ true)
+both true true e = (refl, refl)
+both true false e = cc e
+both false y e = cc e
+
+ascending : (ps : Pairs) → ArePairs ps → IsAscending ps
+ascending no_pairs h = tt
+ascending (pair key v ps) h = (h.2, ascending ps h.3)
+
+as_they_are : (ps : Pairs) → AreReordered ps ps
+as_they_are no_pairs = Sorting.none
+as_they_are (pair key v ps) = Sorting.row (as_they_are ps) Sorting.first
+
+scalar-phrase : (s : Scalar) (rest : List Lexeme) → is_writable (scalar s) ≡ true → Phrase (scalar_tokens s rest) (scalar s) rest
+scalar-phrase (text units) rest e = a_string
+scalar-phrase (bytes xs) rest e = some_data
+scalar-phrase (whole z) rest e = cc e
+scalar-phrase (flag b) rest e = cc e
+scalar-phrase (real4 xs) rest e = cc e
+scalar-phrase (real8 xs) rest e = cc e
+scalar-phrase (moment xs) rest e = cc e
+
+mutual
+  pub value-phrase : (v : Plist) (rest : List Lexeme) → IsPlist v → is_writable v ≡ true → Phrase (value_tokens v rest) v rest
+  value-phrase (scalar s) rest h e = scalar-phrase s rest e
+  value-phrase (list vs) rest h e = a_list (items-phrase vs rest h e)
+  value-phrase (table ps) rest h e = a_table (rows-phrase ps (brace_close ∷ rest) h e) (record { same = as_they_are ps; ascending = ascending ps h })
+
+  items-phrase : (vs : Items) (rest : List Lexeme) → AreItems vs → are_writable_items vs ≡ true → ItemsPhrase (item_tokens vs (paren_close ∷ rest)) vs (paren_close ∷ rest)
+  items-phrase no_items rest h e = items_end
+  items-phrase (item v vs) rest h e =
+      let w = both (is_writable v) (are_writable_items vs) e in
+      an_item (value-phrase v _ h.0 w.0) (items-phrase vs rest h.1 w.1)
+
+  rows-phrase : (ps : Pairs) (rest : List Lexeme) → ArePairs ps → are_writable_pairs ps ≡ true → RowsPhrase (pair_tokens ps rest) ps rest
+  rows-phrase no_pairs rest h e = rows_end
+  rows-phrase (pair key v ps) rest h e =
+      let w = both (is_writable v) (are_writable_pairs ps) e in
+      a_row (with_value (value-phrase v _ h.1 w.0)) (rows-phrase ps rest h.3 w.1) (low_key key ps h.2 (ascending ps h.3))
+
+-- six octets for a unit at most, and two quotes
+if-short : (b : Bool) (most : ℕ) (xs ys : List ℕ) → length xs ≤ most → length ys ≤ most → length (if b then xs else ys) ≤ most
+if-short true most xs ys h k = h
+if-short false most xs ys h k = k
+
+unit-short : (unit : ℕ) → length (quoted_unit unit) ≤ 6
+unit-short unit =
+    if-short (unit == 34) 6 _ _ (lit≤ tt) (if-short (unit == 92) 6 _ _ (lit≤ tt) (if-short (unit == 10) 6 _ _ (lit≤ tt)
+    (if-short (unit == 9) 6 _ _ (lit≤ tt) (if-short (unit == 13) 6 _ _ (lit≤ tt) (if-short (is_in_range 0x20 0x7e unit) 6 _ _ (lit≤ tt) (lit≤ tt))))))
+
+units-short : (units : List ℕ) → length (flat_map quoted_unit units) ≤ 6 * length units
+units-short [] = omega arith
+units-short (unit ∷ units) = rw length-append (omega (arith, unit-short unit, units-short units))
+
+quotes-short : (xs : List ℕ) (most : ℕ) → length xs ≤ most → length (codes "\"" ++ xs ++ codes "\"") ≤ most + 2
+quotes-short xs most h = simp length-append (omega (arith, h))
+
+text-short : (units : List ℕ) → length (written_text units) ≤ 6 * length units + 2
+text-short units =
+    if-short (is_plain units) (6 * length units + 2) _ _ (omega arith) (quotes-short (flat_map quoted_unit units) (6 * length units) (units-short units))
+
+digits-long : (xs : List ℕ) → length (flat_map two_digits xs) ≡ 2 * length xs
+digits-long [] = refl
+digits-long (x ∷ xs) = omega (arith, digits-long xs)
+
+data-long : (xs : List ℕ) → length (written_data xs) ≡ 2 * length xs + 2
+data-long xs = simp length-append (omega (arith, digits-long xs))
+
+scalar-short : (s : Scalar) → is_writable (scalar s) ≡ true → length (written (scalar s)) + 2 ≤ 3 * payload (scalar s) + 5
+scalar-short (text units) e = omega (arith, text-short units)
+scalar-short (bytes xs) e = omega (arith, data-long xs)
+scalar-short (whole z) e = cc e
+scalar-short (flag b) e = cc e
+scalar-short (real4 xs) e = cc e
+scalar-short (real8 xs) e = cc e
+scalar-short (moment xs) e = cc e
+
+mutual
+  pub value-short : (v : Plist) → is_writable v ≡ true → length (written v) + 2 ≤ 3 * payload v + 5 * nodes v
+  value-short (scalar s) e = scalar-short s e
+  value-short (list vs) e = simp length-append (omega (arith, items-short vs e))
+  value-short (table ps) e = simp length-append (omega (arith, pairs-short ps e))
+
+  items-short : (vs : Items) → are_writable_items vs ≡ true → length (written_items vs) ≤ 3 * payload_of_items vs + 5 * nodes_of_items vs
+  items-short no_items e = omega arith
+  items-short (item v vs) e =
+      let w = both (is_writable v) (are_writable_items vs) e in
+      simp length-append (omega (arith, value-short v w.0, items-short vs w.1))
+
+  pairs-short : (ps : Pairs) → are_writable_pairs ps ≡ true → length (written_pairs ps) ≤ 3 * payload_of_pairs ps + 5 * nodes_of_pairs ps
+  pairs-short no_pairs e = omega arith
+  pairs-short (pair key v ps) e =
+      let w = both (is_writable v) (are_writable_pairs ps) e in
+      simp length-append (omega (arith, text-short key, value-short v w.0, pairs-short ps w.1))
+
+if-piece : (b : Bool) (xs ys units rest : List ℕ) → (b ≡ true → Piece 34 (xs ++ rest) units rest) → (b ≡ false → Piece 34 (ys ++ rest) units rest)
+    → Piece 34 ((if b then xs else ys) ++ rest) units rest
+if-piece true xs ys units rest h k = h refl
+if-piece false xs ys units rest h k = k refl
+
+equal : (x y : ℕ) → (x == y) ≡ true → x ≡ y
+equal x y e = grind (arith, nat_tests)
+
+letter-piece : (unit c letter : ℕ) (rest : List ℕ) → (unit == c) ≡ true → is_octal letter ≡ false → (letter == 85) ≡ false → escaped letter ≡ c ∷ []
+    → Piece 34 (92 ∷ letter ∷ rest) (unit ∷ []) rest
+letter-piece unit c letter rest e o u g =
+    subst (λ x. Piece 34 (92 ∷ letter ∷ rest) x rest) (g ∙ ap (λ x. x ∷ []) (sym (equal unit c e))) (Quoted.escape (Quoted.character o u))
+
+one_unit : (unit : ℕ) → is_in_range 0x20 0x7e unit ≡ true → encode_utf16 unit ≡ unit ∷ []
+one_unit unit r = let h : unit < 0x1_0000 = grind (arith, nat_tests) in grind (arith, nat_tests)
+
+raw-test : (unit : ℕ) → (unit == 34) ≡ false → (unit == 92) ≡ false → is_raw 34 unit ≡ true
+raw-test unit q b = rw (q, b) refl
+
+raw-piece : (unit : ℕ) (rest : List ℕ) → (unit == 34) ≡ false → (unit == 92) ≡ false → is_in_range 0x20 0x7e unit ≡ true → Piece 34 (unit ∷ rest) (unit ∷ []) rest
+raw-piece unit rest q b r = subst (λ x. Piece 34 (unit ∷ rest) x rest) (one_unit unit r) (Quoted.raw (raw-test unit q b))
+
+digit-test : (d : ℕ) → d < 16 → is_digit (digit_char d) 16 ≡ true
+digit-test d h = let e : digit_value (digit_char d) ≡ d = digit_value-digit_char d (omega (arith, h)) in rw e (grind (arith, nat_tests))
+
+four_digits : (a b c d : ℕ) (rest : List ℕ) → is_digit a 16 ≡ true → is_digit b 16 ≡ true → is_digit c 16 ≡ true → is_digit d 16 ≡ true
+    → hexadecimal_number (a ∷ b ∷ c ∷ d ∷ rest) ≡ record { value = (((0 * 16 + digit_value a) * 16 + digit_value b) * 16 + digit_value c) * 16 + digit_value d; behind = rest }
+four_digits a b c d rest h i j k = rw (h, i, j, k) refl
+
+four_value : (a b c d : ℕ) (rest : List ℕ) → a < 16 → b < 16 → c < 16 → d < 16
+    → hexadecimal_number (digit_char a ∷ digit_char b ∷ digit_char c ∷ digit_char d ∷ rest) ≡ record { value = ((a * 16 + b) * 16 + c) * 16 + d; behind = rest }
+four_value a b c d rest h i j k =
+    four_digits (digit_char a) (digit_char b) (digit_char c) (digit_char d) rest (digit-test a h) (digit-test b i) (digit-test c j) (digit-test d k)
+    ∙ ap (λ x. record { value = x; behind = rest })
+    (rw (digit_value-digit_char a (omega (arith, h)), digit_value-digit_char b (omega (arith, i)), digit_value-digit_char c (omega (arith, j)), digit_value-digit_char d (omega (arith, k))) (omega arith))
+
+unit-number : (unit : ℕ) (rest : List ℕ) → unit < 65536
+    → hexadecimal_number (two_digits (unit / 256) ++ (two_digits (unit % 256) ++ rest)) ≡ record { value = unit; behind = rest }
+unit-number unit rest h =
+    four_value (unit / 256 / 16) (unit / 256 % 16) (unit % 256 / 16) (unit % 256 % 16) rest (omega (arith, h)) (omega (arith, h)) (omega (arith, h)) (omega (arith, h))
+    ∙ ap (λ x. record { value = x; behind = rest }) (omega (arith, h))
+
+number-escape : (digits : List ℕ) (unit : ℕ) (rest : List ℕ) → begins_digit 16 digits ≡ true → hexadecimal_number digits ≡ record { value = unit; behind = rest }
+    → Piece 34 (92 ∷ 85 ∷ digits) (unit ∷ []) rest
+number-escape digits unit rest b e =
+    let P : Number → Type 0 = λ n. Piece 34 (92 ∷ 85 ∷ digits) (n.value ∷ []) n.behind in
+    subst P e (Quoted.escape (Quoted.unit b))
+
+number-piece : (unit : ℕ) (rest : List ℕ) → unit < 65536 → Piece 34 (92 ∷ 85 ∷ (two_digits (unit / 256) ++ (two_digits (unit % 256) ++ rest))) (unit ∷ []) rest
+number-piece unit rest h = number-escape _ unit rest (digit-test (unit / 256 / 16) (omega (arith, h))) (unit-number unit rest h)
+
+pub unit-piece : (unit : ℕ) (rest : List ℕ) → unit < 65536 → Piece 34 (quoted_unit unit ++ rest) (unit ∷ []) rest
+unit-piece unit rest h =
+    if-piece (unit == 34) _ _ _ rest (λ e. letter-piece unit 34 34 rest e refl refl refl) (λ q.
+    if-piece (unit == 92) _ _ _ rest (λ e. letter-piece unit 92 92 rest e refl refl refl) (λ b.
+    if-piece (unit == 10) _ _ _ rest (λ e. letter-piece unit 10 110 rest e refl refl refl) (λ n.
+    if-piece (unit == 9) _ _ _ rest (λ e. letter-piece unit 9 116 rest e refl refl refl) (λ t.
+    if-piece (unit == 13) _ _ _ rest (λ e. letter-piece unit 13 114 rest e refl refl refl) (λ r.
+    if-piece (is_in_range 0x20 0x7e unit) _ _ _ rest (λ p. raw-piece unit rest q b p) (λ p. number-piece unit rest h))))))
+
+pub units-quoted : (units rest : List ℕ) → AreUnits units → Quoted 34 (flat_map quoted_unit units ++ (34 ∷ rest)) units rest
+units-quoted [] rest h = Quoted.close refl
+units-quoted (unit ∷ units) rest h =
+    rw (append_assoc (quoted_unit unit) (flat_map quoted_unit units) (34 ∷ rest)) (Quoted.piece (unit-piece unit _ (h 0)) (units-quoted units rest (λ i. h (suc i))))
+
+-- what is written for octets gives them
+octet-piece : (x : ℕ) (rest : List ℕ) → x < 256 → OctetsPiece (two_digits x ++ rest) (x ∷ []) rest
+octet-piece x rest h =
+    subst (λ y. OctetsPiece (two_digits x ++ rest) (y ∷ []) rest)
+    (rw (digit_value-digit_char (x / 16) (omega (arith, h)), digit_value-digit_char (x % 16) (omega (arith, h))) (omega arith))
+    (Octets.pair (digit-test (x / 16) (omega (arith, h))) (digit-test (x % 16) (omega (arith, h))))
+
+pub octets-data : (xs rest : List ℕ) → AreOctets xs → Octets (flat_map two_digits xs ++ (62 ∷ rest)) xs rest
+octets-data [] rest h = Octets.close
+octets-data (x ∷ xs) rest h = rw (append_assoc (two_digits x) (flat_map two_digits xs) (62 ∷ rest)) (Octets.piece (octet-piece x _ (h 0)) (octets-data xs rest (λ i. h (suc i))))
+
+-- a plain text is a run
+pub alphanumeric-run : (c : ℕ) → is_ascii_alphanumeric c ≡ true → is_run c ≡ true
+alphanumeric-run c e = grind (arith, nat_tests)
+
+pub alphanumeric-slash : (c : ℕ) → is_ascii_alphanumeric c ≡ true → (c == 47) ≡ false
+alphanumeric-slash c e = grind (arith, nat_tests)
+
+pub units-run : (units rest : List ℕ) → are_alphanumeric units ≡ true → begins_run rest ≡ false → Run (units ++ rest) units rest
+units-run [] rest h b = Quoted.stop b
+units-run (unit ∷ units) rest h b =
+    let w = both (is_ascii_alphanumeric unit) (are_alphanumeric units) h in
+    Quoted.more (alphanumeric-run unit w.0) (units-run units rest w.1 b)
 
 -- the text has tokens, which are these
 pub record Lexed (p : Places) (from : List ℕ) (ls : List Lexeme) : Type 0 where

@@ -1,17 +1,181 @@
--- The written text is a short text of its value.
-use Rattle.std.proofs.Common.{◌≡◌, ℕ, Bool, true, false, List, [], ◌∷◌, ◌++◌, Some, None, refl, sym, subst, arith, length-append, if◌then◌else◌}
-use Rattle.std.specs.Prelude.{codes}
-use Rattle.plist_value.specs.Plist.{Plist, IsPlist}
+-- A written text is ASCII, so its octets are its characters; it does not begin as a binary file,
+-- and it is a text of its value.
+use Rattle.std.proofs.Common.{◌≡◌, ℕ, ◌+◌, ◌<◌, Bool, true, false, List, [], ◌∷◌, ◌++◌, length, take, get_or, refl, sym, subst, ◌&&◌, arith, ◌/◌, ◌%◌, ◌≤◌, not, ◌||◌, ap, ◌∙◌, if◌then◌else◌, suc, lit≤, Some, None, length-append}
+use Rattle.std.proofs.lemmas.Bool.Decides.{nat_tests}
+use Rattle.std.proofs.lemmas.List.{take_more}
+use Rattle.std.specs.Char.{is_ascii_alphanumeric, digit_char}
+use Rattle.std.specs.Prelude.{◌==◌, codes, flat_map, nat_eq, nat_lt}
+use Rattle.std.specs.Int.{is_in_range}
+use Rattle.std.specs.List.{starts_with}
+use Rattle.std.specs.Str.{all_scalars}
+use Rattle.std.proofs.lemmas.Str.{encode_ascii}
+use lib.Utf8.{scalar as is_scalar}
+use Rattle.ostep_text.specs.Written.{are_alphanumeric, is_plain, two_digits, is_empty, quoted_unit, written_text, written, written_items, written_pairs, is_writable}
+use Rattle.ostep_text.specs.Ascii.{are_ascii}
+use Rattle.plist_value.specs.Plist.{Scalar, text, whole, flag, real4, real8, moment, bytes, Plist, scalar, list, table, Items, no_items, item, Pairs, no_pairs, pair, AreUnits, AreOctets, AreItems, ArePairs, IsPlist}
+use Rattle.ostep_lex.specs.Encoding.{Spells, utf8, octets_of, encoding_of, mark_of, places_of}
 use Rattle.plist_value.specs.Limits.{Fits}
-use Rattle.ostep_lex.specs.Encoding.{places_of}
 use Rattle.ostep_lex.specs.Gap
 use Rattle.ostep_lex.specs.Lexing.{none}
 use Rattle.ostep_text.specs.Phrase.{TopPhrase, a_value}
-use Rattle.ostep_text.specs.Written.{is_writable, written}
 use Rattle.ostep_text.specs.Laws.{IsShortText, WrittenIsText}
-use Rattle.ostep_text.proofs.WrittenLemmas.{value-phrase, value-short}
-use Rattle.ostep_text.proofs.WrittenLexing.{Lexed, value-lexed}
-use Rattle.ostep_text.proofs.WrittenOctets.{ascii-spells, newline-ascii, not-binary}
+use Rattle.ostep_text.proofs.WrittenLexing.{both, value-phrase, value-short, Lexed, value-lexed}
+
+append-ascii : (xs ys : List ℕ) → are_ascii xs ≡ true → are_ascii ys ≡ true → are_ascii (xs ++ ys) ≡ true
+append-ascii [] ys h k = k
+append-ascii (x ∷ xs) ys h k = let w = both (nat_lt x 128) (are_ascii xs) h in rw w.0 (append-ascii xs ys w.1 k)
+
+alphanumeric-ascii : (unit : ℕ) → is_ascii_alphanumeric unit ≡ true → nat_lt unit 128 ≡ true
+alphanumeric-ascii unit e = grind (arith, nat_tests)
+
+alphanumerics-ascii : (units : List ℕ) → are_alphanumeric units ≡ true → are_ascii units ≡ true
+alphanumerics-ascii [] e = refl
+alphanumerics-ascii (unit ∷ units) e =
+    let w = both (is_ascii_alphanumeric unit) (are_alphanumeric units) e in
+    rw (alphanumeric-ascii unit w.0) (alphanumerics-ascii units w.1)
+
+pub plain-ascii : (units : List ℕ) → is_plain units ≡ true → are_ascii units ≡ true
+plain-ascii units e = alphanumerics-ascii units (both _ _ (both _ _ e).0).1
+
+ascii-one : (unit : ℕ) → unit < 128 → are_ascii (unit ∷ []) ≡ true
+ascii-one unit h = grind (arith, nat_tests)
+
+-- one unit more
+pub ascii-more : (units : List ℕ) (i : ℕ) → i < length units → are_ascii (take i units) ≡ true → get_or units i 0 < 128 → are_ascii (take (i + 1) units) ≡ true
+ascii-more units i h e k =
+    subst (λ (us : List ℕ). are_ascii us ≡ true) (sym (take_more units i 0 h)) (append-ascii (take i units) (get_or units i 0 ∷ []) e (ascii-one (get_or units i 0) k))
+
+if-ascii : (b : Bool) (xs ys : List ℕ) → (b ≡ true → are_ascii xs ≡ true) → (b ≡ false → are_ascii ys ≡ true) → are_ascii (if b then xs else ys) ≡ true
+if-ascii true xs ys h k = h refl
+if-ascii false xs ys h k = k refl
+
+digit-ascii : (d : ℕ) → d < 16 → nat_lt (digit_char d) 128 ≡ true
+digit-ascii d h = grind (arith, nat_tests)
+
+two-ascii : (x : ℕ) → x < 256 → are_ascii (two_digits x) ≡ true
+two-ascii x h = rw (digit-ascii (x / 16) (omega (arith, h)), digit-ascii (x % 16) (omega (arith, h))) refl
+
+printable-ascii : (c : ℕ) → is_in_range 0x20 0x7e c ≡ true → are_ascii (c ∷ []) ≡ true
+printable-ascii c h = let l : nat_lt c 128 ≡ true = grind (arith, nat_tests) in rw l refl
+
+unit-ascii : (unit : ℕ) → unit < 65536 → are_ascii (quoted_unit unit) ≡ true
+unit-ascii unit h =
+    if-ascii (unit == 34) _ _ (λ e. refl) (λ e. if-ascii (unit == 92) _ _ (λ e. refl) (λ e. if-ascii (unit == 10) _ _ (λ e. refl) (λ e.
+    if-ascii (unit == 9) _ _ (λ e. refl) (λ e. if-ascii (unit == 13) _ _ (λ e. refl) (λ e. if-ascii (is_in_range 0x20 0x7e unit) _ _ (λ e. printable-ascii unit e)
+    (λ e. append-ascii (92 ∷ 85 ∷ two_digits (unit / 256)) (two_digits (unit % 256)) (two-ascii (unit / 256) (omega (arith, h))) (two-ascii (unit % 256) (omega (arith, h)))))))))
+
+units-ascii : (units : List ℕ) → AreUnits units → are_ascii (flat_map quoted_unit units) ≡ true
+units-ascii [] h = refl
+units-ascii (unit ∷ units) h = append-ascii (quoted_unit unit) (flat_map quoted_unit units) (unit-ascii unit (h 0)) (units-ascii units (λ i. h (suc i)))
+
+text-ascii : (units : List ℕ) → AreUnits units → are_ascii (written_text units) ≡ true
+text-ascii units h =
+    if-ascii (is_plain units) _ _ (plain-ascii units) (λ e. append-ascii (flat_map quoted_unit units) (34 ∷ []) (units-ascii units h) refl)
+
+octets-ascii : (xs : List ℕ) → AreOctets xs → are_ascii (flat_map two_digits xs) ≡ true
+octets-ascii [] h = refl
+octets-ascii (x ∷ xs) h = append-ascii (two_digits x) (flat_map two_digits xs) (two-ascii x (h 0)) (octets-ascii xs (λ i. h (suc i)))
+
+scalar-ascii : (s : Scalar) → IsPlist (scalar s) → are_ascii (written (scalar s)) ≡ true
+scalar-ascii (text units) h = text-ascii units h
+scalar-ascii (bytes xs) h = append-ascii (flat_map two_digits xs) (62 ∷ []) (octets-ascii xs h) refl
+scalar-ascii (whole z) h = refl
+scalar-ascii (flag x) h = refl
+scalar-ascii (real4 xs) h = refl
+scalar-ascii (real8 xs) h = refl
+scalar-ascii (moment xs) h = refl
+
+mutual
+  pub value-ascii : (v : Plist) → IsPlist v → are_ascii (written v) ≡ true
+  value-ascii (scalar s) h = scalar-ascii s h
+  value-ascii (list vs) h = append-ascii (written_items vs) (41 ∷ []) (items-ascii vs h) refl
+  value-ascii (table ps) h = append-ascii (written_pairs ps) (125 ∷ []) (pairs-ascii ps h) refl
+
+  items-ascii : (vs : Items) → AreItems vs → are_ascii (written_items vs) ≡ true
+  items-ascii no_items h = refl
+  items-ascii (item v vs) h = append-ascii (written v ++ codes ",\n") (written_items vs) (append-ascii (written v) (codes ",\n") (value-ascii v h.0) refl) (items-ascii vs h.1)
+
+  pairs-ascii : (ps : Pairs) → ArePairs ps → are_ascii (written_pairs ps) ≡ true
+  pairs-ascii no_pairs h = refl
+  pairs-ascii (pair key v ps) h =
+      append-ascii (((written_text key ++ codes " = ") ++ written v) ++ codes ";\n") (written_pairs ps)
+      (append-ascii ((written_text key ++ codes " = ") ++ written v) (codes ";\n")
+      (append-ascii (written_text key ++ codes " = ") (written v) (append-ascii (written_text key) (codes " = ") (text-ascii key h.0) refl) (value-ascii v h.1)) refl)
+      (pairs-ascii ps h.3)
+
+-- so its octets spell it
+below : (c : ℕ) → nat_lt c 128 ≡ true → c < 128
+below c e = grind (arith, nat_tests)
+
+spelled : (xs : List ℕ) → are_ascii xs ≡ true → octets_of utf8 xs ≡ xs
+spelled [] h = refl
+spelled (x ∷ xs) h = let w = both (nat_lt x 128) (are_ascii xs) h in rw (encode_ascii x (below x w.0), spelled xs w.1) refl
+
+scalar-ascii-code : (c : ℕ) → nat_lt c 128 ≡ true → is_scalar c ≡ true
+scalar-ascii-code c h = grind (arith, nat_tests)
+
+scalars : (xs : List ℕ) → are_ascii xs ≡ true → all_scalars xs ≡ true
+scalars [] h = refl
+scalars (x ∷ xs) h = let w = both (nat_lt x 128) (are_ascii xs) h in rw (scalar-ascii-code x w.0) (scalars xs w.1)
+
+no-mark : (m c : ℕ) → c < 128 → 128 ≤ m → nat_eq m c ≡ false
+no-mark m c h k = grind (arith, nat_tests)
+
+encoding-ascii : (xs : List ℕ) → are_ascii xs ≡ true → (encoding_of xs ≡ utf8) × (mark_of xs ≡ [])
+encoding-ascii [] h = (refl, refl)
+encoding-ascii (x ∷ xs) h =
+    let b = below x (both (nat_lt x 128) (are_ascii xs) h).0 in
+    (rw (no-mark 0xfe x b (lit≤ tt), no-mark 0xff x b (lit≤ tt)) refl, rw (no-mark 0xfe x b (lit≤ tt), no-mark 0xff x b (lit≤ tt), no-mark 0xef x b (lit≤ tt)) refl)
+
+pub ascii-spells : (xs : List ℕ) → are_ascii xs ≡ true → Spells xs xs
+ascii-spells xs h =
+    let e = encoding-ascii xs h in
+    record { scalars = scalars xs h; spelled = rw (e.0, e.1) (sym (spelled xs h)) }
+
+pub newline-ascii : (v : Plist) → IsPlist v → are_ascii (written v ++ codes "\n") ≡ true
+newline-ascii v h = append-ascii (written v) (codes "\n") (value-ascii v h) refl
+
+-- a newline behind a plain text begins no binary file with it
+abbrev has_newline : List ℕ → Bool
+has_newline [] = false
+has_newline (c ∷ rest) = (c == 10) || has_newline rest
+
+or_false : (a b : Bool) → (a || b) ≡ false → (a ≡ false) × (b ≡ false)
+or_false true b e = cc e
+or_false false b e = (refl, e)
+
+not_newline : (c : ℕ) (rest : List ℕ) → has_newline (c ∷ rest) ≡ false → (nat_eq c 10 ≡ false) × (has_newline rest ≡ false)
+not_newline c rest h = or_false (c == 10) (has_newline rest) h
+
+newline-behind : (needle xs : List ℕ) → has_newline needle ≡ false → starts_with nat_eq (xs ++ 10 ∷ []) needle ≡ starts_with nat_eq xs needle
+newline-behind [] xs h = refl
+newline-behind (n ∷ needle) [] h = rw (not_newline n needle h).0 refl
+newline-behind (n ∷ needle) (x ∷ xs) h = ap (λ b. nat_eq n x && b) (newline-behind needle xs (not_newline n needle h).1)
+
+if-binary : (b : Bool) (xs ys : List ℕ) → (b ≡ true → starts_with nat_eq (xs ++ 10 ∷ []) (codes "bplist") ≡ false) → (b ≡ false → starts_with nat_eq (ys ++ 10 ∷ []) (codes "bplist") ≡ false)
+    → starts_with nat_eq ((if b then xs else ys) ++ 10 ∷ []) (codes "bplist") ≡ false
+if-binary true xs ys h k = h refl
+if-binary false xs ys h k = k refl
+
+not-false : (b : Bool) → not b ≡ true → b ≡ false
+not-false true e = cc e
+not-false false e = refl
+
+plain-binary : (units : List ℕ) → is_plain units ≡ true → starts_with nat_eq (units ++ 10 ∷ []) (codes "bplist") ≡ false
+plain-binary units e =
+    newline-behind (codes "bplist") units refl
+    ∙ not-false (starts_with nat_eq units (codes "bplist")) (both (not (is_empty units) && are_alphanumeric units) (not (starts_with nat_eq units (codes "bplist"))) e).1
+
+pub not-binary : (v : Plist) → starts_with nat_eq (written v ++ codes "\n") (codes "bplist") ≡ false
+not-binary (scalar (text units)) = if-binary (is_plain units) _ _ (plain-binary units) (λ e. refl)
+not-binary (scalar (bytes xs)) = refl
+not-binary (scalar (whole z)) = refl
+not-binary (scalar (flag x)) = refl
+not-binary (scalar (real4 xs)) = refl
+not-binary (scalar (real8 xs)) = refl
+not-binary (scalar (moment xs)) = refl
+not-binary (list vs) = refl
+not-binary (table ps) = refl
 
 stated : (b : Bool) (xs octets : List ℕ) → (if b then Some xs else None) ≡ Some octets → (b ≡ true) × (xs ≡ octets)
 stated true xs octets e = (refl, cc e)

@@ -1,4 +1,4 @@
-use Rattle.ostep_text.proofs.AsciiLemmas.{plain-ascii}
+use Rattle.ostep_text.proofs.WrittenProof.{plain-ascii}
 use Rattle.ostep_text.proofs.scalars.put_text.Goals as goal
 
 pub put_units-requires : goal.put_units-requires
