@@ -1,0 +1,234 @@
+"""What the plistconv commands share: files and their names, the program, messages and exit statuses.
+
+The commands read their files and give the bytes to the program on its standard input, so a name may be anything that
+the system allows. No command makes a temporary file but beside a file that it replaces.
+"""
+from __future__ import annotations
+
+import argparse
+import errno
+import os
+import re
+import shutil
+import signal
+import stat
+import subprocess
+import sys
+import tempfile
+from functools import lru_cache
+from typing import Callable, NoReturn
+
+COMMAND = os.path.basename(sys.argv[0])
+XML_HINT = (
+    "XML is converted first, always by the same one of: plistconv-canonicalise --from-xml FILE; "
+    "plutil -convert binary1 -o OUT IN; plistutil -i IN -f bin -o OUT"
+)
+
+
+class Refused(Exception):
+    """A file that has no answer; the message says why."""
+
+
+class RefusedXml(Refused):
+    """XML, which the program refuses."""
+
+
+class Trouble(Exception):
+    """What ends a command with status 2; the message says why."""
+
+
+def reason(fault: OSError) -> str:
+    """Returns what the system says of a failure, without the name of the file."""
+    return fault.strerror or str(fault)
+
+
+def shown(name: str) -> str:
+    """Returns the name for a message: what could start a line or control a terminal is escaped."""
+    text = os.fsencode(name).decode("utf-8", "backslashreplace")
+    return "".join(c if c.isprintable() else c.encode("unicode_escape").decode() for c in text)
+
+
+def say(message: str) -> None:
+    """Writes a message to standard error, if that can be written."""
+    encoding = getattr(sys.stderr, "encoding", None) or "utf-8"
+    try:
+        write_all(2, f"{COMMAND}: {message}\n".encode(encoding, "backslashreplace"))
+    except OSError:
+        pass
+
+
+def parser(usage: str) -> argparse.ArgumentParser:
+    """Returns a parser of arguments whose help is the docstring of the command."""
+    return argparse.ArgumentParser(
+        prog=COMMAND, description=usage, formatter_class=argparse.RawDescriptionHelpFormatter
+    )
+
+
+def read(name: str) -> bytes:
+    """Returns the content of a file or pipe, or of standard input for `-`. Raises `OSError`."""
+    if name != "-":
+        with open(name, "rb") as file:
+            return file.read()
+    if sys.stdin is None:
+        raise OSError(errno.EBADF, os.strerror(errno.EBADF))
+    return sys.stdin.buffer.read()
+
+
+def write(octets: bytes) -> None:
+    """Writes all of the bytes to standard output, or ends the command."""
+    try:
+        if sys.stdout is None:
+            raise OSError(errno.EBADF, os.strerror(errno.EBADF))
+        write_all(1, octets)
+    except OSError as fault:
+        give_up_output(fault)
+
+
+def give_up_output(fault: OSError) -> NoReturn:
+    """Ends the command since standard output cannot be written: as by a signal if nobody reads the pipe."""
+    if isinstance(fault, BrokenPipeError):
+        sys.exit(128 + signal.SIGPIPE)
+    raise Trouble(f"standard output cannot be written: {reason(fault)}")
+
+
+def write_all(file: int, octets: bytes) -> None:
+    """Writes all of the bytes to an open file. Raises `OSError`."""
+    rest = memoryview(octets)
+    while rest:
+        rest = rest[os.write(file, rest):]
+
+
+def replace(name: str, octets: bytes) -> None:
+    """Replaces the content of a regular file in one step.
+
+    A new file beside it, with its mode, and with its owner if the system allows that, takes its place. A link is
+    followed: the file that it names is replaced. Raises `OSError` or `Refused`, and then the file is as it was.
+    """
+    path = os.path.realpath(name)
+    old = os.stat(name)
+    is_plain = stat.S_ISREG(old.st_mode) and not os.path.abspath(name).startswith(("/dev/", "/proc/"))
+    if not is_plain or not os.path.samestat(old, os.stat(path)):
+        raise Refused("is no regular file, and stays as it is")
+    file, beside = tempfile.mkstemp(prefix=".plistconv-", dir=os.path.dirname(path))
+    try:
+        try:
+            write_all(file, octets)
+            try:
+                os.fchown(file, old.st_uid, old.st_gid)
+            except PermissionError:
+                pass
+            os.fchmod(file, stat.S_IMODE(old.st_mode))
+            os.fsync(file)
+        finally:
+            os.close(file)
+        os.replace(beside, path)
+    except BaseException:
+        os.unlink(beside)
+        raise
+
+
+@lru_cache(maxsize=None)
+def program() -> str:
+    """Returns the path of the program: what PLISTCONV names, else that beside the command, else that of the path."""
+    named = os.environ.get("PLISTCONV")
+    beside = os.path.dirname(os.path.abspath(sys.argv[0]))
+    installed = os.path.join(os.path.dirname(os.path.realpath(__file__)), "..", "..", "..", "bin")
+    places = [named] if named else [*(os.path.join(place, "plistconv") for place in (beside, installed)), "plistconv"]
+    for place in places:
+        found = shutil.which(place)
+        if found:
+            return found
+    raise Trouble(f"there is no program {shown(named or 'plistconv')}")
+
+
+def ask(arguments: list[str], octets: bytes) -> tuple[int, bytes]:
+    """Runs the program over the bytes and returns its status and what it printed. Raises `Refused` if it refuses."""
+    try:
+        run = subprocess.run([program(), *arguments], input=octets, stdout=subprocess.PIPE, check=False)
+    except OSError as fault:
+        raise Trouble(f"{shown(program())} cannot be run: {reason(fault)}") from None
+    if run.returncode in (0, 1):
+        return run.returncode, run.stdout
+    why = re.search(rb"refused [ -~]*", run.stdout)
+    if run.returncode not in (2, 5) or why is None:
+        raise Trouble(f"{shown(program())} ended with status {run.returncode}")
+    line = why[0].decode()
+    raise RefusedXml(f"{line} (XML)") if is_xml(octets) else Refused(line)
+
+
+def canonical(octets: bytes) -> bytes:
+    """Returns the canonical file of a property list. Raises `Refused`."""
+    return ask([], octets)[1]
+
+
+def printed(octets: bytes) -> bytes:
+    """Returns the printed text of a property list, of XML too. Raises `Refused`."""
+    try:
+        return ask(["print", "/dev/stdin"], octets)[1]
+    except RefusedXml:
+        return ask(["print", "/dev/stdin"], binary_of_xml(octets))[1]
+
+
+def is_xml(octets: bytes) -> bool:
+    """Returns whether the bytes begin like XML, in any encoding, after whitespace or a comment too."""
+    start = octets[:4096].replace(b"\0", b"")  # (UTF-16 and UTF-32 without their zeros)
+    for mark in (b"\xef\xbb\xbf", b"\xfe\xff", b"\xff\xfe"):
+        start = start[len(mark):] if start.startswith(mark) else start
+    return start.lstrip().startswith((b"<?", b"<!", b"<plist"))
+
+
+def binary_of_xml(octets: bytes) -> bytes:
+    """Returns a binary file of an XML property list, by Python's plistlib. Raises `Refused`."""
+    import plistconv_xml
+
+    try:
+        return plistconv_xml.binary(octets)
+    except plistconv_xml.Fault as fault:
+        raise Refused(f"refused as XML: {fault}") from None
+
+
+def end(number: int, _frame: object) -> NoReturn:
+    """Ends the command at a signal, so that no new file is left beside an old one."""
+    sys.exit(128 + number)
+
+
+def prepare() -> None:
+    """Opens the standard files that are closed, so that no other file becomes one, and prepares for signals."""
+    for number in (0, 1, 2):
+        try:
+            os.fstat(number)
+        except OSError:
+            os.open(os.devnull, os.O_RDWR)
+    for number in (signal.SIGTERM, signal.SIGHUP):
+        if signal.getsignal(number) is signal.SIG_DFL:
+            signal.signal(number, end)
+
+
+def close_output() -> None:
+    """Closes standard output, with all that was written, or raises `Trouble`."""
+    output, sys.stdout = sys.stdout, None
+    try:
+        if output is not None:
+            output.flush()
+            os.close(1)
+    except OSError as fault:
+        give_up_output(fault)
+
+
+def run(main: Callable[[], int]) -> NoReturn:
+    """Calls the command and exits with the status that it returns, or with 2 at any trouble."""
+    prepare()
+    try:
+        try:
+            status = main()
+        except SystemExit as ended:  # (of the parser of arguments, or at a signal)
+            status = ended.code
+        close_output()
+    except SystemExit as ended:
+        status = ended.code
+    except KeyboardInterrupt:
+        status = 128 + signal.SIGINT
+    except (Trouble, MemoryError) as fault:
+        say(str(fault) or "out of memory")
+        status = 2
+    sys.exit(status)
