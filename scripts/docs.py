@@ -17,9 +17,9 @@ Besides:
 - docs/ARCHITECTURE.md has a row for each crate, and its layers have each crate once, none above what it stands on;
 - docs/FORMATS.md has each refusal with its number and its name, and the limits as the code has them, SECURITY.md too;
 - CHANGELOG.md has the version of the program, which is that of the man page, the header and the packages;
-- docs/RECIPES.md names each recipe;
+- docs/RECIPES.md and the man page plistconv-tools.1 name each command in tools/;
 - docs/BENCHMARKS.md names the commit that was measured;
-- the pages have at most 10,000 words together, and no page more than 3,500, as `wc -w` counts them.
+- the pages have at most 10,500 words together, and no page more than 3,500, as `wc -w` counts them.
 Fails if anything is stale.
 """
 import re
@@ -29,7 +29,7 @@ from pathlib import Path
 TOP = Path(__file__).resolve().parent.parent
 CRATES = TOP / "crates"
 PAGES = sorted([*TOP.glob("*.md"), *TOP.glob("docs/*.md")])
-MOST_WORDS, MOST_OF_A_PAGE = 10_000, 3_500
+MOST_WORDS, MOST_OF_A_PAGE = 10_500, 3_500
 TESTS = {"plist_tests", "test_files", "rows"}  # crates that the graph leaves out
 SPAN = re.compile(r"`([^`\n]+)`")
 LINK = re.compile(r"\]\(([^)#:]*)(?:#([\w-]+))?\)")
@@ -227,6 +227,7 @@ def version_faults():
         yield f"CHANGELOG.md: nothing of version {version}"
     for file, before in (
         ("man/plistconv.1", '"plistconv '),
+        ("man/plistconv-tools.1", '"plistconv '),
         ("include/plistconv.h", 'PLISTCONV_VERSION "'),
         ("bindings/python/plistconv/__init__.py", '__version__ = "'),
         ("examples/rust/Cargo.toml", 'version = "'),
@@ -236,12 +237,11 @@ def version_faults():
             yield f"{file}: its version is not {version}"
 
 
-def recipe_faults():
-    """The recipes that RECIPES.md does not name."""
-    page = read("docs/RECIPES.md")
-    for recipe in sorted((TOP / "recipes").iterdir()):
-        if recipe.name not in ("common.sh", "readme", "test") and f"`{recipe.name}" not in page:
-            yield f"RECIPES.md: no recipe {recipe.name}"
+def tool_faults():
+    """The commands in tools/ that a page does not name."""
+    pages = {"RECIPES.md": read("docs/RECIPES.md"), "plistconv-tools.1": read("man/plistconv-tools.1").replace("\\-", "-")}
+    for tool in sorted(TOP.glob("tools/plistconv-*")):
+        yield from (f"{name}: no command {tool.name}" for name, page in pages.items() if tool.name not in page)
 
 
 def word_faults():
@@ -274,7 +274,7 @@ def main():
     for page in PAGES:
         faults += page_faults(page, page.read_text(encoding="utf-8"))
     faults += [*graph_faults(read("README.md")), *layer_faults(read("docs/ARCHITECTURE.md"))]
-    faults += [*number_faults(), *version_faults(), *recipe_faults(), *word_faults()]
+    faults += [*number_faults(), *version_faults(), *tool_faults(), *word_faults()]
     if not re.search(r"commit [0-9a-f]{7,}", read("docs/BENCHMARKS.md")):
         faults.append("BENCHMARKS.md: it does not name the commit that was measured")
     print("\n".join([*faults, f"{len(PAGES)} pages, {len(faults)} faults"]))

@@ -138,11 +138,12 @@ if [ -x "$program" ]; then
         begun library 1500 bash -c 'library "$PLISTCONV_LIBDIR"'
     fi
 
+    step toolchain 60 scripts/toolchain.sh
     step 'stale mutants' 900 bash -c 'needs python3 && scripts/stale_mutants.py'
     step 'names in the pages' 900 bash -c 'needs python3 && scripts/docs.py'
     step 'rows against the second reading' 900 bash -c 'needs python3 && python3 fuzz/rows.py'
-    step README 900 recipes/readme
-    step recipes 900 recipes/test
+    step README 900 scripts/readme
+    step tools 900 bash -c 'needs python3 && python3 tools/test_tools.py'
     step 'words that are not UTF-8' 900 scripts/words.sh
     step completions 900 completions/test
     step 'limits of texts' 900 bash -c 'needs python3 && scripts/limits.py "$PLISTCONV"'

@@ -1,0 +1,116 @@
+"""Tries XML property lists: what plistlib reads is converted, and what it would read as something else is refused."""
+from __future__ import annotations
+
+import datetime
+import plistlib
+import unittest
+
+from testing import OTHER, PROGRAM, TEXT, XML, Case
+
+HEAD = b'<?xml version="1.0" encoding="UTF-8"?>\n<!DOCTYPE plist PUBLIC "-//Apple//DTD PLIST 1.0//EN" ' \
+       b'"http://www.apple.com/DTDs/PropertyList-1.0.dtd">\n'
+
+
+def document(value: str) -> bytes:
+    """Returns an XML property list."""
+    return HEAD + f'<plist version="1.0">{value}</plist>\n'.encode()
+
+
+class Xml(Case):
+    """Documents, each converted from standard input."""
+
+    def converted(self, octets: bytes) -> bytes:
+        """Returns the canonical file."""
+        run = self.tool("canonicalise", "--from-xml", "-", input=octets)
+        self.assertEqual(run.stderr, b"")
+        return run.stdout
+
+    def refused(self, octets: bytes, why: str) -> None:
+        """The document has to be refused, by all that read XML."""
+        self.refuses(f"-: refused as XML: {why}", "canonicalise", "--from-xml", "-", input=octets)
+        self.refuses(f"-: refused as XML: {why}", "diff", "-", "-", input=octets, status=2)
+        self.assertIn(f"Binary file: refused as XML: {why}".encode(), self.tool("textconv", "-", input=octets).stdout)
+
+    def test_values_are_those_of_plistlib(self):
+        value = {
+            "text": "é 😀\n", "": "", "whole": [0, -1, 2**63 - 1, -(2**63), 2**64 - 1], "real": [2.5, -1e300, 0.0],
+            "flags": [True, False], "data": bytes(range(256)), "date": datetime.datetime(2025, 11, 22, 19, 54, 22),
+            "empty": [[], {}, b""],
+        }
+        wanted = self.canonical(plistlib.dumps(value, fmt=plistlib.FMT_BINARY))
+        self.assertEqual(self.converted(plistlib.dumps(value)), wanted)
+
+    def test_spellings_of_one_value_are_equal(self):
+        wanted = self.canonical(b"{ a = (b, <0001>); }")
+        for octets in (
+            document("<dict><key>a</key><array><string>b</string><data>AAE=</data></array></dict>"),
+            document("<dict>\n<key>&#97;</key><!-- c --><array>\n<string><![CDATA[b]]></string><data>\n A A\tE = </data></array>"
+                     "</dict>"),
+            b"<!-- first -->" + document("<dict><key>a</key><array><string>b</string><data>AAE=</data></array></dict>")[39:],
+            b"<plist><dict><key>a</key><array><string>b</string><data>AAE=</data></array></dict></plist>",
+            '<?xml version="1.0"?><plist><dict><key>a</key><array><string>b</string><data>AAE=</data></array></dict></plist>'
+            .encode("utf-16"),
+        ):
+            self.assertEqual(self.converted(octets), wanted, octets)
+        latin = b'<?xml version="1.0" encoding="ISO-8859-1"?><plist><string>\xe9</string></plist>'
+        self.assertEqual(self.converted(latin), self.canonical('"é"'.encode()))
+
+    def test_what_plistlib_passes_over_is_refused(self):
+        for value, why in (
+            ("<data>!!!</data>", "line 3: this is no <data>: '!!!'"),
+            ("<data>AAE</data>", "line 3: this is no <data>"),
+            ("<string>a</string><string>b</string>", "line 3: a second value"),
+            ("", "line 3: no value"),
+            ("<dict><key>a</key><foo/><string>b</string></dict>", "line 3: there is no element <foo>"),
+            ("<string>a<b/>c</string>", "line 3: there is no element <b>"),
+            ("<string>a<true/>c</string>", "line 3: <true> in <string>"),
+            ("<array>junk<true/></array>", "line 3: text outside of a value: 'junk'"),
+            ("<dict><key></key></dict>", "line 3: a key without a value"),
+            ("<dict><key></key><key>a</key><true/></dict>", "line 3: <key> in place of a value"),
+            ("<dict><true/></dict>", "line 3: <true> in place of a key"),
+            ("<array><key>a</key></array>", "line 3: <key> in place of a value"),
+            ("<dict><key>a</key><true/><key>a</key><true/></dict>", "the key 'a' is there twice"),
+            ("<true>false</true>", "line 3: this is no <true>: 'false'"),
+            ("<integer>1_000</integer>", "line 3: this is no <integer>"),
+            ("<integer>1.5</integer>", "line 3: this is no <integer>"),
+            ("<integer>٣</integer>", "line 3: this is no <integer>"),
+            ("<integer/>", "line 3: this is no <integer>"),
+            ("<integer>99999999999999999999</integer>", "plistlib: OverflowError"),
+            ("<real>1_0.5</real>", "line 3: this is no <real>"),
+            ("<date>2025-11-22T19:54:22Z and more</date>", "line 3: this is no <date>"),
+            ("<date>2025-13-22T19:54:22Z</date>", "plistlib: ValueError"),
+            ("<string>&none;</string>", "line 3: an entity: none"),
+            ("<array><real>0</real><real>-0.0</real></array>", "plistlib does not write what it has read"),
+            ("<dict><key>CF$UID</key><integer>1</integer></dict>", "line 3: the key CF$UID, a UID of a keyed archive"),
+            ("<plist><true/></plist>", "line 3: <plist> in <plist>"),
+            ("<string>\x01</string>", "not well-formed (invalid token): line 3"),
+            ("<array>" * 600 + "</array>" * 600, "line 3: more than 512 levels"),
+        ):
+            self.refused(document(value), why)
+        self.refused(b'<!DOCTYPE plist [<!ENTITY a "b">]><plist><string>&a;</string></plist>', "line 1: an entity: a")
+        self.refused(b'<?xml version="1.0" encoding="none"?><plist><true/></plist>', "unknown encoding")
+        self.refused(b"<html/>".replace(b"<", b"<!-- --><", 1), "line 1: there is no element <html>")
+        self.refused(XML[:-9], "no element found")
+
+    def test_levels_up_to_the_limit_are_read(self):
+        octets = document("<array>" * 512 + "</array>" * 512)
+        self.assertEqual(self.converted(octets), self.canonical(b"(" * 512 + b")" * 512))
+        self.refuses("-: refused 16 TooDeep", "canonicalise", "--from-xml", "-",
+                     input=document("<array>" * 513 + "</array>" * 513))
+
+    def test_files_in_their_places(self):
+        path = self.put("a", XML)
+        path.chmod(0o600)
+        self.refuses("a: refused 21 XmlForm at octet 0 (XML); left as it is", "canonicalise", "a")
+        self.assertEqual(path.read_bytes(), XML)
+        self.prints(b"", "canonicalise", "--from-xml", "a")
+        self.assertEqual(self.call([PROGRAM, "check", "a"]).stdout, b"canonical\n")
+        self.assertEqual(path.stat().st_mode & 0o777, 0o600)
+
+    def test_other_files_are_converted_with_from_xml_too(self):
+        self.assertEqual(self.converted(TEXT), self.canonical(TEXT))
+        self.assertEqual(self.converted(self.canonical(OTHER)), self.canonical(OTHER))
+
+
+if __name__ == "__main__":
+    unittest.main()

@@ -1,0 +1,110 @@
+"""What the tests of the commands share: a folder for each test, and calls of the commands in it."""
+from __future__ import annotations
+
+import os
+import shutil
+import stat
+import subprocess
+import sys
+import tempfile
+import unittest
+from pathlib import Path
+
+TOOLS = Path(__file__).resolve().parent
+TOP = TOOLS.parent
+COMMANDS = ("canonicalise", "diff", "digest", "staged", "textconv", "where")
+TEXT, SAME, OTHER = b"{b=a;a=b;}\n", b'/* the same */ { "a" = b; b = a; }\n', b"{b=a;a=c;}\n"
+PRINTED = b'{\n  "a" => "b"\n  "b" => "a"\n}\n'
+TWICE = b"{a;a=b;}\n"
+XML = b'<?xml version="1.0"?>\n<plist version="1.0"><dict><key>a</key><real>2.5</real></dict></plist>\n'
+XML_PRINTED = b'{\n  "a" => 2.5\n}\n'
+# (a binary file with a UID, as keyed archives have)
+ARCHIVE = b"bplist00\xd1\x01\x02Qa\x80\x01\x08\x0b\x0d" + bytes(6) + b"\x01\x01" + bytes(7) + b"\x03" + bytes(15) + b"\x0f"
+
+
+def found_program() -> str:
+    """Returns the absolute path of the program that is tried."""
+    program = shutil.which(os.environ.get("PLISTCONV") or str(TOP / "plistconv")) or shutil.which("plistconv")
+    if program is None:
+        sys.exit("test_tools: there is no plistconv: set PLISTCONV")
+    return os.path.abspath(program)
+
+
+PROGRAM = found_program()
+ENVIRONMENT = {
+    **{name: value for name, value in os.environ.items() if not name.startswith(("GIT_", "PYTHON"))},
+    "PLISTCONV": PROGRAM,
+    "PATH": f"{TOOLS}{os.pathsep}{os.environ.get('PATH', os.defpath)}",
+    "LC_ALL": "C.UTF-8",
+    "GIT_CONFIG_GLOBAL": os.devnull,
+    "GIT_CONFIG_SYSTEM": os.devnull,
+    "GIT_CONFIG_NOSYSTEM": "1",
+    "GIT_AUTHOR_NAME": "a",
+    "GIT_AUTHOR_EMAIL": "a@b",
+    "GIT_COMMITTER_NAME": "a",
+    "GIT_COMMITTER_EMAIL": "a@b",
+}
+
+
+class Case(unittest.TestCase):
+    """A test in an empty folder of its own."""
+
+    def setUp(self) -> None:
+        self.folder = Path(tempfile.mkdtemp())
+        self.addCleanup(shutil.rmtree, self.folder, ignore_errors=True)
+        self.environment = dict(ENVIRONMENT)
+
+    def put(self, name, octets: bytes) -> Path:
+        """Makes a file, in folders that are made too."""
+        path = Path(os.path.join(str(self.folder), os.fsdecode(name)))
+        path.parent.mkdir(parents=True, exist_ok=True)
+        path.write_bytes(octets)
+        return path
+
+    def call(self, words, status=0, **more) -> subprocess.CompletedProcess:
+        """Runs words in the folder, which must end with the status."""
+        options = {"input": b"", "stdout": subprocess.PIPE, "cwd": str(self.folder), "env": self.environment, **more}
+        if "stdin" in options:
+            del options["input"]
+        run = subprocess.run(words, stderr=subprocess.PIPE, check=False, **options)
+        self.assertEqual(run.returncode, status, (words, run.stdout, run.stderr))
+        return run
+
+    def tool(self, name: str, *words, status=0, **more) -> subprocess.CompletedProcess:
+        """Runs a command, which must end with the status."""
+        return self.call([sys.executable, str(TOOLS / f"plistconv-{name}"), *words], status, **more)
+
+    def prints(self, octets: bytes, name: str, *words, **more) -> None:
+        """Runs a command, which must print the bytes, and nothing on standard error."""
+        run = self.tool(name, *words, **more)
+        self.assertEqual((run.stdout, run.stderr), (octets, b""), (name, words))
+
+    def refuses(self, said: str, name: str, *words, status=1, printed=b"", **more) -> None:
+        """Runs a command, which must say this on standard error."""
+        run = self.tool(name, *words, status=status, **more)
+        self.assertIn(said.encode(), run.stderr, (name, words))
+        self.assertEqual(run.stdout, printed, (name, words))
+
+    def canonical(self, octets: bytes) -> bytes:
+        """Returns the canonical file of a property list."""
+        return self.call([PROGRAM], input=octets).stdout
+
+    def left(self) -> list:
+        """Returns the names in the folder and below."""
+        return sorted(str(path.relative_to(self.folder)) for path in self.folder.rglob("*"))
+
+    def git(self, *words, status=0, **more) -> bytes:
+        """Runs git in the folder."""
+        if shutil.which("git") is None:
+            self.skipTest("skipped: there is no git")
+        return self.call(["git", *words], status, **more).stdout
+
+    def node(self, name: str) -> Path:
+        """Makes a device like /dev/null, which a faulty command may destroy."""
+        path = self.folder / name
+        try:
+            os.mknod(str(path), 0o666 | stat.S_IFCHR, os.makedev(1, 3))
+            path.read_bytes()
+        except OSError:
+            self.skipTest("skipped: no device can be made here")
+        return path
