@@ -3,8 +3,8 @@
 # `make examples` builds and runs the examples, `make growths-lib` refuses each allocation in turn.
 # The toolchain's C functions stand beside `rt`.
 CC ?= cc
-RT_HOME := $(patsubst %/bin/,%,$(dir $(realpath $(shell command -v $(RT) 2> /dev/null))))
-RT_LIBC = $(or $(firstword $(wildcard $(RT_HOME)/c/liblibc_c.a)),$(error no liblibc_c.a beside $(RT) ($(RT_HOME)/c)))
+RT_LIBC = $(or $(shell file=$$(dirname "$$(dirname "$$(realpath "$$(command -v $(RT))")")")/c/liblibc_c.a; [ ! -f "$$file" ] || echo "$$file"),\
+  $(error there is no c/liblibc_c.a beside the folder of $(RT)))
 LIBDIR ?= $(PREFIX)/lib
 INCLUDEDIR ?= $(PREFIX)/include
 PC_PREFIX ?= $(PREFIX)
@@ -15,22 +15,10 @@ PROVED_LIB := crates/plistconv_c/out/libplistconv_c.a
 lib: libplistconv.a libplistconv.so
 
 libplistconv.a libplistconv.so: out/plistconv_c.proved
-	CC='$(CC)' scripts/link-library.sh $(PROVED_LIB) $(RT_LIBC) $@
-
-LIB_INSTALLED = 644:include/plistconv.h:$(INCLUDEDIR)/plistconv.h 644:libplistconv.a:$(LIBDIR)/libplistconv.a \
-  644:libplistconv.so:$(LIBDIR)/libplistconv.so.1
-LIB_LINKS = $(LIBDIR)/libplistconv.so
-PC_FILE = $(LIBDIR)/pkgconfig/plistconv.pc
+	CC='$(CC)' scripts/link-library.sh $(PROVED_LIB) '$(RT_LIBC)' $@
 
 install-lib: $(call built,libplistconv.a) $(call built,libplistconv.so)
-	$(call install_all,$(LIB_INSTALLED))
-	ln -sf libplistconv.so.1 $(DESTDIR)$(LIB_LINKS)
-	install -d $(DESTDIR)$(dir $(PC_FILE))
-	printf '%s\n' 'prefix=$(PC_PREFIX)' 'libdir=$(LIBDIR:$(PREFIX)/%=$${prefix}/%)' \
-	  'includedir=$(INCLUDEDIR:$(PREFIX)/%=$${prefix}/%)' '' 'Name: plistconv' \
-	  'Description: Property lists in their canonical form, proved' 'Version: $(VERSION)' \
-	  'Libs: -L$${libdir} -lplistconv' 'Cflags: -I$${includedir}' > $(DESTDIR)$(PC_FILE)
-	chmod 644 $(DESTDIR)$(PC_FILE)
+	@$(INSTALL) install library
 
 examples: lib
 	examples/test

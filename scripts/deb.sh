@@ -1,13 +1,23 @@
 #!/usr/bin/env bash
-# scripts/deb.sh FOLDER MULTIARCH: packs what `make deb` has installed into FOLDER/all as Debian packages, in the folder
-# above: plistconv (program, man page, completions, recipes), libplistconv1, libplistconv-dev and python3-plistconv.
-# VERSION, MAINTAINER and SOURCE_DATE_EPOCH are the environment's.
+# scripts/deb.sh MULTIARCH: makes Debian packages of what was built, in dist/: plistconv (program, commands, man pages,
+# completions, pages), libplistconv1, libplistconv-dev and python3-plistconv. Of one commit they have the same bytes
+# whenever they are made. VERSION is the environment's.
 set -euo pipefail
 umask 022
-cd "$1"
-multiarch=$2
+cd "$(dirname "$0")/.."
+multiarch=$1
+for tool in dpkg-deb python3; do
+    command -v $tool > /dev/null || { echo "deb: there is no $tool" >&2; exit 1; }
+done
+source scripts/commit.sh
 arch=$(dpkg --print-architecture)
 lib=usr/lib/$multiarch
+rm -rf dist/deb
+export DESTDIR=dist/deb/all PREFIX=/usr SHARE=/usr/share DOC=/usr/share/doc/plistconv ZSH=zsh/vendor-completions \
+    LIBDIR=/$lib INCLUDEDIR=/usr/include PC_PREFIX=/usr
+scripts/install.sh install program
+scripts/install.sh install library
+cd dist/deb
 
 # (the oldest libc that has all that the file calls)
 libc() { objdump -T "$1" | grep -o 'GLIBC_[0-9.]*' | cut -c7- | sort -V | tail -n 1; }
@@ -39,8 +49,8 @@ END
     gzip -n9 > "$folder/changelog.gz" <<END
 plistconv ($VERSION) unstable; urgency=medium
 
-  * Property lists in their canonical form, proved; the repository's log
-    tells what has changed.
+  * Property lists in their canonical form, proved; CHANGELOG.md of the
+    package plistconv tells what has changed.
 
  -- $MAINTAINER  $(date -u -R -d "@$SOURCE_DATE_EPOCH")
 END
@@ -62,12 +72,19 @@ pack() { # PACKAGE SECTION ARCHITECTURE DEPENDS TEXT [FIELD..]: the text is the 
 
 strip --strip-unneeded --remove-section=.comment --remove-section=.note all/usr/bin/plistconv "all/$lib/libplistconv.so.1"
 strip --strip-debug --remove-section=.comment --enable-deterministic-archives "all/$lib/libplistconv.a"
-gzip -n9 all/usr/share/man/man1/plistconv.1
+gzip -n9 all/usr/share/man/man1/*.1
+sed -i '1s|.*|#!/usr/bin/python3|' all/usr/share/plistconv/tools/plistconv-*
 
 take libplistconv1 "$lib/libplistconv.so.1"
 take libplistconv-dev "$lib/libplistconv.so" "$lib/libplistconv.a" "$lib/pkgconfig" usr/include/plistconv.h
 mkdir -p python3-plistconv/usr/lib/python3/dist-packages
-mv all/usr/share/plistconv/python/plistconv python3-plistconv/usr/lib/python3/dist-packages/plistconv
+packages=python3-plistconv/usr/lib/python3/dist-packages
+mv all/usr/share/plistconv/python/plistconv "$packages/plistconv"
+info=$packages/plistconv-$VERSION.dist-info
+mkdir "$info"
+PYTHONPATH=../../bindings/python python3 -Bc 'import sys, wheel_of_plistconv as wheel; sys.stdout.buffer.write(wheel.METADATA)' \
+    > "$info/METADATA"
+echo dpkg > "$info/INSTALLER"
 rm -r all/usr/share/plistconv/python
 take plistconv usr/bin usr/share
 rmdir "all/$lib" all/usr/lib all/usr/include all/usr all # (nothing is left out)
@@ -76,11 +93,11 @@ mkdir -p libplistconv1/DEBIAN
 echo "libplistconv 1 libplistconv1 (>= $VERSION)" > libplistconv1/DEBIAN/shlibs
 echo 'activate-noawait ldconfig' > libplistconv1/DEBIAN/triggers
 
-pack plistconv utils "$arch" "libc6 (>= $(libc plistconv/usr/bin/plistconv))" 'canonical form of Apple property lists
+pack plistconv utils "$arch" "libc6 (>= $(libc plistconv/usr/bin/plistconv)), python3:any (>= 3.7)" 'canonical form of Apple property lists
  Gives each Apple property list, binary or OpenStep text, the one file that all
  its spellings share, so that property lists can be compared, hashed and cached.
  .
- With recipes for git, caches, archives and bundles.' 'Suggests: git, python3, libplist-utils, python3-plistconv'
+ With commands for git, caches and files in their places.' 'Suggests: git, libplist-utils'
 pack libplistconv1 libs "$arch" "libc6 (>= $(libc "libplistconv1/$lib/libplistconv.so.1"))" 'canonical form of Apple property lists - library
  Gives each Apple property list, binary or OpenStep text, the one file that all
  its spellings share, so that property lists can be compared, hashed and cached.

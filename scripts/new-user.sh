@@ -1,11 +1,11 @@
 #!/usr/bin/env bash
-# What a new user does, on a clean checkout of the last commit: the README's commands, the installation, the man page,
-# completions, recipes and examples, the tar file and the Debian packages.
+# What a new user does, on a clean checkout of the last commit, in a folder with a blank: the README's commands, the
+# installation, the man pages, completions, commands and examples, the tar file and the Debian packages.
 #
 # new-user.sh [PART..]           takes ./plistconv, libplistconv.a and libplistconv.so as they were built here
 # new-user.sh --build [PART..]   builds them in the checkout by `make` and `make lib` (long)
 #
-# The parts are readme, install, manual, completions, recipes, examples, dist and deb; without words all are tried.
+# The parts are readme, install, manual, completions, tools, examples, dist and deb; without words all are tried.
 # `make test` is left out. What needs a tool that is missing is skipped with a line; if all that was asked for is
 # skipped, the status is 77. PLISTCONV and PLISTCONV_LIBDIR name other places of what was built here.
 set -euo pipefail
@@ -26,7 +26,7 @@ has() { # COMMAND PACKAGE WHAT
 }
 build=
 [ "${1:-}" != --build ] || { build=yes; shift; }
-parts=" ${*:-readme install manual completions recipes examples dist deb} "
+parts=" ${*:-readme install manual completions tools examples dist deb} "
 wants() { [[ $parts == *" $1 "* ]]; }
 
 has git git 'a clean checkout' && has make make 'an installation' || exit 77
@@ -35,9 +35,8 @@ if ! commit=$(git -C "$top" rev-parse --short HEAD 2>&1); then
     exit 77
 fi
 step "a clean checkout of $commit"
-git clone --quiet "$top" "$work/plistconv"
-cd "$work/plistconv"
-built=()
+git clone --quiet "$top" "$work/a new user/plistconv"
+cd "$work/a new user/plistconv"
 if [ "$build" ]; then
     step make; make
     step 'make lib'; make lib
@@ -45,7 +44,6 @@ else
     for file in "$program" "$libraries/libplistconv.a" "$libraries/libplistconv.so"; do
         [ -f "$file" ] || fail "there is no $file: run \`make\` and \`make lib\`, or give --build"
         cp -p "$file" "$(basename "$file")"
-        built+=(-o "$(basename "$file")")
     done
 fi
 # (nothing is built here, so there is no toolchain)
@@ -54,77 +52,122 @@ version=$(./plistconv --version | cut -d ' ' -f 2)
 
 if wants readme; then
     step 'the README'
-    PLISTCONV=./plistconv recipes/readme
+    PLISTCONV=./plistconv scripts/readme
     tried=1
 fi
 
+# The links of pages that name no file.
+broken_links() { # FOLDER
+    local page link
+    while IFS= read -r page; do
+        while IFS= read -r link; do
+            [ -e "$(dirname "$page")/$link" ] || echo "$page: $link"
+        done < <(grep -o '](\([^)#:]\+\)' "$page" | cut -c3-)
+    done < <(find "$1" -name '*.md')
+}
+no_broken_links() { # FOLDER
+    local broken
+    broken=$(broken_links "$1")
+    [ -z "$broken" ] && [ -f "$1/README.md" ] || fail "links that name no file: $broken"
+}
+root=$work/a\ root prefix=/usr/a\ prefix
+installed=$root$prefix
+quietly() { "$@" > "$work/log" 2>&1 || { cat "$work/log" >&2; fail "$*"; }; } # COMMAND..
+
 if wants install || wants manual; then
-    step 'make install install-lib DESTDIR=.., without the toolchain'
-    make install install-lib DESTDIR="$work/root" PREFIX=/usr > "$work/log" 2>&1 || { cat "$work/log" >&2; fail install; }
-    (cd "$work/root" && find . -type f -o -type l) | LC_ALL=C sort
-    [ "$("$work/root/usr/bin/plistconv" --version)" = "$(./plistconv --version)" ] || fail 'another program is installed'
-    page=$work/root/usr/share/man/man1/plistconv.1
+    step 'make install install-lib DESTDIR=.. PREFIX=.., without the toolchain'
+    mkdir "$work/a"
+    quietly make install install-lib DESTDIR="$root" PREFIX="$prefix"
+    (cd "$root" && find . -type f -o -type l) | LC_ALL=C sort
+    [ "$("$installed/bin/plistconv" --version)" = "$(./plistconv --version)" ] || fail 'another program is installed'
 fi
 if wants install; then
-    # A recipe finds the program that was installed with it, and the commands of git work from any repository.
+    no_broken_links "$installed/share/doc/plistconv"
     printf '{b=a;a=b;}' > "$work/a.plist"
-    (cd "$work" && env -u PLISTCONV PATH="/usr/bin:/bin" root/usr/share/plistconv/recipes/digest a.plist)
-    grep -qx "Version: $version" "$work/root/usr/lib/pkgconfig/plistconv.pc" || fail 'the file for pkg-config is of another version'
-    [ ! -x "$work/root/usr/lib/libplistconv.so.1" ] || fail 'the shared library can be run'
+    if has python3 python3 'the commands'; then
+        # A command finds the program that was installed with it.
+        (cd "$work" && env -u PLISTCONV "$installed/bin/plistconv-digest" a.plist)
+        for command in "$installed"/bin/plistconv-*; do "$command" --help > "$work/log" || fail "$command --help"; done
+    fi
+    grep -qx "Version: $version" "$installed/lib/pkgconfig/plistconv.pc" || fail 'the file for pkg-config is of another version'
+    [ ! -x "$installed/lib/libplistconv.so.1" ] || fail 'the shared library can be run'
     if has pkg-config pkgconf 'the file for pkg-config'; then
-        PKG_CONFIG_PATH=$work/root/usr/lib/pkgconfig pkg-config --define-variable=prefix="$work/root/usr" \
-            --cflags --libs plistconv
+        PKG_CONFIG_PATH=$installed/lib/pkgconfig pkg-config --define-variable=prefix="$installed" --cflags --libs plistconv
     fi
     make help > "$work/log"
     grep -q '^make install ' "$work/log" || fail 'make help'
     step 'make uninstall'
-    cp -R "$work/root" "$work/left"
-    make uninstall DESTDIR="$work/left" PREFIX=/usr > "$work/log" 2>&1 || { cat "$work/log" >&2; fail uninstall; }
+    cp -R "$root" "$work/left"
+    mkdir -p "$work/left$prefix/share/doc/plistconv/mine" "$work/a"
+    quietly make uninstall DESTDIR="$work/left" PREFIX="$prefix"
     [ -z "$(find "$work/left" -type f -o -type l)" ] || fail "make uninstall leaves $(find "$work/left" -type f -o -type l)"
+    [ "$(find "$work/left" -name 'plistconv*' -o -name mine)" = "$(printf '%s\n' "$work/left$prefix/share/doc/plistconv"{,/mine})" ] ||
+        fail "make uninstall leaves, or takes, $(find "$work/left")"
+    [ -d "$work/a" ] && [ -z "$(ls -A "$work/a")" ] || fail 'make install or uninstall changed a folder beside'
     tried=1
 fi
 
 if wants manual; then
-    step 'the man page'
-    grep -q "\"plistconv $version\"" "$page" || fail 'the man page is of another version'
-    if has man man-db 'man --warnings'; then
-        LC_ALL=C.UTF-8 MANROFFSEQ='' MANWIDTH=80 man --warnings -l "$page" 2> "$work/warnings" | head -n 4
-        [ ! -s "$work/warnings" ] || { cat "$work/warnings" >&2; exit 1; }
-        tried=1
-    fi
-    if has mandoc mandoc 'mandoc -Tlint'; then
-        mandoc -Tlint -W warning "$page"
-        tried=1
-    fi
+    step 'the man pages'
+    for page in "$installed"/share/man/man1/plistconv{,-tools}.1; do
+        grep -q "\"plistconv $version\"" "$page" || fail "$page is of another version"
+        if has man man-db 'man --warnings'; then
+            LC_ALL=C.UTF-8 MANROFFSEQ='' MANWIDTH=80 man --warnings -l "$page" 2> "$work/warnings" > "$work/log"
+            sed -n 3,4p "$work/log"
+            [ ! -s "$work/warnings" ] || { cat "$work/warnings" >&2; exit 1; }
+            tried=1
+        fi
+        if has mandoc mandoc 'mandoc -Tlint'; then
+            mandoc -Tlint -W warning "$page"
+            tried=1
+        fi
+    done
 fi
 
 if wants completions; then step completions; completions/test; tried=1; fi
-if wants recipes; then step recipes; PLISTCONV=./plistconv recipes/test; tried=1; fi
+if wants tools && has python3 python3 tools; then step tools; PLISTCONV=./plistconv python3 -B tools/test_tools.py; tried=1; fi
 if wants examples; then step examples; examples/test && tried=1 || [ $? = 77 ]; fi
 
 if wants dist && has objdump binutils 'the tar file'; then
     step 'make dist'
-    make dist > "$work/log" 2>&1 || { cat "$work/log" >&2; fail dist; }
+    quietly make dist
     first=$(cat dist/*.tar.gz.sha256)
-    make dist > "$work/log" 2>&1
+    quietly make dist
     [ "$first" = "$(cat dist/*.tar.gz.sha256)" ] || fail 'the tar file is another at the second time'
     echo "$first, twice"
+    # Where git does not tell the commit there is no tar file, unless what is taken from the commit is given.
+    mkdir "$work/bin"
+    printf '#!/bin/sh\necho "git: dubious ownership" >&2\nexit 128\n' > "$work/bin/git"
+    chmod +x "$work/bin/git"
+    epoch=$(git log -1 --format=%ct) maintainer=$(git log -1 --format='%an <%ae>')
+    if (unset SOURCE_DATE_EPOCH MAINTAINER; PATH="$work/bin:$PATH" make dist) > "$work/log" 2>&1; then
+        fail 'a tar file is made though git does not tell the commit'
+    fi
+    grep -q 'set SOURCE_DATE_EPOCH' "$work/log" || fail "make dist says $(cat "$work/log")"
+    PATH="$work/bin:$PATH" SOURCE_DATE_EPOCH=$epoch MAINTAINER=$maintainer quietly make dist
+    [ "$first" = "$(cat dist/*.tar.gz.sha256)" ] || fail 'the tar file is another without git'
     mkdir "$work/unpacked" && tar -C "$work/unpacked" --strip-components=1 -xzf dist/*.tar.gz
     (cd "$work/unpacked" && sha256sum --quiet -c SHA256SUMS && bin/plistconv --version)
-    for file in INSTALL share/doc/plistconv/FORMATS.md share/doc/plistconv/README.md share/plistconv/recipes/digest \
-        share/plistconv/python/pyproject.toml; do
+    no_broken_links "$work/unpacked/share/doc/plistconv"
+    for file in INSTALL bin/plistconv-digest share/doc/plistconv/{README.md,SECURITY.md,docs/FORMATS.md,examples/c/canonical.c} \
+        share/plistconv/python/pyproject.toml share/man/man1/plistconv-tools.1; do
         [ -f "$work/unpacked/$file" ] || fail "the tar file has no $file"
     done
     grep -q LD_LIBRARY_PATH "$work/unpacked/INSTALL" || fail 'the tar file does not say how its library is found'
+    if has python3 python3 'the commands'; then
+        mkdir "$work/moved here" && mv "$work/unpacked" "$work/moved here/"
+        printf '{a=b;}' | env -u PLISTCONV "$work/moved here/unpacked/bin/plistconv-digest" -
+    fi
+    [ "$(ls -A "$work/a new user")" = plistconv ] || fail 'make dist writes outside of the checkout'
     tried=1
 fi
 
 if wants deb && has dpkg-deb dpkg 'the Debian packages' && has objdump binutils 'the Debian packages' &&
     has strip binutils 'the Debian packages'; then
     step 'make deb'
-    make deb > "$work/log" 2>&1 || { cat "$work/log" >&2; fail deb; }
+    quietly make deb
     first=$(sha256sum dist/*.deb)
-    make deb > "$work/log" 2>&1
+    quietly make deb
     [ "$first" = "$(sha256sum dist/*.deb)" ] || fail 'a package is another at the second time'
     mkdir "$work/deb"
     for package in dist/*.deb; do
@@ -133,17 +176,21 @@ if wants deb && has dpkg-deb dpkg 'the Debian packages' && has objdump binutils 
         dpkg-deb -x "$package" "$work/deb"
     done
     "$work/deb/usr/bin/plistconv" --version
-    for file in usr/share/doc/plistconv/FORMATS.md usr/share/doc/plistconv/README.md usr/share/plistconv/recipes/digest \
-        usr/lib/python3/dist-packages/plistconv/py.typed; do
+    no_broken_links "$work/deb/usr/share/doc/plistconv"
+    for file in usr/share/doc/plistconv/{README.md,SECURITY.md,CHANGELOG.md,docs/FORMATS.md,examples/c/canonical.c} \
+        usr/bin/plistconv-digest usr/share/man/man1/plistconv-{tools,digest}.1.gz usr/lib/python3/dist-packages/plistconv/py.typed; do
         [ -f "$work/deb/$file" ] || fail "the packages have no $file"
     done
     if has python3 python3 'the Python module of the packages'; then
         PLISTCONV_LIBRARY=$(echo "$work"/deb/usr/lib/*/libplistconv.so.1) PYTHONPATH=$work/deb/usr/lib/python3/dist-packages \
-            python3 -c 'import plistconv; print(plistconv.library_version())'
+            python3 -Bc 'import plistconv, importlib.metadata as about
+assert about.version("plistconv") == plistconv.library_version()
+print(plistconv.library_version())'
     fi
     if has lintian lintian 'what lintian says'; then
         lintian --allow-root --fail-on error dist/*.deb
     fi
+    [ "$(ls -A "$work/a new user")" = plistconv ] || fail 'make deb writes outside of the checkout'
     tried=1
 fi
 [ $tried = 1 ] || exit 77

@@ -1,0 +1,88 @@
+#!/usr/bin/env bash
+# scripts/install.sh install program|library, scripts/install.sh uninstall: installs what was built, with all that
+# belongs to it, or removes exactly that. The environment has the folders, which may have blanks: DESTDIR, PREFIX,
+# SHARE, DOC, LIBDIR and INCLUDEDIR; ZSH, the folder of completions below SHARE; PC_PREFIX, the prefix that the file
+# for pkg-config names; and VERSION.
+set -euo pipefail
+umask 022
+cd "$(dirname "$0")/.."
+verb=$1
+
+# Makes way for a file, or removes it, with the folders of our own that are then empty.
+place() { # PATH
+    local folder
+    if [ "$verb" = install ]; then
+        mkdir -p "$(dirname "$DESTDIR$1")"
+        return
+    fi
+    rm -f "$DESTDIR$1"
+    folder=$(dirname "$1")
+    while [[ $folder == "$SHARE/plistconv" || $folder == "$SHARE/plistconv"/* || $folder == "$DOC" || $folder == "$DOC"/* ]]; do
+        rmdir "$DESTDIR$folder" 2> /dev/null || break
+        folder=$(dirname "$folder")
+    done
+}
+put() { # MODE FROM PATH
+    place "$3"
+    [ "$verb" = uninstall ] || install -T -m "$1" "$2" "$DESTDIR$3"
+}
+link() { # TARGET PATH
+    place "$2"
+    [ "$verb" = uninstall ] || ln -sfn "$1" "$DESTDIR$2"
+}
+print() { # PATH LINE..
+    place "$1"
+    [ "$verb" = uninstall ] || { printf '%s\n' "${@:2}" > "$DESTDIR$1" && chmod 644 "$DESTDIR$1"; }
+}
+
+# The pages with the folders that they link to.
+pages() {
+    local file
+    for file in *.md docs/*.md docs/*.svg include/*.h bindings/python/{plistconv/*.py,plistconv/py.typed,pyproject.toml,wheel_of_plistconv.py} \
+        examples/{c/*.c,c/*.cpp,go/go.mod,go/*.go,rust/Cargo.toml,rust/src/*.rs} examples/rust/plistconv-sys/{Cargo.toml,build.rs,src/*.rs}; do
+        put 644 "$file" "$DOC/$file"
+    done
+}
+
+program() {
+    local file
+    put 755 plistconv "$PREFIX/bin/plistconv"
+    for file in plistconv-{canonicalise,diff,digest,staged,textconv,where}; do
+        put 755 "tools/$file" "$SHARE/plistconv/tools/$file"
+        # (a link, since a command finds its modules beside the file that it is)
+        case $SHARE in
+            "$PREFIX"/*) link "../${SHARE#"$PREFIX"/}/plistconv/tools/$file" "$PREFIX/bin/$file" ;;
+            *) link "$SHARE/plistconv/tools/$file" "$PREFIX/bin/$file" ;;
+        esac
+        print "$SHARE/man/man1/$file.1" '.so man1/plistconv-tools.1'
+    done
+    for file in plistconv_tools.py plistconv_xml.py; do put 644 "tools/$file" "$SHARE/plistconv/tools/$file"; done
+    for file in plistconv.1 plistconv-tools.1; do put 644 "man/$file" "$SHARE/man/man1/$file"; done
+    put 644 completions/plistconv.bash "$SHARE/bash-completion/completions/plistconv"
+    put 644 completions/_plistconv "$SHARE/$ZSH/_plistconv"
+    put 644 completions/plistconv.fish "$SHARE/fish/vendor_completions.d/plistconv.fish"
+    for file in plistconv/__init__.py plistconv/py.typed pyproject.toml wheel_of_plistconv.py; do
+        put 644 "bindings/python/$file" "$SHARE/plistconv/python/$file"
+    done
+    pages
+}
+
+below_prefix() { case $1 in "$PREFIX"/*) echo "\${prefix}/${1#"$PREFIX"/}" ;; *) echo "$1" ;; esac; } # FOLDER
+
+library() {
+    put 644 include/plistconv.h "$INCLUDEDIR/plistconv.h"
+    put 644 libplistconv.a "$LIBDIR/libplistconv.a"
+    put 644 libplistconv.so "$LIBDIR/libplistconv.so.1"
+    link libplistconv.so.1 "$LIBDIR/libplistconv.so"
+    print "$LIBDIR/pkgconfig/plistconv.pc" "prefix=$PC_PREFIX" "libdir=$(below_prefix "$LIBDIR")" \
+        "includedir=$(below_prefix "$INCLUDEDIR")" '' 'Name: plistconv' \
+        'Description: Property lists in their canonical form, proved' "Version: $VERSION" \
+        'Libs: -L"${libdir}" -lplistconv' 'Cflags: -I"${includedir}"'
+}
+
+case $verb-${2:-} in
+    install-program) program ;;
+    install-library) library ;;
+    uninstall-) program; library ;;
+    *) echo 'usage: install.sh install program|library, install.sh uninstall' >&2; exit 2 ;;
+esac
