@@ -8,6 +8,7 @@ from __future__ import annotations
 import ast
 import hashlib
 import os
+import random
 import re
 import resource
 import shutil
@@ -203,6 +204,37 @@ class Diff(Case):
         command = f"'{sys.executable}' '{TOOLS}/plistconv-diff' <(cat a) <(cat c)"
         self.assertIn(b'+  "a" => "c"', self.call([bash, "-c", command], 1).stdout)
 
+    def applied(self, diff: bytes, old: list) -> list:
+        """Returns the lines that a unified diff makes of the old ones."""
+        made, at = [], 0
+        for line in diff.splitlines(keepends=True)[2:]:
+            hunk = re.match(rb"@@ -(\d+)(,0)?", line)
+            if hunk:
+                begin = int(hunk[1]) - (0 if hunk[2] else 1)
+                made, at = made + old[at:begin], begin
+            elif line[:1] == b"+":
+                made.append(line[1:])
+            else:
+                self.assertEqual(old[at], line[1:])
+                made, at = made + [line[1:]] * (line[:1] == b" "), at + 1
+        return made + old[at:]
+
+    def test_diff_makes_the_new_print_of_the_old_one(self):
+        chance = random.Random(1)
+        values = [(b"", b"x"), (b"x," * 3000, b"x," * 2000 + b"y," * 1000), (b"a,b," * 900, b"b,c," * 900)]
+        for _ in range(6):
+            old = [b"%d,{a=%d;b=x;}," % (chance.randrange(9), chance.randrange(5000)) for _ in range(2000)]
+            new = [line for line in old if chance.random() < 0.99]
+            new[7:9] = chance.sample(old, chance.randrange(5))
+            values.append((b"".join(old), b"".join(new)))
+        for old, new in values:
+            prints = []
+            for name, items in (("old", old), ("new", new)):
+                self.put(name, b"(" + items + b")")
+                prints.append(self.call([PROGRAM, "print", name]).stdout.splitlines(keepends=True))
+            diff = self.tool("diff", "old", "new", status=1).stdout
+            self.assertEqual(self.applied(diff, prints[0]), prints[1])
+
     def test_xml_is_compared_through_plistlib(self):
         self.put("x", XML)
         self.put("text", b"{a=2.5;}")
@@ -231,7 +263,7 @@ class Canonicalise(Case):
         self.assertEqual((after.st_ino, after.st_mtime_ns), (before.st_ino, before.st_mtime_ns))
 
     def test_files_of_one_word_or_of_none_are_left(self):
-        for octets in (b"", b"\n", b"word", b"0123abc\n", b'"a b"', b"// { all }\n", b"/* { */ /**/", b"<00>",
+        for octets in (b"", b"\n", b"word", b"0123abc\n", b'"a b"', b"// { all }\n", b"/* { */ /**/", b"<00>", "// é\u2028 // {".encode(),
                        "/* é { */".encode("utf-16")):
             path = self.put("a", octets)
             self.refuses("one word or of none", "canonicalise", "a")
