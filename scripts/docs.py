@@ -18,6 +18,7 @@ Besides:
 - docs/FORMATS.md has each refusal with its number and its name, and the limits as the code has them, SECURITY.md too;
 - CHANGELOG.md has the version of the program, which is that of the man page, the header and the packages;
 - docs/RECIPES.md and the man page plistconv-tools.1 name each command in tools/;
+- CONTRIBUTING.md, Makefile and build.mk state one cost of the first `make`;
 - docs/BENCHMARKS.md names the commit that was measured;
 - the pages have at most 10,500 words together, and no page more than 3,500, as `wc -w` counts them.
 Fails if anything is stale.
@@ -237,6 +238,13 @@ def version_faults():
             yield f"{file}: its version is not {version}"
 
 
+def cost_faults():
+    """The places that state another cost of the first `make` than CONTRIBUTING.md."""
+    costs = {file: re.findall(r"(\d+) processor minutes", read(file))[:1] for file in ("CONTRIBUTING.md", "Makefile", "build.mk")}
+    yield from (f"{file}: its cost of the first make is not that of CONTRIBUTING.md" for file in costs
+                if not costs[file] or costs[file] != costs["CONTRIBUTING.md"])
+
+
 def tool_faults():
     """The commands in tools/ that a page does not name."""
     pages = {"RECIPES.md": read("docs/RECIPES.md"), "plistconv-tools.1": read("man/plistconv-tools.1").replace("\\-", "-")}
@@ -274,7 +282,7 @@ def main():
     for page in PAGES:
         faults += page_faults(page, page.read_text(encoding="utf-8"))
     faults += [*graph_faults(read("README.md")), *layer_faults(read("docs/ARCHITECTURE.md"))]
-    faults += [*number_faults(), *version_faults(), *tool_faults(), *word_faults()]
+    faults += [*number_faults(), *version_faults(), *tool_faults(), *cost_faults(), *word_faults()]
     if not re.search(r"commit [0-9a-f]{7,}", read("docs/BENCHMARKS.md")):
         faults.append("BENCHMARKS.md: it does not name the commit that was measured")
     print("\n".join([*faults, f"{len(PAGES)} pages, {len(faults)} faults"]))

@@ -223,6 +223,8 @@ def run(main: Callable[[], int]) -> NoReturn:
             status = main()
         except SystemExit as ended:  # (of the parser of arguments, or at a signal)
             status = ended.code
+            if status == 0:
+                write(b"")  # (if standard output is closed, the help went to standard error)
         close_output()
     except SystemExit as ended:
         status = ended.code

@@ -13,6 +13,30 @@ import unittest
 from testing import ARCHIVE, OTHER, SAME, TEXT, TOOLS, TOP, TWICE, XML, Case
 
 
+OLD = "an OpenStep text, which is not canonical"
+UNSORTED = plistlib.dumps({"b": "a", "a": "b"}, fmt=plistlib.FMT_BINARY, sort_keys=False)
+FAULTS = (
+    ("a folder/blank .plist", TEXT, OLD),
+    ("n\nl.plist", TEXT, OLD),
+    ("-dash.plist", TEXT, OLD),
+    ("caf\u00e9.strings", b"a=b;", OLD),
+    ("UPPER.PLIST", TEXT, OLD),
+    ("[a]*?.plist", TEXT, OLD),
+    (":(top)x.plist", TEXT, OLD),
+    ("empty.plist", b"", OLD),
+    ("binary.plist", UNSORTED, "not canonical"),
+    ("x.plist", XML, "refused 21 XmlForm at octet 0 (XML)"),
+    ("archive.plist", ARCHIVE, "refused 9 UidObject at object 2"),
+    ("twice.plist", TWICE, "refused 14 DuplicateKey at octet 3"),
+)
+REFUSED = (
+    (ARCHIVE, "refused 9 UidObject at object 2"),
+    (TWICE, "refused 14"),
+    (b"\x00\xff\x1b[31m", "refused"),
+    (XML.replace(b"real", b"rael"), "refused as XML: line 2: there is no element <rael>"),
+)
+
+
 class Repository(Case):
     """A test in a new repository, where the commands are on the path and the hook may be set up."""
 
@@ -53,14 +77,7 @@ class Staged(Repository):
         self.put("good.plist", self.canonical(TEXT))
         self.git("add", "-A")
         self.prints(b"", "staged")
-        for name, octets, why in (
-            ("a folder/blank .plist", TEXT, "an OpenStep text, which is not canonical"), ("n\nl.plist", TEXT, "an OpenStep"),
-            ("-dash.plist", TEXT, "an OpenStep"), ("café.strings", b"a=b;", "an OpenStep"), ("x.plist", XML, "refused 21"),
-            ("UPPER.PLIST", TEXT, "an OpenStep"), ("archive.plist", ARCHIVE, "refused 9 UidObject at object 2"),
-            ("twice.plist", TWICE, "refused 14 DuplicateKey at octet 3"), ("empty.plist", b"", "an OpenStep"),
-            ("[a]*?.plist", TEXT, "an OpenStep"), (":(top)x.plist", TEXT, "an OpenStep"),
-            ("binary.plist", plistlib.dumps({"b": "a", "a": "b"}, fmt=plistlib.FMT_BINARY, sort_keys=False), "not canonical"),
-        ):
+        for name, octets, why in FAULTS:
             self.put(name, octets)
             self.git("--literal-pathspecs", "add", "--", name)
             self.refuses(f"plistconv-staged: {name}: {why}".replace("\n", r"\n"), "staged")
@@ -171,18 +188,19 @@ class Staged(Repository):
         env = {**self.environment, "GIT_CEILING_DIRECTORIES": str(self.folder.parent), "GIT_DIR": "/none"}
         self.refuses("git rev-parse ended with status 128", "staged", status=2, env=env)
         self.refuses("git cannot be run", "staged", status=2, env={**self.environment, "PATH": "/none"})
-        with open("/dev/full", "wb") if os.path.exists("/dev/full") else self.skipTest("skipped: no /dev/full") as full:
-            run = subprocess.run([sys.executable, str(TOOLS / "plistconv-staged")], stdout=full, stderr=full, check=False,
-                                 cwd=str(self.folder), env={**env})
-            self.assertEqual(run.returncode, 2)
+        if not os.path.exists("/dev/full"):
+            self.skipTest("skipped: there is no /dev/full")
+        words = [sys.executable, str(TOOLS / "plistconv-staged")]
+        with open("/dev/full", "wb") as full:
+            run = subprocess.run(words, stdout=full, stderr=full, check=False, cwd=str(self.folder), env=env)
+        self.assertEqual(run.returncode, 2)
 
 
 class Textconv(Repository):
     """git diff."""
 
     def test_what_is_refused_is_one_line_without_its_octets(self):
-        for octets, why in ((ARCHIVE, "refused 9 UidObject at object 2"), (TWICE, "refused 14"), (b"\x00\xff\x1b[31m", "refused"),
-                            (XML.replace(b"real", b"rael"), "refused as XML: line 2: there is no element <rael>")):
+        for octets, why in REFUSED:
             self.put("a", octets)
             run = self.tool("textconv", "a")
             self.assertRegex(run.stdout.decode(), r"^Binary file: %s[ -~]*; SHA-256 [0-9a-f]{64}\n$" % re.escape(why))
@@ -206,9 +224,10 @@ class Textconv(Repository):
                 self.git("add", "-A")
                 self.commit()
         shown = self.git("diff").decode()
-        for line in ('-  "a" => "b"', '+  "a" => "c"', '-  "a" => 2.5', '+  "a" => 3.5', "-Binary file: refused 9 UidObject",
-                     "+Binary file: refused 9 UidObject"):
+        for line in ('-  "a" => "b"', '+  "a" => "c"', '-  "a" => 2.5', '+  "a" => 3.5'):
             self.assertIn(f"\n{line}", shown)
+        for sign in "-+":
+            self.assertIn(f"\n{sign}Binary file: refused 9 UidObject", shown)
         self.assertNotIn("\x80", shown)
 
 
@@ -218,8 +237,10 @@ class Tree(Repository):
     def test_line_of_the_page_makes_a_repository_canonical_and_nothing_else(self):
         page = (TOP / "docs" / "RECIPES.md").read_text(encoding="utf-8")
         line = re.search(r"(?m)^    (git ls-files -z .*xargs -0 plistconv-canonicalise)$", page)[1]
-        for name, octets in (("a b.plist", TEXT), ("sub/b.strings", b"a=b;"), ("word.txt", b"word"), ("c.plist/d", TEXT)):
-            self.put(name, octets)
+        self.put("a b.plist", TEXT)
+        self.put("sub/b.strings", b"a=b;")
+        self.put("word.txt", b"word")
+        self.put("c.plist/d", TEXT)
         self.git("add", "-A")
         self.commit()
         self.git("branch", "update-Info.plist")

@@ -19,7 +19,12 @@ import unittest
 from testing import ARCHIVE, COMMANDS, OTHER, PRINTED, PROGRAM, SAME, TEXT, TOOLS, TWICE, XML, XML_PRINTED, Case
 
 WORDS = {
-    "canonicalise": ["-"], "diff": ["a", "other"], "digest": ["a"], "staged": [], "textconv": ["a"], "where": ["a", "1"]
+    "canonicalise": ["-"],
+    "diff": ["a", "other"],
+    "digest": ["a"],
+    "staged": [],
+    "textconv": ["a"],
+    "where": ["a", "1"],
 }
 
 
@@ -34,7 +39,8 @@ class EveryCommand(Case):
     def test_help_is_the_docstring_in_80_columns(self):
         for name in COMMANDS:
             shown = self.tool(name, "--help").stdout.decode()
-            self.assertIn(ast.get_docstring(ast.parse((TOOLS / f"plistconv-{name}").read_text(encoding="utf-8"))), shown)
+            source = (TOOLS / f"plistconv-{name}").read_text(encoding="utf-8")
+            self.assertIn(ast.get_docstring(ast.parse(source)), shown)
             self.assertLessEqual(max(map(len, shown.splitlines())), 80, name)
             self.assertEqual(shown, self.tool(name, "-h").stdout.decode())
 
@@ -72,8 +78,8 @@ class EveryCommand(Case):
 
     def test_closed_output_is_status_2_and_said(self):
         for name in COMMANDS:
-            if name != "staged":
-                words = ["sh", "-c", 'exec "$@" >&-', "sh", sys.executable, str(TOOLS / f"plistconv-{name}"), *WORDS[name]]
+            for more in [WORDS[name], ["--help"]] if name != "staged" else [["--help"]]:
+                words = ["sh", "-c", 'exec "$@" >&-', "sh", sys.executable, str(TOOLS / f"plistconv-{name}"), *more]
                 run = self.call(words, 2, input=TEXT)
                 self.assertIn(b"standard output cannot be written: Bad file descriptor", run.stderr)
 
@@ -263,8 +269,8 @@ class Canonicalise(Case):
         self.assertEqual((after.st_ino, after.st_mtime_ns), (before.st_ino, before.st_mtime_ns))
 
     def test_files_of_one_word_or_of_none_are_left(self):
-        for octets in (b"", b"\n", b"word", b"0123abc\n", b'"a b"', b"// { all }\n", b"/* { */ /**/", b"<00>", "// é\u2028 // {".encode(),
-                       "/* é { */".encode("utf-16")):
+        comments = b"// { all }\n", b"/* { */ /**/", "// é\u2028 // {".encode(), "/* é { */".encode("utf-16")
+        for octets in (b"", b"\n", b"word", b"0123abc\n", b'"a b"', b"<00>", *comments):
             path = self.put("a", octets)
             self.refuses("one word or of none", "canonicalise", "a")
             self.assertEqual(path.read_bytes(), octets)

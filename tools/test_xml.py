@@ -42,15 +42,12 @@ class Xml(Case):
 
     def test_spellings_of_one_value_are_equal(self):
         wanted = self.canonical(b"{ a = (b, <0001>); }")
-        for octets in (
-            document("<dict><key>a</key><array><string>b</string><data>AAE=</data></array></dict>"),
-            document("<dict>\n<key>&#97;</key><!-- c --><array>\n<string><![CDATA[b]]></string><data>\n A A\tE = </data></array>"
-                     "</dict>"),
-            b"<!-- first -->" + document("<dict><key>a</key><array><string>b</string><data>AAE=</data></array></dict>")[39:],
-            b"<plist><dict><key>a</key><array><string>b</string><data>AAE=</data></array></dict></plist>",
-            '<?xml version="1.0"?><plist><dict><key>a</key><array><string>b</string><data>AAE=</data></array></dict></plist>'
-            .encode("utf-16"),
-        ):
+        value = "<dict><key>a</key><array><string>b</string><data>AAE=</data></array></dict>"
+        spelled = "<dict>\n<key>&#97;</key><!-- c --><array>\n<string><![CDATA[b]]></string>" \
+                  "<data>\n A A\tE = </data></array></dict>"
+        plain = f"<plist>{value}</plist>"
+        for octets in (document(value), document(spelled), b"<!-- first -->" + plain.encode(), plain.encode(),
+                       f'<?xml version="1.0"?>{plain}'.encode("utf-16")):
             self.assertEqual(self.converted(octets), wanted, octets)
         latin = b'<?xml version="1.0" encoding="ISO-8859-1"?><plist><string>\xe9</string></plist>'
         self.assertEqual(self.converted(latin), self.canonical('"é"'.encode()))

@@ -19,7 +19,8 @@ TWICE = b"{a;a=b;}\n"
 XML = b'<?xml version="1.0"?>\n<plist version="1.0"><dict><key>a</key><real>2.5</real></dict></plist>\n'
 XML_PRINTED = b'{\n  "a" => 2.5\n}\n'
 # (a binary file with a UID, as keyed archives have)
-ARCHIVE = b"bplist00\xd1\x01\x02Qa\x80\x01\x08\x0b\x0d" + bytes(6) + b"\x01\x01" + bytes(7) + b"\x03" + bytes(15) + b"\x0f"
+TRAILER = bytes(6) + b"\x01\x01" + bytes(7) + b"\x03" + bytes(15) + b"\x0f"
+ARCHIVE = b"bplist00\xd1\x01\x02Qa\x80\x01\x08\x0b\x0d" + TRAILER
 
 
 def found_program() -> str:
