@@ -1,41 +1,50 @@
 /* plistconv: property lists in their canonical form.
  *
- * The functions are proved: an answer of 0 gives what is said here, and any other answer is the number of
- * a refusal that stands in the octets.
+ * The functions are proved: if a call returns 0, its result is what this header says; any other number is that of a
+ * refusal that is true of the input. The header compiles as C99 and later, and as C++98 and later.
  *
- * What the caller owes, for every call:
- * - Each pointer points to as many octets as its count says, and is not null; only beside a count or a room
- *   of 0 it may be anything, null too (an empty vector's data(), a nil slice). A hash key is 16 octets, or null.
- * - The octets that are read, and the buffer that is written, `into[0 .. room)`, are initialised: a buffer
- *   from malloc is to be set first, or made by calloc. The proof says of the buffer that whatever is not
- *   written stays as it was, and the language that it is made in has no octets without a value. The
- *   structures and numbers that a call writes need not be initialised.
- * - What a call writes overlaps nothing else that the call is given.
- * - 1 MiB of stack is free: a value may be 512 levels deep.
+ * Every call requires:
+ * - Each pointer points to `count` or `room` bytes and is not null. If the count is 0 the pointer may be anything, null
+ *   too (an empty vector's data(), a nil slice). A hash key is 16 bytes, or null.
+ * - The input and the output buffer, into[0 .. room), are initialised. A buffer from malloc has to be set first; calloc
+ *   does that. The reason: the proof says that a byte which is not written keeps its value, so it must have one, and
+ *   the compiled code may rely on that. The structures and numbers that a call writes need not be initialised, and
+ *   the _alloc calls below take care of their buffers.
+ * - What a call writes overlaps none of its other arguments.
+ * - 1 MiB of stack is free. A value may be 512 levels deep, and the deepest take about 700 KiB; with less the program
+ *   crashes. Threads have 8 MiB with glibc, but 128 KiB with musl: create them with pthread_attr_setstacksize.
  * - The call is made neither from a signal handler, nor in the child of a fork of a program with threads.
- * Who calls the exported functions without this header, as by dlsym or from another language, owes more: no
- * pointer is null or dangling beside a count of 0 either, a hash key is not null, but 16 zeros where there is none,
- * and all that a call writes is initialised.
- * Memory comes from malloc, realloc and free, and none is held when a call is over. Calls share nothing,
- * so they may run side by side in threads, each on memory of its own.
+ * Callers without this header (dlsym, another language) also have to: pass a valid pointer beside a count of 0, pass 16
+ * zero bytes for no hash key, and initialise the structures and numbers that a call writes.
+ *
+ * Threads: calls share nothing, so any number may run at once, each on memory of its own. They may share input and key,
+ * which are only read. Memory comes from malloc, realloc and free; a call that returns holds none.
+ *
+ * Refusals, by call (the names are below; 50 to 52 are those of the program, which reads and writes files):
+ *   plistconv_canonical, plistconv_same, plistconv_print    1 to 32, 60
+ *   plistconv_text                                          1 to 32, 40, 60
+ *   plistconv_check                                         1 to 3, 60
+ *   plistconv_line                                          60, and 255 (PLISTCONV_UNTOLD)
+ * An input that begins with `bplist` is refused with 1 to 18, any other with 14, 16 to 18 and 20 to 32.
  */
 #ifndef PLISTCONV_H
 #define PLISTCONV_H
 
 #include <stddef.h>
 #include <stdint.h>
+#include <stdlib.h>
 
 #ifdef __cplusplus
 extern "C" {
 #endif
 
-/* The version of this header, which is that of the program, and as a number (10,000 * major + 100 * minor +
- * patch). plistconv_version() tells that of the library which is linked. */
+/* The version of this header, also as a number (10,000 * major + 100 * minor + patch). plistconv_version() returns that
+ * of the library that is linked. */
 #define PLISTCONV_VERSION "0.2.0"
 #define PLISTCONV_VERSION_NUMBER 200
 uint32_t plistconv_version(void);
 
-/* The refusals by number. docs/FORMATS.md tells what each says of the octets, and which place it names. */
+/* The refusals by number. docs/FORMATS.md says when each is answered, and which place it names. */
 #define PLISTCONV_TOO_SHORT 1
 #define PLISTCONV_BAD_HEADER 2
 #define PLISTCONV_BAD_TRAILER 3
@@ -72,94 +81,88 @@ uint32_t plistconv_version(void);
 #define PLISTCONV_INPUT_TOO_LARGE 52
 #define PLISTCONV_OUT_OF_MEMORY 60
 
-/* Room that suffices for the canonical file, and for the OpenStep text, of a value with so many nodes, whose
- * strings, keys and data hold so many octets (2 for each UTF-16 unit). Who knows neither calls with a room
- * of 0, and is told what is needed. */
+/* The largest size of the canonical file, and of the OpenStep text, of a value with `nodes` nodes whose strings, keys
+ * and data have `payload` bytes (2 for each UTF-16 unit). If you know neither, use the _alloc calls, or call with a
+ * room of 0 to get the size. */
 #define PLISTCONV_FILE_ROOM(payload, nodes) (40 + (uint64_t)(payload) + 25 * (uint64_t)(nodes))
 #define PLISTCONV_TEXT_ROOM(payload, nodes) (1 + 3 * (uint64_t)(payload) + 5 * (uint64_t)(nodes))
 
 /* What the place of a refusal is. */
 #define PLISTCONV_NO_PLACE 0 /* there is none, and `place` is 0 */
 #define PLISTCONV_OBJECT 1   /* the number of an object of a binary file */
-#define PLISTCONV_OCTET 2    /* an octet of a text, from 0 on, its mark included */
-#define PLISTCONV_SENT 3     /* how many octets had gone out: 0 here, beside the number 60 */
+#define PLISTCONV_OCTET 2    /* the offset of a byte in a text, counted from 0, its byte order mark included */
+#define PLISTCONV_SENT 3     /* how many bytes were written: 0 here, beside the number 60 */
 
-/* Why a call was refused. All fields are 0 where it was not. */
+/* Why a call was refused. All fields are 0 if it was not. */
 typedef struct {
     uint64_t place;  /* in the unit of `unit` */
-    uint8_t number;  /* the number of the refusal, which is also what the call answers */
+    uint8_t number;  /* the number of the refusal, which is also what the call returns */
     uint8_t unit;    /* one of the four above */
     uint8_t input;   /* which input is refused: 1, or 2 for the second of plistconv_same */
 } plistconv_refusal;
 
-/* What plistconv_check finds. All fields are 0 where the octets were not checked. */
+/* What plistconv_check finds. All fields are 0 if the input was refused. */
 typedef struct {
-    uint64_t object;   /* the object at which the rule is broken; 0 where none is */
-    uint8_t canonical; /* 1: the octets are the canonical file of a value within the limits; else 0 */
-    uint8_t rule;      /* a rule that is broken, from 0 to 7; 0 where none is */
+    uint64_t object;   /* the object at which the rule is broken; 0 if none is */
+    uint8_t canonical; /* 1: the input is the canonical file of a value within the limits; else 0 */
+    uint8_t rule;      /* a rule that is broken, from 0 to 7; 0 if none is */
 } plistconv_finding;
 
-/* The hash key of a call, `key`: 16 octets under which it hashes scalars (by SipHash), or null: then it hashes
- * them under a fixed seed, which is faster. Neither the file that is given, nor whether two inputs are the same or
- * one is canonical, depends on it: the proof is for all keys.
- * Scalars can be picked that collide under the fixed seed, and a call takes time with the square of their number
- * then: 20 seconds for 100,000. So hand over a key wherever somebody else picks what is read, as a server does:
- * one for the process, from getentropy or the like, which is kept secret. A key of 16 zeros is none. */
+/* The hash key of a call, `key`: 16 bytes under which it hashes scalars (by SipHash), or null for a fixed seed, which
+ * is faster. No answer depends on the key: the proof is for all keys.
+ * Scalars can be picked that collide under the fixed seed, and a call then takes time quadratic in their number: 20
+ * seconds for 100,000. So pass a key if somebody else picks the input, as for a server: one for the process, from
+ * getentropy or the like, kept secret. A key of 16 zeros is no key. */
 #define PLISTCONV_HASH_KEY_OCTETS 16
 
-/* The canonical file of the value that the octets spell: those that begin with `bplist` are read as a
- * binary property list, all others as a text in OpenStep form.
- * Reads octets[0 .. count), and the key. Answers 0 and writes the length of the file to *length. Where that is
- * at most `room`, the file stands in into[0 .. *length), and the rest of the buffer is as it was; where it is
- * more, the buffer is as it was, and *length is the room that is needed.
- * Else answers the number of the refusal: *refusal tells it, *length is 0, and the buffer is as it was. */
+/* Writes the canonical file of the value of octets[0 .. count). Input that begins with `bplist` is read as a binary
+ * property list, any other as OpenStep text.
+ * Returns 0 with the size of the file in *length. If that is at most `room`, the file is in into[0 .. *length) and the
+ * rest of the buffer is unchanged; if it is more, the whole buffer is unchanged, and *length is the room to call with.
+ * Else returns the number of the refusal, with *refusal set and *length 0; the buffer is unchanged. */
 uint8_t plistconv_canonical(const uint8_t *octets, size_t count, const uint8_t *key, uint8_t *into,
                             size_t room, size_t *length, plistconv_refusal *refusal);
 
-/* Whether two lists of octets spell equal values, which is whether their canonical files are equal.
- * Reads both, and the key. Answers 0 and writes 1 or 0 to *equal.
- * Else answers the number of the refusal: *refusal tells it and of which input, of the second only where
- * the first is accepted; *equal is 0. */
+/* Compares the values of two inputs, which are equal if and only if their canonical files are identical.
+ * Returns 0 with 1 or 0 in *equal.
+ * Else returns the number of the refusal, with *refusal set and *equal 0. The refusal is one of the second input only
+ * if the first is accepted. */
 uint8_t plistconv_same(const uint8_t *first, size_t first_count, const uint8_t *second,
                        size_t second_count, const uint8_t *key, uint8_t *equal, plistconv_refusal *refusal);
 
-/* The OpenStep text of the value that the octets spell, with a line end behind it.
- * Reads octets[0 .. count). Answers 0 and gives the text in the buffer and *length, as plistconv_canonical
- * gives a file.
- * Else answers the number of the refusal, 40 where the value holds a number, a flag, a real or a date, for
- * which the form has no text: *refusal tells it, *length is 0, and the buffer is as it was. */
+/* Writes the OpenStep text of the value of octets[0 .. count), which ends with a newline. OpenStep text has no numbers,
+ * booleans or dates: a value with one is refused (40).
+ * Returns like plistconv_canonical. */
 uint8_t plistconv_text(const uint8_t *octets, size_t count, uint8_t *into, size_t room, size_t *length,
                        plistconv_refusal *refusal);
 
-/* The printed text of the value that the octets spell: for people to read, of every value, one line for each item
- * of a list and each pair of a dictionary. Two values print the same exactly if they are equal.
- * Reads octets[0 .. count). Answers 0 and gives the text in the buffer and *length, as plistconv_canonical gives a
- * file; it may be far longer than the file, which may have a part once that the value holds many times.
- * Else answers the number of the refusal: *refusal tells it, *length is 0, and the buffer is as it was. */
+/* Writes the printed text of the value of octets[0 .. count): for people, of every value, with one line for each item
+ * of an array and each pair of a dictionary. Two values print the same if and only if they are equal. The text may be
+ * far longer than the input, which may have a part once that the value contains many times.
+ * Returns like plistconv_canonical. */
 uint8_t plistconv_print(const uint8_t *octets, size_t count, uint8_t *into, size_t room, size_t *length,
                         plistconv_refusal *refusal);
 
-/* Whether the octets, a binary property list, are a canonical file. It builds no value.
- * Reads octets[0 .. count), and the key. Answers 0 and writes *finding.
- * Else answers 1 to 3, where the octets do not have the layout of a binary file, or 60: *refusal tells it,
- * and *finding is 0 throughout. */
+/* Checks whether octets[0 .. count), a binary property list, is already canonical, without building its value.
+ * Returns 0 with *finding set.
+ * Else returns 1 to 3 if the input does not have the layout of a binary file, or 60, with *refusal set and all fields
+ * of *finding 0. */
 uint8_t plistconv_check(const uint8_t *octets, size_t count, const uint8_t *key, plistconv_finding *finding,
                         plistconv_refusal *refusal);
 
-/* What plistconv_line answers where no call tells such a refusal. */
+/* What plistconv_line returns for a refusal that no call sets. */
 #define PLISTCONV_UNTOLD 255
 
-/* The printed line of a refusal, without a line end: `PATH: refused 14 DuplicateKey at octet 9`.
- * Reads path[0 .. path_count), which stands in the line as it is, and *refusal, as a call told it. Answers 0
- * and gives the line in the buffer and *length, as plistconv_canonical gives a file.
- * Else answers 60, or PLISTCONV_UNTOLD where *refusal is none that a call tells, as where its number is 0:
- * *length is 0, and the buffer is as it was. */
+/* Writes the line of a refusal, without a newline: `PATH: refused 14 DuplicateKey at octet 9`. The path,
+ * path[0 .. path_count), is copied unchanged, and *refusal is as a call set it. The buffer and *length are used as by
+ * plistconv_canonical.
+ * Returns 0; 60; or PLISTCONV_UNTOLD if no call sets such a refusal, for example if its number is 0. Unless it
+ * returns 0, *length is 0 and the buffer is unchanged. */
 uint8_t plistconv_line(const uint8_t *path, size_t path_count, const plistconv_refusal *refusal,
                        uint8_t *into, size_t room, size_t *length);
 
-/* The calls by these names go through the functions below, which hand over a pointer to an octet of their own
- * in place of what stands beside a count of 0, and to zeros in place of no key, and set what a call writes. They
- * are compiled with their caller. */
+/* Calls by the names above go through these functions, which are compiled with their caller. They pass a pointer to a
+ * byte of their own beside a count of 0, zeros for no key, and set what a call writes. */
 static inline const uint8_t *plistconv_read_(const uint8_t *octets, size_t count, const uint8_t *none) {
     return count == 0 ? none : octets;
 }
@@ -235,6 +238,87 @@ static inline uint8_t plistconv_line_(const uint8_t *path, size_t path_count, co
                           room == 0 ? none + 1 : into, room, length);
 }
 #define plistconv_line plistconv_line_
+
+/* Returns the name of a refusal (`DuplicateKey` for 14), or NULL if no refusal has the number. */
+static inline const char *plistconv_refusal_name(unsigned number) {
+    static const char *const names[] = {
+        NULL, "TooShort", "BadHeader", "BadTrailer", "BadOffset", "BadReference", "CutObject", "BadMarker",
+        "NullObject", "UidObject", "SetObject", "NotAscii", "WideInteger", "KeyNotText", "DuplicateKey",
+        "Cycle", "TooDeep", "TooManyNodes", "TooMuchPayload", NULL, "BadUtf8", "XmlForm", NULL,
+        "UnexpectedCharacter", "UnclosedString", "UnclosedComment", "BadEscape", "OctalRange", "OddData",
+        "BadData", "Expected", "Junk", "BadUtf16", NULL, NULL, NULL, NULL, NULL, NULL, NULL,
+        "NotInOpenStep", NULL, NULL, NULL, NULL, NULL, NULL, NULL, NULL, NULL, "ReadFailed", "WriteFailed",
+        "InputTooLarge", NULL, NULL, NULL, NULL, NULL, NULL, NULL, "OutOfMemory"
+    };
+    return number < sizeof names / sizeof names[0] ? names[number] : NULL;
+}
+
+/* Frees what an _alloc call returned; null is allowed. */
+static inline void plistconv_free(uint8_t *out) { free(out); }
+
+typedef uint8_t (*plistconv_writer_)(const uint8_t *octets, size_t count, const uint8_t *key, uint8_t *into,
+                                     size_t room, size_t *length, plistconv_refusal *refusal);
+
+/* Calls `write` with a buffer of `factor` bytes for each byte of input, and again if it asks for more. */
+static inline uint8_t plistconv_alloc_(plistconv_writer_ write, size_t factor, const uint8_t *octets, size_t count,
+                                       const uint8_t *key, uint8_t **out, size_t *length,
+                                       plistconv_refusal *refusal) {
+    const plistconv_refusal no_memory = {0, PLISTCONV_OUT_OF_MEMORY, PLISTCONV_SENT, 1};
+    size_t room = count < ((size_t)-1 >> 1) / factor ? factor * count + 256 : 256;
+    uint8_t *into = (uint8_t *)calloc(room, 1), *shorter, number;
+    *out = NULL;
+    if (!into) room = 0; /* the guess may exceed the size: ask for that */
+    number = write(octets, count, key, into, room, length, refusal);
+    if (number == 0 && *length > room) {
+        free(into);
+        room = *length;
+        into = (uint8_t *)calloc(room, 1);
+        if (into) {
+            number = write(octets, count, key, into, room, length, refusal);
+        } else {
+            *refusal = no_memory;
+            number = PLISTCONV_OUT_OF_MEMORY;
+        }
+    }
+    if (number != 0) {
+        free(into);
+        *length = 0;
+        return number;
+    }
+    shorter = (uint8_t *)realloc(into, *length);
+    *out = shorter ? shorter : into;
+    return 0;
+}
+
+/* The calls with _alloc make the buffer themselves: they return 0 with the output in (*out)[0 .. *length), which the
+ * caller frees with plistconv_free. They convert once if their first guess at the size is enough, else twice.
+ * Any other number is that of the refusal, 60 also if there is no memory for the buffer; *out is null and *length 0. */
+static inline uint8_t plistconv_canonical_alloc(const uint8_t *octets, size_t count, const uint8_t *key,
+                                                uint8_t **out, size_t *length, plistconv_refusal *refusal) {
+    return plistconv_alloc_(plistconv_canonical, 2, octets, count, key, out, length, refusal);
+}
+
+static inline uint8_t plistconv_write_text_(const uint8_t *octets, size_t count, const uint8_t *key, uint8_t *into,
+                                            size_t room, size_t *length, plistconv_refusal *refusal) {
+    (void)key;
+    return plistconv_text(octets, count, into, room, length, refusal);
+}
+
+static inline uint8_t plistconv_text_alloc(const uint8_t *octets, size_t count, uint8_t **out, size_t *length,
+                                           plistconv_refusal *refusal) {
+    return plistconv_alloc_(plistconv_write_text_, 2, octets, count, NULL, out, length, refusal);
+}
+
+static inline uint8_t plistconv_write_print_(const uint8_t *octets, size_t count, const uint8_t *key, uint8_t *into,
+                                             size_t room, size_t *length, plistconv_refusal *refusal) {
+    (void)key;
+    return plistconv_print(octets, count, into, room, length, refusal);
+}
+
+static inline uint8_t plistconv_print_alloc(const uint8_t *octets, size_t count, uint8_t **out, size_t *length,
+                                            plistconv_refusal *refusal) {
+    return plistconv_alloc_(plistconv_write_print_, 4, octets, count, NULL, out, length, refusal);
+}
 
 #ifdef __cplusplus
 }

@@ -1,5 +1,6 @@
-/* Tries what the header adds to the exported functions: names of refusals, versions, room that suffices, null pointers
- * beside a count of 0, structures and numbers that are not initialised. Exits with the line of what does not hold. */
+/* Tests what the header adds to the exported functions: names of refusals, versions, room that suffices, null pointers
+ * beside a count of 0, structures and numbers that are not initialised, buffers that a call makes. Exits with 1 and the
+ * line of what does not hold. */
 #include <plistconv.h>
 #include <stdio.h>
 #include <string.h>
@@ -25,21 +26,76 @@ static int is_named(uint8_t number, const char *name) {
     return 0;
 }
 
-int main(void) {
+/* The names of names.h, one for each number, and no others. */
+static int names_hold(void) {
+    uint8_t many = 0;
+    for (unsigned number = 0; number < 300; number++) many += plistconv_refusal_name(number) != NULL;
+    MUST(many == sizeof names / sizeof *names);
+    for (size_t at = 0; at < sizeof names / sizeof *names; at++) {
+        const char *name = plistconv_refusal_name(names[at].number);
+        MUST(name && strcmp(name, names[at].name) == 0);
+        if (!is_named(names[at].number, name)) {
+            fprintf(stderr, "header.c: %d is not %s\n", names[at].number, name);
+            return 1;
+        }
+    }
+    return 0;
+}
+
+/* The calls that make their buffer, with a first guess that is enough and one that is not, and of a refusal. */
+static int buffers_hold(void) {
+    static uint8_t deep[2 * 200 + 1], into[256 * 1024];
+    const uint8_t flag[] = "(a, b)", broken[] = "(\"a";
+    size_t length, wanted;
+    uint8_t *out;
+    plistconv_refusal refusal;
+    for (size_t at = 0; at < sizeof deep; at++) deep[at] = at < 200 ? '(' : at == 200 ? 'a' : ')';
+    MUST(plistconv_canonical(deep, sizeof deep, NULL, into, sizeof into, &wanted, &refusal) == 0);
+    MUST(plistconv_canonical_alloc(deep, sizeof deep, NULL, &out, &length, &refusal) == 0 && length == wanted);
+    MUST(memcmp(out, into, length) == 0);
+    plistconv_free(out);
+    MUST(plistconv_text_alloc(flag, sizeof flag - 1, &out, &length, &refusal) == 0 && length == 10);
+    MUST(memcmp(out, "(\na,\nb,\n)\n", length) == 0);
+    plistconv_free(out);
+    /* (200 levels of indentation are more than four bytes for each one of the input) */
+    MUST(plistconv_print(deep, sizeof deep, into, sizeof into, &wanted, &refusal) == 0 && wanted > 8 * sizeof deep);
+    MUST(plistconv_print_alloc(deep, sizeof deep, &out, &length, &refusal) == 0 && length == wanted);
+    MUST(memcmp(out, into, length) == 0);
+    plistconv_free(out);
+    MUST(plistconv_canonical_alloc(NULL, 0, NULL, &out, &length, &refusal) == 0 && length == 42);
+    plistconv_free(out);
+    MUST(plistconv_print_alloc(broken, sizeof broken - 1, &out, &length, &refusal) == PLISTCONV_UNCLOSED_STRING);
+    MUST(!out && length == 0 && refusal.number == 24 && refusal.unit == PLISTCONV_OCTET && refusal.place == 1);
+    plistconv_free(out);
+    return 0;
+}
+
+/* A key of zeros is none, and no key changes what is answered. */
+static int keys_hold(const uint8_t *text, size_t count) {
+    const uint8_t keys[2][PLISTCONV_HASH_KEY_OCTETS] = {{0}, {1, 2, 3}};
+    static uint8_t into[4096], keyed[sizeof into];
+    size_t length, needed;
+    uint8_t equal;
+    plistconv_refusal refusal;
+    plistconv_finding finding;
+    MUST(plistconv_canonical(text, count, NULL, into, sizeof into, &needed, &refusal) == 0);
+    for (int at = 0; at < 2; at++) {
+        MUST(plistconv_canonical(text, count, keys[at], keyed, sizeof keyed, &length, &refusal) == 0);
+        MUST(length == needed && memcmp(keyed, into, length) == 0);
+        MUST(plistconv_same(text, count, into, length, keys[at], &equal, &refusal) == 0 && equal == 1);
+        MUST(plistconv_check(into, length, keys[at], &finding, &refusal) == 0 && finding.canonical == 1);
+        MUST(plistconv_check(NULL, 0, keys[at], &finding, &refusal) == PLISTCONV_TOO_SHORT);
+    }
+    return 0;
+}
+
+/* No octets are the empty dictionary, also behind a null pointer. */
+static int empty_holds(void) {
     static uint8_t into[4096];
     size_t length, needed;
     uint8_t equal;
     plistconv_refusal refusal;
     plistconv_finding finding;
-    MUST(plistconv_version() == PLISTCONV_VERSION_NUMBER);
-    for (size_t at = 0; at < sizeof names / sizeof *names; at++) {
-        if (!is_named(names[at].number, names[at].name)) {
-            fprintf(stderr, "header.c: %d is not %s\n", names[at].number, names[at].name);
-            return 1;
-        }
-    }
-
-    /* No octets are the empty dictionary, also behind a null pointer. */
     MUST(plistconv_canonical(NULL, 0, NULL, NULL, 0, &needed, &refusal) == 0 && needed > 0);
     MUST(plistconv_canonical(NULL, 0, NULL, into, sizeof into, &length, &refusal) == 0 && length == needed);
     MUST(length <= PLISTCONV_FILE_ROOM(0, 1));
@@ -51,33 +107,31 @@ int main(void) {
     MUST(plistconv_line(NULL, 0, &refusal, NULL, 0, &length) == 0 && length == strlen(": refused 1 TooShort"));
     MUST(plistconv_text(NULL, 0, NULL, 0, &length, &refusal) == 0 && length <= PLISTCONV_TEXT_ROOM(0, 1));
     MUST(plistconv_print(NULL, 0, NULL, 0, &length, &refusal) == 0 && length == 3);
+    return 0;
+}
+
+int main(void) {
+    static uint8_t into[4096];
+    size_t length, needed;
+    plistconv_refusal refusal;
+    MUST(plistconv_version() == PLISTCONV_VERSION_NUMBER);
 
     /* The greatest room for its nodes and payload: a list of three strings that are not ASCII. */
     const uint8_t text[] = "(\"\\U00e9\", \"\\U00ea\", \"\\U00eb\")";
-    MUST(plistconv_canonical(text, sizeof text - 1, NULL, into, PLISTCONV_FILE_ROOM(6, 4), &length, &refusal) == 0);
-    MUST(length <= PLISTCONV_FILE_ROOM(6, 4));
-    MUST(plistconv_text(text, sizeof text - 1, NULL, 0, &length, &refusal) == 0 && length <= PLISTCONV_TEXT_ROOM(6, 4));
+    const size_t count = sizeof text - 1;
+    MUST(plistconv_canonical(text, count, NULL, into, PLISTCONV_FILE_ROOM(6, 4), &needed, &refusal) == 0);
+    MUST(needed <= PLISTCONV_FILE_ROOM(6, 4));
+    MUST(plistconv_text(text, count, NULL, 0, &length, &refusal) == 0 && length <= PLISTCONV_TEXT_ROOM(6, 4));
 
     const uint8_t xml[] = "<?xml version='1.0'?>";
     MUST(plistconv_canonical(xml, sizeof xml - 1, NULL, into, sizeof into, &length, &refusal) == PLISTCONV_XML_FORM);
     MUST(length == 0 && refusal.unit == PLISTCONV_OCTET && refusal.place == 0);
 
-    /* A key of zeros is none, and no key changes what is answered. */
-    const uint8_t keys[2][PLISTCONV_HASH_KEY_OCTETS] = {{0}, {1, 2, 3}};
-    static uint8_t keyed[sizeof into];
-    MUST(plistconv_canonical(text, sizeof text - 1, NULL, into, sizeof into, &needed, &refusal) == 0);
-    for (int at = 0; at < 2; at++) {
-        MUST(plistconv_canonical(text, sizeof text - 1, keys[at], keyed, sizeof keyed, &length, &refusal) == 0);
-        MUST(length == needed && memcmp(keyed, into, length) == 0);
-        MUST(plistconv_same(text, sizeof text - 1, into, length, keys[at], &equal, &refusal) == 0 && equal == 1);
-        MUST(plistconv_check(into, length, keys[at], &finding, &refusal) == 0 && finding.canonical == 1);
-        MUST(plistconv_check(NULL, 0, keys[at], &finding, &refusal) == PLISTCONV_TOO_SHORT);
-    }
-
     /* The functions have addresses. */
     uint8_t (*call)(const uint8_t *, size_t, const uint8_t *, uint8_t *, size_t, size_t *, plistconv_refusal *) =
         plistconv_canonical;
-    MUST(call(text, sizeof text - 1, NULL, NULL, 0, &length, &refusal) == 0 && length == needed);
+    MUST(call(text, count, NULL, NULL, 0, &length, &refusal) == 0 && length == needed);
+    if (names_hold() || buffers_hold() || keys_hold(text, count) || empty_holds()) return 1;
     puts("header: " PLISTCONV_VERSION);
     return 0;
 }
