@@ -1,5 +1,5 @@
-/* Writes the canonical file of a property list: canonical IN OUT. Exits with 0, or with 2 where the input
- * is refused, which it tells on standard error. Whoever runs it picks the file, so it takes no key: keys.c does. */
+/* Writes the canonical file of a property list: canonical IN OUT. Exits with 0, or with 2 if the input is refused, and
+ * says so on standard error. Whoever runs it picks the file, so it passes no key; keys.c does. */
 #include <plistconv.h>
 #include <stdio.h>
 #include <stdlib.h>
@@ -36,37 +36,35 @@ static void tell(const char *path, const plistconv_refusal *refusal) {
     free(line);
 }
 
+/* Writes the canonical file of the octets to `out`, and returns the exit status. */
+static int convert(const char *in, const uint8_t *octets, size_t count, const char *out) {
+    uint8_t *canonical, equal;
+    size_t length;
+    plistconv_refusal refusal;
+    plistconv_finding finding;
+    uint8_t number = plistconv_canonical_alloc(octets, count, NULL, &canonical, &length, &refusal);
+    if (number != 0) {
+        tell(in, &refusal);
+        return number == PLISTCONV_OUT_OF_MEMORY ? 5 : 2;
+    }
+    int status = 1;
+    if (plistconv_same(octets, count, canonical, length, NULL, &equal, &refusal) == 0 && equal
+        && plistconv_check(canonical, length, NULL, &finding, &refusal) == 0 && finding.canonical) {
+        FILE *file = fopen(out, "wb");
+        size_t written = file ? fwrite(canonical, 1, length, file) : 0;
+        status = file && fclose(file) == 0 && written == length ? 0 : 4;
+        if (status != 0) perror(out);
+    }
+    plistconv_free(canonical);
+    return status;
+}
+
 int main(int argc, char **argv) {
     if (argc != 3) { fprintf(stderr, "usage: canonical IN OUT\n"); return 3; }
     size_t count;
     uint8_t *octets = read_whole(argv[1], &count);
     if (!octets) { perror(argv[1]); return 4; }
-
-    /* A first guess at the room; where it is too small, the call says what is needed. */
-    size_t room = 64, length = 0;
-    uint8_t *into = calloc(room, 1), number;
-    plistconv_refusal refusal = {0};
-    if (!into) return 5;
-    number = plistconv_canonical(octets, count, NULL, into, room, &length, &refusal);
-    if (number == 0 && length > room) {
-        free(into);
-        into = calloc(room = length, 1);
-        if (!into) return 5;
-        number = plistconv_canonical(octets, count, NULL, into, room, &length, &refusal);
-    }
-    if (number != 0) {
-        tell(argv[1], &refusal);
-        return number == 60 ? 5 : 2;
-    }
-
-    uint8_t equal = 0;
-    plistconv_finding finding = {0};
-    if (plistconv_same(octets, count, into, length, NULL, &equal, &refusal) != 0 || equal != 1) return 1;
-    if (plistconv_check(into, length, NULL, &finding, &refusal) != 0 || finding.canonical != 1) return 1;
-
-    FILE *out = fopen(argv[2], "wb");
-    if (!out || fwrite(into, 1, length, out) != length || fclose(out)) { perror(argv[2]); return 4; }
-    free(into);
+    int status = convert(argv[1], octets, count, argv[2]);
     free(octets);
-    return 0;
+    return status;
 }
