@@ -187,6 +187,9 @@ if wants deb && has dpkg-deb dpkg 'the Debian packages' && has objdump binutils 
 assert about.version("plistconv") == plistconv.library_version()
 print(plistconv.library_version())'
     fi
+    if [ -x /usr/bin/python3 ]; then
+        printf '{a=b;}' | env -u PLISTCONV "$work/deb/usr/bin/plistconv-digest" -
+    fi
     if has lintian lintian 'what lintian says'; then
         lintian --allow-root --fail-on error dist/*.deb
     fi

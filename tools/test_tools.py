@@ -262,6 +262,17 @@ class Canonicalise(Case):
             self.assertEqual(stat.S_IMODE(path.stat().st_mode), 0o640)
             self.call([PROGRAM, "check", name])
 
+    def test_owner_is_kept_if_the_system_allows_it(self):
+        path = self.put("a", TEXT)
+        try:
+            os.chown(str(path), 12345, 23456)
+        except OSError:
+            self.skipTest("skipped: owners cannot be changed here")
+        path.chmod(0o4750)
+        self.prints(b"", "canonicalise", "a")
+        after = path.stat()
+        self.assertEqual((after.st_uid, after.st_gid, stat.S_IMODE(after.st_mode)), (12345, 23456, 0o4750))
+
     def test_canonical_files_are_not_touched(self):
         before = self.put("a", self.canonical(TEXT)).stat()
         self.prints(b"", "canonicalise", "a")
