@@ -13,10 +13,7 @@ pub mod Placed
 pub mod Rows
 pub mod Sequences
 pub mod TableSteps
-pub mod Worked
-pub mod WorkedFaults
-pub mod WorkedPlaces
-pub mod WorkedShared
+mod Worked
 pub mod Marking
 pub mod PassSteps
 pub mod Recalling
@@ -27,4 +24,3 @@ pub mod Monotone
 pub mod HeadSteps
 pub mod RowSteps
 pub mod RowTexts
-pub mod WorkedHeads

@@ -1,18 +1,25 @@
--- Worked files: the value that they spell, and where their faults stand.
-use Rattle.std.proofs.Common.{◌≡◌, ℕ, zero, suc, ◌+◌, ◌*◌, ◌<◌, ◌≤◌, true, List, [], ◌∷◌, ◌++◌, replicate, refl, sym, subst, length, take, nat_lt, lit<, lit≤}
-use Rattle.std.specs.List.{list_all}
+-- Small files: the value that one spells, and where faults stand in others.
+use Rattle.std.proofs.Common.{◌≡◌, ℕ, zero, suc, ◌+◌, ◌*◌, ◌<◌, ◌≤◌, true, List, [], ◌∷◌, ◌++◌, replicate, refl, sym, subst, ⊎_elim, length, take, nat_lt, not-suc-le-zero, lit<, lit≤, arith}
+use Rattle.std.specs.List.{list_all, Contains}
 use Rattle.std.proofs.lemmas.Bool.{and_parts, ltb-true}
 use Rattle.std.specs.List.Sorted.{IsPermutation}
-use Rattle.std.proofs.lemmas.List.Sorted.{IsPermutation-refl}
-use Rattle.plist_value.specs.Plist.{text, scalar, no_pairs, pair, AllUnder, IsPlist}
-use Rattle.plist_value.specs.Limits.{Fits}
+use Rattle.plist_value.specs.Plist.{text, flag, scalar, list, no_items, item, no_pairs, pair, AllUnder}
 use Rattle.plist_value.specs.Rows.{a, b, swapped}
 use Rattle.plist_object.specs.Layout.{header, Trailer, trailer_of, IsTrailer, IsLaid}
-use Rattle.plist_object.specs.Objects.{holds_scalar, holds_table, marked_object, content, count_of_content, ascii_object, table_object}
-use Rattle.plist_object.specs.Places.{Holds, marker_at, what_holds, object_at, octets_at}
-use Rattle.plist_object.specs.Spelled.{Spells, SpellPairs, IsBinary}
+use Rattle.plist_object.specs.Objects.{Held, holds_scalar, holds_list, holds_table, marked_object, content, count_of_content, simple_object, ascii_object, list_object, table_object}
+use Rattle.plist_object.specs.Places.{Holds, what_holds, object_at, octets_at}
+use Rattle.plist_object.specs.References.{references_of}
+use Rattle.plist_object.specs.Spelled.{SpellPairs, IsBinary}
+use Rattle.plist_object.proofs.Ascending.{Among-contains}
+use Rattle.plist_object.proofs.Uniqueness.{same_held}
+use Rattle.plist_binary.specs.declared.fault.BinaryFault.TheVariants.{TooShort, BadTrailer, NullObject, BadReference, KeyNotText, DuplicateKey, Cycle, TooManyNodes, TooMuchPayload}
+use Rattle.plist_binary.specs.Begins.{Begins}
+use Rattle.plist_binary.specs.Faults.{Stands, StandsWithin}
+use Rattle.plist_binary.specs.Heads.{head_of}
+use Rattle.plist_binary.specs.Paths.{Refers}
+use Rattle.plist_binary.proofs.Beginning.{Comes-refers}
 
-pub all_under : (bound : ℕ) (xs : List ℕ) → 0 < bound → list_all (λ x. nat_lt x bound) xs ≡ true → AllUnder bound xs
+all_under : (bound : ℕ) (xs : List ℕ) → 0 < bound → list_all (λ x. nat_lt x bound) xs ≡ true → AllUnder bound xs
 all_under bound [] h e i = h
 all_under bound (x ∷ xs) h e zero = ltb-true x bound (and_parts (nat_lt x bound) (list_all (λ x. nat_lt x bound) xs) e).0
 all_under bound (x ∷ xs) h e (suc i) =
@@ -20,31 +27,13 @@ all_under bound (x ∷ xs) h e (suc i) =
 
 -- the end of a file whose numbers have one octet each: so many objects, the first at the top, and
 -- the place of the offset table
-unfoldable pub end_of : ℕ → ℕ → List ℕ
+unfoldable end_of : ℕ → ℕ → List ℕ
 end_of count place = replicate 6 0 ++ (1 ∷ 1 ∷ (replicate 7 0 ++ (count ∷ (replicate 15 0 ++ (place ∷ [])))))
 
--- b under a and a under b, the keys in their order
-unfoldable pub sorted : List ℕ
-sorted = header ++ (210 ∷ 1 ∷ 2 ∷ 2 ∷ 1 ∷ 81 ∷ 97 ∷ 81 ∷ 98 ∷ 8 ∷ 13 ∷ 15 ∷ end_of 3 17)
-
--- the same pairs, the later key first
-unsorted : List ℕ
-unsorted = header ++ (210 ∷ 1 ∷ 2 ∷ 2 ∷ 1 ∷ 81 ∷ 98 ∷ 81 ∷ 97 ∷ 8 ∷ 13 ∷ 15 ∷ end_of 3 17)
-
-swapped-is : IsPlist swapped
-swapped-is =
-    let units_a : AllUnder 65536 a = all_under 65536 a (lit< tt) refl in
-    let units_b : AllUnder 65536 b = all_under 65536 b (lit< tt) refl in
-    (units_a, units_b, refl, (units_b, units_a, tt, tt))
-
-swapped-fits : Fits swapped
-swapped-fits = record { nodes_fit = lit≤ tt; depth_fits = lit≤ tt; payload_fits = lit≤ tt }
-
--- the trailer of such a file
-unfoldable pub trailer : ℕ → ℕ → Trailer
+unfoldable trailer : ℕ → ℕ → Trailer
 trailer count place = record { offset_width = 1; reference_width = 1; count = count; top = 0; table = place }
 
-pub laid : (f : List ℕ) (count place : ℕ) → trailer_of f ≡ trailer count place → 1 ≤ count → 9 ≤ place → place + count * 1 + 32 ≡ length f → 42 ≤ length f → take 8 f ≡ header → IsLaid f
+laid : (f : List ℕ) (count place : ℕ) → trailer_of f ≡ trailer count place → 1 ≤ count → 9 ≤ place → place + count * 1 + 32 ≡ length f → 42 ≤ length f → take 8 f ≡ header → IsLaid f
 unfolding trailer
 laid f count place is some behind ends long headed = record {
   long = long;
@@ -61,45 +50,10 @@ laid f count place is some behind ends long headed = record {
   };
 }
 
--- the first file spells the value
-pub sorted-laid : IsLaid sorted
-unfolding sorted end_of trailer
-sorted-laid = laid sorted 3 17 refl (lit≤ tt) (lit≤ tt) refl (lit≤ tt) refl
+-- b under a and a under b, the later key first
+unfoldable unsorted : List ℕ
+unsorted = header ++ (210 ∷ 1 ∷ 2 ∷ 2 ∷ 1 ∷ 81 ∷ 98 ∷ 81 ∷ 97 ∷ 8 ∷ 13 ∷ 15 ∷ end_of 3 17)
 
-pub sorted-table : Holds sorted 0 (holds_table (1 ∷ 2 ∷ []) (2 ∷ 1 ∷ []))
-unfolding sorted end_of what_holds object_at octets_at marked_object table_object content count_of_content
-sorted-table = record { listed = lit< tt; reads = refl }
-
-pub sorted-a : Holds sorted 1 (holds_scalar (text a))
-unfolding sorted end_of what_holds object_at octets_at marked_object ascii_object content count_of_content
-sorted-a = record { listed = lit< tt; reads = refl }
-
-pub sorted-b : Holds sorted 2 (holds_scalar (text b))
-unfolding sorted end_of what_holds object_at octets_at marked_object ascii_object content count_of_content
-sorted-b = record { listed = lit< tt; reads = refl }
-
--- the markers of the table and of its first key: d2 and 51
-sorted-markers : (marker_at sorted 0 ≡ 210) × (marker_at sorted 1 ≡ 81)
-unfolding sorted end_of
-sorted-markers = (refl, refl)
-
-sorted-spells : Spells sorted 0 swapped
-sorted-spells =
-    let rows = (1, 2) ∷ (2, 1) ∷ [] in
-    let spell : SpellPairs sorted rows (pair a (scalar (text b)) (pair b (scalar (text a)) no_pairs)) = (sorted-a, sorted-b, (sorted-b, sorted-a, refl)) in
-    (1 ∷ 2 ∷ [], (2 ∷ 1 ∷ [], (rows, (sorted-table, (IsPermutation-refl rows, spell)))))
-
-sorted-binary : IsBinary sorted swapped
-unfolding sorted end_of
-sorted-binary = record {
-  octets = all_under 256 sorted (lit< tt) refl;
-  laid = sorted-laid;
-  spells = sorted-spells;
-  valid = swapped-is;
-  fits = swapped-fits;
-}
-
--- the second file spells the same value
 unsorted-laid : IsLaid unsorted
 unfolding unsorted end_of trailer
 unsorted-laid = laid unsorted 3 17 refl (lit≤ tt) (lit≤ tt) refl (lit≤ tt) refl
@@ -116,19 +70,232 @@ unsorted-a : Holds unsorted 2 (holds_scalar (text a))
 unfolding unsorted end_of what_holds object_at octets_at marked_object ascii_object content count_of_content
 unsorted-a = record { listed = lit< tt; reads = refl }
 
-unsorted-spells : Spells unsorted 0 swapped
-unsorted-spells =
+unsorted-binary : IsBinary unsorted swapped
+unfolding unsorted end_of
+unsorted-binary =
+    let units_a = all_under 65536 a (lit< tt) refl in
+    let units_b = all_under 65536 b (lit< tt) refl in
     let rows = (2, 1) ∷ (1, 2) ∷ [] in
     let moved : IsPermutation ((1, 2) ∷ (2, 1) ∷ []) rows = record { moves = (0, 1) ∷ []; below = (lit< tt, lit< tt, tt); is = refl } in
     let spell : SpellPairs unsorted rows (pair a (scalar (text b)) (pair b (scalar (text a)) no_pairs)) = (unsorted-a, unsorted-b, (unsorted-b, unsorted-a, refl)) in
-    (1 ∷ 2 ∷ [], (2 ∷ 1 ∷ [], (rows, (unsorted-table, (moved, spell)))))
+    record {
+      octets = all_under 256 unsorted (lit< tt) refl;
+      laid = unsorted-laid;
+      spells = (1 ∷ 2 ∷ [], (2 ∷ 1 ∷ [], (rows, (unsorted-table, (moved, spell)))));
+      valid = (units_a, units_b, refl, (units_b, units_a, tt, tt));
+      fits = record { nodes_fit = lit≤ tt; depth_fits = lit≤ tt; payload_fits = lit≤ tt };
+    }
 
-unsorted-binary : IsBinary unsorted swapped
+-- fewer than 42 octets of it
+short : Stands (take 41 unsorted) TooShort
 unfolding unsorted end_of
-unsorted-binary = record {
-  octets = all_under 256 unsorted (lit< tt) refl;
+short = lit< tt
+
+-- all octets but the last
+unended : Stands (take 51 unsorted) BadTrailer
+unfolding unsorted end_of
+unended = (lit≤ tt, refl, λ fits. not-suc-le-zero fits.offset_width_least)
+
+-- the last value comes behind the table, both keys and the first value
+unsorted-value : Begins unsorted (0 ∷ []) 1 4 6
+unfolding unsorted end_of
+unsorted-value =
+    let units_a = all_under 65536 a (lit< tt) refl in
+    let units_b = all_under 65536 b (lit< tt) refl in
+    record {
+      nodes_above = 0;
+      payload_above = 0;
+      above = (refl, refl, refl);
+      values = item (scalar (text b)) (item (scalar (text a)) (item (scalar (text a)) no_items));
+      comes = record {
+        held = holds_table (1 ∷ 2 ∷ []) (2 ∷ 1 ∷ []);
+        holds = unsorted-table;
+        front = 1 ∷ 2 ∷ 2 ∷ [];
+        behind = [];
+        all = refl;
+        spell = (unsorted-b, (unsorted-a, (unsorted-a, refl)));
+        valid = (units_b, (units_a, (units_a, tt)));
+      };
+      nodes_sum = refl;
+      payload_sum = refl;
+    }
+
+-- where 7 octets of payload may be, those of the last value are above them
+unsorted-last : StandsWithin unsorted 5 7 (TooMuchPayload 1)
+unfolding unsorted end_of what_holds object_at octets_at marked_object ascii_object content count_of_content
+unsorted-last = record {
   laid = unsorted-laid;
-  spells = unsorted-spells;
-  valid = swapped-is;
-  fits = swapped-fits;
+  before = 0 ∷ [];
+  nodes = 4;
+  payload = 6;
+  begins = unsorted-value;
+  fewer = lit< tt;
+  within = lit≤ tt;
+  above = lit< tt;
 }
+
+-- a list that holds a list that holds the first
+circular : List ℕ
+circular = header ++ (161 ∷ 1 ∷ 161 ∷ 0 ∷ 8 ∷ 10 ∷ end_of 2 12)
+
+circular-first : Refers circular 0 1
+unfolding circular end_of what_holds object_at octets_at marked_object list_object content count_of_content
+circular-first = record { held = holds_list (1 ∷ []); holds = record { listed = lit< tt; reads = refl }; among = (0, lit< tt, refl) }
+
+circular-second : Refers circular 1 0
+unfolding circular end_of what_holds object_at octets_at marked_object list_object content count_of_content
+circular-second = record { held = holds_list (0 ∷ []); holds = record { listed = lit< tt; reads = refl }; among = (0, lit< tt, refl) }
+
+circular-cycle : Stands circular (Cycle 1)
+unfolding circular end_of trailer
+circular-cycle = record {
+  ends = record {
+    laid = laid circular 2 12 refl (lit≤ tt) (lit≤ tt) refl (lit≤ tt) refl;
+    before = 0 ∷ [];
+    leads = (circular-first, refl);
+  };
+  reference = 0;
+  refers = circular-second;
+  on_path = (1, lit< tt, refl);
+}
+
+-- a list whose item is no object
+nowhere : List ℕ
+nowhere = header ++ (161 ∷ 1 ∷ 8 ∷ end_of 1 10)
+
+nowhere-reference : Stands nowhere (BadReference 0)
+unfolding nowhere end_of trailer what_holds object_at octets_at marked_object list_object content count_of_content
+nowhere-reference = record {
+  ends = record { laid = laid nowhere 1 10 refl (lit≤ tt) (lit≤ tt) refl (lit≤ tt) refl; before = []; leads = refl };
+  reference = 1;
+  refers = record { held = holds_list (1 ∷ []); holds = record { listed = lit< tt; reads = refl }; among = (0, lit< tt, refl) };
+  above = lit≤ tt;
+}
+
+-- a null
+null : List ℕ
+null = header ++ (0 ∷ 8 ∷ end_of 1 9)
+
+null-object : Stands null (NullObject 0)
+unfolding null end_of trailer what_holds object_at octets_at marked_object simple_object
+null-object = record {
+  ends = record { laid = laid null 1 9 refl (lit≤ tt) (lit≤ tt) refl (lit≤ tt) refl; before = []; leads = refl };
+  listed = lit< tt;
+  fails = refl;
+}
+
+-- a table whose key is a flag
+flagged : List ℕ
+flagged = header ++ (209 ∷ 1 ∷ 1 ∷ 9 ∷ 8 ∷ 11 ∷ end_of 2 12)
+
+flagged-key : Stands flagged (KeyNotText 0)
+unfolding flagged end_of trailer what_holds object_at octets_at marked_object table_object simple_object content count_of_content
+flagged-key = record {
+  ends = record { laid = laid flagged 2 12 refl (lit≤ tt) (lit≤ tt) refl (lit≤ tt) refl; before = []; leads = refl };
+  keys = 1 ∷ [];
+  values = 1 ∷ [];
+  holds = record { listed = lit< tt; reads = refl };
+  key = 1;
+  among = (0, lit< tt, refl);
+  held = holds_scalar (flag true);
+  reads = record { listed = lit< tt; reads = refl };
+  no_text = λ none. none;
+}
+
+-- a table with one key twice
+twice : List ℕ
+twice = header ++ (210 ∷ 1 ∷ 2 ∷ 3 ∷ 3 ∷ 81 ∷ 97 ∷ 81 ∷ 97 ∷ 9 ∷ 8 ∷ 13 ∷ 15 ∷ 17 ∷ end_of 4 18)
+
+twice-key : Stands twice (DuplicateKey 0)
+unfolding twice end_of trailer what_holds object_at octets_at marked_object table_object ascii_object content count_of_content
+twice-key = record {
+  ends = record { laid = laid twice 4 18 refl (lit≤ tt) (lit≤ tt) refl (lit≤ tt) refl; before = []; leads = refl };
+  keys = 1 ∷ 2 ∷ [];
+  values = 3 ∷ 3 ∷ [];
+  holds = record { listed = lit< tt; reads = refl };
+  first = 0;
+  second = 1;
+  apart = lit< tt;
+  within = lit< tt;
+  units = a;
+  first_reads = record { listed = lit< tt; reads = refl };
+  second_reads = record { listed = lit< tt; reads = refl };
+}
+
+-- a list that holds one empty list twice
+unfoldable shared : List ℕ
+shared = header ++ (162 ∷ 1 ∷ 1 ∷ 160 ∷ 8 ∷ 11 ∷ end_of 2 12)
+
+shared-first : Holds shared 0 (holds_list (1 ∷ 1 ∷ []))
+unfolding shared end_of what_holds object_at octets_at marked_object list_object content count_of_content
+shared-first = record { listed = lit< tt; reads = refl }
+
+shared-second : Holds shared 1 (holds_list [])
+unfolding shared end_of what_holds object_at octets_at marked_object list_object content count_of_content
+shared-second = record { listed = lit< tt; reads = refl }
+
+-- the only references of that file
+shared-refers : (i j : ℕ) → Refers shared i j → (i ≡ 0) × (j ≡ 1)
+unfolding shared end_of
+shared-refers zero j refers =
+    let held = same_held shared 0 refers.held (holds_list (1 ∷ 1 ∷ [])) refers.holds shared-first in
+    let among = Among-contains j (1 ∷ 1 ∷ []) (subst (λ (h : Held). Contains (references_of h) j) held refers.among) in
+    (refl, ⊎_elim (λ e. e) (⊎_elim (λ e. e) absurd) among)
+shared-refers (suc zero) j refers =
+    let held = same_held shared 1 refers.held (holds_list []) refers.holds shared-second in
+    absurd (Among-contains j [] (subst (λ (h : Held). Contains (references_of h) j) held refers.among))
+shared-refers (suc (suc i)) j refers =
+    let listed : suc (suc i) < 2 = refers.holds.listed in
+    absurd (omega arith)
+
+-- two nodes come before the second item
+shared-again : Begins shared (0 ∷ []) 1 2 0
+unfolding shared end_of
+shared-again = record {
+  nodes_above = 0;
+  payload_above = 0;
+  above = (refl, refl, refl);
+  values = item (list no_items) no_items;
+  comes = record {
+    held = holds_list (1 ∷ 1 ∷ []);
+    holds = shared-first;
+    front = 1 ∷ [];
+    behind = [];
+    all = refl;
+    spell = (([], (shared-second, refl)), refl);
+    valid = (tt, tt);
+  };
+  nodes_sum = refl;
+  payload_sum = refl;
+}
+
+-- where two nodes may be, the third is one too many
+shared-third : StandsWithin shared 2 0 (TooManyNodes 1)
+unfolding shared end_of trailer
+shared-third = record {
+  laid = laid shared 2 12 refl (lit≤ tt) (lit≤ tt) refl (lit≤ tt) refl;
+  listed = lit< tt;
+  before = 0 ∷ [];
+  payload = 0;
+  begins = shared-again;
+  within = lit≤ tt;
+}
+
+-- and the object at the top is not
+shared-top : StandsWithin shared 2 0 (TooManyNodes 0) → ⊥
+shared-top stands = top stands.before stands.payload stands.begins where
+  top : (before : List ℕ) (payload : ℕ) → Begins shared before 0 2 payload → ⊥
+  top [] payload begins = omega (arith, begins.1)
+  top (j ∷ before) payload begins = omega (arith, (shared-refers j 0 (Comes-refers shared j 0 begins.values begins.comes)).1)
+
+-- the octets 30 30 31 32 33 34 20 6f of a text
+digits-head : head_of 8 (48 ∷ 48 ∷ 49 ∷ 50 ∷ 51 ∷ 52 ∷ 32 ∷ 111 ∷ 102 ∷ 32 ∷ []) ≡ 3472329404379832431
+digits-head = refl
+
+-- from a unit of 256 or more on: fc and seven times ff, whatever follows
+cut-head : head_of 8 (252 ∷ 256 ∷ 5 ∷ []) ≡ 18230571291595767807
+cut-head = refl
+
+-- a unit of 255 is not cut off: ff, 07 and six times 00
+highest-head : head_of 8 (255 ∷ 7 ∷ []) ≡ 18376656804508598272
+highest-head = refl

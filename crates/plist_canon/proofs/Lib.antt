@@ -16,7 +16,7 @@ pub mod WalkRules
 pub mod FileRules
 pub mod Followed
 pub mod Local
-mod RuleRows
+mod Rows
 pub mod Weighing
 pub mod Visiting
 pub mod Judges

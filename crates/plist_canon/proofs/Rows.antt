@@ -4,8 +4,9 @@ use Rattle.std.specs.Prelude.{⊤}
 use Rattle.std.specs.declared.cmp.Ordering.TheVariants.{Less, Greater}
 use Rattle.std.specs.List.{AllByRecursion}
 use Rattle.std.specs.List.Sorted.{IsStrictlySortedBy}
-use Rattle.plist_value.specs.Plist.{text, scalar, table, no_pairs, pair, Plist, IsPlist, AreUnits}
+use Rattle.plist_value.specs.Plist.{text, AreUnits}
 use Rattle.plist_value.specs.Limits.{Fits}
+use Rattle.plist_value.specs.Rows.{swapped}
 use Rattle.plist_object.specs.declared.object.ObjectFault.{ObjectFault}
 use Rattle.plist_object.specs.Layout.{header, IsLaid}
 use Rattle.plist_object.specs.Objects.{Held, holds_scalar, holds_list, object_in, count_spelled, count_of_content, content, simple_object, ascii_object, list_object, table_object, marked_object}
@@ -26,32 +27,24 @@ end_with slack width count place =
 abbrev end_of : ℕ → ℕ → List ℕ
 end_of count place = end_with 0 1 count place
 
--- the table {a = b; b = a}, and its canonical file, which follows the rules
-abbrev two_pairs : Plist
-two_pairs = table (pair (97 ∷ []) (scalar (text (98 ∷ []))) (pair (98 ∷ []) (scalar (text (97 ∷ []))) no_pairs))
-
-abbrev two_pairs_file : List ℕ
-two_pairs_file = header ++ (210 ∷ 1 ∷ 2 ∷ 2 ∷ 1 ∷ 81 ∷ 97 ∷ 81 ∷ 98 ∷ 8 ∷ 13 ∷ 15 ∷ end_of 3 17)
+-- the canonical file of the table {a = b; b = a}, which follows the rules
+abbrev swapped_file : List ℕ
+swapped_file = header ++ (210 ∷ 1 ∷ 2 ∷ 2 ∷ 1 ∷ 81 ∷ 97 ∷ 81 ∷ 98 ∷ 8 ∷ 13 ∷ 15 ∷ end_of 3 17)
 
 one_unit : (unit : ℕ) → unit < 65536 → AreUnits (unit ∷ [])
 one_unit unit h zero = h
 one_unit unit h (suc i) = omega arith
 
-two_pairs-plist : IsPlist two_pairs
-two_pairs-plist =
+swapped-canon : canon swapped ≡ swapped_file
+unfolding canon
+swapped-canon = refl
+
+follows : FollowsRules swapped_file
+follows =
     let a = one_unit 97 (omega arith) in
     let b = one_unit 98 (omega arith) in
-    (a, b, refl, (b, a, tt, tt))
-
-two_pairs-fits : Fits two_pairs
-two_pairs-fits = record { nodes_fit = omega arith; depth_fits = omega arith; payload_fits = omega arith }
-
-two_pairs-canon : canon two_pairs ≡ two_pairs_file
-unfolding canon
-two_pairs-canon = refl
-
-follows : FollowsRules two_pairs_file
-follows = subst FollowsRules two_pairs-canon (canonical_follows_rules two_pairs two_pairs-plist two_pairs-fits).1
+    let fits : Fits swapped = record { nodes_fit = omega arith; depth_fits = omega arith; payload_fits = omega arith } in
+    subst FollowsRules swapped-canon (canonical_follows_rules swapped (a, b, refl, (b, a, tt, tt)) fits).1
 
 same_head : (m n : ℕ) (ms ns : List ℕ) → m ∷ ms ≡ n ∷ ns → m ≡ n
 same_head m n ms ns e = cc
@@ -59,9 +52,6 @@ same_head m n ms ns e = cc
 -- a list of a reference to no object
 abbrev stray_file : List ℕ
 stray_file = header ++ (161 ∷ 1 ∷ 8 ∷ end_of 1 10)
-
-stray-laid : IsLaid stray_file
-stray-laid = record { long = omega arith; headed = refl; trailed = omega arith }
 
 numbers_below : (held : Held) → held ≡ holds_list (1 ∷ []) → AllByRecursion (λ reference. reference < 1) (references_of held) → ⊥
 numbers_below held e numbers =
@@ -80,18 +70,12 @@ breaks-c0 h =
 abbrev slack_file : List ℕ
 slack_file = header ++ (208 ∷ 8 ∷ end_with 1 1 1 9)
 
-slack-laid : IsLaid slack_file
-slack-laid = record { long = omega arith; headed = refl; trailed = omega arith }
-
 breaks-c1 : HasPlainTrailer slack_file → ⊥
 breaks-c1 h = let first = same_head 1 0 (replicate 5 0) (replicate 5 0) h.slack in omega arith
 
 -- a list of one flag, whose reference has two octets
 abbrev wide_file : List ℕ
 wide_file = header ++ (161 ∷ 0 ∷ 1 ∷ 9 ∷ 8 ∷ 11 ∷ end_with 0 2 2 12)
-
-wide-laid : IsLaid wide_file
-wide-laid = record { long = omega arith; headed = refl; trailed = omega arith }
 
 breaks-c2 : HasLeastWidths wide_file → ⊥
 breaks-c2 h = let reference = h.reference in omega arith
@@ -100,9 +84,6 @@ breaks-c2 h = let reference = h.reference in omega arith
 abbrev unused_file : List ℕ
 unused_file = header ++ (161 ∷ 1 ∷ 0 ∷ 9 ∷ 8 ∷ 11 ∷ end_of 2 12)
 
-unused-laid : IsLaid unused_file
-unused-laid = record { long = omega arith; headed = refl; trailed = omega arith }
-
 breaks-c3 : Adjoins unused_file 1 → ⊥
 unfolding span_of object_at octets_at marked_object list_object content count_of_content simple_object
 breaks-c3 h = let touches = h.next 0 8 10 11 12 refl refl refl in omega arith
@@ -110,9 +91,6 @@ breaks-c3 h = let touches = h.next 0 8 10 11 12 refl refl refl in omega arith
 -- a text of one unit, whose head has its count in an octet of its own
 abbrev long_head_file : List ℕ
 long_head_file = header ++ (95 ∷ 16 ∷ 1 ∷ 97 ∷ 8 ∷ end_of 1 12)
-
-long_head-laid : IsLaid long_head_file
-long_head-laid = record { long = omega arith; headed = refl; trailed = omega arith }
 
 same_octets : (xs ys : List ℕ) → ◌≡◌ {A = Result (List ℕ) ObjectFault} (Ok xs) (Ok ys) → xs ≡ ys
 same_octets xs ys e = cc
@@ -138,9 +116,6 @@ breaks-c4 h = not_shortest (h refl)
 abbrev descending_file : List ℕ
 descending_file = header ++ (210 ∷ 1 ∷ 2 ∷ 2 ∷ 1 ∷ 81 ∷ 98 ∷ 81 ∷ 97 ∷ 8 ∷ 13 ∷ 15 ∷ end_of 3 17)
 
-descending-laid : IsLaid descending_file
-descending-laid = record { long = omega arith; headed = refl; trailed = omega arith }
-
 breaks-c5 : HasAscendingKeys descending_file 0 → ⊥
 unfolding what_holds object_at octets_at marked_object table_object ascii_object content count_of_content IsStrictlySortedBy
 breaks-c5 h =
@@ -154,9 +129,6 @@ breaks-c5 h =
 abbrev repeat_file : List ℕ
 repeat_file = header ++ (162 ∷ 1 ∷ 2 ∷ 81 ∷ 97 ∷ 81 ∷ 97 ∷ 8 ∷ 11 ∷ 13 ∷ end_of 3 15)
 
-repeat-laid : IsLaid repeat_file
-repeat-laid = record { long = omega arith; headed = refl; trailed = omega arith }
-
 breaks-c6 : IsNoRepeat repeat_file 2 → ⊥
 unfolding what_holds object_at octets_at marked_object ascii_object content count_of_content
 breaks-c6 h = h (text (97 ∷ [])) refl 1 (omega arith) refl
@@ -164,9 +136,6 @@ breaks-c6 h = h (text (97 ∷ [])) refl 1 (omega arith) refl
 -- a list of two texts, of which the first is the object 2
 abbrev unordered_file : List ℕ
 unordered_file = header ++ (162 ∷ 2 ∷ 1 ∷ 81 ∷ 97 ∷ 81 ∷ 98 ∷ 8 ∷ 11 ∷ 13 ∷ end_of 3 15)
-
-unordered-laid : IsLaid unordered_file
-unordered-laid = record { long = omega arith; headed = refl; trailed = omega arith }
 
 -- the walks from references begin with the first of them
 abbrev BeginWith : List ℕ → List ℕ → Type 0
@@ -210,3 +179,16 @@ turns-c7 =
       other = λ next. (let is = next.0 in omega arith);
       known = λ below. absurd (omega arith);
     }
+
+-- the files that break a rule are laid
+all-laid : IsLaid stray_file × IsLaid slack_file × IsLaid wide_file × IsLaid unused_file × IsLaid long_head_file × IsLaid descending_file × IsLaid repeat_file × IsLaid unordered_file
+all-laid = (
+  record { long = omega arith; headed = refl; trailed = omega arith },
+  record { long = omega arith; headed = refl; trailed = omega arith },
+  record { long = omega arith; headed = refl; trailed = omega arith },
+  record { long = omega arith; headed = refl; trailed = omega arith },
+  record { long = omega arith; headed = refl; trailed = omega arith },
+  record { long = omega arith; headed = refl; trailed = omega arith },
+  record { long = omega arith; headed = refl; trailed = omega arith },
+  record { long = omega arith; headed = refl; trailed = omega arith },
+)
