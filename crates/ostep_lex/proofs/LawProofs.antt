@@ -115,66 +115,31 @@ faulty_has_none octets (OctalRange at) s n = HasFault-none s
 faulty_has_none octets (OddData at) s n = HasFault-none s
 faulty_has_none octets (BadData at) s n = HasFault-none s
 
--- the faults that reading tokens meets
-IsLexical : LexFault → Type 0
-IsLexical (BadUtf8 at) = ⊥
-IsLexical (BadUtf16 at) = ⊥
-IsLexical (XmlForm at) = ⊥
-IsLexical OutOfMemory = ⊥
-IsLexical (UnexpectedCharacter at) = Unit {0}
-IsLexical (UnclosedString at) = Unit {0}
-IsLexical (UnclosedComment at) = Unit {0}
-IsLexical (BadEscape at) = Unit {0}
-IsLexical (OctalRange at) = Unit {0}
-IsLexical (OddData at) = Unit {0}
-IsLexical (BadData at) = Unit {0}
+-- a fault that reading tokens meets is one of the octets
+escape-stands : {octets : List ℕ} {p : Places} {start : ℕ} {text : List ℕ} {f : LexFault} → EscapeFault p start text f → HasFault octets f → Stands octets f
+escape-stands Stands.cut_escape h = h
+escape-stands (Stands.no_digit d) h = h
+escape-stands (Stands.too_high d n) h = h
 
-escape-lexical : {p : Places} {start : ℕ} {text : List ℕ} {f : LexFault} → EscapeFault p start text f → IsLexical f
-unfolding IsLexical
-escape-lexical Stands.cut_escape = tt
-escape-lexical (Stands.no_digit d) = tt
-escape-lexical (Stands.too_high d h) = tt
+quoted-stands : {octets : List ℕ} {p : Places} {start mark : ℕ} {text : List ℕ} {f : LexFault} → QuotedFault p start mark text f → HasFault octets f → Stands octets f
+quoted-stands Stands.cut_string h = h
+quoted-stands (Stands.escape e) h = escape-stands e h
+quoted-stands (Stands.piece e f) h = quoted-stands f h
 
-quoted-lexical : {p : Places} {start mark : ℕ} {text : List ℕ} {f : LexFault} → QuotedFault p start mark text f → IsLexical f
-unfolding IsLexical
-quoted-lexical Stands.cut_string = tt
-quoted-lexical (Stands.escape e) = escape-lexical e
-quoted-lexical (Stands.piece e f) = quoted-lexical f
+data-stands : {octets : List ℕ} {p : Places} {text : List ℕ} {f : LexFault} → OctetsFault p text f → HasFault octets f → Stands octets f
+data-stands Stands.cut_data h = h
+data-stands (Stands.other d) h = h
+data-stands (Stands.odd d e) h = h
+data-stands (Stands.piece e f) h = data-stands f h
 
-octets-lexical : {p : Places} {text : List ℕ} {f : LexFault} → OctetsFault p text f → IsLexical f
-unfolding IsLexical
-octets-lexical Stands.cut_data = tt
-octets-lexical (Stands.other d) = tt
-octets-lexical (Stands.odd h d) = tt
-octets-lexical (Stands.piece e f) = octets-lexical f
-
-fault_at-lexical : {p : Places} {text : List ℕ} {f : LexFault} → FaultAt p text f → IsLexical f
-unfolding IsLexical
-fault_at-lexical (Stands.unexpected m o) = tt
-fault_at-lexical (Stands.comment n) = tt
-fault_at-lexical (Stands.quoted q f) = quoted-lexical f
-fault_at-lexical (Stands.data_token f) = octets-lexical f
-
-behind-lexical : {p : Places} {text : List ℕ} {f : LexFault} → FaultBehind p text f → IsLexical f
-behind-lexical (Stands.gap g f) = fault_at-lexical f
-
--- so a fault that reading tokens meets stands in the octets
-stands_lexical : (octets : List ℕ) (fault : LexFault) → IsLexical fault → HasFault octets fault → Stands octets fault
-unfolding IsLexical
-stands_lexical octets (BadUtf8 at) i h = absurd i
-stands_lexical octets (BadUtf16 at) i h = absurd i
-stands_lexical octets (XmlForm at) i h = absurd i
-stands_lexical octets OutOfMemory i h = tt
-stands_lexical octets (UnexpectedCharacter at) i h = h
-stands_lexical octets (UnclosedString at) i h = h
-stands_lexical octets (UnclosedComment at) i h = h
-stands_lexical octets (BadEscape at) i h = h
-stands_lexical octets (OctalRange at) i h = h
-stands_lexical octets (OddData at) i h = h
-stands_lexical octets (BadData at) i h = h
+behind-stands : {octets : List ℕ} {p : Places} {text : List ℕ} {f : LexFault} → FaultBehind p text f → HasFault octets f → Stands octets f
+behind-stands (Stands.gap g (Stands.unexpected m o)) h = h
+behind-stands (Stands.gap g (Stands.comment n)) h = h
+behind-stands (Stands.gap g (Stands.quoted q f)) h = quoted-stands f h
+behind-stands (Stands.gap g (Stands.data_token f)) h = data-stands f h
 
 pub stands_in : {octets : List ℕ} {fault : LexFault} → HasFault octets fault → Stands octets fault
-stands_in {octets} {fault} h = stands_lexical octets fault (behind-lexical h.stands) h
+stands_in h = behind-stands h.stands h
 
 -- a fault unless it is want of memory, of which nothing is said
 memory_or : (octets : List ℕ) (P : LexFault → Type 0) → ((fault : LexFault) → P fault → Stands octets fault) → (fault : LexFault) → UnlessMemory P fault → Stands octets fault

@@ -72,9 +72,6 @@ pub number_no_digit : (base count high c : ℕ) (text rest : List ℕ) → text 
 number_no_digit base count high c text rest e d =
     number_stop base count high text (ap (begins_digit base) e ∙ le-ltb (digit_value c) base (omega arith))
 
-pub number_no_text : (base count high : ℕ) (text : List ℕ) → text ≡ [] → number_from base count high text ≡ record { value = high; behind = text }
-number_no_text base count high text e = number_stop base count high text (ap (begins_digit base) e)
-
 -- a list with a piece at its end, before more
 pub appended : {A : Type 0} (old new piece more : List A) → new ≡ old ++ piece → old ++ (piece ++ more) ≡ new ++ more
 appended old new piece more e = sym (ap (λ w. w ++ more) e ∙ append_assoc old piece more)

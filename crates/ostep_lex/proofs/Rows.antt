@@ -17,7 +17,7 @@ use Rattle.ostep_lex.specs.Stands.{FaultAt, HasFault, HasXml}
 abbrev pub at : Lexeme → ℕ → ℕ → Placed
 at lexeme start end = record { lexeme = lexeme; start = start; end = end }
 
--- a fault behind no token
+-- a fault in the first token
 first_at : {bytes : List ℕ} {fault : LexFault} (rest : List ℕ) → Spells bytes rest → FaultAt (places_of bytes) rest fault → HasFault bytes fault
 first_at rest spells stands = record {
   tokens = [];

@@ -1,4 +1,4 @@
--- Stretches of characters of one class, in octets and in units, and what stands behind them.
+-- Stretches of characters of one class, in octets and in units, and what follows them.
 use Rattle.std.proofs.Common.{ℕ, Bool, true, ◌<◌, ◌-◌, ◌&&◌, List, [], ◌∷◌, ◌++◌, length, take, drop, ◌≡◌, refl, sym, ap, subst, ◌∙◌, arith, append_assoc, length-append, ◌≤◌, append-nil, lt-ltb, false, not, ◌==◌}
 use Rattle.std.specs.Prelude.{IsUtf8, chars, nat_lt}
 use Rattle.std.proofs.lemmas.Bool.Decides.{nat_tests}

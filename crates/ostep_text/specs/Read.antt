@@ -1,4 +1,4 @@
--- What was read of a text behind some tokens, whatever is known of all tokens that were read.
+-- What was read of a text after some tokens, whatever is known of all tokens that were read.
 use Rattle.std.specs.Prelude.{◌≡◌, ℕ, List, ◌∷◌, ◌++◌}
 use Rattle.plist_value.specs.Plist.{Plist, Items, Pairs}
 use Rattle.ostep_lex.specs.Lexeme.{Lexeme, semicolon, Placed}
