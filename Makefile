@@ -47,7 +47,7 @@ fuzz: plistconv
 	python3 fuzz/fuzz.py ./plistconv --seconds $(SECONDS) --seed $(SEED)
 
 tools: plistconv
-	PLISTCONV=./plistconv python3 tools/test_tools.py
+	PLISTCONV=./plistconv python3 -B tools/test_tools.py
 	PLISTCONV=./plistconv scripts/readme
 
 new-user: plistconv lib

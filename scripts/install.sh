@@ -32,7 +32,10 @@ link() { # TARGET PATH
 }
 print() { # PATH LINE..
     place "$1"
-    [ "$verb" = uninstall ] || { printf '%s\n' "${@:2}" > "$DESTDIR$1" && chmod 644 "$DESTDIR$1"; }
+    [ "$verb" = install ] || return 0
+    rm -f "$DESTDIR$1" # (a link is not followed)
+    printf '%s\n' "${@:2}" > "$DESTDIR$1"
+    chmod 644 "$DESTDIR$1"
 }
 
 # The pages with the folders that they link to.
