@@ -106,8 +106,8 @@ def replace(name: str, octets: bytes) -> None:
     """
     path = os.path.realpath(name)
     old = os.stat(name)
-    is_plain = stat.S_ISREG(old.st_mode) and not os.path.abspath(name).startswith(("/dev/", "/proc/"))
-    if not is_plain or not os.path.samestat(old, os.stat(path)):
+    is_open_file = os.path.abspath(name).startswith(("/dev/std", "/dev/fd/", "/proc/"))
+    if is_open_file or not stat.S_ISREG(old.st_mode) or not os.path.samestat(old, os.stat(path)):
         raise Refused("is no regular file, and stays as it is")
     file, beside = tempfile.mkstemp(prefix=".plistconv-", dir=os.path.dirname(path))
     try:

@@ -150,6 +150,11 @@ class Staged(Repository):
         self.git("add", "sub")
         self.refuses("staged: sub/a.plist: an OpenStep", "staged", cwd=str(self.folder / "sub"))
         self.prints(b"", "staged", cwd=str(self.folder / "other tree" / "sub"))
+        self.hook()
+        self.put("other tree/sub/b.plist", TEXT)
+        for folder in ("other tree", "other tree/sub"):
+            words = ["sh", "-c", f'cd "{folder}" && git add -A . && git commit -qm two']
+            self.assertIn(b"staged: sub/b.plist: an OpenStep", self.call(words, 1).stderr)
 
     def test_attributes_of_the_index_leave_files_out_and_add_some(self):
         self.put("k.plist", ARCHIVE)

@@ -356,6 +356,7 @@ class Where(Case):
                                (27, "lines:4:1\n}\n^\n"), (28, "lines:4:2\n}\n ^\n"), (0, "lines:1:1\n{\n^\n"),
                                (2, "lines:1:2\n{\n ^\n"), (11, 'lines:2:8\n  a = "é .";\n       ^\n')):
             self.prints(wanted.encode(), "where", "lines", str(offset))
+        self.prints("-:1:6\n{a = \ufffd;}\n     ^\n".encode(), "where", "-", "5", input=b"{a = \xff;}")
         self.refuses("lines: has 28 bytes", "where", "lines", "29")
         for wrong in ("x", "-1", "", "1.5", "٣"):
             self.refuses("usage: plistconv-where", "where", "--", "lines", wrong, status=2)
