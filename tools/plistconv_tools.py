@@ -59,9 +59,8 @@ def say(message: str) -> None:
 
 def parser(usage: str) -> argparse.ArgumentParser:
     """Returns a parser of arguments whose help is the docstring of the command."""
-    return argparse.ArgumentParser(
-        prog=COMMAND, description=usage, formatter_class=argparse.RawDescriptionHelpFormatter
-    )
+    shape = argparse.RawDescriptionHelpFormatter
+    return argparse.ArgumentParser(prog=COMMAND, description=usage, formatter_class=shape, allow_abbrev=False)
 
 
 def read(name: str) -> bytes:

@@ -241,8 +241,9 @@ class Tree(Repository):
 
     def test_line_of_the_page_makes_a_repository_canonical_and_nothing_else(self):
         page = (TOP / "docs" / "RECIPES.md").read_text(encoding="utf-8")
-        line = re.search(r"(?m)^    (git ls-files -z .*xargs -0 plistconv-canonicalise)$", page)[1]
+        line = re.search(r"(?m)^    (git ls-files -z .*xargs -0 plistconv-canonicalise --)$", page)[1]
         self.put("a b.plist", TEXT)
+        self.put("-x.plist", TEXT)
         self.put("sub/b.strings", b"a=b;")
         self.put("word.txt", b"word")
         self.put("c.plist/d", TEXT)
@@ -251,9 +252,10 @@ class Tree(Repository):
         self.git("branch", "update-Info.plist")
         self.put("untracked.plist", TEXT)
         self.call(["sh", "-ec", line])
-        self.assertEqual((self.folder / "a b.plist").read_bytes(), self.canonical(TEXT))
+        for name in ("a b.plist", "-x.plist"):
+            self.assertEqual((self.folder / name).read_bytes(), self.canonical(TEXT))
         self.assertEqual((self.folder / "sub" / "b.strings").read_bytes(), self.canonical(b"a=b;"))
-        for name, octets in (("word.txt", b"word"), ("untracked.plist", TEXT)):
+        for name, octets in (("word.txt", b"word"), ("untracked.plist", TEXT), ("c.plist/d", TEXT)):
             self.assertEqual((self.folder / name).read_bytes(), octets)
         self.git("fsck", "--strict")
         self.git("rev-parse", "update-Info.plist")
