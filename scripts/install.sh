@@ -17,7 +17,7 @@ place() { # PATH
     fi
     rm -f "$DESTDIR$1"
     folder=$(dirname "$1")
-    while [[ $folder == "$SHARE/plistconv" || $folder == "$SHARE/plistconv"/* || $folder == "$DOC" || $folder == "$DOC"/* ]]; do
+    while case $folder/ in "$SHARE/plistconv/"* | "$DOC/"*) true ;; *) false ;; esac; do
         rmdir "$DESTDIR$folder" 2> /dev/null || break
         folder=$(dirname "$folder")
     done
@@ -38,11 +38,12 @@ print() { # PATH LINE..
     chmod 644 "$DESTDIR$1"
 }
 
-# The pages with the folders that they link to.
+# The pages, with the folders that they link to.
 pages() {
     local file
-    for file in *.md docs/*.md docs/*.svg include/*.h bindings/python/{plistconv/*.py,plistconv/py.typed,pyproject.toml,wheel_of_plistconv.py} \
-        examples/{c/*.c,c/*.cpp,go/go.mod,go/*.go,rust/Cargo.toml,rust/src/*.rs} examples/rust/plistconv-sys/{Cargo.toml,build.rs,src/*.rs}; do
+    for file in *.md docs/*.{md,svg} include/*.h bindings/rows.txt bindings/python/{pyproject.toml,wheel_of_plistconv.py} \
+        bindings/python/plistconv/{__init__.py,py.typed} examples/c/*.{c,cpp} examples/go/{go.mod,*.go} \
+        examples/rust/{Cargo.toml,src/*.rs} examples/rust/plistconv-sys/{Cargo.toml,build.rs,src/*.rs}; do
         put 644 "$file" "$DOC/$file"
     done
 }
