@@ -1,14 +1,22 @@
-"""Runs plistconv beside plistlib: python3 bindings/python/test_plistconv.py"""
+"""Tests plistconv, beside plistlib: python3 bindings/python/test_plistconv.py
+
+PLISTCONV_LIBRARY names the library, as for the module."""
 import concurrent.futures
 import datetime
+import doctest
+import os
 import pickle
 import plistlib
 import random
 import re
+import subprocess
 import sys
 import threading
+import unittest
 
 import plistconv
+
+TOP = os.path.join(os.path.dirname(os.path.abspath(__file__)), "..", "..")
 
 VALUES = [
     {}, [], "", "text", "héé 🙂", b"", b"\x00\xff" * 9, True, False, 0, -1, 2**63 - 1, -2**63, 1.5, -0.0,
@@ -18,6 +26,7 @@ VALUES = [
 
 
 def refused(call, *arguments):
+    """Returns the refusal of a call, or None."""
     try:
         call(*arguments)
     except plistconv.Refused as refusal:
@@ -25,206 +34,251 @@ def refused(call, *arguments):
     return None
 
 
-def test_values():
-    files = []
-    for value in VALUES:
-        ours = plistconv.canonical(plistlib.dumps(value, fmt=plistlib.FMT_BINARY))
-        assert plistlib.loads(ours) == value, value
-        assert plistconv.canonical(ours) == ours, value
-        assert plistconv.check(ours) == plistconv.Finding(True), value
-        files.append(ours)
-    for i, first in enumerate(files):
-        for j, second in enumerate(files):
-            assert plistconv.same(first, second) == (i == j), (i, j)
+class Rows(unittest.TestCase):
+    """The answers of bindings/rows.txt, which every binding gives."""
 
-
-def test_order_of_keys():
-    keys = [f"k{n}" for n in range(50)]
-    dumps = lambda order: plistlib.dumps({k: k for k in order}, fmt=plistlib.FMT_BINARY, sort_keys=False)
-    first = dumps(keys)
-    random.Random(1).shuffle(keys)
-    second = dumps(keys)
-    assert first != second and plistconv.same(first, second)
-    assert plistconv.canonical(first) == plistconv.canonical(second)
-    finding = plistconv.check(second)
-    assert not finding and not finding.canonical and finding.rule is not None and finding.object is not None
-    assert pickle.loads(pickle.dumps(finding)) == finding and plistconv.check(plistconv.canonical(second))
-
-
-def test_texts():
-    octets = b'{ b = (x, "y"); a = <00ff>; }'
-    assert plistlib.loads(plistconv.canonical(octets)) == {"a": b"\x00\xff", "b": ["x", "y"]}
-    assert plistconv.same(octets, plistlib.dumps({"a": b"\x00\xff", "b": ["x", "y"]}, fmt=plistlib.FMT_BINARY))
-
-
-def test_openstep():
-    octets = plistlib.dumps({"b": ["x", "y z"], "a": b"\x00\xff"}, fmt=plistlib.FMT_BINARY)
-    text = plistconv.text(octets)
-    assert plistconv.text(text) == text and plistconv.same(octets, text)
-    assert refused(plistconv.text, plistlib.dumps([1], fmt=plistlib.FMT_BINARY)) == (40, None, None, 1)
-
-
-def test_printed():
-    value = {"b": ["x", 5, 3.25, True, {}], "a": b"\x00\xff", "\u00e9\n": datetime.datetime(2025, 11, 22, 19, 54, 22)}
-    octets = plistlib.dumps(value, fmt=plistlib.FMT_BINARY, sort_keys=False)
-    lines = ["{", '  "a" => <00ff>', '  "b" => [', '    0 => "x"', "    1 => 5", "    2 => 3.25", "    3 => true",
-             "    4 => {}", "  ]", '  "\u00e9\\n" => date 785534062.0 (2025-11-22T19:54:22Z)', "}"]
-    assert plistconv.printed(octets) == "\n".join(lines) + "\n"
-    assert plistconv.printed(b"(a)") == plistconv.printed(plistconv.canonical(b"(a)")) == '[\n  0 => "a"\n]\n'
-    assert refused(plistconv.printed, b"(") == (30, "octet", 1, 1)
-
-
-def test_refusals():
-    assert refused(plistconv.canonical, b"bplist00") == (1, None, None, 1)
-    assert refused(plistconv.check, b"") == (1, None, None, 1)
-    assert refused(plistconv.canonical, b'("a') == (24, "octet", 1, 1)
-    assert refused(plistconv.same, b"(a)", b"{a=1;a=2;}") == (14, "octet", 5, 2)
-    assert refused(plistconv.same, b"(", b"(") [3] == 1
-    uid = plistlib.dumps([plistlib.UID(1)], fmt=plistlib.FMT_BINARY)
-    assert refused(plistconv.canonical, uid) == (9, "object", 1, 1)
-
-
-def test_lines():
-    for octets, line in [
-        (b'("a', b"a b.plist: refused 24 UnclosedString at octet 1"),
-        (b"{a=1;a=2;}", b"a b.plist: refused 14 DuplicateKey at octet 5"),
-        (b"bplist00", b"a b.plist: refused 1 TooShort"),
-        (plistlib.dumps([plistlib.UID(1)], fmt=plistlib.FMT_BINARY), b"a b.plist: refused 9 UidObject at object 1"),
-    ]:
+    @staticmethod
+    def answer(call, octets):
         try:
-            plistconv.canonical(octets)
-        except plistconv.Refused as refusal:
-            assert refusal.line("a b.plist") == line, refusal.line("a b.plist")
-            assert str(refusal) == line.decode()[len("a b.plist: "):], str(refusal)
-            # A path in any octets, and one that is longer than the buffer at first.
-            for path in [b"\xff\xfe", b"p" * 1000]:
-                assert refusal.line(path) == path + line[len(b"a b.plist"):]
-        else:
-            assert False, octets
+            output = call(octets)
+        except plistconv.Refused as refused:
+            return f"{refused.number}/{refused.unit or 'none'}/{refused.place or 0}"
+        if isinstance(output, plistconv.Finding):
+            return "canonical" if output else f"C{output.rule}/{output.object}"
+        return (output.encode() if isinstance(output, str) else output).hex()
+
+    def test_rows(self):
+        calls = plistconv.canonical, plistconv.text, plistconv.printed, plistconv.check
+        with open(os.path.join(TOP, "bindings", "rows.txt"), encoding="ascii") as file:
+            rows = [line.split() for line in file if not line.startswith("#")]
+        self.assertGreater(len(rows), 50)
+        for name, octets, *answers in rows:
+            octets = bytes.fromhex(octets.strip("-"))
+            with self.subTest(name):
+                self.assertEqual([self.answer(call, octets) for call in calls], answers)
+                refused = plistconv.lint(octets)
+                self.assertEqual(refused is None, "/" not in answers[0])
+                if refused is None:
+                    self.assertTrue(plistconv.same(octets, plistconv.canonical(octets)))
 
 
-def test_refusals_between_processes():
-    for octets, place in [(b"{a=1;a=2;}", (14, "octet", 5, 1)), (b"bplist00", (1, None, None, 1))]:
+class Values(unittest.TestCase):
+    def test_values(self):
+        files = []
+        for value in VALUES:
+            with self.subTest(value):
+                ours = plistconv.canonical(plistlib.dumps(value, fmt=plistlib.FMT_BINARY))
+                self.assertEqual(plistlib.loads(ours), value)
+                self.assertEqual(plistconv.canonical(ours), ours)
+                self.assertEqual(plistconv.check(ours), plistconv.Finding(True))
+                files.append(ours)
+        for i, first in enumerate(files):
+            for j, second in enumerate(files):
+                self.assertEqual(plistconv.same(first, second), i == j, (i, j))
+
+    def test_order_of_keys(self):
+        def dumps(order):
+            return plistlib.dumps({key: key for key in order}, fmt=plistlib.FMT_BINARY, sort_keys=False)
+
+        keys = [f"k{n}" for n in range(50)]
+        first = dumps(keys)
+        random.Random(1).shuffle(keys)
+        second = dumps(keys)
+        self.assertNotEqual(first, second)
+        self.assertTrue(plistconv.same(first, second))
+        self.assertEqual(plistconv.canonical(first), plistconv.canonical(second))
+        finding = plistconv.check(second)
+        self.assertFalse(finding or finding.canonical)
+        self.assertNotIn(None, (finding.rule, finding.object))
+        self.assertEqual(pickle.loads(pickle.dumps(finding)), finding)
+        self.assertTrue(plistconv.check(plistconv.canonical(second)))
+
+    def test_texts(self):
+        octets, value = b'{ b = (x, "y"); a = <00ff>; }', {"a": b"\x00\xff", "b": ["x", "y"]}
+        self.assertEqual(plistlib.loads(plistconv.canonical(octets)), value)
+        self.assertTrue(plistconv.same(octets, plistlib.dumps(value, fmt=plistlib.FMT_BINARY)))
+
+    def test_openstep(self):
+        octets = plistlib.dumps({"b": ["x", "y z"], "a": b"\x00\xff"}, fmt=plistlib.FMT_BINARY)
+        text = plistconv.text(octets)
+        self.assertEqual(plistconv.text(text), text)
+        self.assertTrue(plistconv.same(octets, text))
+        number = plistlib.dumps([1], fmt=plistlib.FMT_BINARY)
+        self.assertEqual(refused(plistconv.text, number), (40, None, None, 1))
+
+    def test_printed(self):
+        date = datetime.datetime(2025, 11, 22, 19, 54, 22)
+        value = {"b": ["x", 5, 3.25, True, {}], "a": b"\x00\xff", "\u00e9\n": date}
+        octets = plistlib.dumps(value, fmt=plistlib.FMT_BINARY, sort_keys=False)
+        lines = ["{", '  "a" => <00ff>', '  "b" => [', '    0 => "x"', "    1 => 5", "    2 => 3.25", "    3 => true",
+                 "    4 => {}", "  ]", '  "\u00e9\\n" => date 785534062.0 (2025-11-22T19:54:22Z)', "}"]
+        self.assertEqual(plistconv.printed(octets), "\n".join(lines) + "\n")
+
+    def test_corpus_of_plistlib(self):
+        """The files that the tests of plistlib hold: where both accept one, they read the same."""
         try:
-            plistconv.canonical(octets)
-        except plistconv.Refused as refusal:
-            copy = pickle.loads(pickle.dumps(refusal))
-            assert (copy.number, copy.unit, copy.place, copy.input) == place
-            assert str(copy) == str(refusal) and copy.line("a") == refusal.line("a") and copy.args == refusal.args
-    try:
-        pool = concurrent.futures.ProcessPoolExecutor(1)
-    except (ImportError, NotImplementedError, OSError) as fault:
-        print(f"python: a pool of processes skipped, there are no semaphores ({fault})")
-        return
-    with pool:
-        assert pool.submit(plistconv.canonical, b"{}").result() == plistconv.canonical(b"{}")
-        assert refused(pool.submit(plistconv.canonical, b'("a').result) == (24, "octet", 1, 1)
-
-
-def test_arguments():
-    octets = b"(a, b)"
-    for other in [bytearray(octets), memoryview(octets), memoryview(b")b ,a(")[::-1]]:
-        assert plistconv.canonical(other) == plistconv.canonical(octets)
-    for call in [plistconv.canonical, plistconv.text, plistconv.check]:
-        for wrong in [5, "text", None, [1, 2], 1.5]:
-            try:
-                call(wrong)
-            except TypeError:
-                pass
-            else:
-                assert False, (call, wrong)
-    assert plistconv.same(b"", b"{}")
-
-
-def test_keys():
-    for value in VALUES:
-        octets = plistlib.dumps(value, fmt=plistlib.FMT_BINARY)
+            from test import test_plistlib as corpus
+        except ImportError:
+            self.skipTest("there is no test.test_plistlib (Debian: libpython3-testsuite)")
+        octets = corpus.TESTDATA[plistlib.FMT_BINARY]
         ours = plistconv.canonical(octets)
-        for key in [bytes(16), b"k" * 16, bytearray(range(16))]:
-            assert plistconv.canonical(octets, key) == ours, value
-            assert plistconv.same(octets, ours, key=key) and plistconv.check(ours, key)
-    for wrong in [b"", b"k" * 15, bytes(17)]:
+        self.assertEqual(plistlib.loads(ours), plistlib.loads(octets))
+        self.assertTrue(plistconv.check(ours) and plistconv.same(ours, octets))
+        self.assertEqual(refused(plistconv.canonical, corpus.TESTDATA["KEYED_ARCHIVE"])[0], 9)
+        self.assertEqual(refused(plistconv.canonical, corpus.TESTDATA[plistlib.FMT_XML])[0], 21)
+        # What plistlib refuses is refused, but here a string is any UTF-16 units, and a date any 8 bytes.
+        for name, octets in corpus.INVALID_BINARY_PLISTS:
+            accepted = refused(plistconv.canonical, b"bplist00" + octets) is None
+            self.assertEqual(accepted, name == "invalid UTF-16" or "datetime" in name, name)
+
+
+class Refusals(unittest.TestCase):
+    def test_places(self):
+        self.assertEqual(refused(plistconv.canonical, b"bplist00"), (1, None, None, 1))
+        self.assertEqual(refused(plistconv.check, b""), (1, None, None, 1))
+        self.assertEqual(refused(plistconv.canonical, b'("a'), (24, "octet", 1, 1))
+        self.assertEqual(refused(plistconv.same, b"(a)", b"{a=1;a=2;}"), (14, "octet", 5, 2))
+        self.assertEqual(refused(plistconv.same, b"(", b"("), (30, "octet", 1, 1))
+        uid = plistlib.dumps([plistlib.UID(1)], fmt=plistlib.FMT_BINARY)
+        self.assertEqual(refused(plistconv.canonical, uid), (9, "object", 1, 1))
+
+    def test_enum(self):
+        """The enum has the numbers and names of the library's source, and the library knows each of them."""
+        source = os.path.join(TOP, "crates", "plist_value", "src", "refusals.rt")
+        with open(source, encoding="utf-8") as file:
+            names = re.findall(r"(?m)^    (\w+) = (\d+),$", file.read())
+        wanted = {re.sub(r"(?<=.)([A-Z])", r"_\1", name).upper(): int(number) for name, number in names}
+        self.assertEqual({refusal.name: refusal.value for refusal in plistconv.Refusal}, wanted)
+        for name, number in names:
+            lines = [str(plistconv.Refused(int(number), unit, place))
+                     for unit, place in [(None, None), ("object", 7), ("octet", 7), ("sent", 7)]]
+            self.assertIn(f"{number} {name}", [" ".join(line.split()[:2]) for line in lines])
+        with self.assertRaises(plistconv.Refused) as raised:
+            plistconv.canonical(b"{a;a;}")
+        self.assertIs(raised.exception.refusal, plistconv.Refusal.DUPLICATE_KEY)
+        self.assertRaises(ValueError, lambda: plistconv.Refused(19).refusal)
+        self.assertEqual(str(plistconv.Refused(19)), "refused 19")
+
+    def test_lint(self):
+        self.assertIsNone(plistconv.lint(b"(a, b)"))
+        found = plistconv.lint(b'("a', key=b"k" * 16)
+        self.assertEqual((found.refusal, found.place), (plistconv.Refusal.UNCLOSED_STRING, 1))
+        self.assertIsNone(found.__traceback__)
+
+    def test_lines(self):
+        for octets, line in [
+            (b'("a', b"a b.plist: refused 24 UnclosedString at octet 1"),
+            (b"{a=1;a=2;}", b"a b.plist: refused 14 DuplicateKey at octet 5"),
+            (b"bplist00", b"a b.plist: refused 1 TooShort"),
+            (plistlib.dumps([plistlib.UID(1)], fmt=plistlib.FMT_BINARY), b"a b.plist: refused 9 UidObject at object 1"),
+        ]:
+            found = plistconv.lint(octets)
+            self.assertEqual(found.line("a b.plist"), line)
+            self.assertEqual(str(found), line.decode()[len("a b.plist: refused "):])
+            # A path that is not UTF-8, and one that is longer than the first buffer.
+            for path in [b"\xff\xfe", b"p" * 1000]:
+                self.assertEqual(found.line(path), path + line[len(b"a b.plist"):])
+
+    def test_between_processes(self):
+        for octets, place in [(b"{a=1;a=2;}", (14, "octet", 5, 1)), (b"bplist00", (1, None, None, 1))]:
+            found = plistconv.lint(octets)
+            copy = pickle.loads(pickle.dumps(found))
+            self.assertEqual((copy.number, copy.unit, copy.place, copy.input), place)
+            self.assertEqual((str(copy), copy.line("a"), copy.args), (str(found), found.line("a"), found.args))
         try:
-            plistconv.check(b"", wrong)
-        except ValueError as fault:
-            assert not isinstance(fault, plistconv.Refused), fault
-        else:
-            assert False, wrong
+            pool = concurrent.futures.ProcessPoolExecutor(1)
+        except (ImportError, NotImplementedError, OSError) as fault:
+            self.skipTest(f"there are no semaphores ({fault})")
+        with pool:
+            self.assertEqual(pool.submit(plistconv.canonical, b"{}").result(), plistconv.canonical(b"{}"))
+            self.assertEqual(refused(pool.submit(plistconv.canonical, b'("a').result), (24, "octet", 1, 1))
 
 
-def test_data_that_collide():
-    """Pieces of data that were picked to collide under the fixed seed have one file with a key and without."""
-    zero = 0x9E3779B97F4A7C15.to_bytes(8, "little")
-    octets = plistlib.dumps([n.to_bytes(8, "little") + zero + bytes(16) for n in range(2_000)], fmt=plistlib.FMT_BINARY)
-    keyed = plistconv.canonical(octets)
-    assert plistconv.check(keyed)
-    assert all(plistconv.canonical(octets, key) == keyed for key in (bytes(16), b"k" * 16))
+class Arguments(unittest.TestCase):
+    def test_buffers(self):
+        octets = b"(a, b)"
+        for other in [bytearray(octets), memoryview(octets), memoryview(b")b ,a(")[::-1]]:
+            self.assertEqual(plistconv.canonical(other), plistconv.canonical(octets))
+        for call in [plistconv.canonical, plistconv.text, plistconv.check, plistconv.lint]:
+            for wrong in [5, "text", None, [1, 2], 1.5]:
+                self.assertRaises(TypeError, call, wrong)
+        self.assertTrue(plistconv.same(b"", b"{}"))
+
+    def test_keys(self):
+        for value in VALUES:
+            octets = plistlib.dumps(value, fmt=plistlib.FMT_BINARY)
+            ours = plistconv.canonical(octets)
+            for key in [bytes(16), b"k" * 16, bytearray(range(16))]:
+                self.assertEqual(plistconv.canonical(octets, key), ours)
+                self.assertTrue(plistconv.same(octets, ours, key=key) and plistconv.check(ours, key))
+        for wrong in [b"", b"k" * 15, bytes(17)]:
+            with self.assertRaises(ValueError) as raised:
+                plistconv.check(b"", wrong)
+            self.assertNotIsInstance(raised.exception, plistconv.Refused)
+
+    def test_data_that_collide(self):
+        """Data that were picked to collide under the fixed seed have the same canonical file under any key."""
+        zero = 0x9E3779B97F4A7C15.to_bytes(8, "little")
+        data = [n.to_bytes(8, "little") + zero + bytes(16) for n in range(2_000)]
+        octets = plistlib.dumps(data, fmt=plistlib.FMT_BINARY)
+        keyed = plistconv.canonical(octets)
+        self.assertEqual(plistconv.canonical(octets, bytes(16)), keyed)
+        self.assertEqual(plistlib.loads(keyed), data)
 
 
-def test_versions():
-    assert re.fullmatch(r"\d+\.\d+\.\d+", plistconv.__version__)
-    assert plistconv.library_version() == plistconv.__version__, plistconv.library_version()
+class Module(unittest.TestCase):
+    def test_versions(self):
+        self.assertRegex(plistconv.__version__, r"^\d+\.\d+\.\d+$")
+        self.assertEqual(plistconv.library_version(), plistconv.__version__)
+
+    def test_examples(self):
+        self.assertEqual(doctest.testmod(plistconv).failed, 0)
+
+    def test_missing_library(self):
+        environment = dict(os.environ, PLISTCONV_LIBRARY="/nowhere/libplistconv.so")
+        environment["PYTHONPATH"] = os.path.dirname(os.path.dirname(plistconv.__file__))
+        ended = subprocess.run([sys.executable, "-c", "import plistconv"], env=environment, capture_output=True)
+        last = ended.stderr.decode().splitlines()[-1]
+        self.assertEqual(ended.returncode, 1)
+        self.assertIn("ImportError", last)
+        self.assertIn("PLISTCONV_LIBRARY", last)
+        self.assertIn("/nowhere/libplistconv.so", last)
 
 
-def test_corpus_of_plistlib():
-    """The files that the tests of plistlib hold: where both take one, they read the same of it."""
-    try:
-        from test import test_plistlib as corpus
-    except ImportError:
-        print("python: the corpus of plistlib skipped, there is no test.test_plistlib (Debian: libpython3-testsuite)")
-        return
-    octets = corpus.TESTDATA[plistlib.FMT_BINARY]
-    ours = plistconv.canonical(octets)
-    assert plistlib.loads(ours) == plistlib.loads(octets)
-    assert plistconv.check(ours) and plistconv.same(ours, octets)
-    assert refused(plistconv.canonical, corpus.TESTDATA["KEYED_ARCHIVE"])[0] == 9
-    assert refused(plistconv.canonical, corpus.TESTDATA[plistlib.FMT_XML])[0] == 21
-    # What plistlib refuses is refused, but that here a text is any UTF-16 units, and a date any 8 octets.
-    for name, octets in corpus.INVALID_BINARY_PLISTS:
-        is_taken = refused(plistconv.canonical, b"bplist00" + octets) is None
-        assert is_taken == (name == "invalid UTF-16" or "datetime" in name), name
-
-
-def test_depth():
-    """A value of the greatest depth, 512, in a thread with 1 MiB of stack."""
-    deep = b"(" * 511 + b"a" + b")" * 511
-    seen = []
-
-    def work():
-        file = plistconv.canonical(deep)
-        seen.append(bool(plistconv.check(file)) and plistconv.same(deep, file))
-        seen.append(plistconv.same(deep, plistconv.text(file)))
-        seen.append(refused(plistconv.canonical, b"(" + deep + b")")[0] == 16)
-
-    before = threading.stack_size(1 << 20)
-    thread = threading.Thread(target=work)
-    thread.start()
-    thread.join()
-    threading.stack_size(before)
-    assert seen == [True] * 3, seen
-
-
-def test_threads():
-    octets = [plistlib.dumps(value, fmt=plistlib.FMT_BINARY) for value in VALUES]
-    wanted = [plistconv.canonical(each) for each in octets]
-    wrong = []
-
-    def work():
-        for _ in range(20):
-            if [plistconv.canonical(each) for each in octets] != wanted:
-                wrong.append(1)
-
-    threads = [threading.Thread(target=work) for _ in range(4)]
-    for thread in threads:
-        thread.start()
-    for thread in threads:
+class Threads(unittest.TestCase):
+    def run_with_stack(self, size, work):
+        """Runs `work` in a thread with a stack of `size` bytes."""
+        seen = []
+        before = threading.stack_size(size)
+        thread = threading.Thread(target=lambda: seen.append(work()))
+        try:
+            thread.start()
+        finally:
+            threading.stack_size(before)
         thread.join()
-    assert not wrong
+        self.assertEqual(threading.stack_size(), before)
+        return seen[0]
+
+    def test_depth(self):
+        """Values of the greatest depth, 512, and one level more, in threads with stacks of several sizes."""
+        deep = b"(" * 511 + b"a" + b")" * 511
+
+        def work():
+            file = plistconv.canonical(deep)
+            is_same = plistconv.same(deep, file) and plistconv.same(deep, plistconv.text(file))
+            return is_same, bool(plistconv.check(file)), plistconv.lint(b"(" + deep + b")").number
+
+        for size in [64 << 10, 128 << 10, 1 << 20, 8 << 20]:
+            with self.subTest(size):
+                self.assertEqual(self.run_with_stack(size, work), (True, True, 16))
+
+    def test_many(self):
+        octets = [plistlib.dumps(value, fmt=plistlib.FMT_BINARY) for value in VALUES]
+        wanted = [plistconv.canonical(each) for each in octets]
+        with concurrent.futures.ThreadPoolExecutor(4) as pool:
+            for answers in pool.map(lambda _: [plistconv.canonical(each) for each in octets], range(80)):
+                self.assertEqual(answers, wanted)
 
 
 if __name__ == "__main__":
-    tests = [(name, test) for name, test in sorted(globals().items()) if name.startswith("test_")]
-    for name, test in tests:
-        test()
-    print(f"python: {len(tests)} tests passed")
-    sys.exit(0)
+    unittest.main()
