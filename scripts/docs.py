@@ -232,7 +232,8 @@ def version_faults():
         ("include/plistconv.h", 'PLISTCONV_VERSION "'),
         ("bindings/python/plistconv/__init__.py", '__version__ = "'),
         ("examples/rust/Cargo.toml", 'version = "'),
-        ("examples/rust/plistconv-sys/Cargo.toml", 'version = "'),
+        ("bindings/rust/plistconv/Cargo.toml", 'version = "'),
+        ("bindings/rust/plistconv-sys/Cargo.toml", 'version = "'),
     ):
         if before + version + '"' not in read(file):
             yield f"{file}: its version is not {version}"
