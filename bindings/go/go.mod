@@ -1,0 +1,3 @@
+module plistconv
+
+go 1.17
