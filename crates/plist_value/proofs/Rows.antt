@@ -6,12 +6,12 @@ use Rattle.std.specs.Cmp.Lexicographic.{slice_cmp}
 use Rattle.std.specs.Hash as fed
 use Rattle.std.specs.Int.Signed.{le_z_yes}
 use Rattle.std.proofs.Common.{lit<}
-use Rattle.plist_value.specs.Plist.{text, flag, real8, moment, bytes, scalar, table, no_pairs, pair, AreUnits, IsPlist, IsWhole}
+use Rattle.plist_value.specs.Plist.{flag, real8, moment, scalar, table, no_pairs, pair, AreUnits, IsPlist, IsWhole}
 use Rattle.plist_value.specs.Limits.{nodes, depth, payload}
 use Rattle.plist_value.specs.Texts.{wide_units}
 use Rattle.plist_value.specs.Equality.{scalar_eq}
 use Rattle.plist_value.specs.Hashes.{fed_text}
-use Rattle.plist_value.specs.Rows.{a, swapped, unsorted, mixed}
+use Rattle.plist_value.specs.Rows.{a, swapped, unsorted}
 
 swapped-nodes : nodes swapped ≡ 5
 swapped-nodes = refl
@@ -36,15 +36,6 @@ unsorted-not h = let below : Greater ≡ Less = h.2 in cc
 twice-not : IsPlist (table (pair a (scalar (flag true)) (pair a (scalar (flag true)) no_pairs))) → ⊥
 twice-not h = cc (h.2)
 
-mixed-nodes : nodes mixed ≡ 3
-mixed-nodes = refl
-
-mixed-depth : depth mixed ≡ 2
-mixed-depth = refl
-
-mixed-payload : payload mixed ≡ 1
-mixed-payload = refl
-
 empty-depth : depth (table no_pairs) ≡ 1
 empty-depth = refl
 
@@ -52,15 +43,9 @@ empty-depth = refl
 surrogates-first : slice_cmp nat_cmp (55296 ∷ 56320 ∷ []) (65377 ∷ []) ≡ Less
 surrogates-first = refl
 
-prefix-first : slice_cmp nat_cmp a (97 ∷ 98 ∷ []) ≡ Less
-prefix-first = refl
-
 -- 00 61 d8 00
 wide : wide_units (0 ∷ 97 ∷ 216 ∷ 0 ∷ []) ≡ 97 ∷ 55296 ∷ []
 wide = refl
-
-text-not-bytes : scalar_eq (text a) (bytes a) ≡ false
-text-not-bytes = refl
 
 real-not-moment : (xs : List ℕ) → scalar_eq (real8 xs) (moment xs) ≡ false
 real-not-moment xs = refl

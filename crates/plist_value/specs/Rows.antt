@@ -1,6 +1,6 @@
 -- Small values, of which worked rows speak.
 use Rattle.std.specs.Prelude.{ℕ, List, [], ◌∷◌}
-use Rattle.plist_value.specs.Plist.{text, bytes, Plist, scalar, list, table, no_items, item, no_pairs, pair}
+use Rattle.plist_value.specs.Plist.{text, Plist, scalar, table, no_pairs, pair}
 
 abbrev pub a : List ℕ
 a = 97 ∷ []
@@ -15,7 +15,3 @@ swapped = table (pair a (scalar (text b)) (pair b (scalar (text a)) no_pairs))
 -- the same pairs, the later key first
 abbrev pub unsorted : Plist
 unsorted = table (pair b (scalar (text a)) (pair a (scalar (text b)) no_pairs))
-
--- a list of the octets 61, and of an empty list
-abbrev pub mixed : Plist
-mixed = list (item (scalar (bytes a)) (item (list no_items) no_items))
