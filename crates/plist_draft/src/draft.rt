@@ -17,10 +17,10 @@ ghost use Rattle.plist_draft.specs.Wanted.{IsShortAscii};
 ghost use Rattle.plist_draft.specs.OneProof.{IsDraft-prop};
 ghost use Rattle.plist_draft.specs.Told.{SpellsIn, SpellItemsIn, SpellPairsIn, Keeps, Shows};
 
-use crate::ends::{are_octets, put_places, put_trailer};
+use crate::ends::{are_octets, put_places};
 use crate::recent::{Recent, Role, hash_of};
 use crate::wanted::Wanted;
-use plist_object::{HEADER, put_scalar, put_short_list, put_short_table};
+use plist_object::{HEADER, put_scalar, put_short_list, put_short_table, put_trailer, short};
 use plist_value::ScalarRef;
 use std::alloc::{AllocError, Global};
 
@@ -109,7 +109,7 @@ impl Draft {
             self.recent.hit(role);
             return Ok(same);
         }
-        let start = short(self.octets.len())?;
+        let start = short(self.octets.len() as u64)?;
         let number = self.put_scalar(scalar)?;
         self.recent.keep(role, hash, number, start);
         Ok(number)
@@ -211,7 +211,7 @@ impl Draft {
         let place = octets.len() as u64;
         octets.reserve_exact(4 * places.len() + 32)?;
         put_places(&mut octets, &places)?;
-        put_trailer(&mut octets, count, u64::from(top), place)?;
+        put_trailer(&mut octets, 4, 4, count, u64::from(top), place)?;
         are_octets(&octets);
         Ok(octets)
     }
@@ -224,26 +224,18 @@ impl Draft {
         ensures place { IfOk result (λ next. next.1 ≡ length self.old.octets.items) }
         ensures room { OnOk result (vec_len self.new.places < vec_capacity self.new.places) }
     {
-        let number = short(self.places.len())?;
-        let place = short(self.octets.len())?;
+        let number = short(self.places.len() as u64)?;
+        let place = short(self.octets.len() as u64)?;
         self.places.reserve(1)?;
         Ok((number, place))
     }
-}
-
-// The number in 32 bits. No number of a value within the limits passes them.
-fn short(number: usize) -> Result<u32, AllocError>
-    ensures value { IfOk result (λ short. short ≡ number) }
-    ensures small { OnOk result (number < 2 ^ 32) }
-{
-    u32::try_from(number).map_err(|_| AllocError)
 }
 
 // Whether there are below 2^32 references, each of which has four octets.
 fn are_kept(refs: &[u32]) -> Result<(), AllocError>
     ensures { OnOk result (AreKept refs.now) }
 {
-    short(refs.len())?;
+    short(refs.len() as u64)?;
     Ok(())
 }
 
@@ -278,8 +270,8 @@ fn is_small(scalar: &ScalarRef) -> Result<(), AllocError>
     ensures { OnOk result (IsSmall (content_of scalar.now)) }
 {
     match scalar {
-        ScalarRef::Text(text) => short(text.len()).map(|_| ()),
-        ScalarRef::Bytes(octets) => short(octets.len()).map(|_| ()),
+        ScalarRef::Text(text) => short(text.len() as u64).map(|_| ()),
+        ScalarRef::Bytes(octets) => short(octets.len() as u64).map(|_| ()),
         _ => Ok(()),
     }
 }

@@ -1,5 +1,5 @@
-//! How many octets an object has in its canonical spelling.
-ghost use Rattle.std.specs.Prelude.{◌≡◌, ◌+◌, ◌*◌, ◌<◌, ◌^◌, length, List, ℕ};
+//! How many octets a number, or an object in its canonical spelling, has.
+ghost use Rattle.std.specs.Prelude.{◌≡◌, ◌+◌, ◌*◌, ◌<◌, ◌^◌, ◌↔◌, length, List, ℕ, IfOk, IsOk};
 ghost use Rattle.plist_value.specs.Plist.{IsWhole};
 ghost use Rattle.plist_value.specs.Texts.{units_of};
 ghost use Rattle.plist_value.specs.Scalars.{content_of};
@@ -8,6 +8,7 @@ ghost use Rattle.plist_object.specs.Spelling.{table_spelling, whole_spelling, te
 ghost use Rattle.plist_object.specs.Sizes.{IsSmall, IsWidth, head_size};
 
 use plist_value::{ScalarRef, TextRef};
+use std::alloc::AllocError;
 
 /// The least of 1, 2, 4 and 8 octets that holds `n`.
 pub fn width_of(n: u64) -> u8
@@ -23,6 +24,19 @@ pub fn width_of(n: u64) -> u8
     } else {
         8
     }
+}
+
+/// The number in 32 bits. No number of a value within the limits passes them, nor that of an object
+/// of a file that is within the limit of input.
+///
+/// # Errors
+///
+/// Where the number is 2^32 or above: there is no memory for so many objects.
+pub fn short(number: u64) -> Result<u32, AllocError>
+    ensures value { IfOk result (λ short. short ≡ number) }
+    ensures fits { IsOk result ↔ number < 2 ^ 32 }
+{
+    u32::try_from(number).map_err(|_| AllocError)
 }
 
 /// How many octets the canonical spelling of a scalar has. A text or data has below 2^32 units or

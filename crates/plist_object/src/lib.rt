@@ -19,11 +19,12 @@ mod texts;
 
 pub use keys::Keys;
 pub use layout::{BinFile, LayoutFault, Spanned};
-pub use lengths::{list_length, scalar_length, table_length, width_of};
+pub use lengths::{list_length, scalar_length, short, table_length, width_of};
 pub use markers::HEADER;
 pub use object::{Object, ObjectFault};
 pub use puts::{
     put_data_head, put_list, put_number, put_scalar, put_short_list, put_short_table, put_table,
+    put_trailer,
 };
 pub use ranks::Ranks;
 pub use refs::Refs;

@@ -6,6 +6,7 @@ ghost use Rattle.plist_value.specs.Plist.{IsWhole};
 ghost use Rattle.plist_value.specs.Texts.{units_of};
 ghost use Rattle.plist_value.specs.Scalars.{content_of};
 ghost use Rattle.plist_object.specs.Appending.{Appends, HasRoom};
+ghost use Rattle.plist_object.specs.Files.{trailer_with};
 ghost use Rattle.plist_object.specs.Sizes.{IsSmall, IsWidth};
 ghost use Rattle.plist_object.specs.Spelling.{head, least_integer, list_spelling};
 ghost use Rattle.plist_object.specs.Spelling.{references, table_spelling, scalar_spelling};
@@ -189,6 +190,29 @@ pub fn put_number(out: &mut Vec<u8>, width: u8, n: u64) -> Result<(), AllocError
 {
     out.reserve(usize::from(width))?;
     push_number(out, n, width);
+    Ok(())
+}
+
+/// Puts the last 32 octets of a file behind the octets of `out`, which stay as they are where there
+/// is no memory: the widths of an offset and of a reference, how many objects there are, the number
+/// of the top object, and the place of the offset table.
+pub fn put_trailer(
+    out: &mut Vec<u8>,
+    offset_width: u8,
+    reference_width: u8,
+    count: u64,
+    top: u64,
+    place: u64,
+) -> Result<(), AllocError>
+    ensures ok { OnOk result (out.new.items
+        ≡ out.old.items ++ trailer_with offset_width reference_width count top place) }
+    ensures err { OnErr result (out.new.items ≡ out.old.items) }
+{
+    out.reserve(32)?;
+    push_octets(out, &[0, 0, 0, 0, 0, 0, offset_width, reference_width]);
+    push_number(out, count, 8);
+    push_number(out, top, 8);
+    push_number(out, place, 8);
     Ok(())
 }
 

@@ -8,7 +8,7 @@ use Rattle.plist_draft.proofs.draft.Draft.finish.Goals.{After-are_octets}
 is_file : (c : After-are_octets) → c.put_trailer.new.out.items ≡ draft_file c.args.top (objects c.args.self)
 is_file c =
     let entries = rw (c.deref.ensures.value, c.reserve_exact.ensures.items) at c.in_ok-put_places.ensures.put in
-    let ended = rw (c.len-count.ensures, c.len-place.ensures, c.from.ensures, c.args.self.places.ok.0, c.args.self.octets.ok.0) at c.in_ok-put_trailer.ensures in
+    let ended = rw (c.len-count.ensures, c.len-place.ensures, c.from.ensures, c.args.self.places.ok.0, c.args.self.octets.ok.0) at c.in_ok-put_trailer.ensures.ok in
     file-parts _ _ _ _ c.args.top c.args.self.laid entries ended
 
 pub returns-clause-file : goal.returns-clause-file
