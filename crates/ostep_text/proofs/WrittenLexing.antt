@@ -13,7 +13,8 @@ use Rattle.ostep_lex.specs.Lexeme.{Lexeme, brace_open, brace_close, paren_open, 
 use Rattle.ostep_text.specs.Sorting
 use Rattle.ostep_text.specs.Sorting.{AreReordered, IsAscending}
 use Rattle.ostep_text.specs.Phrase.{Phrase, a_string, some_data, a_list, a_table, ItemsPhrase, items_end, an_item, RowsPhrase, with_value, rows_end, a_row}
-use Rattle.ostep_text.specs.Written.{is_writable, are_writable_items, are_writable_pairs, two_digits, written_data, is_plain, quoted_unit, written_text, written, written_items, written_pairs, are_alphanumeric}
+use Rattle.ostep_text.specs.Written.{is_writable, are_writable_items, are_writable_pairs, written_data, is_plain, quoted_unit, written_text, written, written_items, written_pairs, are_alphanumeric}
+use Rattle.plist_value.specs.Digits.{two_digits}
 use Rattle.ostep_lex.specs.Character.{is_octal, is_run, is_white}
 use Rattle.ostep_lex.specs.Digits.{Number, hexadecimal_number, begins_digit}
 use Rattle.ostep_lex.specs.Quoted

@@ -1,9 +1,10 @@
 -- The text that is written for a value.
 use Rattle.std.specs.Prelude.{ℕ, ◌/◌, ◌%◌, Bool, true, false, not, ◌&&◌, ◌==◌, List, [], ◌∷◌, ◌++◌, Option, Some, None, nat_eq, if◌then◌else◌, codes, flat_map}
-use Rattle.std.specs.Char.{digit_char, is_ascii_alphanumeric}
+use Rattle.std.specs.Char.{is_ascii_alphanumeric}
 use Rattle.std.specs.Int.{is_in_range}
 use Rattle.std.specs.List.{starts_with}
 use Rattle.plist_value.specs.Plist.{Scalar, text, bytes, Plist, scalar, list, table, Items, no_items, item, Pairs, no_pairs, pair}
+use Rattle.plist_value.specs.Digits.{two_digits}
 
 -- texts and data, and lists and tables of such
 abbrev pub is_writable_scalar : Scalar → Bool
@@ -24,10 +25,6 @@ abbrev mutual
   pub are_writable_pairs : Pairs → Bool
   are_writable_pairs no_pairs = true
   are_writable_pairs (pair key v ps) = is_writable v && are_writable_pairs ps
-
--- an octet as two lower-case hexadecimal digits
-abbrev pub two_digits : ℕ → List ℕ
-two_digits x = digit_char (x / 16) ∷ digit_char (x % 16) ∷ []
 
 -- `<`, the octets, `>`
 abbrev pub written_data : List ℕ → List ℕ

@@ -3,11 +3,12 @@ ghost use Rattle.std.specs.Prelude.{◌≡◌, ◌<◌, ◌≤◌, [], ◌∷◌
 ghost use Rattle.std.specs.Prelude.{length, take, drop, codes, flat_map, OnOk, IfOk};
 ghost use Rattle.std.specs.Bool.{OnTrue};
 ghost use Rattle.std.specs.List.{starts_with};
-ghost use Rattle.std.specs.Char.{digit_char, is_ascii_alphanumeric};
+ghost use Rattle.std.specs.Char.{is_ascii_alphanumeric};
 ghost use Rattle.ostep_text.specs.Ascii.{are_ascii};
 ghost use Rattle.ostep_text.specs.Written.{are_alphanumeric, is_plain, quoted_unit};
-ghost use Rattle.ostep_text.specs.Written.{two_digits, written_data, written_text};
+ghost use Rattle.ostep_text.specs.Written.{written_data, written_text};
 
+use plist_value::{digits_of, put_digits};
 use std::alloc::AllocError;
 
 /// The octets as data, behind what `out` has.
@@ -16,29 +17,9 @@ pub(crate) fn put_data(out: &mut Vec<u8>, octets: &[u8]) -> Result<(), AllocErro
 {
     out.reserve(octets.len().saturating_mul(2).saturating_add(2))?;
     out.push(b'<')?;
-    for octet in octets {
-        out.extend_from_slice(&digits_of(*octet))?;
-    }
+    put_digits(out, octets)?;
     out.push(b'>')?;
     Ok(())
-}
-
-// The two hexadecimal digits of an octet.
-fn digits_of(octet: u8) -> [u8; 2]
-    ensures { result ≡ two_digits octet }
-{
-    [digit(octet / 16), digit(octet % 16)]
-}
-
-fn digit(value: u8) -> u8
-    requires { value < 16 }
-    ensures { result ≡ digit_char value }
-{
-    if value < 10 {
-        b'0' + value
-    } else {
-        b'a' + (value - 10)
-    }
 }
 
 /// The text of these units, without quotes where it is plain, behind what `out` has.

@@ -13,3 +13,4 @@ pub mod EqualityLaws
 pub mod Laws
 pub mod Rows
 pub mod Refusals
+pub mod Digits
