@@ -4,10 +4,10 @@ use Rattle.std.specs.Borrow.{Bor}
 use Rattle.clap.specs.Words.{Kinds, Text, fault_of, subcommand_of}
 use Rattle.clap.proofs.OnLiterals.{clap_on_literals}
 use Rattle.clap.specs.declared.error.ErrorKind.TheVariants as kind
-use Rattle.plist_convert.specs.Asked.{Asked, Checks, Compares, Converts, Lints, Prints, asked_at}
+use Rattle.plist_convert.specs.Asked.{Asked, Checks, Compares, Converts, asked_at}
 use Rattle.plist_convert.specs.CommandLine.{NamesForms, program}
 use Rattle.plist_convert.specs.Reading.{IsParse}
-use Rattle.plist_forms.specs.declared.forms.Form.TheVariants.{Binary1, OpenStep}
+use Rattle.plist_forms.specs.declared.forms.Form.TheVariants.{Binary1}
 use Rattle.plist_convert.proofs.CommandLine.{forms_at}
 
 named_forms : (forms : Bor (List (Bor Text))) → NamesForms forms
@@ -58,33 +58,17 @@ asks words it taken each kinds asked parse =
           ∙ ap (λ forms. asked_at (subcommand_of (program forms) words)) names.3 ∙ each names.0 names.1 names.2,
     )
 
-version : FailsAs (codes "plistconv" ∷ (codes "--version" ∷ [])) (kind.DisplayVersion ∷ [])
-unfolding clap_on_literals
-version = fails _ _ (λ p q r. refl)
-
 help : FailsAs (codes "plistconv" ∷ (codes "--help" ∷ [])) (kind.DisplayHelp ∷ [])
 unfolding clap_on_literals
 help = fails _ _ (λ p q r. refl)
-
-help-check : FailsAs (codes "plistconv" ∷ (codes "check" ∷ (codes "-h" ∷ []))) (kind.DisplayHelp ∷ [])
-unfolding clap_on_literals
-help-check = fails _ _ (λ p q r. refl)
 
 no-such-word : FailsAs (codes "plistconv" ∷ (codes "turn" ∷ (codes "a" ∷ []))) (kind.UnknownArgument ∷ (kind.InvalidSubcommand ∷ []))
 unfolding clap_on_literals
 no-such-word = fails _ _ (λ p q r. refl)
 
-no-such-form : FailsAs (codes "plistconv" ∷ (codes "convert" ∷ (codes "binary2" ∷ (codes "a" ∷ (codes "b" ∷ []))))) (kind.InvalidValue ∷ [])
-unfolding clap_on_literals
-no-such-form = fails _ _ (λ p q r. refl)
-
 no-out : FailsAs (codes "plistconv" ∷ (codes "convert" ∷ (codes "binary1" ∷ (codes "a" ∷ [])))) (kind.MissingRequiredArgument ∷ [])
 unfolding clap_on_literals
 no-out = fails _ _ (λ p q r. refl)
-
-no-second : FailsAs (codes "plistconv" ∷ (codes "same" ∷ (codes "a" ∷ []))) (kind.MissingRequiredArgument ∷ [])
-unfolding clap_on_literals
-no-second = fails _ _ (λ p q r. refl)
 
 no-subcommand : FailsAs (codes "plistconv" ∷ (codes "--" ∷ [])) (kind.MissingSubcommand ∷ [])
 unfolding clap_on_literals
@@ -94,25 +78,9 @@ to-binary : AsksFor (codes "plistconv" ∷ (codes "convert" ∷ (codes "binary1"
 unfolding clap_on_literals
 to-binary = asks _ _ (λ p q r. refl) (λ p q r. refl)
 
-to-text : AsksFor (codes "plistconv" ∷ (codes "convert" ∷ (codes "openstep" ∷ (codes "a" ∷ (codes "b" ∷ []))))) (Converts OpenStep (codes "a") (codes "b"))
-unfolding clap_on_literals
-to-text = asks _ _ (λ p q r. refl) (λ p q r. refl)
-
 compares : AsksFor (codes "plistconv" ∷ (codes "same" ∷ (codes "a" ∷ (codes "b" ∷ [])))) (Compares (codes "a") (codes "b"))
 unfolding clap_on_literals
 compares = asks _ _ (λ p q r. refl) (λ p q r. refl)
-
-lints : AsksFor (codes "plistconv" ∷ (codes "lint" ∷ (codes "a" ∷ []))) (Lints (codes "a"))
-unfolding clap_on_literals
-lints = asks _ _ (λ p q r. refl) (λ p q r. refl)
-
-checks : AsksFor (codes "plistconv" ∷ (codes "check" ∷ (codes "a" ∷ []))) (Checks (codes "a"))
-unfolding clap_on_literals
-checks = asks _ _ (λ p q r. refl) (λ p q r. refl)
-
-prints : AsksFor (codes "plistconv" ∷ (codes "print" ∷ (codes "a" ∷ []))) (Prints (codes "a"))
-unfolding clap_on_literals
-prints = asks _ _ (λ p q r. refl) (λ p q r. refl)
 
 a-path-behind-two-lines : AsksFor (codes "plistconv" ∷ (codes "check" ∷ (codes "--" ∷ (codes "-x" ∷ [])))) (Checks (codes "-x"))
 unfolding clap_on_literals

@@ -6,7 +6,6 @@ ghost use Rattle.plist_convert.specs.Answer.{accepted_said, equality_said, refus
 use crate::verdicts::{verdict_line, verdict_status};
 use plist_canon::check_with_hasher;
 use plist_forms::{Fault, PairFault, Status, judge_any, line, same_files_with_hasher};
-use plist_value::FixedHasher;
 use std::alloc::{AllocError, Global};
 use std::hash::BuildHasher;
 
@@ -21,23 +20,14 @@ pub struct Answer {
 /// the canonical file of a value within the limits; `broken C7 at object 0` and 1 with a rule that
 /// is false; the line of a refusal where the octets do not have the layout.
 ///
-/// # Errors
-///
-/// Where no memory is left for the line.
-pub fn check_answer(alloc: Global, path: &str, octets: &[u8]) -> Result<Answer, AllocError>
-    ensures { IfOk result (λ answer. IsCheckAnswer path.now octets.now (said_of answer)) }
-{
-    check_answer_with_hasher(alloc, FixedHasher::new(), path, octets)
-}
-
-/// The same as [`check_answer`], where scalars are hashed by what the builder makes. Where somebody
-/// else picks the octets, hand it a [`RandomState`](std::hash::RandomState): scalars that were
-/// picked to collide under [`FixedHasher`] cost no more than others then.
+/// Scalars are hashed by what the builder makes. Where somebody else picks the octets, hand it a
+/// [`RandomState`](std::hash::RandomState): scalars that were picked to collide under
+/// [`FixedHasher`](plist_value::FixedHasher) cost no more than others then.
 ///
 /// # Errors
 ///
 /// Where no memory is left for the line.
-pub fn check_answer_with_hasher<H: BuildHasher + Copy>(
+pub fn check_answer<H: BuildHasher + Copy>(
     alloc: Global,
     hasher: H,
     path: &str,
@@ -71,31 +61,13 @@ pub fn lint_answer(alloc: Global, path: &str, octets: &[u8]) -> Result<Answer, A
 
 /// What `same` answers for the octets of two files: `equal` and 0 exactly where they spell equal
 /// values, `different` and 1 where they spell others, and the line of a refusal under the path of
-/// the file that is refused, the second only where the first is accepted.
+/// the file that is refused, the second only where the first is accepted. Scalars are hashed by
+/// what the builder makes, as [`check_answer`] says.
 ///
 /// # Errors
 ///
 /// Where no memory is left for the line.
-pub fn same_answer(
-    alloc: Global,
-    first: &str,
-    second: &str,
-    a: &[u8],
-    b: &[u8],
-) -> Result<Answer, AllocError>
-    ensures { IfOk result (λ answer.
-        IsSameAnswer first.now second.now a.now b.now (said_of answer)) }
-{
-    same_answer_with_hasher(alloc, FixedHasher::new(), first, second, a, b)
-}
-
-/// The same as [`same_answer`], where scalars are hashed by what the builder makes, as
-/// [`check_answer_with_hasher`] says.
-///
-/// # Errors
-///
-/// Where no memory is left for the line.
-pub fn same_answer_with_hasher<H: BuildHasher + Copy>(
+pub fn same_answer<H: BuildHasher + Copy>(
     alloc: Global,
     hasher: H,
     first: &str,

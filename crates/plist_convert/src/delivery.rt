@@ -4,7 +4,7 @@ ghost use Rattle.std.specs.Io.Buffered.{writer_contents};
 ghost use Rattle.plist_convert.specs.Delivery.{Delivers, Finishes, IsEmpty, reached};
 
 use plist_devices::Stream;
-use plist_forms::{Fault, Form, convert_octets_with_hasher};
+use plist_forms::{Fault, Form, convert_octets};
 use std::alloc::Global;
 use std::hash::BuildHasher;
 use std::io::{BufWriter, Write};
@@ -29,13 +29,7 @@ pub(crate) fn deliver<H: BuildHasher + Copy, W: Write + Drop>(
         (W.contents result.0) result.1 }
 {
     let mut writer = to;
-    let sent = convert_octets_with_hasher(
-        alloc,
-        hasher,
-        octets,
-        &mut Stream::new(&mut writer),
-        form,
-    );
+    let sent = convert_octets(alloc, hasher, octets, &mut Stream::new(&mut writer), form);
     finish(writer, sent)
 }
 

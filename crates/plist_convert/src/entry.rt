@@ -37,13 +37,7 @@ pub fn run<R: Files, I: Read, O: Write>(
     ensures { IsHostRun (map (λ word. word.now) words.now) (I.remaining input.old)
         (O.contents output.old) (O.contents output.new) result }
 {
-    run_on(
-        alloc,
-        &mut HostDisk::new(rt),
-        words,
-        &mut ReaderSource::new(input),
-        &mut Stream::new(output),
-    )
+    run_last(rt, alloc, FixedHasher::new(), words, input, output)
 }
 
 /// [`run`], where scalars are hashed by a [`RandomState`] that is made once, so that nobody can
@@ -77,46 +71,19 @@ fn run_last<H: BuildHasher + Copy, R: Files, I: Read, O: Write>(
     ensures { IsHostRun (map (λ word. word.now) words.now) (I.remaining input.old)
         (O.contents output.old) (O.contents output.new) result }
 {
-    let mut disk = HostDisk::with_hasher(rt, hasher);
+    let mut disk = HostDisk::new(rt, hasher);
     let mut source = ReaderSource::new(input);
     let mut sink = Stream::new(output);
-    run_on_with_hasher(alloc, hasher, &mut disk, words, &mut source, &mut sink)
+    run_on(alloc, hasher, &mut disk, words, &mut source, &mut sink)
 }
 
 /// The whole program over any disk and streams, as [`run`] over the files of the host.
-pub fn run_on<D: Disk, S: Source, W: Sink>(
-    alloc: Global,
-    disk: &mut D,
-    words: &[&str],
-    input: &mut S,
-    output: &mut W,
-) -> u8
-    ensures run { IsRun (map (λ word. word.now) words.now)
-        (input_of (S.remaining input.old) (S.failures input.old))
-        (input_of (S.remaining input.new) (S.failures input.new))
-        (state (D.files disk.old) (D.failures disk.old)
-        (W.taken output.old) (W.failures output.old))
-        (state (D.files disk.new) (D.failures disk.new)
-        (W.taken output.new) (W.failures output.new))
-        result }
-    ensures same { W.device output.new ≡ W.device output.old }
-    // 4 comes only where a device failed.
-    ensures blamed { result ≡ 4 → DeviceFailed
-        (input_of (S.remaining input.old) (S.failures input.old))
-        (input_of (S.remaining input.new) (S.failures input.new))
-        (state (D.files disk.old) (D.failures disk.old)
-        (W.taken output.old) (W.failures output.old))
-        (state (D.files disk.new) (D.failures disk.new)
-        (W.taken output.new) (W.failures output.new)) }
-{
-    run_on_with_hasher(alloc, FixedHasher::new(), disk, words, input, output)
-}
-
-/// The same as [`run_on`], where scalars are hashed by what the builder makes. Where somebody else
-/// picks what is converted, compared or checked, hand it a [`RandomState`]: scalars that were
-/// picked to collide under [`FixedHasher`] cost no more than others then. What is stored the disk
-/// converts, by a builder of its own.
-pub fn run_on_with_hasher<H: BuildHasher + Copy, D: Disk, S: Source, W: Sink>(
+///
+/// Scalars are hashed by what the builder makes. Where somebody else picks what is converted,
+/// compared or checked, hand it a [`RandomState`]: scalars that were picked to collide under
+/// [`FixedHasher`] cost no more than others then. What is stored the disk converts, by a builder of
+/// its own.
+pub fn run_on<H: BuildHasher + Copy, D: Disk, S: Source, W: Sink>(
     alloc: Global,
     hasher: H,
     disk: &mut D,

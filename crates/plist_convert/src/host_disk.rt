@@ -28,25 +28,13 @@ pub struct HostDisk<'a, R, H = FixedHasher> {
     failures: u64,
 }
 
-impl<'a, R: Files> HostDisk<'a, R> {
-    ghost use Rattle.plist_convert.specs.HostDisk.{failures_of};
-
-    /// The files that this runtime reaches.
-    pub fn new(rt: &'a R) -> HostDisk<'a, R>
-        ensures { failures_of result ≡ 0 }
-    {
-        HostDisk::with_hasher(rt, FixedHasher::new())
-    }
-}
-
 impl<'a, R: Files, H: BuildHasher + Copy> HostDisk<'a, R, H> {
     ghost use Rattle.plist_convert.specs.HostDisk.{failures_of};
 
-    /// The same as [`new`](HostDisk::new), where scalars are hashed by what the builder makes.
-    /// Where somebody else picks what is converted, hand it a
-    /// [`RandomState`](std::hash::RandomState): scalars that were picked to collide under
-    /// [`FixedHasher`] cost no more than others then.
-    pub fn with_hasher(rt: &'a R, hasher: H) -> HostDisk<'a, R, H>
+    /// The files that this runtime reaches. Scalars are hashed by what the builder makes: where
+    /// somebody else picks what is converted, hand it a [`RandomState`](std::hash::RandomState).
+    /// Scalars that were picked to collide under [`FixedHasher`] cost no more than others then.
+    pub fn new(rt: &'a R, hasher: H) -> HostDisk<'a, R, H>
         ensures { failures_of result ≡ 0 }
     {
         HostDisk {

@@ -21,7 +21,7 @@ mod verdicts;
 mod words;
 
 pub use disks::Disk;
-pub use entry::{run, run_on, run_on_with_hasher, run_to_end};
+pub use entry::{run, run_on, run_to_end};
 pub use host_disk::HostDisk;
 pub use memory_disk::MemoryDisk;
 pub use plist_devices::{

@@ -5,6 +5,7 @@ ghost use Rattle.plist_forms.specs.Transfer.{Writes};
 
 use plist_devices::{DeviceFault, ListSink, Sink};
 use plist_forms::{Fault, Form, convert_octets};
+use plist_value::FixedHasher;
 use std::alloc::{AllocError, Global};
 use std::marker::{Brand, PhantomData};
 
@@ -67,6 +68,6 @@ pub(crate) fn fill<K: Room>(
         sink: ListSink::new(alloc, room, step)?,
         room: PhantomData,
     };
-    let sent = convert_octets(alloc, octets, &mut file, form);
+    let sent = convert_octets(alloc, FixedHasher::new(), octets, &mut file, form);
     Ok((file.sink, sent))
 }

@@ -5,7 +5,7 @@ ghost use Rattle.plist_convert.specs.Runs.{IsSameRun};
 ghost use Rattle.plist_convert.specs.Runs.{path_of_fault};
 ghost use Rattle.plist_convert.specs.State.{state};
 
-use crate::answers::{check_answer_with_hasher, lint_answer, same_answer_with_hasher};
+use crate::answers::{check_answer, lint_answer, same_answer};
 use crate::disks::Disk;
 use crate::filtering::STANDARD;
 use crate::printing::{give, report};
@@ -31,10 +31,7 @@ pub(crate) fn check_file<H: BuildHasher + Copy, D: Disk, W: Sink>(
     ensures same { W.device output.new ≡ W.device output.old }
 {
     match disk.load(alloc, path) {
-        Ok(octets) => give(
-            output,
-            check_answer_with_hasher(alloc, hasher, path, octets.as_slice()),
-        ),
+        Ok(octets) => give(output, check_answer(alloc, hasher, path, octets.as_slice())),
         Err(fault) => report(alloc, path, &fault, output),
     }
 }
@@ -84,11 +81,11 @@ pub(crate) fn compare_files<H: BuildHasher + Copy, D: Disk, W: Sink>(
     match disk.load_unless(alloc, second, a.as_slice()) {
         Ok(Some(b)) => give(
             output,
-            same_answer_with_hasher(alloc, hasher, first, second, a.as_slice(), b.as_slice()),
+            same_answer(alloc, hasher, first, second, a.as_slice(), b.as_slice()),
         ),
         Ok(None) => give(
             output,
-            same_answer_with_hasher(alloc, hasher, first, second, a.as_slice(), a.as_slice()),
+            same_answer(alloc, hasher, first, second, a.as_slice(), a.as_slice()),
         ),
         Err(fault) => report(alloc, second, &fault, output),
     }

@@ -2,7 +2,7 @@
 use Rattle.std.proofs.Common.{◌≡◌, refl, codes}
 use Rattle.std.specs.Fmt.{digits}
 use Rattle.plist_binary.specs.declared.fault.BinaryFault.TheVariants as binary
-use Rattle.plist_forms.specs.declared.faults.Fault.TheVariants.{Binary, ReadFailed, WriteFailed}
+use Rattle.plist_forms.specs.declared.faults.Fault.TheVariants.{Binary, WriteFailed}
 use Rattle.plist_forms.specs.Fault.{code_of, status_for, fault_for}
 use Rattle.plist_forms.specs.Line.{line_of}
 
@@ -10,24 +10,10 @@ line-object : line_of (codes "PATH") (Binary (binary.NotAscii 0)) ≡ codes "PAT
 unfolding digits
 line-object = refl
 
-line-plain : line_of (codes "PATH") (Binary binary.TooShort) ≡ codes "PATH: refused 1 TooShort"
-unfolding digits
-line-plain = refl
-
 line-sent : line_of (codes "PATH") (WriteFailed 10) ≡ codes "PATH: refused 51 WriteFailed after 10 octets"
 unfolding digits
 line-sent = refl
 
-line-standard : line_of (codes "-") ReadFailed ≡ codes "-: refused 50 ReadFailed"
-unfolding digits
-line-standard = refl
-
 -- the reader's want of memory is this crate's, before anything went out
 status-memory : status_for (code_of (fault_for binary.OutOfMemory)) ≡ 5
 status-memory = refl
-
-status-refused : status_for (code_of (fault_for binary.TooShort)) ≡ 2
-status-refused = refl
-
-status-written : status_for (code_of (WriteFailed 10)) ≡ 4
-status-written = refl

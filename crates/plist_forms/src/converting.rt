@@ -93,14 +93,15 @@ pub fn convert_with_hasher<H: BuildHasher + Copy, S: Source, W: Sink>(
         (λ taken. IsErrOf result Fault.InputTooLarge ↔ (MAX_INPUT < length taken)) }
 {
     let octets = load(alloc, from)?;
-    convert_octets_with_hasher(alloc, hasher, octets, to, form)
+    convert_octets(alloc, hasher, octets, to, form)
 }
 
 /// Sends the value that the octets spell, in either form, to the sink, and answers how many octets
 /// were sent.
 ///
 /// It is [`convert`] of octets that were loaded, and they are given up: those of a text before the
-/// first put, those of a binary file whose canonical file is asked for when that is sent.
+/// first put, those of a binary file whose canonical file is asked for when that is sent. Scalars
+/// are hashed by what the builder makes, as [`convert_with_hasher`] says.
 ///
 /// # Errors
 ///
@@ -108,27 +109,7 @@ pub fn convert_with_hasher<H: BuildHasher + Copy, S: Source, W: Sink>(
 /// value has no text; `WriteFailed` (51) where the sink fails. Want of memory (60) may come before
 /// any of them. After 51 and 60 exactly the first `sent` octets of the output went out, and after
 /// any other the sink is untouched.
-pub fn convert_octets<W: Sink>(
-    alloc: Global,
-    octets: Vec<u8>,
-    to: &mut W,
-    form: Form,
-) -> Result<u64, Fault>
-    ensures writes { Writes form octets.items (W.taken to.old) (W.taken to.new)
-        (W.failures to.old) (W.failures to.new) result }
-    ensures untouched { IfErr result (λ fault. IsBeforePut fault → to.new ≡ to.old) }
-    ensures same { W.device to.new ≡ W.device to.old }
-{
-    convert_octets_with_hasher(alloc, FixedHasher::new(), octets, to, form)
-}
-
-/// The same as [`convert_octets`], where scalars are hashed by what the builder makes, as
-/// [`convert_with_hasher`] says.
-///
-/// # Errors
-///
-/// Those of [`convert_octets`].
-pub fn convert_octets_with_hasher<H: BuildHasher + Copy, W: Sink>(
+pub fn convert_octets<H: BuildHasher + Copy, W: Sink>(
     alloc: Global,
     hasher: H,
     octets: Vec<u8>,

@@ -22,7 +22,7 @@ pub use canonicals::{
     begins_as_binary, canonicalise, canonicalise_with_hasher, judge_any, read_any, refusal,
     same_files, same_files_with_hasher,
 };
-pub use converting::{convert, convert_octets, convert_octets_with_hasher, convert_with_hasher};
+pub use converting::{convert, convert_octets, convert_with_hasher};
 pub use faults::Fault;
 pub use forms::Form;
 pub use lines::line;

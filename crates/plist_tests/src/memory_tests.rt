@@ -1,7 +1,7 @@
 //! The whole program over a disk, an input and an output in memory.
 use crate::words::words_of;
 use crate::worked_files::{TABLE, UNSORTED};
-use plist_convert::{Disk, MemoryDisk, run_on, run_on_with_hasher};
+use plist_convert::{Disk, MemoryDisk, run_on};
 use plist_devices::{ListSink, ListSource};
 use plist_value::FixedHasher;
 use std::alloc::{AllocError, Global};
@@ -19,7 +19,8 @@ fn ran(
 ) -> Result<(u8, ListSink), AllocError> {
     let mut input = ListSource::new(input, 3, failing);
     let mut output = ListSink::new(alloc, 6000, 7)?;
-    let status = run_on(alloc, disk, words, &mut input, &mut output);
+    let hasher = FixedHasher::new();
+    let status = run_on(alloc, hasher, disk, words, &mut input, &mut output);
     Ok((status, output))
 }
 
@@ -50,7 +51,7 @@ fn wrong<H: BuildHasher + Copy>(
         let words = words_of(alloc, text)?;
         let mut input = ListSource::new(b"", 3, None);
         let mut output = ListSink::new(alloc, 6000, 7)?;
-        let status = run_on_with_hasher(
+        let status = run_on(
             alloc,
             hasher,
             disk,

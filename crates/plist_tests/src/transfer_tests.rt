@@ -3,6 +3,7 @@ use plist_convert::{
     DeviceFault, Fault, Form, ListSink, ListSource, Sink, Source, canonicalise, convert,
 };
 use plist_forms::convert_octets;
+use plist_value::FixedHasher;
 use std::alloc::{AllocError, Global};
 use std::ops::Range;
 use std::test::Fail;
@@ -330,7 +331,7 @@ fn what_went_out_is_a_front_of_the_output(rt: HostRuntime) -> Result<(), Fail> {
         assert!(rt; is_front(&left.answer, &left.sink, whole));
         let mut sink = ListSink::new(alloc, 100, 7)?;
         let loaded = Vec::from_slice(alloc, octets)?;
-        let answer = convert_octets(alloc, loaded, &mut sink, form);
+        let answer = convert_octets(alloc, FixedHasher::new(), loaded, &mut sink, form);
         assert!(rt; is_front(&answer, &sink, whole));
     }
     Ok(())

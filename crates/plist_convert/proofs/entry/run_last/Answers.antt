@@ -5,4 +5,4 @@ use Rattle.plist_convert.proofs.entry.run_last.Goals as goal
 pub returns : goal.returns
 returns g c =
     begun (map (λ word. word.now) c.args.words.now) _ _ _ _ _ _ _ _ _ _ _ _ _
-    c.new-source.ensures.octets c.new-source.ensures.failures c.with_hasher-disk.ensures c.new-sink.ensures.taken c.new-sink.ensures.failures (search rules) c.run_on_with_hasher.ensures.run
+    c.new-source.ensures.octets c.new-source.ensures.failures c.new-disk.ensures c.new-sink.ensures.taken c.new-sink.ensures.failures (search rules) c.run_on.ensures.run

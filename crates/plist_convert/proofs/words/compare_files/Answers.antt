@@ -25,8 +25,8 @@ returns-in-Ok-Some-clause-run g c =
     let a = c.in-Ok.octets.items in
     let b = c.in-Ok-Some.b.items in
     let found = rw c.in-Ok-Some.field-0-is at c.in-Ok-Some.ensures.found in
-    let answers : IfOk c.same_answer_with_hasher.result (λ r. IsSameAnswer c.args.first.now c.args.second.now a b (said_of r)) = search rules in
-    inr (inr (files_compared c.args.first.now c.args.second.now before after c.give.result a b c.same_answer_with_hasher.result
+    let answers : IfOk c.same_answer.result (λ r. IsSameAnswer c.args.first.now c.args.second.now a b (said_of r)) = search rules in
+    inr (inr (files_compared c.args.first.now c.args.second.now before after c.give.result a b c.same_answer.result
     c.in-Ok.ensures.found (holds_before before.files middle c.args.second.now b c.in-Ok.ensures.kept found)
     (same_trans before.files middle after.files c.in-Ok.ensures.kept c.in-Ok-Some.ensures.kept)
     (c.in-Ok-Some.ensures.unfailed ∙ c.in-Ok.ensures.unfailed) answers c.give.ensures.ends))
@@ -39,8 +39,8 @@ returns-in-Ok-None-clause-run g c =
     let middle = g.D.Disk.files c.load.new.self in
     let a = c.in-Ok.octets.items in
     let found = rw (c.in-Ok-None.field-0-is, c.as_slice.ensures.value) at c.in-Ok-None.ensures.found in
-    let answers : IfOk c.same_answer_with_hasher-in-Ok-None.result (λ r. IsSameAnswer c.args.first.now c.args.second.now a a (said_of r)) = search rules in
-    inr (inr (files_compared c.args.first.now c.args.second.now before after c.give-in-Ok-None.result a a c.same_answer_with_hasher-in-Ok-None.result
+    let answers : IfOk c.same_answer-in-Ok-None.result (λ r. IsSameAnswer c.args.first.now c.args.second.now a a (said_of r)) = search rules in
+    inr (inr (files_compared c.args.first.now c.args.second.now before after c.give-in-Ok-None.result a a c.same_answer-in-Ok-None.result
     c.in-Ok.ensures.found (holds_before before.files middle c.args.second.now a c.in-Ok.ensures.kept found)
     (same_trans before.files middle after.files c.in-Ok.ensures.kept c.in-Ok-None.ensures.kept)
     (c.in-Ok-None.ensures.unfailed ∙ c.in-Ok.ensures.unfailed) answers c.give-in-Ok-None.ensures.ends))

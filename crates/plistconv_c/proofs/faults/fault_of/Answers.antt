@@ -1,21 +1,17 @@
-use Rattle.std.proofs.Common.{◌≡◌, ◌==◌, ◌&&◌, ◌∙◌, ℕ, Bool, true, false, refl, sym, ap}
+use Rattle.std.proofs.Common.{◌≡◌, ◌==◌, ◌&&◌, ◌∙◌, ℕ, true, sym, ap}
+use Rattle.std.proofs.lemmas.Bool.{and_parts}
 use Rattle.std.proofs.lemmas.Bool.Decides.{Decides-eqb}
 use Rattle.plistconv_c.specs.declared.refusals.Refusal.{Refusal}
 use Rattle.plistconv_c.proofs.faults.fault_of.Goals as goal
-
-both : (x y : Bool) → (x && y) ≡ true → (x ≡ true) × (y ≡ true)
-both true true e = (refl, refl)
-both true false e = cc e
-both false y e = cc e
 
 -- two refusals with equal fields are one
 same_fields : (a b : Refusal)
     → ((a.place == b.place) && ((a.number == b.number) && ((a.unit == b.unit) && (a.input == b.input)))) ≡ true
     → a ≡ b
 same_fields a b e =
-    let first = both _ _ e in
-    let second = both _ _ first.1 in
-    let third = both _ _ second.1 in
+    let first = and_parts _ _ e in
+    let second = and_parts _ _ first.1 in
+    let third = and_parts _ _ second.1 in
     let place : a.place ≡ b.place = (Decides-eqb a.place b.place).0 first.0 in
     let number : a.number ≡ b.number = (Decides-eqb a.number b.number).0 second.0 in
     let unit : a.unit ≡ b.unit = (Decides-eqb a.unit b.unit).0 third.0 in

@@ -1,6 +1,6 @@
 use Rattle.std.proofs.Common.{rules}
 use Rattle.plist_convert.proofs.Judged.{judged_answer}
-use Rattle.plist_convert.proofs.answers.check_answer_with_hasher.Goals as goal
+use Rattle.plist_convert.proofs.answers.check_answer.Goals as goal
 
 pub returns-in_ok-line-in-Ok : goal.returns-in_ok-line-in-Ok
 returns-in_ok-line-in-Ok g c =

@@ -2,7 +2,7 @@ use Rattle.std.proofs.Common.{inl}
 use Rattle.std.proofs.lemmas.Result.{IfOk-weaker}
 use Rattle.plist_convert.specs.Answer.{IsSameAnswer, said_of}
 use Rattle.plist_convert.specs.declared.answers.Answer.{Answer}
-use Rattle.plist_convert.proofs.answers.same_answer_with_hasher.Goals as goal
+use Rattle.plist_convert.proofs.answers.same_answer.Goals as goal
 
 pub returns-in-Ok : goal.returns-in-Ok
 returns-in-Ok g c =
