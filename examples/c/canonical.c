@@ -36,24 +36,31 @@ static void tell(const char *path, const plistconv_refusal *refusal) {
     free(line);
 }
 
-/* Writes the canonical file of the octets to `out`, and returns the exit status. */
+static int write_whole(const char *path, const uint8_t *octets, size_t count) {
+    FILE *file = fopen(path, "wb");
+    if (!file) return 0;
+    size_t written = fwrite(octets, 1, count, file);
+    return fclose(file) == 0 && written == count;
+}
+
+/* Writes the canonical file of the octets to the path `out`, and returns the exit status. */
 static int convert(const char *in, const uint8_t *octets, size_t count, const char *out) {
-    uint8_t *canonical, equal;
+    uint8_t *canonical, equal = 0;
     size_t length;
     plistconv_refusal refusal;
-    plistconv_finding finding;
+    plistconv_finding finding = {0};
+    int status = 0;
     uint8_t number = plistconv_canonical_alloc(octets, count, NULL, &canonical, &length, &refusal);
+    if (number == 0) number = plistconv_same(octets, count, canonical, length, NULL, &equal, &refusal);
+    if (number == 0) number = plistconv_check(canonical, length, NULL, &finding, &refusal);
     if (number != 0) {
         tell(in, &refusal);
-        return number == PLISTCONV_OUT_OF_MEMORY ? 5 : 2;
-    }
-    int status = 1;
-    if (plistconv_same(octets, count, canonical, length, NULL, &equal, &refusal) == 0 && equal
-        && plistconv_check(canonical, length, NULL, &finding, &refusal) == 0 && finding.canonical) {
-        FILE *file = fopen(out, "wb");
-        size_t written = file ? fwrite(canonical, 1, length, file) : 0;
-        status = file && fclose(file) == 0 && written == length ? 0 : 4;
-        if (status != 0) perror(out);
+        status = number == PLISTCONV_OUT_OF_MEMORY ? 5 : 2;
+    } else if (!equal || !finding.canonical) {
+        status = 1;
+    } else if (!write_whole(out, canonical, length)) {
+        perror(out);
+        status = 4;
     }
     plistconv_free(canonical);
     return status;
