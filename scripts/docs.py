@@ -30,6 +30,7 @@ from pathlib import Path
 TOP = Path(__file__).resolve().parent.parent
 CRATES = TOP / "crates"
 PAGES = sorted([*TOP.glob("*.md"), *TOP.glob("docs/*.md")])
+BINDINGS = sorted(TOP.glob("bindings/**/*.md"))  # pages of a language, whose words are not counted
 MOST_WORDS, MOST_OF_A_PAGE = 10_500, 3_500
 TESTS = {"plist_tests", "test_files", "rows"}  # crates that the graph leaves out
 SPAN = re.compile(r"`([^`\n]+)`")
@@ -280,13 +281,13 @@ def tried():
 
 def main():
     faults = [] if tried() else ["docs.py does not find what is stale"]
-    for page in PAGES:
+    for page in PAGES + BINDINGS:
         faults += page_faults(page, page.read_text(encoding="utf-8"))
     faults += [*graph_faults(read("README.md")), *layer_faults(read("docs/ARCHITECTURE.md"))]
     faults += [*number_faults(), *version_faults(), *tool_faults(), *cost_faults(), *word_faults()]
     if not re.search(r"commit [0-9a-f]{7,}", read("docs/BENCHMARKS.md")):
         faults.append("BENCHMARKS.md: it does not name the commit that was measured")
-    print("\n".join([*faults, f"{len(PAGES)} pages, {len(faults)} faults"]))
+    print("\n".join([*faults, f"{len(PAGES + BINDINGS)} pages, {len(faults)} faults"]))
     sys.exit(1 if faults else 0)
 
 
