@@ -12,8 +12,7 @@ ghost use Rattle.plist_engine.specs.Spelling.{IsTable, SpellTable, in_turn};
 
 use crate::known_orders::KnownOrders;
 use crate::objects::text_of;
-use crate::putting::short;
-use plist_object::{BinFile, Refs, SortedKeys};
+use plist_object::{BinFile, Refs, SortedKeys, short};
 use plist_value::TextRef;
 use std::alloc::{AllocError, Global};
 use std::mem;

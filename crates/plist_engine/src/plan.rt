@@ -11,9 +11,8 @@ ghost use Rattle.plist_engine.specs.Plan.{KnowsScalars, MeetsScalar, NumbersScal
 
 use crate::memo::{Memo, SINGLE};
 use crate::order::{KeyOrder, push_all};
-use crate::putting::short;
 use crate::scalars::Scalars;
-use plist_object::{BinFile, Refs};
+use plist_object::{BinFile, Refs, short};
 use plist_value::{MAX_NODES, ScalarRef};
 use std::alloc::{AllocError, Global};
 use std::hash::BuildHasher;

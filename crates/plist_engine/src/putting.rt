@@ -1,12 +1,11 @@
 //! The parts of a file, measured and put behind octets.
-ghost use Rattle.std.specs.Prelude.{◌≡◌, ◌<◌, ◌^◌, ◌++◌, ◌↔◌, length, IfOk, IsOk, OnOk};
+ghost use Rattle.std.specs.Prelude.{◌≡◌, ◌++◌, length, OnOk};
 ghost use Rattle.plist_object.specs.Sizes.{IsWidth};
 ghost use Rattle.plist_engine.specs.Canonical.{trailer_octets};
 ghost use Rattle.plist_engine.specs.Pieces.{CanSpellPart, octets_in_part};
 
 use plist_object::{
-    list_length, put_number, put_scalar, put_short_list, put_short_table, scalar_length,
-    table_length, width_of,
+    list_length, put_scalar, put_short_list, put_short_table, scalar_length, table_length, width_of,
 };
 use plist_value::ScalarRef;
 use std::alloc::AllocError;
@@ -19,19 +18,6 @@ pub(crate) enum Part<'a, 'b> {
     Scalar(ScalarRef<'a>),
     List(&'b [u32]),
     Table(&'b [u32], &'b [u32]),
-}
-
-/// The number in 32 bits. No number of a value within the limits passes them, nor that of an object
-/// of a file that is within the limit of input.
-///
-/// # Errors
-///
-/// Where the number is 2^32 or above: there is no memory for so many objects.
-pub(crate) fn short(number: u64) -> Result<u32, AllocError>
-    ensures value { IfOk result (λ short. short ≡ number) }
-    ensures fits { IsOk result ↔ number < 2 ^ 32 }
-{
-    u32::try_from(number).map_err(|_| AllocError)
 }
 
 /// How many octets the object has, where its references have so many octets each.
@@ -69,9 +55,5 @@ pub(crate) fn put_part(out: &mut Vec<u8>, width: u8, part: &Part) -> Result<(), 
 pub(crate) fn put_trailer(out: &mut Vec<u8>, count: u64, place: u64) -> Result<(), AllocError>
     ensures { OnOk result (out.new.items ≡ out.old.items ++ trailer_octets count place) }
 {
-    out.extend_from_slice(&[0, 0, 0, 0, 0, 0, width_of(place), width_of(count)])?;
-    put_number(out, 8, count)?;
-    put_number(out, 8, 0)?;
-    put_number(out, 8, place)?;
-    Ok(())
+    plist_object::put_trailer(out, width_of(place), width_of(count), count, 0, place)
 }
