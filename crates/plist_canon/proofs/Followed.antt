@@ -1,6 +1,6 @@
 -- A canonical file has the layout and follows the rules.
-use Rattle.std.proofs.Common.{◌≡◌, ℕ, ◌+◌, ◌<◌, ◌≤◌, List, [], ◌++◌, length, get_or, Ok, sym, ap, subst, ◌∙◌, arith}
-use Rattle.plist_value.specs.Plist.{Plist, no_items, list, IsPlist}
+use Rattle.std.proofs.Common.{◌≡◌, ℕ, ◌+◌, ◌<◌, ◌≤◌, List, [], ◌++◌, length, get_or, Ok, sym, ap, subst, ◌∙◌, arith, refl}
+use Rattle.plist_value.specs.Plist.{Plist, no_items, list, IsPlist, AreOctets}
 use Rattle.plist_value.specs.Limits.{Fits}
 use Rattle.plist_object.specs.Layout.{Trailer, IsLaid}
 use Rattle.plist_object.specs.Objects.{Held, object_in}
@@ -12,18 +12,23 @@ use Rattle.plist_engine.specs.Tree.{preorder}
 use Rattle.plist_engine.specs.Sharing.{kept_places, value_at}
 use Rattle.plist_engine.specs.Canonical.{objects_of, file_of, canon}
 use Rattle.plist_engine.specs.Found.{Stands, held_at, number_in}
-use Rattle.plist_canon.specs.Rules.{FollowsRules, IsNumberedInPreorder}
+use Rattle.plist_canon.specs.Rules.{FollowsRules, IsNumberedInPreorder, IsBroken, breaks_c0, breaks_limits, breaks_c1, breaks_c2, breaks_c3, breaks_c4, breaks_c5, breaks_c6, breaks_c7, leaves_over}
 use Rattle.plist_engine.proofs.Trees.{Stands-all}
 use Rattle.plist_engine.proofs.Sound.{IsSound, EachSound, EachSound-tree, EachSound-at, sound_from_Fits}
 use Rattle.plist_engine.proofs.Sizes.{total}
 use Rattle.plist_engine.proofs.Reading.{object_in-octets}
 use Rattle.plist_engine.proofs.Found.{octets-held}
 use Rattle.plist_engine.proofs.Binary.{number-fits, length-objects_of, objects-at, objects-some, some-objects, count-fits, table-fits, place-holds, trailer, tree-some, few, light, canon-spells, canon-laid}
-use Rattle.plist_canon.proofs.Standing.{EachStands-tree, EachStands-at}
-use Rattle.plist_canon.proofs.KeptPlaces.{is_made}
-use Rattle.plist_canon.proofs.PlaceRules.{HasObjects, well_read, ascending, no_repeat}
-use Rattle.plist_canon.proofs.WalkRules.{numbered}
+use Rattle.plist_canon.proofs.KeptPlaces.{EachStands-tree, EachStands-at, is_made}
+use Rattle.plist_canon.proofs.PlaceRules.{HasObjects, well_read, ascending, no_repeat, numbered}
 use Rattle.plist_canon.proofs.FileRules.{plain_trailer, least_widths, adjoins, shortest}
+use Rattle.std.specs.Prelude.{◌↔◌}
+use Rattle.plist_canon.specs.Checking.{IsVerdict}
+use Rattle.plist_canon.specs.declared.checking.Verdict.{Verdict}
+use Rattle.plist_canon.specs.declared.checking.Verdict.TheVariants as verdict
+use Rattle.plist_canon.specs.Locality.{IsCanonical, CanonicityIsLocal}
+use Rattle.plist_canon.proofs.Forced.{tree_is_forced}
+use Rattle.plist_canon.proofs.Filed.{file_is_canonical}
 
 module _ (all : List Plist) (some : 1 ≤ length all) (small : length all ≤ 16777216) (each : EachSound all) where
   abbrev kept_at : ℕ → ℕ × Plist
@@ -95,3 +100,42 @@ canonical_follows_rules v valid fits =
     let spells : Spells (file_of (objects_of all)) 0 v = subst (λ (i : ℕ). Spells (file_of (objects_of all)) i v) top (canon-spells v sound) in
     let within : (w : Plist) → IsPlist w → Spells (file_of (objects_of all)) 0 w → Fits w = λ w w_valid w_spells. subst Fits (same_value (file_of (objects_of all)) 0 v w valid w_valid spells w_spells) fits in
     (canon-laid v sound, follows all some small each slight stands within (numbered (file_of (objects_of all)) v has))
+
+-- The canonical files are those that have the layout and follow the eight rules.
+
+-- the rules force a value, and its canonical file is the file
+rules-canonical : (f : List ℕ) → AreOctets f → IsLaid f → FollowsRules f → IsCanonical f
+rules-canonical f octets laid rules =
+    let tree = tree_is_forced f octets rules in
+    record {
+      value = tree.value;
+      valid = tree.valid;
+      fits = tree.fits;
+      spelled = file_is_canonical f octets laid rules.plain_trailer rules.least_widths rules.adjoins rules.spelled_canonically tree.value tree.counted tree.reads;
+    }
+
+canonical-rules : (f : List ℕ) → IsCanonical f → IsLaid f × FollowsRules f
+canonical-rules f x =
+    subst (λ (octets : List ℕ). IsLaid octets × FollowsRules octets) x.spelled (canonical_follows_rules x.value x.valid x.fits)
+
+pub canonicity-local : CanonicityIsLocal
+canonicity-local f octets = (λ h. rules-canonical f octets h.0 h.1, canonical-rules f)
+
+-- no rule is broken of a file that follows all
+none-broken : (f : List ℕ) (rule object : ℕ) → IsBroken f rule object → FollowsRules f → ⊥
+none-broken f _ _ (breaks_c0 i below fails) rules = fails (rules.reads_within_limits.read i below)
+none-broken f _ _ (breaks_limits v valid spells fails) rules = fails (rules.reads_within_limits.fits v valid spells)
+none-broken f _ _ (breaks_c1 fails) rules = fails rules.plain_trailer
+none-broken f _ _ (breaks_c2 fails) rules = fails rules.least_widths
+none-broken f _ _ (breaks_c3 i below fails) rules = fails (rules.adjoins i below)
+none-broken f _ _ (breaks_c4 i below fails) rules = fails (rules.spelled_canonically i below)
+none-broken f _ _ (breaks_c5 i below fails) rules = fails (rules.ascending_keys i below)
+none-broken f _ _ (breaks_c6 i below fails) rules = fails (rules.no_repeat i below)
+none-broken f _ _ (breaks_c7 holder fails turns) rules = fails rules.numbered_in_preorder
+none-broken f _ _ (leaves_over fails left) rules = fails rules.numbered_in_preorder
+
+-- a verdict on a laid file is Canonical exactly where it is a canonical file
+pub verdict_decides : (f : List ℕ) → AreOctets f → IsLaid f → (answer : Verdict) → IsVerdict f answer → (answer ≡ verdict.Canonical) ↔ IsCanonical f
+verdict_decides f octets laid verdict.Canonical rules = (λ _. rules-canonical f octets laid rules, λ _. refl)
+verdict_decides f octets laid (verdict.Broken rule object) broken =
+    (λ e. absurd (cc), λ x. absurd (none-broken f rule object broken (canonical-rules f x).1))

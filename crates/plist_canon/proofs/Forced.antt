@@ -13,7 +13,7 @@ use Rattle.plist_engine.specs.Found.{held_at, number_in}
 use Rattle.plist_engine.proofs.Numbering.{least_place-le, least_place-holds, first_place-le, first_place-holds, first_place-first, count_below-none}
 use Rattle.plist_engine.proofs.Counting.{count-kept, count-shared}
 use Rattle.plist_engine.proofs.Reading.{count_below-le}
-use Rattle.plist_canon.proofs.KeptPlaces.{is_made}
+use Rattle.plist_canon.proofs.KeptPlaces.{is_made, count_below-end}
 use Rattle.plist_object.proofs.Uniqueness.{same_held}
 use Rattle.plist_canon.proofs.Entries.{AreNumbers, AreNumbers-own, AreNumbers-same, PlacesHold-at}
 use Rattle.plist_canon.proofs.WalkTrees.{tree_of_walk, held-walked, Spells-walked}
@@ -25,16 +25,6 @@ count_below-monotone (p ∷ kept) m n h =
     cond_both (ltb p.0 m) (suc (count_below m kept)) (count_below m kept) (λ c. c ≤ count_below n (p ∷ kept))
     (λ e. let below = ltb-true p.0 m e in rw (lt-ltb p.0 n (omega arith)) (omega arith))
     (λ _. cond_both (ltb p.0 n) (suc (count_below n kept)) (count_below n kept) (λ c. count_below m kept ≤ c) (λ _. omega arith) (λ _. omega arith))
-
--- all places with an object of their own are below the end
-count_below-end : (all rest : List Plist) (k n : ℕ) → k + length rest ≤ n → count_below n (kept_from all k rest) ≡ length (kept_from all k rest)
-count_below-end all [] k n h = refl
-count_below-end all (v ∷ rest) k n h =
-    let others = count_below-end all rest (suc k) n (omega arith) in
-    elim (eqb (first_place all k v) k) as (λ t. count_below n (cond t ((k, v) ∷ kept_from all (suc k) rest) (kept_from all (suc k) rest)) ≡ length (cond t ((k, v) ∷ kept_from all (suc k) rest) (kept_from all (suc k) rest))) [
-      | true ↦ rw (lt-ltb k n (omega arith)) (ap suc others)
-      | false ↦ others
-    ]
 
 -- each number below those counted is that of a place before with an object of its own
 made-before : (all : List Plist) (k n : ℕ) → n < count_below k (kept_places all) → (p : ℕ) × (p < k) × (first_place all p (value_at all p) ≡ p) × (count_below p (kept_places all) ≡ n)

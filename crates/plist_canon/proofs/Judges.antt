@@ -1,10 +1,10 @@
--- What is judged of one object.
-use Rattle.std.proofs.Common.{◌≡◌, ℕ, zero, suc, ◌+◌, ◌-◌, ◌<◌, ◌≤◌, List, [], ◌∷◌, ◌++◌, length, Bool, false, Ok, Err, Result, refl, sym, ap, subst, ◌∙◌, arith, inl, inr}
+-- What holds of each item of two lists holds of each of both together.
+use Rattle.std.proofs.Common.{List, [], ◌∷◌, ◌++◌, ◌≡◌, ℕ, zero, suc, ◌+◌, ◌-◌, ◌<◌, ◌≤◌, length, Bool, false, Ok, Err, Result, refl, sym, ap, subst, ◌∙◌, arith, inl, inr}
+use Rattle.std.specs.List.{AllByRecursion}
 use Rattle.std.specs.Prelude.{◌↔◌, ◌≢◌, slice_index, EachIndex, IsOk, IsTrue}
 use Rattle.std.specs.declared.cmp.Ordering.TheVariants.{Less}
 use Rattle.std.specs.Ordering.{nat_cmp}
 use Rattle.std.specs.Cmp.Lexicographic.{slice_cmp}
-use Rattle.std.specs.List.{AllByRecursion}
 use Rattle.std.specs.List.Sorted.{IsStrictlySortedBy}
 use Rattle.std.proofs.lemmas.Bool.{true≢false, cases_lt}
 use Rattle.std.proofs.lemmas.Cmp.{nat_list_cmp_total}
@@ -21,7 +21,12 @@ use Rattle.plist_object.proofs.Readable.{Holds-reads}
 use Rattle.plist_object.proofs.Uniqueness.{same_held}
 use Rattle.plist_canon.specs.Rules.{HoldTexts, IsWellRead, HasAscendingKeys, Adjoins}
 use Rattle.plist_canon.specs.Checking.{RefersWell, AreInOrder, AscendInTurn, IsEndBefore, Follows}
-use Rattle.plist_canon.proofs.Every.{every_append}
+
+pub every_append : {X : Type 0} (P : X → Type 0) (xs ys : List X) → AllByRecursion P xs → AllByRecursion P ys → AllByRecursion P (xs ++ ys)
+every_append P [] ys each others = others
+every_append P (x ∷ xs) ys each others = (each.0, every_append P xs ys each.1 others)
+
+-- What is judged of one object.
 
 -- a test that answers false refutes what it tests
 pub refuted : (P : Type 0) (b : Bool) → IsTrue b ↔ P → b ≡ false → ¬ P
@@ -65,9 +70,6 @@ unfolding span_of
 span-starts f i ok = started (place_of f i) (trailer_of f).table (object_at f i) ok
 
 -- texts that the references name
-pub Texts : List ℕ → List ℕ → Type 0
-Texts f keys = (texts : List (List ℕ)) × HoldTexts f keys texts
-
 pub texts_of : (f keys : List ℕ) → AllByRecursion (HoldsText f) keys → (texts : List (List ℕ)) × HoldTexts f keys texts
 texts_of f [] all = ([], refl)
 texts_of f (i ∷ keys) all =
@@ -125,11 +127,6 @@ HasAscendingKeys-turns f i keys values holds ascend others more texts reads hold
 pub HasAscendingKeys-other : (f : List ℕ) (i : ℕ) (held : Held) → Holds f i held → ((keys values : List ℕ) → held ≢ holds_table keys values) → HasAscendingKeys f i
 HasAscendingKeys-other f i held holds other keys values texts reads hold =
     absurd (other keys values (let a = holds.reads in cc))
-
-pub not-HasAscendingKeys : (f : List ℕ) (i : ℕ) (keys values : List ℕ) → Holds f i (holds_table keys values) → AllByRecursion (HoldsText f) keys → ¬ AscendInTurn f keys → ¬ HasAscendingKeys f i
-not-HasAscendingKeys f i keys values holds named apart ascending =
-    let texts = texts_of f keys named in
-    apart (turns_from_sorted f keys texts.0 texts.1 (ascending keys values texts.0 holds.reads texts.1))
 
 -- where one object begins
 pub not-Adjoins : (f : List ℕ) (i place start end : ℕ) → IsEndBefore f i place → span_of f i ≡ Ok (start, end) → start ≢ place → ¬ Adjoins f i

@@ -1,10 +1,61 @@
--- Each number below the count of objects is that of a place with an object of its own.
-use Rattle.std.proofs.Common.{◌≡◌, ℕ, zero, suc, ◌+◌, ◌<◌, eqb, true, false, List, [], ◌∷◌, length, get_or, refl, sym, ap, ◌∙◌, inl, inr, arith, lt-ltb}
+-- At each place of a tree stands the tree of what the place holds.
+use Rattle.std.proofs.Common.{◌≡◌, ℕ, zero, suc, ◌+◌, ◌<◌, ◌≤◌, cond, ltb, List, [], ◌∷◌, ◌++◌, length, refl, subst, arith, add-zero, eqb, true, false, get_or, sym, ap, ◌∙◌, inl, inr, lt-ltb}
+use Rattle.std.specs.Prelude.{⊤}
+use Rattle.plist_value.specs.Plist.{text, Plist, scalar, list, table, Items, no_items, item, Pairs, no_pairs, pair}
+use Rattle.plist_engine.specs.Tree.{key_texts, preorder, preorder_items, preorder_values}
+use Rattle.plist_engine.specs.Sharing.{value_at, first_place, kept_from, kept_places, count_below}
+use Rattle.plist_engine.proofs.Trees.{Stands, Stands-front, Stands-rest, Stands-tail}
 use Rattle.std.proofs.lemmas.Bool.{le-ltb, eqb-true, cases_Bool}
-use Rattle.plist_value.specs.Plist.{Plist, list, no_items}
-use Rattle.plist_engine.specs.Sharing.{first_place, kept_from, kept_places, count_below, value_at}
 use Rattle.plist_engine.specs.Found.{number_in}
 use Rattle.plist_engine.proofs.Numbering.{count_below-none, number-entry}
+
+-- the tree of each of these values, which stand from the place k on, stands at its place
+abbrev pub EachStands : List Plist → ℕ → List Plist → Type 0
+EachStands all k [] = ⊤
+EachStands all k (v ∷ rest) = Stands all k (preorder v) × EachStands all (suc k) rest
+
+EachStands-append : (all : List Plist) (k : ℕ) (xs ys : List Plist) → EachStands all k xs → EachStands all (k + length xs) ys → EachStands all k (xs ++ ys)
+EachStands-append all k [] ys each others = rw add-zero at others
+EachStands-append all k (x ∷ xs) ys each others =
+    let moved : k + suc (length xs) ≡ suc k + length xs = omega arith in
+    (each.0, EachStands-append all (suc k) xs ys each.1 (subst (λ (n : ℕ). EachStands all n ys) moved others))
+
+EachStands-keys : (all : List Plist) (ps : Pairs) (k : ℕ) → Stands all k (key_texts ps) → EachStands all k (key_texts ps)
+EachStands-keys all no_pairs k h = tt
+EachStands-keys all (pair key v ps) k h =
+    (Stands-front (scalar (text key) ∷ []) (key_texts ps) h, EachStands-keys all ps (suc k) (Stands-tail (scalar (text key)) (key_texts ps) h))
+
+mutual
+  pub EachStands-tree : (all : List Plist) (v : Plist) (k : ℕ) → Stands all k (preorder v) → EachStands all k (preorder v)
+  EachStands-tree all (scalar s) k h = (h, tt)
+  EachStands-tree all (list vs) k h = (h, EachStands-items all vs (suc k) (Stands-tail (list vs) (preorder_items vs) h))
+  EachStands-tree all (table ps) k h =
+      let below = Stands-tail (table ps) (key_texts ps ++ preorder_values ps) h in
+      let keys = EachStands-keys all ps (suc k) (Stands-front (key_texts ps) (preorder_values ps) below) in
+      let values = EachStands-values all ps (suc k + length (key_texts ps)) (Stands-rest (key_texts ps) (preorder_values ps) (length (key_texts ps)) refl below) in
+      (h, EachStands-append all (suc k) (key_texts ps) (preorder_values ps) keys values)
+
+  EachStands-items : (all : List Plist) (vs : Items) (k : ℕ) → Stands all k (preorder_items vs) → EachStands all k (preorder_items vs)
+  EachStands-items all no_items k h = tt
+  EachStands-items all (item v vs) k h =
+      let first = EachStands-tree all v k (Stands-front (preorder v) (preorder_items vs) h) in
+      let others = EachStands-items all vs (k + length (preorder v)) (Stands-rest (preorder v) (preorder_items vs) (length (preorder v)) refl h) in
+      EachStands-append all k (preorder v) (preorder_items vs) first others
+
+  EachStands-values : (all : List Plist) (ps : Pairs) (k : ℕ) → Stands all k (preorder_values ps) → EachStands all k (preorder_values ps)
+  EachStands-values all no_pairs k h = tt
+  EachStands-values all (pair key v ps) k h =
+      let first = EachStands-tree all v k (Stands-front (preorder v) (preorder_values ps) h) in
+      let others = EachStands-values all ps (k + length (preorder v)) (Stands-rest (preorder v) (preorder_values ps) (length (preorder v)) refl h) in
+      EachStands-append all k (preorder v) (preorder_values ps) first others
+
+-- the tree that stands at the place k, which is the place m of these values
+pub EachStands-at : (all rest : List Plist) (j m k : ℕ) → m < length rest → j + m ≡ k → EachStands all j rest → Stands all k (preorder (value_at rest m))
+EachStands-at all [] j m k h at each = absurd (omega arith)
+EachStands-at all (v ∷ rest) j zero k h at each = let same : j ≡ k = omega arith in subst (λ (n : ℕ). Stands all n (preorder v)) same each.0
+EachStands-at all (v ∷ rest) j (suc m) k h at each = EachStands-at all rest (suc j) m k (omega arith) (omega arith) each.1
+
+-- Each number below the count of objects is that of a place with an object of its own.
 
 -- The object i is made at the place `from + offset`, where `rest` stands from the place `from` on.
 record IsMadeIn (all : List Plist) (from : ℕ) (rest : List Plist) (i : ℕ) : Type 0 where
@@ -80,3 +131,13 @@ is_made all i h =
       number_is = number_is;
       entry_is = ap (λ n. get_or (kept_places all) n (0, list no_items)) (sym number_is) ∙ entry.1 (0, list no_items) ∙ ap (λ (n : ℕ). (n, v)) own;
     }
+
+-- the kept places from k on are all below the end
+pub count_below-end : (all rest : List Plist) (k n : ℕ) → k + length rest ≤ n → count_below n (kept_from all k rest) ≡ length (kept_from all k rest)
+count_below-end all [] k n h = refl
+count_below-end all (v ∷ rest) k n h =
+    let others = count_below-end all rest (suc k) n (omega arith) in
+    elim (eqb (first_place all k v) k) as (λ t. count_below n (cond t ((k, v) ∷ kept_from all (suc k) rest) (kept_from all (suc k) rest)) ≡ length (cond t ((k, v) ∷ kept_from all (suc k) rest) (kept_from all (suc k) rest))) [
+      | true ↦ rw (lt-ltb k n (omega arith)) (ap suc others)
+      | false ↦ others
+    ]

@@ -1,16 +1,56 @@
--- The octets that an object of a file occupies, where they are the canonical spelling of what it
--- holds.
-use Rattle.std.proofs.Common.{◌≡◌, ℕ, ◌+◌, ◌-◌, ◌<◌, ◌≤◌, ltb, leb, ◌&&◌, Bool, true, false, cond, List, ◌++◌, length, take, drop, Result, Ok, Err, IsOk, refl, sym, ap, ◌∙◌, arith, length-append, length-drop, ltb-true, leb-true}
+-- Pieces that touch make up what they stand in, and the numbers of their places are their starts.
+use Rattle.std.proofs.Common.{◌≡◌, ℕ, suc, ◌+◌, ◌*◌, ◌<◌, ◌≤◌, List, [], ◌∷◌, ◌++◌, length, drop, get_or, refl, sym, ap, ◌∙◌, arith, ◌-◌, ltb, leb, ◌&&◌, Bool, true, false, cond, take, Result, Ok, Err, IsOk, length-append, length-drop, ltb-true, leb-true, subst, slice_index, replicate, take-append-drop, take_all}
+use Rattle.std.specs.List.{concat}
+use Rattle.std.proofs.lemmas.List.{drop_at, drop-drop, drop_all, length-take-le, take_rest, get_or-drop, drop_more}
+use Rattle.byteorder.specs.Endian.{big_number, big_bytes}
+use Rattle.plist_object.specs.Objects.{numbers, Held, ◌>>=◌, IsHeld, object_in}
+use Rattle.plist_object.specs.Files.{starts}
 use Rattle.std.proofs.lemmas.Bool.{and_parts}
-use Rattle.std.proofs.lemmas.List.{length-take-le}
 use Rattle.plist_object.specs.declared.object.ObjectFault.{ObjectFault}
 use Rattle.plist_object.specs.declared.object.ObjectFault.TheVariants.{BadOffset}
-use Rattle.plist_object.specs.Layout.{trailer_of}
-use Rattle.plist_object.specs.Objects.{Held, ◌>>=◌}
+use Rattle.plist_object.specs.Layout.{trailer_of, IsTrailer, number_before_end}
 use Rattle.plist_object.specs.Places.{place_of, octets_at, object_at, what_holds, span_of, Holds}
 use Rattle.plist_object.specs.Shortest.{spelling_of, IsShortest}
-use Rattle.plist_canon.specs.Rules.{IsSpelledCanonically}
-use Rattle.plist_canon.proofs.Pieced.{StandsAt}
+use Rattle.plist_canon.specs.Rules.{IsSpelledCanonically, HasPlainTrailer, HasLeastWidths}
+use Rattle.std.specs.Prelude.{◌↔◌}
+use Rattle.plist_value.specs.Plist.{AreOctets}
+use Rattle.plist_object.specs.Heads.{BeginsCanonically, IsCounted}
+use Rattle.plist_object.proofs.CanonicalHeads.{shortest_iff}
+use Rattle.plist_object.specs.Spelling.{least_width}
+use Rattle.plist_object.proofs.SameOctets.{big_bytes-big_number, AreOctets-drop}
+use Rattle.plist_engine.specs.Canonical.{trailer_octets}
+
+-- the piece stands in the octets at the place
+abbrev pub StandsAt : List ℕ → ℕ → List ℕ → Type 0
+StandsAt octets place piece = (behind : List ℕ) × (drop place octets ≡ piece ++ behind)
+
+-- each of the objects ends at the edge where the next one begins
+abbrev pub Touch : (ℕ → ℕ) → List (List ℕ) → Type 0
+Touch edge objects = (i : ℕ) → i < length objects → edge (suc i) ≡ edge i + length (get_or objects i [])
+
+pub pieces_make : (octets : List ℕ) (edge : ℕ → ℕ) (objects : List (List ℕ)) → ((i : ℕ) → i < length objects → StandsAt octets (edge i) (get_or objects i [])) → Touch edge objects → length octets ≤ edge (length objects) → drop (edge 0) octets ≡ concat objects
+pieces_make octets edge [] stand touch ends = drop_all (edge 0) octets ends
+pieces_make octets edge (o ∷ os) stand touch ends =
+    let first = stand 0 (omega arith) in
+    let next : edge 1 ≡ edge 0 + length o = touch 0 (omega arith) in
+    let others : drop (edge 1) octets ≡ concat os = pieces_make octets (λ i. edge (suc i)) os (λ i h. stand (suc i) (omega arith)) (λ i h. touch (suc i) (omega arith)) ends in
+    let past : drop (edge 1) octets ≡ first.0 = ap (λ (n : ℕ). drop n octets) next ∙ sym (drop-drop (length o) (edge 0) octets) ∙ ap (drop (length o)) first.1 ∙ drop_at o first.0 (length o) refl in
+    first.1 ∙ ap (λ (xs : List ℕ). o ++ xs) (sym past ∙ others)
+
+pub numbers-starts : (w : ℕ) (octets : List ℕ) (edge : ℕ → ℕ) (objects : List (List ℕ)) → ((i : ℕ) → i < length objects → big_number w (drop (i * w) octets) ≡ edge i) → Touch edge objects → numbers w (length objects) octets ≡ starts (edge 0) objects
+numbers-starts w octets edge [] entries touch = refl
+numbers-starts w octets edge (o ∷ os) entries touch =
+    let none : 0 * w ≡ 0 = omega arith in
+    let first : big_number w octets ≡ edge 0 = rw none at (entries 0 (omega arith)) in
+    let next : edge 1 ≡ edge 0 + length o = touch 0 (omega arith) in
+    let entry : (i : ℕ) → i < length os → big_number w (drop (i * w) (drop w octets)) ≡ edge (suc i) = λ i h.
+    let place : w + i * w ≡ suc i * w = omega arith in
+    ap (big_number w) (drop-drop (i * w) w octets ∙ ap (λ (n : ℕ). drop n octets) place) ∙ entries (suc i) (omega arith) in
+    let others = numbers-starts w (drop w octets) (λ i. edge (suc i)) os entry (λ i h. touch (suc i) (omega arith)) in
+    rw (first, others, next) refl
+
+-- The octets that an object of a file occupies, where they are the canonical spelling of what it
+-- holds.
 
 -- the place of the object i lies between the header and the offset table, where these octets begin
 pub record IsPlaced (f : List ℕ) (i : ℕ) (octets : List ℕ) : Type 0 where
@@ -81,3 +121,102 @@ occupies f i held table holds canonically =
     let x = canonically (reads_object f i held holds.reads) in
     let same : x.held ≡ held = let other = held-shortest f i x in cc (other, holds.reads) in
     rw same at (occupies_shortest f i table x)
+
+-- Objects that begin as the canonical spelling of what they hold.
+
+-- the octets from the place of an object on, as they were read
+record AreParts (f : List ℕ) (i : ℕ) (held : Held) : Type 0 where
+  octets : List ℕ
+  behind : List ℕ
+  stands : octets_at f i ≡ Ok octets
+  reads : object_in (trailer_of f).reference_width octets ≡ Ok (held, behind)
+
+abbrev held_first : Held × List ℕ → Result Held ObjectFault
+held_first read = Ok read.0
+
+abbrev read_pair : Held → List ℕ → Result (Held × List ℕ) ObjectFault
+read_pair held behind = Ok (held, behind)
+
+object_parts : (f : List ℕ) (i : ℕ) (held : Held) (octets : List ℕ) (read : Result (Held × List ℕ) ObjectFault) → octets_at f i ≡ Ok octets → object_in (trailer_of f).reference_width octets ≡ read → (read >>= held_first) ≡ Ok held → AreParts f i held
+object_parts f i held octets (Ok read) stands reads e =
+    let same : read.0 ≡ held = cc in
+    record { octets = octets; behind = read.1; stands = stands; reads = reads ∙ ap (λ (h : Held). read_pair h read.1) same }
+object_parts f i held octets (Err fault) stands reads e = absurd (let no : Err fault ≡ Ok held = e in cc)
+
+octets_parts : (f : List ℕ) (i : ℕ) (held : Held) (octets : Result (List ℕ) ObjectFault) → octets_at f i ≡ octets → ((octets >>= λ xs. object_in (trailer_of f).reference_width xs) >>= held_first) ≡ Ok held → AreParts f i held
+octets_parts f i held (Ok octets) stands e =
+    object_parts f i held octets (object_in (trailer_of f).reference_width octets) stands refl e
+octets_parts f i held (Err fault) stands e = absurd (let no : Err fault ≡ Ok held = e in cc)
+
+are_parts : (f : List ℕ) (i : ℕ) (held : Held) → what_holds f i ≡ Ok held → AreParts f i held
+unfolding what_holds object_at
+are_parts f i held reads = octets_parts f i held (octets_at f i) refl reads
+
+pub Holds-placed : (f : List ℕ) (i : ℕ) (held : Held) → Holds f i held → place_of f i < (trailer_of f).table
+Holds-placed f i held holds =
+    let x = are_parts f i held holds.reads in
+    (is_placed f i x.octets x.stands).before
+
+-- an object that begins there is in its shortest spelling exactly if it begins canonically
+pub begins-shortest : (f : List ℕ) (i place : ℕ) (objects : List ℕ) (held : Held) → Holds f i held → IsHeld held → IsCounted held → place_of f i ≡ place → objects ≡ take (trailer_of f).table f → AreOctets (take (length objects - place) (drop place objects)) → BeginsCanonically held (take (length objects - place) (drop place objects)) ↔ IsShortest f i
+begins-shortest f i place objects held holds valid counted starts is are_octets =
+    let x = are_parts f i held holds.reads in
+    let at = is_placed f i x.octets x.stands in
+    let same : take (length objects - place) (drop place objects) ≡ x.octets = take_rest objects place ∙ ap (λ (xs : List ℕ). drop place xs) is ∙ ap (λ (n : ℕ). drop n (take (trailer_of f).table f)) (sym starts) ∙ at.stands in
+    let both = shortest_iff f i x.octets held x.behind x.stands x.reads valid counted (subst AreOctets same are_octets) in (
+      λ begins. both.0 (subst (λ (xs : List ℕ). BeginsCanonically held xs) same begins),
+      λ shortest. subst (λ (xs : List ℕ). BeginsCanonically held xs) (sym same) (both.1 shortest),
+    )
+
+first_part : (a b c : ℕ) → a + b + 32 ≡ c → a ≤ c
+first_part a b c is = omega arith
+
+-- the offset table begins within the file
+table-within : (f : List ℕ) → IsTrailer (length f) (trailer_of f) → (trailer_of f).table ≤ length f
+table-within f trailed =
+    let x = trailer_of f in
+    first_part x.table (x.count * x.offset_width) (length f) trailed.ends
+
+-- the place of an object lies in the octets before the offset table
+pub Holds-inside : (f : List ℕ) (i place : ℕ) (objects : List ℕ) (held : Held) → IsTrailer (length f) (trailer_of f) → Holds f i held → place_of f i ≡ place → objects ≡ take (trailer_of f).table f → place ≤ length objects
+Holds-inside f i place objects held trailed holds starts is =
+    let x = trailer_of f in
+    let placed = Holds-placed f i held holds in
+    let long : length objects ≡ x.table = ap length is ∙ length-take-le x.table f (table-within f trailed) in
+    omega arith
+
+-- The trailer of a file whose trailer is plain and whose widths are least.
+
+-- 32 octets are their parts
+join_trailer : (e zeros : List ℕ) (w r : ℕ) (count top place : List ℕ) → length e ≡ 32 → take 6 e ≡ zeros → get_or e 6 0 ≡ w → get_or e 7 0 ≡ r → take 8 (drop 8 e) ≡ count → take 8 (drop 16 e) ≡ top → take 8 (drop 24 e) ≡ place → e ≡ zeros ++ (w ∷ r ∷ (count ++ (top ++ place)))
+join_trailer e zeros w r count top place long slack width reference_width counts tops places =
+    let seventh : drop 6 e ≡ w ∷ drop 7 e = drop_more e 6 0 (omega arith) ∙ ap (λ (x : ℕ). x ∷ drop 7 e) width in
+    let eighth : drop 7 e ≡ r ∷ drop 8 e = drop_more e 7 0 (omega arith) ∙ ap (λ (x : ℕ). x ∷ drop 8 e) reference_width in
+    let third : drop 24 e ≡ place = sym (take_all 8 (drop 24 e) (omega (arith, length-drop 24 e))) ∙ places in
+    let second : drop 16 e ≡ top ++ place = sym (take-append-drop 8 (drop 16 e)) ∙ ap (λ (xs : List ℕ). xs ++ drop 8 (drop 16 e)) tops ∙ ap (λ (xs : List ℕ). top ++ xs) (drop-drop 8 16 e ∙ third) in
+    let first : drop 8 e ≡ count ++ (top ++ place) = sym (take-append-drop 8 (drop 8 e)) ∙ ap (λ (xs : List ℕ). xs ++ drop 8 (drop 8 e)) counts ∙ ap (λ (xs : List ℕ). count ++ xs) (drop-drop 8 8 e ∙ second) in
+    sym (take-append-drop 6 e) ∙ ap (λ (xs : List ℕ). xs ++ drop 6 e) slack ∙ ap (λ (xs : List ℕ). zeros ++ xs) (seventh ∙ ap (λ (xs : List ℕ). w ∷ xs) (eighth ∙ ap (λ (xs : List ℕ). r ∷ xs) first))
+
+module _ (f : List ℕ) (octets : AreOctets f) (long : 32 ≤ length f) where
+  ended : (back at : ℕ) → back + at ≡ 32 → drop at (drop (length f - 32) f) ≡ drop (length f - back) f
+  ended back at is =
+      let place : length f - 32 + at ≡ length f - back = omega arith in
+      drop-drop at (length f - 32) f ∙ ap (λ (n : ℕ). drop n f) place
+
+  octet_at : (back at : ℕ) → back + at ≡ 32 → get_or (drop (length f - 32) f) at 0 ≡ slice_index f (length f - back)
+  octet_at back at is =
+      let place : length f - 32 + at ≡ length f - back = omega arith in
+      get_or-drop (length f - 32) f at 0 ∙ ap (slice_index f) place
+
+  number_at : (back at : ℕ) → back + at ≡ 32 → 8 ≤ back → take 8 (drop at (drop (length f - 32) f)) ≡ big_bytes 8 (number_before_end back f)
+  number_at back at is enough =
+      ap (take 8) (ended back at is) ∙ sym (big_bytes-big_number 8 (drop (length f - back) f) (AreOctets-drop (length f - back) f octets) (omega (arith, length-drop (length f - back) f)))
+
+  pub trailer-is : HasPlainTrailer f → HasLeastWidths f → drop (length f - 32) f ≡ trailer_octets (trailer_of f).count (trailer_of f).table
+  trailer-is plain least =
+      let n = (trailer_of f).count in
+      let t = (trailer_of f).table in
+      let size : length (drop (length f - 32) f) ≡ 32 = omega (arith, length-drop (length f - 32) f) in
+      join_trailer (drop (length f - 32) f) (replicate 6 0) (least_width t) (least_width n) (big_bytes 8 n) (big_bytes 8 0) (big_bytes 8 t)
+      size plain.slack (octet_at 26 6 refl ∙ least.offset) (octet_at 25 7 refl ∙ least.reference)
+      (number_at 24 8 refl (omega arith)) (number_at 16 16 refl (omega arith) ∙ ap (big_bytes 8) plain.top) (number_at 8 24 refl (omega arith))

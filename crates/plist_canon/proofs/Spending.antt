@@ -17,8 +17,8 @@ use Rattle.plist_canon.specs.declared.weights.Weight.{Weight}
 use Rattle.plist_canon.specs.Weights.{weight_of, payload_of_weight, Weighs}
 use Rattle.plist_canon.specs.Preorders.{Group, grouped, groups_of}
 use Rattle.plist_canon.specs.Owing.{Named, AllNamed, nodes_named, payload_named, AreWithin, Owes, Pays}
-use Rattle.plist_canon.proofs.KeyPairs.{put_texts}
-use Rattle.plist_canon.proofs.Weighing.{Weighs-held}
+use Rattle.plist_canon.proofs.Entries.{put_texts}
+use Rattle.plist_canon.proofs.Visiting.{Weighs-held}
 use Rattle.plist_canon.proofs.TableParts.{some_nodes, table_parts}
 use Rattle.plist_value.proofs.Items.{some_depth}
 

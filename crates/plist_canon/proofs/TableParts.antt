@@ -13,7 +13,7 @@ use Rattle.plist_object.specs.Places.{Holds}
 use Rattle.plist_object.specs.Spelled.{Spells, SpellItems, SpellPairs}
 use Rattle.plist_object.proofs.Uniqueness.{same_held, same_rows, same_pairs}
 use Rattle.plist_canon.specs.Rules.{HoldTexts, HasAscendingKeys}
-use Rattle.plist_canon.proofs.KeyPairs.{pairs_of, put_texts, ArePairs-pairs_of}
+use Rattle.plist_canon.proofs.Entries.{pairs_of, put_texts, ArePairs-pairs_of}
 use Rattle.plist_value.proofs.Items.{some_depth}
 
 pub some_nodes : (v : Plist) → 1 ≤ nodes v

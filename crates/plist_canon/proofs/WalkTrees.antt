@@ -18,8 +18,8 @@ use Rattle.plist_engine.proofs.Sizes.{item_count}
 use Rattle.plist_engine.proofs.Spelled.{Spells-tree}
 use Rattle.plist_object.proofs.Uniqueness.{same_held}
 use Rattle.plist_object.proofs.HeldRanges.{Holds-held}
-use Rattle.plist_canon.proofs.Entries.{AreNumbers, PlacesHold, AreNumbers-front, AreNumbers-rest, AreNumbers-own, PlacesHold-append, PlacesHold-at}
-use Rattle.plist_canon.proofs.KeyPairs.{pairs_of, put_texts, key_texts-pairs_of, preorder-pairs_of, places-pairs_of, AreItems-put_texts, ArePairs-pairs_of}
+use Rattle.plist_canon.proofs.Judges.{texts_of}
+use Rattle.plist_canon.proofs.Entries.{AreNumbers, PlacesHold, AreNumbers-front, AreNumbers-rest, AreNumbers-own, PlacesHold-append, PlacesHold-at, pairs_of, put_texts, key_texts-pairs_of, preorder-pairs_of, places-pairs_of, AreItems-put_texts, ArePairs-pairs_of}
 
 -- The walk from the object i meets these entries, and they are those of this value: with the
 -- entries as numbers, each place's object holds what stands there.
@@ -104,10 +104,6 @@ list-walked f i refs entries holds xs = record {
 }
 
 -- references to texts name them in turn
-texts_of : (f keys : List ℕ) → AllByRecursion (HoldsText f) keys → (texts : List (List ℕ)) × HoldTexts f keys texts
-texts_of f [] h = ([], refl)
-texts_of f (i ∷ keys) h = let rest = texts_of f keys h.1 in (h.0.0 ∷ rest.0, (h.0.1, rest.1))
-
 length-HoldTexts : (f keys : List ℕ) (texts : List (List ℕ)) → HoldTexts f keys texts → length texts ≡ length keys
 length-HoldTexts f keys [] h = ap length (sym h)
 length-HoldTexts f [] (units ∷ texts) h = absurd h

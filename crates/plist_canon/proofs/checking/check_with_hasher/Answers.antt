@@ -3,7 +3,7 @@ use Rattle.plist_object.specs.Views.{octets_of}
 use Rattle.plist_canon.specs.Rules.{FollowsRules, IsBroken}
 use Rattle.plist_canon.specs.Checking.{IsFlaw}
 use Rattle.plist_canon.specs.declared.checking.Verdict.TheVariants as verdict
-use Rattle.plist_canon.proofs.Local.{verdict_decides}
+use Rattle.plist_canon.proofs.Followed.{verdict_decides}
 use Rattle.plist_canon.proofs.checking.check_with_hasher.Goals as goal
 
 pub returns-in-Ok-clause-canonical : goal.returns-in-Ok-clause-canonical

@@ -4,7 +4,7 @@ use Rattle.plist_object.specs.Views.{held_of, octets_of}
 use Rattle.plist_canon.specs.Rules.{breaks_c3, breaks_c4}
 use Rattle.plist_object.proofs.Readable.{Holds-reads}
 use Rattle.plist_canon.proofs.Judges.{not-Adjoins, refuted, span-place}
-use Rattle.plist_canon.proofs.Plainly.{Holds-inside, begins-shortest}
+use Rattle.plist_canon.proofs.Occupied.{Holds-inside, begins-shortest}
 use Rattle.plist_canon.proofs.judging.judge_standing.Goals as goal
 
 pub returns-then-read-place-clause-err : goal.returns-then-read-place-clause-err

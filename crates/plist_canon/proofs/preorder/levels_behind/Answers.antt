@@ -3,7 +3,7 @@ use Rattle.std.proofs.lemmas.Bool.Decides.{nat_tests}
 use Rattle.plist_canon.specs.Preorders.{grouped, path_groups}
 use Rattle.plist_canon.specs.Steps.{Stands}
 use Rattle.plist_canon.proofs.Paths.{Awaits-first, Awaits-next, Stands-after, none_met}
-use Rattle.plist_canon.proofs.Walking.{IsWalking-other, IsWalking-over}
+use Rattle.plist_canon.proofs.Visiting.{IsWalking-other, IsWalking-over}
 use Rattle.plist_canon.proofs.preorder.levels_behind.Goals as goal
 
 pub returns-then-is_empty : goal.returns-then-is_empty

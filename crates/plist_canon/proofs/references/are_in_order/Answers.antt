@@ -2,7 +2,7 @@ use Rattle.std.proofs.Common.{◌≡◌, Some, sym, ◌∙◌}
 use Rattle.std.proofs.lemmas.Bool.Decides.{Decides-ltb}
 use Rattle.plist_object.specs.Views.{octets_of}
 use Rattle.plist_object.specs.Ranks.{rank_of}
-use Rattle.plist_canon.proofs.Ranked.{ranked_in_order, in_order_ranked}
+use Rattle.plist_canon.proofs.Turning.{ranked_in_order, in_order_ranked}
 use Rattle.plist_canon.proofs.references.are_in_order.Goals as goal
 
 pub returns-in-Some-Some : goal.returns-in-Some-Some

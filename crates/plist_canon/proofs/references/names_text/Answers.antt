@@ -1,5 +1,5 @@
 use Rattle.plist_object.specs.Views.{octets_of}
-use Rattle.plist_canon.proofs.Ranked.{some_ranked}
+use Rattle.plist_canon.proofs.Turning.{some_ranked}
 use Rattle.plist_canon.proofs.references.names_text.Goals as goal
 
 pub returns-then-is_some : goal.returns-then-is_some

@@ -3,8 +3,7 @@ use Rattle.plist_object.specs.Views.{octets_of}
 use Rattle.plist_canon.specs.Rules.{breaks_c6}
 use Rattle.plist_engine.specs.Sieve.{MayRepeat}
 use Rattle.plist_canon.proofs.Judges.{refuted}
-use Rattle.plist_canon.proofs.Meeting.{met-had}
-use Rattle.plist_canon.proofs.Repeating.{HasMet-scalar, HasMet-past, IsNoRepeat-apart, IsNoRepeat-new, not-IsNoRepeat}
+use Rattle.plist_canon.proofs.Meeting.{met-had, HasMet-scalar, HasMet-past, IsNoRepeat-apart, IsNoRepeat-new, not-IsNoRepeat}
 use Rattle.plist_canon.proofs.repeats.judge_repeat.Goals as goal
 
 pub returns-then-not-may_repeat-clause-ok : goal.returns-then-not-may_repeat-clause-ok

@@ -1,7 +1,7 @@
 use Rattle.std.proofs.Common.{ap}
 use Rattle.std.specs.Option.{is_some}
 use Rattle.plist_object.specs.Layout.{trailer_of}
-use Rattle.plist_canon.proofs.Walked.{Walked-met, breaks-at, walks-within, breaks-limits}
+use Rattle.plist_canon.proofs.Paths.{Walked-met, breaks-at, walks-within, breaks-limits}
 use Rattle.plist_canon.proofs.preorder.Walk.finish.Goals as goal
 
 pub returns-in-Some-clause-err : goal.returns-in-Some-clause-err

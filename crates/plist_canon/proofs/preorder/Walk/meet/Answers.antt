@@ -3,8 +3,8 @@ use Rattle.std.specs.Option.{is_some}
 use Rattle.plist_object.specs.Layout.{trailer_of}
 use Rattle.plist_object.specs.Views.{held_of}
 use Rattle.plist_canon.specs.declared.preorder.Walk.{Walk}
-use Rattle.plist_canon.proofs.Weighing.{length-more}
-use Rattle.plist_canon.proofs.Walked.{MetInTurn-more, Walked-broken, Walked-met}
+use Rattle.plist_canon.proofs.Visiting.{length-more}
+use Rattle.plist_canon.proofs.Paths.{MetInTurn-more, Walked-broken, Walked-met}
 use Rattle.plist_canon.proofs.preorder.Walk.meet.Goals as goal
 
 pub returns-then-is_some-clause-one : goal.returns-then-is_some-clause-one

@@ -1,5 +1,5 @@
 use Rattle.std.proofs.Common.{length, refl, ap}
-use Rattle.plist_canon.proofs.Walked.{MetInTurn-none}
+use Rattle.plist_canon.proofs.Paths.{MetInTurn-none}
 use Rattle.plist_canon.proofs.preorder.Walk.new.Goals as goal
 
 pub returns-clause-none : goal.returns-clause-none
