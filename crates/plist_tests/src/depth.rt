@@ -1,112 +1,34 @@
 //! Texts of values as deep as a value may be, and deeper.
+use crate::texts::{LISTS, Parts, nested};
 use ostep_text::{TextFault, read_text, write_text};
 use plist_convert::{Fault, canonicalise};
 use plist_value::same;
 use std::alloc::{AllocError, Global};
 use std::test::Fail;
+use test_files::chain;
 
-/// A text: an opening and an ending so many times each around a middle, between a front and an end.
-#[derive(Clone, Copy)]
-struct Nested {
-    front: &'static [u8],
-    opening: &'static [u8],
-    middle: &'static [u8],
-    ending: &'static [u8],
-    end: &'static [u8],
-    times: usize,
-}
-
-const LISTS: Nested = Nested {
-    front: b"",
-    opening: b"(",
-    middle: b"a",
-    ending: b")",
-    end: b"",
-    times: 511,
-};
-
-const TABLES: Nested = Nested {
-    opening: b"{a=",
-    middle: b"b",
-    ending: b";}",
-    ..LISTS
-};
+const TABLES: Parts = [b"", b"{a=", b"b", b";}", b""];
 
 // In a table without braces.
-const BARE: Nested = Nested {
-    front: b"a = ",
-    end: b";",
-    times: 510,
-    ..LISTS
-};
-
-impl Nested {
-    fn text(&self, alloc: Global) -> Result<Vec<u8>, AllocError> {
-        let mut text = Vec::from_slice(alloc, self.front)?;
-        for _ in 0..self.times {
-            text.extend_from_slice(self.opening)?;
-        }
-        text.extend_from_slice(self.middle)?;
-        for _ in 0..self.times {
-            text.extend_from_slice(self.ending)?;
-        }
-        text.extend_from_slice(self.end)?;
-        Ok(text)
-    }
-}
+const BARE: Parts = [b"a = ", b"(", b"a", b")", b";"];
 
 // Each is refused where the value 513 levels deep begins, whatever comes after that.
-const ROWS: [(Nested, Option<usize>); 9] = [
-    (LISTS, None),
-    (
-        Nested {
-            times: 512,
-            ..LISTS
-        },
-        Some(512),
-    ),
-    (
-        Nested {
-            middle: b"",
-            ending: b"",
-            times: 1_000_000,
-            ..LISTS
-        },
-        Some(512),
-    ),
-    (TABLES, None),
-    (
-        Nested {
-            middle: b"",
-            ending: b"",
-            times: 512,
-            ..TABLES
-        },
-        Some(1534),
-    ),
-    (
-        Nested {
-            times: 512,
-            ..TABLES
-        },
-        Some(1534),
-    ),
-    (
-        Nested {
-            ending: b"",
-            times: 1_000_000,
-            ..TABLES
-        },
-        Some(1534),
-    ),
-    (BARE, None),
-    (Nested { times: 511, ..BARE }, Some(515)),
+const ROWS: [(Parts, usize, Option<usize>); 9] = [
+    (LISTS, 511, None),
+    (LISTS, 512, Some(512)),
+    ([b"", b"(", b"", b"", b""], 1_000_000, Some(512)),
+    (TABLES, 511, None),
+    ([b"", b"{a=", b"", b"", b""], 512, Some(1534)),
+    (TABLES, 512, Some(1534)),
+    ([b"", b"{a=", b"b", b"", b""], 1_000_000, Some(1534)),
+    (BARE, 510, None),
+    (BARE, 511, Some(515)),
 ];
 
 // The place of the first row that is answered otherwise.
 fn first_wrong(alloc: Global) -> Result<Option<usize>, AllocError> {
-    for (place, (nested, octet)) in ROWS.iter().enumerate() {
-        let text = nested.text(alloc)?;
+    for (place, (parts, times, octet)) in ROWS.iter().enumerate() {
+        let text = nested(alloc, parts, *times)?;
         let fault = read_text(alloc, text.as_slice()).err();
         let canonical = canonicalise(alloc, text.as_slice()).err();
         let want = octet.map(|octet| TextFault::TooDeep { octet });
@@ -125,15 +47,14 @@ fn texts_are_read_to_512_levels(rt: HostRuntime) -> Result<(), Fail> {
 
 #[test]
 fn lists_511_deep_are_written(rt: HostRuntime) -> Result<(), Fail> {
-    let value = read_text(rt.alloc(), LISTS.text(rt.alloc())?.as_slice())?;
-    let lines = Nested {
-        opening: b"(\n",
-        ending: b",\n)",
-        end: b"\n",
-        ..LISTS
-    };
+    let text = nested(rt.alloc(), &LISTS, 511)?;
+    let canonical = canonicalise(rt.alloc(), text.as_slice())?;
+    assert_eq!(rt; canonical.len(), 2599);
+    assert!(rt; canonical == chain(rt.alloc(), 512, b"Qa")?);
+    let value = read_text(rt.alloc(), text.as_slice())?;
     let written = write_text(rt.alloc(), &value)?;
-    assert_eq!(rt; written, lines.text(rt.alloc())?);
+    let lines = [b"".as_slice(), b"(\n", b"a", b",\n)", b"\n"];
+    assert_eq!(rt; written, nested(rt.alloc(), &lines, 511)?);
     let again = read_text(rt.alloc(), written.as_slice())?;
     assert!(rt; same(&again, &value));
     Ok(())

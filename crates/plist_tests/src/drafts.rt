@@ -21,12 +21,8 @@ fn put_text(draft: &mut Draft, units: &[u16]) -> Result<u32, AllocError> {
     draft.put_scalar(&ScalarRef::Text(TextRef::of_units(units)))
 }
 
-fn share_text(draft: &mut Draft, units: &[u16]) -> Result<u32, AllocError> {
-    draft.share_scalar(&ScalarRef::Text(TextRef::of_units(units)), Role::Value)
-}
-
-fn share_key(draft: &mut Draft, units: &[u16]) -> Result<u32, AllocError> {
-    draft.share_scalar(&ScalarRef::Text(TextRef::of_units(units)), Role::Key)
+fn share_text(draft: &mut Draft, units: &[u16], role: Role) -> Result<u32, AllocError> {
+    draft.share_scalar(&ScalarRef::Text(TextRef::of_units(units)), role)
 }
 
 fn one_text(alloc: Global) -> Result<Vec<u8>, AllocError> {
@@ -64,10 +60,10 @@ fn drafts_are_finished(rt: HostRuntime) -> Result<(), Fail> {
 #[test]
 fn equal_scalars_are_one_object(rt: HostRuntime) -> Result<(), Fail> {
     let mut draft = Draft::new(rt.alloc())?;
-    let a = share_text(&mut draft, &[0x61])?;
-    let b = share_text(&mut draft, &[0x62])?;
+    let a = share_text(&mut draft, &[0x61], Role::Value)?;
+    let b = share_text(&mut draft, &[0x62], Role::Value)?;
     assert_eq!(rt; [a, b], [0, 1]);
-    assert_eq!(rt; share_text(&mut draft, &[0x61])?, a);
+    assert_eq!(rt; share_text(&mut draft, &[0x61], Role::Value)?, a);
     assert_eq!(rt;
         draft.share_scalar(&ScalarRef::Bytes(b"a"), Role::Value)?,
         2
@@ -80,34 +76,25 @@ fn equal_scalars_are_one_object(rt: HostRuntime) -> Result<(), Fail> {
 }
 
 // Of texts that are put once few would be found: many that follow are put without a look, and then
-// equal ones are found again.
+// equal ones are found again. That few keys are found says nothing of values, and the other way
+// round.
 #[test]
 fn few_equal_scalars_are_not_looked_for(rt: HostRuntime) -> Result<(), Fail> {
-    let mut draft = Draft::new(rt.alloc())?;
-    for i in 0..5_000u16 {
-        share_text(&mut draft, &[i, 0x61])?;
+    for (role, other) in [(Role::Value, Role::Key), (Role::Key, Role::Value)] {
+        let mut draft = Draft::new(rt.alloc())?;
+        for i in 0..5_000u16 {
+            share_text(&mut draft, &[i, 0x61], role)?;
+        }
+        assert_eq!(rt; share_text(&mut draft, &[0x61], role)?, 5_000);
+        assert_eq!(rt; share_text(&mut draft, &[0x61], role)?, 5_001);
+        let b = share_text(&mut draft, &[0x62], other)?;
+        assert_eq!(rt; share_text(&mut draft, &[0x62], other)?, b);
+        for _ in 0..66_000u32 {
+            share_text(&mut draft, &[0x61], role)?;
+        }
+        let c = share_text(&mut draft, &[0x63], role)?;
+        assert_eq!(rt; share_text(&mut draft, &[0x63], role)?, c);
     }
-    assert_eq!(rt; share_text(&mut draft, &[0x61])?, 5_000);
-    assert_eq!(rt; share_text(&mut draft, &[0x61])?, 5_001);
-    for _ in 0..66_000u32 {
-        share_text(&mut draft, &[0x61])?;
-    }
-    let b = share_text(&mut draft, &[0x62])?;
-    assert_eq!(rt; share_text(&mut draft, &[0x62])?, b);
-    Ok(())
-}
-
-// That few keys are found says nothing of values, and the other way round.
-#[test]
-fn keys_and_values_are_looked_for_apart(rt: HostRuntime) -> Result<(), Fail> {
-    let mut draft = Draft::new(rt.alloc())?;
-    for i in 0..5_000u16 {
-        share_key(&mut draft, &[i, 0x61])?;
-    }
-    assert_eq!(rt; share_key(&mut draft, &[0x61])?, 5_000);
-    assert_eq!(rt; share_key(&mut draft, &[0x61])?, 5_001);
-    let b = share_text(&mut draft, &[0x62])?;
-    assert_eq!(rt; share_text(&mut draft, &[0x62])?, b);
     Ok(())
 }
 
@@ -142,7 +129,7 @@ fn is_scalar_put(alloc: Global, is_shared: bool) -> Result<bool, Fail> {
     let mut draft = Draft::new(alloc)?;
     put_text(&mut draft, &[0x61])?;
     let put = if is_shared {
-        share_text(&mut draft, &[0x62])
+        share_text(&mut draft, &[0x62], Role::Value)
     } else {
         put_text(&mut draft, &[0x62])
     };

@@ -11,13 +11,13 @@ use std::test::Fail;
 type Ending = (&'static str, &'static [u8], u8);
 
 const ENDINGS: [Ending; 7] = [
-    ("plistconv convert binary1 row2.txt old", TABLE, 0),
-    ("plistconv convert binary1 unsorted.bin old", TABLE, 0),
-    ("plistconv convert openstep row2.bin old", WRITTEN_TEXT, 0),
-    ("plistconv convert openstep row2.txt old", WRITTEN_TEXT, 0),
-    ("plistconv convert binary1 twice.txt old", b"old", 2),
-    ("plistconv convert openstep true.bin old", b"old", 2),
-    ("plistconv convert binary1 missing old", b"old", 4),
+    ("convert binary1 row2.txt old", TABLE, 0),
+    ("convert binary1 unsorted.bin old", TABLE, 0),
+    ("convert openstep row2.bin old", WRITTEN_TEXT, 0),
+    ("convert openstep row2.txt old", WRITTEN_TEXT, 0),
+    ("convert binary1 twice.txt old", b"old", 2),
+    ("convert openstep true.bin old", b"old", 2),
+    ("convert binary1 missing old", b"old", 4),
 ];
 
 /// Which program runs.
@@ -44,25 +44,15 @@ fn status_at(rt: &HostRuntime, words: &[&str], running: Running) -> u8 {
     }
 }
 
-// Whether a run ends with this status and leaves these octets at the path `old`.
-fn leaves(
-    rt: &HostRuntime,
-    words: &[&str],
-    running: Running,
-    stands: &[u8],
-    want: u8,
-) -> Result<bool, Fail> {
-    fs::write(rt, "old", b"old")?;
-    let status = status_at(rt, words, running);
-    Ok(holds(rt, "old", stands)? && status == want)
-}
-
-// The words of the first row that is answered otherwise, whichever program runs.
+// The words of the first row that ends with another status, or leaves other octets at the path
+// `old`, whichever program runs.
 fn wrong_ending(rt: &HostRuntime) -> Result<Option<&'static str>, Fail> {
     for (text, stands, want) in &ENDINGS {
         let words = words_of(rt.alloc(), text)?;
         for running in [Running::On, Running::ToEnd, Running::ToEndWithoutChance] {
-            if !leaves(rt, words.as_slice(), running, stands, *want)? {
+            fs::write(rt, "old", b"old")?;
+            let status = status_at(rt, words.as_slice(), running);
+            if status != *want || !holds(rt, "old", stands)? {
                 return Ok(Some(text));
             }
         }

@@ -1,6 +1,6 @@
 //! Binary files, accepted and refused, canonical and not.
 use std::alloc::{AllocError, Global};
-use test_files::{Draft, file, file_of, one};
+use test_files::{Draft, chain, file, file_of, one};
 
 // Objects that stand alone in a file.
 const ALONE: [&[u8]; 35] = [
@@ -96,8 +96,41 @@ fn marked(alloc: Global) -> Result<Vec<u8>, AllocError> {
     Ok(file)
 }
 
-/// Files of at most 80 octets.
-pub(crate) fn small_files(alloc: Global) -> Result<Vec<Vec<u8>>, AllocError> {
+/// The file of the list of the texts of the numbers below the count, of three digits each, with
+/// references of this width.
+pub(crate) fn numbers(alloc: Global, count: u8, width: u8) -> Result<Vec<u8>, AllocError> {
+    let mut list = Vec::from_slice(alloc, &[0xaf, 0x10, count])?;
+    for number in 1..=u64::from(count) {
+        let skipped = 8 - usize::from(width.min(8));
+        list.extend_from_slice(&number.to_be_bytes()[skipped..])?;
+    }
+    let mut draft = Draft::new(alloc)?;
+    draft.put(list.as_slice())?;
+    for number in 0..count {
+        let digits = [number / 100, number / 10 % 10, number % 10];
+        draft.put(&[0x53, b'0' + digits[0], b'0' + digits[1], b'0' + digits[2]])?;
+    }
+    draft.finish(2, width)
+}
+
+/// The file of data of so many zeros, with this head and offsets of this width.
+pub(crate) fn zeros(
+    alloc: Global,
+    head: &[u8],
+    count: u8,
+    width: u8,
+) -> Result<Vec<u8>, AllocError> {
+    let mut object = Vec::from_slice(alloc, head)?;
+    let size = head.len().saturating_add(usize::from(count));
+    object.resize(size, 0)?;
+    let mut draft = Draft::new(alloc)?;
+    draft.put(object.as_slice())?;
+    draft.finish(width, 1)
+}
+
+/// Files of at most 80 octets, and canonical files of 288 to 2,598 octets: of 255 and 256 objects,
+/// of data just below and at the place 256, and of lists 512 deep.
+pub(crate) fn files(alloc: Global) -> Result<Vec<Vec<u8>>, AllocError> {
     let mut files = Vec::new(alloc);
     for object in ALONE {
         files.push(one(alloc, object)?)?;
@@ -110,45 +143,10 @@ pub(crate) fn small_files(alloc: Global) -> Result<Vec<Vec<u8>>, AllocError> {
     files.push(file(alloc, b"\xa2\x01\x02RQa", &[8, 11, 12], 1)?)?;
     files.push(file(alloc, b"\x09", &[7], 1)?)?;
     files.push(marked(alloc)?)?;
-    Ok(files)
-}
-
-// The canonical file of the list of the texts of the numbers below the count, of three digits each.
-fn numbers(alloc: Global, count: u8, width: u8) -> Result<Vec<u8>, AllocError> {
-    let mut list = Vec::from_slice(alloc, &[0xaf, 0x10, count])?;
-    for number in 0..u16::from(count) {
-        let [high, low] = (number + 1).to_be_bytes();
-        if width == 2 {
-            list.push(high)?;
-        }
-        list.push(low)?;
-    }
-    let mut draft = Draft::new(alloc)?;
-    draft.put(list.as_slice())?;
-    for number in 0..count {
-        let digits = [number / 100, number / 10 % 10, number % 10];
-        draft.put(&[0x53, b'0' + digits[0], b'0' + digits[1], b'0' + digits[2]])?;
-    }
-    draft.finish(2, width)
-}
-
-// Data of so many zeros.
-fn zeros(alloc: Global, count: u8, offset_width: u8) -> Result<Vec<u8>, AllocError> {
-    let mut object = Vec::from_slice(alloc, &[0x4f, 0x10, count])?;
-    object.resize(3 + usize::from(count), 0)?;
-    let mut draft = Draft::new(alloc)?;
-    draft.put(object.as_slice())?;
-    draft.finish(offset_width, 1)
-}
-
-/// Canonical files of 288 to 2,598 octets: of 255 and 256 objects, of data just below and at the
-/// place 256, and of lists 512 deep.
-pub(crate) fn long_files(alloc: Global) -> Result<Vec<Vec<u8>>, AllocError> {
-    let mut files = Vec::new(alloc);
     files.push(numbers(alloc, 254, 1)?)?;
     files.push(numbers(alloc, 255, 2)?)?;
-    files.push(zeros(alloc, 244, 1)?)?;
-    files.push(zeros(alloc, 245, 2)?)?;
-    files.push(test_files::chain(alloc, 512, b"Qa")?)?;
+    files.push(zeros(alloc, b"\x4f\x10\xf4", 244, 1)?)?;
+    files.push(zeros(alloc, b"\x4f\x10\xf5", 245, 2)?)?;
+    files.push(chain(alloc, 512, b"Qa")?)?;
     Ok(files)
 }

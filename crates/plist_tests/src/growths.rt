@@ -1,6 +1,7 @@
-//! Want of memory: each call that allocates answers 60, or what it answers with ample memory. A
+//! Refused memory: each call that allocates answers 60, or what it answers with ample memory. A
 //! test is run once for each allocation that it makes, which is refused from outside, by
 //! bench/growths.py.
+use crate::worked_files::{TABLE, TABLE_TEXT, TWICE, WRITTEN_TEXT};
 use ostep_text::{TextFault, TextWriteFault, read_text, write_text};
 use plist_binary::{BinaryFault, read};
 use plist_canon::{CheckFault, ListSink, Verdict, WriteFault, canonical, check, write_canonical};
@@ -10,9 +11,6 @@ use plist_value::{Utf16, Value, copy, fits, same};
 use std::alloc::{AllocError, Global};
 use std::test::Fail;
 use test_files::file;
-
-// The table of b under a and a under b, with its keys not in order.
-const SWAPPED: &[u8] = b"{b=a;a=b;}";
 
 // A text whose keys ascend by their units, and how many octets its canonical file has.
 const SURROGATES: &[u8] = b"{\"\\Uff61\"=a;\"\\Ud800\\Udc00\"=b;}";
@@ -31,11 +29,6 @@ const TEXTS: [(&[u8], u8); 8] = [
     (b" ", 0),
 ];
 
-// The canonical file of the table.
-fn sorted(alloc: Global) -> Result<Vec<u8>, AllocError> {
-    file(alloc, b"\xd2\x01\x02\x02\x01QaQb", &[8, 13, 15], 1)
-}
-
 // The value of a text.
 fn value_of(alloc: Global, octets: &[u8]) -> Result<Value, Fail> {
     Ok(read_text(alloc, octets)?)
@@ -43,7 +36,7 @@ fn value_of(alloc: Global, octets: &[u8]) -> Result<Value, Fail> {
 
 #[test]
 fn copies(rt: HostRuntime) -> Result<(), Fail> {
-    let value = value_of(rt.alloc(), SWAPPED)?;
+    let value = value_of(rt.alloc(), TABLE_TEXT)?;
     if let Ok(copied) = copy(rt.alloc(), &value) {
         assert!(rt; same(&copied, &value));
     }
@@ -127,7 +120,7 @@ fn files_are_checked(rt: HostRuntime) -> Result<(), Fail> {
         let answer = checked(rt.alloc(), objects, slack)?;
         assert!(rt; answer == Ok(verdict) || answer == Err(CheckFault::OutOfMemory));
     }
-    let code = check(rt.alloc(), SWAPPED)
+    let code = check(rt.alloc(), TABLE_TEXT)
         .err()
         .map_or(0, |fault| fault.code());
     assert_eq!(rt; code, 1);
@@ -152,8 +145,8 @@ fn texts_are_read(rt: HostRuntime) -> Result<(), Fail> {
             assert!(rt; answer == code || answer == 60);
         }
     }
-    if let Ok(canonical) = canonicalise(rt.alloc(), SWAPPED) {
-        assert_eq!(rt; canonical, sorted(rt.alloc())?);
+    if let Ok(canonical) = canonicalise(rt.alloc(), TABLE_TEXT) {
+        assert_eq!(rt; canonical.as_slice(), TABLE);
     }
     Ok(())
 }
@@ -163,7 +156,7 @@ fn texts_are_written(rt: HostRuntime) -> Result<(), Fail> {
     let rows: [(&[u8], &[u8]); 5] = [
         (b"\"bplist\"", b"\"bplist\"\n"),
         (b"\"\\Ud800\"", b"\"\\Ud800\"\n"),
-        (SWAPPED, b"{\na = b;\nb = a;\n}\n"),
+        (TABLE_TEXT, WRITTEN_TEXT),
         (b"()", b"(\n)\n"),
         (b"a.b", b"\"a.b\"\n"),
     ];
@@ -191,13 +184,12 @@ fn texts_are_written(rt: HostRuntime) -> Result<(), Fail> {
 
 #[test]
 fn files_are_compared(rt: HostRuntime) -> Result<(), Fail> {
-    let sorted = sorted(rt.alloc())?;
-    match same_files(rt.alloc(), SWAPPED, sorted.as_slice()) {
+    match same_files(rt.alloc(), TABLE_TEXT, TABLE) {
         Ok(equal) => assert!(rt; equal),
         Err(fault) => assert_eq!(rt; fault.code(), 60),
     }
     let twice = Fault::Text(TextFault::DuplicateKey { octet: 3 });
-    match same_files(rt.alloc(), SWAPPED, b"{a;a=b;}") {
+    match same_files(rt.alloc(), TABLE_TEXT, TWICE) {
         Ok(_) => return Err(Fail::from("a key stands twice")),
         Err(fault) => assert!(rt; fault == PairFault::Second(twice) || fault.code() == 60),
     }
@@ -211,8 +203,8 @@ fn files_are_compared(rt: HostRuntime) -> Result<(), Fail> {
 
 #[test]
 fn sources_are_loaded(rt: HostRuntime) -> Result<(), Fail> {
-    match load(rt.alloc(), &mut ListSource::new(SWAPPED, 3, None)) {
-        Ok(octets) => assert_eq!(rt; octets.as_slice(), SWAPPED),
+    match load(rt.alloc(), &mut ListSource::new(TABLE_TEXT, 3, None)) {
+        Ok(octets) => assert_eq!(rt; octets.as_slice(), TABLE_TEXT),
         Err(fault) => assert_eq!(rt; fault.code(), 60),
     }
     Ok(())

@@ -1,5 +1,6 @@
 //! What the program says of itself and of each of its words.
-use plist_convert::run;
+use crate::host_tests::status_of;
+use crate::words::words_of;
 use std::test::Fail;
 
 // How many lines the text has, and how many characters the longest of them.
@@ -11,40 +12,66 @@ fn size_of(text: &str) -> (usize, usize) {
     (text.lines().count(), longest)
 }
 
+/// Words, how their help begins, and an example in it.
+const ROWS: [(&str, &str, &str); 6] = [
+    (
+        "--help",
+        "Converts Apple property lists",
+        "plistutil -i IN -f bin -o OUT",
+    ),
+    (
+        "convert --help",
+        "Writes the property list",
+        "Example: plistconv convert binary1 ",
+    ),
+    (
+        "same --help",
+        "Says whether two files",
+        "Example: plistconv same ",
+    ),
+    (
+        "lint --help",
+        "Says whether a file is a",
+        "plutil -convert binary1 -o OUT IN",
+    ),
+    (
+        "check --help",
+        "Says whether a file is the",
+        "Example: plistconv check ",
+    ),
+    (
+        "print --help",
+        "Prints the value of a file",
+        "Example: plistconv print ",
+    ),
+];
+
 #[test]
 fn each_word_is_explained_on_one_screen(rt: HostRuntime) -> Result<(), Fail> {
-    let rows = [
-        ("plistconv --help", "plistutil -i IN -f bin -o OUT", 30),
-        (
-            "plistconv convert --help",
-            "Example: plistconv convert binary1 ",
-            40,
-        ),
-        ("plistconv same --help", "Example: plistconv same ", 40),
-        (
-            "plistconv lint --help",
-            "plutil -convert binary1 -o OUT IN",
-            40,
-        ),
-        ("plistconv check --help", "Example: plistconv check ", 40),
-        ("plistconv print --help", "Example: plistconv print ", 40),
-    ];
-    for (words, example, most) in rows {
-        let given: Vec<&str> = words.split(' ').collect(rt.alloc())?;
-        let mut input: &[u8] = b"";
+    for (line, front, example) in ROWS {
+        let words = words_of(rt.alloc(), line)?;
         let mut output = Vec::new(rt.alloc());
-        let status = run(&rt, rt.alloc(), given.as_slice(), &mut input, &mut output);
-        assert_eq!(rt; status, 0, "at {words}");
+        assert_eq!(rt;
+            status_of(&rt, words.as_slice(), &mut output),
+            0,
+            "at {line}"
+        );
         let Ok(text) = String::from_utf8(output) else {
             return Err(Fail::from("it is not UTF-8"));
         };
         let (lines, longest) = size_of(text.as_str());
-        assert!(rt; lines <= most, "{lines} lines at {words}");
-        assert!(rt; longest <= 80, "{longest} columns at {words}");
-        assert!(rt; text.contains(example), "at {words}");
-        assert!(rt; text.contains("Exit status:"), "at {words}");
-        assert!(rt; text.contains("the words are not understood"), "at {words}");
-        assert!(rt; text.contains("no memory is left"), "at {words}");
+        let most = if line == "--help" { 30 } else { 40 };
+        assert!(rt; lines <= most, "{lines} lines at {line}");
+        assert!(rt; longest <= 80, "{longest} columns at {line}");
+        assert!(rt; text.starts_with(front), "at {line}");
+        for part in [
+            example,
+            "Exit status:",
+            "the words are not understood",
+            "no memory is left",
+        ] {
+            assert!(rt; text.contains(part), "{part} at {line}");
+        }
     }
     Ok(())
 }

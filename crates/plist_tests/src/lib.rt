@@ -1,17 +1,15 @@
 //! All tests of what no row of `rows` spells: files that are made, devices that fail, each prefix
-//! of small files and texts, deep texts, want of memory, and the program over the files of the host
-//! and over a disk in memory. They stand in one crate, since a crate of tests loads the proofs of
-//! all that is below it.
+//! of small files and texts, deep texts, refused memory, and the program over the files of the host
+//! and over a disk in memory. They are in one crate, since a crate of tests loads the proofs of all
+//! that is below it.
 #![tactic(auto)]
 
 #[cfg(test)]
 mod chance;
 #[cfg(test)]
-mod deepest;
-#[cfg(test)]
 mod depth;
 #[cfg(test)]
-mod drafted_texts;
+mod devices;
 #[cfg(test)]
 mod drafts;
 #[cfg(test)]
@@ -49,8 +47,6 @@ mod send_tests;
 #[cfg(test)]
 mod sink_tests;
 #[cfg(test)]
-mod size_tests;
-#[cfg(test)]
 mod surface;
 #[cfg(test)]
 mod texts;
@@ -60,8 +56,6 @@ mod tokens;
 mod transfer_tests;
 #[cfg(test)]
 mod value_tests;
-#[cfg(test)]
-mod values;
 #[cfg(test)]
 mod words;
 #[cfg(test)]

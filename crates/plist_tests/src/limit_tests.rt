@@ -1,10 +1,11 @@
 //! Files that are made: the limits on depth, nodes and payload, as the judge, the reader and the
 //! check have them, and the widths of references and offsets.
 use crate::engine::canonical_file;
-use crate::values::made;
+use crate::files::{numbers, zeros};
 use plist_binary::{BinaryFault, judge, read};
-use plist_canon::{Verdict, check};
+use plist_canon::{Verdict, canonical, check};
 use plist_convert::{Fault, canonicalise};
+use plist_value::fits;
 use std::alloc::{AllocError, Global};
 use std::test::Fail;
 use test_files::{Draft, chain, fan, tower};
@@ -49,18 +50,19 @@ fn shared_chain(alloc: Global) -> Result<Vec<u8>, AllocError> {
     draft.finish(2, 2)
 }
 
-// A list of so many references to one scalar of this head and so many octets behind it.
+// A list of so many references to one scalar of this head and so many letters, with offsets of this
+// width.
 fn heavy_fan(
     alloc: Global,
     count: u32,
     head: &[u8],
-    octets: usize,
-    octet: u8,
+    letters: usize,
+    width: u8,
 ) -> Result<Vec<u8>, AllocError> {
     let mut object = Vec::from_slice(alloc, head)?;
-    let size = head.len().saturating_add(octets);
-    object.resize(size, octet)?;
-    fan(alloc, count, object.as_slice())
+    let size = head.len().saturating_add(letters);
+    object.resize(size, b'a')?;
+    fan(alloc, count, object.as_slice(), width)
 }
 
 // A table of 1,025 keys: 1,024 times a text of 524,288 units, and the last.
@@ -78,33 +80,6 @@ fn heavy_keys(alloc: Global, last: u8) -> Result<Vec<u8>, AllocError> {
     draft.finish(4, 1)
 }
 
-// The list of the texts of the numbers below the count, of three digits each, with references of
-// this width.
-fn numbers(alloc: Global, count: u8, width: u8) -> Result<Vec<u8>, AllocError> {
-    let mut list = Vec::from_slice(alloc, &[0xaf, 0x10, count])?;
-    for number in 1..=u64::from(count) {
-        let skipped = 8 - usize::from(width.min(8));
-        list.extend_from_slice(&number.to_be_bytes()[skipped..])?;
-    }
-    let mut draft = Draft::new(alloc)?;
-    draft.put(list.as_slice())?;
-    for number in 0..count {
-        let digits = [number / 100, number / 10 % 10, number % 10];
-        draft.put(&[0x53, b'0' + digits[0], b'0' + digits[1], b'0' + digits[2]])?;
-    }
-    draft.finish(2, width)
-}
-
-// Data of so many zeros, with this head and offsets of this width.
-fn zeros(alloc: Global, head: &[u8], count: u8, width: u8) -> Result<Vec<u8>, AllocError> {
-    let mut object = Vec::from_slice(alloc, head)?;
-    let size = head.len().saturating_add(usize::from(count));
-    object.resize(size, 0)?;
-    let mut draft = Draft::new(alloc)?;
-    draft.put(object.as_slice())?;
-    draft.finish(width, 1)
-}
-
 /// A file that is made.
 #[derive(Clone, Copy)]
 enum Shape {
@@ -120,8 +95,8 @@ enum Shape {
     TowerOfTables,
     /// A list that holds a flag so many times.
     Flags(u32),
-    /// A list that holds data of 1,048,576 octets so many times.
-    Data(u32),
+    /// A list that holds data of 1,048,576 octets so many times, with offsets of so many octets.
+    Data(u32, u8),
     /// A list that holds a text of 524,288 units so many times.
     Texts(u32),
     /// A list of so many texts of three digits, with references of so many octets.
@@ -140,9 +115,11 @@ impl Shape {
             Shape::SharedChain => shared_chain(alloc),
             Shape::Tower => tower(alloc),
             Shape::TowerOfTables => tower_of_tables(alloc),
-            Shape::Flags(count) => fan(alloc, count, b"\x09"),
-            Shape::Data(count) => heavy_fan(alloc, count, b"\x4f\x12\0\x10\0\0", 1_048_576, 7),
-            Shape::Texts(count) => heavy_fan(alloc, count, b"\x5f\x12\0\x08\0\0", 524_288, b'a'),
+            Shape::Flags(count) => fan(alloc, count, b"\x09", 4),
+            Shape::Data(count, width) => {
+                heavy_fan(alloc, count, b"\x4f\x12\0\x10\0\0", 1_048_576, width)
+            }
+            Shape::Texts(count) => heavy_fan(alloc, count, b"\x5f\x12\0\x08\0\0", 524_288, 4),
             Shape::Numbers(count, width) => numbers(alloc, count, width),
             Shape::Zeros(head, count, width) => zeros(alloc, head, count, width),
             Shape::HeavyKeys(last) => heavy_keys(alloc, last),
@@ -203,10 +180,10 @@ const ROWS: [Row; 24] = [
     (Shape::Flags(4_194_304), 4_194_359, Answer::Read, None),
     (Shape::Flags(16_777_215), 16_777_270, Answer::Judged, None),
     (Shape::Flags(16_777_216), 16_777_271, WIDE, Some((0, 0))),
-    (Shape::Data(256), 1_048_890, Answer::Read, None),
-    (Shape::Data(257), 1_048_891, Answer::Read, None),
-    (Shape::Data(1024), 1_049_658, Answer::Judged, None),
-    (Shape::Data(1025), 1_049_659, HEAVY, Some((0, 0))),
+    (Shape::Data(256, 4), 1_048_890, Answer::Read, None),
+    (Shape::Data(257, 4), 1_048_891, Answer::Read, None),
+    (Shape::Data(1024, 4), 1_049_658, Answer::Judged, None),
+    (Shape::Data(1025, 4), 1_049_659, HEAVY, Some((0, 0))),
     (Shape::Texts(1024), 525_370, Answer::Judged, None),
     (Shape::Texts(1025), 525_371, HEAVY, Some((0, 0))),
     // Where a reference and an offset grow past one octet.
@@ -230,14 +207,12 @@ fn verdict(broken: Option<(u8, u64)>) -> Verdict {
 // Whether the octets are the canonical file of the value that is read of them.
 fn is_own(alloc: Global, octets: &[u8]) -> Result<bool, Fail> {
     let value = read(alloc, octets)?;
-    let made = made(alloc, &value)?;
+    if !fits(&value) {
+        return Err(Fail::from("it does not fit"));
+    }
+    let made = canonical(alloc, &value)?;
     let own = canonical_file(alloc, octets)?;
     Ok(made.as_slice() == octets && own.as_slice() == octets)
-}
-
-// Whether it is its own canonical file.
-fn is_canonical(alloc: Global, octets: &[u8]) -> Result<bool, Fail> {
-    Ok(canonicalise(alloc, octets)?.as_slice() == octets)
 }
 
 // Whether the judge, the reader and `canonicalise` refuse it so.
@@ -253,9 +228,10 @@ fn is_answered(alloc: Global, octets: &[u8], answer: Answer) -> Result<bool, Fai
         return Ok(is_refused(alloc, octets, fault));
     }
     judge(alloc, octets)?;
+    let is_canonical = canonicalise(alloc, octets)?.as_slice() == octets;
     match answer {
-        Answer::Read => Ok(is_canonical(alloc, octets)? && is_own(alloc, octets)?),
-        _ => is_canonical(alloc, octets),
+        Answer::Read => Ok(is_canonical && is_own(alloc, octets)?),
+        _ => Ok(is_canonical),
     }
 }
 
@@ -280,19 +256,21 @@ fn files_at_the_limits(rt: HostRuntime) -> Result<(), Fail> {
 }
 
 // Files whose widths are not the least, and their canonical files.
-const SOURCES: [(Shape, Shape); 6] = [
+const SOURCES: [(Shape, Shape); 8] = [
     (Shape::Numbers(254, 2), NUMBERS_254),
     (Shape::Numbers(254, 3), NUMBERS_254),
     (Shape::Numbers(255, 1), NUMBERS_255),
     (Shape::Numbers(255, 3), NUMBERS_255),
     (Shape::Zeros(b"\x4f\x11\0\xf4", 244, 3), ZEROS_244),
     (Shape::Zeros(b"\x4f\x11\0\xf5", 245, 2), ZEROS_245),
+    (Shape::Data(256, 3), Shape::Data(256, 4)),
+    (Shape::Data(257, 3), Shape::Data(257, 4)),
 ];
 
 // The place of the first source that has another canonical file.
-fn wrong_source(alloc: Global) -> Result<Option<usize>, AllocError> {
+fn wrong_source(alloc: Global) -> Result<Option<usize>, Fail> {
     for (place, (source, own)) in SOURCES.iter().enumerate() {
-        let canonical = canonical_file(alloc, source.file(alloc)?.as_slice())?;
+        let canonical = canonicalise(alloc, source.file(alloc)?.as_slice())?;
         if canonical.as_slice() != own.file(alloc)?.as_slice() {
             return Ok(Some(place));
         }

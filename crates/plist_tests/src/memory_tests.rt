@@ -1,5 +1,5 @@
 //! The whole program over a disk, an input and an output in memory.
-use crate::words::words_of;
+use crate::words::{printed_of, words_of};
 use crate::worked_files::{TABLE, UNSORTED};
 use plist_convert::{Disk, MemoryDisk, run_on};
 use plist_devices::{ListSink, ListSource};
@@ -8,71 +8,49 @@ use std::alloc::{AllocError, Global};
 use std::hash::{BuildHasher, RandomState};
 use std::test::Fail;
 
-// The status of a run and its output, where the input gives these octets, and fails at the take of
-// this number.
-fn ran(
-    alloc: Global,
-    disk: &mut MemoryDisk,
-    words: &[&str],
-    input: &[u8],
-    failing: Option<u64>,
-) -> Result<(u8, ListSink), AllocError> {
-    let mut input = ListSource::new(input, 3, failing);
-    let mut output = ListSink::new(alloc, 6000, 7)?;
-    let hasher = FixedHasher::new();
-    let status = run_on(alloc, hasher, disk, words, &mut input, &mut output);
-    Ok((status, output))
-}
-
-/// Runs one after another over one disk: words, what is printed, and the status.
-const RUNS: [(&str, &str, u8); 8] = [
-    ("plistconv check in", "broken C5 at object 0\n", 1),
-    ("plistconv convert binary1 in out", "", 0),
-    ("plistconv check out", "canonical\n", 0),
-    ("plistconv same in out", "equal\n", 0),
-    ("plistconv lint in", "in: OK\n", 0),
-    ("plistconv convert binary1 in in", "", 0),
-    ("plistconv check in", "canonical\n", 0),
-    (
-        "plistconv convert binary1 missing old",
-        "missing: refused 50 ReadFailed\n",
-        4,
-    ),
-];
-
-// The words of the first run that is answered otherwise, where scalars are hashed by what the
-// builder makes.
-fn wrong<H: BuildHasher + Copy>(
+// The status of a row's run and its output, where scalars are hashed by what the builder makes.
+fn ran<H: BuildHasher + Copy>(
     alloc: Global,
     hasher: H,
     disk: &mut MemoryDisk,
-) -> Result<Option<&'static str>, AllocError> {
-    for (text, printed, want) in &RUNS {
-        let words = words_of(alloc, text)?;
-        let mut input = ListSource::new(b"", 3, None);
-        let mut output = ListSink::new(alloc, 6000, 7)?;
-        let status = run_on(
-            alloc,
-            hasher,
-            disk,
-            words.as_slice(),
-            &mut input,
-            &mut output,
-        );
-        if output.taken() != printed.as_bytes() || status != *want {
-            return Ok(Some(text));
-        }
-    }
-    Ok(None)
+    row: &str,
+) -> Result<(u8, ListSink), AllocError> {
+    let words = words_of(alloc, row)?;
+    let mut input = ListSource::new(b"", 3, None);
+    let mut output = ListSink::new(alloc, 6000, 7)?;
+    let status = run_on(
+        alloc,
+        hasher,
+        disk,
+        words.as_slice(),
+        &mut input,
+        &mut output,
+    );
+    Ok((status, output))
 }
+
+/// Runs one after another over one disk.
+const RUNS: [&str; 8] = [
+    "check in|1 broken C5 at object 0\n",
+    "convert binary1 in out|0 ",
+    "check out|0 canonical\n",
+    "same in out|0 equal\n",
+    "lint in|0 in: OK\n",
+    "convert binary1 in in|0 ",
+    "check in|0 canonical\n",
+    "convert binary1 missing old|4 missing: refused 50 ReadFailed\n",
+];
 
 // Whether all of them are answered so over a disk of their own, and leave what they should.
 fn all_are_answered<H: BuildHasher + Copy>(alloc: Global, hasher: H) -> Result<bool, AllocError> {
     let mut disk = MemoryDisk::new(alloc, 100, 7);
     disk.put(alloc, "in", Vec::from_slice(alloc, UNSORTED)?)?;
     disk.put(alloc, "old", Vec::from_slice(alloc, b"old")?)?;
-    if wrong(alloc, hasher, &mut disk)?.is_some() {
-        return Ok(false);
+    for row in &RUNS {
+        let (status, output) = ran(alloc, hasher, &mut disk, row)?;
+        if printed_of(row, status) != Some(output.taken()) {
+            return Ok(false);
+        }
     }
     Ok(
         disk.at("out") == Some(TABLE)
@@ -94,13 +72,9 @@ fn a_full_disk_takes_a_front(rt: HostRuntime) -> Result<(), Fail> {
     let alloc = rt.alloc();
     let mut disk = MemoryDisk::new(alloc, 10, 7);
     disk.put(alloc, "in", Vec::from_slice(alloc, UNSORTED)?)?;
-    let words = ["plistconv", "convert", "binary1", "in", "out"];
-    let (status, output) = ran(alloc, &mut disk, words.as_slice(), b"", None)?;
-    assert_eq!(rt; status, 4);
-    assert_eq!(rt;
-        output.taken(),
-        b"out: refused 51 WriteFailed after 10 octets\n".as_slice()
-    );
+    let row = "convert binary1 in out|4 out: refused 51 WriteFailed after 10 octets\n";
+    let (status, output) = ran(alloc, FixedHasher::new(), &mut disk, row)?;
+    assert_eq!(rt; printed_of(row, status), Some(output.taken()));
     assert_eq!(rt; disk.at("out"), Some(&TABLE[..10]));
     Ok(())
 }
@@ -133,7 +107,17 @@ fn filters_in_memory(rt: HostRuntime) -> Result<(), Fail> {
         (own.as_slice(), None, own.as_slice(), 0),
     ];
     for (octets, failing, printed, want) in rows {
-        let (status, output) = ran(alloc, &mut disk, &["plistconv"], octets, failing)?;
+        let mut input = ListSource::new(octets, 3, failing);
+        let mut output = ListSink::new(alloc, 6000, 7)?;
+        let hasher = FixedHasher::new();
+        let status = run_on(
+            alloc,
+            hasher,
+            &mut disk,
+            &["plistconv"],
+            &mut input,
+            &mut output,
+        );
         assert!(rt; output.taken() == printed);
         assert_eq!(rt; status, want);
     }

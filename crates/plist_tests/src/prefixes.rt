@@ -1,38 +1,45 @@
-//! Each prefix of files and texts: what reads it answers, and refuses with numbers of its own.
-use crate::files::{long_files, small_files};
-use crate::texts::{SMALL_TEXTS, nested};
+//! Each prefix of files and texts: what reads it answers, and refuses with numbers of its own. A
+//! text that is read straight into a binary file has the canonical file of its value, or none.
+use crate::engine::canonical_file;
+use crate::files::files;
+use crate::texts::{LISTS, Parts, SMALL_TEXTS, nested};
+use ostep_draft::draft_text;
 use ostep_lex::tokens;
-use plist_canon::check;
+use plist_binary::judge;
+use plist_canon::{canonical, check};
 use plist_forms::read_any;
 use std::alloc::Global;
 use std::test::Fail;
 
-// The number of the check's refusal, 0 where there is none.
-fn checked(alloc: Global, octets: &[u8]) -> u8 {
-    check(alloc, octets).err().map_or(0, |fault| fault.code())
+// The canonical file by way of the draft.
+fn drafted(alloc: Global, octets: &[u8]) -> Option<Vec<u8>> {
+    let draft = draft_text(alloc, octets)?;
+    judge(alloc, &draft).ok()?;
+    canonical_file(alloc, &draft).ok()
 }
 
-// The number of the reader's refusal, 0 where there is none.
-fn read(alloc: Global, octets: &[u8]) -> u8 {
-    read_any(alloc, octets)
-        .err()
-        .map_or(0, |fault| fault.code())
+// The canonical file by way of the value.
+fn valued(alloc: Global, octets: &[u8]) -> Option<Vec<u8>> {
+    let value = read_any(alloc, octets).ok()?;
+    canonical(alloc, &value).ok()
 }
 
-// The number of the lexer's refusal, 0 where there is none.
-fn lexed(alloc: Global, octets: &[u8]) -> u8 {
-    tokens(alloc, octets).err().map_or(0, |fault| fault.code())
+// The numbers of the refusals of the check, the reader and the lexer, 0 where there is none.
+fn codes(alloc: Global, octets: &[u8]) -> [u8; 3] {
+    [
+        check(alloc, octets).err().map_or(0, |fault| fault.code()),
+        read_any(alloc, octets)
+            .err()
+            .map_or(0, |fault| fault.code()),
+        tokens(alloc, octets).err().map_or(0, |fault| fault.code()),
+    ]
 }
 
 // Whether each refusal is one of those that its call may give. What begins as a binary file is too
 // short below 42 octets, and its layout is refused by the reader as it is by the check. A text
 // without tokens is refused by the reader as it is by the lexer.
 fn is_answered(alloc: Global, octets: &[u8]) -> bool {
-    let [checked, read, lexed] = [
-        checked(alloc, octets),
-        read(alloc, octets),
-        lexed(alloc, octets),
-    ];
+    let [checked, read, lexed] = codes(alloc, octets);
     let is_named = checked <= 3 && matches!(lexed, 0 | 20 | 21 | 23..=29 | 32);
     let is_short = (checked == 1) == (octets.len() < 42);
     let is_read = if octets.starts_with(b"bplist") {
@@ -43,14 +50,24 @@ fn is_answered(alloc: Global, octets: &[u8]) -> bool {
     is_named && is_short && is_read
 }
 
+// Whether both ways give the same canonical file of a text, or none.
+fn is_same(alloc: Global, octets: &[u8]) -> bool {
+    octets.starts_with(b"bplist") || drafted(alloc, octets) == valued(alloc, octets)
+}
+
+// Whether both hold, the second of short texts alone: a prefix of a long one takes its time.
+fn is_right(alloc: Global, octets: &[u8]) -> bool {
+    is_answered(alloc, octets) && (octets.len() > 80 || is_same(alloc, octets))
+}
+
 // The length of the first prefix, the whole among them, that is answered otherwise.
 fn first_other(alloc: Global, octets: &[u8]) -> Option<usize> {
     for length in 0..octets.len() {
-        if !is_answered(alloc, &octets[..length]) {
+        if !is_right(alloc, &octets[..length]) {
             return Some(length);
         }
     }
-    if is_answered(alloc, octets) {
+    if is_right(alloc, octets) {
         None
     } else {
         Some(octets.len())
@@ -59,35 +76,56 @@ fn first_other(alloc: Global, octets: &[u8]) -> Option<usize> {
 
 #[test]
 fn prefixes_of_files(rt: HostRuntime) -> Result<(), Fail> {
-    for octets in small_files(rt.alloc())? {
-        assert_eq!(rt;
-            first_other(rt.alloc(), octets.as_slice()),
-            None,
-            "{octets:?}"
-        );
-    }
-    for octets in long_files(rt.alloc())? {
+    for octets in files(rt.alloc())? {
         assert_eq!(rt; first_other(rt.alloc(), octets.as_slice()), None);
     }
     Ok(())
 }
 
-// The first of the texts of which a prefix is answered otherwise, and the length of that prefix.
-fn first_wrong(alloc: Global, texts: &[&[u8]]) -> Option<(usize, usize)> {
-    for (place, octets) in texts.iter().enumerate() {
-        if let Some(length) = first_other(alloc, octets) {
-            return Some((place, length));
-        }
-    }
-    None
-}
-
 #[test]
 fn prefixes_of_texts(rt: HostRuntime) -> Result<(), Fail> {
-    assert_eq!(rt; first_wrong(rt.alloc(), &SMALL_TEXTS), None);
+    for octets in SMALL_TEXTS {
+        assert_eq!(rt; first_other(rt.alloc(), octets), None, "{octets:?}");
+    }
     for count in [511, 512] {
-        let octets = nested(rt.alloc(), b"(", b"a", b")", count)?;
+        let octets = nested(rt.alloc(), &LISTS, count)?;
         assert_eq!(rt; first_other(rt.alloc(), octets.as_slice()), None);
+    }
+    Ok(())
+}
+
+// Lists, tables, and tables in one without braces.
+const DEEP: [Parts; 3] = [
+    LISTS,
+    [b"", b"{a=", b"<0f>", b";}", b""],
+    [b"", b"a={", b"a;", b"};", b""],
+];
+
+// Tables with lists in them.
+const MIXED: Parts = [b"", b"{a=(", b"{a;}", b");}", b""];
+
+#[test]
+fn deep_texts_in_both_ways(rt: HostRuntime) -> Result<(), Fail> {
+    for count in [1, 2, 509, 510, 511, 512, 513] {
+        for parts in &DEEP {
+            let octets = nested(rt.alloc(), parts, count)?;
+            assert!(rt; is_same(rt.alloc(), octets.as_slice()), "{count}");
+        }
+        let octets = nested(rt.alloc(), &MIXED, count / 2)?;
+        assert!(rt; is_same(rt.alloc(), octets.as_slice()), "{count}");
+    }
+    Ok(())
+}
+
+// Without memory no draft is made: none is made of another value.
+#[test]
+fn a_refused_growth_drafts_nothing_else(rt: HostRuntime) -> Result<(), Fail> {
+    let text = b"{b=(a,<0f>);a;}";
+    let Some(wanted) = valued(rt.alloc(), text) else {
+        return Ok(());
+    };
+    if let Some(file) = drafted(rt.alloc(), text) {
+        assert_eq!(rt; file.as_slice(), wanted.as_slice());
     }
     Ok(())
 }

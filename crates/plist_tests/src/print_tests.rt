@@ -1,5 +1,6 @@
 //! Prints to sinks that fail, and where memory runs out.
 use crate::transfer_tests::is_front;
+use crate::worked_files::{TABLE as SORTED, TABLE_TEXT, TWICE};
 use plist_devices::{ListSink, Sink};
 use plist_forms::{Fault, canonicalise, print};
 use std::alloc::{AllocError, Global};
@@ -22,7 +23,7 @@ fn printing(
     Ok((answer, sink))
 }
 
-// The first room of which it does not hold that a front goes out, and what does not is told.
+// The first room that does not take all, or as much as there is room for and then a refusal.
 fn wrong_room(alloc: Global, octets: &[u8]) -> Result<Option<usize>, AllocError> {
     for room in 0..PRINTED.len() + 2 {
         let (answer, sink) = printing(alloc, octets, room)?;
@@ -56,7 +57,7 @@ fn nothing_of_refused_octets_is_printed(rt: HostRuntime) -> Result<(), Fail> {
     let circular = file(rt.alloc(), &[0xa2, 1, 0, 9], &[8, 11], 1)?;
     let rows = [
         (circular.as_slice(), 15),
-        (b"{a;a=b;}".as_slice(), 14),
+        (TWICE, 14),
         (b"bplist00".as_slice(), 1),
     ];
     for (octets, code) in rows {
@@ -71,9 +72,8 @@ fn nothing_of_refused_octets_is_printed(rt: HostRuntime) -> Result<(), Fail> {
 #[test]
 fn what_was_printed_is_a_front(rt: HostRuntime) -> Result<(), Fail> {
     let alloc = rt.alloc();
-    let sorted = file(alloc, b"\xd2\x01\x02\x02\x01QaQb", &[8, 13, 15], 1)?;
     let whole = b"{\n  \"a\" => \"b\"\n  \"b\" => \"a\"\n}\n".as_slice();
-    for octets in [b"{b=a;a=b;}", sorted.as_slice()] {
+    for octets in [TABLE_TEXT, SORTED] {
         let (answer, sink) = printing(alloc, octets, 100)?;
         assert!(rt; is_front(&answer, &sink, whole));
     }

@@ -1,70 +1,41 @@
-//! Canonical files that are sent to devices, piece by piece.
-use crate::values::{THREE_DIGITS, data, empty_table, made, numbers};
-use plist_canon::{ListSink, WriteFault, write_canonical};
-use plist_value::{Value, fits};
-use std::alloc::{AllocError, Global};
+//! Canonical files of values that are sent to devices, piece by piece.
+use crate::files::{numbers, zeros};
+use plist_binary::read;
+use plist_canon::{ListSink, WriteFault, canonical, write_canonical};
+use plist_value::fits;
+use std::alloc::Global;
 use std::test::Fail;
+use test_files::one;
 
-// What sending the value answers.
+// What is answered where the value of the canonical file is sent to a sink of this room that takes
+// so many octets at once, and whether the sink has a front of the file, or all of it.
 fn send(
     alloc: Global,
-    value: &Value,
-    sink: &mut ListSink,
-) -> Result<Result<u64, WriteFault>, Fail> {
-    if !fits(value) {
-        return Err(Fail::from("it does not fit"));
-    }
-    Ok(write_canonical(alloc, value, sink))
-}
-
-/// A sink's room, how many octets it takes at once, and how many the value's canonical file has.
-type Row = (usize, usize, u64);
-
-// A table with nothing, data, and a list.
-const ROWS: [Row; 3] = [(100, 7, 42), (300, 1, 290), (3000, 4096, 2085)];
-
-// The values of the rows.
-fn values(alloc: Global) -> Result<Vec<Value>, AllocError> {
-    let mut values = Vec::new(alloc);
-    values.push(empty_table(alloc))?;
-    values.push(data(alloc, &[0; 245])?)?;
-    values.push(numbers(alloc, 255, &THREE_DIGITS)?)?;
-    Ok(values)
-}
-
-// Whether a sink as the row has it takes the value's canonical file.
-fn is_taken(alloc: Global, value: &Value, row: &Row) -> Result<bool, Fail> {
-    let (room, step, size) = *row;
-    if step == 0 {
-        return Ok(false);
+    file: &[u8],
+    room: usize,
+    step: usize,
+) -> Result<(Result<u64, WriteFault>, bool), Fail> {
+    let value = read(alloc, file)?;
+    if step == 0 || !fits(&value) {
+        return Err(Fail::from("no step, or it does not fit"));
     }
     let mut sink = ListSink::new(alloc, room, step)?;
-    let answer = send(alloc, value, &mut sink)?;
-    let own = made(alloc, value)?;
-    Ok(answer == Ok(size) && sink.taken() == own.as_slice())
+    let answer = write_canonical(alloc, &value, &mut sink);
+    let own = canonical(alloc, &value)?;
+    let is_front = file.get(..room.min(file.len())) == Some(sink.taken());
+    Ok((answer, is_front && own.as_slice() == file))
 }
 
-// The place of the first row that is answered otherwise.
-fn wrong_row(alloc: Global) -> Result<Option<usize>, Fail> {
-    let values = values(alloc)?;
-    for (place, (value, row)) in values.iter().zip(ROWS.iter()).enumerate() {
-        if !is_taken(alloc, value, row)? {
-            return Ok(Some(place));
-        }
-    }
-    Ok(None)
-}
-
-// Sinks with room for all, that take so many octets at once.
 #[test]
 fn a_sink_of_any_step(rt: HostRuntime) -> Result<(), Fail> {
     let alloc = rt.alloc();
-    assert_eq!(rt; wrong_row(alloc)?, None);
-    let value = data(alloc, &[0; 245])?;
-    let mut sink = ListSink::new(alloc, 289, 1)?;
-    let answer = send(alloc, &value, &mut sink)?;
-    assert!(rt; answer == Err(WriteFault::WriteFailed { sent: 289 }));
-    assert!(rt; WriteFault::OutOfMemory { sent: 3 }.code() == 60);
-    assert!(rt; WriteFault::WriteFailed { sent: 3 }.code() == 51);
+    let table = one(alloc, b"\xd0")?;
+    let data = zeros(alloc, b"\x4f\x10\xf5", 245, 2)?;
+    let list = numbers(alloc, 255, 2)?;
+    assert_eq!(rt; send(alloc, table.as_slice(), 100, 7)?, (Ok(42), true));
+    assert_eq!(rt; send(alloc, data.as_slice(), 300, 1)?, (Ok(290), true));
+    assert_eq!(rt; send(alloc, list.as_slice(), 3000, 4096)?, (Ok(2085), true));
+    let fault = WriteFault::WriteFailed { sent: 289 };
+    assert_eq!(rt; send(alloc, data.as_slice(), 289, 1)?, (Err(fault), true));
     Ok(())
 }

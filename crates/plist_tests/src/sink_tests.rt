@@ -1,39 +1,7 @@
 //! Writers of the library as sinks.
+use crate::devices::{BrokenWriter, Narrow};
 use plist_devices::{DeviceFault, Sink, Stream, WriterSink, put_all};
-use std::io::{self, Write};
 use std::test::Fail;
-
-/// Takes one octet at a time, and nothing behind the room.
-#[derive(Drop)]
-struct Narrow {
-    room: usize,
-}
-
-impl Write for Narrow {
-    fn write(&mut self, buf: &[u8]) -> io::Result<usize> {
-        let taken = self.room.min(buf.len()).min(1);
-        self.room -= taken;
-        Ok(taken)
-    }
-
-    fn flush(&mut self) -> io::Result<()> {
-        Ok(())
-    }
-}
-
-/// Fails at each write.
-#[derive(Drop)]
-struct Broken;
-
-impl Write for Broken {
-    fn write(&mut self, _buf: &[u8]) -> io::Result<usize> {
-        Err(io::Error::from(io::ErrorKind::Other))
-    }
-
-    fn flush(&mut self) -> io::Result<()> {
-        Ok(())
-    }
-}
 
 /// What is put, and what is answered.
 type Put = (&'static [u8], Result<usize, DeviceFault>);
@@ -75,11 +43,11 @@ fn a_write_that_fails_or_takes_nothing_is_counted(rt: HostRuntime) -> Result<(),
     let mut sink = WriterSink::new(Narrow { room: 1 });
     assert!(rt; wrong_put(&mut sink, &NARROW).is_none());
     assert!(rt; sink.failures() == 1);
-    let mut sink = WriterSink::new(Broken);
+    let mut sink = WriterSink::new(BrokenWriter);
     assert!(rt; wrong_put(&mut sink, &BROKEN).is_none());
     assert!(rt; sink.failures() == 2);
     assert!(rt; put_all(b"abc", &mut WriterSink::new(Narrow { room: 1 })) == Err(1));
-    let mut broken = Broken;
+    let mut broken = BrokenWriter;
     let mut stream = Stream::new(&mut broken);
     assert!(rt; stream.put(b"abc") == Err(DeviceFault));
     assert!(rt; stream.failures() == 1);

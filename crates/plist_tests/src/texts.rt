@@ -46,15 +46,16 @@ pub(crate) const SMALL_TEXTS: [&[u8]; 41] = [
     b"a\xed\xa0\x80",
 ];
 
-/// The middle between so many openings and so many endings.
-pub(crate) fn nested(
-    alloc: Global,
-    opening: &[u8],
-    middle: &[u8],
-    ending: &[u8],
-    count: usize,
-) -> Result<Vec<u8>, AllocError> {
-    let mut text = Vec::new(alloc);
+/// A front, so many openings, a middle, so many endings, and an end.
+pub(crate) type Parts = [&'static [u8]; 5];
+
+/// Lists in one another.
+pub(crate) const LISTS: Parts = [b"", b"(", b"a", b")", b""];
+
+/// The text of these parts.
+pub(crate) fn nested(alloc: Global, parts: &Parts, count: usize) -> Result<Vec<u8>, AllocError> {
+    let [front, opening, middle, ending, end] = *parts;
+    let mut text = Vec::from_slice(alloc, front)?;
     for _ in 0..count {
         text.extend_from_slice(opening)?;
     }
@@ -62,5 +63,6 @@ pub(crate) fn nested(
     for _ in 0..count {
         text.extend_from_slice(ending)?;
     }
+    text.extend_from_slice(end)?;
     Ok(text)
 }

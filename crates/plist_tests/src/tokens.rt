@@ -41,13 +41,20 @@ fn mark_of(octets: &[u8], mark: char) -> Result<Option<(usize, usize)>, LexFault
     }
 }
 
+// Octets, a mark, and from where to where it is read.
+const MARKS: [(&[u8], char, Option<(usize, usize)>); 5] = [
+    (b" \t= 1", '=', Some((2, 3))),
+    (b"\xff\xfe\x28\x20;\0", ';', Some((4, 6))),
+    (b"; =", '=', None),
+    (b"/**/=", '=', None),
+    (b"a", 'a', None),
+];
+
 #[test]
-fn a_mark_behind_white_alone(rt: HostRuntime) -> Result<(), Fail> {
-    assert_eq!(rt; mark_of(b" \t= 1", '=')?, Some((2, 3)));
-    assert_eq!(rt; mark_of(b"\xff\xfe\x28\x20;\0", ';')?, Some((4, 6)));
-    assert_eq!(rt; mark_of(b"; =", '=')?, None);
-    assert_eq!(rt; mark_of(b"/**/=", '=')?, None);
-    assert_eq!(rt; mark_of(b"a", 'a')?, None);
+fn a_mark_after_whitespace_alone(rt: HostRuntime) -> Result<(), Fail> {
+    for (octets, mark, place) in MARKS {
+        assert_eq!(rt; mark_of(octets, mark)?, place);
+    }
     Ok(())
 }
 
@@ -59,22 +66,26 @@ fn plain_of(octets: &[u8]) -> Result<Option<(&[u8], usize)>, LexFault> {
     }
 }
 
+// Octets, and the string that is read as octets where it is, with the place after it.
+const PLAIN: [(&[u8], Option<(&[u8], usize)>); 11] = [
+    (b" \ta-1/$;", Some((b"a-1/$", 7))),
+    (b"\"a 'b' \"c", Some((b"a 'b' ", 8))),
+    (b" /* 'a' */ // b\n c ", Some((b"c", 18))),
+    (b"'\"'", Some((b"\"", 3))),
+    (b"''", Some((b"", 2))),
+    (b"\"a\\n\"", None),
+    (b"\"\xc3\xa9\"", None),
+    (b"\"a", None),
+    (b"/* a", None),
+    (b"{a=b;}", None),
+    (b"\xfe\xff\0a", None),
+];
+
 #[test]
 fn a_string_where_it_stands(rt: HostRuntime) -> Result<(), Fail> {
-    assert_eq!(rt; plain_of(b" \ta-1/$;")?, Some((b"a-1/$".as_slice(), 7)));
-    assert_eq!(rt; plain_of(b"\"a 'b' \"c")?, Some((b"a 'b' ".as_slice(), 8)));
-    assert_eq!(rt;
-        plain_of(b" /* 'a' */ // b\n c ")?,
-        Some((b"c".as_slice(), 18))
-    );
-    assert_eq!(rt; plain_of(b"'\"'")?, Some((b"\"".as_slice(), 3)));
-    assert_eq!(rt; plain_of(b"''")?, Some((b"".as_slice(), 2)));
-    assert_eq!(rt; plain_of(b"\"a\\n\"")?, None);
-    assert_eq!(rt; plain_of("\"\u{e9}\"".as_bytes())?, None);
-    assert_eq!(rt; plain_of(b"\"a")?, None);
-    assert_eq!(rt; plain_of(b"/* a")?, None);
-    assert_eq!(rt; plain_of(b"{a=b;}")?, None);
-    assert_eq!(rt; plain_of(b"\xfe\xff\0a")?, None);
+    for (octets, text) in PLAIN {
+        assert_eq!(rt; plain_of(octets)?, text);
+    }
     Ok(())
 }
 

@@ -112,8 +112,13 @@ pub fn chain(alloc: Global, count: u16, last: &[u8]) -> Result<Vec<u8>, AllocErr
     draft.finish(2, 2)
 }
 
-/// A list of so many references, at least 256, to one other object, with offsets of four octets.
-pub fn fan(alloc: Global, count: u32, object: &[u8]) -> Result<Vec<u8>, AllocError> {
+/// A list of so many references, at least 256, to one other object, with offsets of this width.
+pub fn fan(
+    alloc: Global,
+    count: u32,
+    object: &[u8],
+    offset_width: u8,
+) -> Result<Vec<u8>, AllocError> {
     let mut list = Vec::from_slice(alloc, &[0xaf])?;
     match u16::try_from(count) {
         Ok(count) => {
@@ -130,7 +135,7 @@ pub fn fan(alloc: Global, count: u32, object: &[u8]) -> Result<Vec<u8>, AllocErr
     let mut draft = Draft::new(alloc)?;
     draft.put(list.as_slice())?;
     draft.put(object)?;
-    draft.finish(4, 1)
+    draft.finish(offset_width, 1)
 }
 
 /// Thirty lists that each hold the next object twice, and an empty one: 2^31 - 1 nodes in 31

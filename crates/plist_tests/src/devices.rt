@@ -1,0 +1,87 @@
+//! Readers, writers and sinks that fail or are narrow.
+use plist_convert::{DeviceFault, Sink};
+use std::io::{self, ErrorKind, Read, Write};
+
+/// Gives two octets and then fails.
+#[derive(Drop)]
+pub(crate) struct BrokenReader {
+    has_given: bool,
+}
+
+impl BrokenReader {
+    pub(crate) fn new() -> BrokenReader {
+        BrokenReader { has_given: false }
+    }
+}
+
+impl Read for BrokenReader {
+    fn read(&mut self, buf: &mut [u8]) -> io::Result<usize> {
+        if self.has_given {
+            return Err(io::Error::from(ErrorKind::BrokenPipe));
+        }
+        self.has_given = true;
+        let mut two: &[u8] = b"ab";
+        two.read(buf)
+    }
+}
+
+/// Takes one octet at a time, and none past the room.
+#[derive(Drop)]
+pub(crate) struct Narrow {
+    pub(crate) room: usize,
+}
+
+impl Write for Narrow {
+    fn write(&mut self, buf: &[u8]) -> io::Result<usize> {
+        let taken = self.room.min(buf.len()).min(1);
+        self.room -= taken;
+        Ok(taken)
+    }
+
+    fn flush(&mut self) -> io::Result<()> {
+        Ok(())
+    }
+}
+
+/// Fails at each write.
+#[derive(Drop)]
+pub(crate) struct BrokenWriter;
+
+impl Write for BrokenWriter {
+    fn write(&mut self, _buf: &[u8]) -> io::Result<usize> {
+        Err(io::Error::from(ErrorKind::Other))
+    }
+
+    fn flush(&mut self) -> io::Result<()> {
+        Ok(())
+    }
+}
+
+/// Takes all, and notes the longest piece and how many octets there were.
+#[derive(Drop)]
+pub(crate) struct Noting {
+    pub(crate) longest: usize,
+    pub(crate) all: usize,
+}
+
+impl Sink for Noting {
+    ghost use Rattle.std.specs.Prelude.{None};
+
+    ghost taken = { λ _. None };
+
+    ghost failures = { λ _. 0 };
+
+    ghost device = { λ _. None };
+
+    ghost longest = { λ sink. sink.longest };
+
+    fn put(&mut self, piece: &[u8]) -> Result<usize, DeviceFault> {
+        self.longest = self.longest.max(piece.len());
+        self.all = self.all.saturating_add(piece.len());
+        Ok(piece.len())
+    }
+
+    fn failures(&self) -> u64 {
+        0
+    }
+}
