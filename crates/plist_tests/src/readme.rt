@@ -1,4 +1,4 @@
-//! The example of the README. `recipes/readme` holds it against these lines.
+//! The example of the README. `scripts/readme` compares it with these lines.
 use std::test::Fail;
 
 // The example of the README:
