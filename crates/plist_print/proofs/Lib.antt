@@ -15,4 +15,3 @@ pub mod Turns
 pub mod Plain
 pub mod Fewest
 pub mod Padding
-pub mod HexDigits

@@ -14,7 +14,8 @@ use Rattle.byteorder.specs.Endian.{big_number, big_bytes}
 use Rattle.byteorder.specs.Numbers.{big_from-lt}
 use Rattle.plist_value.specs.Plist.{AreOctets, IsOctetsOf}
 use Rattle.plist_object.proofs.SameOctets.{big_bytes-big_number}
-use Rattle.plist_print.specs.Units.{two_digits, printed_data}
+use Rattle.plist_print.specs.Units.{printed_data}
+use Rattle.plist_value.specs.Digits.{two_digits}
 use Rattle.plist_print.specs.Reals.{Format, single, double, reads_as, placed_in, decimal_of, last_digits, printed_decimal, printed_size, printed_real}
 use Rattle.plist_print.specs.Dates.{second_of, in_brackets, printed_date}
 use Rattle.plist_print.proofs.Fronts.{head_of, tail_of, heads, tails, EndsDigits, digits-front, kind_of_head, digits-kind}

@@ -8,7 +8,8 @@ use Rattle.std.proofs.lemmas.Bool.Decides.{nat_tests}
 use Rattle.std.proofs.lemmas.List.{append-nil}
 use Rattle.std.proofs.lemmas.Str.{digit_value-digit_char, encode_same, encode_ascii}
 use Rattle.plist_value.specs.Plist.{AreUnits, AreOctets}
-use Rattle.plist_print.specs.Units.{two_digits, is_unseen, printed_unit, printed_units}
+use Rattle.plist_print.specs.Units.{is_unseen, printed_unit, printed_units}
+use Rattle.plist_value.specs.Digits.{two_digits}
 use Rattle.plist_print.proofs.Fronts.{heads, tails}
 use Rattle.plist_print.proofs.Compared.{equal, unlike}
 

@@ -7,7 +7,8 @@ use Rattle.std.proofs.lemmas.Fmt.{decimal_is_IsNumeral_wide}
 use Rattle.std.proofs.lemmas.List.{append_cancel_left}
 use Rattle.std.proofs.lemmas.Int.{ints}
 use Rattle.plist_value.specs.Plist.{Scalar, text, whole, flag, real4, real8, moment, bytes, Plist, scalar, list, table, Items, no_items, item, Pairs, no_pairs, pair, AreOctets, IsScalar, IsWhole, IsPlist, AreItems, ArePairs}
-use Rattle.plist_print.specs.Units.{two_digits, printed_units, printed_text}
+use Rattle.plist_print.specs.Units.{printed_units, printed_text}
+use Rattle.plist_value.specs.Digits.{two_digits}
 use Rattle.plist_print.specs.Reals.{Format, single, double, printed_real}
 use Rattle.plist_print.specs.Dates.{printed_date}
 use Rattle.plist_print.specs.Printed.{printed_scalar, indent, printed_at, printed_items, printed_pairs}

@@ -1,12 +1,9 @@
 -- Texts as they are printed.
 use Rattle.std.specs.Prelude.{ℕ, ◌/◌, ◌%◌, Bool, ◌&&◌, ◌||◌, ◌==◌, List, [], ◌∷◌, ◌++◌, codes, flat_map, if◌then◌else◌}
-use Rattle.std.specs.Char.{digit_char, encode_utf8, is_control}
+use Rattle.std.specs.Char.{encode_utf8, is_control}
 use Rattle.std.specs.Char.Utf16.{is_high_surrogate, is_low_surrogate, surrogate_pair_char}
 use Rattle.std.specs.Int.{is_in_range}
-
--- an octet as two lower-case hexadecimal digits
-abbrev pub two_digits : ℕ → List ℕ
-two_digits x = digit_char (x / 16) ∷ digit_char (x % 16) ∷ []
+use Rattle.plist_value.specs.Digits.{two_digits}
 
 -- `<`, the octets, `>`
 abbrev pub printed_data : List ℕ → List ℕ

@@ -4,7 +4,8 @@ ghost use Rattle.plist_value.specs.Plist.{bytes};
 ghost use Rattle.plist_value.specs.Scalars.{content_of};
 ghost use Rattle.plist_value.specs.Texts.{units_of};
 ghost use Rattle.plist_engine.specs.Pending.{Goes};
-ghost use Rattle.plist_print.specs.Units.{printed_data, printed_text, printed_units, two_digits};
+ghost use Rattle.plist_value.specs.Digits.{two_digits};
+ghost use Rattle.plist_print.specs.Units.{printed_data, printed_text, printed_units};
 ghost use Rattle.plist_print.specs.Printed.{printed_scalar};
 ghost use Rattle.plist_print.specs.Shown.{is_short};
 

@@ -10,8 +10,8 @@ ghost use Rattle.plist_print.specs.Shown.{IsUnread, decimal_in, halved, placed_o
 
 use crate::digits::{power_of_ten, put_decimal};
 use crate::kept::{Decimal, Neighbours};
-use crate::texts::put_digits;
 use byteorder::{BigEndian, ByteOrder};
+use plist_value::put_digits;
 use std::alloc::AllocError;
 
 // The decimal of the fewest digits behind the point that reads as the real, of at most 21.

@@ -1,63 +1,16 @@
 //! Texts and data as they are printed.
 ghost use Rattle.std.specs.Prelude.{◌≡◌, ◌+◌, ◌*◌, ◌<◌, ◌≤◌, ◌∷◌, ◌++◌, ◌==◌, ℕ, List};
 ghost use Rattle.std.specs.Prelude.{true, false, IsTrue, IfOk, OnOk, length, take, drop, flat_map};
-ghost use Rattle.std.specs.Prelude.{vec_len, vec_capacity};
-ghost use Rattle.std.specs.Char.{digit_char, encode_utf8};
+ghost use Rattle.std.specs.Char.{encode_utf8};
 ghost use Rattle.std.specs.Char.Utf16.{is_high_surrogate, is_low_surrogate, surrogate_pair_char};
 ghost use Rattle.plist_value.specs.Texts.{units_of};
+ghost use Rattle.plist_value.specs.Digits.{two_digits};
 ghost use Rattle.plist_print.specs.Shown.{Puts};
 ghost use Rattle.plist_print.specs.Units.{is_unseen, printed_data, printed_text, printed_unit};
-ghost use Rattle.plist_print.specs.Units.{printed_units, two_digits};
+ghost use Rattle.plist_print.specs.Units.{printed_units};
 
-use plist_value::TextRef;
+use plist_value::{TextRef, digits_of, put_digits};
 use std::alloc::AllocError;
-
-/// The octets as pairs of hexadecimal digits, behind what `out` has.
-pub(crate) fn put_digits(out: &mut Vec<u8>, octets: &[u8]) -> Result<(), AllocError>
-    ensures { OnOk result (out.new.items ≡ out.old.items ++ flat_map two_digits octets.now) }
-{
-    out.reserve(2 * octets.len())?;
-    push_digits(out, octets);
-    Ok(())
-}
-
-// The octets as pairs of hexadecimal digits, for which `out` has room.
-fn push_digits(out: &mut Vec<u8>, octets: &[u8])
-    requires { vec_len out.old + 2 * length octets.now ≤ vec_capacity out.old }
-    ensures { out.new.items ≡ out.old.items ++ flat_map two_digits octets.now }
-{
-    for octet in octets {
-        push_octet(out, *octet);
-    }
-}
-
-// The octet as a pair of hexadecimal digits, for which `out` has room.
-fn push_octet(out: &mut Vec<u8>, octet: u8)
-    requires { vec_len out.old + 2 ≤ vec_capacity out.old }
-    ensures items { out.new.items ≡ out.old.items ++ two_digits octet }
-    ensures len { vec_len out.new ≡ vec_len out.old + 2 }
-    ensures room { vec_capacity out.new ≡ vec_capacity out.old }
-{
-    out.push_reserved(digit(octet / 16));
-    out.push_reserved(digit(octet % 16));
-}
-
-// The hexadecimal digits in their order.
-static DIGITS: [u8; 16] = *b"0123456789abcdef";
-
-// The two hexadecimal digits of an octet.
-fn digits_of(octet: u8) -> [u8; 2]
-    ensures { result ≡ two_digits octet }
-{
-    [digit(octet / 16), digit(octet % 16)]
-}
-
-fn digit(value: u8) -> u8
-    requires { value < 16 }
-    ensures { result ≡ digit_char value }
-{
-    DIGITS[value as usize]
-}
 
 // So many octets of data are printed at once.
 const CHUNK: usize = 1024;

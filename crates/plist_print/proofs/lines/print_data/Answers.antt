@@ -1,7 +1,7 @@
 use Rattle.std.proofs.Common.{[], ◌∷◌, ◌++◌}
 use Rattle.std.specs.Prelude.{codes, flat_map}
 use Rattle.std.proofs.lemmas.Result.{err_from_is_err_and}
-use Rattle.plist_print.specs.Units.{two_digits}
+use Rattle.plist_value.specs.Digits.{two_digits}
 use Rattle.plist_print.proofs.Steps.{Goes-then, Goes-not}
 use Rattle.plist_print.proofs.lines.print_data.Goals as goal
 

@@ -5,7 +5,7 @@ use Rattle.std.proofs.lemmas.List.{append-nil}
 use Rattle.std.proofs.lemmas.Result.{err_from_is_err_and}
 use Rattle.plist_engine.specs.declared.pending.Pending.{Pending}
 use Rattle.plist_engine.proofs.Gathering.{Gathers-same}
-use Rattle.plist_print.specs.Units.{two_digits}
+use Rattle.plist_value.specs.Digits.{two_digits}
 use Rattle.plist_print.proofs.Steps.{Goes-then, Goes-not, piece-split, piece-settled, piece-stops, no_piece}
 use Rattle.plist_print.proofs.lines.print_digits.Goals as goal
 

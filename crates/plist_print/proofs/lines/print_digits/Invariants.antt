@@ -1,7 +1,7 @@
 use Rattle.std.proofs.Common.{◌≡◌, ℕ, List, ◌++◌, length}
 use Rattle.std.specs.Prelude.{flat_map}
 use Rattle.plist_engine.specs.Pending.{Gathers}
-use Rattle.plist_print.specs.Units.{two_digits}
+use Rattle.plist_value.specs.Digits.{two_digits}
 use Rattle.plist_print.proofs.lines.print_digits.Given as goal
 
 -- those that are done and those that are left are all
