@@ -1,18 +1,94 @@
--- Texts that ascend, and texts of which no two are equal.
-use Rattle.std.proofs.Common.{◌≡◌, ℕ, ◌+◌, ◌-◌, ◌<◌, ◌≤◌, List, [], ◌∷◌, length, get_or, map, false, true, sym, ap, ◌∙◌, subst, ⊎_elim, arith}
+-- Pairs that move into a map, the highest key first; texts that ascend, and texts of which no two
+-- are equal.
+use Rattle.std.proofs.Common.{◌≡◌, ℕ, zero, ◌==◌, ◌<◌, List, [], ◌∷◌, ◌++◌, length, get_or, set, map, false, refl, sym, ap, ◌∙◌, subst, append_assoc, arith, ◌+◌, ◌-◌, ◌≤◌, true, ⊎_elim}
 use Rattle.std.specs.Prelude.{Bool, IsTrue, ◌↔◌}
+use Rattle.std.specs.declared.cmp.Ordering.{Ordering}
 use Rattle.std.specs.declared.cmp.Ordering.TheVariants.{Less}
-use Rattle.std.specs.Ordering.{is_lt, nat_cmp, on}
+use Rattle.std.specs.Ordering.{eq_by_cmp, nat_cmp, match_ordering, is_lt, on}
+use Rattle.std.specs.BTreeMap.{insert_entry}
 use Rattle.std.specs.Cmp.Lexicographic.{slice_cmp}
-use Rattle.std.specs.List.{IsDistinct}
-use Rattle.std.specs.List.Sorted.{IsPermutation, IsSorted, IsStrictlySortedBy}
-use Rattle.std.proofs.lemmas.Bool.{cases_lt}
-use Rattle.std.proofs.lemmas.Cmp.{nat_list_cmp_total, eq_by_cmp_equiv}
-use Rattle.std.proofs.lemmas.List.{get_or-map, length-map}
-use Rattle.std.proofs.lemmas.List.Sorted.{IsPermutation-map}
-use Rattle.std.proofs.lemmas.Map.Keys.{Less-from_sorted, sorted_from_all_adjacent, IsDistinct-from_sorted, IsDistinct-IsPermutation, apart_from_distinct}
-use Rattle.plist_binary.proofs.Inserting.{same_key}
+use Rattle.std.specs.List.{All, AllByRecursion, IsDistinct, zip}
+use Rattle.std.specs.List.Sorted.{IsStrictlySortedBy, IsPermutation, IsSorted}
+use Rattle.std.specs.Map.{keys_of}
+use Rattle.std.proofs.lemmas.Cmp.{nat_eq_equiv, nat_list_cmp_total, eq_by_cmp_equiv}
+use Rattle.std.proofs.lemmas.Bool.{eqb-false, cases_lt}
+use Rattle.std.proofs.lemmas.List.{map-append, get_or_default, get_or-set_other, get_or-map, length-map}
+use Rattle.std.proofs.lemmas.List.Elements.{All-tail}
+use Rattle.std.proofs.lemmas.List.Sorted.{IsPermutation-map, IsPermutation-to_front, All-permutation}
+use Rattle.std.proofs.lemmas.Map.Keys.{sorted_head, sorted_tail, IsDistinct-head, IsDistinct-tail, IsDistinct-IsPermutation, Less-from_sorted, sorted_from_all_adjacent, IsDistinct-from_sorted, apart_from_distinct}
+use Rattle.plist_value.specs.declared.value.Value.{Value}
+use Rattle.plist_value.specs.declared.value.Value.TheVariants.{Flag}
+use Rattle.plist_binary.specs.declared.tables.Key.{Key}
+use Rattle.plist_binary.specs.Keys.{units_at, place_of, pair_at}
 use Rattle.plist_value.proofs.Keys.{turned}
+
+abbrev pub same_key : List ℕ → List ℕ → Bool
+same_key = eq_by_cmp (slice_cmp nat_cmp)
+
+pub zip-firsts : {A B : Type 0} (xs : List A) (ys : List B) → length xs ≡ length ys → map (λ (p : A × B). p.0) (zip xs ys) ≡ xs
+zip-firsts [] ys long = refl
+zip-firsts (x ∷ xs) [] long = absurd (omega arith)
+zip-firsts (x ∷ xs) (y ∷ ys) long = ap (λ l. x ∷ l) (zip-firsts xs ys (omega arith))
+
+pub zip-seconds : {A B : Type 0} (xs : List A) (ys : List B) → length xs ≡ length ys → map (λ (p : A × B). p.1) (zip xs ys) ≡ ys
+zip-seconds [] [] long = refl
+zip-seconds [] (y ∷ ys) long = absurd (omega arith)
+zip-seconds (x ∷ xs) [] long = absurd (omega arith)
+zip-seconds (x ∷ xs) (y ∷ ys) long = ap (λ l. y ∷ l) (zip-seconds xs ys (omega arith))
+
+-- a key below all that the map has
+insert_first : {X : Type 0} (k : List ℕ) (v : X) (es : List (List ℕ × X)) → AllByRecursion (λ q. slice_cmp nat_cmp k q ≡ Less) (keys_of es) → insert_entry (slice_cmp nat_cmp) es k v ≡ (k, v) ∷ es
+insert_first k v [] below = refl
+insert_first {X} k v (e ∷ es) below =
+    ap (λ (o : Ordering). match_ordering o ((k, v) ∷ e ∷ es) ((e.0, v) ∷ es) (e ∷ insert_entry (slice_cmp nat_cmp) es k v)) below.0
+
+behind : (xs : List (List ℕ)) (k : List ℕ) (ys : List (List ℕ)) → IsStrictlySortedBy (slice_cmp nat_cmp) (xs ++ k ∷ ys) → AllByRecursion (λ q. slice_cmp nat_cmp k q ≡ Less) ys
+behind [] k ys sorted = sorted_head (slice_cmp nat_cmp) k ys sorted
+behind (x ∷ xs) k ys sorted =
+    behind xs k ys (sorted_tail (slice_cmp nat_cmp) x (xs ++ k ∷ ys) sorted)
+
+pub keys-pairs : (vs : List Value) (keys : List Key) → keys_of (map (pair_at vs) keys) ≡ map units_at keys
+keys-pairs vs [] = refl
+keys-pairs vs (key ∷ keys) = ap (λ (l : List (List ℕ)). units_at key ∷ l) (keys-pairs vs keys)
+
+-- a value is written at a place that no key has
+set_elsewhere : (vs : List Value) (place : ℕ) (v : Value) (keys : List Key) → AllByRecursion (λ q. (place == q) ≡ false) (map place_of keys) → map (pair_at (set vs place v)) keys ≡ map (pair_at vs) keys
+set_elsewhere vs place v [] apart = refl
+set_elsewhere vs place v (key ∷ keys) apart =
+    let other : key.place ≡ place → ⊥ = λ at. eqb-false place key.place apart.0 (sym at) in
+    let same : pair_at (set vs place v) key ≡ pair_at vs key = ap (λ (w : Value). (units_at key, w)) (get_or-set_other vs place key.place v (Flag false) other) in
+    ap (λ (p : List ℕ × Value). p ∷ map (pair_at (set vs place v)) keys) same ∙ ap (λ (l : List (List ℕ × Value)). pair_at vs key ∷ l) (set_elsewhere vs place v keys apart.1)
+
+pub last_apart : (left : List Key) (key : Key) → IsDistinct (λ x y. x == y) (map place_of (left ++ key ∷ [])) → IsDistinct (λ x y. x == y) (map place_of (key ∷ left))
+last_apart left key apart =
+    IsDistinct-IsPermutation (λ x y. x == y) nat_eq_equiv.symm (map place_of (left ++ key ∷ [])) (map place_of (key ∷ left)) (IsPermutation-map place_of (left ++ key ∷ []) (key ∷ left) (IsPermutation-to_front left key)) apart
+
+pub left_apart : (left : List Key) (key : Key) → IsDistinct (λ x y. x == y) (map place_of (left ++ key ∷ [])) → IsDistinct (λ x y. x == y) (map place_of left)
+left_apart left key apart =
+    IsDistinct-tail (λ x y. x == y) key.place (map place_of left) (last_apart left key apart)
+
+pub last_within : (left : List Key) (key : Key) (n : ℕ) → All (λ key. place_of key < n) (left ++ key ∷ []) → key.place < n
+last_within left key n within =
+    All-permutation (λ key. place_of key < n) (left ++ key ∷ []) (key ∷ left) (IsPermutation-to_front left key) within zero key (omega arith)
+
+pub left_within : (left : List Key) (key : Key) (n : ℕ) → All (λ key. place_of key < n) (left ++ key ∷ []) → All (λ key. place_of key < n) left
+left_within left key n within =
+    All-tail (λ key. place_of key < n) key left (All-permutation (λ key. place_of key < n) (left ++ key ∷ []) (key ∷ left) (IsPermutation-to_front left key) within)
+
+-- the pair of the last key moves from those that are left into the map
+pub moved_more : (keys left : List Key) (key : Key) (all vs : List Value) (v there taken : Value) (k : List ℕ) (es new : List (List ℕ × Value)) → IsStrictlySortedBy (slice_cmp nat_cmp) (map units_at keys) → IsDistinct (λ x y. x == y) (map place_of (left ++ key ∷ [])) → map (pair_at vs) (left ++ key ∷ []) ++ es ≡ map (pair_at all) keys → key.place < length vs → there ≡ get_or vs key.place there → taken ≡ there → k ≡ units_at key → new ≡ insert_entry (slice_cmp nat_cmp) es k taken → map (pair_at (set vs key.place v)) left ++ new ≡ map (pair_at all) keys
+moved_more keys left key all vs v there taken k es new ascend apart pairs within read took is put =
+    let front = map (pair_at vs) left in
+    let value : taken ≡ (pair_at vs key).1 = took ∙ read ∙ get_or_default vs key.place there (Flag false) within in
+    let whole : front ++ (pair_at vs key ∷ es) ≡ map (pair_at all) keys = sym (append_assoc front (pair_at vs key ∷ []) es) ∙ sym (ap (λ (l : List (List ℕ × Value)). l ++ es) (map-append (pair_at vs) left (key ∷ []))) ∙ pairs in
+    let first : List ℕ × Value → List ℕ = λ p. p.0 in
+    let names : keys_of front ++ units_at key ∷ keys_of es ≡ map units_at keys = sym (map-append first front (pair_at vs key ∷ es)) ∙ ap keys_of whole ∙ keys-pairs all keys in
+    let below = behind (keys_of front) (units_at key) (keys_of es) (subst (λ (l : List (List ℕ)). IsStrictlySortedBy (slice_cmp nat_cmp) l) (sym names) ascend) in
+    let inserted : new ≡ pair_at vs key ∷ es = put ∙ ap (λ (n : List ℕ). insert_entry (slice_cmp nat_cmp) es n taken) is ∙ ap (λ (w : Value). insert_entry (slice_cmp nat_cmp) es (units_at key) w) value ∙ insert_first (units_at key) (pair_at vs key).1 es below in
+    let kept = set_elsewhere vs key.place v left (IsDistinct-head (λ x y. x == y) key.place (map place_of left) (last_apart left key apart)) in
+    ap (λ (l : List (List ℕ × Value)). l ++ new) kept ∙ ap (λ (l : List (List ℕ × Value)). front ++ l) inserted ∙ whole
+
+-- Texts that ascend, and texts of which no two are equal.
 
 -- each of the first n is below the next
 abbrev pub AscendTo : ℕ → List (List ℕ) → Type 0

@@ -13,9 +13,7 @@ use Rattle.plist_object.proofs.Ascending.{Among, Among-contains, Contains-among}
 use Rattle.plist_binary.specs.Begins.{Comes, Begins, IsBegun, IsEntered, AreNext}
 use Rattle.plist_binary.specs.Paths.{Refers, Leads, AllRefer, HasKeys}
 use Rattle.plist_binary.specs.Readings.{ReadsItems}
-use Rattle.plist_binary.proofs.KeySteps.{among_left, among_right}
-use Rattle.plist_binary.proofs.LoopSteps.{around}
-use Rattle.plist_binary.proofs.Sequences.{join, SpellItems-join, AreItems-join, nodes-join, payload-join}
+use Rattle.plist_binary.proofs.ItemSteps.{among_left, among_right, around, join, SpellItems-join, AreItems-join, nodes-join, payload-join}
 
 among_middle : (i : ℕ) (front behind : List ℕ) → Among i (front ++ i ∷ behind)
 among_middle i [] behind = inl refl

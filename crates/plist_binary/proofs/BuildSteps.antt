@@ -16,12 +16,9 @@ use Rattle.plist_object.proofs.Uniqueness.{same_held, same_value}
 use Rattle.plist_binary.specs.Building.{AllSpellWithin, AllSpellTexts, SpellsText, SpellsPairsWithin, HoldsSome, AreSpelled, AreTexts, PairsSpelled, IsSpelled}
 use Rattle.plist_binary.specs.Passing.{PassesTop}
 use Rattle.plist_binary.specs.Readings.{texts}
-use Rattle.plist_binary.proofs.Held.{Spells-held}
-use Rattle.plist_binary.proofs.Inserting.{same_key}
-use Rattle.plist_binary.proofs.KeySteps.{texts-push}
-use Rattle.plist_binary.proofs.LoopSteps.{next}
-use Rattle.plist_binary.proofs.Paired.{length-values}
-use Rattle.plist_binary.proofs.Sequences.{SpellItems-push}
+use Rattle.plist_binary.proofs.ItemSteps.{Spells-held, texts-push, next, SpellItems-push}
+use Rattle.plist_binary.proofs.Ascents.{same_key}
+use Rattle.plist_binary.proofs.Entering.{length-values}
 use Rattle.plist_value.proofs.Items.{push, AreItems-push}
 use Rattle.plist_binary.proofs.TableSteps.{Unsorted, unsort}
 

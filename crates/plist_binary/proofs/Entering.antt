@@ -1,25 +1,249 @@
--- Why a reference to an object is refused before the object is looked at, or for the object's own
--- fault.
-use Rattle.std.proofs.Common.{◌≡◌, ℕ, suc, ◌+◌, ◌-◌, ◌<◌, ◌≤◌, List, [], ◌∷◌, length, Err, sym, subst, ⊎_elim, arith}
-use Rattle.plist_value.specs.Plist.{Plist, scalar, list, table, IsPlist}
-use Rattle.plist_value.specs.Limits.{nodes, depth}
-use Rattle.plist_value.specs.declared.TheConstants.{MAX_DEPTH}
+-- A table holds as many references to values as to keys; what an object that is entered holds.
+use Rattle.std.proofs.Common.{◌≡◌, ℕ, ◌+◌, ◌*◌, ◌/◌, ◌%◌, ◌==◌, List, [], ◌∷◌, length, drop, Ok, Err, Result, Bool, true, false, sym, ◌∙◌, subst, suc, ◌≤◌, ◌++◌, ap, ⊎_elim, inl, inr, arith, ◌-◌, ◌<◌}
+use Rattle.std.specs.Prelude.{⊤, nat_lt, if◌then◌else◌, ◌⊎◌}
+use Rattle.std.specs.List.{list_all, Contains, zip}
+use Rattle.plist_value.specs.Plist.{text, Plist, scalar, list, table, Items, no_items, item, Pairs, no_pairs, pair, IsPlist, AreItems, ArePairs}
 use Rattle.plist_object.specs.declared.object.ObjectFault.{ObjectFault}
+use Rattle.plist_object.specs.declared.object.ObjectFault.TheVariants.{NotAscii}
+use Rattle.plist_object.specs.Layout.{trailer_of, IsLaid}
+use Rattle.plist_object.specs.Objects.{Held, holds_scalar, holds_list, holds_table, ◌>>=◌, cut, content, integer_length, whole_in, simple_object, whole_object, real_object, moment_object, data_object, ascii_object, wide_object, list_object, table_object, marked_object, object_in}
+use Rattle.plist_object.specs.Places.{Holds, object_at, octets_at, what_holds}
+use Rattle.plist_object.proofs.Listed.{length-numbers}
+use Rattle.plist_value.specs.Limits.{nodes, nodes_of_items, nodes_of_pairs, depth}
+use Rattle.plist_object.specs.Spelled.{Spells, SpellItems, SpellPairs}
+use Rattle.plist_object.proofs.Ascending.{Among, Among-contains, Among-permutation, Contains-among}
+use Rattle.plist_object.proofs.Uniqueness.{same_held, same_value}
+use Rattle.plist_object.specs.References.{references_of}
+use Rattle.plist_binary.specs.Paths.{Refers, Leads}
+use Rattle.plist_value.specs.declared.TheConstants.{MAX_DEPTH}
 use Rattle.plist_object.specs.declared.object.ObjectFault.TheVariants as object
-use Rattle.plist_object.specs.Layout.{IsLaid, trailer_of}
-use Rattle.plist_object.specs.Places.{what_holds}
-use Rattle.plist_object.specs.Spelled.{Spells}
-use Rattle.plist_object.proofs.Ascending.{Among, Contains-among}
-use Rattle.plist_object.proofs.Uniqueness.{same_value}
 use Rattle.plist_value.specs.declared.budget.Budget.{Budget}
 use Rattle.plist_binary.specs.declared.fault.BinaryFault.TheVariants.{Cycle, TooDeep, TooManyNodes}
 use Rattle.plist_binary.specs.Codes.{of_object}
 use Rattle.plist_binary.specs.Begins.{Begins, IsBegun}
 use Rattle.plist_binary.specs.Faults.{IsFaulty, StandsWithin}
-use Rattle.plist_binary.specs.Paths.{Leads}
 use Rattle.plist_binary.specs.Readings.{Refuses}
-use Rattle.plist_binary.proofs.Descents.{descends, SpellsBelow}
-use Rattle.plist_binary.proofs.Held.{Spells-held}
+use Rattle.plist_binary.proofs.ItemSteps.{Spells-held}
+
+abbrev IsPaired : Held → Type 0
+IsPaired (holds_scalar s) = ⊤
+IsPaired (holds_list refs) = ⊤
+IsPaired (holds_table keys values) = length keys ≡ length values
+
+abbrev ReadsPaired : Result (Held × List ℕ) ObjectFault → Type 0
+ReadsPaired (Ok r) = IsPaired r.0
+ReadsPaired (Err e) = ⊤
+
+by_test : (b : Bool) (x y : Result (Held × List ℕ) ObjectFault) → ReadsPaired x → ReadsPaired y → ReadsPaired (if b then x else y)
+by_test true x y px py = px
+by_test false x y px py = py
+
+by_steps : {A : Type 0} (m : Result A ObjectFault) (next : A → Result (Held × List ℕ) ObjectFault) → ((a : A) → ReadsPaired (next a)) → ReadsPaired (m >>= next)
+by_steps (Ok a) next paired = paired a
+by_steps (Err e) next paired = tt
+
+simple : (low : ℕ) (octets : List ℕ) → ReadsPaired (simple_object low octets)
+unfolding simple_object
+simple low octets =
+    by_test (low == 0) _ _ tt (by_test (low == 8) _ _ tt (by_test (low == 9) _ _ tt tt))
+
+whole : (low : ℕ) (octets : List ℕ) → ReadsPaired (whole_object low octets)
+unfolding whole_object
+whole low octets =
+    by_steps (integer_length (16 + low)) _ (λ n. by_steps (cut n octets) _ (λ parts. by_steps (whole_in n parts.0) _ (λ z. tt)))
+
+real : (low : ℕ) (octets : List ℕ) → ReadsPaired (real_object low octets)
+unfolding real_object
+real low octets =
+    by_test (low == 2) _ _ (by_steps (cut 4 octets) _ (λ parts. tt)) (by_test (low == 3) _ _ (by_steps (cut 8 octets) _ (λ parts. tt)) tt)
+
+moment : (low : ℕ) (octets : List ℕ) → ReadsPaired (moment_object low octets)
+unfolding moment_object
+moment low octets = by_test (low == 3) _ _ (by_steps (cut 8 octets) _ (λ parts. tt)) tt
+
+data_read : (low : ℕ) (octets : List ℕ) → ReadsPaired (data_object low octets)
+unfolding data_object
+data_read low octets = by_steps (content 1 low octets) _ (λ c. tt)
+
+ascii : (low : ℕ) (octets : List ℕ) → ReadsPaired (ascii_object low octets)
+unfolding ascii_object
+ascii low octets = by_steps (content 1 low octets) _ (λ c. by_test (list_all (λ octet. nat_lt octet 128) c.1) (Ok (holds_scalar (text c.1), c.2)) (Err NotAscii) tt tt)
+
+wide : (low : ℕ) (octets : List ℕ) → ReadsPaired (wide_object low octets)
+unfolding wide_object
+wide low octets = by_steps (content 2 low octets) _ (λ c. tt)
+
+listed : (width low : ℕ) (octets : List ℕ) → ReadsPaired (list_object width low octets)
+unfolding list_object
+listed width low octets = by_steps (content width low octets) _ (λ c. tt)
+
+tabled : (width low : ℕ) (octets : List ℕ) → ReadsPaired (table_object width low octets)
+unfolding table_object
+tabled width low octets =
+    by_steps (content (2 * width) low octets) _ (λ c. length-numbers width c.0 c.1 ∙ sym (length-numbers width c.0 (drop (c.0 * width) c.1)))
+
+marked : (width high low : ℕ) (octets : List ℕ) → ReadsPaired (marked_object width high low octets)
+unfolding marked_object
+marked width high low octets =
+    by_test (high == 0) _ _ (simple low octets)
+    (by_test (high == 1) _ _ (whole low octets)
+    (by_test (high == 2) _ _ (real low octets)
+    (by_test (high == 3) _ _ (moment low octets)
+    (by_test (high == 4) _ _ (data_read low octets)
+    (by_test (high == 5) _ _ (ascii low octets)
+    (by_test (high == 6) _ _ (wide low octets)
+    (by_test (high == 8) _ _ tt
+    (by_test (high == 10) _ _ (listed width low octets)
+    (by_test (high == 12) _ _ tt
+    (by_test (high == 13) _ _ (tabled width low octets) tt))))))))))
+
+begun : (width : ℕ) (octets : List ℕ) → ReadsPaired (object_in width octets)
+begun width [] = tt
+begun width (marker ∷ octets) = marked width (marker / 16) (marker % 16) octets
+
+placed : (f : List ℕ) (i : ℕ) → ReadsPaired (object_at f i)
+unfolding object_at
+placed f i = by_steps (octets_at f i) _ (begun (trailer_of f).reference_width)
+
+abbrev HoldsPaired : Result Held ObjectFault → Type 0
+HoldsPaired (Ok held) = IsPaired held
+HoldsPaired (Err e) = ⊤
+
+without_rest : (read : Result (Held × List ℕ) ObjectFault) → ReadsPaired read → HoldsPaired (read >>= λ r. Ok r.0)
+without_rest (Ok r) paired = paired
+without_rest (Err e) paired = tt
+
+held_paired : (f : List ℕ) (i : ℕ) → HoldsPaired (what_holds f i)
+unfolding what_holds
+held_paired f i = without_rest (object_at f i) (placed f i)
+
+-- a table holds as many references to values as to keys
+pub length-values : (f : List ℕ) (i : ℕ) (keys values : List ℕ) → Holds f i (holds_table keys values) → length keys ≡ length values
+length-values f i keys values holds = subst HoldsPaired holds.reads (held_paired f i)
+
+-- What an object spells is less than what an object spells that leads to it, so that a cycle spells
+-- nothing.
+
+-- the object spells a value of at most so many nodes
+pub record SpellsBelow (f : List ℕ) (i most : ℕ) : Type 0 where
+  pub value : Plist
+  pub valid : IsPlist value
+  pub spells : Spells f i value
+  pub few : nodes value ≤ most
+
+wider : (f : List ℕ) (i few most : ℕ) → few ≤ most → SpellsBelow f i few → SpellsBelow f i most
+wider f i few most h below = record {
+  value = below.value;
+  valid = below.valid;
+  spells = below.spells;
+  few = omega (arith, below.few);
+}
+
+among_items : (f : List ℕ) (i : ℕ) (refs : List ℕ) (vs : Items) → AreItems vs → SpellItems f refs vs → Among i refs → SpellsBelow f i (nodes_of_items vs)
+among_items f i [] vs valid spell among = absurd among
+among_items f i (j ∷ refs) no_items valid spell among =
+    absurd (let none : j ∷ refs ≡ [] = spell in cc)
+among_items f i (j ∷ refs) (item v vs) valid spell among =
+    ⊎_elim
+    (λ (same : i ≡ j). record {
+      value = v;
+      valid = valid.0;
+      spells = subst (λ (k : ℕ). Spells f k v) (sym same) spell.0;
+      few = omega arith;
+    })
+    (λ (later : Among i refs). wider f i (nodes_of_items vs) (nodes v + nodes_of_items vs) (omega arith) (among_items f i refs vs valid.1 spell.1 later))
+    among
+
+-- a row among those that spell pairs: its key, and its value
+among_keys : (f : List ℕ) (row : ℕ × ℕ) (rows : List (ℕ × ℕ)) (ps : Pairs) → ArePairs ps → SpellPairs f rows ps → Among row rows → SpellsBelow f row.0 (nodes_of_pairs ps)
+among_keys f row [] ps valid spell among = absurd among
+among_keys f row (r ∷ rows) no_pairs valid spell among =
+    absurd (let none : r ∷ rows ≡ [] = spell in cc)
+among_keys f row (r ∷ rows) (pair key v ps) valid spell among =
+    ⊎_elim
+    (λ (same : row ≡ r). record {
+      value = scalar (text key);
+      valid = valid.0;
+      spells = subst (λ (k : ℕ × ℕ). Holds f k.0 (holds_scalar (text key))) (sym same) spell.0;
+      few = omega arith;
+    })
+    (λ (later : Among row rows). wider f row.0 (nodes_of_pairs ps) (1 + nodes v + nodes_of_pairs ps) (omega arith) (among_keys f row rows ps valid.3 spell.2 later))
+    among
+
+among_values : (f : List ℕ) (row : ℕ × ℕ) (rows : List (ℕ × ℕ)) (ps : Pairs) → ArePairs ps → SpellPairs f rows ps → Among row rows → SpellsBelow f row.1 (nodes_of_pairs ps)
+among_values f row [] ps valid spell among = absurd among
+among_values f row (r ∷ rows) no_pairs valid spell among =
+    absurd (let none : r ∷ rows ≡ [] = spell in cc)
+among_values f row (r ∷ rows) (pair key v ps) valid spell among =
+    ⊎_elim
+    (λ (same : row ≡ r). record {
+      value = v;
+      valid = valid.1;
+      spells = subst (λ (k : ℕ × ℕ). Spells f k.1 v) (sym same) spell.1;
+      few = omega arith;
+    })
+    (λ (later : Among row rows). wider f row.1 (nodes_of_pairs ps) (1 + nodes v + nodes_of_pairs ps) (omega arith) (among_values f row rows ps valid.3 spell.2 later))
+    among
+
+-- each of two lists of one length has its members in the rows of both
+key_among : (i : ℕ) (keys values : List ℕ) → length keys ≡ length values → Among i keys → (j : ℕ) × Among (i, j) (zip keys values)
+key_among i [] values long among = absurd among
+key_among i (k ∷ keys) [] long among = absurd (omega arith)
+key_among i (k ∷ keys) (v ∷ values) long among =
+    ⊎_elim
+    (λ (same : i ≡ k). (v, inl (ap (λ (n : ℕ). (n, v)) same)))
+    (λ (later : Among i keys). let at = key_among i keys values (omega arith) later in (at.0, inr at.1))
+    among
+
+value_among : (i : ℕ) (keys values : List ℕ) → length keys ≡ length values → Among i values → (j : ℕ) × Among (j, i) (zip keys values)
+value_among i keys [] long among = absurd among
+value_among i [] (v ∷ values) long among = absurd (omega arith)
+value_among i (k ∷ keys) (v ∷ values) long among =
+    ⊎_elim
+    (λ (same : i ≡ v). (k, inl (ap (λ (n : ℕ). (k, n)) same)))
+    (λ (later : Among i values). let at = value_among i keys values (omega arith) later in (at.0, inr at.1))
+    among
+
+among_both : (i : ℕ) (xs ys : List ℕ) → Among i (xs ++ ys) → Among i xs ⊎ Among i ys
+among_both i [] ys among = inr among
+among_both i (x ∷ xs) ys among =
+    ⊎_elim
+    (λ (same : i ≡ x). inl (inl same))
+    (λ (later : Among i (xs ++ ys)).
+    ⊎_elim (λ (m : Among i xs). inl (inr m)) (λ (m : Among i ys). inr m) (among_both i xs ys later))
+    among
+
+-- what holds a reference to i spells more than i does
+pub descends : (f : List ℕ) (j i : ℕ) (v : Plist) → IsPlist v → Spells f j v → Refers f j i → (most : ℕ) → nodes v ≤ suc most → SpellsBelow f i most
+descends f j i (scalar s) valid spells refers most few =
+    let held = same_held f j refers.held (holds_scalar s) refers.holds spells in
+    absurd (Among-contains i [] (subst (λ (h : Held). Contains (references_of h) i) held refers.among))
+descends f j i (list vs) valid spells refers most few =
+    let held = same_held f j refers.held (holds_list spells.0) refers.holds spells.1.0 in
+    let among = Among-contains i spells.0 (subst (λ (h : Held). Contains (references_of h) i) held refers.among) in
+    wider f i (nodes_of_items vs) most (omega arith) (among_items f i spells.0 vs valid spells.1.1 among)
+descends f j i (table ps) valid spells refers most few =
+    let keys = spells.0 in
+    let values = spells.1.0 in
+    let rows = spells.1.1.0 in
+    let holds = spells.1.1.1.0 in
+    let moved = spells.1.1.1.1.0 in
+    let spell = spells.1.1.1.1.1 in
+    let long = length-values f j keys values holds in
+    let held = same_held f j refers.held (holds_table keys values) refers.holds holds in
+    let among = Among-contains i (keys ++ values) (subst (λ (h : Held). Contains (references_of h) i) held refers.among) in
+    wider f i (nodes_of_pairs ps) most (omega arith)
+    (⊎_elim
+    (λ (m : Among i keys).
+    let row = key_among i keys values long m in
+    among_keys f (i, row.0) rows ps valid spell (Among-permutation (i, row.0) (zip keys values) rows moved row.1))
+    (λ (m : Among i values).
+    let row = value_among i keys values long m in
+    among_values f (row.0, i) rows ps valid spell (Among-permutation (row.0, i) (zip keys values) rows moved row.1))
+    (among_both i keys values among))
+
+-- Why a reference to an object is refused before the object is looked at, or for the object's own
+-- fault.
 
 pub some_node : (v : Plist) → 1 ≤ nodes v
 some_node (scalar s) = omega arith

@@ -1,19 +1,105 @@
--- The items of a container, reference after reference.
-use Rattle.std.proofs.Common.{◌≡◌, ℕ, ◌+◌, ◌<◌, ◌≤◌, List, [], ◌∷◌, ◌++◌, subst, arith}
-use Rattle.plist_value.specs.Plist.{Plist, Items, no_items, item, IsPlist, AreItems}
-use Rattle.plist_value.specs.Limits.{nodes, depth, payload, nodes_of_items, depth_of_items, payload_of_items}
-use Rattle.plist_object.specs.Layout.{IsLaid, trailer_of}
+-- Items and keys that references spell in turn, and the first of them that is refused.
+use Rattle.std.proofs.Common.{ℕ, List, ◌≡◌, ◌+◌, ◌≤◌, [], ◌∷◌, ◌++◌, refl, arith, ◌<◌, subst, ◌*◌, length, Ok, sym, ap, ⊎_elim, inl, inr, suc, take, drop, drop-cons, slice_index, ◌∙◌}
+use Rattle.plist_value.specs.Plist.{Plist, scalar, list, table, Items, no_items, item, AreItems, IsPlist, text}
+use Rattle.plist_object.specs.Objects.{Held, holds_scalar, holds_list, holds_table}
+use Rattle.plist_object.specs.Places.{Holds, what_holds}
 use Rattle.plist_object.specs.Spelled.{Spells, SpellItems}
-use Rattle.plist_object.proofs.Uniqueness.{same_items}
+use Rattle.plist_value.specs.Limits.{nodes_of_items, depth_of_items, payload_of_items, nodes, depth, payload}
+use Rattle.plist_value.proofs.Items.{push, AreItems-push, nodes-push, payload-push, depth-push}
+use Rattle.plist_object.specs.Layout.{IsLaid, trailer_of}
+use Rattle.plist_object.proofs.Uniqueness.{same_items, same_held}
 use Rattle.plist_value.specs.declared.budget.Budget.{Budget}
 use Rattle.plist_binary.specs.declared.fault.BinaryFault.{BinaryFault}
-use Rattle.plist_binary.specs.declared.fault.BinaryFault.TheVariants.{BadReference}
+use Rattle.plist_binary.specs.declared.fault.BinaryFault.TheVariants.{BadReference, KeyNotText}
 use Rattle.plist_value.specs.Budget.{Affords}
-use Rattle.plist_binary.specs.Paths.{Refers, Leads}
-use Rattle.plist_binary.specs.Readings.{Reads, Refuses, ReadsItems, RefusesItems}
-use Rattle.plist_binary.proofs.Held.{Spells-held}
-use Rattle.plist_binary.proofs.Sequences.{SpellItems-push, take_apart}
-use Rattle.plist_value.proofs.Items.{push, AreItems-push, nodes-push, payload-push, depth-push}
+use Rattle.plist_binary.specs.Paths.{Refers, Leads, IsKeyOf, AllRefer, HasKeys}
+use Rattle.plist_binary.specs.Readings.{Reads, Refuses, ReadsItems, RefusesItems, texts, RefusesKey, RefusesKeys}
+use Rattle.plist_object.proofs.Ascending.{Among, Among-contains, Contains-among}
+use Rattle.plist_binary.specs.Faults.{IsText}
+use Rattle.std.proofs.lemmas.List.{take_more, take-append-drop, get_or_default}
+use Rattle.std.specs.List.{Contains}
+
+-- what spells a value holds something
+pub Spells-held : (f : List ℕ) (i : ℕ) (v : Plist) → Spells f i v → (held : Held) × Holds f i held
+Spells-held f i (scalar s) spells = (holds_scalar s, spells)
+Spells-held f i (list vs) spells = (holds_list spells.0, spells.1.0)
+Spells-held f i (table ps) spells = (holds_table spells.0 spells.1.0, spells.1.1.1.0)
+
+-- Items that references spell in turn, one more and one after another.
+
+pub SpellItems-push : (f xs : List ℕ) (vs : Items) (i : ℕ) (v : Plist) → SpellItems f xs vs → Spells f i v → SpellItems f (xs ++ i ∷ []) (push vs v)
+SpellItems-push f [] no_items i v spell one = (one, refl)
+SpellItems-push f (x ∷ xs) no_items i v spell one = absurd (let none : x ∷ xs ≡ [] = spell in cc)
+SpellItems-push f [] (item w vs) i v spell one = absurd spell
+SpellItems-push f (x ∷ xs) (item w vs) i v spell one =
+    (spell.0, SpellItems-push f xs vs i v spell.1 one)
+
+-- the items, and others behind them
+abbrev pub join : Items → Items → Items
+join no_items ws = ws
+join (item v vs) ws = item v (join vs ws)
+
+pub SpellItems-join : (f xs ys : List ℕ) (vs ws : Items) → SpellItems f xs vs → SpellItems f ys ws → SpellItems f (xs ++ ys) (join vs ws)
+SpellItems-join f [] ys no_items ws spell others = others
+SpellItems-join f (x ∷ xs) ys no_items ws spell others =
+    absurd (let none : x ∷ xs ≡ [] = spell in cc)
+SpellItems-join f [] ys (item v vs) ws spell others = absurd spell
+SpellItems-join f (x ∷ xs) ys (item v vs) ws spell others =
+    (spell.0, SpellItems-join f xs ys vs ws spell.1 others)
+
+pub AreItems-join : (vs ws : Items) → AreItems vs → AreItems ws → AreItems (join vs ws)
+AreItems-join no_items ws valid others = others
+AreItems-join (item v vs) ws valid others = (valid.0, AreItems-join vs ws valid.1 others)
+
+pub nodes-join : (vs ws : Items) → nodes_of_items (join vs ws) ≡ nodes_of_items vs + nodes_of_items ws
+nodes-join no_items ws = omega arith
+nodes-join (item v vs) ws = omega (arith, nodes-join vs ws)
+
+pub payload-join : (vs ws : Items) → payload_of_items (join vs ws) ≡ payload_of_items vs + payload_of_items ws
+payload-join no_items ws = omega arith
+payload-join (item v vs) ws = omega (arith, payload-join vs ws)
+
+-- the items that the references of two lists spell, taken apart
+pub record Parts (f xs ys : List ℕ) (ws : Items) : Type 0 where
+  pub front : Items
+  pub back : Items
+  pub spell_front : SpellItems f xs front
+  pub spell_back : SpellItems f ys back
+  pub valid_front : AreItems front
+  pub valid_back : AreItems back
+  pub nodes_sum : nodes_of_items ws ≡ nodes_of_items front + nodes_of_items back
+  pub payload_sum : payload_of_items ws ≡ payload_of_items front + payload_of_items back
+  pub deep_back : depth_of_items back ≤ depth_of_items ws
+
+unfoldable pub take_apart : (f xs ys : List ℕ) (ws : Items) → SpellItems f (xs ++ ys) ws → AreItems ws → Parts f xs ys ws
+take_apart f [] ys ws spell valid = record {
+  front = no_items;
+  back = ws;
+  spell_front = refl;
+  spell_back = spell;
+  valid_front = tt;
+  valid_back = valid;
+  nodes_sum = omega arith;
+  payload_sum = omega arith;
+  deep_back = omega arith;
+}
+take_apart f (x ∷ xs) ys no_items spell valid =
+    absurd (let none : x ∷ (xs ++ ys) ≡ [] = spell in cc)
+take_apart f (x ∷ xs) ys (item w ws) spell valid =
+    let rest = take_apart f xs ys ws spell.1 valid.1 in
+    record {
+      front = item w rest.front;
+      back = rest.back;
+      spell_front = (spell.0, rest.spell_front);
+      spell_back = rest.spell_back;
+      valid_front = (valid.0, rest.valid_front);
+      valid_back = rest.valid_back;
+      nodes_sum = omega (arith, rest.nodes_sum);
+      payload_sum = omega (arith, rest.payload_sum);
+      deep_back = omega (arith, rest.deep_back);
+    }
+
+-- The items of a container, reference after reference.
 
 pub ReadsItems-push : (f refs : List ℕ) (i levels : ℕ) (before left after : Budget) (vs : Items) (v : Plist) → i < (trailer_of f).count → ReadsItems f refs levels before vs left → Reads f i levels left v after → ReadsItems f (refs ++ i ∷ []) levels before (push vs v) after
 ReadsItems-push f refs i levels before left after vs v listed items one =
@@ -78,3 +164,144 @@ RefusesItems-nowhere f whole before refs container i rest levels left laid leads
       let parts = take_apart f refs (i ∷ rest) ws spell valid in
       first_nowhere f i rest parts.back above parts.spell_back;
 }
+
+-- The keys of a table, reference after reference.
+
+pub among_left : (i : ℕ) (xs ys : List ℕ) → Among i xs → Among i (xs ++ ys)
+among_left i [] ys among = absurd among
+among_left i (x ∷ xs) ys among =
+    ⊎_elim (λ (same : i ≡ x). inl same) (λ (later : Among i xs). inr (among_left i xs ys later)) among
+
+pub among_right : (i : ℕ) (xs ys : List ℕ) → Among i ys → Among i (xs ++ ys)
+among_right i [] ys among = among
+among_right i (x ∷ xs) ys among = inr (among_right i xs ys among)
+
+pub Refers-key : (f : List ℕ) (j i : ℕ) → IsKeyOf f j i → Refers f j i
+Refers-key f j i key = record {
+  held = holds_table key.keys key.table.values;
+  holds = key.table.holds;
+  among = Contains-among i (key.keys ++ key.table.values) (among_left i key.keys key.table.values (Among-contains i key.keys key.among));
+}
+
+-- what refuses each value refuses each text
+pub RefusesKey-value : (f : List ℕ) (whole : Budget) (i levels : ℕ) (left : Budget) (fault : BinaryFault) → Refuses f whole i levels left fault → RefusesKey f whole i levels left fault
+RefusesKey-value f whole i levels left fault refused = record {
+  stands = refused.stands;
+  none = λ unless units valid spells deep affords. refused.none unless (scalar (text units)) valid spells deep affords;
+}
+
+pub RefusesKey-other : (f : List ℕ) (whole : Budget) (before : List ℕ) (table i levels : ℕ) (left : Budget) (held : Held) → IsLaid f → Leads f before table → IsKeyOf f table i → i < (trailer_of f).count → what_holds f i ≡ Ok held → (¬ IsText held) → RefusesKey f whole i levels left (KeyNotText table)
+RefusesKey-other f whole before owner i levels left held laid leads key listed reads no_text = record {
+  stands = record {
+    ends = record { laid = laid; before = before; leads = leads };
+    keys = key.keys;
+    values = key.table.values;
+    holds = key.table.holds;
+    key = i;
+    among = key.among;
+    held = held;
+    reads = record { listed = listed; reads = reads };
+    no_text = no_text;
+  };
+  none = λ _ units valid spells deep affords. no_text (subst IsText (same_held f i (holds_scalar (text units)) held spells record { listed = listed; reads = reads }) tt);
+}
+
+pub texts-push : (keys : List (List ℕ)) (units : List ℕ) → texts (keys ++ units ∷ []) ≡ push (texts keys) (scalar (text units))
+texts-push [] units = refl
+texts-push (key ∷ keys) units = ap (item (scalar (text key))) (texts-push keys units)
+
+pub ReadsKeys-push : (f refs : List ℕ) (i levels : ℕ) (before left after : Budget) (keys : List (List ℕ)) (units : List ℕ) → i < (trailer_of f).count → ReadsItems f refs levels before (texts keys) left → Reads f i levels left (scalar (text units)) after → ReadsItems f (refs ++ i ∷ []) levels before (texts (keys ++ units ∷ [])) after
+ReadsKeys-push f refs i levels before left after keys units listed read one =
+    subst (λ (vs : Items). ReadsItems f (refs ++ i ∷ []) levels before vs after) (sym (texts-push keys units)) (ReadsItems-push f refs i levels before left after (texts keys) (scalar (text units)) listed read one)
+
+-- of texts, those behind the first ones
+record Behind (vs : Items) : Type 0 where
+  keys : List (List ℕ)
+  same : vs ≡ texts keys
+
+texts_behind : (f xs ys : List ℕ) (keys : List (List ℕ)) (spell : SpellItems f (xs ++ ys) (texts keys)) (valid : AreItems (texts keys)) → Behind (take_apart f xs ys (texts keys) spell valid).back
+unfolding take_apart
+texts_behind f [] ys keys spell valid = record { keys = keys; same = refl }
+texts_behind f (x ∷ xs) ys [] spell valid =
+    absurd (let none : x ∷ (xs ++ ys) ≡ [] = spell in cc)
+texts_behind f (x ∷ xs) ys (key ∷ keys) spell valid = texts_behind f xs ys keys spell.1 valid.1
+
+first_key_refused : (f : List ℕ) (i : ℕ) (rest : List ℕ) (levels : ℕ) (left : Budget) (keys : List (List ℕ)) → ((units : List ℕ) → IsPlist (scalar (text units)) → Spells f i (scalar (text units)) → 1 ≤ levels → Affords left 1 (2 * length units) → ⊥) → SpellItems f (i ∷ rest) (texts keys) → AreItems (texts keys) → depth_of_items (texts keys) ≤ levels → Affords left (nodes_of_items (texts keys)) (payload_of_items (texts keys)) → ⊥
+first_key_refused f i rest levels left [] none spell valid deep affords =
+    let empty : i ∷ rest ≡ [] = spell in cc
+first_key_refused f i rest levels left (key ∷ keys) none spell valid deep affords =
+    none key valid.0 spell.0 (omega arith) record {
+      nodes_there = omega (arith, affords.nodes_there);
+      payload_there = omega (arith, affords.payload_there);
+    }
+
+refused_key_at : (f refs : List ℕ) (i : ℕ) (rest : List ℕ) (levels : ℕ) (before left : Budget) (vs : Items) (keys : List (List ℕ)) → ReadsItems f refs levels before vs left → AreItems (texts keys) → SpellItems f (refs ++ i ∷ rest) (texts keys) → depth_of_items (texts keys) ≤ levels → Affords before (nodes_of_items (texts keys)) (payload_of_items (texts keys)) → ((units : List ℕ) → IsPlist (scalar (text units)) → Spells f i (scalar (text units)) → 1 ≤ levels → Affords left 1 (2 * length units) → ⊥) → ⊥
+refused_key_at f refs i rest levels before left vs keys items valid spell deep affords none =
+    let ws = texts keys in
+    let parts = take_apart f refs (i ∷ rest) ws spell valid in
+    let behind = texts_behind f refs (i ∷ rest) keys spell valid in
+    let same = same_items f refs parts.front vs parts.valid_front items.valid parts.spell_front items.spell in
+    let nodes_sum : nodes_of_items ws ≡ nodes_of_items vs + nodes_of_items (texts behind.keys) = subst (λ (us : Items). nodes_of_items ws ≡ nodes_of_items vs + nodes_of_items us) behind.same (subst (λ (us : Items). nodes_of_items ws ≡ nodes_of_items us + nodes_of_items parts.back) same parts.nodes_sum) in
+    let payload_sum : payload_of_items ws ≡ payload_of_items vs + payload_of_items (texts behind.keys) = subst (λ (us : Items). payload_of_items ws ≡ payload_of_items vs + payload_of_items us) behind.same (subst (λ (us : Items). payload_of_items ws ≡ payload_of_items us + payload_of_items parts.back) same parts.payload_sum) in
+    let deeper : depth_of_items (texts behind.keys) ≤ depth_of_items ws = subst (λ (us : Items). depth_of_items us ≤ depth_of_items ws) behind.same parts.deep_back in
+    first_key_refused f i rest levels left behind.keys none (subst (λ (us : Items). SpellItems f (i ∷ rest) us) behind.same parts.spell_back) (subst AreItems behind.same parts.valid_back) (omega arith)
+    record {
+      nodes_there = omega (arith, affords.nodes_there, items.spent.nodes_left);
+      payload_there = omega (arith, affords.payload_there, items.spent.payload_left);
+    }
+
+pub RefusesKeys-at : (f : List ℕ) (whole : Budget) (refs : List ℕ) (i : ℕ) (rest : List ℕ) (levels : ℕ) (before left : Budget) (vs : Items) (fault : BinaryFault) → i < (trailer_of f).count → ReadsItems f refs levels before vs left → RefusesKey f whole i levels left fault → RefusesKeys f whole (refs ++ i ∷ rest) levels before fault
+RefusesKeys-at f whole refs i rest levels before left vs fault listed items one =
+    record {
+      stands = one.stands;
+      none = λ unless keys valid spell deep affords. refused_key_at f refs i rest levels before left vs keys items valid spell deep affords (one.none unless);
+    }
+
+-- what refuses all items refuses texts
+pub RefusesKeys-items : (f : List ℕ) (whole : Budget) (refs : List ℕ) (levels : ℕ) (left : Budget) (fault : BinaryFault) → RefusesItems f whole refs levels left fault → RefusesKeys f whole refs levels left fault
+RefusesKeys-items f whole refs levels left fault refused = record {
+  stands = refused.stands;
+  none = λ unless keys. refused.none unless (texts keys);
+}
+
+-- One step of a loop over references, by the place of the reference.
+
+pub around : (refs : List ℕ) (k i : ℕ) → k < length refs → i ≡ slice_index refs k → take k refs ++ (i ∷ drop (suc k) refs) ≡ refs
+around refs k i within is =
+    ap (λ (n : ℕ). take k refs ++ (n ∷ drop (suc k) refs)) is
+    ∙ ap (λ (xs : List ℕ). take k refs ++ xs) (sym (drop-cons refs k 0 within))
+    ∙ take-append-drop k refs
+
+pub next : (refs : List ℕ) (k i : ℕ) → k < length refs → i ≡ slice_index refs k → take k refs ++ (i ∷ []) ≡ take (k + 1) refs
+next refs k i within is =
+    ap (λ (n : ℕ). take k refs ++ (n ∷ [])) is ∙ sym (take_more refs k 0 within)
+
+pub Contains-at : (refs : List ℕ) (k i : ℕ) → k < length refs → i ≡ slice_index refs k → Contains refs i
+Contains-at refs k i within is = (k, within, get_or_default refs k i 0 within ∙ sym is)
+
+pub ReadsItems-next : (f refs : List ℕ) (k i levels : ℕ) (before left after : Budget) (vs : Items) (v : Plist) → k < length refs → i ≡ slice_index refs k → i < (trailer_of f).count → ReadsItems f (take k refs) levels before vs left → Reads f i levels left v after → ReadsItems f (take (k + 1) refs) levels before (push vs v) after
+ReadsItems-next f refs k i levels before left after vs v within is listed items one =
+    subst (λ (xs : List ℕ). ReadsItems f xs levels before (push vs v) after) (next refs k i within is) (ReadsItems-push f (take k refs) i levels before left after vs v listed items one)
+
+pub RefusesItems-next : (f : List ℕ) (whole : Budget) (refs : List ℕ) (k i levels : ℕ) (before left : Budget) (vs : Items) (fault : BinaryFault) → k < length refs → i ≡ slice_index refs k → i < (trailer_of f).count → ReadsItems f (take k refs) levels before vs left → Refuses f whole i levels left fault → RefusesItems f whole refs levels before fault
+RefusesItems-next f whole refs k i levels before left vs fault within is listed items one =
+    subst (λ (xs : List ℕ). RefusesItems f whole xs levels before fault) (around refs k i within is) (RefusesItems-at f whole (take k refs) i (drop (suc k) refs) levels before left vs fault listed items one)
+
+pub RefusesItems-none : (f : List ℕ) (whole : Budget) (containers refs : List ℕ) (container k i levels : ℕ) (before : Budget) → IsLaid f → Leads f containers container → AllRefer f container refs → k < length refs → i ≡ slice_index refs k → (trailer_of f).count ≤ i → RefusesItems f whole refs levels before (BadReference container)
+RefusesItems-none f whole containers refs container k i levels before laid leads refer within is above =
+    subst (λ (xs : List ℕ). RefusesItems f whole xs levels before (BadReference container)) (around refs k i within is) (RefusesItems-nowhere f whole containers (take k refs) container i (drop (suc k) refs) levels before laid leads (refer i (Contains-at refs k i within is)) above)
+
+pub ReadsKeys-next : (f refs : List ℕ) (k i levels : ℕ) (before left after : Budget) (keys : List (List ℕ)) (units : List ℕ) → k < length refs → i ≡ slice_index refs k → i < (trailer_of f).count → ReadsItems f (take k refs) levels before (texts keys) left → Reads f i levels left (scalar (text units)) after → ReadsItems f (take (k + 1) refs) levels before (texts (keys ++ units ∷ [])) after
+ReadsKeys-next f refs k i levels before left after keys units within is listed items one =
+    subst (λ (xs : List ℕ). ReadsItems f xs levels before (texts (keys ++ units ∷ [])) after) (next refs k i within is) (ReadsKeys-push f (take k refs) i levels before left after keys units listed items one)
+
+pub RefusesKeys-next : (f : List ℕ) (whole : Budget) (refs : List ℕ) (k i levels : ℕ) (before left : Budget) (vs : Items) (fault : BinaryFault) → k < length refs → i ≡ slice_index refs k → i < (trailer_of f).count → ReadsItems f (take k refs) levels before vs left → RefusesKey f whole i levels left fault → RefusesKeys f whole refs levels before fault
+RefusesKeys-next f whole refs k i levels before left vs fault within is listed items one =
+    subst (λ (xs : List ℕ). RefusesKeys f whole xs levels before fault) (around refs k i within is) (RefusesKeys-at f whole (take k refs) i (drop (suc k) refs) levels before left vs fault listed items one)
+
+AllRefer-keys : (f : List ℕ) (j : ℕ) (keys : List ℕ) → HasKeys f j keys → AllRefer f j keys
+AllRefer-keys f j keys owner i among = Refers-key f j i record { keys = keys; table = owner; among = among }
+
+pub RefusesKeys-none : (f : List ℕ) (whole : Budget) (containers refs : List ℕ) (table k i levels : ℕ) (before : Budget) → IsLaid f → Leads f containers table → HasKeys f table refs → k < length refs → i ≡ slice_index refs k → (trailer_of f).count ≤ i → RefusesKeys f whole refs levels before (BadReference table)
+RefusesKeys-none f whole containers refs owner k i levels before laid leads keys within is above =
+    RefusesKeys-items f whole refs levels before (BadReference owner) (RefusesItems-none f whole containers refs owner k i levels before laid leads (AllRefer-keys f owner refs keys) within is above)

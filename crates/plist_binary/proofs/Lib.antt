@@ -1,26 +1,15 @@
 pub mod Ascents
 pub mod Beginning
-pub mod Descents
 pub mod Entering
-pub mod Held
-pub mod Inserting
 pub mod ItemSteps
-pub mod KeySteps
-pub mod LoopSteps
 pub mod Making
-pub mod Paired
 pub mod Placed
 pub mod Rows
-pub mod Sequences
 pub mod TableSteps
 mod Worked
-pub mod Marking
 pub mod PassSteps
-pub mod Recalling
+pub mod Sorting
 pub mod BuildSteps
 pub mod Ranking
-pub mod Sorting
-pub mod Monotone
 pub mod HeadSteps
 pub mod RowSteps
-pub mod RowTexts

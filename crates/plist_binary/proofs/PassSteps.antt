@@ -17,8 +17,8 @@ use Rattle.plist_binary.specs.declared.memos.Memo.{Memo}
 use Rattle.plist_binary.specs.Memos.{IsMemo}
 use Rattle.plist_binary.specs.Passing.{Passes, PassesItems, PassesPairs, PassesTop, limits}
 use Rattle.plist_binary.specs.Readings.{ReadsItems, texts}
-use Rattle.plist_binary.proofs.Inserting.{zip-firsts}
-use Rattle.plist_binary.proofs.LoopSteps.{ReadsItems-next}
+use Rattle.plist_binary.proofs.Ascents.{zip-firsts}
+use Rattle.plist_binary.proofs.ItemSteps.{ReadsItems-next}
 use Rattle.plist_binary.proofs.Making.{Reads-scalar, Reads-list, Reads-table}
 use Rattle.plist_binary.proofs.Rows.{pull}
 use Rattle.plist_value.proofs.Items.{items_of-push, depth-push}

@@ -17,8 +17,7 @@ use Rattle.plist_object.specs.Objects.{holds_scalar}
 use Rattle.plist_object.specs.Places.{Holds}
 use Rattle.plist_object.specs.Spelled.{Spells, SpellItems, SpellPairs}
 use Rattle.plist_binary.specs.Readings.{texts}
-use Rattle.plist_binary.proofs.Ascents.{distinct_from_ascent}
-use Rattle.plist_binary.proofs.Inserting.{same_key}
+use Rattle.plist_binary.proofs.Ascents.{distinct_from_ascent, same_key}
 use Rattle.plist_value.proofs.Keys.{below_next}
 
 map-swap : {A B : Type 0} (g : A → B) (xs : List A) (i j : ℕ) → i < length xs → j < length xs → map g (swap xs i j) ≡ swap (map g xs) i j

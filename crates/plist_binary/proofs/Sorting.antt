@@ -1,10 +1,16 @@
--- The places of keys that were read and sorted.
-use Rattle.std.proofs.Common.{◌≡◌, ℕ, zero, suc, ◌+◌, ◌<◌, List, [], ◌∷◌, ◌++◌, Ok, length, get_or, map, take, drop, slice_index, refl, sym, ap, subst, ◌∙◌, arith}
-use Rattle.std.specs.Prelude.{All}
+-- The keys of a table as they are kept, recalled and sorted.
+use Rattle.std.proofs.Common.{◌≡◌, ℕ, ◌-◌, ◌≤◌, List, [], ◌∷◌, length, refl, arith, zero, suc, ◌+◌, ◌<◌, ◌++◌, Ok, get_or, map, take, drop, slice_index, sym, ap, subst, ◌∙◌}
 use Rattle.std.specs.Ordering.{nat_cmp}
 use Rattle.std.specs.Cmp.Lexicographic.{slice_cmp}
-use Rattle.std.specs.List.{AllByRecursion, range_with_len, zip}
 use Rattle.std.specs.List.Sorted.{IsPermutation, IsStrictlySortedBy}
+use Rattle.plist_value.specs.Limits.{nodes_of_items, depth_of_items}
+use Rattle.plist_value.specs.declared.budget.Budget.{Budget}
+use Rattle.plist_value.specs.Budget.{Spends}
+use Rattle.plist_binary.specs.Readings.{ReadsItems, texts}
+use Rattle.plist_binary.specs.Recalls.{SpellApart, ReadsApart}
+use Rattle.plist_binary.proofs.TableSteps.{length-texts, key_held}
+use Rattle.std.specs.Prelude.{All}
+use Rattle.std.specs.List.{AllByRecursion, range_with_len, zip}
 use Rattle.std.proofs.lemmas.List.{length-map, map-id, take_at}
 use Rattle.std.proofs.lemmas.List.FromFn.{fill_by_all, get_or-range_with_len, length-range_with_len}
 use Rattle.std.proofs.lemmas.List.Elements.{All-from_recursion}
@@ -18,10 +24,56 @@ use Rattle.plist_object.specs.Order.{IsOrder, pair_of}
 use Rattle.plist_object.proofs.Orders.{IsOrder-rows}
 use Rattle.plist_binary.specs.declared.tables.Key.{Key}
 use Rattle.plist_binary.specs.Keys.{units_at, place_of, AreInPlace}
-use Rattle.plist_binary.specs.Readings.{texts}
 use Rattle.plist_binary.proofs.Placed.{places_within_moved}
 use Rattle.plist_binary.specs.RowOrder.{text_at, all_places, AreOrdered}
-use Rattle.plist_binary.proofs.TableSteps.{key_held, length-texts}
+
+nodes-texts : (keys : List (List ℕ)) → nodes_of_items (texts keys) ≡ length keys
+nodes-texts [] = refl
+nodes-texts (key ∷ keys) = omega (arith, nodes-texts keys)
+
+depth-one : (keys : List (List ℕ)) → depth_of_items (texts keys) ≤ 1
+depth-one [] = omega arith
+depth-one (key ∷ keys) = omega (arith, depth-one keys)
+
+-- keys that are known, and fit into what is left
+pub ReadsApart-known : (f refs : List ℕ) (levels payload : ℕ) (before after : Budget) → SpellApart f refs payload → 1 ≤ levels → Spends before (length refs) payload after → ReadsApart f refs levels before after
+ReadsApart-known f refs levels payload before after known some spent =
+    let one = depth-one known.keys in
+    let many = nodes-texts known.keys in
+    let long = length-texts f refs known.keys known.spell in
+    record {
+      keys = known.keys;
+      reads = record {
+        spell = known.spell;
+        valid = known.valid;
+        deep = omega arith;
+        spent = record {
+          nodes_left = omega (arith, spent.nodes_left);
+          payload_left = omega (arith, spent.payload_left, known.payload_is);
+        };
+      };
+      apart = known.apart;
+    }
+
+-- keys that were read, and are in order then
+pub ReadsApart-sorted : (f refs : List ℕ) (levels : ℕ) (before after : Budget) (keys sorted : List (List ℕ)) → ReadsItems f refs levels before (texts keys) after → IsPermutation keys sorted → IsStrictlySortedBy (slice_cmp nat_cmp) sorted → ReadsApart f refs levels before after
+ReadsApart-sorted f refs levels before after keys sorted reads moved ascend = record {
+  keys = keys;
+  reads = reads;
+  apart = record { sorted = sorted; moved = moved; ascend = ascend };
+}
+
+-- they are known then
+pub SpellApart-read : (f refs : List ℕ) (levels payload : ℕ) (before after : Budget) → ReadsApart f refs levels before after → payload ≡ before.payload - after.payload → SpellApart f refs payload
+SpellApart-read f refs levels payload before after read is = record {
+  keys = read.keys;
+  spell = read.reads.spell;
+  valid = read.reads.valid;
+  apart = read.apart;
+  payload_is = omega (arith, read.reads.spent.payload_left, is);
+}
+
+-- The places of keys that were read and sorted.
 
 -- each key stands at its place, counted from n
 abbrev StandFrom : ℕ → List Key → Type 0

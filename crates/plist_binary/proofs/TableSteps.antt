@@ -25,9 +25,8 @@ use Rattle.plist_binary.specs.declared.fault.BinaryFault.TheVariants.{DuplicateK
 use Rattle.plist_binary.specs.Paths.{Leads}
 use Rattle.plist_binary.specs.Readings.{ReadsItems, RefusesItems, texts, RefusesKeys, ReadsPairs, RefusesPairs}
 use Rattle.plist_binary.specs.Building.{PairsSpelled}
-use Rattle.plist_binary.proofs.Ascents.{distinct_moved}
+use Rattle.plist_binary.proofs.Ascents.{distinct_moved, same_key, zip-firsts, zip-seconds}
 use Rattle.plist_binary.proofs.Entering.{some_level}
-use Rattle.plist_binary.proofs.Inserting.{same_key, zip-firsts, zip-seconds}
 use Rattle.plist_binary.proofs.Rows.{pull, Row, AreRows-moved, listed, nodes_of_pair, payload_of_pair, length-listed, AreRows-listed, nodes-listed, payload-listed, keys_distinct, row_keys, row_values, key_refs, value_refs, SpellItems-keys, SpellItems-values, nodes-rows, payload-rows, AreRows-items, SpellPairs-rows, ArePairs-rows, nodes-pairs_of, payload-pairs_of}
 
 -- the keys and the values of pairs, in the order of the file

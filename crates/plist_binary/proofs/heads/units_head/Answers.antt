@@ -1,8 +1,7 @@
 use Rattle.std.proofs.Common.{◌+◌, ◌-◌, ◌*◌, ◌^◌, ◌<◌, drop, arith}
 use Rattle.plist_value.specs.Texts.{units_of}
 use Rattle.plist_binary.specs.Heads.{head_of}
-use Rattle.plist_binary.proofs.HeadSteps.{head_step, head_fits}
-use Rattle.plist_binary.proofs.Monotone.{head_below}
+use Rattle.plist_binary.proofs.HeadSteps.{head_step, head_fits, head_below}
 use Rattle.plist_binary.proofs.heads.units_head.Goals as goal
 
 pub loop-read-preserved : goal.loop-read-preserved

@@ -4,7 +4,7 @@ use Rattle.std.specs.Ordering.{nat_cmp}
 use Rattle.std.specs.Cmp.Lexicographic.{slice_cmp}
 use Rattle.plist_object.proofs.Ranked.{less_from_lt}
 use Rattle.plist_value.specs.Texts.{units_of}
-use Rattle.plist_binary.proofs.RowTexts.{texts_below}
+use Rattle.plist_binary.proofs.RowSteps.{texts_below}
 use Rattle.plist_binary.proofs.row_order.is_below.Goals as goal
 
 pub returns-in-Some-Some : goal.returns-in-Some-Some

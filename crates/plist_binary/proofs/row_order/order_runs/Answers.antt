@@ -2,7 +2,7 @@ use Rattle.std.proofs.Common.{List, ℕ, map, subst, sym, refl, arith}
 use Rattle.std.specs.List.Sorted.{IsPermutation}
 use Rattle.std.proofs.lemmas.List.Sorted.{IsPermutation-refl}
 use Rattle.plist_binary.specs.RowOrder.{place_in}
-use Rattle.plist_binary.proofs.RowTexts.{sorted_again}
+use Rattle.plist_binary.proofs.RowSteps.{sorted_again}
 use Rattle.plist_binary.proofs.row_order.order_runs.Goals as goal
 
 pub loop-init : goal.loop-init

@@ -3,8 +3,7 @@ use Rattle.std.specs.List.Sorted.{IsPermutation}
 use Rattle.plist_value.specs.Texts.{units_of}
 use Rattle.plist_binary.specs.declared.row_order.Row.{Row}
 use Rattle.plist_binary.specs.RowOrder.{place_in, HeadsAscend}
-use Rattle.plist_binary.proofs.RowSteps.{ordered_by_heads}
-use Rattle.plist_binary.proofs.RowTexts.{moved_places}
+use Rattle.plist_binary.proofs.RowSteps.{ordered_by_heads, moved_places}
 use Rattle.plist_binary.proofs.row_order.places_by_heads.Goals as goal
 
 pub returns-then-ascend : goal.returns-then-ascend

@@ -3,7 +3,7 @@ use Rattle.std.proofs.lemmas.List.Sorted.{IsPermutation-trans}
 use Rattle.plist_value.specs.Texts.{units_of}
 use Rattle.plist_binary.specs.declared.row_order.Row.{Row}
 use Rattle.plist_binary.specs.RowOrder.{place_in, all_places, TextsAscend}
-use Rattle.plist_binary.proofs.RowTexts.{ordered_by_texts}
+use Rattle.plist_binary.proofs.RowSteps.{ordered_by_texts}
 use Rattle.plist_binary.proofs.row_order.places_by_more_heads.Goals as goal
 
 pub returns : goal.returns

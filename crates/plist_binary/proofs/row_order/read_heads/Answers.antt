@@ -1,6 +1,6 @@
 use Rattle.std.proofs.Common.{ap, ◌∙◌, arith}
 use Rattle.plist_binary.specs.RowOrder.{place_in}
-use Rattle.plist_binary.proofs.RowTexts.{same_places}
+use Rattle.plist_binary.proofs.RowSteps.{same_places}
 use Rattle.plist_binary.proofs.row_order.read_heads.Goals as goal
 
 pub loop-i-preserved : goal.loop-i-preserved

@@ -1,5 +1,5 @@
 use Rattle.std.proofs.Common.{◌-◌}
-use Rattle.plist_binary.proofs.RowTexts.{part_moved}
+use Rattle.plist_binary.proofs.RowSteps.{part_moved}
 use Rattle.plist_binary.proofs.row_order.sort_run.Goals as goal
 
 pub returns-then-end-start-gt1 : goal.returns-then-end-start-gt1

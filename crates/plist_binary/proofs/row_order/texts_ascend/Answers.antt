@@ -2,7 +2,7 @@ use Rattle.std.proofs.Common.{map, arith}
 use Rattle.plist_value.specs.Texts.{units_of}
 use Rattle.plist_binary.specs.RowOrder.{text_at, place_in}
 use Rattle.plist_binary.proofs.Ascents.{ascend_next}
-use Rattle.plist_binary.proofs.RowTexts.{rows_ascend}
+use Rattle.plist_binary.proofs.RowSteps.{rows_ascend}
 use Rattle.plist_binary.proofs.row_order.texts_ascend.Goals as goal
 
 pub loop-i-preserved : goal.loop-i-preserved

@@ -21,7 +21,7 @@ use Rattle.plist_binary.specs.Keys.{units_at, pair_at, AreRanked}
 use Rattle.plist_binary.specs.Readings.{texts}
 use Rattle.plist_binary.proofs.BuildSteps.{HoldsSome-within, AllSpellWithin-list, SpellsPairsWithin-table, AllSpellTexts-keys, AllSpellWithin-values, IsSpelled-table, AreSpelled-next, distinct_texts, valid_texts}
 use Rattle.plist_binary.proofs.Entering.{some_level}
-use Rattle.plist_binary.proofs.Inserting.{same_key}
+use Rattle.plist_binary.proofs.Ascents.{same_key}
 use Rattle.plist_binary.proofs.Placed.{distinct_places_moved, places_within_moved, pairs_moved}
 use Rattle.plist_value.proofs.Items.{push, view_items-push}
 use Rattle.plist_value.proofs.Shown.{view-table}

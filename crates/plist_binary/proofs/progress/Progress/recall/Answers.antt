@@ -1,7 +1,7 @@
 use Rattle.std.proofs.Common.{ℕ, sym, subst, ◌∙◌, arith}
 use Rattle.plist_binary.specs.Passing.{Passes}
 use Rattle.plist_binary.specs.declared.memos.Memo.{Memo}
-use Rattle.plist_binary.proofs.Marking.{Passed-memo}
+use Rattle.plist_binary.proofs.Making.{Passed-memo}
 use Rattle.plist_binary.proofs.PassSteps.{Passes-memo}
 use Rattle.plist_binary.proofs.progress.Progress.recall.Goals as goal
 

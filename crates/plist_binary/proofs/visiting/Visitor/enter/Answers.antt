@@ -5,7 +5,7 @@ use Rattle.plist_binary.specs.declared.fault.BinaryFault.TheVariants.{TooManyNod
 use Rattle.plist_binary.specs.Paths.{containers_of, Leads}
 use Rattle.plist_binary.specs.Readings.{Refuses}
 use Rattle.plist_binary.proofs.Beginning.{IsBegun-leads}
-use Rattle.plist_binary.proofs.Marking.{Open-among}
+use Rattle.plist_binary.proofs.Making.{Open-among}
 use Rattle.plist_binary.proofs.Entering.{Refuses-cycle, Refuses-nodes, Refuses-depth, Refuses-object}
 use Rattle.plist_binary.proofs.visiting.Visitor.enter.Goals as goal
 

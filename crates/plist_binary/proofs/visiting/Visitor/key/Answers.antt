@@ -8,7 +8,7 @@ use Rattle.plist_binary.specs.declared.fault.BinaryFault.TheVariants.{TooMuchPay
 use Rattle.plist_binary.specs.Paths.{containers_of}
 use Rattle.plist_binary.specs.Readings.{RefusesKey}
 use Rattle.plist_binary.proofs.Beginning.{IsBegun-leads}
-use Rattle.plist_binary.proofs.KeySteps.{RefusesKey-value, RefusesKey-other}
+use Rattle.plist_binary.proofs.ItemSteps.{RefusesKey-value, RefusesKey-other}
 use Rattle.plist_binary.proofs.Making.{Reads-scalar, Refuses-payload}
 use Rattle.plist_binary.proofs.visiting.Visitor.key.Goals as goal
 

@@ -12,10 +12,9 @@ use Rattle.plist_binary.specs.Passing.{PassesItems}
 use Rattle.plist_binary.specs.Paths.{containers_of}
 use Rattle.plist_binary.specs.Readings.{Refuses, RefusesItems, texts}
 use Rattle.plist_binary.proofs.Beginning.{AllRefer-next, AreNext-items, AreNext-leads, AreNext-values, IsBegun-next, IsEntered-begun}
-use Rattle.plist_binary.proofs.LoopSteps.{RefusesItems-next, RefusesItems-none}
-use Rattle.plist_binary.proofs.Making.{Refuses-payload, Refuses-list, Refuses-table}
-use Rattle.plist_binary.proofs.Marking.{AreStates-open, AreStates-passed, AreStates-wider}
-use Rattle.plist_binary.proofs.Paired.{length-values}
+use Rattle.plist_binary.proofs.ItemSteps.{RefusesItems-next, RefusesItems-none}
+use Rattle.plist_binary.proofs.Making.{Refuses-payload, Refuses-list, Refuses-table, AreStates-open, AreStates-passed, AreStates-wider}
+use Rattle.plist_binary.proofs.Entering.{length-values}
 use Rattle.plist_binary.proofs.PassSteps.{IsMemo-passed, Passes-scalar, Passes-list, Passes-table, PassesItems-next, PassesPairs-sorted}
 use Rattle.plist_binary.proofs.TableSteps.{RefusesPairs-values}
 use Rattle.plist_binary.proofs.walking.Walker.+walk.Goals as goal

@@ -6,7 +6,7 @@ use Rattle.plist_binary.specs.declared.fault.BinaryFault.TheVariants.{BadReferen
 use Rattle.plist_binary.specs.Paths.{containers_of}
 use Rattle.plist_binary.specs.Readings.{ReadsItems, texts, RefusesKeys}
 use Rattle.plist_binary.proofs.Beginning.{AreNext-keys, IsBegun-next, IsEntered-leads}
-use Rattle.plist_binary.proofs.LoopSteps.{ReadsKeys-next, RefusesKeys-next, RefusesKeys-none}
+use Rattle.plist_binary.proofs.ItemSteps.{ReadsKeys-next, RefusesKeys-next, RefusesKeys-none}
 use Rattle.plist_binary.proofs.walking.Walker.key_texts.Goals as goal
 
 pub returns-in_err-object-clause-refused : goal.returns-in_err-object-clause-refused

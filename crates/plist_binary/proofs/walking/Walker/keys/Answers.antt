@@ -12,7 +12,7 @@ use Rattle.plist_binary.specs.Heads.{AreHeadless}
 use Rattle.plist_binary.specs.Keys.{units_at, AreInPlace, IsRanked}
 use Rattle.plist_binary.specs.Readings.{ReadsItems, texts, RefusesKeys}
 use Rattle.plist_binary.proofs.Beginning.{AreNext-keys, IsBegun-next, IsEntered-leads}
-use Rattle.plist_binary.proofs.LoopSteps.{ReadsKeys-next, RefusesKeys-next, RefusesKeys-none}
+use Rattle.plist_binary.proofs.ItemSteps.{ReadsKeys-next, RefusesKeys-next, RefusesKeys-none}
 use Rattle.plist_binary.proofs.Placed.{AreInPlace-push}
 use Rattle.plist_binary.proofs.Ranking.{IsRanked-read}
 use Rattle.plist_binary.proofs.walking.Walker.keys.Goals as goal

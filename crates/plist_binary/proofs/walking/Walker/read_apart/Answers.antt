@@ -18,10 +18,9 @@ use Rattle.plist_binary.specs.Readings.{ReadsItems, texts}
 use Rattle.plist_binary.specs.Recalls.{RefusesTable}
 use Rattle.plist_binary.specs.RowOrder.{text_at, AreOrdered}
 use Rattle.plist_binary.proofs.Beginning.{IsEntered-leads}
-use Rattle.plist_binary.proofs.Inserting.{same_key}
-use Rattle.plist_binary.proofs.Paired.{length-values}
-use Rattle.plist_binary.proofs.Recalling.{ReadsApart-sorted, SpellApart-read}
-use Rattle.plist_binary.proofs.Sorting.{IsOrder-ordered, IsOrder-read, seen_sorted, texts_moved}
+use Rattle.plist_binary.proofs.Ascents.{same_key}
+use Rattle.plist_binary.proofs.Entering.{length-values}
+use Rattle.plist_binary.proofs.Sorting.{ReadsApart-sorted, SpellApart-read, IsOrder-ordered, IsOrder-read, seen_sorted, texts_moved}
 use Rattle.plist_binary.proofs.TableSteps.{RefusesPairs-keys, RefusesPairs-twice}
 use Rattle.plist_binary.proofs.walking.Walker.read_apart.Goals.{then-are_many_unranked+in_ok-texts+in_ok-places+in_default+in_ok-keys, else-are_many_unranked+in_ok-keys-2}
 use Rattle.plist_binary.proofs.walking.Walker.read_apart.Goals as goal
