@@ -41,9 +41,11 @@ print() { # PATH LINE..
 # The pages, with the folders that they link to.
 pages() {
     local file
-    for file in *.md docs/*.{md,svg} include/*.h bindings/rows.txt bindings/python/{pyproject.toml,wheel_of_plistconv.py} \
-        bindings/python/plistconv/{__init__.py,py.typed} examples/c/*.{c,cpp} examples/go/{go.mod,*.go} \
-        examples/rust/{Cargo.toml,src/*.rs} examples/rust/plistconv-sys/{Cargo.toml,build.rs,src/*.rs}; do
+    for file in *.md docs/*.{md,svg} include/*.h bindings/{README.md,rows.txt} \
+        bindings/python/{README.md,pyproject.toml,wheel_of_plistconv.py,plistconv/__init__.py,plistconv/py.typed} \
+        bindings/rust/{README.md,Cargo.toml} bindings/rust/plistconv{,-sys}/{Cargo.toml,src/*.rs} \
+        bindings/rust/plistconv-sys/build.rs bindings/go/{README.md,go.mod,plistconv.go,refused.go} \
+        examples/c/*.{c,cpp} examples/rust/{Cargo.toml,src/*.rs} examples/go/{go.mod,*.go}; do
         put 644 "$file" "$DOC/$file"
     done
 }
