@@ -1,6 +1,6 @@
-/* Calls each function of the library, and prints the line of a refusal. Exits with 0 where all answer as they
- * must, with 5 where one answers 60 and leaves all as it was, and with 1 else. It takes no memory of its own, so
- * `make growths-lib` can refuse each allocation that the library makes, in turn. */
+/* Calls each function of the library, and prints the line of a refusal. Exits with 0 if all answer as they must, with 5
+ * if one answers 60 and leaves all as it was, and else with 1. It takes no memory but for the buffers that calls make,
+ * so `make growths-lib` can refuse each allocation in turn. */
 #include <plistconv.h>
 #include <string.h>
 #include <unistd.h>
@@ -49,6 +49,22 @@ static uint8_t line_of(size_t room, size_t *length) {
     return number;
 }
 
+/* The calls that make their buffer, the last one with a second, larger one: if they are refused there is none. */
+static void allocated(void) {
+    static const uint8_t nested[] = "((((((((((((((((((((((((((((((a))))))))))))))))))))))))))))))";
+    for (int call = 0; call < 3; call++) {
+        uint8_t *out = line, number;
+        size_t length = 7, count = sizeof nested - 1;
+        if (call == 0) number = plistconv_canonical_alloc(nested, count, key, &out, &length, &refusal);
+        else if (call == 1) number = plistconv_text_alloc(nested, count, &out, &length, &refusal);
+        else number = plistconv_print_alloc(nested, count, &out, &length, &refusal);
+        must(refusal.number == number && (number != 0 ? !out && length == 0 : out != line));
+        if (number == 60) _exit(5);
+        must(number == 0 && length == (const size_t[]){133, 152, 2074}[call]);
+        plistconv_free(out);
+    }
+}
+
 int main(void) {
     size_t length = canonical(value, sizeof value - 1, file, 0);
     plistconv_finding finding = {0};
@@ -72,6 +88,7 @@ int main(void) {
     if (number == 60) _exit(printed_length == 0 ? 5 : 1);
     must(number == 0 && printed_length == print_length);
 
+    allocated();
     canonical(twice, sizeof twice - 1, again, 14);
     size_t line_length = 0;
     must(line_of(3, &line_length) == 0 && line_length == 43 && line[0] == 0);
