@@ -94,6 +94,15 @@ fn rows() {
     }
 }
 
+/// Returns the name as that of a constant: `TOO_SHORT` for `TooShort`.
+fn constant(name: &str) -> String {
+    let words = name.chars().enumerate().flat_map(|(at, letter)| {
+        let dash = (at > 0 && letter.is_uppercase()).then_some('_');
+        dash.into_iter().chain(letter.to_uppercase())
+    });
+    words.collect()
+}
+
 #[test]
 fn refusals() {
     let source = read("../../../crates/plist_value/src/refusals.rt");
@@ -113,6 +122,11 @@ fn refusals() {
         .collect();
     assert_eq!(ours, wanted);
     assert_eq!(ours.len(), 35);
+    let constants = read("../plistconv-sys/src/lib.rs");
+    for (number, name) in wanted {
+        let line = format!("pub const {}: u8 = {number};\n", constant(&name));
+        assert!(constants.contains(&line), "{line}");
+    }
 }
 
 #[test]
