@@ -11,7 +11,7 @@
  *   the compiled code may rely on that. The structures and numbers that a call writes need not be initialised, and
  *   the _alloc calls below take care of their buffers.
  * - What a call writes overlaps none of its other arguments.
- * - 1 MiB of stack is free. A value may be 512 levels deep, and the deepest take about 700 KiB; with less the program
+ * - 1 MiB of stack is free. A value may be 512 levels deep, and the deepest take about 620 KiB; with less the program
  *   crashes. Threads have 8 MiB with glibc, but 128 KiB with musl: create them with pthread_attr_setstacksize.
  * - The call is made neither from a signal handler, nor in the child of a fork of a program with threads.
  * Callers without this header (dlsym, another language) also have to: pass a valid pointer beside a count of 0, pass 16
