@@ -4,7 +4,8 @@ use std::alloc::{AllocError, Global};
 /// The words of a row, between single spaces, behind the name of the program.
 pub(crate) fn words_of(alloc: Global, row: &str) -> Result<Vec<&str>, AllocError> {
     let (line, _) = row.split_once('|').unwrap_or((row, ""));
-    let mut words = Vec::from_slice(alloc, &["plistconv"])?;
+    let mut words = Vec::new(alloc);
+    words.push("plistconv")?;
     for word in line.split(' ') {
         words.push(word)?;
     }
