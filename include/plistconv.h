@@ -20,12 +20,13 @@
  * Threads: calls share nothing, so any number may run at once, each on memory of its own. They may share input and key,
  * which are only read. Memory comes from malloc, realloc and free; a call that returns holds none.
  *
- * Refusals, by call (the names are below; 50 to 52 are those of the program, which reads and writes files):
- *   plistconv_canonical, plistconv_same, plistconv_print    1 to 32, 60
- *   plistconv_text                                          1 to 32, 40, 60
- *   plistconv_check                                         1 to 3, 60
+ * Refusals, by call (the names are below; 50 and 51 are those of the program, which reads and writes files):
+ *   plistconv_canonical, plistconv_same, plistconv_print, plistconv_lint    1 to 32, 52, 60
+ *   plistconv_text                                          1 to 32, 40, 52, 60
+ *   plistconv_check                                         1 to 3, 52, 60
  *   plistconv_line                                          60, and 255 (PLISTCONV_UNTOLD)
- * An input that begins with `bplist` is refused with 1 to 18, any other with 14, 16 to 18 and 20 to 32.
+ * An input that begins with `bplist` is refused with 1 to 18, any other with 14, 16 to 18 and 20 to 32. An input of more
+ * than 4,294,967,295 bytes is refused with 52, and only with that.
  */
 #ifndef PLISTCONV_H
 #define PLISTCONV_H
@@ -143,10 +144,14 @@ uint8_t plistconv_text(const uint8_t *octets, size_t count, uint8_t *into, size_
 uint8_t plistconv_print(const uint8_t *octets, size_t count, uint8_t *into, size_t room, size_t *length,
                         plistconv_refusal *refusal);
 
+/* Checks whether octets[0 .. count) is accepted. It writes nothing and builds no value.
+ * Returns 0 if it is, else the number of the refusal, with *refusal set. */
+uint8_t plistconv_lint(const uint8_t *octets, size_t count, plistconv_refusal *refusal);
+
 /* Checks whether octets[0 .. count), a binary property list, is already canonical, without building its value.
  * Returns 0 with *finding set.
- * Else returns 1 to 3 if the input does not have the layout of a binary file, or 60, with *refusal set and all fields
- * of *finding 0. */
+ * Else returns 1 to 3 if the input does not have the layout of a binary file, 52 or 60, with *refusal set and all
+ * fields of *finding 0. */
 uint8_t plistconv_check(const uint8_t *octets, size_t count, const uint8_t *key, plistconv_finding *finding,
                         plistconv_refusal *refusal);
 
@@ -218,6 +223,14 @@ static inline uint8_t plistconv_same_(const uint8_t *first, size_t first_count, 
                           equal, refusal);
 }
 #define plistconv_same plistconv_same_
+
+static inline uint8_t plistconv_lint_(const uint8_t *octets, size_t count, plistconv_refusal *refusal) {
+    const plistconv_refusal unset = {0, 0, 0, 0};
+    const uint8_t none = 0;
+    *refusal = unset;
+    return plistconv_lint(plistconv_read_(octets, count, &none), count, refusal);
+}
+#define plistconv_lint plistconv_lint_
 
 static inline uint8_t plistconv_check_(const uint8_t *octets, size_t count, const uint8_t *key,
                                        plistconv_finding *finding, plistconv_refusal *refusal) {

@@ -68,9 +68,8 @@ func Same(one, other []byte) (bool, error) {
 
 // Lint returns nil if a property list is accepted, and else why it is refused.
 func Lint(input []byte) error {
-	var length C.size_t
 	var refusal C.plistconv_refusal
-	number := C.plistconv_canonical(first(input), C.size_t(len(input)), key(), nil, 0, &length, &refusal)
+	number := C.plistconv_lint(first(input), C.size_t(len(input)), &refusal)
 	return answered(number, &refusal)
 }
 

@@ -44,7 +44,7 @@ const (
 	NotInOpenStep       Refusal = 40 // the value has no OpenStep text, since it has a number, a boolean or a date
 	ReadFailed          Refusal = 50 // a file cannot be read. Only the program answers this
 	WriteFailed         Refusal = 51 // a file cannot be written. Only the program answers this
-	InputTooLarge       Refusal = 52 // a file is too long. Only the program answers this
+	InputTooLarge       Refusal = 52 // the input has more than 4,294,967,295 bytes
 	OutOfMemory         Refusal = 60 // out of memory
 )
 

@@ -2,8 +2,10 @@
 
 PLISTCONV_LIBRARY names the library, as for the module."""
 import concurrent.futures
+import ctypes
 import datetime
 import doctest
+import mmap
 import os
 import pickle
 import plistlib
@@ -161,9 +163,38 @@ class Refusals(unittest.TestCase):
 
     def test_lint(self):
         self.assertIsNone(plistconv.lint(b"(a, b)"))
-        found = plistconv.lint(b'("a', key=b"k" * 16)
+        found = plistconv.lint(b'("a')
         self.assertEqual((found.refusal, found.place), (plistconv.Refusal.UNCLOSED_STRING, 1))
         self.assertIsNone(found.__traceback__)
+
+    def test_size_of_input(self):
+        """No call reads an input of 4,294,967,296 bytes: its refusal is 52. The memory is never touched."""
+        try:
+            large = mmap.mmap(-1, 1 << 32)
+        except (OSError, ValueError, OverflowError) as fault:
+            self.skipTest(f"there are no addresses for it ({fault})")
+        library = ctypes.CDLL(plistconv._library._name)
+        octets, size = ctypes.c_uint8.from_buffer(large), ctypes.c_size_t(1 << 32)
+        key, into, length, equal = bytes(16), bytes(1), ctypes.c_size_t(), ctypes.c_uint8()
+        refusal, finding = plistconv._Refusal(), plistconv._Finding()
+        input, output = [ctypes.byref(octets), size], [into, ctypes.c_size_t(1), ctypes.byref(length)]
+        short, broken = [b"a", ctypes.c_size_t(1)], [b"(", ctypes.c_size_t(1)]
+        for name, given, wanted in [
+            ("canonical", [*input, key, *output], (52, 1)),
+            ("text", [*input, *output], (52, 1)),
+            ("print", [*input, *output], (52, 1)),
+            ("lint", input, (52, 1)),
+            ("check", [*input, key, ctypes.byref(finding)], (52, 1)),
+            ("same", [*input, *short, key, ctypes.byref(equal)], (52, 1)),
+            ("same", [*short, *input, key, ctypes.byref(equal)], (52, 2)),
+            ("same", [*broken, *input, key, ctypes.byref(equal)], (30, 1)),
+        ]:
+            with self.subTest(name):
+                function = getattr(library, "plistconv_" + name)
+                function.restype = ctypes.c_uint8
+                number = function(*given, ctypes.byref(refusal))
+                self.assertEqual((number, refusal.number, refusal.input), (wanted[0], *wanted))
+        del octets, input
 
     def test_lines(self):
         for octets, line in [

@@ -88,6 +88,10 @@ int main(void) {
     if (number == 60) _exit(printed_length == 0 ? 5 : 1);
     must(number == 0 && printed_length == print_length);
 
+    number = plistconv_lint(value, sizeof value - 1, &refusal);
+    if (number == 60) _exit(refusal.number == 60 ? 5 : 1);
+    must(number == 0 && refusal.number == 0);
+
     allocated();
     canonical(twice, sizeof twice - 1, again, 14);
     size_t line_length = 0;

@@ -107,6 +107,7 @@ static int empty_holds(void) {
     MUST(plistconv_line(NULL, 0, &refusal, NULL, 0, &length) == 0 && length == strlen(": refused 1 TooShort"));
     MUST(plistconv_text(NULL, 0, NULL, 0, &length, &refusal) == 0 && length <= PLISTCONV_TEXT_ROOM(0, 1));
     MUST(plistconv_print(NULL, 0, NULL, 0, &length, &refusal) == 0 && length == 3);
+    MUST(plistconv_lint(NULL, 0, &refusal) == 0 && refusal.number == 0);
     return 0;
 }
 

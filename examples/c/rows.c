@@ -55,6 +55,7 @@ static int is_row(char **cells) {
     plistconv_refusal refusal;
     number = plistconv_same(octets, count, octets, count, key, &equal, &refusal);
     if (number != 0 ? !is_refusal(cells[2], number, &refusal) : equal != 1) return 0;
+    if (plistconv_lint(octets, count, &refusal) != number || refusal.number != number) return 0;
     number = plistconv_canonical_alloc(octets, count, key, &out, &length, &refusal);
     if (!is_answer(cells[2], number, out, length, &refusal)) return 0;
     number = plistconv_text_alloc(octets, count, &out, &length, &refusal);

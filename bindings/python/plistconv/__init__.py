@@ -34,7 +34,7 @@ import dataclasses
 import enum
 import os
 import threading
-from typing import Any, Callable, List, NoReturn, Optional, Tuple, Union
+from typing import Any, Callable, List, Optional, Tuple, Union
 
 __all__ = ["Refusal", "Refused", "Finding", "canonical", "same", "lint", "check", "text", "printed", "library_version"]
 __version__ = "0.2.0"
@@ -47,7 +47,7 @@ _LEAST_STACK = 1 << 20
 
 class Refusal(enum.IntEnum):
     """The refusals by number. docs/FORMATS.md says when each is answered, and which place it names. Of the last ones,
-    50 to 52 are answered by the program only, and 60 is raised as `MemoryError`."""
+    50 and 51 are answered by the program only, and 60 is raised as `MemoryError`."""
 
     TOO_SHORT = 1
     BAD_HEADER = 2
@@ -153,6 +153,7 @@ def _load() -> Any:
         "plistconv_text": [octets, size, *into, refusal],
         "plistconv_print": [octets, size, *into, refusal],
         "plistconv_same": [octets, size, octets, size, key, ctypes.POINTER(ctypes.c_uint8), refusal],
+        "plistconv_lint": [octets, size, refusal],
         "plistconv_check": [octets, size, key, ctypes.POINTER(_Finding), refusal],
         "plistconv_line": [octets, size, refusal, *into],
     }.items():
@@ -227,11 +228,12 @@ def _key_of(given: Optional[Octets]) -> bytes:
     return key
 
 
-def _raise(refusal: _Refusal) -> NoReturn:
+def _refused(refusal: _Refusal) -> Refused:
+    """Returns a refusal of the library. A lack of memory is raised."""
     if refusal.number == Refusal.OUT_OF_MEMORY:
         raise MemoryError("60 OutOfMemory")
     unit = _UNITS[refusal.unit]
-    raise Refused(refusal.number, unit, None if unit is None else refusal.place, refusal.input)
+    return Refused(refusal.number, unit, None if unit is None else refusal.place, refusal.input)
 
 
 def _filled(function: Any, room: int, *given: Any, refusal: Optional[_Refusal] = None) -> bytes:
@@ -246,7 +248,7 @@ def _filled(function: Any, room: int, *given: Any, refusal: Optional[_Refusal] =
         if number != 0:
             if refusal is None:
                 raise ValueError("no call answers such a refusal")
-            _raise(refusal)
+            raise _refused(refusal)
         if length.value <= room:
             return bytes(memoryview(into)[:length.value])
         room = length.value
@@ -261,7 +263,7 @@ def _answered(function: Any, given: Tuple[Any, ...], answer: Any) -> Any:
     """Returns `answer`, to which a function writes."""
     refusal = _Refusal()
     if _call(function, *given, ctypes.byref(answer), ctypes.byref(refusal)) != 0:
-        _raise(refusal)
+        raise _refused(refusal)
     return answer
 
 
@@ -288,15 +290,12 @@ def same(first: Octets, second: Octets, key: Optional[Octets] = None) -> bool:
     return bool(_answered(_library.plistconv_same, given, ctypes.c_uint8(0)).value)
 
 
-def lint(octets: Octets, key: Optional[Octets] = None) -> Optional[Refused]:
+def lint(octets: Octets) -> Optional[Refused]:
     """Returns why a property list is refused, or None if it is accepted."""
-    octets, into, length = _octets(octets), ctypes.c_uint8(0), ctypes.c_size_t(0)
-    given = octets, len(octets), _key_of(key), ctypes.byref(into), 0
-    try:
-        _answered(_library.plistconv_canonical, given, length)
-    except Refused as refused:
-        return refused.with_traceback(None)
-    return None
+    octets, refusal = _octets(octets), _Refusal()
+    if _call(_library.plistconv_lint, octets, len(octets), ctypes.byref(refusal)) == 0:
+        return None
+    return _refused(refusal)
 
 
 def check(octets: Octets, key: Optional[Octets] = None) -> Finding:

@@ -1,7 +1,7 @@
-//! The example of the README. `scripts/readme` compares it with these lines.
+//! The example of CONTRIBUTING. `scripts/readme` compares it with these lines.
 use std::test::Fail;
 
-// The example of the README:
+// The example of CONTRIBUTING:
 use plist_convert::{Fault, PairFault, canonicalise, same_files};
 use std::alloc::Global;
 

@@ -3,8 +3,6 @@ use Rattle.std.proofs.Common.{◌<◌, lit<}
 use Rattle.plist_value.specs.Refusals.{number_of}
 use Rattle.plist_value.specs.declared.refusals.Refusal.{Refusal}
 use Rattle.plist_value.specs.declared.refusals.Refusal.TheVariants as refusal
-use Rattle.plist_canon.specs.Codes.{check_code, check_report}
-use Rattle.plist_canon.specs.declared.checking.CheckFault.{CheckFault}
 use Rattle.plist_forms.specs.Fault.{code_of, report_of}
 use Rattle.plist_forms.specs.declared.faults.Fault.{Fault}
 
@@ -48,7 +46,3 @@ above refusal.OutOfMemory = lit< tt
 -- no refusal has the number 0
 pub code_above : (fault : Fault) → 0 < code_of fault
 code_above fault = above (report_of fault).0
-
--- nor has one of a check
-pub check_above : (fault : CheckFault) → 0 < check_code fault
-check_above fault = above (check_report fault).0

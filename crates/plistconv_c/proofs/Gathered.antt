@@ -1,8 +1,5 @@
 -- From what a print ensures to what is gathered of it.
-use Rattle.std.proofs.Common.{inl, inr, refl, sym, subst, Err, List, [], Ok, Option, Result, Some, ℕ, ◌∙◌, ◌≡◌, ◌≢◌}
-use Rattle.plist_value.specs.Plist.{Plist}
-use Rattle.plist_forms.specs.Accepted.{IsAccepted}
-use Rattle.plist_forms.specs.Fault.{write_fault_for}
+use Rattle.std.proofs.Common.{inl, inr, refl, sym, subst, Err, List, [], Ok, Option, Result, Some, ℕ, ◌≡◌}
 use Rattle.plist_forms.specs.Printed.{IsPrintOf, Prints}
 use Rattle.plist_forms.specs.Refusals.{IsRefused}
 use Rattle.plist_forms.specs.Sent.{answer_of}

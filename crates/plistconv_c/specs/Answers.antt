@@ -1,26 +1,26 @@
 -- What each call of the library answers.
-use Rattle.std.specs.Prelude.{◌≡◌, ℕ, List, Bool, true, false}
+use Rattle.std.specs.Prelude.{◌≡◌, ◌≤◌, ℕ, List, Bool, true, false, length}
 use Rattle.plist_value.specs.Plist.{Plist}
 use Rattle.plist_object.specs.Layout.{IsLaid}
-use Rattle.plist_canon.specs.Checking.{IsCheckFault, IsVerdict}
+use Rattle.plist_canon.specs.Checking.{IsVerdict}
 use Rattle.plist_canon.specs.Locality.{IsCanonical}
-use Rattle.plist_canon.specs.declared.checking.CheckFault.{CheckFault}
 use Rattle.plist_canon.specs.declared.checking.Verdict.{Verdict}
 use Rattle.plist_canon.specs.declared.checking.Verdict.TheVariants.{Canonical, Broken}
-use Rattle.plist_forms.specs.Accepted.{IsAccepted, IsCanonicalOf}
-use Rattle.plist_forms.specs.Fault.{check_fault_for}
+use Rattle.plist_forms.specs.Accepted.{IsCanonicalOf}
 use Rattle.plist_forms.specs.Pair.{IsPair}
 use Rattle.plist_forms.specs.Printed.{IsPrintOf}
-use Rattle.plist_forms.specs.Refusals.{IsRefused}
 use Rattle.plist_forms.specs.declared.faults.Fault.{Fault}
 use Rattle.plist_forms.specs.declared.faults.Fault.TheVariants.{OutOfMemory, WriteFailed}
+use Rattle.plist_forms.specs.declared.loading.TheConstants.{MAX_INPUT}
 use Rattle.plistconv_c.specs.Given.{IsGiven}
+use Rattle.plistconv_c.specs.Inputs.{IsInputAccepted, IsInputRefused, IsCheckRefused}
 use Rattle.plistconv_c.specs.Refusals.{no_refusal, refusal_of}
 use Rattle.plistconv_c.specs.declared.checking.Finding.{Finding}
 use Rattle.plistconv_c.specs.declared.refusals.Refusal.{Refusal}
 
 -- the canonical file of the value that the octets spell is given in the buffer
 pub record IsCanonicalGiven (octets before after : List ℕ) (count : ℕ) (told : Refusal) : Type 0 where
+  pub within : length octets ≤ MAX_INPUT
   pub file : List ℕ
   pub canonical : IsCanonicalOf octets file
   pub given : IsGiven file before after count
@@ -28,6 +28,7 @@ pub record IsCanonicalGiven (octets before after : List ℕ) (count : ℕ) (told
 
 -- the printed text of the value that the octets spell is given in the buffer
 pub record IsPrintGiven (octets before after : List ℕ) (count : ℕ) (told : Refusal) : Type 0 where
+  pub within : length octets ≤ MAX_INPUT
   pub text : List ℕ
   pub of : IsPrintOf octets text
   pub given : IsGiven text before after count
@@ -39,13 +40,22 @@ gathered_fault (WriteFailed sent) = OutOfMemory 0
 gathered_fault (OutOfMemory sent) = OutOfMemory 0
 gathered_fault fault = fault
 
--- the octets are refused, the refusal is told by its number and its place, and the buffer is as it
--- was
-pub record IsRefusedWhole (octets before after : List ℕ) (count : ℕ) (told : Refusal) (number : ℕ) : Type 0 where
+-- the input is accepted: it spells a value
+pub record IsLinted (octets : List ℕ) (told : Refusal) : Type 0 where
+  pub value : Plist
+  pub accepted : IsInputAccepted octets value
+  pub none : told ≡ no_refusal
+
+-- the input is refused, and the refusal is told by its number and its place
+pub record IsRefusalTold (octets : List ℕ) (told : Refusal) (number : ℕ) : Type 0 where
   pub fault : Fault
-  pub refused : IsRefused octets fault
+  pub refused : IsInputRefused octets fault
   pub told_so : told ≡ refusal_of fault 1
   pub number_told : number ≡ told.number
+
+-- the input is refused, and the buffer is unchanged
+pub record IsRefusedWhole (octets before after : List ℕ) (count : ℕ) (told : Refusal) (number : ℕ) : Type 0 where
+  pub input : IsRefusalTold octets told number
   pub kept : after ≡ before
   pub nothing : count ≡ 0
 
@@ -56,6 +66,8 @@ number_of false = 0
 
 -- both are accepted, and the answer is whether they spell equal values
 pub record IsCompared (first second : List ℕ) (equal : ℕ) (told : Refusal) : Type 0 where
+  pub first_within : length first ≤ MAX_INPUT
+  pub second_within : length second ≤ MAX_INPUT
   pub same : Bool
   pub pair : IsPair first second same
   pub answer : equal ≡ number_of same
@@ -63,8 +75,8 @@ pub record IsCompared (first second : List ℕ) (equal : ℕ) (told : Refusal) :
 
 -- the input that is refused, and its fault; the second only where the first is accepted
 pub data RefusedInput (first second : List ℕ) (fault : Fault) (input : ℕ) : Type 0 where
-  first_refused : IsRefused first fault → input ≡ 1 → RefusedInput first second fault input
-  second_refused : (v : Plist) → IsAccepted first v → IsRefused second fault → input ≡ 2 → RefusedInput first second fault input
+  first_refused : IsInputRefused first fault → input ≡ 1 → RefusedInput first second fault input
+  second_refused : (v : Plist) → IsInputAccepted first v → IsInputRefused second fault → input ≡ 2 → RefusedInput first second fault input
 
 -- one of the two is refused, and the refusal is told
 pub record IsRefusedPair (first second : List ℕ) (equal : ℕ) (told : Refusal) (number : ℕ) : Type 0 where
@@ -82,6 +94,7 @@ finding_of (Broken rule object) = record { object = object; canonical = 0; rule 
 
 -- the octets have the layout, and what is found of them is told
 pub record IsChecked (octets : List ℕ) (finding : Finding) (told : Refusal) : Type 0 where
+  pub within : length octets ≤ MAX_INPUT
   pub laid : IsLaid octets
   pub verdict : Verdict
   pub found : IsVerdict octets verdict
@@ -90,10 +103,10 @@ pub record IsChecked (octets : List ℕ) (finding : Finding) (told : Refusal) : 
   pub other : finding.canonical ≡ 0 → ¬ IsCanonical octets
   pub none : told ≡ no_refusal
 
--- the octets do not have the layout, or memory was wanted, and the refusal is told
+-- the input is too large, does not have the layout, or memory ran out, and the refusal is told
 pub record IsUnchecked (octets : List ℕ) (finding : Finding) (told : Refusal) (number : ℕ) : Type 0 where
-  pub fault : CheckFault
-  pub stands : IsCheckFault octets fault
-  pub told_so : told ≡ refusal_of (check_fault_for fault) 1
+  pub fault : Fault
+  pub refused : IsCheckRefused octets fault
+  pub told_so : told ≡ refusal_of fault 1
   pub number_told : number ≡ told.number
   pub nothing : finding ≡ record { object = 0; canonical = 0; rule = 0 }

@@ -1,5 +1,6 @@
 pub mod Answers
 pub mod Given
+pub mod Inputs
 pub mod Lines
 pub mod Refusals
 pub mod Texts

@@ -9,10 +9,14 @@ use Rattle.plistconv_c.specs.Given.{IsGiven}
 use Rattle.plistconv_c.specs.Refusals.{refusal_of}
 use Rattle.plistconv_c.specs.declared.refusals.Refusal.{Refusal}
 
+-- a fault is told so
+abbrev pub IsTold : Refusal → Type 0
+IsTold told = (fault : Fault) × ((input : ℕ) × (told ≡ refusal_of fault input))
+
 -- The line of the fault that is told is given in the buffer. There is such a fault, and all that
 -- are told alike have one line.
 pub record IsLineGiven (path before after : List ℕ) (count : ℕ) (told : Refusal) : Type 0 where
-  pub known : (fault : Fault) × ((input : ℕ) × (told ≡ refusal_of fault input))
+  pub known : IsTold told
   pub given : (fault : Fault) → (input : ℕ) → told ≡ refusal_of fault input
       → IsGiven (line_of path fault) before after count
 
@@ -20,9 +24,9 @@ pub record IsLineGiven (path before after : List ℕ) (count : ℕ) (told : Refu
 abbrev pub IsUntold : Refusal → Type 0
 IsUntold told = (fault : Fault) → (input : ℕ) → told ≡ refusal_of fault input → ⊥
 
--- memory was wanted, or no fault is told so; the buffer is as it was
+-- memory ran out for the line of a fault that is told so, or none is; the buffer is unchanged
 pub record IsNoLine (before after : List ℕ) (count : ℕ) (told : Refusal) (number : ℕ) : Type 0 where
-  pub reason : (number ≡ 60) ⊎ ((number ≡ 255) × IsUntold told)
+  pub reason : ((number ≡ 60) × IsTold told) ⊎ ((number ≡ 255) × IsUntold told)
   pub kept : after ≡ before
   pub nothing : count ≡ 0
 

@@ -2,11 +2,10 @@
 use Rattle.std.specs.Prelude.{◌≡◌, ℕ, List, Some, None}
 use Rattle.plist_value.specs.Plist.{Plist}
 use Rattle.ostep_text.specs.Written.{text_of}
-use Rattle.plist_forms.specs.Accepted.{IsAccepted}
-use Rattle.plist_forms.specs.Refusals.{IsRefused}
 use Rattle.plist_forms.specs.declared.faults.Fault.{Fault}
 use Rattle.plist_forms.specs.declared.faults.Fault.TheVariants.{NotInOpenStep}
 use Rattle.plistconv_c.specs.Given.{IsGiven}
+use Rattle.plistconv_c.specs.Inputs.{IsInputAccepted, IsInputRefused}
 use Rattle.plistconv_c.specs.Refusals.{no_refusal, refusal_of}
 use Rattle.plistconv_c.specs.declared.refusals.Refusal.{Refusal}
 
@@ -14,15 +13,15 @@ use Rattle.plistconv_c.specs.declared.refusals.Refusal.{Refusal}
 pub record IsTextGiven (octets before after : List ℕ) (count : ℕ) (told : Refusal) : Type 0 where
   pub value : Plist
   pub text : List ℕ
-  pub accepted : IsAccepted octets value
+  pub accepted : IsInputAccepted octets value
   pub written : text_of value ≡ Some text
   pub given : IsGiven text before after count
   pub none : told ≡ no_refusal
 
 -- the octets are refused, or they spell a value that has no text
 pub data IsUnwritten (octets : List ℕ) (told : Refusal) : Type 0 where
-  unread : (fault : Fault) → IsRefused octets fault → told ≡ refusal_of fault 1 → IsUnwritten octets told
-  no_text : (v : Plist) → IsAccepted octets v → text_of v ≡ None → told ≡ refusal_of NotInOpenStep 1 → IsUnwritten octets told
+  unread : (fault : Fault) → IsInputRefused octets fault → told ≡ refusal_of fault 1 → IsUnwritten octets told
+  no_text : (v : Plist) → IsInputAccepted octets v → text_of v ≡ None → told ≡ refusal_of NotInOpenStep 1 → IsUnwritten octets told
 
 -- the refusal is told by its number and its place, and the buffer is as it was
 pub record IsTextRefused (octets before after : List ℕ) (count : ℕ) (told : Refusal) (number : ℕ) : Type 0 where

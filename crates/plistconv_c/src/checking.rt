@@ -1,11 +1,14 @@
 //! Whether a binary file is canonical.
-ghost use Rattle.std.specs.Prelude.{◌≡◌, ◌≢◌, ◌↔◌, IfOk, IfErr};
+ghost use Rattle.std.specs.Prelude.{◌≡◌, ◌≢◌, ◌↔◌, ◌≤◌, length, IfOk, IfErr, OnOk};
 ghost use Rattle.plist_object.specs.Layout.{IsLaid};
 ghost use Rattle.plist_canon.specs.Checking.{IsCheckFault, IsVerdict};
 ghost use Rattle.plist_canon.specs.Locality.{IsCanonical};
+ghost use Rattle.plist_forms.specs.declared.loading.TheConstants.{MAX_INPUT};
 ghost use Rattle.plistconv_c.specs.Answers.{IsChecked, IsUnchecked, finding_of};
+ghost use Rattle.plistconv_c.specs.Inputs.{IsCheckRefused};
 
 use crate::Refusal;
+use crate::inputs::admit;
 use crate::keys::keyed_hasher;
 use plist_canon::{CheckFault, Verdict, check, check_with_hasher};
 use plist_forms::Fault;
@@ -29,8 +32,8 @@ pub struct Finding {
 ///
 /// # Errors
 ///
-/// 1 to 3 where the octets do not have the layout of a binary file, and 60 where no memory was
-/// left; the finding is 0 throughout.
+/// 1 to 3 if the octets do not have the layout of a binary file, 52 if they are more than
+/// [`MAX_INPUT`](plist_forms::MAX_INPUT), and 60 if memory runs out; the finding is 0 throughout.
 #[unsafe(no_mangle)]
 pub extern "C" fn plistconv_check(
     alloc: Global,
@@ -54,14 +57,30 @@ pub extern "C" fn plistconv_check(
                 canonical: 0,
                 rule: 0,
             };
-            *refusal = Refusal::of(&Fault::from(fault), 1);
+            *refusal = Refusal::of(&fault, 1);
             fault.code()
         }
     }
 }
 
-// What is found of the file under the key.
-fn checked(alloc: Global, octets: &[u8], key: &[u8; 16]) -> Result<Verdict, CheckFault>
+// The verdict on an input, found under the key.
+fn checked(alloc: Global, octets: &[u8], key: &[u8; 16]) -> Result<Verdict, Fault>
+    ensures fault { IfErr result (IsCheckRefused octets.now) }
+    ensures within { OnOk result (length octets.now ≤ MAX_INPUT) }
+    ensures laid { IfOk result (λ _. IsLaid octets.now) }
+    ensures verdict { IfOk result (IsVerdict octets.now) }
+    ensures canonical { IfOk result
+        (λ verdict. (verdict ≡ Verdict.Canonical) ↔ IsCanonical octets.now) }
+{
+    admit(octets)?;
+    match verdict_of(alloc, octets, key) {
+        Ok(verdict) => Ok(verdict),
+        Err(cause) => Err(Fault::from(cause)),
+    }
+}
+
+// The verdict on the file, found under the key.
+fn verdict_of(alloc: Global, octets: &[u8], key: &[u8; 16]) -> Result<Verdict, CheckFault>
     ensures fault { IfErr result (IsCheckFault octets.now) }
     ensures laid { IfOk result (λ _. IsLaid octets.now) }
     ensures verdict { IfOk result (IsVerdict octets.now) }

@@ -1,13 +1,15 @@
 //! The canonical file of octets, and whether two spell the same.
-ghost use Rattle.std.specs.Prelude.{◌≡◌, ◌≢◌, IfOk, IfErr};
+ghost use Rattle.std.specs.Prelude.{◌≡◌, ◌≢◌, ◌≤◌, length, IfOk, IfErr, OnOk};
 ghost use Rattle.plist_forms.specs.Accepted.{IsCanonicalOf};
-ghost use Rattle.plist_forms.specs.Pair.{IsPair, IsRefusedPair as IsRefusedOf};
-ghost use Rattle.plist_forms.specs.Refusals.{IsRefused};
+ghost use Rattle.plist_forms.specs.Pair.{IsPair};
+ghost use Rattle.plist_forms.specs.declared.loading.TheConstants.{MAX_INPUT};
 ghost use Rattle.plistconv_c.specs.Answers.{IsCanonicalGiven, IsCompared};
 ghost use Rattle.plistconv_c.specs.Answers.{IsRefusedPair, IsRefusedWhole};
+ghost use Rattle.plistconv_c.specs.Inputs.{IsInputRefused, IsPairRefused};
 
 use crate::Refusal;
 use crate::giving::give;
+use crate::inputs::{admit, admit_pair};
 use crate::keys::keyed_hasher;
 use plist_forms::{
     Fault, PairFault, canonicalise, canonicalise_with_hasher, same_files, same_files_with_hasher,
@@ -52,9 +54,11 @@ pub extern "C" fn plistconv_canonical(
 
 // The canonical file of the value that the octets spell, made under the key.
 fn canonical_file(alloc: Global, octets: &[u8], key: &[u8; 16]) -> Result<Vec<u8>, Fault>
+    ensures within { OnOk result (length octets.now ≤ MAX_INPUT) }
     ensures canonical { IfOk result (λ file. IsCanonicalOf octets.now file.items) }
-    ensures refused { IfErr result (IsRefused octets.now) }
+    ensures refused { IfErr result (IsInputRefused octets.now) }
 {
+    admit(octets)?;
     match keyed_hasher(key) {
         Some(hasher) => canonicalise_with_hasher(alloc, hasher, octets),
         None => canonicalise(alloc, octets),
@@ -101,9 +105,12 @@ pub extern "C" fn plistconv_same(
 
 // Whether the two spell equal values, found under the key.
 fn is_same(alloc: Global, first: &[u8], second: &[u8], key: &[u8; 16]) -> Result<bool, PairFault>
+    ensures first { OnOk result (length first.now ≤ MAX_INPUT) }
+    ensures second { OnOk result (length second.now ≤ MAX_INPUT) }
     ensures same { IfOk result (λ equal. IsPair first.now second.now equal) }
-    ensures refused { IfErr result (IsRefusedOf first.now second.now) }
+    ensures refused { IfErr result (IsPairRefused first.now second.now) }
 {
+    admit_pair(alloc, first, second)?;
     match keyed_hasher(key) {
         Some(hasher) => same_files_with_hasher(alloc, hasher, first, second),
         None => same_files(alloc, first, second),

@@ -1,12 +1,14 @@
 //! The printed text of a value.
-ghost use Rattle.std.specs.Prelude.{◌≡◌, ◌≢◌, IfOk, IfErr};
+ghost use Rattle.std.specs.Prelude.{◌≡◌, ◌≢◌, ◌≤◌, length, IfOk, IfErr, OnOk};
 ghost use Rattle.plist_forms.specs.Printed.{IsPrintOf};
-ghost use Rattle.plist_forms.specs.Refusals.{IsRefused};
+ghost use Rattle.plist_forms.specs.declared.loading.TheConstants.{MAX_INPUT};
 ghost use Rattle.plistconv_c.specs.Answers.{IsPrintGiven, IsRefusedWhole, gathered_fault};
+ghost use Rattle.plistconv_c.specs.Inputs.{IsInputRefused};
 
 use crate::Refusal;
 use crate::gathering::Gathering;
 use crate::giving::give;
+use crate::inputs::admit;
 use plist_forms::{Fault, print};
 use std::alloc::Global;
 
@@ -47,9 +49,11 @@ pub extern "C" fn plistconv_print(
 // The printed text of the value that the octets spell. Nothing of it has gone out if memory runs
 // out.
 fn printed_text(alloc: Global, octets: &[u8]) -> Result<Vec<u8>, Fault>
+    ensures within { OnOk result (length octets.now ≤ MAX_INPUT) }
     ensures text { IfOk result (λ text. IsPrintOf octets.now text.items) }
-    ensures refused { IfErr result (IsRefused octets.now) }
+    ensures refused { IfErr result (IsInputRefused octets.now) }
 {
+    admit(octets)?;
     let mut text = Gathering::new(alloc);
     match print(alloc, octets, &mut text) {
         Ok(_) => Ok(text.octets),

@@ -1,11 +1,15 @@
 //! The text of a value in OpenStep form.
-ghost use Rattle.std.specs.Prelude.{◌≡◌, ◌≢◌};
+ghost use Rattle.std.specs.Prelude.{◌≡◌, ◌≢◌, IfOk, IfErr};
+ghost use Rattle.plist_value.specs.View.{view};
+ghost use Rattle.plistconv_c.specs.Inputs.{IsInputAccepted, IsInputRefused};
 ghost use Rattle.plistconv_c.specs.Texts.{IsTextGiven, IsTextRefused};
 
 use crate::Refusal;
 use crate::giving::give;
+use crate::inputs::admit;
 use ostep_text::{TextWriteFault, write_text};
 use plist_forms::{Fault, read_any};
+use plist_value::Value;
 use std::alloc::Global;
 
 /// The OpenStep text of the value that the octets spell, at the head of the buffer. Where the
@@ -29,7 +33,7 @@ pub extern "C" fn plistconv_text(
         → IsTextRefused octets.now into.old into.new length.new refusal.new result }
 {
     *length = 0;
-    let value = match read_any(alloc, octets) {
+    let value = match value_of(alloc, octets) {
         Ok(value) => value,
         Err(fault) => {
             *refusal = Refusal::of(&fault, 1);
@@ -51,4 +55,13 @@ pub extern "C" fn plistconv_text(
             60
         }
     }
+}
+
+// The value of an input.
+fn value_of(alloc: Global, octets: &[u8]) -> Result<Value, Fault>
+    ensures accepted { IfOk result (λ value. IsInputAccepted octets.now (view value)) }
+    ensures refused { IfErr result (IsInputRefused octets.now) }
+{
+    admit(octets)?;
+    read_any(alloc, octets)
 }

@@ -114,6 +114,7 @@ extern "C" {
         equal: *mut u8,
         refusal: *mut Refusal,
     ) -> u8;
+    pub fn plistconv_lint(octets: *const u8, count: usize, refusal: *mut Refusal) -> u8;
     pub fn plistconv_check(
         octets: *const u8,
         count: usize,

@@ -151,20 +151,9 @@ pub fn same(first: &[u8], second: &[u8]) -> Result<bool, Refused> {
 ///
 /// Fails if the input is refused.
 pub fn lint(input: &[u8]) -> Result<(), Refused> {
-    let (mut length, mut refusal) = (0, sys::Refusal::default());
-    let mut into = [0u8; 1];
-    // SAFETY: as for `same`. A room of 0 is never written.
-    let number = unsafe {
-        sys::plistconv_canonical(
-            input.as_ptr(),
-            input.len(),
-            key(),
-            into.as_mut_ptr(),
-            0,
-            &mut length,
-            &mut refusal,
-        )
-    };
+    let mut refusal = sys::Refusal::default();
+    // SAFETY: as for `same`.
+    let number = unsafe { sys::plistconv_lint(input.as_ptr(), input.len(), &mut refusal) };
     answered(number, &refusal)
 }
 

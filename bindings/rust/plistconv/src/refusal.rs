@@ -101,7 +101,7 @@ refusals! {
     ReadFailed = 50,
     /// A file cannot be written. Only the program answers this.
     WriteFailed = 51,
-    /// A file is too long. Only the program answers this.
+    /// The input has more than 4,294,967,295 bytes.
     InputTooLarge = 52,
     /// Out of memory.
     OutOfMemory = 60,

@@ -1,16 +1,14 @@
 use Rattle.std.proofs.Common.{◌∙◌, sym, ap, refl, subst}
 use Rattle.plist_value.specs.Plist.{Plist}
-use Rattle.plist_forms.specs.Accepted.{IsAccepted}
-use Rattle.plist_forms.specs.Pair.{IsRefusedPair}
-use Rattle.plist_forms.specs.Refusals.{IsRefused}
 use Rattle.plistconv_c.specs.Answers.{second_refused}
+use Rattle.plistconv_c.specs.Inputs.{IsInputAccepted, IsInputRefused, IsPairRefused}
 use Rattle.plistconv_c.specs.declared.refusals.Refusal.{Refusal}
 use Rattle.plistconv_c.proofs.files.plistconv_same.Goals as goal
 
 pub returns-in-Err-Second-clause-refused : goal.returns-in-Err-Second-clause-refused
 returns-in-Err-Second-clause-refused c = λ _.
-    let refused : (v : Plist) × (IsAccepted c.args.first.now v × IsRefused c.args.second.now c.in-Err-Second.fault) =
-    subst (IsRefusedPair c.args.first.now c.args.second.now) c.in-Err-Second.field-0-is c.in-Err-Second.ensures.refused in
+    let refused : (v : Plist) × (IsInputAccepted c.args.first.now v × IsInputRefused c.args.second.now c.in-Err-Second.fault) =
+    subst (IsPairRefused c.args.first.now c.args.second.now) c.in-Err-Second.field-0-is c.in-Err-Second.ensures.refused in
     let told = c.of-in-Err-Second.ensures in
     record {
       fault = c.in-Err-Second.fault;

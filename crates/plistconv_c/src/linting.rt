@@ -1,0 +1,41 @@
+//! Whether an input spells a value.
+ghost use Rattle.std.specs.Prelude.{◌≡◌, ◌≢◌, IfErr, OnOk};
+ghost use Rattle.plist_value.specs.Plist.{Plist};
+ghost use Rattle.plistconv_c.specs.Answers.{IsLinted, IsRefusalTold};
+ghost use Rattle.plistconv_c.specs.Inputs.{IsInputAccepted, IsInputRefused};
+
+use crate::Refusal;
+use crate::inputs::admit;
+use plist_forms::{Fault, judge_any};
+use std::alloc::Global;
+
+/// Whether the octets spell a value within the limits. Nothing is written, and no value is built.
+///
+/// # Errors
+///
+/// The number of the refusal.
+#[unsafe(no_mangle)]
+pub extern "C" fn plistconv_lint(alloc: Global, octets: &[u8], refusal: &mut Refusal) -> u8
+    ensures linted { result ≡ 0 → IsLinted octets.now refusal.new }
+    ensures refused { result ≢ 0 → IsRefusalTold octets.now refusal.new result }
+{
+    match judged(alloc, octets) {
+        Ok(()) => {
+            *refusal = Refusal::none();
+            0
+        }
+        Err(fault) => {
+            *refusal = Refusal::of(&fault, 1);
+            fault.code()
+        }
+    }
+}
+
+// Judges an input.
+fn judged(alloc: Global, octets: &[u8]) -> Result<(), Fault>
+    ensures accepted { OnOk result ((v : Plist) × IsInputAccepted octets.now v) }
+    ensures refused { IfErr result (IsInputRefused octets.now) }
+{
+    admit(octets)?;
+    judge_any(alloc, octets)
+}
