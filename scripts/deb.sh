@@ -1,7 +1,8 @@
 #!/usr/bin/env bash
 # scripts/deb.sh MULTIARCH: makes Debian packages of what was built, in dist/: plistconv (program, commands, man pages,
-# completions, pages), libplistconv1, libplistconv-dev and python3-plistconv. Of one commit they have the same bytes
-# whenever they are made. VERSION is the environment's.
+# completions, pages), libplistconv1, libplistconv-dev, python3-plistconv, and the sources librust-plistconv-dev,
+# librust-plistconv-sys-dev and golang-plistconv-dev. Of one commit they have the same bytes whenever they are made.
+# VERSION is the environment's.
 set -euo pipefail
 umask 022
 cd "$(dirname "$0")/.."
@@ -87,11 +88,29 @@ PYTHONPATH=../../bindings/python python3 -Bc 'import sys, wheel_of_plistconv as 
 echo dpkg > "$info/INSTALLER"
 rm -r all/usr/share/plistconv/python
 take plistconv usr/bin usr/share
+# (empty, so without use among the pages)
+rm plistconv/usr/share/doc/plistconv/bindings/python/plistconv/py.typed
 rmdir "all/$lib" all/usr/lib all/usr/include all/usr all # (nothing is left out)
 
 mkdir -p libplistconv1/DEBIAN
 echo "libplistconv 1 libplistconv1 (>= $VERSION)" > libplistconv1/DEBIAN/shlibs
 echo 'activate-noawait ldconfig' > libplistconv1/DEBIAN/triggers
+{
+    echo 'libplistconv.so.1 libplistconv1 #MINVER#'
+    objdump -T "libplistconv1/$lib/libplistconv.so.1" | sed -n "s/.* g .* \\(plistconv_[a-z_]*\\)$/ \\1@Base $VERSION/p" | LC_ALL=C sort
+} > libplistconv1/DEBIAN/symbols
+
+# The sources of the crates, as a folder of packages of cargo, where each depends on the other by its version.
+for crate in plistconv plistconv-sys; do
+    folder=librust-$crate-dev/usr/share/cargo/registry/$crate-$VERSION
+    mkdir -p "$folder"
+    cp -R ../../bindings/rust/$crate/{Cargo.toml,src} "$folder/"
+    sed -i 's/^plistconv-sys = .*/plistconv-sys = "'"$VERSION"'"/; /^readme = /d' "$folder/Cargo.toml"
+    [ $crate = plistconv ] || cp ../../bindings/rust/$crate/build.rs "$folder/"
+    printf '{"package":null,"files":{}}\n' > "$folder/.cargo-checksum.json"
+done
+mkdir -p golang-plistconv-dev/usr/share/gocode/src/plistconv
+cp ../../bindings/go/{plistconv.go,refused.go,go.mod} golang-plistconv-dev/usr/share/gocode/src/plistconv/
 
 pack plistconv utils "$arch" "libc6 (>= $(libc plistconv/usr/bin/plistconv)), python3:any (>= 3.7)" 'canonical form of Apple property lists
  Gives each Apple property list, binary or OpenStep text, the one file that all
@@ -113,3 +132,18 @@ pack python3-plistconv python all "python3:any (>= 3.8), libplistconv1 (>= $VERS
  its spellings share, so that property lists can be compared, hashed and cached.
  .
  This package holds the Python module.'
+pack librust-plistconv-sys-dev rust all "libplistconv-dev (>= $VERSION), pkgconf" 'canonical form of Apple property lists - functions for Rust
+ Gives each Apple property list, binary or OpenStep text, the one file that all
+ its spellings share, so that property lists can be compared, hashed and cached.
+ .
+ This package holds the source of the crate plistconv-sys.'
+pack librust-plistconv-dev rust all "librust-plistconv-sys-dev (= $VERSION)" 'canonical form of Apple property lists - Rust crate
+ Gives each Apple property list, binary or OpenStep text, the one file that all
+ its spellings share, so that property lists can be compared, hashed and cached.
+ .
+ This package holds the source of the crate plistconv.'
+pack golang-plistconv-dev golang all "libplistconv-dev (>= $VERSION), pkgconf" 'canonical form of Apple property lists - Go package
+ Gives each Apple property list, binary or OpenStep text, the one file that all
+ its spellings share, so that property lists can be compared, hashed and cached.
+ .
+ This package holds the source of the package plistconv.'

@@ -190,8 +190,32 @@ print(plistconv.library_version())'
     if [ -x /usr/bin/python3 ]; then
         printf '{a=b;}' | env -u PLISTCONV "$work/deb/usr/bin/plistconv-digest" -
     fi
+    [ "$(dpkg-deb --ctrl-tarfile dist/libplistconv1_*.deb | tar -xO ./symbols | grep -c '^ plistconv_[a-z]*@Base ')" = \
+        "$(grep -c '^uint[0-9]*_t plistconv_' include/plistconv.h)" ] || fail 'the symbols of the library are not those of the header'
+    # (a program over the packages' sources, with the packages' library)
+    library=$(dirname "$work"/deb/usr/lib/*/libplistconv.so)
+    if has cargo cargo 'the Rust crates of the packages'; then
+        mkdir -p "$work/rust/src" "$work/rust/.cargo"
+        printf '[package]\nname = "one"\nversion = "0.1.0"\nedition = "2021"\n[dependencies]\nplistconv = "%s"\n' "$version" \
+            > "$work/rust/Cargo.toml"
+        printf 'fn main() { print!("{}", plistconv::to_openstep(b"{a=b;}").unwrap()) }\n' > "$work/rust/src/main.rs"
+        printf '[source.crates-io]\nreplace-with = "packages"\n[source.packages]\ndirectory = "%s"\n' \
+            "$work/deb/usr/share/cargo/registry" > "$work/rust/.cargo/config.toml"
+        (cd "$work/rust" && PLISTCONV_LIBDIR=$library PLISTCONV_STATIC=1 CARGO_TARGET_DIR=$work/rust/target \
+            cargo run --quiet --offline) | grep -q '^a = b;$' || fail 'the Rust crates of the packages'
+    fi
+    if has go golang-go 'the Go package of the packages'; then
+        mkdir "$work/go"
+        printf 'module one\n\ngo 1.19\n\nrequire plistconv v0.0.0\n\nreplace plistconv => %s\n' \
+            "$work/deb/usr/share/gocode/src/plistconv" > "$work/go/go.mod"
+        printf 'package main\n\nimport (\n\t"fmt"\n\t"plistconv"\n)\n\nfunc main() { text, _ := plistconv.OpenStep([]byte("{a=b;}")); fmt.Print(text) }\n' \
+            > "$work/go/main.go"
+        (cd "$work/go" && PKG_CONFIG_SYSROOT_DIR=$work/deb PKG_CONFIG_PATH=$library/pkgconfig CGO_ENABLED=1 GOFLAGS=-mod=mod \
+            GOPROXY=off GOTOOLCHAIN=local GOCACHE=$work/gocache GOPATH=$work/gopath LD_LIBRARY_PATH=$library go run .) |
+            grep -q '^a = b;$' || fail 'the Go package of the packages'
+    fi
     if has lintian lintian 'what lintian says'; then
-        lintian --allow-root --fail-on error dist/*.deb
+        lintian --allow-root --fail-on error,warning dist/*.deb
     fi
     [ "$(ls -A "$work/a new user")" = plistconv ] || fail 'make deb writes outside of the checkout'
     tried=1
