@@ -1,9 +1,11 @@
 -- What comes before an object, from what comes before its container and from the references before
 -- it.
-use Rattle.std.proofs.Common.{◌≡◌, ℕ, suc, ◌+◌, ◌<◌, List, [], ◌∷◌, ◌++◌, length, take, drop, slice_index, refl, sym, ap, ◌∙◌, subst, inl, inr, arith}
+use Rattle.std.proofs.Common.{◌≡◌, ℕ, suc, ◌+◌, ◌-◌, ◌<◌, List, [], ◌∷◌, ◌++◌, ◌≤◌, max, length, take, drop, slice_index, refl, sym, ap, ◌∙◌, subst, inl, inr, arith}
 use Rattle.std.proofs.lemmas.List.{append_assoc}
 use Rattle.plist_value.specs.Plist.{Items, no_items}
-use Rattle.plist_value.specs.Limits.{nodes_of_items, payload_of_items}
+use Rattle.std.specs.List.{Contains}
+use Rattle.plist_value.specs.Limits.{nodes_of_items, depth_of_items, payload_of_items}
+use Rattle.plist_value.specs.declared.TheConstants.{MAX_DEPTH}
 use Rattle.plist_value.specs.Budget.{Spends}
 use Rattle.plist_value.specs.declared.budget.Budget.{Budget}
 use Rattle.plist_object.specs.Objects.{holds_list, holds_table}
@@ -13,7 +15,7 @@ use Rattle.plist_object.proofs.Ascending.{Among, Among-contains, Contains-among}
 use Rattle.plist_binary.specs.Begins.{Comes, Begins, IsBegun, IsEntered, AreNext}
 use Rattle.plist_binary.specs.Paths.{Refers, Leads, AllRefer, HasKeys}
 use Rattle.plist_binary.specs.Readings.{ReadsItems}
-use Rattle.plist_binary.proofs.ItemSteps.{among_left, among_right, around, join, SpellItems-join, AreItems-join, nodes-join, payload-join}
+use Rattle.plist_binary.proofs.ItemSteps.{among_left, among_right, around, join, SpellItems-join, AreItems-join, nodes-join, payload-join, depth-join}
 
 among_middle : (i : ℕ) (front behind : List ℕ) → Among i (front ++ i ∷ behind)
 among_middle i [] behind = inl refl
@@ -38,11 +40,13 @@ pub IsBegun-leads : (f before : List ℕ) (i : ℕ) (whole left : Budget) → Is
 IsBegun-leads f before i whole left begun = Begins-leads f before i begun.nodes begun.payload begun.begins
 
 -- one node less: the container itself
-pub IsEntered-begun : (f before : List ℕ) (j : ℕ) (whole left after : Budget) → IsBegun f before j whole left → Spends left 1 0 after → IsEntered f before j whole after
-IsEntered-begun f before j whole left after begun node = record {
+pub IsEntered-begun : (f before : List ℕ) (j : ℕ) (whole left after : Budget) → IsBegun f before j whole left → ¬ Contains before j → length before < MAX_DEPTH → Spends left 1 0 after → IsEntered f before j whole after
+IsEntered-begun f before j whole left after begun new shallow node = record {
   nodes = begun.nodes;
   payload = begun.payload;
   begins = begun.begins;
+  new = new;
+  shallow = shallow;
   spent = record {
     nodes_left = omega (arith, begun.spent.nodes_left, node.nodes_left);
     payload_left = omega (arith, begun.spent.payload_left, node.payload_left);
@@ -62,6 +66,7 @@ AreNext-items f before j refs whole left entered holds = record {
   nodes = entered.nodes;
   payload = entered.payload;
   begins = entered.begins;
+  new = entered.new;
   held = holds_list refs;
   holds = holds;
   front = [];
@@ -70,6 +75,7 @@ AreNext-items f before j refs whole left entered holds = record {
   values = no_items;
   spell = refl;
   valid = tt;
+  deep = omega (arith, entered.shallow);
   spent = record {
     nodes_left = omega (arith, entered.spent.nodes_left);
     payload_left = omega (arith, entered.spent.payload_left);
@@ -82,6 +88,7 @@ AreNext-keys f before j keys whole left entered table = record {
   nodes = entered.nodes;
   payload = entered.payload;
   begins = entered.begins;
+  new = entered.new;
   held = holds_table keys table.values;
   holds = table.holds;
   front = [];
@@ -90,6 +97,7 @@ AreNext-keys f before j keys whole left entered table = record {
   values = no_items;
   spell = refl;
   valid = tt;
+  deep = omega (arith, entered.shallow);
   spent = record {
     nodes_left = omega (arith, entered.spent.nodes_left);
     payload_left = omega (arith, entered.spent.payload_left);
@@ -97,11 +105,12 @@ AreNext-keys f before j keys whole left entered table = record {
 }
 
 -- the values of a table, behind its keys
-pub AreNext-values : (f before : List ℕ) (j : ℕ) (keys values : List ℕ) (levels : ℕ) (whole left after : Budget) (vs : Items) → IsEntered f before j whole left → Holds f j (holds_table keys values) → ReadsItems f keys levels left vs after → AreNext f before j values whole after
-AreNext-values f before j keys values levels whole left after vs entered holds read = record {
+pub AreNext-values : (f before : List ℕ) (j : ℕ) (keys values : List ℕ) (levels : ℕ) (whole left after : Budget) (vs : Items) → IsEntered f before j whole left → Holds f j (holds_table keys values) → length before + 1 + levels ≡ MAX_DEPTH → ReadsItems f keys levels left vs after → AreNext f before j values whole after
+AreNext-values f before j keys values levels whole left after vs entered holds levels_are read = record {
   nodes = entered.nodes;
   payload = entered.payload;
   begins = entered.begins;
+  new = entered.new;
   held = holds_table keys values;
   holds = holds;
   front = keys;
@@ -110,6 +119,7 @@ AreNext-values f before j keys values levels whole left after vs entered holds r
   values = vs;
   spell = read.spell;
   valid = read.valid;
+  deep = omega (arith, read.deep, levels_are);
   spent = record {
     nodes_left = omega (arith, entered.spent.nodes_left, read.spent.nodes_left);
     payload_left = omega (arith, entered.spent.payload_left, read.spent.payload_left);
@@ -127,11 +137,12 @@ around_next front refs behind k i within is =
     ∙ sym (append_assoc front (take k refs) (i ∷ (drop (suc k) refs ++ behind)))
 
 -- the reference that comes behind those that were read
-pub IsBegun-next : (f before : List ℕ) (j : ℕ) (refs : List ℕ) (k i levels : ℕ) (whole left after : Budget) (vs : Items) → AreNext f before j refs whole left → k < length refs → i ≡ slice_index refs k → ReadsItems f (take k refs) levels left vs after → IsBegun f (j ∷ before) i whole after
-IsBegun-next f before j refs k i levels whole left after vs next within is read =
+pub IsBegun-next : (f before : List ℕ) (j : ℕ) (refs : List ℕ) (k i levels : ℕ) (whole left after : Budget) (vs : Items) → AreNext f before j refs whole left → length before + 1 + levels ≡ MAX_DEPTH → k < length refs → i ≡ slice_index refs k → ReadsItems f (take k refs) levels left vs after → IsBegun f (j ∷ before) i whole after
+IsBegun-next f before j refs k i levels whole left after vs next levels_are within is read =
     let values = join next.values vs in
     let nodes_sum = nodes-join next.values vs in
     let payload_sum = payload-join next.values vs in
+    let deep : length before + 1 + depth_of_items values ≤ MAX_DEPTH = omega (arith, depth-join next.values vs (MAX_DEPTH - (length before + 1)) (omega (arith, next.deep)) (omega (arith, read.deep, levels_are)), next.deep) in
     record {
       nodes = next.nodes + 1 + nodes_of_items values;
       payload = next.payload + payload_of_items values;
@@ -139,7 +150,9 @@ IsBegun-next f before j refs k i levels whole left after vs next within is read 
         nodes_above = next.nodes;
         payload_above = next.payload;
         above = next.begins;
+        new = next.new;
         values = values;
+        deep = deep;
         comes = record {
           held = next.held;
           holds = next.holds;

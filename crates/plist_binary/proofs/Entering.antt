@@ -293,8 +293,8 @@ Refuses-cycle f whole before container i levels left laid leads among =
       none = λ _ v valid spells deep affords. cycle_spells_none f (container ∷ before) i v leads among valid spells;
     }
 
-pub Refuses-nodes : (f : List ℕ) (whole : Budget) (before : List ℕ) (i levels : ℕ) (left : Budget) → IsLaid f → i < (trailer_of f).count → IsBegun f before i whole left → left.nodes ≡ 0 → Refuses f whole i levels left (TooManyNodes i)
-Refuses-nodes f whole before i levels left laid listed begun none_left =
+pub Refuses-nodes : (f : List ℕ) (whole : Budget) (before : List ℕ) (i levels : ℕ) (left : Budget) → IsLaid f → i < (trailer_of f).count → IsBegun f before i whole left → ¬ Contains before i → left.nodes ≡ 0 → Refuses f whole i levels left (TooManyNodes i)
+Refuses-nodes f whole before i levels left laid listed begun new none_left =
     let all : begun.nodes ≡ whole.nodes = omega (arith, begun.spent.nodes_left) in
     record {
       stands = record {
@@ -303,6 +303,7 @@ Refuses-nodes f whole before i levels left laid listed begun none_left =
         before = before;
         payload = begun.payload;
         begins = subst (λ (n : ℕ). Begins f before i n begun.payload) all begun.begins;
+        new = new;
         within = omega (arith, begun.spent.payload_left);
       };
       none = λ _ v valid spells deep affords. omega (arith, some_node v, affords.nodes_there);

@@ -59,6 +59,10 @@ pub payload-join : (vs ws : Items) → payload_of_items (join vs ws) ≡ payload
 payload-join no_items ws = omega arith
 payload-join (item v vs) ws = omega (arith, payload-join vs ws)
 
+pub depth-join : (vs ws : Items) (most : ℕ) → depth_of_items vs ≤ most → depth_of_items ws ≤ most → depth_of_items (join vs ws) ≤ most
+depth-join no_items ws most deep others = others
+depth-join (item v vs) ws most deep others = omega (arith, depth-join vs ws most (omega (arith, deep)) others, deep)
+
 -- the items that the references of two lists spell, taken apart
 pub record Parts (f xs ys : List ℕ) (ws : Items) : Type 0 where
   pub front : Items

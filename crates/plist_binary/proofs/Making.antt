@@ -1,6 +1,6 @@
 -- What an object spells, from what its content, its items or its pairs took of the budget.
-use Rattle.std.proofs.Common.{◌≡◌, ℕ, ◌+◌, ◌<◌, ◌≤◌, List, Ok, ap, subst, arith, ◌∷◌, refl, true, false, sym, ⊎_elim, inl, inr}
-use Rattle.std.specs.List.{zip}
+use Rattle.std.proofs.Common.{◌≡◌, ℕ, ◌+◌, ◌<◌, ◌≤◌, List, Ok, length, ◌∙◌, ap, subst, arith, ◌∷◌, refl, true, false, sym, ⊎_elim, inl, inr}
+use Rattle.std.specs.List.{zip, Contains}
 use Rattle.std.specs.List.Sorted.{IsPermutation}
 use Rattle.plist_value.specs.Plist.{Scalar, Plist, scalar, list, table, Items, Pairs, IsScalar, IsPlist}
 use Rattle.plist_value.specs.Limits.{nodes, depth, payload, payload_of_scalar}
@@ -22,7 +22,8 @@ use Rattle.plist_object.proofs.Ascending.{Among, Contains-among, Among-contains}
 use Rattle.plist_binary.specs.declared.memos.Memo.{Memo}
 use Rattle.plist_binary.specs.declared.memos.State.{State}
 use Rattle.plist_binary.specs.declared.memos.State.TheVariants.{Unseen, Open, Passed}
-use Rattle.plist_binary.specs.Memos.{IsMemo, IsState, state_of, AreStates, IsMarked}
+use Rattle.plist_binary.specs.Memos.{IsMemo, IsState, state_of, AreStates, AreStatesBut, IsMarked}
+use Rattle.plist_value.specs.declared.TheConstants.{MAX_DEPTH}
 
 pub Reads-scalar : (f : List ℕ) (i levels : ℕ) (before left after : Budget) (s : Scalar) → i < (trailer_of f).count → what_holds f i ≡ Ok (holds_scalar s) → IsScalar s → 1 ≤ levels → Spends before 1 0 left → Spends left 0 (payload_of_scalar s) after → Reads f i levels before (scalar s) after
 Reads-scalar f i levels before left after s listed reads valid deep node spent =
@@ -47,8 +48,8 @@ scalar_refused f i levels before left s (list ws) holds node over spells affords
 scalar_refused f i levels before left s (table ps) holds node over spells affords =
     let held = same_held f i (holds_scalar s) (holds_table spells.0 spells.1.0) holds spells.1.1.1.0 in cc
 
-pub Refuses-payload : (f : List ℕ) (whole : Budget) (containers : List ℕ) (i levels : ℕ) (before left : Budget) (s : Scalar) → IsLaid f → IsBegun f containers i whole before → i < (trailer_of f).count → what_holds f i ≡ Ok (holds_scalar s) → Spends before 1 0 left → left.payload < payload_of_scalar s → Refuses f whole i levels before (TooMuchPayload i)
-Refuses-payload f whole containers i levels before left s laid begun listed reads node over =
+pub Refuses-payload : (f : List ℕ) (whole : Budget) (containers : List ℕ) (i levels : ℕ) (before left : Budget) (s : Scalar) → IsLaid f → IsBegun f containers i whole before → i < (trailer_of f).count → what_holds f i ≡ Ok (holds_scalar s) → length containers + levels ≡ MAX_DEPTH → 1 ≤ levels → Spends before 1 0 left → left.payload < payload_of_scalar s → Refuses f whole i levels before (TooMuchPayload i)
+Refuses-payload f whole containers i levels before left s laid begun listed reads levels_are some node over =
     let payload_is : payload_read (what_holds f i) ≡ payload_of_scalar s = ap payload_read reads in
     record {
       stands = record {
@@ -57,6 +58,7 @@ Refuses-payload f whole containers i levels before left s laid begun listed read
         nodes = begun.nodes;
         payload = begun.payload;
         begins = begun.begins;
+        shallow = omega (arith, levels_are, some);
         fewer = omega (arith, begun.spent.nodes_left, node.nodes_left);
         within = omega (arith, begun.spent.payload_left);
         above = omega (arith, begun.spent.payload_left, node.payload_left, payload_is);
@@ -140,14 +142,18 @@ wider f path j i Unseen is = tt
 wider f path j i Open is = Contains-among i (j ∷ path) (inr (Among-contains i path is))
 wider f path j i (Passed deep n size) is = is
 
--- a path without its last container, for another object
-narrower : (f path : List ℕ) (j i : ℕ) (state : State) → i ≢ j → IsState f (j ∷ path) i state → IsState f path i state
-narrower f path j i Unseen apart is = tt
-narrower f path j i Open apart is =
+-- another one among the containers is among those before the last
+earlier : (i j : ℕ) (path : List ℕ) → i ≢ j → Contains (j ∷ path) i → Contains path i
+earlier i j path apart among =
     ⊎_elim
     (λ (same : i ≡ j). absurd (apart same))
     (λ (later : Among i path). Contains-among i path later)
-    (Among-contains i (j ∷ path) is)
+    (Among-contains i (j ∷ path) among)
+
+-- a path without its last container, for another object
+narrower : (f path : List ℕ) (j i : ℕ) (state : State) → i ≢ j → IsState f (j ∷ path) i state → IsState f path i state
+narrower f path j i Unseen apart is = tt
+narrower f path j i Open apart is = earlier i j path apart is
 narrower f path j i (Passed deep n size) apart is = is
 
 -- the object itself, or another one
@@ -164,18 +170,31 @@ marked P before after j state i mark here there =
 pub AreStates-open : (f path : List ℕ) (before after : List State) (j : ℕ) → IsMarked before j Open after → AreStates f path before → AreStates f (j ∷ path) after
 AreStates-open f path before after j mark are = record {
   each = λ i. marked (IsState f (j ∷ path)) before after j Open i mark (Contains-among j (j ∷ path) (inl refl)) (λ _. wider f path j i (state_of before i) (are.each i));
+  opened = λ i among. ⊎_elim
+      (λ (same : (eqb i j ≡ true) × (i ≡ j)). subst (λ (n : ℕ). state_of after n ≡ Open) (sym same.1) mark.here)
+      (λ (apart : (eqb i j ≡ false) × (i ≢ j)).
+      mark.elsewhere i apart.1 ∙ are.opened i (earlier i j path apart.1 among))
+      (eqb_tells i j);
 }
 
 -- the object was passed, and leaves the path
-pub AreStates-passed : (f path : List ℕ) (before after : List State) (j : ℕ) (memo : Memo) → IsMarked before j (Passed memo.depth memo.nodes memo.payload) after → IsMemo f j memo → AreStates f (j ∷ path) before → AreStates f path after
-AreStates-passed f path before after j memo mark is are = record {
-  each = λ i. marked (IsState f path) before after j (Passed memo.depth memo.nodes memo.payload) i mark is (λ apart. narrower f path j i (state_of before i) apart (are.each i));
+pub AreStates-passed : (f path : List ℕ) (before after : List State) (j : ℕ) (memo : Memo) → IsMarked before j (Passed memo.depth memo.nodes memo.payload) after → IsMemo f j memo → ¬ Contains path j → AreStatesBut f path j before → AreStates f path after
+AreStates-passed f path before after j memo mark is new are = record {
+  each = λ i. marked (IsState f path) before after j (Passed memo.depth memo.nodes memo.payload) i mark is (are.each i);
+  opened = λ i among.
+      let apart : i ≢ j = λ same. new (subst (Contains path) same among) in
+      mark.elsewhere i apart ∙ are.opened i apart among;
 }
 
--- nothing changes under a longer path
-pub AreStates-wider : (f path : List ℕ) (states : List State) (j : ℕ) → AreStates f path states → AreStates f (j ∷ path) states
-AreStates-wider f path states j are = record {
-  each = λ i. wider f path j i (state_of states i) (are.each i);
+-- what is known of all objects is known of all but one
+pub AreStates-but : (f path : List ℕ) (states : List State) (j : ℕ) → AreStates f path states → AreStatesBut f path j states
+AreStates-but f path states j are = record { each = λ i _. are.each i; opened = λ i _ among. are.opened i among }
+
+-- the last container is the object itself
+pub AreStates-last : (f path : List ℕ) (states : List State) (j : ℕ) → AreStates f (j ∷ path) states → AreStatesBut f path j states
+AreStates-last f path states j are = record {
+  each = λ i apart. narrower f path j i (state_of states i) apart (are.each i);
+  opened = λ i apart among. are.opened i (Contains-among i (j ∷ path) (inr (Among-contains i path among)));
 }
 
 -- what is open is on the path

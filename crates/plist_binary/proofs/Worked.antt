@@ -1,5 +1,5 @@
 -- Small files: the value that one spells, and where faults stand in others.
-use Rattle.std.proofs.Common.{◌≡◌, ℕ, zero, suc, ◌+◌, ◌*◌, ◌<◌, ◌≤◌, true, List, [], ◌∷◌, ◌++◌, replicate, refl, sym, subst, ⊎_elim, length, take, nat_lt, not-suc-le-zero, lit<, lit≤, arith}
+use Rattle.std.proofs.Common.{◌≡◌, ℕ, zero, suc, ◌+◌, ◌*◌, ◌<◌, ◌≤◌, true, List, [], ◌∷◌, ◌++◌, replicate, refl, sym, subst, ⊎_elim, length, take, nat_lt, not-suc-le-zero, lit<, lit≤, inl, arith}
 use Rattle.std.specs.List.{list_all, Contains}
 use Rattle.std.proofs.lemmas.Bool.{and_parts, ltb-true}
 use Rattle.std.specs.List.Sorted.{IsPermutation}
@@ -10,7 +10,7 @@ use Rattle.plist_object.specs.Objects.{Held, holds_scalar, holds_list, holds_tab
 use Rattle.plist_object.specs.Places.{Holds, what_holds, object_at, octets_at}
 use Rattle.plist_object.specs.References.{references_of}
 use Rattle.plist_object.specs.Spelled.{SpellPairs, IsBinary}
-use Rattle.plist_object.proofs.Ascending.{Among-contains}
+use Rattle.plist_object.proofs.Ascending.{Among-contains, Contains-among}
 use Rattle.plist_object.proofs.Uniqueness.{same_held}
 use Rattle.plist_binary.specs.declared.fault.BinaryFault.TheVariants.{TooShort, BadTrailer, NullObject, BadReference, KeyNotText, DuplicateKey, Cycle, TooManyNodes, TooMuchPayload}
 use Rattle.plist_binary.specs.Begins.{Begins}
@@ -106,6 +106,8 @@ unsorted-value =
       nodes_above = 0;
       payload_above = 0;
       above = (refl, refl, refl);
+      new = λ among. Among-contains 0 [] among;
+      deep = lit≤ tt;
       values = item (scalar (text b)) (item (scalar (text a)) (item (scalar (text a)) no_items));
       comes = record {
         held = holds_table (1 ∷ 2 ∷ []) (2 ∷ 1 ∷ []);
@@ -129,6 +131,7 @@ unsorted-last = record {
   nodes = 4;
   payload = 6;
   begins = unsorted-value;
+  shallow = lit< tt;
   fewer = lit< tt;
   within = lit≤ tt;
   above = lit< tt;
@@ -158,6 +161,20 @@ circular-cycle = record {
   refers = circular-second;
   on_path = (1, lit< tt, refl);
 }
+
+-- a list whose item is the list itself: it has no node too many, however few may be
+own : List ℕ
+own = header ++ (161 ∷ 0 ∷ 8 ∷ end_of 1 10)
+
+own-nodes : (few most : ℕ) → StandsWithin own (suc few) most (TooManyNodes 0) → ⊥
+unfolding own end_of
+own-nodes few most stands = none stands.before stands.payload stands.begins stands.new where
+  none : (before : List ℕ) (payload : ℕ) → Begins own before 0 (suc few) payload → ¬ Contains before 0 → ⊥
+  none [] payload begins new = omega (arith, begins.1)
+  none (j ∷ before) payload begins new =
+      let refers = Comes-refers own j 0 begins.values begins.comes in
+      let only : j ≡ 0 = (let listed = refers.holds.listed in omega (arith, listed)) in
+      new (Contains-among 0 (j ∷ before) (inl (sym only)))
 
 -- a list whose item is no object
 nowhere : List ℕ
@@ -255,6 +272,8 @@ shared-again = record {
   nodes_above = 0;
   payload_above = 0;
   above = (refl, refl, refl);
+  new = λ among. Among-contains 0 [] among;
+  deep = lit≤ tt;
   values = item (list no_items) no_items;
   comes = record {
     held = holds_list (1 ∷ 1 ∷ []);
@@ -278,6 +297,7 @@ shared-third = record {
   before = 0 ∷ [];
   payload = 0;
   begins = shared-again;
+  new = λ among. ⊎_elim (λ (same : 1 ≡ 0). cc) (λ none. none) (Among-contains 1 (0 ∷ []) among);
   within = lit≤ tt;
 }
 

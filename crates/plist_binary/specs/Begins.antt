@@ -1,9 +1,11 @@
 -- Where an object begins in the value at the top of a file: what comes before it in preorder. Of a
 -- table all keys come before the values.
-use Rattle.std.specs.Prelude.{◌≡◌, ℕ, ◌+◌, List, [], ◌∷◌, ◌++◌, Result, Ok, Err}
+use Rattle.std.specs.Prelude.{◌≡◌, ℕ, ◌+◌, ◌<◌, ◌≤◌, List, [], ◌∷◌, ◌++◌, length, Result, Ok, Err}
+use Rattle.std.specs.List.{Contains}
 use Rattle.plist_value.specs.Plist.{Items, AreItems}
-use Rattle.plist_value.specs.Limits.{nodes_of_items, payload_of_items, payload_of_scalar}
+use Rattle.plist_value.specs.Limits.{nodes_of_items, depth_of_items, payload_of_items, payload_of_scalar}
 use Rattle.plist_value.specs.Budget.{Spends}
+use Rattle.plist_value.specs.declared.TheConstants.{MAX_DEPTH}
 use Rattle.plist_value.specs.declared.budget.Budget.{Budget}
 use Rattle.plist_object.specs.declared.object.ObjectFault.{ObjectFault}
 use Rattle.plist_object.specs.Layout.{trailer_of}
@@ -29,14 +31,16 @@ pub record Comes (f : List ℕ) (j i : ℕ) (vs : Items) : Type 0 where
   pub spell : SpellItems f front vs
   pub valid : AreItems vs
 
--- before i come what comes before the container j, then j itself, and the values of its references
--- before the one to i
-pub record BeginsIn (f : List ℕ) (begins : ℕ → ℕ → Type 0) (j i nodes payload : ℕ) : Type 0 where
+-- before i come what comes before the container j, which is none of the containers before it, then j
+-- itself, and the values of its references before the one to i, none of them too deep
+pub record BeginsIn (f before : List ℕ) (begins : ℕ → ℕ → Type 0) (j i nodes payload : ℕ) : Type 0 where
   pub nodes_above : ℕ
   pub payload_above : ℕ
   pub above : begins nodes_above payload_above
+  pub new : ¬ Contains before j
   pub values : Items
   pub comes : Comes f j i values
+  pub deep : length before + 1 + depth_of_items values ≤ MAX_DEPTH
   pub nodes_sum : nodes ≡ nodes_above + 1 + nodes_of_items values
   pub payload_sum : payload ≡ payload_above + payload_of_items values
 
@@ -44,7 +48,7 @@ pub record BeginsIn (f : List ℕ) (begins : ℕ → ℕ → Type 0) (j i nodes 
 -- much payload
 abbrev pub Begins : List ℕ → List ℕ → ℕ → ℕ → ℕ → Type 0
 Begins f [] i nodes payload = (i ≡ (trailer_of f).top) × (nodes ≡ 0) × (payload ≡ 0)
-Begins f (j ∷ before) i nodes payload = BeginsIn f (Begins f before j) j i nodes payload
+Begins f (j ∷ before) i nodes payload = BeginsIn f before (Begins f before j) j i nodes payload
 
 -- what comes before i took from the whole budget what is gone
 pub record IsBegun (f before : List ℕ) (i : ℕ) (whole left : Budget) : Type 0 where
@@ -53,11 +57,14 @@ pub record IsBegun (f before : List ℕ) (i : ℕ) (whole left : Budget) : Type 
   pub begins : Begins f before i nodes payload
   pub spent : Spends whole nodes payload left
 
--- what comes before the container j, and j itself, took from the whole budget what is gone
+-- what comes before the container j, which is none of those before it nor too deep, and j itself, took
+-- from the whole budget what is gone
 pub record IsEntered (f before : List ℕ) (j : ℕ) (whole left : Budget) : Type 0 where
   pub nodes : ℕ
   pub payload : ℕ
   pub begins : Begins f before j nodes payload
+  pub new : ¬ Contains before j
+  pub shallow : length before < MAX_DEPTH
   pub spent : Spends whole (1 + nodes) payload left
 
 -- what comes before these references, which the container j holds one behind another, took from
@@ -66,6 +73,7 @@ pub record AreNext (f before : List ℕ) (j : ℕ) (refs : List ℕ) (whole left
   pub nodes : ℕ
   pub payload : ℕ
   pub begins : Begins f before j nodes payload
+  pub new : ¬ Contains before j
   pub held : Held
   pub holds : Holds f j held
   pub front : List ℕ
@@ -74,4 +82,5 @@ pub record AreNext (f before : List ℕ) (j : ℕ) (refs : List ℕ) (whole left
   pub values : Items
   pub spell : SpellItems f front values
   pub valid : AreItems values
+  pub deep : length before + 1 + depth_of_items values ≤ MAX_DEPTH
   pub spent : Spends whole (nodes + 1 + nodes_of_items values) (payload + payload_of_items values) left

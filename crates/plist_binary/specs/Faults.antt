@@ -77,23 +77,25 @@ pub record IsTooDeep (f : List ℕ) (i : ℕ) : Type 0 where
   pub ends : EndsPath f i
   pub long : length ends.before ≡ MAX_DEPTH
 
--- before i come as many nodes as may be, and no more payload than may be
+-- i closes no cycle, and before it come as many nodes as may be, and no more payload than may be
 pub record HasNodesBefore (f : List ℕ) (i nodes most : ℕ) : Type 0 where
   pub laid : IsLaid f
   pub listed : i < (trailer_of f).count
   pub before : List ℕ
   pub payload : ℕ
   pub begins : Begins f before i nodes payload
+  pub new : ¬ Contains before i
   pub within : payload ≤ most
 
--- before i come fewer nodes than may be, and no more payload than may be, which with that of i is
--- more
+-- i is not too deep, and before it come fewer nodes than may be, and no more payload than may be, which
+-- with that of i is more
 pub record HasPayloadAbove (f : List ℕ) (i few most : ℕ) : Type 0 where
   pub laid : IsLaid f
   pub before : List ℕ
   pub nodes : ℕ
   pub payload : ℕ
   pub begins : Begins f before i nodes payload
+  pub shallow : length before < MAX_DEPTH
   pub fewer : nodes < few
   pub within : payload ≤ most
   pub above : most < payload + payload_read (what_holds f i)

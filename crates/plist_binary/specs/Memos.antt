@@ -26,9 +26,15 @@ IsState f path i (Passed deep n size) = IsMemo f i (record { depth = deep; nodes
 abbrev pub state_of : List State → ℕ → State
 state_of states i = slice_index_or states i Unseen
 
--- what is known of each object is so
+-- what is known of each object is so, and the containers are open
 pub record AreStates (f path : List ℕ) (states : List State) : Type 0 where
   pub each : (i : ℕ) → IsState f path i (state_of states i)
+  pub opened : (i : ℕ) → Contains path i → state_of states i ≡ Open
+
+-- what is known of each object but one is so, and the containers are open, that one aside
+pub record AreStatesBut (f path : List ℕ) (j : ℕ) (states : List State) : Type 0 where
+  pub each : (i : ℕ) → i ≢ j → IsState f path i (state_of states i)
+  pub opened : (i : ℕ) → i ≢ j → Contains path i → state_of states i ≡ Open
 
 -- of the object is known the state, and of each other one what was known before
 pub record IsMarked (before : List State) (object : ℕ) (state : State) (after : List State) : Type 0 where

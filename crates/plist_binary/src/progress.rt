@@ -1,5 +1,5 @@
 //! How far a walk has come.
-ghost use Rattle.std.specs.Prelude.{◌≡◌, ℕ, List, IfSome};
+ghost use Rattle.std.specs.Prelude.{◌≡◌, ℕ, List, [], IfSome};
 ghost use Rattle.plist_binary.specs.Memos.{AreStates};
 ghost use Rattle.plist_binary.specs.Passing.{IsWithinLimits, Passes};
 ghost use Rattle.plist_binary.specs.Progress.{IsProgress};
@@ -22,7 +22,7 @@ impl<'a> Progress<'a> {
     pub(crate) fn none(alloc: Global, whole: Budget) -> Progress<'a>
         requires { IsWithinLimits whole }
         ensures left { result.left ≡ whole }
-        ensures progress { (f path : List ℕ) → IsProgress f path result }
+        ensures progress { (f : List ℕ) → IsProgress f [] result }
     {
         Progress {
             states: Vec::new(alloc),

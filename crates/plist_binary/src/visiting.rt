@@ -1,6 +1,7 @@
 //! What the walk reads of one object: a node of the value, or a key.
 ghost use Rattle.std.specs.Prelude.{◌≡◌, ◌+◌, ◌<◌, ◌≤◌, ◌∷◌, length, IfOk, IfErr, OnOk, IfSome};
 ghost use Rattle.std.specs.Prelude.{IfNone};
+ghost use Rattle.std.specs.List.{Contains};
 ghost use Rattle.std.proofs.Props.{props};
 ghost use Rattle.plist_value.specs.Plist.{scalar as scalar_value, text};
 ghost use Rattle.plist_value.specs.declared.TheConstants.{MAX_DEPTH};
@@ -15,6 +16,7 @@ ghost use Rattle.plist_object.specs.Views.{octets_of, Gives, held_of};
 ghost use Rattle.plist_object.specs.Ranks.{AreRanks};
 ghost use Rattle.plist_binary.specs.Begins.{IsBegun};
 ghost use Rattle.plist_binary.specs.Faults.{IsText};
+ghost use Rattle.plist_binary.specs.Memos.{AreStates};
 ghost use Rattle.plist_binary.specs.Progress.{IsProgress};
 ghost use Rattle.plist_binary.specs.Paths.{containers_of, IsKeyOf};
 ghost use Rattle.plist_binary.specs.Readings.{Refuses, Reads, RefusesKey};
@@ -101,6 +103,7 @@ impl<'a, 'r> Visitor<'a, 'r> {
         ensures held { IfOk result (λ held. what_holds (octets_of self.now.file) object ≡ Ok
             (held_of held)) }
         ensures valid { IfOk result (λ held. IsHeld (held_of held)) }
+        ensures new { OnOk result (¬ Contains (containers_of path.now) object) }
         ensures deep { OnOk result (1 ≤ levels) }
         ensures spent { OnOk result (Spends progress.old.left 1 0 progress.new.left) }
         ensures refused { IfErr result (Refuses (octets_of self.now.file) self.now.whole object
@@ -108,11 +111,7 @@ impl<'a, 'r> Visitor<'a, 'r> {
         ensures progress { OnOk result (IsProgress (octets_of self.now.file)
             (containers_of path.now) progress.new) }
     {
-        if let Path::In(container, _) = path
-            && let State::Open = state_at(&progress.states, object)
-        {
-            return Err(BinaryFault::Cycle { object: *container });
-        }
+        self.refuse_cycle(progress, path, object, levels)?;
         take_node(&mut progress.left, object)?;
         if levels == 0 {
             return Err(BinaryFault::TooDeep { object });
@@ -120,6 +119,33 @@ impl<'a, 'r> Visitor<'a, 'r> {
         match self.object(object) {
             Ok(held) => Ok(held),
             Err(fault) => Err(BinaryFault::of_object(object, fault)),
+        }
+    }
+
+    // Refuses an object that is one of the containers that lead to it.
+    #[inline(always)]
+    fn refuse_cycle(
+        &self,
+        progress: &Progress<'a>,
+        path: &Path,
+        object: u64,
+        levels: u64,
+    ) -> Result<(), BinaryFault>
+        requires begun { IsBegun (octets_of self.now.file) (containers_of path.now) object
+            self.now.whole progress.now.left }
+        requires states { AreStates (octets_of self.now.file) (containers_of path.now)
+            progress.now.states.items }
+        ensures new { OnOk result (¬ Contains (containers_of path.now) object) }
+        ensures refused { IfErr result (Refuses (octets_of self.now.file) self.now.whole object
+            levels progress.now.left) }
+    {
+        match state_at(&progress.states, object) {
+            State::Unseen => Ok(()),
+            State::Passed { .. } => Ok(()),
+            State::Open => match path {
+                Path::Above => Ok(()),
+                Path::In(container, _) => Err(BinaryFault::Cycle { object: *container }),
+            },
         }
     }
 

@@ -1,11 +1,12 @@
 //! The walk through the objects of a file.
 ghost use Rattle.std.specs.Prelude.{◌≡◌, ◌+◌, ◌<◌, ◌∷◌, length, map, max, IfOk, IfErr, OnOk};
+ghost use Rattle.std.specs.List.{Contains};
 ghost use Rattle.plist_value.specs.Texts.{units_of};
 ghost use Rattle.plist_object.specs.Layout.{trailer_of};
 ghost use Rattle.plist_object.specs.Views.{numbers_of, octets_of};
 ghost use Rattle.plist_object.specs.Order.{AreSortedIfAny};
 ghost use Rattle.plist_binary.specs.Begins.{AreNext, IsBegun, IsEntered};
-ghost use Rattle.plist_binary.specs.Progress.{IsProgress};
+ghost use Rattle.plist_binary.specs.Progress.{IsProgress, IsProgressBut};
 ghost use Rattle.plist_binary.specs.Passing.{IsWithinLimits, Passes, PassesItems, PassesTop};
 ghost use Rattle.plist_binary.specs.Paths.{containers_of, HasKeys};
 ghost use Rattle.plist_binary.specs.Readings.{Refuses, RefusesItems};
@@ -133,8 +134,9 @@ impl<'a, 'r> Walker<'a, 'r> {
             progress.old.left deep progress.new.left) }
         ensures refused { IfErr result (Refuses (octets_of self.now.visitor.file)
             self.now.visitor.whole object levels progress.old.left) }
-        ensures progress { OnOk result (IsProgress (octets_of self.now.visitor.file)
-            (object ∷ containers_of path.now) progress.new) }
+        ensures new { OnOk result (¬ Contains (containers_of path.now) object) }
+        ensures progress { OnOk result (IsProgressBut (octets_of self.now.visitor.file)
+            (containers_of path.now) object progress.new) }
     {
         let count = self.visitor.file.count();
         match self.visitor.enter(progress, path, object, levels)? {

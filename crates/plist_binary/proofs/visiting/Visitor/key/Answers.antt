@@ -1,4 +1,4 @@
-use Rattle.std.proofs.Common.{◌≡◌, ◌<◌, ◌∷◌, ◌*◌, Ok, rules, subst, ap, ◌∙◌, length}
+use Rattle.std.proofs.Common.{◌≡◌, ◌<◌, ◌∷◌, ◌*◌, Ok, arith, rules, subst, ap, ◌∙◌, length}
 use Rattle.plist_value.specs.Plist.{text}
 use Rattle.plist_value.specs.Texts.{units_of}
 use Rattle.plist_object.specs.Objects.{Held, holds_scalar, IsHeld}
@@ -31,7 +31,7 @@ returns-in_err-take_payload-clause-refused c =
     let units = units_of c.in-Some.key in
     let reads : what_holds f c.args.object ≡ Ok (holds_scalar (text units)) = c.in_ok-enter.ensures.held ∙ ap Ok c.in-Some.ensures.text in
     let over : c.enter.new.progress.left.payload < 2 * length units = c.in_err-take_payload.ensures.over.1 in
-    let refused : RefusesKey f c.args.self.now.whole c.args.object c.args.levels c.args.progress.now.left (TooMuchPayload c.args.object) = RefusesKey-value f c.args.self.now.whole c.args.object c.args.levels c.args.progress.now.left (TooMuchPayload c.args.object) (Refuses-payload f c.args.self.now.whole (c.args.table ∷ containers_of c.args.before.now) c.args.object c.args.levels c.args.progress.now.left c.enter.new.progress.left (text units) c.args.self.now.laid c.requires.begun c.requires.listed reads c.in_ok-enter.ensures.spent over) in
+    let refused : RefusesKey f c.args.self.now.whole c.args.object c.args.levels c.args.progress.now.left (TooMuchPayload c.args.object) = RefusesKey-value f c.args.self.now.whole c.args.object c.args.levels c.args.progress.now.left (TooMuchPayload c.args.object) (Refuses-payload f c.args.self.now.whole (c.args.table ∷ containers_of c.args.before.now) c.args.object c.args.levels c.args.progress.now.left c.enter.new.progress.left (text units) c.args.self.now.laid c.requires.begun c.requires.listed reads (omega (arith, c.requires.depth)) c.in_ok-enter.ensures.deep c.in_ok-enter.ensures.spent over) in
     search rules
 
 pub returns-clause-read : goal.returns-clause-read

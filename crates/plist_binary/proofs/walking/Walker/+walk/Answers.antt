@@ -13,7 +13,7 @@ use Rattle.plist_binary.specs.Paths.{containers_of}
 use Rattle.plist_binary.specs.Readings.{Refuses, RefusesItems, texts}
 use Rattle.plist_binary.proofs.Beginning.{AllRefer-next, AreNext-items, AreNext-leads, AreNext-values, IsBegun-next, IsEntered-begun}
 use Rattle.plist_binary.proofs.ItemSteps.{RefusesItems-next, RefusesItems-none}
-use Rattle.plist_binary.proofs.Making.{Refuses-payload, Refuses-list, Refuses-table, AreStates-open, AreStates-passed, AreStates-wider}
+use Rattle.plist_binary.proofs.Making.{Refuses-payload, Refuses-list, Refuses-table, AreStates-open, AreStates-passed, AreStates-but, AreStates-last}
 use Rattle.plist_binary.proofs.Entering.{length-values}
 use Rattle.plist_binary.proofs.PassSteps.{IsMemo-passed, Passes-scalar, Passes-list, Passes-table, PassesItems-next, PassesPairs-sorted}
 use Rattle.plist_binary.proofs.TableSteps.{RefusesPairs-values}
@@ -27,7 +27,7 @@ content-returns-in_err-take_payload-in-Scalar-clause-refused t c =
     let f = octets_of c.args.self.now.visitor.file in
     let s = content_of c.in-Scalar.scalar in
     let reads : what_holds f c.args.object ≡ Ok (holds_scalar s) = rw c.in-Scalar.is at c.in_ok-scalar.ensures.held in
-    let refused : Refuses f c.args.self.now.visitor.whole c.args.object c.args.levels c.args.progress.now.left (TooMuchPayload c.args.object) = Refuses-payload f c.args.self.now.visitor.whole (containers_of c.args.path.now) c.args.object c.args.levels c.args.progress.now.left c.enter.new.progress.left s c.args.self.now.visitor.laid c.requires.begun c.requires.listed reads c.in_ok-scalar.ensures.spent c.in_err-take_payload-in-Scalar.ensures.over.1 in
+    let refused : Refuses f c.args.self.now.visitor.whole c.args.object c.args.levels c.args.progress.now.left (TooMuchPayload c.args.object) = Refuses-payload f c.args.self.now.visitor.whole (containers_of c.args.path.now) c.args.object c.args.levels c.args.progress.now.left c.enter.new.progress.left s c.args.self.now.visitor.laid c.requires.begun c.requires.listed reads c.requires.depth c.in_ok-scalar.ensures.deep c.in_ok-scalar.ensures.spent c.in_err-take_payload-in-Scalar.ensures.over.1 in
     search rules
 
 pub content-returns-in_ok-take_payload-in-Scalar-clause-passed : goal.content-returns-in_ok-take_payload-in-Scalar-clause-passed
@@ -43,7 +43,7 @@ content-returns-in_ok-take_payload-in-Scalar-clause-progress t c =
     let so_far = c.in_ok-scalar.ensures.progress in
     let spent = c.in_ok-take_payload-in-Scalar.ensures.ok in
     record {
-      states = AreStates-wider (octets_of c.args.self.now.visitor.file) (containers_of c.args.path.now) c.enter.new.progress.states.items c.args.object so_far.states;
+      states = AreStates-but (octets_of c.args.self.now.visitor.file) (containers_of c.args.path.now) c.enter.new.progress.states.items c.args.object so_far.states;
       known = so_far.known;
       within = record {
         nodes_most = omega (arith, so_far.within.nodes_most, spent.nodes_left);
@@ -58,7 +58,7 @@ content-items-requires t c =
     let reads : what_holds f c.args.object ≡ Ok (holds_list refs) = rw c.in-List.is at c.in_ok-scalar.ensures.held in
     let some = c.in_ok-scalar.ensures.deep in
     let path = containers_of c.args.path.now in
-    let entered = IsEntered-begun f path c.args.object c.args.self.now.visitor.whole c.args.progress.now.left c.enter.new.progress.left c.requires.begun c.in_ok-scalar.ensures.spent in
+    let entered = IsEntered-begun f path c.args.object c.args.self.now.visitor.whole c.args.progress.now.left c.enter.new.progress.left c.requires.begun c.in_ok-scalar.ensures.new (omega (arith, c.requires.depth, some)) c.in_ok-scalar.ensures.spent in
     let next = AreNext-items f path c.args.object refs c.args.self.now.visitor.whole c.enter.new.progress.left entered record { listed = c.requires.listed; reads = reads } in
     let so_far = c.in_ok-scalar.ensures.progress in
     let open_now = AreStates-open f path c.enter.new.progress.states.items c.mark.new.states.items c.args.object c.in_ok-mark-in-List.ensures so_far.states in
@@ -109,9 +109,9 @@ content-items-requires-in-Table t c =
     let some = c.in_ok-scalar.ensures.deep in
     let path = containers_of c.args.path.now in
     let whole = c.args.self.now.visitor.whole in
-    let entered = IsEntered-begun f path c.args.object whole c.args.progress.now.left c.enter.new.progress.left c.requires.begun c.in_ok-scalar.ensures.spent in
+    let entered = IsEntered-begun f path c.args.object whole c.args.progress.now.left c.enter.new.progress.left c.requires.begun c.in_ok-scalar.ensures.new (omega (arith, c.requires.depth, some)) c.in_ok-scalar.ensures.spent in
     let read = c.in_ok-keys_apart-in-Table.ensures.read in
-    let next = AreNext-values f path c.args.object keys values (c.args.levels - 1) whole c.enter.new.progress.left c.keys_apart.new.progress.left (texts read.keys) entered record { listed = c.requires.listed; reads = reads } read.reads in
+    let next = AreNext-values f path c.args.object keys values (c.args.levels - 1) whole c.enter.new.progress.left c.keys_apart.new.progress.left (texts read.keys) entered record { listed = c.requires.listed; reads = reads } (omega (arith, c.requires.depth, some)) read.reads in
     (search rules, (next, (omega arith, c.in_ok-keys_apart-in-Table.ensures.progress)))
 
 pub content-returns-in_err-deep-in-Table-clause-refused : goal.content-returns-in_err-deep-in-Table-clause-refused
@@ -152,7 +152,7 @@ pub items-pass-requires : goal.items-pass-requires
 items-pass-requires t c =
     let f = octets_of c.args.self.now.visitor.file in
     let refs = numbers_of c.args.refs in
-    let begun = IsBegun-next f (containers_of c.args.before.now) c.args.container refs c.loop-i.i c.in_ok-object.object c.args.levels c.args.self.now.visitor.whole c.args.progress.now.left c.loop-i.progress.left (items_of c.loop-i.invariant.passed.values) c.requires.next (omega arith) (c.in_ok-object.ensures.same ∙ c.get.ensures) c.loop-i.invariant.passed.reads in
+    let begun = IsBegun-next f (containers_of c.args.before.now) c.args.container refs c.loop-i.i c.in_ok-object.object c.args.levels c.args.self.now.visitor.whole c.args.progress.now.left c.loop-i.progress.left (items_of c.loop-i.invariant.passed.values) c.requires.next c.requires.depth (omega arith) (c.in_ok-object.ensures.same ∙ c.get.ensures) c.loop-i.invariant.passed.reads in
     (search rules, (c.in_ok-object.ensures.below, (begun, (omega arith, c.loop-i.invariant.progress))))
 
 pub items-returns-in_err-deep-clause-refused : goal.items-returns-in_err-deep-clause-refused
@@ -178,7 +178,7 @@ walk-returns-clause-progress t c =
     let known = IsMemo-passed f c.args.object c.args.levels c.args.progress.now.left c.content.new.progress.left c.in_ok-deep.deep c.of-memo.result c.in_ok-deep.ensures.passed c.of-memo.ensures.nodes c.of-memo.ensures.payload c.of-memo.ensures.depth in
     let so_far = c.in_ok-deep.ensures.progress in
     record {
-      states = AreStates-passed f (containers_of c.args.path.now) c.content.new.progress.states.items c.mark.new.states.items c.args.object c.of-memo.result (subst (λ (state : State). IsMarked c.content.new.progress.states.items c.args.object state c.mark.new.states.items) c.passed.ensures c.in_ok-mark.ensures) known so_far.states;
+      states = AreStates-passed f (containers_of c.args.path.now) c.content.new.progress.states.items c.mark.new.states.items c.args.object c.of-memo.result (subst (λ (state : State). IsMarked c.content.new.progress.states.items c.args.object state c.mark.new.states.items) c.passed.ensures c.in_ok-mark.ensures) known c.in_ok-deep.ensures.new so_far.states;
       known = so_far.known;
       within = so_far.within;
     }
@@ -191,3 +191,21 @@ walk-of-memo-requires-clause-payload_left t c = omega (arith, c.in_ok-deep.ensur
 
 pub walk-returns-clause-passed : goal.walk-returns-clause-passed
 walk-returns-clause-passed t c = c.in_ok-deep.ensures.passed
+
+pub content-returns-in_ok-deep-in-List-clause-progress : goal.content-returns-in_ok-deep-in-List-clause-progress
+content-returns-in_ok-deep-in-List-clause-progress t c =
+    let so_far = c.in_ok-deep-in-List.ensures.progress in
+    record {
+      states = AreStates-last (octets_of c.args.self.now.visitor.file) (containers_of c.args.path.now) c.items.new.progress.states.items c.args.object so_far.states;
+      known = so_far.known;
+      within = so_far.within;
+    }
+
+pub content-returns-in_ok-deep-in-Table-clause-progress : goal.content-returns-in_ok-deep-in-Table-clause-progress
+content-returns-in_ok-deep-in-Table-clause-progress t c =
+    let so_far = c.in_ok-deep-in-Table.ensures.progress in
+    record {
+      states = AreStates-last (octets_of c.args.self.now.visitor.file) (containers_of c.args.path.now) c.items-in-Table.new.progress.states.items c.args.object so_far.states;
+      known = so_far.known;
+      within = so_far.within;
+    }

@@ -38,7 +38,7 @@ key-requires-clause-begun c =
     let whole = c.args.self.now.visitor.whole in
     let before = containers_of c.args.before.now in
     let next = AreNext-keys f before c.args.table refs whole c.args.progress.now.left c.requires.entered c.requires.keys in
-    IsBegun-next f before c.args.table refs c.loop-i.i c.in_ok-object.object c.args.levels whole c.args.progress.now.left c.loop-i.progress.left (texts (map units_at c.loop-i.keys.items)) next (omega arith) (c.in_ok-object.ensures.same ∙ c.get.ensures) c.loop-i.invariant.read
+    IsBegun-next f before c.args.table refs c.loop-i.i c.in_ok-object.object c.args.levels whole c.args.progress.now.left c.loop-i.progress.left (texts (map units_at c.loop-i.keys.items)) next c.requires.depth (omega arith) (c.in_ok-object.ensures.same ∙ c.get.ensures) c.loop-i.invariant.read
 
 pub loop-i-preserved : goal.loop-i-preserved
 loop-i-preserved c =

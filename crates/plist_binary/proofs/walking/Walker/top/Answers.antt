@@ -1,4 +1,4 @@
-use Rattle.std.proofs.Common.{ℕ, [], subst, ap, arith}
+use Rattle.std.proofs.Common.{ℕ, subst, ap, arith}
 use Rattle.plist_value.specs.declared.budget.Budget.{Budget}
 use Rattle.plist_value.specs.declared.TheConstants.{MAX_DEPTH}
 use Rattle.plist_object.specs.Views.{octets_of}
@@ -7,7 +7,7 @@ use Rattle.plist_binary.proofs.PassSteps.{PassesTop-short}
 use Rattle.plist_binary.proofs.walking.Walker.top.Goals as goal
 
 pub pass-requires-clause-progress : goal.pass-requires-clause-progress
-pass-requires-clause-progress c = c.none-progress.ensures.progress (octets_of c.args.self.now.visitor.file) []
+pass-requires-clause-progress c = c.none-progress.ensures.progress (octets_of c.args.self.now.visitor.file)
 
 pub returns-clause-passed : goal.returns-clause-passed
 returns-clause-passed c =
