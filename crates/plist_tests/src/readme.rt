@@ -1,18 +1,14 @@
 //! The example of CONTRIBUTING. `scripts/readme` compares it with these lines.
+use plist_convert::same_files;
 use std::test::Fail;
 
 // The example of CONTRIBUTING:
-use plist_convert::{Fault, PairFault, canonicalise, same_files};
+use plist_convert::{Fault, canonicalise};
 use std::alloc::Global;
 
 /// Cache key for anything derived from a property list: the same for all its spellings.
 fn cache_key(alloc: Global, octets: &[u8]) -> Result<Vec<u8>, Fault> {
     canonicalise(alloc, octets)
-}
-
-/// Whether what was derived from the old file still serves for the new one.
-fn still_serves(alloc: Global, old: &[u8], new: &[u8]) -> Result<bool, PairFault> {
-    same_files(alloc, old, new)
 }
 // Here it ends.
 
@@ -21,7 +17,7 @@ fn spellings_have_one_key(rt: HostRuntime) -> Result<(), Fail> {
     let old: &[u8] = b"{ name = Ada; langs = (en, fr); }";
     let new: &[u8] = b"langs = (en, \"fr\",); name = Ada;";
     assert_eq!(rt; cache_key(rt.alloc(), old)?, cache_key(rt.alloc(), new)?);
-    assert!(rt; still_serves(rt.alloc(), old, new)?);
+    assert!(rt; same_files(rt.alloc(), old, new)?);
     let refused = cache_key(rt.alloc(), b"{ a = b; a = c; }").err();
     assert_eq!(rt; refused.map(|fault| fault.code()), Some(14));
     Ok(())
