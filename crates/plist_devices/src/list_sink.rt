@@ -67,8 +67,6 @@ impl Sink for ListSink {
 
     ghost failures = { failures_of };
 
-    ghost device = { λ _. None };
-
     fn put(&mut self, piece: &[u8]) -> Result<usize, DeviceFault>
         ensures put { IsPut (Some (octets_taken self.old)) (Some (octets_taken self.new))
             (failures_of self.old) (failures_of self.new) result piece.now }

@@ -1,5 +1,5 @@
 //! What takes octets.
-ghost use Rattle.std.specs.Prelude.{◌≡◌, ℕ, List, Option, length};
+ghost use Rattle.std.specs.Prelude.{◌≡◌, ℕ, List, None, Option, length};
 ghost use Rattle.std.specs.Borrow.{GName};
 ghost use Rattle.plist_devices.specs.Sink.{IsPut, IsLongest};
 
@@ -18,7 +18,7 @@ pub trait Sink {
     ghost failures: { Self → ℕ };
 
     // The device that is borrowed, where one is.
-    ghost device: { Self → Option GName };
+    ghost device: { Self → Option GName } = { λ _. None };
 
     // The greatest length of a piece that it was given, where the device tells it.
     ghost longest: { Self → ℕ } = { λ _. 0 };

@@ -32,14 +32,11 @@ impl<W: Write> WriterSink<W> {
 }
 
 impl<D: WriteDevice> Sink for WriterSink<D> {
-    ghost use Rattle.std.specs.Prelude.{None};
     ghost use Rattle.plist_devices.specs.WriterSink.{device_of, octets_taken, failures_of};
 
     ghost taken = { octets_taken D.contents };
 
     ghost failures = { failures_of };
-
-    ghost device = { λ _. None };
 
     fn put(&mut self, piece: &[u8]) -> Result<usize, DeviceFault>
         ensures put { IsPut (octets_taken D.contents self.old) (octets_taken D.contents self.new)

@@ -2,9 +2,18 @@
 use Rattle.std.specs.Prelude.{◌≡◌, ◌↔◌, true, List, Some, ℕ}
 use Rattle.plist_value.specs.Plist.{Plist, IsPlist}
 use Rattle.plist_value.specs.Limits.{Fits}
+use Rattle.plist_value.specs.declared.TheConstants.{MAX_NODES, MAX_DEPTH, MAX_PAYLOAD}
 use Rattle.plist_engine.specs.Canonical.{canon}
 use Rattle.ostep_text.specs.Written.{text_of}
 use Rattle.plist_forms.specs.Accepted.{IsAccepted, begins_as_binary}
+use Rattle.plist_forms.specs.declared.loading.TheConstants.{MAX_INPUT}
+
+-- the limits on a value, and on the length of an input
+pub record AreLimits : Type 0 where
+  pub nodes : MAX_NODES ≡ 16_777_216
+  pub depth : MAX_DEPTH ≡ 512
+  pub payload : MAX_PAYLOAD ≡ 1_073_741_824
+  pub input : MAX_INPUT ≡ 4_294_967_295
 
 -- no octets spell two values
 abbrev pub OneValue : Type 0

@@ -1,9 +1,9 @@
 -- Two octet lists that are compared by the values that they spell.
-use Rattle.std.specs.Prelude.{◌≡◌, ◌↔◌, ℕ, List, Bool, IsTrue}
+use Rattle.std.specs.Prelude.{◌≡◌, ◌↔◌, ℕ, List, ◌++◌, Bool, IsTrue, codes}
 use Rattle.plist_value.specs.Plist.{Plist}
 use Rattle.plist_engine.specs.Canonical.{canon}
 use Rattle.plist_forms.specs.Accepted.{IsAccepted}
-use Rattle.plist_forms.specs.Fault.{code_of}
+use Rattle.plist_forms.specs.Fault.{code_of, fault_text}
 use Rattle.plist_forms.specs.Refusals.{IsRefused}
 use Rattle.plist_forms.specs.declared.pairs.PairFault.{PairFault}
 use Rattle.plist_forms.specs.declared.pairs.PairFault.TheVariants.{First, Second}
@@ -26,3 +26,8 @@ IsRefusedPair a b (Second fault) = (v : Plist) × (IsAccepted a v × IsRefused b
 abbrev pub pair_code : PairFault → ℕ
 pair_code (First fault) = code_of fault
 pair_code (Second fault) = code_of fault
+
+-- what is printed: which of them, and its refusal
+abbrev pub pair_text : PairFault → List ℕ
+pair_text (First fault) = codes "the first: " ++ fault_text fault
+pair_text (Second fault) = codes "the second: " ++ fault_text fault

@@ -1,7 +1,14 @@
 //! What holds of all accepted octets. Each law is the contract of a function that does nothing but
 //! call the laws below it.
-ghost use Rattle.plist_forms.specs.Laws.{CanonicalIsAccepted, Headline, OneValue};
+ghost use Rattle.plist_forms.specs.Laws.{AreLimits, CanonicalIsAccepted, Headline, OneValue};
 ghost use Rattle.plist_forms.specs.Laws.{WrittenIsAccepted};
+
+/// The limits: 16,777,216 nodes, 512 levels and 1,073,741,824 bytes of payload of a value, and
+/// 4,294,967,295 bytes of an input.
+pub fn limits()
+    ensures { AreLimits }
+{
+}
 
 /// No octets spell two values.
 pub fn one_value()

@@ -71,8 +71,6 @@ impl Sink for Noting {
 
     ghost failures = { λ _. 0 };
 
-    ghost device = { λ _. None };
-
     ghost longest = { λ sink. sink.longest };
 
     fn put(&mut self, piece: &[u8]) -> Result<usize, DeviceFault> {

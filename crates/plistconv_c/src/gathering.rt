@@ -30,8 +30,6 @@ impl Sink for Gathering {
 
     ghost failures = { λ sink. sink.failures };
 
-    ghost device = { λ _. None };
-
     fn put(&mut self, piece: &[u8]) -> Result<usize, DeviceFault> {
         let failures = self.failures;
         if failures == u64::MAX || self.octets.extend_from_slice(piece).is_err() {
