@@ -1,17 +1,17 @@
--- A file that goes out in parts: the header, the objects, and what stands behind them.
-use Rattle.std.proofs.Common.{◌≡◌, ℕ, ◌+◌, ◌<◌, List, [], ◌∷◌, ◌++◌, length, Option, Result, Ok, Err, sym, ap, subst, ◌∙◌, arith, length-append}
-use Rattle.std.specs.Prelude.{All, IfOk, OnOk}
+-- A file that is written in parts: the header, the objects, and its end.
+use Rattle.std.proofs.Common.{◌≡◌, ℕ, ◌+◌, ◌≤◌, List, [], ◌∷◌, ◌++◌, length, Result, Ok, Err, refl, ap, ◌∙◌, arith, length-append}
+use Rattle.std.specs.Prelude.{All}
 use Rattle.std.specs.List.{concat, AllByRecursion}
 use Rattle.std.proofs.lemmas.List.Elements.{All-from_recursion}
 use Rattle.plist_object.specs.Layout.{header}
 use Rattle.plist_object.specs.Spelling.{least_width, references}
-use Rattle.plist_engine.specs.declared.faults.WriteFault.{WriteFault}
-use Rattle.plist_engine.specs.declared.pending.Pending.{Pending}
 use Rattle.plist_object.specs.Files.{starts}
+use Rattle.plist_object.proofs.Files.{length-starts}
+use Rattle.plist_engine.specs.declared.faults.WriteFault.{WriteFault}
 use Rattle.plist_engine.specs.Canonical.{file_of, trailer_octets}
-use Rattle.plist_engine.specs.Sending.{Sends}
-use Rattle.plist_engine.specs.Pending.{Gathers, Stops, Goes, end_of}
-use Rattle.plist_engine.proofs.Gathering.{Gathers-append, Gathers-all, Stops-front, Stops-behind, Stops-all}
+use Rattle.plist_engine.specs.Sending.{IsWritten}
+use Rattle.plist_engine.specs.Output.{State, Goes, end_of}
+use Rattle.plist_engine.proofs.Going.{Goes_then, Goes_stop, Goes_same, Goes_put, count_then, is_written, is_refused}
 
 -- the lengths of the parts
 pub file-length : (objects : List (List ℕ)) → length (file_of objects) ≡ 8 + (length (concat objects) + (length (references (least_width (8 + length (concat objects))) (starts 8 objects)) + 32))
@@ -21,30 +21,55 @@ file-length objects =
     let tail = trailer_octets (length objects) place in
     length-append header (concat objects ++ (entries ++ tail)) ∙ ap (λ n. 8 + n) (length-append (concat objects) (entries ++ tail)) ∙ ap (λ n. 8 + (length (concat objects) + n)) (length-append entries tail)
 
-starts-under : (bound p : ℕ) (objects : List (List ℕ)) → p + length (concat objects) < bound → AllByRecursion (λ q. q < bound) (starts p objects)
+starts-under : (bound p : ℕ) (objects : List (List ℕ)) → p + length (concat objects) ≤ bound → AllByRecursion (λ q. q ≤ bound) (starts p objects)
 starts-under bound p [] h = tt
 starts-under bound p (o ∷ objects) h =
     let size = length-append o (concat objects) in
     (omega arith, starts-under bound (p + length o) objects (omega arith))
 
--- all places are below the end
-pub starts-fit : (bound p : ℕ) (objects : List (List ℕ)) → p + length (concat objects) < bound → All (λ q. q < bound) (starts p objects)
-starts-fit bound p objects h = All-from_recursion (λ q. q < bound) (starts p objects) (starts-under bound p objects h)
+-- no place is after the end
+pub starts-before : (bound p : ℕ) (objects : List (List ℕ)) → p + length (concat objects) ≤ bound → All (λ q. q ≤ bound) (starts p objects)
+starts-before bound p objects h = All-from_recursion (λ q. q ≤ bound) (starts p objects) (starts-under bound p objects h)
 
-module _ (objects : List (List ℕ)) (p : Pending) (begun : p.octets.items ≡ header) (first : p.sent ≡ 0) where
-  whole : {octets : List ℕ} (k l : Option (List ℕ)) (x y : ℕ) (result : Result ℕ WriteFault) → Sends (p.octets.items ++ octets) p.sent k l x y result → Sends (header ++ octets) 0 k l x y result
-  whole {octets} k l x y result sends =
-      subst (λ (n : ℕ). Sends (header ++ octets) n k l x y result) first (subst (λ (os : List ℕ). Sends (os ++ octets) p.sent k l x y result) begun sends)
+-- the parts of a file
+pub file-parts : (objects : List (List ℕ)) → header ++ (concat objects ++ end_of (starts 8 objects) (8 + length (concat objects))) ≡ file_of objects
+file-parts objects =
+    let place = 8 + length (concat objects) in
+    ap (λ n. header ++ (concat objects ++ (references (least_width place) (starts 8 objects) ++ trailer_octets n place))) (length-starts 8 objects)
+
+-- the header waits, and then the other octets go
+after-header : {T : Type 0} (octets : List ℕ) (p r : State) (result : Result T WriteFault) → p.waiting ≡ header → Goes octets p r result → Goes (header ++ octets) (record p { waiting = [] }) r result
+after-header octets p r result begun goes =
+    Goes_then header octets (record p { waiting = [] }) p r tt result (Goes_put header p.waiting (record p { waiting = [] }) begun) goes
+
+module _ (objects : List (List ℕ)) (p : State) (begun : p.waiting ≡ header) (first : p.sent ≡ 0) where
+  abbrev ending : List ℕ
+  ending = end_of (starts 8 objects) (8 + length (concat objects))
+
+  whole : {T : Type 0} (r : State) (result : Result T WriteFault) → Goes (concat objects ++ ending) p r result → Goes (file_of objects) (record p { waiting = [] }) r result
+  whole r result goes =
+      Goes_same (header ++ (concat objects ++ ending)) (file_of objects) (record p { waiting = [] }) r result (file-parts objects) (after-header (concat objects ++ ending) p r result begun goes)
 
   -- the objects were refused
-  pub file-stops : (k l : Option (List ℕ)) (x y : ℕ) (fault : WriteFault) → Stops (concat objects) p k l x y fault → Sends (file_of objects) 0 k l x y (Err fault)
-  file-stops k l x y fault stops =
-      whole k l x y (Err fault) (Stops-all (concat objects ++ end_of objects) p k l x y fault (Stops-front (concat objects) (end_of objects) p k l x y fault stops))
+  pub file-stops : {T : Type 0} (r : State) (fault : WriteFault) → Goes {T = T} (concat objects) p r (Err fault) → IsWritten (file_of objects) p.taken r.taken p.failures r.failures (Err fault)
+  file-stops {T} r fault goes =
+      is_refused {T = T} (file_of objects) (record p { waiting = [] }) r fault refl first (whole r (Err fault) (Goes_stop {T = T} {U = T} (concat objects) ending p r fault goes))
 
-  -- the objects went, and then what stands behind them, or it was refused
-  pub file-goes : (q r : Pending) (k l m : Option (List ℕ)) (x y z : ℕ) (result : Result ℕ WriteFault) → Gathers (concat objects) p q k l x y → Goes (end_of objects) q r l m y z result → OnOk result (r.octets.items ≡ []) → IfOk result (λ n. n ≡ r.sent) → Sends (file_of objects) 0 k m x z result
-  file-goes q r k l m x y z (Ok n) a goes none sent =
-      let all = Gathers-all (concat objects ++ end_of objects) p r k m x z (Gathers-append (concat objects) (end_of objects) p q r k l m x y z a goes.done) none in
-      whole k m x z (Ok n) (subst (λ (j : ℕ). Sends (p.octets.items ++ (concat objects ++ end_of objects)) p.sent k m x z (Ok j)) (sym sent) all)
-  file-goes q r k l m x y z (Err fault) a goes none sent =
-      whole k m x z (Err fault) (Stops-all (concat objects ++ end_of objects) p k m x z fault (Stops-behind (concat objects) (end_of objects) p q k l m x y z fault a goes.stopped))
+  module _ {T : Type 0} (q : State) (places : List ℕ) (value : T) (are : places ≡ starts 8 objects) (goes : Goes (concat objects) p q (Ok value)) where
+    -- the end is written at the place that its trailer tells
+    pub place-is : q.sent + length q.waiting ≡ 8 + length (concat objects)
+    place-is = let n = count_then (concat objects) p q value goes in let m = ap length begun in omega (arith, n, m, first)
+
+    pub ending-is : end_of places (q.sent + length q.waiting) ≡ end_of (starts 8 objects) (8 + length (concat objects))
+    ending-is = ap (λ ps. end_of ps (q.sent + length q.waiting)) are ∙ ap (end_of (starts 8 objects)) place-is
+
+    both : {U : Type 0} (r : State) (result : Result U WriteFault) → Goes (end_of places (q.sent + length q.waiting)) q r result → Goes (file_of objects) (record p { waiting = [] }) r result
+    both r result last =
+        whole r result (Goes_then (concat objects) ending p q r value result goes (Goes_same (end_of places (q.sent + length q.waiting)) ending q r result ending-is last))
+
+    -- the end was refused
+    pub file-ends : {U : Type 0} (r : State) (fault : WriteFault) → Goes {T = U} (end_of places (q.sent + length q.waiting)) q r (Err fault) → IsWritten (file_of objects) p.taken r.taken p.failures r.failures (Err fault)
+    file-ends {U} r fault last = is_refused {T = U} (file_of objects) (record p { waiting = [] }) r fault refl first (both r (Err fault) last)
+
+    pub file-written : {U : Type 0} (r : State) (done : U) → r.waiting ≡ [] → Goes (end_of places (q.sent + length q.waiting)) q r (Ok done) → IsWritten (file_of objects) p.taken r.taken p.failures r.failures (Ok r.sent)
+    file-written r done none last = is_written (file_of objects) (record p { waiting = [] }) r done refl first none (both r (Ok done) last)

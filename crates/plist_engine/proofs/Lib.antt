@@ -12,6 +12,7 @@ pub mod Binary
 pub mod Counting
 pub mod Held
 pub mod Found
+pub mod Going
 pub mod Sends
 pub mod Gathering
 pub mod FileSteps

@@ -10,6 +10,7 @@ pub mod Laws
 pub mod Found
 pub mod Pieces
 pub mod Sending
+pub mod Output
 pub mod Pending
 pub mod Spelling
 pub mod Hashed

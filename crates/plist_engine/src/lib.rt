@@ -4,6 +4,7 @@
 
 mod ahead;
 mod bits;
+mod ends;
 pub mod faults;
 mod hashed;
 pub mod known_orders;
@@ -14,6 +15,7 @@ mod naturals;
 mod numbered;
 pub mod objects;
 pub mod order;
+pub mod outputs;
 mod parts;
 pub mod pending;
 mod plan;
@@ -26,6 +28,7 @@ mod walk;
 
 pub use faults::WriteFault;
 pub use making::canonical_of;
+pub use outputs::Output;
 pub use pending::{Pending, flush};
 pub use plist_devices::{DeviceFault, ListSink, Sink};
 pub use scalars::{Scalars, natural_in};

@@ -1,30 +1,37 @@
 //! The canonical file of the value that a file spells, sent in pieces.
-ghost use Rattle.std.specs.Prelude.{◌≡◌, ◌+◌, ◌<◌, ◌-◌, ◌^◌, [], length, IfOk};
+ghost use Rattle.std.specs.Prelude.{◌≡◌, ◌+◌, ◌<◌, ◌≤◌, ◌-◌, ◌^◌, ◌∷◌, [], ℕ, length, IfOk};
 ghost use Rattle.std.specs.List.{concat};
-ghost use Rattle.plist_value.specs.Plist.{Plist};
+ghost use Rattle.plist_value.specs.Plist.{Plist, bytes};
+ghost use Rattle.plist_object.specs.Layout.{header};
 ghost use Rattle.plist_object.specs.Sizes.{IsWidth};
 ghost use Rattle.plist_object.specs.Spelled.{IsBinary};
-ghost use Rattle.plist_object.specs.Spelling.{least_width};
+ghost use Rattle.plist_object.specs.Spelling.{least_width, scalar_spelling};
 ghost use Rattle.plist_object.specs.Views.{octets_of};
 ghost use Rattle.plist_object.specs.Order.{AreSortedIfAny};
 ghost use Rattle.plist_object.specs.Files.{starts};
 ghost use Rattle.plist_engine.specs.Canonical.{canon, file_of, objects_of};
-ghost use Rattle.plist_engine.specs.Pieces.{CanSpellAll};
-ghost use Rattle.plist_engine.specs.Sending.{ArePieces, IsWritten, Sends};
+ghost use Rattle.plist_engine.specs.Pieces.{CanSpellAll, CanSpellPart, octets_in_part};
+ghost use Rattle.plist_engine.specs.Sending.{Allows, ArePieces, IsWritten};
 ghost use Rattle.plist_engine.specs.Tree.{preorder};
 ghost use Rattle.plist_engine.specs.Parts.{AreSound, helds_of, octets_planned};
-ghost use Rattle.plist_engine.specs.Pending.{Goes, KeepsShort};
+ghost use Rattle.plist_engine.specs.Output.{CanTake, Goes, KeepsShort, LeavesRoom};
+ghost use Rattle.plist_engine.specs.Output.{Stays, state_of};
 
 use crate::ahead::Ahead;
+use crate::ends::send_end;
+use crate::outputs::PIECE;
 use crate::parts::part_of;
-use crate::pending::{Pending, send_end, send_part};
 use crate::plan::Objects;
-use crate::putting::part_length;
+use crate::putting::{Part, part_length, put_part};
 use crate::walk::objects_of;
-use crate::{Sink, WriteFault};
-use plist_object::{BinFile, HEADER, SortedKeys, width_of};
+use crate::{Output, Sink, WriteFault};
+use plist_object::{BinFile, HEADER, SortedKeys, put_data_head, width_of};
+use plist_value::ScalarRef;
 use std::alloc::Global;
 use std::hash::BuildHasher;
+
+/// The most bytes of an object of data that come before its octets.
+const MOST_HEAD: u64 = 10;
 
 /// Sends the canonical file of the value that the file spells, object after object, and answers how
 /// many octets it has. Neither that value nor its canonical file is in memory: no piece is longer
@@ -67,7 +74,7 @@ fn send_file<W: Sink>(
     alloc: Global,
     file: &BinFile,
     objects: Objects,
-    out: &mut W,
+    sink: &mut W,
 ) -> Result<u64, WriteFault>
     requires few { length objects.originals.items < 2 ^ 32 }
     requires sound { AreSound (octets_of file.now)
@@ -76,22 +83,55 @@ fn send_file<W: Sink>(
         (helds_of (octets_of file.now) objects.originals.items objects.references.items) }
     requires short { length (file_of (octets_planned (least_width (length objects.originals.items))
         (octets_of file.now) objects)) < 2 ^ 64 }
-    ensures sends { Sends (file_of (octets_planned (least_width (length objects.originals.items))
-        (octets_of file.now) objects))
-        0 (W.taken out.old) (W.taken out.new)
-        (W.failures out.old) (W.failures out.new) result }
-    ensures same { W.device out.new ≡ W.device out.old }
+    ensures written { IsWritten (file_of (octets_planned
+        (least_width (length objects.originals.items)) (octets_of file.now) objects))
+        (W.taken sink.old) (W.taken sink.new)
+        (W.failures sink.old) (W.failures sink.new) result }
+    ensures same { W.device sink.new ≡ W.device sink.old }
     ensures pieces { ArePieces (octets_planned (least_width (length objects.originals.items))
-        (octets_of file.now) objects) (W.longest out.old) (W.longest out.new) }
+        (octets_of file.now) objects) (W.longest sink.old) (W.longest sink.new) }
 {
-    let Ok(octets) = Vec::from_slice(alloc, &HEADER) else {
+    let Ok(mut waiting) = Vec::from_slice(alloc, &HEADER) else {
         return Err(WriteFault::OutOfMemory { sent: 0 });
     };
-    let mut pending = Pending { octets, sent: 0 };
+    let mut out = Output {
+        sink,
+        waiting: &mut waiting,
+        sent: 0,
+    };
+    send_parts(alloc, file, objects, &mut out)
+}
+
+// The file of the objects, whose header waits.
+fn send_parts<W: Sink>(
+    alloc: Global,
+    file: &BinFile,
+    objects: Objects,
+    out: &mut Output<W>,
+) -> Result<u64, WriteFault>
+    requires few { length objects.originals.items < 2 ^ 32 }
+    requires sound { AreSound (octets_of file.now)
+        objects.originals.items objects.references.items }
+    requires spellable { CanSpellAll (least_width (length objects.originals.items))
+        (helds_of (octets_of file.now) objects.originals.items objects.references.items) }
+    requires short { length (file_of (octets_planned (least_width (length objects.originals.items))
+        (octets_of file.now) objects)) < 2 ^ 64 }
+    requires begun { out.old.waiting.now.items ≡ header }
+    requires first { out.old.sent ≡ 0 }
+    ensures written { IsWritten (file_of (octets_planned
+        (least_width (length objects.originals.items)) (octets_of file.now) objects))
+        (W.taken out.old.sink.now) (W.taken out.new.sink.now)
+        (W.failures out.old.sink.now) (W.failures out.new.sink.now) result }
+    ensures stays { Stays (state_of W.Sink out.old) (state_of W.Sink out.new) }
+    ensures pieces { ArePieces (octets_planned (least_width (length objects.originals.items))
+        (octets_of file.now) objects)
+        (W.longest out.old.sink.now) (W.longest out.new.sink.now) }
+{
     let width = width_of(objects.originals.len() as u64);
-    let places = send_objects(alloc, file, width, &objects, &mut pending, out)?;
+    let places = send_objects(alloc, file, width, &objects, out)?;
     drop(objects);
-    send_end(&places, &mut pending, out)
+    send_end(&places, out)?;
+    Ok(out.sent)
 }
 
 // The objects one after another, and their places in the file.
@@ -100,27 +140,24 @@ fn send_objects<W: Sink>(
     file: &BinFile,
     width: u8,
     objects: &Objects,
-    pending: &mut Pending,
-    out: &mut W,
+    out: &mut Output<W>,
 ) -> Result<Vec<u64>, WriteFault>
     requires width { IsWidth width }
     requires sound { AreSound (octets_of file.now)
         objects.now.originals.items objects.now.references.items }
     requires spellable { CanSpellAll width
         (helds_of (octets_of file.now) objects.now.originals.items objects.now.references.items) }
-    requires room { pending.old.sent + (length pending.old.octets.items
+    requires room { out.old.sent + (length out.old.waiting.now.items
         + length (concat (octets_planned width (octets_of file.now) objects.now))) < 2 ^ 64 - 8 }
     ensures goes { Goes (concat (octets_planned width (octets_of file.now) objects.now))
-        pending.old pending.new (W.taken out.old) (W.taken out.new)
-        (W.failures out.old) (W.failures out.new) result }
+        (state_of W.Sink out.old) (state_of W.Sink out.new) result }
     ensures places { IfOk result (λ places. places.items
         ≡ starts 8 (octets_planned width (octets_of file.now) objects.now)) }
-    ensures same { W.device out.new ≡ W.device out.old }
     ensures pieces { KeepsShort (octets_planned width (octets_of file.now) objects.now) 0
-        pending.old pending.new (W.longest out.old) (W.longest out.new) result }
+        (state_of W.Sink out.old) (state_of W.Sink out.new) result }
 {
     let Ok(mut places) = Vec::with_capacity(alloc, objects.originals.len()) else {
-        return Err(WriteFault::OutOfMemory { sent: pending.sent });
+        return Err(WriteFault::OutOfMemory { sent: out.sent });
     };
     let mut numbers = objects.references.as_slice();
     let mut place = 8;
@@ -130,9 +167,61 @@ fn send_objects<W: Sink>(
         let (part, behind) = part_of(file, u64::from(*original), numbers);
         let size = part_length(width, &part);
         places.push_reserved(place);
-        send_part(width, &part, size, pending, out)?;
+        send_part(width, &part, size, out)?;
         place += size;
         numbers = behind;
     }
     Ok(places)
+}
+
+/// Writes an object of `size` bytes. Long data goes to the sink without a copy.
+///
+/// # Errors
+///
+/// [`WriteFault::WriteFailed`] (51) if the sink fails, and [`WriteFault::OutOfMemory`] (60) if
+/// there is no memory for the object.
+pub(crate) fn send_part<W: Sink>(
+    width: u8,
+    part: &Part,
+    size: u64,
+    out: &mut Output<W>,
+) -> Result<(), WriteFault>
+    requires width { IsWidth width }
+    requires spellable { CanSpellPart width part.now }
+    requires size { size ≡ length (octets_in_part width part.now) }
+    requires room { CanTake (octets_in_part width part.now) (state_of W.Sink out.old) }
+    ensures goes { Goes (octets_in_part width part.now)
+        (state_of W.Sink out.old) (state_of W.Sink out.new) result }
+    ensures pieces { KeepsShort (octets_in_part width part.now ∷ []) 0
+        (state_of W.Sink out.old) (state_of W.Sink out.new) result }
+{
+    match part {
+        Part::Scalar(ScalarRef::Bytes(octets)) if octets.len() as u64 > PIECE => {
+            out.make_room(MOST_HEAD)?;
+            send_data(octets, out)
+        }
+        _ => {
+            out.make_room(size)?;
+            let Ok(()) = put_part(out.waiting, width, part) else {
+                return Err(WriteFault::OutOfMemory { sent: out.sent });
+            };
+            Ok(())
+        }
+    }
+}
+
+// Data of at least 15 octets, which are not copied.
+fn send_data<W: Sink>(octets: &[u8], out: &mut Output<W>) -> Result<(), WriteFault>
+    requires long { 15 ≤ length octets.now }
+    requires room { CanTake (scalar_spelling (bytes octets.now)) (state_of W.Sink out.old) }
+    ensures goes { Goes (scalar_spelling (bytes octets.now))
+        (state_of W.Sink out.old) (state_of W.Sink out.new) result }
+    ensures pieces { (most : ℕ) → Allows most (octets.now ∷ [])
+        → length out.old.waiting.now.items + MOST_HEAD ≤ most → W.longest out.old.sink.now ≤ most
+        → LeavesRoom most 0 (state_of W.Sink out.new) result }
+{
+    let Ok(()) = put_data_head(out.waiting, octets.len() as u64) else {
+        return Err(WriteFault::OutOfMemory { sent: out.sent });
+    };
+    out.send_long(octets)
 }

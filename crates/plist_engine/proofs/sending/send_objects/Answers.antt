@@ -1,11 +1,14 @@
-use Rattle.std.proofs.Common.{◌≡◌, ◌+◌, ◌<◌, ◌≤◌, ◌++◌, drop, get_or, length, rules, sym, ap, ◌∙◌, arith, length-append}
+use Rattle.std.proofs.Common.{◌≡◌, ℕ, ◌+◌, ◌-◌, ◌<◌, ◌≤◌, ◌^◌, List, [], ◌++◌, drop, get_or, length, rules, sym, ap, subst, ◌∙◌, arith, length-append}
 use Rattle.std.specs.List.{concat}
-use Rattle.std.proofs.lemmas.List.{length-drop}
+use Rattle.std.proofs.lemmas.List.{append-nil, length-drop}
 use Rattle.std.proofs.lemmas.Result.{err_from_is_err_and}
 use Rattle.plist_object.specs.Views.{octets_of}
-use Rattle.plist_engine.specs.Pieces.{octets_in_part}
-use Rattle.plist_engine.specs.Parts.{octets_for, octets_planned}
-use Rattle.plist_engine.proofs.Gathering.{Gathers-append, Gathers-same, Stops-front, Stops-next, Goes-err, room-left}
+use Rattle.plist_object.specs.Files.{starts}
+use Rattle.plist_engine.specs.Pieces.{CanSpellAll, octets_in_part}
+use Rattle.plist_engine.specs.Parts.{AreSound, helds_of, octets_for, octets_planned}
+use Rattle.plist_engine.specs.Sending.{Allows}
+use Rattle.plist_engine.specs.Output.{state_of}
+use Rattle.plist_engine.proofs.Going.{Goes_put, Goes_then, Goes_rest, Goes_stop, Goes_same, room_then}
 use Rattle.plist_engine.proofs.ObjectSteps.{sound-next, spellable-next, step, measured-next, none-left, split-next, split-end, placed-next, placed-end}
 use Rattle.plist_engine.proofs.sending.send_objects.Goals as goal
 
@@ -65,7 +68,8 @@ send_part-requires-clause-room g c =
     let later = concat (octets_for c.args.width f (drop (i + 1) start) c.part_of.result.1.now) in
     let all = concat (octets_planned c.args.width f c.args.objects.now) in
     let rest = concat (octets_for c.args.width f (drop i start) l.numbers.now) in
-    let left = room-left l.invariant.done rest all c.args.pending.now l.pending _ _ _ _ _ l.invariant.split l.invariant.gathers c.requires.room in
+    let whole = ap length l.invariant.split in
+    let left = room_then l.invariant.done rest (state_of g.W.Sink c.args.out.now) (state_of g.W.Sink l.out) tt (2 ^ 64 - 8) l.invariant.goes (omega (arith, whole, c.requires.room)) in
     let sizes = ap (λ os. length (concat os)) one.split ∙ length-append octets later in
     omega (arith, left, sizes)
 
@@ -85,8 +89,9 @@ returns-in_err-send_part-clause-goes g c =
     let later = concat (octets_for c.args.width f (drop (i + 1) start) c.part_of.result.1.now) in
     let all = concat (octets_planned c.args.width f c.args.objects.now) in
     let whole : l.invariant.done ++ (octets ++ later) ≡ all = ap (λ os. l.invariant.done ++ concat os) (sym one.split) ∙ l.invariant.split in
-    let stops = Stops-front octets later l.pending _ _ _ _ _ c.in_err-send_part.ensures.goes.stopped in
-    rw (p.1, p.2) (Goes-err all c.args.pending.now _ _ _ _ _ _ (Stops-next l.invariant.done (octets ++ later) all c.args.pending.now l.pending _ _ _ _ _ _ _ whole l.invariant.gathers stops))
+    let q = state_of g.W.Sink l.out in
+    let r = state_of g.W.Sink c.send_part.new.out in
+    rw (p.1, p.2) (Goes_rest l.invariant.done (octets ++ later) all (state_of g.W.Sink c.args.out.now) q r tt _ whole l.invariant.goes (Goes_stop octets later q r _ c.in_err-send_part.ensures.goes))
 
 pub overflow_add-place : goal.overflow_add-place
 overflow_add-place g c =
@@ -129,13 +134,12 @@ loop-original-preserved g c =
       room = omega (arith, c.push_reserved.ensures.len, c.push_reserved.ensures.capacity, l.invariant.room, below, length-drop i start, length-drop (i + 1) start);
       done = l.invariant.done ++ octets;
       split = split-next l.invariant.done octets (concat all) _ later one.split l.invariant.split;
-      gathers = Gathers-append l.invariant.done octets c.args.pending.now l.pending c.send_part.new.pending _ _ _ _ _ _ l.invariant.gathers c.in_ok-send_part.ensures.goes.done;
-      same = c.in_ok-send_part.ensures.same ∙ l.invariant.same;
+      goes = Goes_then l.invariant.done octets (state_of g.W.Sink c.args.out.now) (state_of g.W.Sink l.out) (state_of g.W.Sink c.send_part.new.out) tt _ l.invariant.goes c.in_ok-send_part.ensures.goes;
       allowed = λ most allows. (let here = rw one.split at (l.invariant.allowed most allows) in record { least = here.least; each = here.each.1 });
       short = λ most allows before. (
           let here = rw one.split at (l.invariant.allowed most allows) in
           let now = l.invariant.short most allows before in
-          let sent = c.in_ok-send_part.ensures.pieces c.part_length-size.ensures most (record { least = here.least; each = (here.each.0, tt) }) (omega arith) now in
+          let sent = c.in_ok-send_part.ensures.pieces most (record { least = here.least; each = (here.each.0, tt) }) (omega arith) now in
           record { waits = omega (arith, sent.waits); pieces = sent.pieces });
     }
 
@@ -146,10 +150,8 @@ returns-clause-goes g c =
     let past : length c.args.objects.now.originals.items ≤ l.original-index = search rules in
     let none = none-left c.args.width (octets_of c.args.file.now) c.args.objects.now.originals.items l.original-index l.numbers.now past in
     let whole = split-end l.invariant.done all _ none l.invariant.split in
-    record {
-      done = Gathers-same l.invariant.done all c.args.pending.now l.pending _ _ _ _ whole l.invariant.gathers;
-      stopped = tt;
-    }
+    let goes = Goes_same l.invariant.done all (state_of g.W.Sink c.args.out.now) (state_of g.W.Sink l.out) _ whole l.invariant.goes in
+    record { stays = goes.stays; done = goes.done; stopped = tt }
 
 pub returns-clause-places : goal.returns-clause-places
 returns-clause-places g c =
@@ -173,7 +175,7 @@ returns-in_err-send_part-clause-pieces g c = λ most allows fits before.
     let one = step c.args.width f start i original l.numbers.now c.part_of.result.1.now (octets_in_part c.args.width part) below is (c.part_of.ensures.part c.args.width) c.part_of.ensures.behind l.invariant.sound l.invariant.spellable in
     let here = rw one.split at (l.invariant.allowed most allows) in
     let now = l.invariant.short most allows before in
-    let sent = c.in_err-send_part.ensures.pieces c.part_length-size.ensures most (record { least = here.least; each = (here.each.0, tt) }) (omega arith) now in
+    let sent = c.in_err-send_part.ensures.pieces most (record { least = here.least; each = (here.each.0, tt) }) (omega arith) now in
     rw (p.1, p.2) (record { waits = tt; pieces = sent.pieces })
 
 pub returns-clause-pieces : goal.returns-clause-pieces
@@ -183,3 +185,23 @@ returns-clause-pieces g c = λ most allows fits before.
 
 pub returns-in_default-clause-pieces : goal.returns-in_default-clause-pieces
 returns-in_default-clause-pieces g c = λ most allows fits before. record { waits = tt; pieces = before.pieces }
+
+pub loop-original-init : goal.loop-original-init
+loop-original-init g c =
+    let f = octets_of c.args.file.now in
+    let start = c.args.objects.now.originals.items in
+    let is = c.as_slice-numbers.ensures.value in
+    let left = ap (octets_for c.args.width f start) is in
+    let p = state_of g.W.Sink c.args.out.now in
+    record {
+      sound = subst (λ (rs : List ℕ). AreSound f start rs) (sym is) c.requires.sound;
+      spellable = subst (λ (rs : List ℕ). CanSpellAll c.args.width (helds_of f start rs)) (sym is) c.requires.spellable;
+      measured = ap (λ os. 8 + length (concat os)) left;
+      places = ap (λ ps. ps ++ starts 8 (octets_for c.args.width f start c.as_slice-numbers.result.now)) c.in-Ok.ensures.items ∙ ap (starts 8) left;
+      room = first_of (search rules, omega (arith, c.in-Ok.ensures.len, c.in-Ok.ensures.capacity));
+      done = [];
+      split = ap concat left;
+      goes = Goes_put [] p.waiting p (sym (append-nil p.waiting));
+      allowed = λ most allows. subst (λ (os : List (List ℕ)). Allows most os) (sym left) allows;
+      short = λ most allows before. before;
+    }

@@ -1,11 +1,11 @@
-use Rattle.std.proofs.Common.{◌≡◌, ℕ, ◌+◌, ◌≤◌, List, ◌++◌, length, drop, vec_len, vec_capacity}
+use Rattle.std.proofs.Common.{◌≡◌, ℕ, ◌+◌, ◌≤◌, List, ◌++◌, length, drop, vec_len, vec_capacity, Ok}
 use Rattle.std.specs.List.{concat}
 use Rattle.plist_object.specs.Views.{octets_of}
 use Rattle.plist_object.specs.Files.{starts}
 use Rattle.plist_engine.specs.Pieces.{CanSpellAll}
 use Rattle.plist_engine.specs.Parts.{AreSound, helds_of, octets_for, octets_planned}
 use Rattle.plist_engine.specs.Sending.{Allows}
-use Rattle.plist_engine.specs.Pending.{Gathers, IsShort}
+use Rattle.plist_engine.specs.Output.{Goes, AreWithin, state_of}
 use Rattle.plist_engine.proofs.sending.send_objects.Given as goal
 
 -- those that are done and those that are left are all
@@ -22,8 +22,7 @@ invariant-loop-original g l =
       room : vec_len l.places + length left ≤ vec_capacity l.places;
       done : List ℕ;
       split : done ++ concat (octets_for l.width f left l.numbers) ≡ concat all;
-      gathers : Gathers done l.fn.pending l.pending (g.W.Sink.taken l.fn.out) (g.W.Sink.taken l.out) (g.W.Sink.failures l.fn.out) (g.W.Sink.failures l.out);
-      same : g.W.Sink.device l.out ≡ g.W.Sink.device l.fn.out;
+      goes : Goes {T = Unit {0}} done (state_of g.W.Sink l.fn.out) (state_of g.W.Sink l.out) (Ok tt);
       allowed : (most : ℕ) → Allows most all → Allows most (octets_for l.width f left l.numbers);
-      short : (most : ℕ) → Allows most all → IsShort most l.fn.pending (g.W.Sink.longest l.fn.out) → IsShort most l.pending (g.W.Sink.longest l.out);
+      short : (most : ℕ) → Allows most all → AreWithin most (state_of g.W.Sink l.fn.out) → AreWithin most (state_of g.W.Sink l.out);
     }

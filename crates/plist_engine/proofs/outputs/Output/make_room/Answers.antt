@@ -1,6 +1,6 @@
 use Rattle.std.proofs.Common.{length, ap, arith}
 use Rattle.std.proofs.lemmas.Result.{on_ok_weaker}
-use Rattle.plist_engine.proofs.pending.make_room.Goals as goal
+use Rattle.plist_engine.proofs.outputs.Output.make_room.Goals as goal
 
 pub returns-clause-pieces : goal.returns-clause-pieces
 returns-clause-pieces g c = λ most allows fits before.

@@ -1,0 +1,181 @@
+-- Calls that write, one after another.
+use Rattle.std.proofs.Common.{◌≡◌, ℕ, ◌+◌, ◌<◌, ◌≤◌, List, [], ◌++◌, length, take, Option, Result, Ok, Err, refl, sym, ap, subst, ◌∙◌, arith, length-append, append_assoc}
+use Rattle.std.proofs.KnownBytes.{Appends-nil, Appends-trans}
+use Rattle.std.proofs.Math.Seq.{take-append-add}
+use Rattle.std.proofs.lemmas.List.{append-nil, take-append-le}
+use Rattle.std.specs.Io.KnownBytes.{Appends}
+use Rattle.plist_devices.specs.Count.{one_more}
+use Rattle.plist_engine.specs.declared.faults.WriteFault.{WriteFault}
+use Rattle.plist_engine.specs.declared.faults.WriteFault.TheVariants.{OutOfMemory, WriteFailed}
+use Rattle.plist_engine.specs.Sending.{sent_of, Allows, IsBlamed, IsShort, IsWritten}
+use Rattle.plist_engine.specs.Output.{State, Stays, Gathers, Stops, Goes, AreWithin, KeepsShort}
+
+-- a front is no longer than the whole
+pub IsShort-within : (e : WriteFault) (out all : ℕ) → IsShort e out all → out ≤ all
+IsShort-within (WriteFailed sent) out all h = omega arith
+IsShort-within (OutOfMemory sent) out all h = h
+
+-- with `first` more before the front, and with `last` more after the whole
+IsShort-after : (e : WriteFault) (first out all : ℕ) → IsShort e out all → IsShort e (first + out) (first + all)
+IsShort-after (WriteFailed sent) first out all h = omega arith
+IsShort-after (OutOfMemory sent) first out all h = omega arith
+
+IsShort-before : (e : WriteFault) (out all last : ℕ) → IsShort e out all → IsShort e out (all + last)
+IsShort-before (WriteFailed sent) out all last h = omega arith
+IsShort-before (OutOfMemory sent) out all last h = omega arith
+
+pub Stays-trans : (p q r : State) → Stays p q → Stays q r → Stays p r
+Stays-trans p q r first second = record { sink = second.sink ∙ first.sink; device = second.device ∙ first.device }
+
+joined : (w a b g v h x : List ℕ) → w ++ a ≡ g ++ v → v ++ b ≡ h ++ x → w ++ (a ++ b) ≡ (g ++ h) ++ x
+joined w a b g v h x first second =
+    sym (append_assoc w a b) ∙ ap (λ l. l ++ b) first ∙ append_assoc g v b ∙ ap (λ l. g ++ l) second ∙ sym (append_assoc g h x)
+
+Gathers-then : (a b : List ℕ) (p q r : State) → Gathers a p q → Gathers b q r → Gathers (a ++ b) p r
+Gathers-then a b p q r first second = record {
+  gone = first.gone ++ second.gone;
+  whole = joined p.waiting a b first.gone q.waiting second.gone r.waiting first.whole second.whole;
+  taken = Appends-trans p.taken q.taken r.taken first.gone second.gone first.taken second.taken;
+  sent = let n = length-append first.gone second.gone in let x = first.sent in let y = second.sent in omega arith;
+  failures = second.failures ∙ first.failures;
+}
+
+blamed-before : (fault : WriteFault) (x y z : ℕ) → y ≡ x → IsBlamed fault y z → IsBlamed fault x z
+blamed-before (WriteFailed sent) x y z same blamed = blamed ∙ ap one_more same
+blamed-before (OutOfMemory sent) x y z same blamed = blamed ∙ same
+
+Stops-then : (a b : List ℕ) (p q r : State) (fault : WriteFault) → Gathers a p q → Stops b q r fault → Stops (a ++ b) p r fault
+Stops-then a b p q r fault first second =
+    let front : p.waiting ++ (a ++ b) ≡ first.gone ++ (q.waiting ++ b) = sym (append_assoc p.waiting a b) ∙ ap (λ l. l ++ b) first.whole ∙ append_assoc first.gone q.waiting b in
+    let cut : take (length first.gone + second.more) (p.waiting ++ (a ++ b)) ≡ first.gone ++ take second.more (q.waiting ++ b) = ap (take (length first.gone + second.more)) front ∙ take-append-add first.gone (q.waiting ++ b) second.more in
+    let size : length first.gone + length (q.waiting ++ b) ≡ length (p.waiting ++ (a ++ b)) = (let n = ap length front ∙ length-append first.gone (q.waiting ++ b) in omega arith) in
+    record {
+      more = length first.gone + second.more;
+      sent = let x = first.sent in let y = second.sent in omega arith;
+      within = subst (λ (n : ℕ). IsShort fault (length first.gone + second.more) n) size (IsShort-after fault (length first.gone) second.more (length (q.waiting ++ b)) second.within);
+      taken = subst (λ (l : List ℕ). Appends p.taken r.taken l) (sym cut) (Appends-trans p.taken q.taken r.taken first.gone _ first.taken second.taken);
+      blamed = blamed-before fault p.failures q.failures r.failures first.failures second.blamed;
+    }
+
+Stops_front : (a b : List ℕ) (p q : State) (fault : WriteFault) → Stops a p q fault → Stops (a ++ b) p q fault
+Stops_front a b p q fault stops =
+    let whole = append_assoc p.waiting a b in
+    let size : length (p.waiting ++ a) + length b ≡ length (p.waiting ++ (a ++ b)) = (let n = ap length (sym whole) ∙ length-append (p.waiting ++ a) b in omega arith) in
+    record {
+      more = stops.more;
+      sent = stops.sent;
+      within = subst (λ (n : ℕ). IsShort fault stops.more n) size (IsShort-before fault stops.more (length (p.waiting ++ a)) (length b) stops.within);
+      taken = subst (λ (l : List ℕ). Appends p.taken q.taken l) (sym (ap (take stops.more) (sym whole) ∙ take-append-le stops.more (p.waiting ++ a) b (IsShort-within fault stops.more (length (p.waiting ++ a)) stops.within))) stops.taken;
+      blamed = stops.blamed;
+    }
+
+-- what was done, and then what goes
+pub Goes_then : {T U : Type 0} (a b : List ℕ) (p q r : State) (value : T) (result : Result U WriteFault) → Goes a p q (Ok value) → Goes b q r result → Goes (a ++ b) p r result
+Goes_then a b p q r value (Ok x) first goes =
+    record { stays = Stays-trans p q r first.stays goes.stays; done = Gathers-then a b p q r first.done goes.done; stopped = tt }
+Goes_then a b p q r value (Err fault) first goes = record {
+  stays = Stays-trans p q r first.stays goes.stays;
+  done = tt;
+  stopped = Stops-then a b p q r fault first.done goes.stopped;
+}
+
+-- what was refused at its front
+pub Goes_stop : {T U : Type 0} (a b : List ℕ) (p r : State) (fault : WriteFault) → Goes {T = T} a p r (Err fault) → Goes {T = U} (a ++ b) p r (Err fault)
+Goes_stop a b p r fault goes = record { stays = goes.stays; done = tt; stopped = Stops_front a b p r fault goes.stopped }
+
+pub Goes_same : {T : Type 0} (a b : List ℕ) (p r : State) (result : Result T WriteFault) → a ≡ b → Goes a p r result → Goes b p r result
+Goes_same a b p r result same goes = subst (λ (l : List ℕ). Goes l p r result) same goes
+
+-- what was done, and then what goes without more octets
+pub Goes_last : {T U : Type 0} (a : List ℕ) (p q r : State) (value : T) (result : Result U WriteFault) → Goes a p q (Ok value) → Goes [] q r result → Goes a p r result
+Goes_last a p q r value result first goes =
+    Goes_same (a ++ []) a p r result (append-nil a) (Goes_then a [] p q r value result first goes)
+
+-- some of the octets were done, and then the rest
+pub Goes_rest : {T U : Type 0} (done rest all : List ℕ) (p q r : State) (value : T) (result : Result U WriteFault) → done ++ rest ≡ all → Goes done p q (Ok value) → Goes rest q r result → Goes all p r result
+Goes_rest done rest all p q r value result split first goes =
+    Goes_same (done ++ rest) all p r result split (Goes_then done rest p q r value result first goes)
+
+-- they only wait
+pub Goes_put : (octets items : List ℕ) (p : State) → items ≡ p.waiting ++ octets → Goes {T = Unit {0}} octets p (record p { waiting = items }) (Ok tt)
+Goes_put octets items p put = record {
+  stays = record { sink = refl; device = refl };
+  done = record { gone = []; whole = sym put; taken = Appends-nil p.taken; sent = omega arith; failures = refl };
+  stopped = tt;
+}
+
+-- there is no memory for them
+pub Goes_out : {T : Type 0} (octets items : List ℕ) (p : State) → Goes {T = T} octets p (record p { waiting = items }) (Err (OutOfMemory p.sent))
+Goes_out octets items p = record {
+  stays = record { sink = refl; device = refl };
+  done = tt;
+  stopped = record { more = 0; sent = omega arith; within = omega arith; taken = Appends-nil p.taken; blamed = refl };
+}
+
+-- what is left after what was done fits where all did
+pub room_then : {T : Type 0} (a b : List ℕ) (p q : State) (value : T) (bound : ℕ) → Goes a p q (Ok value) → p.sent + (length p.waiting + length (a ++ b)) < bound → q.sent + (length q.waiting + length b) < bound
+room_then a b p q value bound first room =
+    let n = ap length first.done.whole ∙ length-append first.done.gone q.waiting in
+    let m = length-append p.waiting a in
+    let l = length-append a b in
+    let s = first.done.sent in
+    omega (arith, n, m, l, s, room)
+
+-- how many octets were written
+pub count_then : {T : Type 0} (a : List ℕ) (p q : State) (value : T) → Goes a p q (Ok value) → q.sent + length q.waiting ≡ p.sent + (length p.waiting + length a)
+count_then a p q value first =
+    let n = ap length first.done.whole ∙ length-append first.done.gone q.waiting in
+    let m = length-append p.waiting a in
+    let s = first.done.sent in
+    omega (arith, n, m, s)
+
+-- pieces of 4,096 octets are allowed, whatever objects are
+pub allows_none : (most : ℕ) (objects : List (List ℕ)) → Allows most objects → Allows most []
+allows_none most objects allows = record { least = allows.least; each = tt }
+
+pub put-length : (before after octets : List ℕ) → after ≡ before ++ octets → length after ≡ length before + length octets
+put-length before after octets is = ap length is ∙ length-append before octets
+
+-- none is too long, and then none
+pub short_then : {T U : Type 0} (objects : List (List ℕ)) (more : ℕ) (p q r : State) (value : T) (result : Result U WriteFault) → KeepsShort [] 0 p q (Ok value) → KeepsShort objects more q r result → KeepsShort objects more p r result
+short_then objects more p q r value result first next most allows fits before =
+    let kept = first most (allows_none most objects allows) (omega arith) before in
+    next most allows fits (record { waits = omega (arith, kept.waits); pieces = kept.pieces })
+
+-- none is too long where it is refused
+pub short_stop : {T U : Type 0} (objects : List (List ℕ)) (more less : ℕ) (p q r : State) (first : Result T WriteFault) (fault : WriteFault) → less ≤ 4096 → r.longest ≡ q.longest → KeepsShort [] less p q first → KeepsShort {T = U} objects more p r (Err fault)
+short_stop objects more less p q r first fault small same keeps most allows fits before =
+    let kept = keeps most (allows_none most objects allows) (omega (arith, small, allows.least)) before in
+    record { waits = tt; pieces = omega (arith, kept.pieces, same) }
+
+-- none is too long if there was room for the octets
+pub short_put : {T : Type 0} (more : ℕ) (octets items : List ℕ) (p q : State) (value : T) → more ≤ 4096 → length octets ≤ more → items ≡ q.waiting ++ octets → KeepsShort [] more p q (Ok value) → KeepsShort {T = Unit {0}} [] 0 p (record q { waiting = items }) (Ok tt)
+short_put more octets items p q value small fit put keeps most allows fits before =
+    let kept = keeps most allows (omega (arith, small, allows.least)) before in
+    record { waits = omega (arith, kept.waits, fit, put-length q.waiting items octets put); pieces = kept.pieces }
+
+-- a file that was written from its first octet on, or refused
+pub is_written : {T : Type 0} (file : List ℕ) (p r : State) (value : T) → p.waiting ≡ [] → p.sent ≡ 0 → r.waiting ≡ [] → Goes file p r (Ok value) → IsWritten file p.taken r.taken p.failures r.failures (Ok r.sent)
+is_written file p r value none begins none_left goes =
+    let whole : file ≡ goes.done.gone = ap (λ l. l ++ file) (sym none) ∙ goes.done.whole ∙ ap (λ l. goes.done.gone ++ l) none_left ∙ append-nil goes.done.gone in
+    record {
+      count = let s = goes.done.sent in let n = ap length whole in omega (arith, s, n, begins);
+      whole = (subst (λ (l : List ℕ). Appends p.taken r.taken l) (sym whole) goes.done.taken, goes.done.failures);
+      within = tt;
+      front = tt;
+    }
+
+pub is_refused : {T : Type 0} (file : List ℕ) (p r : State) (fault : WriteFault) → p.waiting ≡ [] → p.sent ≡ 0 → Goes {T = T} file p r (Err fault) → IsWritten file p.taken r.taken p.failures r.failures (Err fault)
+is_refused file p r fault none begins goes =
+    let stops = goes.stopped in
+    let all : p.waiting ++ file ≡ file = ap (λ l. l ++ file) none in
+    let sent : stops.more ≡ sent_of fault = (let s = stops.sent in omega (arith, s, begins)) in
+    record {
+      count = tt;
+      whole = tt;
+      within = subst (λ (n : ℕ). IsShort fault n (length file)) sent (subst (λ (l : List ℕ). IsShort fault stops.more (length l)) all stops.within);
+      front = (
+        subst (λ (n : ℕ). Appends p.taken r.taken (take n file)) sent (subst (λ (l : List ℕ). Appends p.taken r.taken (take stops.more l)) all stops.taken),
+        stops.blamed,
+      );
+    }

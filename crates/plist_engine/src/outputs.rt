@@ -1,0 +1,103 @@
+//! A buffered writer over a sink.
+ghost use Rattle.std.specs.Prelude.{◌≡◌, ◌∷◌, [], IfErr, OnOk};
+ghost use Rattle.plist_engine.specs.declared.faults.WriteFault.TheVariants.{WriteFailed};
+ghost use Rattle.plist_engine.specs.Sending.{sent_of};
+ghost use Rattle.plist_engine.specs.Output.{CanTake, Goes, KeepsShort, state_of};
+
+use crate::{Sink, WriteFault};
+use plist_devices::put_all;
+
+/// The most bytes that a piece has, if no object has more.
+pub(crate) const PIECE: u64 = 4096;
+
+/// A buffered writer over a sink. `sent` counts the bytes that the sink took.
+#[derive(Drop)]
+pub struct Output<'a, W> {
+    pub sink: &'a mut W,
+    pub waiting: &'a mut Vec<u8>,
+    pub sent: u64,
+}
+
+impl<'a, W: Sink> Output<'a, W> {
+    /// Sends all that waits.
+    ///
+    /// # Errors
+    ///
+    /// [`WriteFault::WriteFailed`] (51) if the sink fails.
+    pub fn flush(&mut self) -> Result<(), WriteFault>
+        requires { CanTake [] (state_of W.Sink self.old) }
+        ensures goes { Goes [] (state_of W.Sink self.old) (state_of W.Sink self.new) result }
+        ensures none { OnOk result (self.new.waiting.now.items ≡ []) }
+        ensures cause { IfErr result (λ fault. fault ≡ WriteFailed (sent_of fault)) }
+        ensures pieces { KeepsShort [] 0
+            (state_of W.Sink self.old) (state_of W.Sink self.new) result }
+    {
+        match put_all(self.waiting, self.sink) {
+            Ok(()) => {
+                self.sent += self.waiting.len() as u64;
+                self.waiting.clear();
+                Ok(())
+            }
+            Err(taken) => Err(WriteFault::WriteFailed {
+                sent: self.sent + taken as u64,
+            }),
+        }
+    }
+
+    /// Sends all that waits, and then these octets without a copy.
+    ///
+    /// # Errors
+    ///
+    /// Fails like [`flush`](Output::flush).
+    pub(crate) fn send_long(&mut self, octets: &[u8]) -> Result<(), WriteFault>
+        requires { CanTake octets.now (state_of W.Sink self.old) }
+        ensures goes { Goes octets.now
+            (state_of W.Sink self.old) (state_of W.Sink self.new) result }
+        ensures pieces { KeepsShort (octets.now ∷ []) 0
+            (state_of W.Sink self.old) (state_of W.Sink self.new) result }
+    {
+        self.flush()?;
+        self.send(octets)
+    }
+
+    // Sends these octets. None wait.
+    fn send(&mut self, octets: &[u8]) -> Result<(), WriteFault>
+        requires none { self.old.waiting.now.items ≡ [] }
+        requires room { CanTake octets.now (state_of W.Sink self.old) }
+        ensures goes { Goes octets.now
+            (state_of W.Sink self.old) (state_of W.Sink self.new) result }
+        ensures pieces { KeepsShort (octets.now ∷ []) 0
+            (state_of W.Sink self.old) (state_of W.Sink self.new) result }
+    {
+        match put_all(octets, self.sink) {
+            Ok(()) => {
+                self.sent += octets.len() as u64;
+                Ok(())
+            }
+            Err(more) => Err(WriteFault::WriteFailed {
+                sent: self.sent + more as u64,
+            }),
+        }
+    }
+
+    /// Sends what waits, if `more` octets would make it too long for one piece.
+    ///
+    /// # Errors
+    ///
+    /// Fails like [`flush`](Output::flush).
+    pub(crate) fn make_room(&mut self, more: u64) -> Result<(), WriteFault>
+        requires { CanTake [] (state_of W.Sink self.old) }
+        ensures goes { Goes [] (state_of W.Sink self.old) (state_of W.Sink self.new) result }
+        ensures pieces { KeepsShort [] more
+            (state_of W.Sink self.old) (state_of W.Sink self.new) result }
+    {
+        let held = self.waiting.len() as u64;
+        if held == 0 {
+            return Ok(());
+        }
+        if held <= PIECE && more <= PIECE - held {
+            return Ok(());
+        }
+        self.flush()
+    }
+}
