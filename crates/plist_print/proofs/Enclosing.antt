@@ -1,5 +1,5 @@
 -- Containers that are printed: their brackets and the lines between them.
-use Rattle.std.proofs.Common.{◌≡◌, ℕ, suc, ◌+◌, ◌<◌, List, [], ◌∷◌, ◌++◌, length, Option, Result, Err, refl, ap, subst, ◌∙◌, arith, add-one}
+use Rattle.std.proofs.Common.{◌≡◌, ℕ, suc, ◌+◌, ◌<◌, List, [], ◌∷◌, ◌++◌, length, Result, Ok, Err, refl, ap, subst, ◌∙◌, arith, add-one}
 use Rattle.std.specs.Prelude.{codes}
 use Rattle.std.specs.List.{zip}
 use Rattle.std.specs.List.Sorted.{IsPermutation}
@@ -9,23 +9,11 @@ use Rattle.plist_object.specs.Places.{Holds}
 use Rattle.plist_object.specs.Spelled.{Spells, SpellItems, SpellPairs}
 use Rattle.plist_object.proofs.Uniqueness.{same_held}
 use Rattle.plist_engine.specs.declared.faults.WriteFault.{WriteFault}
-use Rattle.plist_engine.specs.declared.pending.Pending.{Pending}
-use Rattle.plist_engine.specs.Pending.{Gathers, Stops, Goes}
-use Rattle.plist_engine.proofs.Gathering.{Gathers-same, Gathers-append}
+use Rattle.plist_engine.specs.Output.{State, Goes}
+use Rattle.plist_engine.proofs.Going.{Goes_then, Goes_stop, Goes_same}
 use Rattle.plist_engine.specs.Spelling.{SpellTable}
 use Rattle.plist_engine.proofs.Flat.{length-rows, length-keys}
 use Rattle.plist_print.specs.Printed.{indent, printed_scalar, printed_at, printed_items, printed_pairs}
-use Rattle.plist_print.proofs.Steps.{Goes-then, Goes-not}
-
--- the same octets went
-pub Goes-same : {T : Type 0} (xs ys : List ℕ) (p r : Pending) (t v : Option (List ℕ)) (x z : ℕ) (result : Result T WriteFault) → xs ≡ ys → Goes xs p r t v x z result → Goes ys p r t v x z result
-Goes-same xs ys p r t v x z result same goes =
-    subst (λ (os : List ℕ). Goes os p r t v x z result) same goes
-
--- the next octets went
-pub next_gathers : (before one all : List ℕ) (p q r : Pending) (t u v : Option (List ℕ)) (x y z : ℕ) → before ++ one ≡ all → Gathers before p q t u x y → Gathers one q r u v y z → Gathers all p r t v x z
-next_gathers before one all p q r t u v x y z is gathers next =
-    Gathers-same (before ++ one) all p r t v x z is (Gathers-append before one p q r t u v x y z gathers next)
 
 -- an opening bracket, lines, and the closing bracket on a line of its own
 abbrev pub bracketed : ℕ → ℕ → ℕ → List ℕ → List ℕ
@@ -33,18 +21,18 @@ bracketed level left right lines = (left ∷ 10 ∷ []) ++ (lines ++ (indent lev
 
 module _ (level left right : ℕ) (lines all : List ℕ) (is : bracketed level left right lines ≡ all) where
   -- it was refused at the opening bracket
-  pub brackets_unopened : {T : Type 0} (p r : Pending) (t u : Option (List ℕ)) (x y : ℕ) (fault : WriteFault) → Stops (left ∷ 10 ∷ []) p t u x y fault → Goes {T = T} all p r t u x y (Err fault)
-  brackets_unopened p r t u x y fault stops =
-      Goes-same (bracketed level left right lines) all p r t u x y (Err fault) is (Goes-not (left ∷ 10 ∷ []) (lines ++ (indent level ++ (right ∷ 10 ∷ []))) p r t u x y fault stops)
+  pub brackets_unopened : {T U : Type 0} (p r : State) (fault : WriteFault) → Goes {T = T} (left ∷ 10 ∷ []) p r (Err fault) → Goes {T = U} all p r (Err fault)
+  brackets_unopened {T} {U} p r fault goes =
+      Goes_same (bracketed level left right lines) all p r (Err fault) is (Goes_stop {T = T} {U = U} (left ∷ 10 ∷ []) (lines ++ (indent level ++ (right ∷ 10 ∷ []))) p r fault goes)
 
   -- it was refused at the lines
-  pub brackets_unfilled : {T : Type 0} (p q r : Pending) (t u v : Option (List ℕ)) (x y z : ℕ) (fault : WriteFault) → Gathers (left ∷ 10 ∷ []) p q t u x y → Stops lines q u v y z fault → Goes {T = T} all p r t v x z (Err fault)
-  brackets_unfilled p q r t u v x y z fault opened stops =
-      Goes-same (bracketed level left right lines) all p r t v x z (Err fault) is (Goes-then (left ∷ 10 ∷ []) (lines ++ (indent level ++ (right ∷ 10 ∷ []))) p q r t u v x y z (Err fault) opened (Goes-not lines (indent level ++ (right ∷ 10 ∷ [])) q r u v y z fault stops))
+  pub brackets_unfilled : {T U V : Type 0} (p q r : State) (value : T) (fault : WriteFault) → Goes (left ∷ 10 ∷ []) p q (Ok value) → Goes {T = U} lines q r (Err fault) → Goes {T = V} all p r (Err fault)
+  brackets_unfilled {T} {U} {V} p q r value fault opened goes =
+      Goes_same (bracketed level left right lines) all p r (Err fault) is (Goes_then (left ∷ 10 ∷ []) (lines ++ (indent level ++ (right ∷ 10 ∷ []))) p q r value (Err fault) opened (Goes_stop {T = U} {U = V} lines (indent level ++ (right ∷ 10 ∷ [])) q r fault goes))
 
-  pub brackets_closed : {T : Type 0} (p q r s : Pending) (t u v w : Option (List ℕ)) (x y z n : ℕ) (result : Result T WriteFault) → Gathers (left ∷ 10 ∷ []) p q t u x y → Gathers lines q r u v y z → Goes (indent level ++ (right ∷ 10 ∷ [])) r s v w z n result → Goes all p s t w x n result
-  brackets_closed p q r s t u v w x y z n result opened filled goes =
-      Goes-same (bracketed level left right lines) all p s t w x n result is (Goes-then (left ∷ 10 ∷ []) (lines ++ (indent level ++ (right ∷ 10 ∷ []))) p q s t u w x y n result opened (Goes-then lines (indent level ++ (right ∷ 10 ∷ [])) q r s u v w y z n result filled goes))
+  pub brackets_closed : {T U V : Type 0} (p q r s : State) (value : T) (done : U) (result : Result V WriteFault) → Goes (left ∷ 10 ∷ []) p q (Ok value) → Goes lines q r (Ok done) → Goes (indent level ++ (right ∷ 10 ∷ [])) r s result → Goes all p s result
+  brackets_closed p q r s value done result opened filled goes =
+      Goes_same (bracketed level left right lines) all p s result is (Goes_then (left ∷ 10 ∷ []) (lines ++ (indent level ++ (right ∷ 10 ∷ []))) p q s value result opened (Goes_then lines (indent level ++ (right ∷ 10 ∷ [])) q r s done result filled goes))
 
 -- a list that is empty, and one that is not
 pub list_empty : (f refs : List ℕ) (level : ℕ) (vs : Items) → length refs ≡ 0 → SpellItems f refs vs → 91 ∷ 93 ∷ 10 ∷ [] ≡ printed_at level (list vs)

@@ -2,7 +2,7 @@
 ghost use Rattle.std.specs.Prelude.{◌≡◌, ◌∷◌, ◌++◌, [], codes, OnOk};
 ghost use Rattle.plist_value.specs.Scalars.{content_of};
 ghost use Rattle.plist_value.specs.Texts.{units_of};
-ghost use Rattle.plist_engine.specs.Pending.{Goes};
+ghost use Rattle.plist_engine.specs.Output.{Goes, state_of};
 ghost use Rattle.plist_print.specs.Units.{printed_text};
 ghost use Rattle.plist_print.specs.Printed.{indent, printed_scalar};
 ghost use Rattle.plist_print.specs.Printing.{item_head, pair_head};
@@ -10,43 +10,31 @@ ghost use Rattle.plist_print.specs.Printing.{item_head, pair_head};
 use crate::lines::{SHORT, is_long, print_scalar, print_text, put, put_scalar, settle};
 use crate::texts::put_text;
 use itoa::Buffer;
-use plist_engine::{Pending, Sink, WriteFault};
+use plist_engine::{Output, Sink, WriteFault};
 use plist_value::{ScalarRef, TextRef};
 use std::alloc::AllocError;
 
 /// Sends the line of a scalar, or has it wait.
-pub(crate) fn print_line<W: Sink>(
-    scalar: &ScalarRef,
-    pending: &mut Pending,
-    out: &mut W,
-) -> Result<(), WriteFault>
+pub(crate) fn print_line<W: Sink>(scalar: &ScalarRef, out: &mut Output<W>) -> Result<(), WriteFault>
     ensures goes { Goes (printed_scalar (content_of scalar.now) ++ codes "\n")
-        pending.old pending.new
-        (W.taken out.old) (W.taken out.new) (W.failures out.old) (W.failures out.new) result }
-    ensures same { W.device out.new ≡ W.device out.old }
+        (state_of W.Sink out.old) (state_of W.Sink out.new) result }
 {
     if is_long(scalar) {
-        return print_long_line(scalar, pending, out);
+        return print_long_line(scalar, out);
     }
-    let Ok(()) = put_line(&mut pending.octets, scalar) else {
-        return Err(WriteFault::OutOfMemory { sent: pending.sent });
+    let Ok(()) = put_line(out.waiting, scalar) else {
+        return Err(WriteFault::OutOfMemory { sent: out.sent });
     };
-    settle(pending, out)
+    settle(out)
 }
 
 // Prints a scalar that is too long for one piece, and the end of its line.
-fn print_long_line<W: Sink>(
-    scalar: &ScalarRef,
-    pending: &mut Pending,
-    out: &mut W,
-) -> Result<(), WriteFault>
+fn print_long_line<W: Sink>(scalar: &ScalarRef, out: &mut Output<W>) -> Result<(), WriteFault>
     ensures goes { Goes (printed_scalar (content_of scalar.now) ++ codes "\n")
-        pending.old pending.new
-        (W.taken out.old) (W.taken out.new) (W.failures out.old) (W.failures out.new) result }
-    ensures same { W.device out.new ≡ W.device out.old }
+        (state_of W.Sink out.old) (state_of W.Sink out.new) result }
 {
-    print_scalar(scalar, pending, out)?;
-    put(b"\n", pending, out)
+    print_scalar(scalar, out)?;
+    put(b"\n", out)
 }
 
 // The scalar, and the end of its line.
@@ -62,15 +50,13 @@ fn put_line(out: &mut Vec<u8>, scalar: &ScalarRef) -> Result<(), AllocError>
 pub(crate) fn begin_item<W: Sink>(
     level: u64,
     index: u64,
-    pending: &mut Pending,
-    out: &mut W,
+    out: &mut Output<W>,
 ) -> Result<(), WriteFault>
-    ensures goes { Goes (item_head level index) pending.old pending.new
-        (W.taken out.old) (W.taken out.new) (W.failures out.old) (W.failures out.new) result }
-    ensures same { W.device out.new ≡ W.device out.old }
+    ensures goes { Goes (item_head level index)
+        (state_of W.Sink out.old) (state_of W.Sink out.new) result }
 {
-    let Ok(()) = put_item_head(&mut pending.octets, level, index) else {
-        return Err(WriteFault::OutOfMemory { sent: pending.sent });
+    let Ok(()) = put_item_head(out.waiting, level, index) else {
+        return Err(WriteFault::OutOfMemory { sent: out.sent });
     };
     Ok(())
 }
@@ -79,18 +65,16 @@ pub(crate) fn begin_item<W: Sink>(
 pub(crate) fn begin_pair<W: Sink>(
     key: &TextRef,
     level: u64,
-    pending: &mut Pending,
-    out: &mut W,
+    out: &mut Output<W>,
 ) -> Result<(), WriteFault>
-    ensures goes { Goes (pair_head level (units_of key.now)) pending.old pending.new
-        (W.taken out.old) (W.taken out.new) (W.failures out.old) (W.failures out.new) result }
-    ensures same { W.device out.new ≡ W.device out.old }
+    ensures goes { Goes (pair_head level (units_of key.now))
+        (state_of W.Sink out.old) (state_of W.Sink out.new) result }
 {
     if key.len() > SHORT {
-        return begin_long_pair(key, level, pending, out);
+        return begin_long_pair(key, level, out);
     }
-    let Ok(()) = put_pair_head(&mut pending.octets, key, level) else {
-        return Err(WriteFault::OutOfMemory { sent: pending.sent });
+    let Ok(()) = put_pair_head(out.waiting, key, level) else {
+        return Err(WriteFault::OutOfMemory { sent: out.sent });
     };
     Ok(())
 }
@@ -99,15 +83,13 @@ pub(crate) fn begin_pair<W: Sink>(
 fn begin_long_pair<W: Sink>(
     key: &TextRef,
     level: u64,
-    pending: &mut Pending,
-    out: &mut W,
+    out: &mut Output<W>,
 ) -> Result<(), WriteFault>
-    ensures goes { Goes (pair_head level (units_of key.now)) pending.old pending.new
-        (W.taken out.old) (W.taken out.new) (W.failures out.old) (W.failures out.new) result }
-    ensures same { W.device out.new ≡ W.device out.old }
+    ensures goes { Goes (pair_head level (units_of key.now))
+        (state_of W.Sink out.old) (state_of W.Sink out.new) result }
 {
-    begin_line(level, pending, out)?;
-    print_key(key, pending, out)
+    begin_line(level, out)?;
+    print_key(key, out)
 }
 
 // The blanks, the key, and what stands behind it.
@@ -124,17 +106,15 @@ fn put_pair_head(out: &mut Vec<u8>, key: &TextRef, level: u64) -> Result<(), All
 pub(crate) fn end_lines<W: Sink>(
     level: u64,
     close: u8,
-    pending: &mut Pending,
-    out: &mut W,
+    out: &mut Output<W>,
 ) -> Result<(), WriteFault>
-    ensures goes { Goes (indent level ++ (close ∷ 10 ∷ [])) pending.old pending.new
-        (W.taken out.old) (W.taken out.new) (W.failures out.old) (W.failures out.new) result }
-    ensures same { W.device out.new ≡ W.device out.old }
+    ensures goes { Goes (indent level ++ (close ∷ 10 ∷ []))
+        (state_of W.Sink out.old) (state_of W.Sink out.new) result }
 {
-    let Ok(()) = put_end(&mut pending.octets, level, close) else {
-        return Err(WriteFault::OutOfMemory { sent: pending.sent });
+    let Ok(()) = put_end(out.waiting, level, close) else {
+        return Err(WriteFault::OutOfMemory { sent: out.sent });
     };
-    settle(pending, out)
+    settle(out)
 }
 
 // The blanks, and the closing bracket.
@@ -147,25 +127,23 @@ fn put_end(out: &mut Vec<u8>, level: u64, close: u8) -> Result<(), AllocError>
 }
 
 // Sends the blanks of a line, or has them wait.
-fn begin_line<W: Sink>(level: u64, pending: &mut Pending, out: &mut W) -> Result<(), WriteFault>
-    ensures goes { Goes (indent level) pending.old pending.new
-        (W.taken out.old) (W.taken out.new) (W.failures out.old) (W.failures out.new) result }
-    ensures same { W.device out.new ≡ W.device out.old }
+fn begin_line<W: Sink>(level: u64, out: &mut Output<W>) -> Result<(), WriteFault>
+    ensures goes { Goes (indent level)
+        (state_of W.Sink out.old) (state_of W.Sink out.new) result }
 {
-    let Ok(()) = put_indent(&mut pending.octets, level) else {
-        return Err(WriteFault::OutOfMemory { sent: pending.sent });
+    let Ok(()) = put_indent(out.waiting, level) else {
+        return Err(WriteFault::OutOfMemory { sent: out.sent });
     };
-    settle(pending, out)
+    settle(out)
 }
 
 // Sends a key and what stands between it and its value, or has them wait.
-fn print_key<W: Sink>(key: &TextRef, pending: &mut Pending, out: &mut W) -> Result<(), WriteFault>
-    ensures goes { Goes (printed_text (units_of key.now) ++ codes " => ") pending.old pending.new
-        (W.taken out.old) (W.taken out.new) (W.failures out.old) (W.failures out.new) result }
-    ensures same { W.device out.new ≡ W.device out.old }
+fn print_key<W: Sink>(key: &TextRef, out: &mut Output<W>) -> Result<(), WriteFault>
+    ensures goes { Goes (printed_text (units_of key.now) ++ codes " => ")
+        (state_of W.Sink out.old) (state_of W.Sink out.new) result }
 {
-    print_text(key, pending, out)?;
-    put(b" => ", pending, out)
+    print_text(key, out)?;
+    put(b" => ", out)
 }
 
 // The blanks, the number of the item, and what stands behind it.

@@ -1,9 +1,12 @@
 //! Scalars on their way to a sink.
-ghost use Rattle.std.specs.Prelude.{◌≡◌, ◌++◌, [], codes, flat_map, true, OnOk};
+ghost use Rattle.std.specs.Prelude.{◌≡◌, ◌+◌, ◌≤◌, ◌^◌, ◌++◌, [], codes, flat_map, length, true};
+ghost use Rattle.std.specs.Prelude.{IfErr, OnOk};
 ghost use Rattle.plist_value.specs.Plist.{bytes};
 ghost use Rattle.plist_value.specs.Scalars.{content_of};
 ghost use Rattle.plist_value.specs.Texts.{units_of};
-ghost use Rattle.plist_engine.specs.Pending.{Goes};
+ghost use Rattle.plist_engine.specs.declared.faults.WriteFault.TheVariants.{OutOfMemory};
+ghost use Rattle.plist_engine.specs.Output.{Goes, state_of};
+ghost use Rattle.plist_engine.specs.Sending.{sent_of};
 ghost use Rattle.plist_value.specs.Digits.{two_digits};
 ghost use Rattle.plist_print.specs.Units.{printed_data, printed_text, printed_units};
 ghost use Rattle.plist_print.specs.Printed.{printed_scalar};
@@ -13,7 +16,7 @@ use crate::dates::put_date;
 use crate::reals::{put_double, put_single};
 use crate::texts::{put_chunk, put_data, put_some, put_text};
 use itoa::Buffer;
-use plist_engine::{Pending, Sink, WriteFault, flush};
+use plist_engine::{Output, Sink, WriteFault};
 use plist_value::{ScalarRef, TextRef};
 use std::alloc::AllocError;
 
@@ -29,37 +32,27 @@ pub(crate) const SHORT: usize = 256;
 ///
 /// [`WriteFault::WriteFailed`] (51) where the sink fails, and [`WriteFault::OutOfMemory`] (60)
 /// where there is no memory for a piece, or where more than `u64::MAX` octets would go out.
-pub fn print_scalar<W: Sink>(
-    scalar: &ScalarRef,
-    pending: &mut Pending,
-    out: &mut W,
-) -> Result<(), WriteFault>
-    ensures goes { Goes (printed_scalar (content_of scalar.now)) pending.old pending.new
-        (W.taken out.old) (W.taken out.new) (W.failures out.old) (W.failures out.new) result }
-    ensures same { W.device out.new ≡ W.device out.old }
+pub fn print_scalar<W: Sink>(scalar: &ScalarRef, out: &mut Output<W>) -> Result<(), WriteFault>
+    ensures goes { Goes (printed_scalar (content_of scalar.now))
+        (state_of W.Sink out.old) (state_of W.Sink out.new) result }
 {
     match scalar {
-        ScalarRef::Text(text) => print_text(text, pending, out),
-        ScalarRef::Bytes(octets) => print_data(octets, pending, out),
-        _ => print_short(scalar, pending, out),
+        ScalarRef::Text(text) => print_text(text, out),
+        ScalarRef::Bytes(octets) => print_data(octets, out),
+        _ => print_short(scalar, out),
     }
 }
 
 // Sends a scalar that is neither a text nor data, or has it wait.
-fn print_short<W: Sink>(
-    scalar: &ScalarRef,
-    pending: &mut Pending,
-    out: &mut W,
-) -> Result<(), WriteFault>
+fn print_short<W: Sink>(scalar: &ScalarRef, out: &mut Output<W>) -> Result<(), WriteFault>
     requires short { is_short (content_of scalar.now) ≡ true }
-    ensures goes { Goes (printed_scalar (content_of scalar.now)) pending.old pending.new
-        (W.taken out.old) (W.taken out.new) (W.failures out.old) (W.failures out.new) result }
-    ensures same { W.device out.new ≡ W.device out.old }
+    ensures goes { Goes (printed_scalar (content_of scalar.now))
+        (state_of W.Sink out.old) (state_of W.Sink out.new) result }
 {
-    let Ok(()) = put_short(&mut pending.octets, scalar) else {
-        return Err(WriteFault::OutOfMemory { sent: pending.sent });
+    let Ok(()) = put_short(out.waiting, scalar) else {
+        return Err(WriteFault::OutOfMemory { sent: out.sent });
     };
-    settle(pending, out)
+    settle(out)
 }
 
 // A scalar that is neither a text nor data.
@@ -114,110 +107,89 @@ pub(crate) fn put_scalar(out: &mut Vec<u8>, scalar: &ScalarRef) -> Result<(), Al
 /// # Errors
 ///
 /// As of [`print_scalar`].
-pub fn print_text<W: Sink>(
-    text: &TextRef,
-    pending: &mut Pending,
-    out: &mut W,
-) -> Result<(), WriteFault>
-    ensures goes { Goes (printed_text (units_of text.now)) pending.old pending.new
-        (W.taken out.old) (W.taken out.new) (W.failures out.old) (W.failures out.new) result }
-    ensures same { W.device out.new ≡ W.device out.old }
+pub fn print_text<W: Sink>(text: &TextRef, out: &mut Output<W>) -> Result<(), WriteFault>
+    ensures goes { Goes (printed_text (units_of text.now))
+        (state_of W.Sink out.old) (state_of W.Sink out.new) result }
 {
-    put(b"\"", pending, out)?;
-    print_units(text, pending, out)
+    put(b"\"", out)?;
+    print_units(text, out)
 }
 
 // The units, and the quote behind them.
-fn print_units<W: Sink>(
-    text: &TextRef,
-    pending: &mut Pending,
-    out: &mut W,
-) -> Result<(), WriteFault>
-    ensures goes { Goes (printed_units (units_of text.now) ++ codes "\"") pending.old pending.new
-        (W.taken out.old) (W.taken out.new) (W.failures out.old) (W.failures out.new) result }
-    ensures same { W.device out.new ≡ W.device out.old }
+fn print_units<W: Sink>(text: &TextRef, out: &mut Output<W>) -> Result<(), WriteFault>
+    ensures goes { Goes (printed_units (units_of text.now) ++ codes "\"")
+        (state_of W.Sink out.old) (state_of W.Sink out.new) result }
 {
     let mut place = 0;
     while place < text.len() {
-        let Ok(next) = put_some(&mut pending.octets, text, place) else {
-            return Err(WriteFault::OutOfMemory { sent: pending.sent });
+        let Ok(next) = put_some(out.waiting, text, place) else {
+            return Err(WriteFault::OutOfMemory { sent: out.sent });
         };
-        settle(pending, out)?;
+        settle(out)?;
         place = next;
     }
-    put(b"\"", pending, out)
+    put(b"\"", out)
 }
 
 // Sends the data, or has it wait.
-fn print_data<W: Sink>(octets: &[u8], pending: &mut Pending, out: &mut W) -> Result<(), WriteFault>
-    ensures goes { Goes (printed_data octets.now) pending.old pending.new
-        (W.taken out.old) (W.taken out.new) (W.failures out.old) (W.failures out.new) result }
-    ensures same { W.device out.new ≡ W.device out.old }
+fn print_data<W: Sink>(octets: &[u8], out: &mut Output<W>) -> Result<(), WriteFault>
+    ensures goes { Goes (printed_data octets.now)
+        (state_of W.Sink out.old) (state_of W.Sink out.new) result }
 {
-    put(b"<", pending, out)?;
-    print_digits(octets, pending, out)
+    put(b"<", out)?;
+    print_digits(octets, out)
 }
 
 // The octets, and the bracket behind them.
-fn print_digits<W: Sink>(
-    octets: &[u8],
-    pending: &mut Pending,
-    out: &mut W,
-) -> Result<(), WriteFault>
-    ensures goes { Goes (flat_map two_digits octets.now ++ codes ">") pending.old pending.new
-        (W.taken out.old) (W.taken out.new) (W.failures out.old) (W.failures out.new) result }
-    ensures same { W.device out.new ≡ W.device out.old }
+fn print_digits<W: Sink>(octets: &[u8], out: &mut Output<W>) -> Result<(), WriteFault>
+    ensures goes { Goes (flat_map two_digits octets.now ++ codes ">")
+        (state_of W.Sink out.old) (state_of W.Sink out.new) result }
 {
     let mut left = octets;
     while !left.is_empty() {
-        let Ok(behind) = put_chunk(&mut pending.octets, left) else {
-            return Err(WriteFault::OutOfMemory { sent: pending.sent });
+        let Ok(behind) = put_chunk(out.waiting, left) else {
+            return Err(WriteFault::OutOfMemory { sent: out.sent });
         };
-        settle(pending, out)?;
+        settle(out)?;
         left = behind;
     }
-    put(b">", pending, out)
+    put(b">", out)
 }
 
 /// Sends a few octets, or has them wait.
-pub(crate) fn put<W: Sink>(
-    octets: &[u8],
-    pending: &mut Pending,
-    out: &mut W,
-) -> Result<(), WriteFault>
-    ensures goes { Goes octets.now pending.old pending.new
-        (W.taken out.old) (W.taken out.new) (W.failures out.old) (W.failures out.new) result }
-    ensures same { W.device out.new ≡ W.device out.old }
+pub(crate) fn put<W: Sink>(octets: &[u8], out: &mut Output<W>) -> Result<(), WriteFault>
+    ensures goes { Goes octets.now
+        (state_of W.Sink out.old) (state_of W.Sink out.new) result }
 {
-    let Ok(()) = gather(&mut pending.octets, octets) else {
-        return Err(WriteFault::OutOfMemory { sent: pending.sent });
+    let Ok(()) = gather(out.waiting, octets) else {
+        return Err(WriteFault::OutOfMemory { sent: out.sent });
     };
-    settle(pending, out)
+    settle(out)
 }
 
 /// Sends what waits, if it is long.
-pub(crate) fn settle<W: Sink>(pending: &mut Pending, out: &mut W) -> Result<(), WriteFault>
-    ensures goes { Goes [] pending.old pending.new
-        (W.taken out.old) (W.taken out.new) (W.failures out.old) (W.failures out.new) result }
-    ensures same { W.device out.new ≡ W.device out.old }
+pub(crate) fn settle<W: Sink>(out: &mut Output<W>) -> Result<(), WriteFault>
+    ensures goes { Goes [] (state_of W.Sink out.old) (state_of W.Sink out.new) result }
+    ensures cause { IfErr result (λ fault. fault ≡ OutOfMemory (sent_of fault)
+        → 2 ^ 64 ≤ out.old.sent + length out.old.waiting.now.items) }
 {
-    if pending.octets.len() < PIECE {
+    if out.waiting.len() < PIECE {
         return Ok(());
     }
-    send_all(pending, out)
+    send_all(out)
 }
 
 /// Sends all that waits.
-pub(crate) fn send_all<W: Sink>(pending: &mut Pending, out: &mut W) -> Result<(), WriteFault>
-    ensures goes { Goes [] pending.old pending.new
-        (W.taken out.old) (W.taken out.new) (W.failures out.old) (W.failures out.new) result }
-    ensures none { OnOk result (pending.new.octets.items ≡ []) }
-    ensures same { W.device out.new ≡ W.device out.old }
+pub(crate) fn send_all<W: Sink>(out: &mut Output<W>) -> Result<(), WriteFault>
+    ensures goes { Goes [] (state_of W.Sink out.old) (state_of W.Sink out.new) result }
+    ensures none { OnOk result (out.new.waiting.now.items ≡ []) }
+    ensures cause { IfErr result (λ fault. fault ≡ OutOfMemory (sent_of fault)
+        → 2 ^ 64 ≤ out.old.sent + length out.old.waiting.now.items) }
 {
-    if pending.octets.len() as u64 > u64::MAX - pending.sent {
-        return Err(WriteFault::OutOfMemory { sent: pending.sent });
+    if out.waiting.len() as u64 > u64::MAX - out.sent {
+        return Err(WriteFault::OutOfMemory { sent: out.sent });
     }
-    flush(pending, out)
+    out.flush()
 }
 
 fn gather(out: &mut Vec<u8>, octets: &[u8]) -> Result<(), AllocError>

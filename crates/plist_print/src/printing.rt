@@ -1,5 +1,5 @@
 //! The printed text of the value that a file spells, on its way to a sink.
-ghost use Rattle.std.specs.Prelude.{◌≡◌, ◌<◌, ◌+◌, ◌-◌, ℕ, List, IfOk, OnOk};
+ghost use Rattle.std.specs.Prelude.{◌≡◌, ◌<◌, ◌+◌, ◌-◌, ℕ, List, [], IfOk, OnOk};
 ghost use Rattle.plist_value.specs.Plist.{Plist, Items, Pairs, list, table, text};
 ghost use Rattle.plist_value.specs.Plist.{IsPlist, AreItems, ArePairs};
 ghost use Rattle.plist_value.specs.declared.TheConstants.{MAX_DEPTH};
@@ -7,7 +7,7 @@ ghost use Rattle.plist_object.specs.Objects.{holds_scalar};
 ghost use Rattle.plist_object.specs.Places.{Holds, HoldsText};
 ghost use Rattle.plist_object.specs.Spelled.{IsBinary, Spells, SpellItems, SpellPairs, SpellsWithin};
 ghost use Rattle.plist_object.specs.Views.{numbers_of, octets_of};
-ghost use Rattle.plist_engine.specs.Pending.{Goes};
+ghost use Rattle.plist_engine.specs.Output.{Goes, Stays, state_of};
 ghost use Rattle.plist_engine.specs.Sending.{IsWritten};
 ghost use Rattle.plist_engine.specs.Spelling.{IsTable, SpellTable};
 ghost use Rattle.plist_engine.specs.Spelling.{SpellWithin, in_turn};
@@ -19,7 +19,7 @@ use crate::heads::{begin_item, begin_pair, end_lines, print_line};
 use crate::known::Seen;
 use crate::lines::{put, send_all};
 use plist_engine::objects::object_of;
-use plist_engine::{Pending, Sink, WriteFault};
+use plist_engine::{Output, Sink, WriteFault};
 use plist_object::{BinFile, Object, Refs};
 use std::alloc::{AllocError, Global};
 
@@ -39,15 +39,34 @@ pub fn print_of<W: Sink>(alloc: Global, file: &BinFile, out: &mut W) -> Result<u
         (W.failures out.old) (W.failures out.new) result }
     ensures same { W.device out.new ≡ W.device out.old }
 {
-    let printer = Printer { alloc, file: *file };
-    let mut seen = Seen::new(alloc);
-    let mut pending = Pending {
-        octets: Vec::new(alloc),
+    let mut waiting = Vec::new(alloc);
+    let mut output = Output {
+        sink: out,
+        waiting: &mut waiting,
         sent: 0,
     };
-    printer.value(&mut seen, file.top(), 0, &mut pending, out)?;
-    send_all(&mut pending, out)?;
-    Ok(pending.sent)
+    print_file(alloc, file, &mut output)
+}
+
+// Prints the value of the file. Nothing was written before.
+fn print_file<W: Sink>(
+    alloc: Global,
+    file: &BinFile,
+    out: &mut Output<W>,
+) -> Result<u64, WriteFault>
+    requires binary { (v : Plist) × IsBinary (octets_of file.now) v }
+    requires none { out.old.waiting.now.items ≡ [] }
+    requires first { out.old.sent ≡ 0 }
+    ensures written { (v : Plist) → IsBinary (octets_of file.now) v
+        → IsWritten (printed v) (W.taken out.old.sink.now) (W.taken out.new.sink.now)
+        (W.failures out.old.sink.now) (W.failures out.new.sink.now) result }
+    ensures stays { Stays (state_of W.Sink out.old) (state_of W.Sink out.new) }
+{
+    let printer = Printer { alloc, file: *file };
+    let mut seen = Seen::new(alloc);
+    printer.value(&mut seen, file.top(), 0, out)?;
+    send_all(out)?;
+    Ok(out.sent)
 }
 
 #[derive(Clone, Copy)]
@@ -65,21 +84,20 @@ impl<'a> Printer<'a> {
         seen: &mut Seen<'a>,
         object: u64,
         level: u64,
-        pending: &mut Pending,
-        out: &mut W,
+        out: &mut Output<W>,
     ) -> Result<(), WriteFault>
         requires spells { SpellsWithin (octets_of self.now.file) object (MAX_DEPTH - level) }
         requires seen { IsSeen (octets_of self.now.file) seen.old }
         ensures goes { (v : Plist) → IsPlist v → Spells (octets_of self.now.file) object v
-            → Goes (printed_at level v) pending.old pending.new
-            (W.taken out.old) (W.taken out.new) (W.failures out.old) (W.failures out.new) result }
-        ensures same { W.device out.new ≡ W.device out.old }
+            → Goes (printed_at level v)
+            (state_of W.Sink out.old) (state_of W.Sink out.new) result }
+        ensures stays { Stays (state_of W.Sink out.old) (state_of W.Sink out.new) }
         ensures seen { OnOk result (IsSeen (octets_of self.now.file) seen.new) }
     {
         match object_of(&self.file, object) {
-            Object::Scalar(scalar) => print_line(&scalar, pending, out),
-            Object::List(items) => self.list(seen, &items, level, pending, out),
-            Object::Table(keys, values) => self.table(seen, &keys, &values, level, pending, out),
+            Object::Scalar(scalar) => print_line(&scalar, out),
+            Object::List(items) => self.list(seen, &items, level, out),
+            Object::Table(keys, values) => self.table(seen, &keys, &values, level, out),
         }
     }
 
@@ -90,8 +108,7 @@ impl<'a> Printer<'a> {
         seen: &mut Seen<'a>,
         items: &Refs,
         level: u64,
-        pending: &mut Pending,
-        out: &mut W,
+        out: &mut Output<W>,
     ) -> Result<(), WriteFault>
         requires below { level < MAX_DEPTH }
         requires spell { SpellWithin (octets_of self.now.file) (numbers_of items.now)
@@ -99,17 +116,17 @@ impl<'a> Printer<'a> {
         requires seen { IsSeen (octets_of self.now.file) seen.old }
         ensures goes { (vs : Items) → AreItems vs
             → SpellItems (octets_of self.now.file) (numbers_of items.now) vs
-            → Goes (printed_at level (list vs)) pending.old pending.new
-            (W.taken out.old) (W.taken out.new) (W.failures out.old) (W.failures out.new) result }
-        ensures same { W.device out.new ≡ W.device out.old }
+            → Goes (printed_at level (list vs))
+            (state_of W.Sink out.old) (state_of W.Sink out.new) result }
+        ensures stays { Stays (state_of W.Sink out.old) (state_of W.Sink out.new) }
         ensures seen { OnOk result (IsSeen (octets_of self.now.file) seen.new) }
     {
         if items.is_empty() {
-            return put(b"[]\n", pending, out);
+            return put(b"[]\n", out);
         }
-        put(b"[\n", pending, out)?;
-        self.items(seen, items, level + 1, pending, out)?;
-        end_lines(level, b']', pending, out)
+        put(b"[\n", out)?;
+        self.items(seen, items, level + 1, out)?;
+        end_lines(level, b']', out)
     }
 
     // Sends the lines of the items that the references spell, or has them wait.
@@ -119,21 +136,20 @@ impl<'a> Printer<'a> {
         seen: &mut Seen<'a>,
         items: &Refs,
         level: u64,
-        pending: &mut Pending,
-        out: &mut W,
+        out: &mut Output<W>,
     ) -> Result<(), WriteFault>
         requires spell { SpellWithin (octets_of self.now.file) (numbers_of items.now)
             (MAX_DEPTH - level) }
         requires seen { IsSeen (octets_of self.now.file) seen.old }
         ensures goes { (vs : Items) → AreItems vs
             → SpellItems (octets_of self.now.file) (numbers_of items.now) vs
-            → Goes (printed_items level 0 vs) pending.old pending.new
-            (W.taken out.old) (W.taken out.new) (W.failures out.old) (W.failures out.new) result }
-        ensures same { W.device out.new ≡ W.device out.old }
+            → Goes (printed_items level 0 vs)
+            (state_of W.Sink out.old) (state_of W.Sink out.new) result }
+        ensures stays { Stays (state_of W.Sink out.old) (state_of W.Sink out.new) }
         ensures seen { OnOk result (IsSeen (octets_of self.now.file) seen.new) }
     {
         for i in 0..items.len() {
-            self.item(seen, items.get(i), i, level, pending, out)?;
+            self.item(seen, items.get(i), i, level, out)?;
         }
         Ok(())
     }
@@ -146,19 +162,18 @@ impl<'a> Printer<'a> {
         object: u64,
         index: u64,
         level: u64,
-        pending: &mut Pending,
-        out: &mut W,
+        out: &mut Output<W>,
     ) -> Result<(), WriteFault>
         requires spells { SpellsWithin (octets_of self.now.file) object (MAX_DEPTH - level) }
         requires seen { IsSeen (octets_of self.now.file) seen.old }
         ensures goes { (v : Plist) → IsPlist v → Spells (octets_of self.now.file) object v
-            → Goes (item_lines level index v) pending.old pending.new
-            (W.taken out.old) (W.taken out.new) (W.failures out.old) (W.failures out.new) result }
-        ensures same { W.device out.new ≡ W.device out.old }
+            → Goes (item_lines level index v)
+            (state_of W.Sink out.old) (state_of W.Sink out.new) result }
+        ensures stays { Stays (state_of W.Sink out.old) (state_of W.Sink out.new) }
         ensures seen { OnOk result (IsSeen (octets_of self.now.file) seen.new) }
     {
-        begin_item(level, index, pending, out)?;
-        self.value(seen, object, level, pending, out)
+        begin_item(level, index, out)?;
+        self.value(seen, object, level, out)
     }
 
     // Sends the table of the keys and values that the references spell, or has it wait.
@@ -169,8 +184,7 @@ impl<'a> Printer<'a> {
         keys: &Refs<'a>,
         values: &Refs,
         level: u64,
-        pending: &mut Pending,
-        out: &mut W,
+        out: &mut Output<W>,
     ) -> Result<(), WriteFault>
         requires below { level < MAX_DEPTH }
         requires spell { TableWithin (octets_of self.now.file) (numbers_of keys.now)
@@ -179,20 +193,20 @@ impl<'a> Printer<'a> {
         ensures goes { (rows : List (ℕ × ℕ)) (ps : Pairs)
             → SpellTable (octets_of self.now.file) (numbers_of keys.now) (numbers_of values.now)
             rows ps
-            → Goes (printed_at level (table ps)) pending.old pending.new
-            (W.taken out.old) (W.taken out.new) (W.failures out.old) (W.failures out.new) result }
-        ensures same { W.device out.new ≡ W.device out.old }
+            → Goes (printed_at level (table ps))
+            (state_of W.Sink out.old) (state_of W.Sink out.new) result }
+        ensures stays { Stays (state_of W.Sink out.old) (state_of W.Sink out.new) }
         ensures seen { OnOk result (IsSeen (octets_of self.now.file) seen.new) }
     {
         if keys.is_empty() {
-            return put(b"{}\n", pending, out);
+            return put(b"{}\n", out);
         }
         let Ok(references) = self.in_turn(seen, keys, values) else {
-            return Err(WriteFault::OutOfMemory { sent: pending.sent });
+            return Err(WriteFault::OutOfMemory { sent: out.sent });
         };
-        put(b"{\n", pending, out)?;
-        self.pairs(seen, &references, level + 1, pending, out)?;
-        end_lines(level, b'}', pending, out)
+        put(b"{\n", out)?;
+        self.pairs(seen, &references, level + 1, out)?;
+        end_lines(level, b'}', out)
     }
 
     // The references to the keys in the order of their texts, and then those to their values in the
@@ -227,23 +241,22 @@ impl<'a> Printer<'a> {
         seen: &mut Seen<'a>,
         references: &[u32],
         level: u64,
-        pending: &mut Pending,
-        out: &mut W,
+        out: &mut Output<W>,
     ) -> Result<(), WriteFault>
         requires spell { PairsWithin (octets_of self.now.file) references.now (MAX_DEPTH - level) }
         requires seen { IsSeen (octets_of self.now.file) seen.old }
         ensures goes { (rows : List (ℕ × ℕ)) (ps : Pairs) → references.now ≡ in_turn rows
             → ArePairs ps → SpellPairs (octets_of self.now.file) rows ps
-            → Goes (printed_pairs level ps) pending.old pending.new
-            (W.taken out.old) (W.taken out.new) (W.failures out.old) (W.failures out.new) result }
-        ensures same { W.device out.new ≡ W.device out.old }
+            → Goes (printed_pairs level ps)
+            (state_of W.Sink out.old) (state_of W.Sink out.new) result }
+        ensures stays { Stays (state_of W.Sink out.old) (state_of W.Sink out.new) }
         ensures seen { OnOk result (IsSeen (octets_of self.now.file) seen.new) }
     {
         let count = references.len() / 2;
         for i in 0..count {
             let key = u64::from(references[i]);
             let object = u64::from(references[count + i]);
-            self.pair(seen, key, object, level, pending, out)?;
+            self.pair(seen, key, object, level, out)?;
         }
         Ok(())
     }
@@ -256,8 +269,7 @@ impl<'a> Printer<'a> {
         key: u64,
         object: u64,
         level: u64,
-        pending: &mut Pending,
-        out: &mut W,
+        out: &mut Output<W>,
     ) -> Result<(), WriteFault>
         requires key { HoldsText (octets_of self.now.file) key }
         requires spells { SpellsWithin (octets_of self.now.file) object (MAX_DEPTH - level) }
@@ -265,13 +277,13 @@ impl<'a> Printer<'a> {
         ensures goes { (units : List ℕ) (v : Plist)
             → Holds (octets_of self.now.file) key (holds_scalar (text units))
             → IsPlist v → Spells (octets_of self.now.file) object v
-            → Goes (pair_lines level units v) pending.old pending.new
-            (W.taken out.old) (W.taken out.new) (W.failures out.old) (W.failures out.new) result }
-        ensures same { W.device out.new ≡ W.device out.old }
+            → Goes (pair_lines level units v)
+            (state_of W.Sink out.old) (state_of W.Sink out.new) result }
+        ensures stays { Stays (state_of W.Sink out.old) (state_of W.Sink out.new) }
         ensures seen { OnOk result (IsSeen (octets_of self.now.file) seen.new) }
     {
         let text = seen.keys.text_of(&self.file, key);
-        begin_pair(&text, level, pending, out)?;
-        self.value(seen, object, level, pending, out)
+        begin_pair(&text, level, out)?;
+        self.value(seen, object, level, out)
     }
 }

@@ -1,6 +1,6 @@
-use Rattle.std.proofs.Common.{◌≡◌, ℕ, List, ◌++◌, length}
+use Rattle.std.proofs.Common.{◌≡◌, ℕ, List, ◌++◌, length, Ok}
 use Rattle.std.specs.Prelude.{flat_map}
-use Rattle.plist_engine.specs.Pending.{Gathers}
+use Rattle.plist_engine.specs.Output.{Goes, state_of}
 use Rattle.plist_value.specs.Digits.{two_digits}
 use Rattle.plist_print.proofs.lines.print_digits.Given as goal
 
@@ -9,8 +9,7 @@ abbrev pub invariant-loop-left : goal.invariant-loop-left
 invariant-loop-left g l = record {
   done : List ℕ;
   split : done ++ flat_map two_digits l.left ≡ flat_map two_digits l.octets;
-  gathers : Gathers done l.fn.pending l.pending (g.W.Sink.taken l.fn.out) (g.W.Sink.taken l.out) (g.W.Sink.failures l.fn.out) (g.W.Sink.failures l.out);
-  same : g.W.Sink.device l.out ≡ g.W.Sink.device l.fn.out;
+  goes : Goes {T = Unit {0}} done (state_of g.W.Sink l.fn.out) (state_of g.W.Sink l.out) (Ok tt);
 }
 
 abbrev pub decreases-loop-left : goal.decreases-loop-left

@@ -1,47 +1,54 @@
-use Rattle.std.proofs.Common.{◌≡◌, ◌≤◌, [], ◌++◌, drop, length, refl, sym, ap, ◌∙◌, arith}
+use Rattle.std.proofs.Common.{◌≡◌, ◌≤◌, [], ◌++◌, drop, length, sym, ap, ◌∙◌, arith}
 use Rattle.std.specs.Prelude.{codes}
 use Rattle.std.proofs.lemmas.List.{append-nil, drop_all}
 use Rattle.std.proofs.lemmas.Result.{err_from_is_err_and}
 use Rattle.plist_value.specs.Texts.{units_of}
-use Rattle.plist_engine.specs.declared.pending.Pending.{Pending}
-use Rattle.plist_engine.proofs.Gathering.{Gathers-same}
+use Rattle.plist_engine.specs.Output.{state_of}
+use Rattle.plist_engine.proofs.Going.{Goes_then, Goes_stop, Goes_same}
 use Rattle.plist_print.specs.Units.{printed_units}
-use Rattle.plist_print.proofs.Steps.{Goes-then, Goes-not, piece-split, piece-settled, piece-stops, no_piece}
+use Rattle.plist_print.proofs.Steps.{piece-split, piece-settled, piece-stops, no_piece}
 use Rattle.plist_print.proofs.lines.print_units.Goals as goal
 
-pub returns-in_default-clause-goes : goal.returns-in_default-clause-goes
-returns-in_default-clause-goes g c =
+pub returns-in_default : goal.returns-in_default
+returns-in_default g c =
     let us = units_of c.args.text.now in
     let l = c.loop-place in
-    Goes-not (printed_units us) (codes "\"") c.args.pending.now _ _ _ _ _ _ (no_piece l.invariant.done (printed_units (drop l.place us)) (printed_units us) c.args.pending.now l.pending _ _ _ _ l.invariant.split l.invariant.gathers)
+    let p = state_of g.W.Sink c.args.out.now in
+    let q = state_of g.W.Sink l.out in
+    let items = c.put_some.new.out.items in
+    record { goes = Goes_stop {T = Unit {0}} (printed_units us) (codes "\"") p (record q { waiting = items }) _ (no_piece l.invariant.done (printed_units (drop l.place us)) (printed_units us) items p q l.invariant.split l.invariant.goes) }
 
-pub returns-in_err-settle-clause-goes : goal.returns-in_err-settle-clause-goes
-returns-in_err-settle-clause-goes g c =
+pub returns-in_err-settle : goal.returns-in_err-settle
+returns-in_err-settle g c =
     let e = err_from_is_err_and c.from_residual.result c.from_residual.ensures.1 in
     let us = units_of c.args.text.now in
     let l = c.loop-place in
-    let n : Pending = record { octets = c.put_some.new.out; sent = l.pending.sent } in
-    rw (e.1, e.2) (Goes-not (printed_units us) (codes "\"") c.args.pending.now _ _ _ _ _ _ (piece-stops l.invariant.done (printed_units (drop l.place us)) (printed_units (drop c.in-Ok.next us)) (printed_units us) c.args.pending.now l.pending n _ _ _ _ l.invariant.split l.invariant.gathers c.in-Ok.ensures.octets refl _ _ _ c.in_err-settle.ensures.goes.stopped))
+    let p = state_of g.W.Sink c.args.out.now in
+    let q = state_of g.W.Sink l.out in
+    let r = state_of g.W.Sink c.settle.new.out in
+    rw (e.1, e.2) (record { goes = Goes_stop {T = Unit {0}} (printed_units us) (codes "\"") p r _ (piece-stops l.invariant.done (printed_units (drop l.place us)) (printed_units (drop c.in-Ok.next us)) (printed_units us) c.put_some.new.out.items p q l.invariant.split l.invariant.goes c.in-Ok.ensures.octets r _ c.in_err-settle.ensures.goes) })
 
 pub loop-place-preserved : goal.loop-place-preserved
 loop-place-preserved g c =
     let us = units_of c.args.text.now in
     let l = c.loop-place in
-    let n : Pending = record { octets = c.put_some.new.out; sent = l.pending.sent } in
+    let p = state_of g.W.Sink c.args.out.now in
+    let q = state_of g.W.Sink l.out in
     let puts = c.in-Ok.ensures.octets in
     record {
       within = c.in-Ok.ensures.within;
       done = l.invariant.done ++ puts.piece;
-      split = piece-split l.invariant.done (printed_units (drop l.place us)) (printed_units (drop c.in-Ok.next us)) (printed_units us) c.args.pending.now l.pending n _ _ _ _ l.invariant.split l.invariant.gathers puts refl;
-      gathers = piece-settled l.invariant.done (printed_units (drop l.place us)) (printed_units (drop c.in-Ok.next us)) (printed_units us) c.args.pending.now l.pending n _ _ _ _ l.invariant.split l.invariant.gathers puts refl c.settle.new.pending _ _ c.in_ok-settle.ensures.goes.done;
-      same = c.in_ok-settle.ensures.same ∙ l.invariant.same;
+      split = piece-split l.invariant.done (printed_units (drop l.place us)) (printed_units (drop c.in-Ok.next us)) (printed_units us) c.put_some.new.out.items p q l.invariant.split l.invariant.goes puts;
+      goes = piece-settled l.invariant.done (printed_units (drop l.place us)) (printed_units (drop c.in-Ok.next us)) (printed_units us) c.put_some.new.out.items p q l.invariant.split l.invariant.goes puts (state_of g.W.Sink c.settle.new.out) _ c.in_ok-settle.ensures.goes;
     }
 
-pub returns-clause-goes : goal.returns-clause-goes
-returns-clause-goes g c =
+pub returns : goal.returns
+returns g c =
     let us = units_of c.args.text.now in
     let l = c.loop-place in
     let past : length us ≤ l.place = omega (arith, c.loop-place-test.false) in
     let none : printed_units (drop l.place us) ≡ [] = ap printed_units (drop_all l.place us past) in
     let whole : l.invariant.done ≡ printed_units us = sym (append-nil l.invariant.done) ∙ ap (λ os. l.invariant.done ++ os) (sym none) ∙ l.invariant.split in
-    Goes-then (printed_units us) (codes "\"") c.args.pending.now l.pending c.put.new.pending _ _ _ _ _ _ c.put.result (Gathers-same l.invariant.done (printed_units us) c.args.pending.now l.pending _ _ _ _ whole l.invariant.gathers) c.put.ensures.goes
+    let p = state_of g.W.Sink c.args.out.now in
+    let q = state_of g.W.Sink l.out in
+    record { goes = Goes_then (printed_units us) (codes "\"") p q (state_of g.W.Sink c.put.new.out) tt c.put.result (Goes_same l.invariant.done (printed_units us) p q _ whole l.invariant.goes) c.put.ensures.goes }

@@ -1,6 +1,6 @@
-use Rattle.std.proofs.Common.{◌≡◌, ◌≤◌, ◌-◌, ℕ, List, ◌++◌, drop, length}
+use Rattle.std.proofs.Common.{◌≡◌, ◌≤◌, ◌-◌, ℕ, List, ◌++◌, drop, length, Ok}
 use Rattle.plist_value.specs.Texts.{units_of}
-use Rattle.plist_engine.specs.Pending.{Gathers}
+use Rattle.plist_engine.specs.Output.{Goes, state_of}
 use Rattle.plist_print.specs.Units.{printed_units}
 use Rattle.plist_print.proofs.lines.print_units.Given as goal
 
@@ -10,8 +10,7 @@ invariant-loop-place g l = record {
   within : l.place ≤ length (units_of l.text);
   done : List ℕ;
   split : done ++ printed_units (drop l.place (units_of l.text)) ≡ printed_units (units_of l.text);
-  gathers : Gathers done l.fn.pending l.pending (g.W.Sink.taken l.fn.out) (g.W.Sink.taken l.out) (g.W.Sink.failures l.fn.out) (g.W.Sink.failures l.out);
-  same : g.W.Sink.device l.out ≡ g.W.Sink.device l.fn.out;
+  goes : Goes {T = Unit {0}} done (state_of g.W.Sink l.fn.out) (state_of g.W.Sink l.out) (Ok tt);
 }
 
 abbrev pub decreases-loop-place : goal.decreases-loop-place

@@ -1,5 +1,6 @@
-use Rattle.std.proofs.Common.{◌≡◌, ℕ, ◌+◌, ◌-◌, ◌/◌, ◌<◌, ◌≤◌, [], ◌∷◌, ◌++◌, length, rules, sym, ap, subst, ◌∙◌, arith, add-one}
+use Rattle.std.proofs.Common.{◌≡◌, ℕ, ◌+◌, ◌-◌, ◌/◌, ◌<◌, ◌≤◌, [], ◌∷◌, ◌++◌, length, rules, refl, sym, ap, subst, ◌∙◌, arith, add-one}
 use Rattle.std.proofs.lemmas.Bool.Decides.{nat_tests}
+use Rattle.std.proofs.lemmas.List.{append-nil}
 use Rattle.std.proofs.lemmas.Result.{err_from_is_err_and}
 use Rattle.plist_value.specs.Plist.{text, list, table}
 use Rattle.plist_value.specs.Scalars.{content_of}
@@ -9,14 +10,14 @@ use Rattle.plist_object.specs.Objects.{holds_scalar}
 use Rattle.plist_object.specs.Places.{Holds, HoldsText}
 use Rattle.plist_object.specs.Spelled.{Spells, SpellsWithin}
 use Rattle.plist_object.specs.Views.{octets_of, numbers_of}
-use Rattle.plist_engine.proofs.Gathering.{Gathers-same, Stops-behind, Goes-ok}
+use Rattle.plist_engine.specs.Output.{state_of}
+use Rattle.plist_engine.proofs.Going.{Goes_put, Goes_then, Goes_rest, Goes_stop, Goes_same, Stays-trans}
 use Rattle.plist_engine.specs.Spelling.{SpellWithin}
 use Rattle.plist_engine.proofs.Within.{read_within, levels_within, items_within, table_within, value_within}
 use Rattle.plist_print.specs.Printed.{printed_at, printed_items, printed_pairs}
 use Rattle.plist_print.specs.Printing.{item_head, item_lines, pair_head, pair_lines}
-use Rattle.plist_print.proofs.Steps.{Goes-then, Goes-not}
 use Rattle.plist_print.proofs.PrintSteps.{items_before, item_at, items_all, pairs_before, pair_at, pairs_all}
-use Rattle.plist_print.proofs.Enclosing.{Goes-same, next_gathers, brackets_unopened, brackets_unfilled, brackets_closed, list_empty, list_brackets, table_empty, table_brackets, scalar_seen, list_seen, table_seen, text_seen}
+use Rattle.plist_print.proofs.Enclosing.{brackets_unopened, brackets_unfilled, brackets_closed, list_empty, list_brackets, table_empty, table_brackets, scalar_seen, list_seen, table_seen, text_seen}
 use Rattle.plist_print.proofs.Turns.{turn_count, turn_key, turn_value, turn_within}
 use Rattle.plist_print.proofs.printing.Printer.+print.Goals as goal
 
@@ -64,23 +65,23 @@ value-table-requires g t c κs within =
 pub value-returns-in-Scalar-clause-goes : goal.value-returns-in-Scalar-clause-goes
 value-returns-in-Scalar-clause-goes g t c = λ v valid spells.
     let f = octets_of c.args.self.now.file in
-    Goes-same _ (printed_at c.args.level v) c.args.pending.now c.print_line.new.pending _ _ _ _ c.print_line.result (scalar_seen f c.args.object c.args.level (content_of c.in-Scalar.scalar) v c.in-Scalar.ensures.holds spells) c.print_line.ensures.goes
+    Goes_same _ (printed_at c.args.level v) (state_of g.W.Sink c.args.out.now) (state_of g.W.Sink c.print_line.new.out) c.print_line.result (scalar_seen f c.args.object c.args.level (content_of c.in-Scalar.scalar) v c.in-Scalar.ensures.holds spells) c.print_line.ensures.goes
 
 pub value-returns-in-List-clause-goes : goal.value-returns-in-List-clause-goes
 value-returns-in-List-clause-goes g t c = λ v valid spells.
     let seen = list_seen (octets_of c.args.self.now.file) (numbers_of c.in-List.items) c.args.object v c.in-List.ensures.holds valid spells in
-    Goes-same (printed_at c.args.level (list seen.items)) (printed_at c.args.level v) c.args.pending.now c.list.new.pending _ _ _ _ c.list.result (ap (printed_at c.args.level) seen.is) (c.list.ensures.goes seen.items seen.valid seen.spell)
+    Goes_same (printed_at c.args.level (list seen.items)) (printed_at c.args.level v) (state_of g.W.Sink c.args.out.now) (state_of g.W.Sink c.list.new.out) c.list.result (ap (printed_at c.args.level) seen.is) (c.list.ensures.goes seen.items seen.valid seen.spell)
 
 pub value-returns-in-Table-clause-goes : goal.value-returns-in-Table-clause-goes
 value-returns-in-Table-clause-goes g t c = λ v valid spells.
     let seen = table_seen (octets_of c.args.self.now.file) (numbers_of c.in-Table.keys) (numbers_of c.in-Table.values) c.args.object v c.in-Table.ensures.holds valid spells in
-    Goes-same (printed_at c.args.level (table seen.pairs)) (printed_at c.args.level v) c.args.pending.now c.table.new.pending _ _ _ _ c.table.result (ap (printed_at c.args.level) seen.is) (c.table.ensures.goes seen.rows seen.pairs seen.spell)
+    Goes_same (printed_at c.args.level (table seen.pairs)) (printed_at c.args.level v) (state_of g.W.Sink c.args.out.now) (state_of g.W.Sink c.table.new.out) c.table.result (ap (printed_at c.args.level) seen.is) (c.table.ensures.goes seen.rows seen.pairs seen.spell)
 
 pub list-returns-then-is_empty-clause-goes : goal.list-returns-then-is_empty-clause-goes
 list-returns-then-is_empty-clause-goes g t c = λ vs valid spell.
     let refs = numbers_of c.args.items.now in
     let none : length refs ≡ 0 = first_of (search rules, grind (arith, nat_tests)) in
-    Goes-same (91 ∷ 93 ∷ 10 ∷ []) (printed_at c.args.level (list vs)) c.args.pending.now c.put.new.pending _ _ _ _ c.put.result (list_empty (octets_of c.args.self.now.file) refs c.args.level vs none spell) c.put.ensures.goes
+    Goes_same (91 ∷ 93 ∷ 10 ∷ []) (printed_at c.args.level (list vs)) (state_of g.W.Sink c.args.out.now) (state_of g.W.Sink c.put.new.out) c.put.result (list_empty (octets_of c.args.self.now.file) refs c.args.level vs none spell) c.put.ensures.goes
 
 pub list-returns-in_err-put-clause-goes : goal.list-returns-in_err-put-clause-goes
 list-returns-in_err-put-clause-goes g t c = λ vs valid spell.
@@ -88,7 +89,7 @@ list-returns-in_err-put-clause-goes g t c = λ vs valid spell.
     let refs = numbers_of c.args.items.now in
     let some : 0 < length refs = first_of (search rules, grind (arith, nat_tests)) in
     let is = list_brackets (octets_of c.args.self.now.file) refs c.args.level vs some spell in
-    rw (e.1, e.2) (brackets_unopened c.args.level 91 93 (printed_items (c.args.level + 1) 0 vs) (printed_at c.args.level (list vs)) is c.args.pending.now _ _ _ _ _ _ c.in_err-put.ensures.goes.stopped)
+    rw (e.1, e.2) (brackets_unopened c.args.level 91 93 (printed_items (c.args.level + 1) 0 vs) (printed_at c.args.level (list vs)) is (state_of g.W.Sink c.args.out.now) (state_of g.W.Sink c.put-2.new.out) _ c.in_err-put.ensures.goes)
 
 pub list-returns-in_err-items-clause-goes : goal.list-returns-in_err-items-clause-goes
 list-returns-in_err-items-clause-goes g t c = λ vs valid spell.
@@ -96,14 +97,14 @@ list-returns-in_err-items-clause-goes g t c = λ vs valid spell.
     let refs = numbers_of c.args.items.now in
     let some : 0 < length refs = first_of (search rules, grind (arith, nat_tests)) in
     let is = list_brackets (octets_of c.args.self.now.file) refs c.args.level vs some spell in
-    rw (e.1, e.2) (brackets_unfilled c.args.level 91 93 (printed_items (c.args.level + 1) 0 vs) (printed_at c.args.level (list vs)) is c.args.pending.now c.put-2.new.pending _ _ _ _ _ _ _ _ c.in_ok-put.ensures.goes.done (c.in_err-items.ensures.goes vs valid spell).stopped)
+    rw (e.1, e.2) (brackets_unfilled c.args.level 91 93 (printed_items (c.args.level + 1) 0 vs) (printed_at c.args.level (list vs)) is (state_of g.W.Sink c.args.out.now) (state_of g.W.Sink c.put-2.new.out) (state_of g.W.Sink c.items.new.out) _ _ c.in_ok-put.ensures.goes (c.in_err-items.ensures.goes vs valid spell))
 
 pub list-returns-clause-goes : goal.list-returns-clause-goes
 list-returns-clause-goes g t c = λ vs valid spell.
     let refs = numbers_of c.args.items.now in
     let some : 0 < length refs = first_of (search rules, grind (arith, nat_tests)) in
     let is = list_brackets (octets_of c.args.self.now.file) refs c.args.level vs some spell in
-    brackets_closed c.args.level 91 93 (printed_items (c.args.level + 1) 0 vs) (printed_at c.args.level (list vs)) is c.args.pending.now c.put-2.new.pending c.items.new.pending c.end_lines.new.pending _ _ _ _ _ _ _ _ c.end_lines.result c.in_ok-put.ensures.goes.done (c.in_ok-items.ensures.goes vs valid spell).done c.end_lines.ensures.goes
+    brackets_closed c.args.level 91 93 (printed_items (c.args.level + 1) 0 vs) (printed_at c.args.level (list vs)) is (state_of g.W.Sink c.args.out.now) (state_of g.W.Sink c.put-2.new.out) (state_of g.W.Sink c.items.new.out) (state_of g.W.Sink c.end_lines.new.out) _ _ c.end_lines.result c.in_ok-put.ensures.goes (c.in_ok-items.ensures.goes vs valid spell) c.end_lines.ensures.goes
 
 pub items-item-requires : goal.items-item-requires
 items-item-requires g t c κs within =
@@ -125,12 +126,14 @@ items-returns-in_err-item-clause-goes g t c = λ vs valid spell.
     let spells = subst (λ (n : ℕ). Spells f n at.value) (sym c.get.ensures) at.spells in
     let before = items_before c.args.level 0 i vs in
     let one = item_lines c.args.level i at.value in
-    let stops = Stops-behind before one c.args.pending.now c.loop-i.pending _ _ _ _ _ _ _ (c.loop-i.invariant.gathers vs valid spell) (c.in_err-item.ensures.goes at.value at.valid spells).stopped in
-    rw (e.1, e.2) (Goes-same ((before ++ one) ++ at.rest) (printed_items c.args.level 0 vs) c.args.pending.now _ _ _ _ _ _ (sym at.split) (Goes-not (before ++ one) at.rest c.args.pending.now _ _ _ _ _ _ stops))
+    let p = state_of g.W.Sink c.args.out.now in
+    let r = state_of g.W.Sink c.item.new.out in
+    let stop = Goes_then before one p (state_of g.W.Sink c.loop-i.out) r tt _ (c.loop-i.invariant.goes vs valid spell) (c.in_err-item.ensures.goes at.value at.valid spells) in
+    rw (e.1, e.2) (Goes_same ((before ++ one) ++ at.rest) (printed_items c.args.level 0 vs) p r _ (sym at.split) (Goes_stop (before ++ one) at.rest p r _ stop))
 
 pub items-loop-i-preserved : goal.items-loop-i-preserved
 items-loop-i-preserved g t c = record {
-  gathers = λ vs valid spell.
+  goes = λ vs valid spell.
       let f = octets_of c.args.self.now.file in
       let refs = numbers_of c.args.items.now in
       let i = c.loop-i.i in
@@ -138,8 +141,8 @@ items-loop-i-preserved g t c = record {
       let at = item_at f refs c.args.level 0 i i vs (omega arith) below valid spell in
       let spells = subst (λ (n : ℕ). Spells f n at.value) (sym c.get.ensures) at.spells in
       let more : items_before c.args.level 0 i vs ++ item_lines c.args.level i at.value ≡ items_before c.args.level 0 (i + 1) vs = sym at.more ∙ ap (λ k. items_before c.args.level 0 k vs) (sym (add-one i)) in
-      next_gathers (items_before c.args.level 0 i vs) (item_lines c.args.level i at.value) (items_before c.args.level 0 (i + 1) vs) c.args.pending.now c.loop-i.pending c.item.new.pending _ _ _ _ _ _ more (c.loop-i.invariant.gathers vs valid spell) (c.in_ok-item.ensures.goes at.value at.valid spells).done;
-  same = c.in_ok-item.ensures.same ∙ c.loop-i.invariant.same;
+      Goes_rest (items_before c.args.level 0 i vs) (item_lines c.args.level i at.value) (items_before c.args.level 0 (i + 1) vs) (state_of g.W.Sink c.args.out.now) (state_of g.W.Sink c.loop-i.out) (state_of g.W.Sink c.item.new.out) tt _ more (c.loop-i.invariant.goes vs valid spell) (c.in_ok-item.ensures.goes at.value at.valid spells);
+  stays = Stays-trans (state_of g.W.Sink c.args.out.now) (state_of g.W.Sink c.loop-i.out) (state_of g.W.Sink c.item.new.out) c.loop-i.invariant.stays c.in_ok-item.ensures.stays;
   seen = c.in_ok-item.ensures.seen;
 }
 
@@ -149,22 +152,22 @@ items-returns-clause-goes g t c = λ vs valid spell.
     let i = c.loop-i.i in
     let past : length refs ≤ i = omega (arith, c.loop-i-test.false, c.len-i-end.ensures) in
     let all = items_all (octets_of c.args.self.now.file) refs c.args.level 0 i vs past spell in
-    Goes-ok (printed_items c.args.level 0 vs) c.args.pending.now c.loop-i.pending _ _ _ _ (Gathers-same (items_before c.args.level 0 i vs) (printed_items c.args.level 0 vs) c.args.pending.now c.loop-i.pending _ _ _ _ all (c.loop-i.invariant.gathers vs valid spell))
+    Goes_same (items_before c.args.level 0 i vs) (printed_items c.args.level 0 vs) (state_of g.W.Sink c.args.out.now) (state_of g.W.Sink c.loop-i.out) _ all (c.loop-i.invariant.goes vs valid spell)
 
 pub item-returns-in_err-begin_item-clause-goes : goal.item-returns-in_err-begin_item-clause-goes
 item-returns-in_err-begin_item-clause-goes g t c = λ v valid spells.
     let e = err_from_is_err_and c.from_residual.result c.from_residual.ensures.1 in
-    rw (e.1, e.2) (Goes-not (item_head c.args.level c.args.index) (printed_at c.args.level v) c.args.pending.now _ _ _ _ _ _ c.in_err-begin_item.ensures.goes.stopped)
+    rw (e.1, e.2) (Goes_stop (item_head c.args.level c.args.index) (printed_at c.args.level v) (state_of g.W.Sink c.args.out.now) (state_of g.W.Sink c.begin_item.new.out) _ c.in_err-begin_item.ensures.goes)
 
 pub item-returns-clause-goes : goal.item-returns-clause-goes
 item-returns-clause-goes g t c = λ v valid spells.
-    Goes-then (item_head c.args.level c.args.index) (printed_at c.args.level v) c.args.pending.now c.begin_item.new.pending c.value.new.pending _ _ _ _ _ _ c.value.result c.in_ok-begin_item.ensures.goes.done (c.value.ensures.goes v valid spells)
+    Goes_then (item_head c.args.level c.args.index) (printed_at c.args.level v) (state_of g.W.Sink c.args.out.now) (state_of g.W.Sink c.begin_item.new.out) (state_of g.W.Sink c.value.new.out) _ c.value.result c.in_ok-begin_item.ensures.goes (c.value.ensures.goes v valid spells)
 
 pub table-returns-then-is_empty-clause-goes : goal.table-returns-then-is_empty-clause-goes
 table-returns-then-is_empty-clause-goes g t c = λ rows ps spell.
     let keys = numbers_of c.args.keys.now in
     let none : length keys ≡ 0 = first_of (search rules, grind (arith, nat_tests)) in
-    Goes-same (123 ∷ 125 ∷ 10 ∷ []) (printed_at c.args.level (table ps)) c.args.pending.now c.put.new.pending _ _ _ _ c.put.result (table_empty (octets_of c.args.self.now.file) keys (numbers_of c.args.values.now) rows c.args.level ps c.requires.spell.as_many none spell) c.put.ensures.goes
+    Goes_same (123 ∷ 125 ∷ 10 ∷ []) (printed_at c.args.level (table ps)) (state_of g.W.Sink c.args.out.now) (state_of g.W.Sink c.put.new.out) c.put.result (table_empty (octets_of c.args.self.now.file) keys (numbers_of c.args.values.now) rows c.args.level ps c.requires.spell.as_many none spell) c.put.ensures.goes
 
 pub table-returns-in_err-put-clause-goes : goal.table-returns-in_err-put-clause-goes
 table-returns-in_err-put-clause-goes g t c = λ rows ps spell.
@@ -172,7 +175,7 @@ table-returns-in_err-put-clause-goes g t c = λ rows ps spell.
     let keys = numbers_of c.args.keys.now in
     let some : 0 < length keys = first_of (search rules, grind (arith, nat_tests)) in
     let is = table_brackets (octets_of c.args.self.now.file) keys (numbers_of c.args.values.now) rows c.args.level ps c.requires.spell.as_many some spell in
-    rw (e.1, e.2) (brackets_unopened c.args.level 123 125 (printed_pairs (c.args.level + 1) ps) (printed_at c.args.level (table ps)) is c.args.pending.now _ _ _ _ _ _ c.in_err-put.ensures.goes.stopped)
+    rw (e.1, e.2) (brackets_unopened c.args.level 123 125 (printed_pairs (c.args.level + 1) ps) (printed_at c.args.level (table ps)) is (state_of g.W.Sink c.args.out.now) (state_of g.W.Sink c.put-2.new.out) _ c.in_err-put.ensures.goes)
 
 pub table-pairs-requires : goal.table-pairs-requires
 table-pairs-requires g t c κs within =
@@ -201,7 +204,7 @@ table-returns-in_err-pairs-clause-goes g t c = λ rows ps spell.
     let some : 0 < length keys = first_of (search rules, grind (arith, nat_tests)) in
     let is = table_brackets (octets_of c.args.self.now.file) keys (numbers_of c.args.values.now) rows c.args.level ps c.requires.spell.as_many some spell in
     let turn = c.deref.ensures.value ∙ c.in-Ok.ensures.turn rows ps spell in
-    rw (e.1, e.2) (brackets_unfilled c.args.level 123 125 (printed_pairs (c.args.level + 1) ps) (printed_at c.args.level (table ps)) is c.args.pending.now c.put-2.new.pending _ _ _ _ _ _ _ _ c.in_ok-put.ensures.goes.done (c.in_err-pairs.ensures.goes rows ps turn spell.valid spell.spell).stopped)
+    rw (e.1, e.2) (brackets_unfilled c.args.level 123 125 (printed_pairs (c.args.level + 1) ps) (printed_at c.args.level (table ps)) is (state_of g.W.Sink c.args.out.now) (state_of g.W.Sink c.put-2.new.out) (state_of g.W.Sink c.pairs.new.out) _ _ c.in_ok-put.ensures.goes (c.in_err-pairs.ensures.goes rows ps turn spell.valid spell.spell))
 
 pub table-returns-clause-goes : goal.table-returns-clause-goes
 table-returns-clause-goes g t c = λ rows ps spell.
@@ -209,7 +212,7 @@ table-returns-clause-goes g t c = λ rows ps spell.
     let some : 0 < length keys = first_of (search rules, grind (arith, nat_tests)) in
     let is = table_brackets (octets_of c.args.self.now.file) keys (numbers_of c.args.values.now) rows c.args.level ps c.requires.spell.as_many some spell in
     let turn = c.deref.ensures.value ∙ c.in-Ok.ensures.turn rows ps spell in
-    brackets_closed c.args.level 123 125 (printed_pairs (c.args.level + 1) ps) (printed_at c.args.level (table ps)) is c.args.pending.now c.put-2.new.pending c.pairs.new.pending c.end_lines.new.pending _ _ _ _ _ _ _ _ c.end_lines.result c.in_ok-put.ensures.goes.done (c.in_ok-pairs.ensures.goes rows ps turn spell.valid spell.spell).done c.end_lines.ensures.goes
+    brackets_closed c.args.level 123 125 (printed_pairs (c.args.level + 1) ps) (printed_at c.args.level (table ps)) is (state_of g.W.Sink c.args.out.now) (state_of g.W.Sink c.put-2.new.out) (state_of g.W.Sink c.pairs.new.out) (state_of g.W.Sink c.end_lines.new.out) _ _ c.end_lines.result c.in_ok-put.ensures.goes (c.in_ok-pairs.ensures.goes rows ps turn spell.valid spell.spell) c.end_lines.ensures.goes
 
 pub pairs-pair-requires : goal.pairs-pair-requires
 pairs-pair-requires g t c κs within =
@@ -239,12 +242,14 @@ pairs-returns-in_err-pair-clause-goes g t c = λ rows ps turn valid spell.
     let spells = subst (λ (n : ℕ). Spells f n at.value) (sym (c.from-object.ensures ∙ turn_value refs rows turn (length refs / 2) i count)) at.spells in
     let before = pairs_before c.args.level i ps in
     let one = pair_lines c.args.level at.key at.value in
-    let stops = Stops-behind before one c.args.pending.now c.loop-i.pending _ _ _ _ _ _ _ (c.loop-i.invariant.gathers rows ps turn valid spell) (c.in_err-pair.ensures.goes at.key at.value named at.valid spells).stopped in
-    rw (e.1, e.2) (Goes-same ((before ++ one) ++ at.rest) (printed_pairs c.args.level ps) c.args.pending.now _ _ _ _ _ _ (sym at.split) (Goes-not (before ++ one) at.rest c.args.pending.now _ _ _ _ _ _ stops))
+    let p = state_of g.W.Sink c.args.out.now in
+    let r = state_of g.W.Sink c.pair.new.out in
+    let stop = Goes_then before one p (state_of g.W.Sink c.loop-i.out) r tt _ (c.loop-i.invariant.goes rows ps turn valid spell) (c.in_err-pair.ensures.goes at.key at.value named at.valid spells) in
+    rw (e.1, e.2) (Goes_same ((before ++ one) ++ at.rest) (printed_pairs c.args.level ps) p r _ (sym at.split) (Goes_stop (before ++ one) at.rest p r _ stop))
 
 pub pairs-loop-i-preserved : goal.pairs-loop-i-preserved
 pairs-loop-i-preserved g t c = record {
-  gathers = λ rows ps turn valid spell.
+  goes = λ rows ps turn valid spell.
       let f = octets_of c.args.self.now.file in
       let refs = c.args.references.now in
       let i = c.loop-i.i in
@@ -254,8 +259,8 @@ pairs-loop-i-preserved g t c = record {
       let named = subst (λ (n : ℕ). Holds f n (holds_scalar (text at.key))) (sym (c.from-key.ensures ∙ turn_key refs rows turn i below)) at.named in
       let spells = subst (λ (n : ℕ). Spells f n at.value) (sym (c.from-object.ensures ∙ turn_value refs rows turn (length refs / 2) i count)) at.spells in
       let more : pairs_before c.args.level i ps ++ pair_lines c.args.level at.key at.value ≡ pairs_before c.args.level (i + 1) ps = sym at.more ∙ ap (λ k. pairs_before c.args.level k ps) (sym (add-one i)) in
-      next_gathers (pairs_before c.args.level i ps) (pair_lines c.args.level at.key at.value) (pairs_before c.args.level (i + 1) ps) c.args.pending.now c.loop-i.pending c.pair.new.pending _ _ _ _ _ _ more (c.loop-i.invariant.gathers rows ps turn valid spell) (c.in_ok-pair.ensures.goes at.key at.value named at.valid spells).done;
-  same = c.in_ok-pair.ensures.same ∙ c.loop-i.invariant.same;
+      Goes_rest (pairs_before c.args.level i ps) (pair_lines c.args.level at.key at.value) (pairs_before c.args.level (i + 1) ps) (state_of g.W.Sink c.args.out.now) (state_of g.W.Sink c.loop-i.out) (state_of g.W.Sink c.pair.new.out) tt _ more (c.loop-i.invariant.goes rows ps turn valid spell) (c.in_ok-pair.ensures.goes at.key at.value named at.valid spells);
+  stays = Stays-trans (state_of g.W.Sink c.args.out.now) (state_of g.W.Sink c.loop-i.out) (state_of g.W.Sink c.pair.new.out) c.loop-i.invariant.stays c.in_ok-pair.ensures.stays;
   seen = c.in_ok-pair.ensures.seen;
 }
 
@@ -265,7 +270,7 @@ pairs-returns-clause-goes g t c = λ rows ps turn valid spell.
     let count = turn_count c.args.references.now rows turn in
     let past : length rows ≤ i = omega (arith, c.loop-i-test.false, count) in
     let all = pairs_all (octets_of c.args.self.now.file) rows c.args.level i ps past spell in
-    Goes-ok (printed_pairs c.args.level ps) c.args.pending.now c.loop-i.pending _ _ _ _ (Gathers-same (pairs_before c.args.level i ps) (printed_pairs c.args.level ps) c.args.pending.now c.loop-i.pending _ _ _ _ all (c.loop-i.invariant.gathers rows ps turn valid spell))
+    Goes_same (pairs_before c.args.level i ps) (printed_pairs c.args.level ps) (state_of g.W.Sink c.args.out.now) (state_of g.W.Sink c.loop-i.out) _ all (c.loop-i.invariant.goes rows ps turn valid spell)
 
 pub pair-returns-in_err-begin_pair-clause-goes : goal.pair-returns-in_err-begin_pair-clause-goes
 pair-returns-in_err-begin_pair-clause-goes g t c = λ units v named valid spells.
@@ -273,11 +278,29 @@ pair-returns-in_err-begin_pair-clause-goes g t c = λ units v named valid spells
     let seen = units_of c.text_of-text.result in
     let same = text_seen (octets_of c.args.self.now.file) c.args.key seen units c.text_of-text.ensures.text named in
     let is = ap (λ us. pair_lines c.args.level us v) same in
-    rw (e.1, e.2) (Goes-same (pair_lines c.args.level seen v) (pair_lines c.args.level units v) c.args.pending.now _ _ _ _ _ _ is (Goes-not (pair_head c.args.level seen) (printed_at c.args.level v) c.args.pending.now _ _ _ _ _ _ c.in_err-begin_pair.ensures.goes.stopped))
+    rw (e.1, e.2) (Goes_same (pair_lines c.args.level seen v) (pair_lines c.args.level units v) (state_of g.W.Sink c.args.out.now) (state_of g.W.Sink c.begin_pair.new.out) _ is (Goes_stop (pair_head c.args.level seen) (printed_at c.args.level v) (state_of g.W.Sink c.args.out.now) (state_of g.W.Sink c.begin_pair.new.out) _ c.in_err-begin_pair.ensures.goes))
 
 pub pair-returns-clause-goes : goal.pair-returns-clause-goes
 pair-returns-clause-goes g t c = λ units v named valid spells.
     let seen = units_of c.text_of-text.result in
     let same = text_seen (octets_of c.args.self.now.file) c.args.key seen units c.text_of-text.ensures.text named in
     let is = ap (λ us. pair_lines c.args.level us v) same in
-    Goes-same (pair_lines c.args.level seen v) (pair_lines c.args.level units v) c.args.pending.now c.value.new.pending _ _ _ _ c.value.result is (Goes-then (pair_head c.args.level seen) (printed_at c.args.level v) c.args.pending.now c.begin_pair.new.pending c.value.new.pending _ _ _ _ _ _ c.value.result c.in_ok-begin_pair.ensures.goes.done (c.value.ensures.goes v valid spells))
+    Goes_same (pair_lines c.args.level seen v) (pair_lines c.args.level units v) (state_of g.W.Sink c.args.out.now) (state_of g.W.Sink c.value.new.out) c.value.result is (Goes_then (pair_head c.args.level seen) (printed_at c.args.level v) (state_of g.W.Sink c.args.out.now) (state_of g.W.Sink c.begin_pair.new.out) (state_of g.W.Sink c.value.new.out) _ c.value.result c.in_ok-begin_pair.ensures.goes (c.value.ensures.goes v valid spells))
+
+pub items-loop-i-init : goal.items-loop-i-init
+items-loop-i-init g t c =
+    let p = state_of g.W.Sink c.args.out.now in
+    record {
+      goes = λ vs valid spell. Goes_put [] p.waiting p (sym (append-nil p.waiting));
+      stays = record { sink = refl; device = refl };
+      seen = c.requires.seen;
+    }
+
+pub pairs-loop-i-init : goal.pairs-loop-i-init
+pairs-loop-i-init g t c =
+    let p = state_of g.W.Sink c.args.out.now in
+    record {
+      goes = λ rows ps turn valid spell. Goes_put [] p.waiting p (sym (append-nil p.waiting));
+      stays = record { sink = refl; device = refl };
+      seen = c.requires.seen;
+    }

@@ -1,9 +1,9 @@
-use Rattle.std.proofs.Common.{◌≡◌, ℕ, ◌+◌, ◌-◌, ◌*◌, List}
+use Rattle.std.proofs.Common.{◌≡◌, ℕ, ◌+◌, ◌-◌, ◌*◌, List, Ok}
 use Rattle.plist_value.specs.Plist.{Items, Pairs, AreItems, ArePairs}
 use Rattle.plist_value.specs.declared.TheConstants.{MAX_DEPTH}
 use Rattle.plist_object.specs.Spelled.{SpellItems, SpellPairs}
 use Rattle.plist_object.specs.Views.{octets_of, numbers_of}
-use Rattle.plist_engine.specs.Pending.{Gathers}
+use Rattle.plist_engine.specs.Output.{Goes, Stays, state_of}
 use Rattle.plist_print.specs.Known.{IsSeen}
 use Rattle.plist_engine.specs.Spelling.{in_turn}
 use Rattle.plist_print.proofs.PrintSteps.{items_before, pairs_before}
@@ -34,15 +34,15 @@ decreases-table g l = 4 * (MAX_DEPTH - l.level) - 1
 -- the lines of the items before this one went
 abbrev pub invariant-items-loop-i : goal.invariant-items-loop-i
 invariant-items-loop-i g l = record {
-  gathers : (vs : Items) → AreItems vs → SpellItems (octets_of l.self.file) (numbers_of l.items) vs → Gathers (items_before l.level 0 l.i vs) l.fn.pending l.pending (g.W.Sink.taken l.fn.out) (g.W.Sink.taken l.out) (g.W.Sink.failures l.fn.out) (g.W.Sink.failures l.out);
-  same : g.W.Sink.device l.out ≡ g.W.Sink.device l.fn.out;
+  goes : (vs : Items) → AreItems vs → SpellItems (octets_of l.self.file) (numbers_of l.items) vs → Goes {T = Unit {0}} (items_before l.level 0 l.i vs) (state_of g.W.Sink l.fn.out) (state_of g.W.Sink l.out) (Ok tt);
+  stays : Stays (state_of g.W.Sink l.fn.out) (state_of g.W.Sink l.out);
   seen : IsSeen (octets_of l.self.file) l.seen;
 }
 
 -- the lines of the pairs before this one went
 abbrev pub invariant-pairs-loop-i : goal.invariant-pairs-loop-i
 invariant-pairs-loop-i g l = record {
-  gathers : (rows : List (ℕ × ℕ)) (ps : Pairs) → l.references ≡ in_turn rows → ArePairs ps → SpellPairs (octets_of l.self.file) rows ps → Gathers (pairs_before l.level l.i ps) l.fn.pending l.pending (g.W.Sink.taken l.fn.out) (g.W.Sink.taken l.out) (g.W.Sink.failures l.fn.out) (g.W.Sink.failures l.out);
-  same : g.W.Sink.device l.out ≡ g.W.Sink.device l.fn.out;
+  goes : (rows : List (ℕ × ℕ)) (ps : Pairs) → l.references ≡ in_turn rows → ArePairs ps → SpellPairs (octets_of l.self.file) rows ps → Goes {T = Unit {0}} (pairs_before l.level l.i ps) (state_of g.W.Sink l.fn.out) (state_of g.W.Sink l.out) (Ok tt);
+  stays : Stays (state_of g.W.Sink l.fn.out) (state_of g.W.Sink l.out);
   seen : IsSeen (octets_of l.self.file) l.seen;
 }
