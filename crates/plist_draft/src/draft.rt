@@ -1,7 +1,7 @@
 //! A binary file that grows.
 ghost use Rattle.std.specs.Prelude.{◌≡◌, ◌+◌, ◌<◌, ◌≤◌, ◌^◌, ◌++◌, ◌∷◌, []};
 ghost use Rattle.std.specs.Prelude.{ℕ, List, length, vec_len, vec_capacity};
-ghost use Rattle.std.specs.Prelude.{IfOk, IfSome, OnOk, OnErr, ◌⊎◌};
+ghost use Rattle.std.specs.Prelude.{IfOk, IfSome, IsOk, OnOk, OnErr, ◌↔◌, ◌⊎◌};
 ghost use Rattle.std.specs.List.{zip};
 ghost use Rattle.std.specs.List.Sorted.{IsPermutation};
 ghost use Rattle.plist_value.specs.Plist.{Plist, Items, Pairs, IsPlist, IsScalar};
@@ -233,7 +233,7 @@ impl Draft {
 
 // Whether there are below 2^32 references, each of which has four octets.
 fn are_kept(refs: &[u32]) -> Result<(), AllocError>
-    ensures { OnOk result (AreKept refs.now) }
+    ensures { IsOk result ↔ AreKept refs.now }
 {
     short(refs.len() as u64)?;
     Ok(())
@@ -267,7 +267,7 @@ fn short_ascii<'a>(scalar: &ScalarRef<'a>) -> Option<&'a [u8]>
 
 // Whether a text has below 2^32 units, and data below 2^32 octets.
 fn is_small(scalar: &ScalarRef) -> Result<(), AllocError>
-    ensures { OnOk result (IsSmall (content_of scalar.now)) }
+    ensures { IsOk result ↔ IsSmall (content_of scalar.now) }
 {
     match scalar {
         ScalarRef::Text(text) => short(text.len() as u64).map(|_| ()),

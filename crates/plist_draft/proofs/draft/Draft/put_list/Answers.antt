@@ -1,4 +1,4 @@
-use Rattle.std.proofs.Common.{◌≡◌, ◌∙◌, ◌++◌, ◌<◌, ◌∷◌, [], arith, length}
+use Rattle.std.proofs.Common.{◌≡◌, ◌∙◌, ◌++◌, ◌<◌, ◌∷◌, [], arith, length, refl}
 use Rattle.std.proofs.lemmas.List.Elements.{All-from_get_or}
 use Rattle.plist_object.specs.Objects.{holds_list}
 use Rattle.plist_draft.proofs.Storing.{PutsHeld, puts_held, spells-list}
@@ -9,7 +9,7 @@ puts : (c : After-push_reserved) → PutsHeld c.args.self.now.octets.items c.arg
 puts c =
     let placed : c.push_reserved.new.self.items ≡ c.args.self.now.places.items ++ (length c.args.self.now.octets.items ∷ []) = cc (c.push_reserved.ensures.items, c.begin.ensures.places, c.in_ok-number.ensures.place) in
     let spelled = rw c.begin.ensures.octets at c.in_ok-put_short_list.ensures.ok in
-    puts_held _ _ _ _ (holds_list c.args.items.now) c.args.self.now.laid c.in_ok-are_kept.ensures spelled placed
+    puts_held _ _ _ _ (holds_list c.args.items.now) c.args.self.now.laid (c.in_ok-are_kept.ensures.0 refl) spelled placed
 
 pub invariant_of-self-2 : goal.invariant_of-self-2
 invariant_of-self-2 c = record { laid = (puts (goal.at.invariant_of-self-2 c).After-push_reserved).stored }
