@@ -1,5 +1,5 @@
 -- What a check of a file answers, and what its parts say.
-use Rattle.std.specs.Prelude.{◌≡◌, ℕ, zero, suc, ◌<◌, length, slice_index, EachIndex, List, Ok, ⊤}
+use Rattle.std.specs.Prelude.{◌≡◌, ℕ, zero, suc, ◌<◌, nat_lt, if◌then◌else◌, length, slice_index, EachIndex, List, Ok, ⊤}
 use Rattle.std.specs.List.{AllByRecursion}
 use Rattle.std.specs.declared.cmp.Ordering.TheVariants.{Less}
 use Rattle.std.specs.Ordering.{nat_cmp}
@@ -34,6 +34,14 @@ IsVerdict f (verdict.Broken rule object) = IsBroken f rule object
 abbrev pub IsFlaw : List ℕ → Flaw → Type 0
 IsFlaw f (flaw.Broken rule object) = IsBroken f rule object
 IsFlaw f flaw.NoMemory = ⊤
+
+-- Of two flaws the one that is answered: want of memory, or else the one at the earlier object, and
+-- of two at one object the first.
+abbrev pub earlier : Flaw → Flaw → Flaw
+earlier flaw.NoMemory other = flaw.NoMemory
+earlier (flaw.Broken rule object) flaw.NoMemory = flaw.NoMemory
+earlier (flaw.Broken rule object) (flaw.Broken other first) =
+    if nat_lt first object then flaw.Broken other first else flaw.Broken rule object
 
 -- each object is well read
 abbrev pub AllRead : List ℕ → Type 0

@@ -7,7 +7,7 @@ ghost use Rattle.plist_object.specs.Places.{Holds, span_of};
 ghost use Rattle.plist_object.specs.Views.{held_of, octets_of};
 ghost use Rattle.plist_canon.specs.Rules.{HasPlainTrailer, HasLeastWidths, Adjoins};
 ghost use Rattle.plist_canon.specs.Rules.{IsSpelledCanonically, HasAscendingKeys, IsNoRepeat};
-ghost use Rattle.plist_canon.specs.Checking.{IsFlaw, RefersWell, IsEndBefore};
+ghost use Rattle.plist_canon.specs.Checking.{IsFlaw, earlier, RefersWell, IsEndBefore};
 ghost use Rattle.plist_canon.specs.Checking.{Follows, IsJudged};
 ghost use Rattle.plist_canon.specs.KnownKeys.{AreKnown};
 ghost use Rattle.plist_engine.specs.Sieve.{AreNoted};
@@ -39,12 +39,16 @@ impl Flaw {
         Flaw::Broken { rule, object }
     }
 
-    // Whether it is at an object before that of the other. Want of memory is before all.
-    fn is_before(self, other: Flaw) -> bool {
+    // Of this and the other the one that is answered: want of memory, or else the one at an object
+    // before that of the other.
+    fn or_earlier(self, other: Flaw) -> Flaw
+        ensures { result ≡ earlier self other }
+    {
         match (self, other) {
-            (Flaw::Broken { object, .. }, Flaw::Broken { object: later, .. }) => object < later,
-            (Flaw::Broken { .. }, Flaw::NoMemory) => false,
-            (Flaw::NoMemory, _) => true,
+            (Flaw::NoMemory, _) | (_, Flaw::NoMemory) => Flaw::NoMemory,
+            (Flaw::Broken { object, .. }, Flaw::Broken { object: first, .. }) => {
+                if first < object { other } else { self }
+            }
         }
     }
 }
@@ -151,8 +155,8 @@ fn first_flaw<S: BuildHasher + Copy>(
     ensures { IsFlaw (octets_of file.now) result }
 {
     match judge_repeats(alloc, hasher, file, notes) {
-        Err(repeat) if repeat.is_before(flaw) => repeat,
-        _ => flaw,
+        Err(repeat) => flaw.or_earlier(repeat),
+        Ok(()) => flaw,
     }
 }
 
