@@ -3,6 +3,7 @@ pub use Rattle.plist_object.specs.Spelled
 pub use Rattle.ostep_text.specs.Phrase
 pub use Rattle.ostep_text.specs.Text
 pub use Rattle.ostep_text.specs.Reading
+pub mod Failure
 pub mod First
 pub mod Held
 pub mod Read

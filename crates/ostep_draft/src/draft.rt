@@ -1,5 +1,5 @@
 //! Whole texts.
-ghost use Rattle.std.specs.Prelude.{IfSome, IfOk};
+ghost use Rattle.std.specs.Prelude.{IfOk};
 ghost use Rattle.plist_value.specs.Plist.{Plist};
 ghost use Rattle.plist_object.specs.Spelled.{IsBinary};
 ghost use Rattle.ostep_text.specs.Text.{IsText};
@@ -16,16 +16,14 @@ use std::alloc::Global;
 /// top the braces of a table may be missing, and a text without tokens is the empty table.
 ///
 /// In the file a table may have a key twice, and there may be more nodes or payload than the limits
-/// allow: it is to be judged before it is used. `None` is for octets that are no text, for values
-/// deeper than `MAX_DEPTH`, and for want of memory; `ostep_text::read_text` tells which it is, and
-/// where.
-pub fn draft_text(alloc: Global, octets: &[u8]) -> Option<Vec<u8>>
-    ensures { IfSome result (λ file. (v : Plist) → IsBinary file.items v → IsText octets.now v) }
-{
-    draft(alloc, octets).ok()
-}
-
-fn draft(alloc: Global, octets: &[u8]) -> Result<Vec<u8>, NoDraft>
+/// allow: it is to be judged before it is used.
+///
+/// # Errors
+///
+/// [`NoDraft::NoValue`] for octets that are no text, and for values deeper than `MAX_DEPTH`;
+/// `ostep_text::read_text` tells which it is, and where. [`NoDraft::OutOfMemory`] for want of
+/// memory, at any step.
+pub fn draft_text(alloc: Global, octets: &[u8]) -> Result<Vec<u8>, NoDraft>
     ensures { IfOk result (λ file. (v : Plist) → IsBinary file.items v → IsText octets.now v) }
 {
     let cursor = open(octets)?;

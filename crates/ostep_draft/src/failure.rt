@@ -1,25 +1,44 @@
-//! Why there is no draft, which is not told.
+//! Why there is no draft.
+ghost use Rattle.std.specs.Prelude.{◌≡◌};
+ghost use Rattle.ostep_draft.specs.Failure.{of_tokens};
+ghost use Rattle.ostep_draft.specs.declared.failure.NoDraft.TheVariants.{OutOfMemory};
+
 use ostep_lex::LexFault;
 use std::alloc::{AllocError, AllocFailed};
 
-/// There is no draft: the octets are no text, lie too deep, or memory ran out.
+/// Why there is no draft of some octets.
 #[derive(Clone, Copy, Debug)]
-pub(crate) struct NoDraft;
+pub enum NoDraft {
+    /// The reader found no value: the octets have no tokens, these are no phrase, or the value is
+    /// deeper than `MAX_DEPTH`. `ostep_text::read_text` tells which it is, and where.
+    NoValue,
+    /// No memory was left.
+    OutOfMemory,
+}
 
 impl From<LexFault> for NoDraft {
-    fn from(_fault: LexFault) -> Self {
-        NoDraft
+    ghost from_gives = { λ fault why. why ≡ of_tokens fault };
+
+    fn from(fault: LexFault) -> Self {
+        match fault {
+            LexFault::OutOfMemory => NoDraft::OutOfMemory,
+            _ => NoDraft::NoValue,
+        }
     }
 }
 
 impl From<AllocError> for NoDraft {
+    ghost from_gives = { λ _ why. why ≡ OutOfMemory };
+
     fn from(_error: AllocError) -> Self {
-        NoDraft
+        NoDraft::OutOfMemory
     }
 }
 
 impl<T: Drop> From<AllocFailed<T>> for NoDraft {
+    ghost from_gives = { λ _ why. why ≡ OutOfMemory };
+
     fn from(_error: AllocFailed<T>) -> Self {
-        NoDraft
+        NoDraft::OutOfMemory
     }
 }

@@ -6,10 +6,11 @@
 #![tactic(auto)]
 
 pub mod draft;
-mod failure;
+pub mod failure;
 mod first;
 mod reader;
 mod rows;
 mod tokens;
 
 pub use draft::draft_text;
+pub use failure::NoDraft;

@@ -58,7 +58,7 @@ impl<'a> Reader<'a> {
         let first = self.tokens.expect_first()?;
         let top = self.value(first, MAX_DEPTH)?;
         let None = self.tokens.next()? else {
-            return Err(NoDraft);
+            return Err(NoDraft::NoValue);
         };
         Ok(top)
     }
@@ -93,7 +93,7 @@ impl<'a> Reader<'a> {
             (objects self.new.draft) self.new.tokens.cursor) }
     {
         if levels == 0 {
-            return Err(NoDraft);
+            return Err(NoDraft::NoValue);
         }
         match first {
             First::Plain(text) => self.put_text(text, Role::Value),
@@ -127,7 +127,7 @@ impl<'a> Reader<'a> {
                 let rows = self.rows(levels)?;
                 self.put_table(&rows)
             }
-            _ => Err(NoDraft),
+            _ => Err(NoDraft::NoValue),
         }
     }
 
@@ -154,7 +154,7 @@ impl<'a> Reader<'a> {
             match behind.kind {
                 TokenKind::ParenClose => return Ok(items),
                 TokenKind::Comma => {}
-                _ => return Err(NoDraft),
+                _ => return Err(NoDraft::NoValue),
             }
         }
     }
@@ -205,7 +205,7 @@ impl<'a> Reader<'a> {
                 Ok((number, value))
             }
             TokenKind::Semicolon => Ok((number, number)),
-            _ => Err(NoDraft),
+            _ => Err(NoDraft::NoValue),
         }
     }
 
@@ -225,7 +225,7 @@ impl<'a> Reader<'a> {
         let behind = self.tokens.expect_mark(';')?;
         match behind.kind {
             TokenKind::Semicolon => Ok(value),
-            _ => Err(NoDraft),
+            _ => Err(NoDraft::NoValue),
         }
     }
 
@@ -276,7 +276,7 @@ impl<'a> Reader<'a> {
     {
         match kind {
             TokenKind::Text(text) => self.put_text(TextRef::of_units(text.units()), Role::Key),
-            _ => Err(NoDraft),
+            _ => Err(NoDraft::NoValue),
         }
     }
 

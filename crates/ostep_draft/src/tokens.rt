@@ -78,7 +78,7 @@ impl<'a> Tokens<'a> {
     {
         match self.next()? {
             Some(token) => Ok(token),
-            None => Err(NoDraft),
+            None => Err(NoDraft::NoValue),
         }
     }
 
@@ -158,7 +158,7 @@ impl<'a> Tokens<'a> {
     {
         match self.next_first()? {
             Some(first) => Ok(first),
-            None => Err(NoDraft),
+            None => Err(NoDraft::NoValue),
         }
     }
 }

@@ -1,12 +1,13 @@
 -- What accepted octets say of the value that they spell.
-use Rattle.std.proofs.Common.{◌≡◌, ◌∙◌, true, false, inl, inr, refl, sym, List, ℕ}
+use Rattle.std.proofs.Common.{◌≡◌, ◌∙◌, true, false, inl, inr, refl, subst, sym, List, ℕ}
 use Rattle.plist_value.specs.Plist.{Plist, IsPlist}
 use Rattle.plist_value.specs.Limits.{Fits}
 use Rattle.plist_object.specs.Laws.{OneValueAtTop}
+use Rattle.plist_object.specs.Spelled.{IsBinary}
 use Rattle.plist_engine.specs.Canonical.{canon}
 use Rattle.ostep_text.specs.Laws as of_text
 use Rattle.plist_forms.specs.Accepted.{IsAccepted, begins_as_binary}
-use Rattle.plist_forms.specs.Laws.{OneValue}
+use Rattle.plist_forms.specs.Laws.{OneValue, CanonicalIsAccepted}
 
 pub accepted_valid : (octets : List ℕ) (v : Plist) → IsAccepted octets v → IsPlist v
 accepted_valid octets v (inl binary) = binary.1.valid
@@ -26,3 +27,11 @@ one_value at_top of_texts octets v w (inr a) (inr b) = of_texts octets v w a.1 b
 pub canon_begins : (v : Plist) → begins_as_binary (canon v) ≡ true
 unfolding canon
 canon_begins v = refl
+
+-- what the canonical file of a value spells is what the value's source does
+pub canon_drafts : OneValue → CanonicalIsAccepted → (source file : List ℕ) (w : Plist) → IsAccepted source w → file ≡ canon w
+    → (v : Plist) → IsBinary file v → IsAccepted source v
+canon_drafts one own source file w accepted e v binary =
+    let is = own w (accepted_valid source w accepted) (accepted_fits source w accepted) in
+    let same : v ≡ w = one (canon w) v w (inl (is.0, subst (λ x. IsBinary x v) e binary)) is.1 in
+    subst (λ x. IsAccepted source x) (sym same) accepted

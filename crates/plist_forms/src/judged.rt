@@ -8,9 +8,11 @@ ghost use Rattle.plist_forms.specs.Accepted.{IsAccepted, begins_as_binary as beg
 ghost use Rattle.plist_forms.specs.Refusals.{IsRefused};
 
 use crate::Fault;
-use crate::canonicals::refusal;
-use ostep_draft::draft_text;
+use crate::canonicals::{read_any, refusal};
+use crate::laws::{canonical_is_accepted, one_value};
+use ostep_draft::{NoDraft, draft_text};
 use plist_binary::{JudgedFile, judge_keys};
+use plist_canon::canonical;
 use std::alloc::Global;
 
 /// The octets as a binary file, which spells a value within the limits.
@@ -33,9 +35,24 @@ pub(crate) fn draft_of(alloc: Global, text: &[u8]) -> Result<Vec<u8>, Fault>
     ensures refused { IfErr result (IsRefused text.now) }
 {
     match draft_text(alloc, text) {
-        Some(draft) => Ok(draft),
-        None => Err(refusal(alloc, text)),
+        Ok(draft) => Ok(draft),
+        Err(NoDraft::NoValue) => file_of_value(alloc, text),
+        Err(NoDraft::OutOfMemory) => Err(Fault::OutOfMemory { sent: 0 }),
     }
+}
+
+// The canonical file of the text's value, for a text without a draft: the text's own refusal, if it
+// has one, and else what a draft would spell.
+fn file_of_value(alloc: Global, text: &[u8]) -> Result<Vec<u8>, Fault>
+    ensures drafted { IfOk result (λ file. (v : Plist) → IsBinary file.items v
+        → IsAccepted text.now v) }
+    ensures refused { IfErr result (IsRefused text.now) }
+{
+    one_value();
+    canonical_is_accepted();
+    let value = read_any(alloc, text)?;
+    let file = canonical(alloc, &value)?;
+    Ok(file)
 }
 
 /// The draft of a text as a binary file, which spells a value within the limits. A refusal is the

@@ -13,7 +13,7 @@ use std::test::Fail;
 
 // The canonical file by way of the draft.
 fn drafted(alloc: Global, octets: &[u8]) -> Option<Vec<u8>> {
-    let draft = draft_text(alloc, octets)?;
+    let draft = draft_text(alloc, octets).ok()?;
     judge(alloc, &draft).ok()?;
     canonical_file(alloc, &draft).ok()
 }

@@ -1,7 +1,7 @@
 use Rattle.std.proofs.Common.{[], sym, subst}
 use Rattle.plist_object.specs.Spelled.{Spells}
 use Rattle.ostep_lex.specs.Cursor.{StandsBehind}
-use Rattle.ostep_draft.proofs.draft.draft.Goals as goal
+use Rattle.ostep_draft.proofs.draft.draft_text.Goals as goal
 
 pub returns : goal.returns
 returns c = λ v b.
