@@ -13,7 +13,7 @@ use Rattle.plist_object.specs.Places.{Holds}
 use Rattle.plist_object.specs.References.{references_of}
 use Rattle.plist_object.proofs.Ascending.{Among, Among-contains, Contains-among}
 use Rattle.plist_binary.specs.Begins.{Comes, Begins, IsBegun, IsEntered, AreNext}
-use Rattle.plist_binary.specs.Paths.{Refers, Leads, AllRefer, HasKeys}
+use Rattle.plist_binary.specs.Paths.{Refers, Leads, HasKeys}
 use Rattle.plist_binary.specs.Readings.{ReadsItems}
 use Rattle.plist_binary.proofs.ItemSteps.{among_left, among_right, around, join, SpellItems-join, AreItems-join, nodes-join, payload-join, depth-join}
 
@@ -172,8 +172,8 @@ IsBegun-next f before j refs k i levels whole left after vs next levels_are with
     }
 
 -- the container holds each of them
-pub AllRefer-next : (f before : List ℕ) (j : ℕ) (refs : List ℕ) (whole left : Budget) → AreNext f before j refs whole left → AllRefer f j refs
-AllRefer-next f before j refs whole left next i among = record {
+pub Refers-next : (f before : List ℕ) (j i : ℕ) (refs : List ℕ) (whole left : Budget) → AreNext f before j refs whole left → Contains refs i → Refers f j i
+Refers-next f before j i refs whole left next among = record {
   held = next.held;
   holds = next.holds;
   among = Contains-among i (references_of next.held) (subst (Among i) (sym next.all) (among_right i next.front (refs ++ next.behind) (among_left i refs next.behind (Among-contains i refs among))));

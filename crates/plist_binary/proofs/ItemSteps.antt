@@ -12,7 +12,7 @@ use Rattle.plist_value.specs.declared.budget.Budget.{Budget}
 use Rattle.plist_binary.specs.declared.fault.BinaryFault.{BinaryFault}
 use Rattle.plist_binary.specs.declared.fault.BinaryFault.TheVariants.{BadReference, KeyNotText}
 use Rattle.plist_value.specs.Budget.{Affords}
-use Rattle.plist_binary.specs.Paths.{Refers, Leads, IsKeyOf, AllRefer, HasKeys}
+use Rattle.plist_binary.specs.Paths.{Refers, Leads, IsKeyOf, HasKeys}
 use Rattle.plist_binary.specs.Readings.{Reads, Refuses, ReadsItems, RefusesItems, texts, RefusesKey, RefusesKeys}
 use Rattle.plist_object.proofs.Ascending.{Among, Among-contains, Contains-among}
 use Rattle.plist_binary.specs.Faults.{IsText}
@@ -291,9 +291,9 @@ pub RefusesItems-next : (f : List ℕ) (whole : Budget) (refs : List ℕ) (k i l
 RefusesItems-next f whole refs k i levels before left vs fault within is listed items one =
     subst (λ (xs : List ℕ). RefusesItems f whole xs levels before fault) (around refs k i within is) (RefusesItems-at f whole (take k refs) i (drop (suc k) refs) levels before left vs fault listed items one)
 
-pub RefusesItems-none : (f : List ℕ) (whole : Budget) (containers refs : List ℕ) (container k i levels : ℕ) (before : Budget) → IsLaid f → Leads f containers container → AllRefer f container refs → k < length refs → i ≡ slice_index refs k → (trailer_of f).count ≤ i → RefusesItems f whole refs levels before (BadReference container)
-RefusesItems-none f whole containers refs container k i levels before laid leads refer within is above =
-    subst (λ (xs : List ℕ). RefusesItems f whole xs levels before (BadReference container)) (around refs k i within is) (RefusesItems-nowhere f whole containers (take k refs) container i (drop (suc k) refs) levels before laid leads (refer i (Contains-at refs k i within is)) above)
+pub RefusesItems-none : (f : List ℕ) (whole : Budget) (containers refs : List ℕ) (container k i levels : ℕ) (before : Budget) → IsLaid f → Leads f containers container → Refers f container i → k < length refs → i ≡ slice_index refs k → (trailer_of f).count ≤ i → RefusesItems f whole refs levels before (BadReference container)
+RefusesItems-none f whole containers refs container k i levels before laid leads refers within is above =
+    subst (λ (xs : List ℕ). RefusesItems f whole xs levels before (BadReference container)) (around refs k i within is) (RefusesItems-nowhere f whole containers (take k refs) container i (drop (suc k) refs) levels before laid leads refers above)
 
 pub ReadsKeys-next : (f refs : List ℕ) (k i levels : ℕ) (before left after : Budget) (keys : List (List ℕ)) (units : List ℕ) → k < length refs → i ≡ slice_index refs k → i < (trailer_of f).count → ReadsItems f (take k refs) levels before (texts keys) left → Reads f i levels left (scalar (text units)) after → ReadsItems f (take (k + 1) refs) levels before (texts (keys ++ units ∷ [])) after
 ReadsKeys-next f refs k i levels before left after keys units within is listed items one =
@@ -303,9 +303,6 @@ pub RefusesKeys-next : (f : List ℕ) (whole : Budget) (refs : List ℕ) (k i le
 RefusesKeys-next f whole refs k i levels before left vs fault within is listed items one =
     subst (λ (xs : List ℕ). RefusesKeys f whole xs levels before fault) (around refs k i within is) (RefusesKeys-at f whole (take k refs) i (drop (suc k) refs) levels before left vs fault listed items one)
 
-AllRefer-keys : (f : List ℕ) (j : ℕ) (keys : List ℕ) → HasKeys f j keys → AllRefer f j keys
-AllRefer-keys f j keys owner i among = Refers-key f j i record { keys = keys; table = owner; among = among }
-
 pub RefusesKeys-none : (f : List ℕ) (whole : Budget) (containers refs : List ℕ) (table k i levels : ℕ) (before : Budget) → IsLaid f → Leads f containers table → HasKeys f table refs → k < length refs → i ≡ slice_index refs k → (trailer_of f).count ≤ i → RefusesKeys f whole refs levels before (BadReference table)
 RefusesKeys-none f whole containers refs owner k i levels before laid leads keys within is above =
-    RefusesKeys-items f whole refs levels before (BadReference owner) (RefusesItems-none f whole containers refs owner k i levels before laid leads (AllRefer-keys f owner refs keys) within is above)
+    RefusesKeys-items f whole refs levels before (BadReference owner) (RefusesItems-none f whole containers refs owner k i levels before laid leads (Refers-key f owner i record { keys = refs; table = keys; among = Contains-at refs k i within is }) within is above)

@@ -30,10 +30,6 @@ abbrev pub containers_of : Path → List ℕ
 containers_of Above = []
 containers_of (In' container at before) = container ∷ containers_of before
 
--- the object j holds each of the references
-abbrev pub AllRefer : List ℕ → ℕ → List ℕ → Type 0
-AllRefer f j refs = (i : ℕ) → Contains refs i → Refers f j i
-
 -- the object j holds a table, and these are its references to keys
 pub record HasKeys (f : List ℕ) (j : ℕ) (keys : List ℕ) : Type 0 where
   pub values : List ℕ

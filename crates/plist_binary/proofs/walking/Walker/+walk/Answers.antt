@@ -11,8 +11,8 @@ use Rattle.plist_binary.specs.declared.fault.BinaryFault.TheVariants.{BadReferen
 use Rattle.plist_binary.specs.Passing.{PassesItems}
 use Rattle.plist_binary.specs.Paths.{containers_of}
 use Rattle.plist_binary.specs.Readings.{Refuses, RefusesItems, texts}
-use Rattle.plist_binary.proofs.Beginning.{AllRefer-next, AreNext-items, AreNext-leads, AreNext-values, IsBegun-next, IsEntered-begun}
-use Rattle.plist_binary.proofs.ItemSteps.{RefusesItems-next, RefusesItems-none}
+use Rattle.plist_binary.proofs.Beginning.{AreNext-items, AreNext-leads, AreNext-values, IsBegun-next, IsEntered-begun, Refers-next}
+use Rattle.plist_binary.proofs.ItemSteps.{Contains-at, RefusesItems-next, RefusesItems-none}
 use Rattle.plist_binary.proofs.Making.{Refuses-payload, Refuses-list, Refuses-table, AreStates-open, AreStates-passed, AreStates-but, AreStates-last}
 use Rattle.plist_binary.proofs.Entering.{length-values}
 use Rattle.plist_binary.proofs.PassSteps.{IsMemo-passed, Passes-scalar, Passes-list, Passes-table, PassesItems-next, PassesPairs-sorted}
@@ -145,7 +145,7 @@ items-returns-in_err-object-clause-refused t c =
     let refs = numbers_of c.args.refs in
     let whole = c.args.self.now.visitor.whole in
     let before = containers_of c.args.before.now in
-    let refused : RefusesItems f whole refs c.args.levels c.args.progress.now.left (BadReference c.args.container) = RefusesItems-none f whole before refs c.args.container c.loop-i.i c.get.result c.args.levels c.args.progress.now.left c.args.self.now.visitor.laid (AreNext-leads f before c.args.container refs whole c.args.progress.now.left c.requires.next) (AllRefer-next f before c.args.container refs whole c.args.progress.now.left c.requires.next) (omega arith) c.get.ensures c.in_err-object.ensures.above.1 in
+    let refused : RefusesItems f whole refs c.args.levels c.args.progress.now.left (BadReference c.args.container) = RefusesItems-none f whole before refs c.args.container c.loop-i.i c.get.result c.args.levels c.args.progress.now.left c.args.self.now.visitor.laid (AreNext-leads f before c.args.container refs whole c.args.progress.now.left c.requires.next) (Refers-next f before c.args.container c.get.result refs whole c.args.progress.now.left c.requires.next (Contains-at refs c.loop-i.i c.get.result (omega arith) c.get.ensures)) (omega arith) c.get.ensures c.in_err-object.ensures.above.1 in
     search rules
 
 pub items-pass-requires : goal.items-pass-requires
