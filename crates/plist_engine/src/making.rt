@@ -24,8 +24,6 @@ impl Sink for GrowingSink {
 
     ghost failures = { λ sink. sink.failures };
 
-    ghost device = { λ _. None };
-
     fn put(&mut self, piece: &[u8]) -> Result<usize, DeviceFault> {
         if self.failures == u64::MAX {
             return Err(DeviceFault);
