@@ -14,7 +14,7 @@ use Rattle.plist_forms.specs.declared.forms.Form.{Form}
 use Rattle.plist_engine.specs.declared.faults.WriteFault.{WriteFault}
 use Rattle.plist_engine.specs.declared.faults.WriteFault.TheVariants as write
 use Rattle.plist_engine.specs.Sending.{IsBlamed, IsWritten, sent_of}
-use Rattle.plist_engine.proofs.Sends.{IsShort-within}
+use Rattle.plist_engine.proofs.Going.{IsShort-within}
 use Rattle.plist_forms.specs.Output.{IsOutputFault}
 use Rattle.plist_forms.specs.Sent.{answer_of}
 use Rattle.plist_forms.specs.Transfer.{Writes}

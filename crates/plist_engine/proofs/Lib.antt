@@ -13,8 +13,6 @@ pub mod Counting
 pub mod Held
 pub mod Found
 pub mod Going
-pub mod Sends
-pub mod Gathering
 pub mod FileSteps
 pub mod Keys
 pub mod Numbers

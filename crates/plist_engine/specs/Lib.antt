@@ -11,7 +11,6 @@ pub mod Found
 pub mod Pieces
 pub mod Sending
 pub mod Output
-pub mod Pending
 pub mod Spelling
 pub mod Hashed
 pub mod Naturals

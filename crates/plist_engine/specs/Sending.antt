@@ -1,5 +1,5 @@
 -- What was sent of some octets, when a call answers.
-use Rattle.std.specs.Prelude.{◌≡◌, ℕ, ◌+◌, ◌<◌, ◌≤◌, List, length, take, Option, Result, IfOk, IfErr}
+use Rattle.std.specs.Prelude.{◌≡◌, ℕ, ◌<◌, ◌≤◌, List, length, take, Option, Result, IfOk, IfErr}
 use Rattle.std.specs.List.{AllByRecursion}
 use Rattle.std.specs.Io.KnownBytes.{Appends}
 use Rattle.plist_value.specs.Refusals.{number_of, reports, report_text}
@@ -37,12 +37,6 @@ IsBlamed (OutOfMemory sent) before after = after ≡ before
 abbrev pub IsShort : WriteFault → ℕ → ℕ → Type 0
 IsShort (WriteFailed sent) out all = out < all
 IsShort (OutOfMemory sent) out all = out ≤ all
-
--- The sink took the octets, so many had gone out before, and its failures are as before; or the
--- call was refused when it had taken a front of them.
-pub record Sends (octets : List ℕ) (sent : ℕ) (old new : Option (List ℕ)) (before after : ℕ) (result : Result ℕ WriteFault) : Type 0 where
-  pub all : IfOk result (λ n. (n ≡ sent + length octets) × Appends old new octets × (after ≡ before))
-  pub front : IfErr result (λ fault. (more : ℕ) × (sent_of fault ≡ sent + more) × IsShort fault more (length octets) × Appends old new (take more octets) × IsBlamed fault before after)
 
 -- A call that sends a file whole answers how many octets it has, and the sink took them without a
 -- failure. Where it is refused, exactly the front of the file went out that the fault tells.
