@@ -1,3 +1,4 @@
+pub mod Failing
 pub mod Orders
 pub mod Spelling
 pub mod DraftSteps

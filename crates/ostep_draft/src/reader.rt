@@ -1,5 +1,5 @@
 //! The draft that grows as the tokens of a text are read.
-ghost use Rattle.std.specs.Prelude.{◌≡◌, ◌≤◌, ◌<◌, ◌∷◌, ◌++◌, [], ℕ, List, length, IfOk};
+ghost use Rattle.std.specs.Prelude.{◌≡◌, ◌≤◌, ◌<◌, ◌∷◌, ◌++◌, [], ℕ, List, length, IfOk, IfErr};
 ghost use Rattle.std.specs.Result.{OnOk};
 ghost use Rattle.plist_value.specs.Plist.{text as one_text, bytes, AreUnits};
 ghost use Rattle.plist_value.specs.Texts.{units_of};
@@ -7,6 +7,7 @@ ghost use Rattle.plist_object.specs.Objects.{holds_scalar, holds_list, holds_tab
 ghost use Rattle.plist_draft.specs.View.{objects};
 ghost use Rattle.ostep_lex.specs.Lexeme.{Placed, lexeme_of, paren_close, brace_close};
 ghost use Rattle.ostep_lex.specs.Cursor.{ahead, StandsBehind};
+ghost use Rattle.ostep_draft.specs.declared.failure.NoDraft.TheVariants.{OutOfMemory};
 ghost use Rattle.ostep_draft.specs.First.{first_lexeme, IsValid};
 ghost use Rattle.ostep_draft.specs.Held.{AllRemain, Puts, PutsString};
 ghost use Rattle.ostep_draft.specs.Drafted.{DraftsValue, DraftsEnded, DraftsItems};
@@ -234,6 +235,7 @@ impl<'a> Reader<'a> {
         requires { AreUnits (units_of text) }
         ensures put { IfOk result (Puts (objects self.old.draft) (objects self.new.draft)
             (holds_scalar (one_text (units_of text.entry)))) }
+        ensures memory { IfErr result (λ why. why ≡ OutOfMemory) }
         ensures cursor { self.new.tokens.cursor ≡ self.old.tokens.cursor }
     {
         let scalar = ScalarRef::Text(text);
@@ -245,6 +247,7 @@ impl<'a> Reader<'a> {
     fn put_units(&mut self, units: Vec<u16>, role: Role) -> Result<u32, NoDraft>
         ensures put { IfOk result (Puts (objects self.old.draft) (objects self.new.draft)
             (holds_scalar (one_text units.items))) }
+        ensures memory { IfErr result (λ why. why ≡ OutOfMemory) }
         ensures cursor { self.new.tokens.cursor ≡ self.old.tokens.cursor }
     {
         let number = self.put_text(TextRef::of_units(units.as_slice()), role)?;
@@ -284,6 +287,7 @@ impl<'a> Reader<'a> {
     fn put_data(&mut self, octets: &[u8]) -> Result<u32, NoDraft>
         ensures put { IfOk result (Puts (objects self.old.draft) (objects self.new.draft)
             (holds_scalar (bytes octets.now))) }
+        ensures memory { IfErr result (λ why. why ≡ OutOfMemory) }
         ensures cursor { self.new.tokens.cursor ≡ self.old.tokens.cursor }
     {
         let scalar = ScalarRef::Bytes(octets);
@@ -294,6 +298,7 @@ impl<'a> Reader<'a> {
     fn put_list(&mut self, items: &[u32]) -> Result<u32, NoDraft>
         ensures put { IfOk result (Puts (objects self.old.draft) (objects self.new.draft)
             (holds_list items.now)) }
+        ensures memory { IfErr result (λ why. why ≡ OutOfMemory) }
         ensures cursor { self.new.tokens.cursor ≡ self.old.tokens.cursor }
     {
         Ok(self.draft.put_list(items)?)
@@ -304,6 +309,7 @@ impl<'a> Reader<'a> {
         requires { length rows.now.keys.items ≡ length rows.now.values.items }
         ensures put { IfOk result (Puts (objects self.old.draft) (objects self.new.draft)
             (holds_table rows.now.keys.items rows.now.values.items)) }
+        ensures memory { IfErr result (λ why. why ≡ OutOfMemory) }
         ensures cursor { self.new.tokens.cursor ≡ self.old.tokens.cursor }
     {
         Ok(self.draft.put_table(&rows.keys, &rows.values)?)

@@ -1,10 +1,11 @@
 //! The tokens of a text, one after another.
 ghost use Rattle.std.specs.Prelude.{◌≡◌, ◌<◌, ◌∷◌, ◌++◌, [], ℕ, List, length};
-ghost use Rattle.std.specs.Prelude.{MatchOption, IfNone, IfSome, IfOk};
+ghost use Rattle.std.specs.Prelude.{MatchOption, IfNone, IfSome, IfOk, IfErr};
 ghost use Rattle.std.specs.Result.{OnOk};
 ghost use Rattle.ostep_lex.specs.Lexeme.{Placed, placed, text as string};
-ghost use Rattle.ostep_lex.specs.Lexing.{HasTokens};
+ghost use Rattle.ostep_lex.specs.Lexing.{HasTokens, HasNoTokens};
 ghost use Rattle.ostep_lex.specs.Cursor.{ahead, AddsToken, StandsBehind};
+ghost use Rattle.ostep_draft.specs.declared.failure.NoDraft.TheVariants.{NoValue};
 ghost use Rattle.ostep_draft.specs.First.{first_lexeme, IsValid};
 
 use crate::failure::NoDraft;
@@ -57,6 +58,9 @@ impl<'a> Tokens<'a> {
             (λ token. StandsBehind octets (tokens ++ placed token ∷ []) self.new.cursor)) }
         ensures shorter { IfOk result (λ found. IfSome found (λ _.
             length (ahead self.new.cursor) < length (ahead self.old.cursor))) }
+        ensures lexed { (octets : List ℕ) (tokens : List Placed)
+            → StandsBehind octets tokens self.old.cursor
+            → IfErr result (λ why. why ≡ NoValue → HasNoTokens octets) }
     {
         match next_token(self.alloc, self.cursor)? {
             Some((token, behind)) => {
