@@ -1,5 +1,5 @@
 -- What storing leaves at a disk that tells nothing.
-use Rattle.std.proofs.Common.{Err, List, None, Ok, Result, ℕ, inl, inr}
+use Rattle.std.proofs.Common.{Err, List, None, Ok, Option, Result, ℕ, inl, inr}
 use Rattle.plist_forms.specs.declared.faults.Fault.{Fault}
 use Rattle.plist_forms.specs.declared.forms.Form.{Form}
 use Rattle.plist_engine.specs.declared.faults.WriteFault.{WriteFault}
@@ -7,29 +7,29 @@ use Rattle.plist_engine.specs.declared.faults.WriteFault.TheVariants as write
 use Rattle.plist_engine.specs.Sending.{IsWritten}
 use Rattle.plist_forms.specs.Sent.{answer_of}
 use Rattle.plist_convert.specs.Delivery.{Delivers}
-use Rattle.plist_convert.specs.Files.{CountsFailure, FileName, IsStored, Stores}
+use Rattle.plist_convert.specs.Files.{CountsFailure, FileName, Files, IsStored, Stores}
 use Rattle.plist_convert.proofs.Stored.{unstored}
 
 -- what went to the file
-handed : (output : List ℕ) (before after x y : ℕ) (path : FileName) (sent : Result ℕ WriteFault) → IsWritten output None None x y sent
-    → CountsFailure before after (answer_of sent) → IsStored None None before after path output sent
-handed output before after x y path (Ok n) written counts =
+handed : (rest : Option Files) (output : List ℕ) (before after x y : ℕ) (path : FileName) (sent : Result ℕ WriteFault) → IsWritten output None None x y sent
+    → CountsFailure before after (answer_of sent) → IsStored None rest before after path output sent
+handed rest output before after x y path (Ok n) written counts =
     record { others = tt; count = (written.count, counts); whole = tt; within = tt; front = tt }
-handed output before after x y path (Err (write.WriteFailed n)) written counts =
+handed rest output before after x y path (Err (write.WriteFailed n)) written counts =
     record { others = tt; count = tt; whole = tt; within = written.within; front = (tt, counts) }
-handed output before after x y path (Err (write.OutOfMemory n)) written counts =
+handed rest output before after x y path (Err (write.OutOfMemory n)) written counts =
     record { others = tt; count = tt; whole = tt; within = written.within; front = (tt, counts) }
 
 -- what was delivered to a file that tells nothing
-pub handed_over : (form : Form) (octets : List ℕ) (before after : ℕ) (path : FileName) (result : Result ℕ Fault)
-    → Delivers form octets None None result → CountsFailure before after result → Stores form octets None None before after path result
-handed_over form octets before after path result (inl unsent) counts =
-    unstored form octets None None before after path unsent.fault result unsent.is unsent.cause tt counts
-handed_over form octets before after path result (inr goes) counts = inr (record {
+pub handed_over : (form : Form) (octets : List ℕ) (rest : Option Files) (before after : ℕ) (path : FileName) (result : Result ℕ Fault)
+    → Delivers form octets None None result → CountsFailure before after result → Stores form octets None rest before after path result
+handed_over form octets rest before after path result (inl unsent) counts =
+    unstored form octets None rest before after path unsent.fault result unsent.is unsent.cause tt counts
+handed_over form octets rest before after path result (inr goes) counts = inr (record {
   output = goes.output;
   of = goes.of;
   sent = goes.sent;
   is = goes.is;
   memory = goes.memory;
-  stored = handed goes.output before after 0 goes.failures path goes.sent goes.written (rw goes.is at counts);
+  stored = handed rest goes.output before after 0 goes.failures path goes.sent goes.written (rw goes.is at counts);
 })

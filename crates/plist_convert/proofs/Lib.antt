@@ -14,3 +14,5 @@ pub mod Stored
 pub mod Delivered
 pub mod Handed
 pub mod Rooms
+pub mod Opened
+pub mod Created

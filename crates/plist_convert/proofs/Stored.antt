@@ -1,5 +1,5 @@
 -- What storing a file leaves.
-use Rattle.std.proofs.Common.{ap, arith, sym, Err, List, Ok, Option, Result, Some, [], ◌∷◌, ℕ, inl, inr, ◌∙◌, ◌≡◌, ◌⊎◌}
+use Rattle.std.proofs.Common.{ap, arith, refl, sym, Err, List, Ok, Option, Result, Some, [], ◌∷◌, ℕ, inl, inr, ◌∙◌, ◌≡◌, ◌⊎◌}
 use Rattle.std.specs.Prelude.{◌≢◌, ◌≤◌, MatchResult, cond, false, length, option_map, take, true}
 use Rattle.std.specs.Bool.{◌==◌}
 use Rattle.std.specs.Result.{is_ok}
@@ -61,7 +61,7 @@ unsent_count form octets InputTooLarge before after cause counts = counts
 unsent_count form octets (OutOfMemory sent) before after cause counts = counts
 
 -- a failure of the device is
-sent_count : (sent : Result ℕ WriteFault) (before after : ℕ) → CountsFailure before after (answer_of sent)
+pub sent_count : (sent : Result ℕ WriteFault) (before after : ℕ) → CountsFailure before after (answer_of sent)
     → MatchResult sent (λ _. after ≡ before) (λ fault. IsBlamed fault before after)
 sent_count (Ok n) before after counts = counts
 sent_count (Err (write.WriteFailed n)) before after counts = counts
@@ -77,6 +77,17 @@ unstored form octets files rest before after path fault result is cause kept cou
   cause = cause;
   kept = kept;
   unfailed = unsent_count form octets fault before after cause (rw is at counts);
+})
+
+-- out of memory before anything was stored
+pub wanting : (form : Form) (octets : List ℕ) (files rest : Option Files) (before after : ℕ) (path : FileName)
+    → SameFiles files rest → after ≡ before → Stores form octets files rest before after path (Err (OutOfMemory 0))
+wanting form octets files rest before after path kept unfailed = inl (record {
+  fault = OutOfMemory 0;
+  is = refl;
+  cause = inl (record { stands = refl; none = λ other v accepted. other refl });
+  kept = kept;
+  unfailed = unfailed;
 })
 
 -- what an empty sink took stands at the path
@@ -102,7 +113,7 @@ none_sent : (octets : List ℕ) (sent : ℕ) → sent ≤ length octets → [] �
 none_sent octets sent within none = sym (ap length none ∙ length-take-le sent octets within)
 
 -- the path is as it was, where nothing was sent to it
-unsent_stored : (old new : Files) (before after failures : ℕ) (path : FileName) (octets : List ℕ) (sent : Result ℕ WriteFault)
+pub unsent_stored : (old new : Files) (before after failures : ℕ) (path : FileName) (octets : List ℕ) (sent : Result ℕ WriteFault)
     → false ≡ is_ok (answer_of sent) → IsWritten octets (Some []) (Some []) 0 failures sent → ((other : FileName) → new other ≡ old other)
     → MatchResult sent (λ _. after ≡ before) (λ fault. IsBlamed fault before after)
     → IsStored (Some old) (Some new) before after path octets sent

@@ -10,5 +10,6 @@ pub mod CommandLine
 pub mod Reading
 pub mod Delivery
 pub mod Files
-pub mod HostDisk
+pub mod FileDisk
+pub mod Opens
 pub mod MemoryDisk

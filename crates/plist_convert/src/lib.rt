@@ -5,15 +5,17 @@
 
 pub mod answers;
 mod commands;
+mod created_file;
 mod delivery;
 pub mod disks;
 mod entry;
+pub mod file_disk;
 mod filtering;
 mod help;
 pub mod host_disk;
-mod host_file;
 pub mod memory_disk;
 mod memory_file;
+pub mod opens;
 mod printing;
 mod reading;
 mod request;

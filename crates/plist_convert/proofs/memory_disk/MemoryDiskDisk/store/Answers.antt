@@ -1,37 +1,23 @@
-use Rattle.std.proofs.Common.{arith, [], Err, List, Some, ap, inl, inr, refl, ◌∙◌, ◌≡◌, ◌⊎◌, ℕ}
+use Rattle.std.proofs.Common.{arith, [], Some, ap, inl, inr, refl, ◌∙◌, ◌≡◌, ◌⊎◌}
 use Rattle.std.proofs.lemmas.Result.{err_from_is_err_and}
 use Rattle.std.specs.Prelude.{◌≢◌, true}
 use Rattle.std.specs.Result.{is_ok}
-use Rattle.plist_forms.specs.declared.faults.Fault.TheVariants.{OutOfMemory}
-use Rattle.plist_forms.specs.declared.forms.Form.{Form}
-use Rattle.plist_convert.specs.Files.{CountsFailure, FileName, Files, Stores}
+use Rattle.plist_convert.specs.Files.{CountsFailure, FileName}
 use Rattle.plist_convert.specs.MemoryDisk.{files_of, failures_of, room_of}
 use Rattle.plist_convert.proofs.Rooms.{has_room, is_full}
-use Rattle.plist_convert.proofs.Stored.{none_taken, some_taken, stored_none, stored_taken}
+use Rattle.plist_convert.proofs.Stored.{none_taken, some_taken, stored_none, stored_taken, wanting}
 use Rattle.plist_convert.proofs.memory_disk.MemoryDiskDisk.store.Goals.{then-is_ok+in_ok-file+in_ok-put, then-is_ok-via-then-is_ok, then-is_ok-via-else-is_ok+then-not-is_empty, else-is_ok+else-not-is_empty}
 use Rattle.plist_convert.proofs.memory_disk.MemoryDiskDisk.store.Goals as goal
-
--- out of memory before anything was stored
-wanting : (form : Form) (octets : List ℕ) (old new : Files) (before after : ℕ) (path : FileName)
-    → ((other : FileName) → new other ≡ old other) → after ≡ before
-    → Stores form octets (Some old) (Some new) before after path (Err (OutOfMemory 0))
-wanting form octets old new before after path kept unfailed = inl (record {
-  fault = OutOfMemory 0;
-  is = refl;
-  cause = inl (record { stands = refl; none = λ other v accepted. other refl });
-  kept = kept;
-  unfailed = unfailed;
-})
 
 pub returns-in_err-file-clause-stores : goal.returns-in_err-file-clause-stores
 returns-in_err-file-clause-stores c =
     let e = err_from_is_err_and c.from_residual-in_err-file.result c.from_residual-in_err-file.ensures.1 in
-    rw (e.1, e.2) (wanting c.args.form c.args.octets.items (files_of c.args.self.now) (files_of c.args.self.now) (failures_of c.args.self.now) (failures_of c.args.self.now) c.args.path.now (λ _. refl) refl)
+    rw (e.1, e.2) (wanting c.args.form c.args.octets.items (Some (files_of c.args.self.now)) (Some (files_of c.args.self.now)) (failures_of c.args.self.now) (failures_of c.args.self.now) c.args.path.now (λ _. refl) refl)
 
 pub returns-in_err-put-clause-stores : goal.returns-in_err-put-clause-stores
 returns-in_err-put-clause-stores c =
     let e = err_from_is_err_and c.from_residual-in_err-put.result c.from_residual-in_err-put.ensures.1 in
-    rw (e.1, e.2) (wanting c.args.form c.args.octets.items (files_of c.args.self.now) (files_of c.put.new.self) (failures_of c.args.self.now) (failures_of c.put.new.self) c.args.path.now c.in_err-put.ensures.unchanged c.in_err-put.ensures.failures)
+    rw (e.1, e.2) (wanting c.args.form c.args.octets.items (Some (files_of c.args.self.now)) (Some (files_of c.put.new.self)) (failures_of c.args.self.now) (failures_of c.put.new.self) c.args.path.now c.in_err-put.ensures.unchanged c.in_err-put.ensures.failures)
 
 pub returns-clause-stores : goal.returns-clause-stores
 returns-clause-stores c =

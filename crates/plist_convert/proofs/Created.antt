@@ -1,0 +1,126 @@
+-- What is stored in a file that is created at its first write.
+use Rattle.std.proofs.Common.{refl, sym, ap, inl, inr, Err, List, None, Ok, Option, Result, Some, [], ◌∷◌, ◌++◌, ℕ, ◌≡◌, ◌∙◌}
+use Rattle.std.specs.Prelude.{◌≢◌, Bool, cond, false, true}
+use Rattle.plist_object.specs.Layout.{header}
+use Rattle.plist_engine.specs.Canonical.{canon}
+use Rattle.plist_engine.specs.Sending.{IsWritten}
+use Rattle.plist_engine.specs.declared.faults.WriteFault.{WriteFault}
+use Rattle.plist_engine.specs.declared.faults.WriteFault.TheVariants as write
+use Rattle.plist_forms.specs.Output.{IsOutput}
+use Rattle.plist_forms.specs.Sent.{answer_of}
+use Rattle.plist_forms.specs.declared.faults.Fault.{Fault}
+use Rattle.plist_forms.specs.declared.forms.Form.{Form}
+use Rattle.plist_forms.specs.declared.forms.Form.TheVariants.{Binary1, OpenStep}
+use Rattle.ostep_text.specs.Written.{is_writable, written}
+use Rattle.plist_convert.specs.Delivery.{Delivers}
+use Rattle.plist_convert.specs.Files.{CountsFailure, FileName, Files, IsStored, SameFiles, Stores}
+use Rattle.plist_convert.specs.Opens.{Creates, Puts, Settles, held_by, is_begun}
+use Rattle.plist_convert.proofs.Handed.{handed_over}
+use Rattle.plist_convert.proofs.Stored.{sent_count, stored, unsent_stored, unstored}
+
+-- no output is empty
+ends_some : (xs : List ℕ) (y : ℕ) → xs ++ (y ∷ []) ≢ []
+ends_some [] y none = absurd cc
+ends_some (x ∷ xs) y none = absurd cc
+
+chosen : (b : Bool) (xs ys : List ℕ) → cond b (Some xs) None ≡ Some ys → xs ≡ ys
+chosen true xs ys is = cc
+chosen false xs ys is = absurd cc
+
+output_some : (form : Form) (octets output : List ℕ) → IsOutput form octets output → output ≢ []
+unfolding canon
+output_some Binary1 octets output of none = absurd (let is : Some (canon of.value) ≡ Some [] = rw none at of.written in cc)
+output_some OpenStep octets output of none =
+    ends_some (written of.value) 10 (chosen (is_writable of.value) _ _ of.written ∙ none)
+
+-- what is delivered where nothing is told
+untold : (form : Form) (octets : List ℕ) (new : Option (List ℕ)) (result : Result ℕ Fault) → Delivers form octets None new result
+    → Delivers form octets None None result
+untold form octets new result (inl unsent) = inl (record { fault = unsent.fault; is = unsent.is; cause = unsent.cause; kept = tt })
+untold form octets new result (inr goes) = inr (record {
+  output = goes.output;
+  of = goes.of;
+  sent = goes.sent;
+  is = goes.is;
+  memory = goes.memory;
+  failures = goes.failures;
+  written = untold_sent goes.output new goes.failures goes.sent goes.written;
+}) where
+  untold_sent : (output : List ℕ) (new : Option (List ℕ)) (failures : ℕ) (sent : Result ℕ WriteFault) → IsWritten output None new 0 failures sent
+      → IsWritten output None None 0 failures sent
+  untold_sent output new failures (Ok n) written =
+      record { count = written.count; whole = (tt, written.whole.1); within = tt; front = tt }
+  untold_sent output new failures (Err fault) written =
+      record { count = tt; whole = tt; within = written.within; front = (tt, written.front.1) }
+
+-- a file that told goes on to tell
+told : (form : Form) (octets : List ℕ) (result : Result ℕ Fault) → Delivers form octets (Some []) None result → ⊥
+told form octets result (inl unsent) = unsent.kept
+told form octets result (inr goes) = told_sent goes.output goes.failures goes.sent goes.written where
+  told_sent : (output : List ℕ) (failures : ℕ) (sent : Result ℕ WriteFault) → IsWritten output (Some []) None 0 failures sent → ⊥
+  told_sent output failures (Ok n) written = written.whole.0
+  told_sent output failures (Err fault) written = written.front.0
+
+pub created : (form : Form) (octets : List ℕ) (files seen : Option Files) (contents : Option (Option (List ℕ))) (start : Option (List ℕ))
+    (result : Result ℕ Fault) → start ≡ held_by files None → Delivers form octets start (held_by seen contents) result
+    → is_begun seen contents ≡ true → Creates form octets files contents result
+created form octets None seen contents start result begins goes begun = (untold form octets _ result (rw begins at goes), refl)
+created form octets (Some at) None contents start result begins goes begun = absurd (told form octets result (rw begins at goes))
+created form octets (Some at) (Some now) None start result begins goes begun = (rw begins at goes, refl)
+created form octets (Some at) (Some now) (Some None) start result begins goes begun = (rw begins at goes, begun)
+created form octets (Some at) (Some now) (Some (Some [])) start result begins goes begun = (rw begins at goes, begun)
+created form octets (Some at) (Some now) (Some (Some (x ∷ xs))) start result begins goes begun = (rw begins at goes, begun)
+
+-- what is delivered to a file that was created
+kept : (form : Form) (octets : List ℕ) (files rest : Option Files) (before after : ℕ) (path : FileName) (contents : Option (List ℕ))
+    (result : Result ℕ Fault) → Creates form octets files (Some contents) result → Puts path contents files rest
+    → CountsFailure before after result → Stores form octets files rest before after path result
+kept form octets None rest before after path contents result creates puts counts =
+    handed_over form octets rest before after path result creates.0 counts
+kept form octets (Some old) rest before after path None result creates puts counts = absurd (let no = creates.1 in cc)
+kept form octets (Some old) rest before after path (Some []) result creates puts counts = absurd (let no = creates.1 in cc)
+kept form octets (Some old) None before after path (Some (x ∷ xs)) result creates puts counts = absurd puts
+kept form octets (Some old) (Some new) before after path (Some (x ∷ xs)) result (inl unsent, begun) puts counts =
+    absurd (let none : x ∷ xs ≡ [] = unsent.kept in cc)
+kept form octets (Some old) (Some new) before after path (Some (x ∷ xs)) result (inr goes, begun) puts counts = inr (record {
+  output = goes.output;
+  of = goes.of;
+  sent = goes.sent;
+  is = goes.is;
+  memory = goes.memory;
+  stored = stored old new before after goes.failures path goes.output (x ∷ xs) goes.sent goes.written puts.0 puts.1
+      (sent_count goes.sent before after (rw goes.is at counts));
+})
+
+-- nothing went out of an output
+none_out : (old new : Files) (before after failures : ℕ) (path : FileName) (output : List ℕ) (sent : Result ℕ WriteFault) → output ≢ []
+    → IsWritten output (Some []) (Some []) 0 failures sent → ((other : FileName) → new other ≡ old other)
+    → CountsFailure before after (answer_of sent) → IsStored (Some old) (Some new) before after path output sent
+none_out old new before after failures path output (Ok n) some written same counts = absurd (some (sym written.whole.0))
+none_out old new before after failures path output (Err fault) some written same counts =
+    unsent_stored old new before after failures path output (Err fault) refl written same (sent_count (Err fault) before after counts)
+
+-- what is delivered to a file that was not created
+untouched : (form : Form) (octets : List ℕ) (files rest : Option Files) (before after : ℕ) (path : FileName)
+    (result : Result ℕ Fault) → Creates form octets files None result → SameFiles files rest
+    → CountsFailure before after result → Stores form octets files rest before after path result
+untouched form octets None rest before after path result creates same counts = handed_over form octets rest before after path result creates.0 counts
+untouched form octets (Some old) None before after path result creates same counts = absurd same
+untouched form octets (Some old) (Some new) before after path result (inl unsent, begun) same counts =
+    unstored form octets (Some old) (Some new) before after path unsent.fault result unsent.is unsent.cause same counts
+untouched form octets (Some old) (Some new) before after path result (inr goes, begun) same counts = inr (record {
+  output = goes.output;
+  of = goes.of;
+  sent = goes.sent;
+  is = goes.is;
+  memory = goes.memory;
+  stored = none_out old new before after goes.failures path goes.output goes.sent (output_some form octets goes.output goes.of) goes.written same (rw goes.is at counts);
+})
+
+pub settled : (form : Form) (octets : List ℕ) (files rest : Option Files) (before after : ℕ) (path : FileName) (contents : Option (Option (List ℕ)))
+    (result : Result ℕ Fault) → Creates form octets files contents result → Settles path contents files rest
+    → CountsFailure before after result → Stores form octets files rest before after path result
+settled form octets files rest before after path None result creates same counts =
+    untouched form octets files rest before after path result creates same counts
+settled form octets files rest before after path (Some contents) result creates puts counts =
+    kept form octets files rest before after path contents result creates puts counts

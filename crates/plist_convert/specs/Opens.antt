@@ -1,0 +1,66 @@
+-- What opening, creating and keeping a file means, where the opener tells which files there are.
+use Rattle.std.specs.Prelude.{◌≡◌, ◌≢◌, ◌⊎◌, ⊤, ℕ, ◌<◌, Bool, true, false, List, [], ◌∷◌, length, None, Option, Some, Result, Err, IfSome}
+use Rattle.plist_devices.specs.Count.{one_more}
+use Rattle.plist_forms.specs.declared.faults.Fault.{Fault}
+use Rattle.plist_forms.specs.declared.faults.Fault.TheVariants.{ReadFailed, InputTooLarge, OutOfMemory}
+use Rattle.plist_forms.specs.declared.loading.TheConstants.{MAX_INPUT}
+use Rattle.plist_forms.specs.declared.forms.Form.{Form}
+use Rattle.plist_convert.specs.Delivery.{Delivers}
+use Rattle.plist_convert.specs.Files.{FileName, Files, Lacks, SameFiles, Turns}
+
+-- there is a file at the path, and the reader will read all of it
+abbrev pub ReadsAll : Option Files → FileName → Option (List ℕ) → Type 0
+ReadsAll files path to_come = IfSome files (λ at. (octets : List ℕ) × ((at path ≡ Some octets) × (to_come ≡ Some octets)))
+
+-- the writer has written nothing
+abbrev pub IsNew : Option Files → Option (List ℕ) → Type 0
+IsNew files contents = IfSome files (λ _. contents ≡ Some [])
+
+-- the file at the path is what was written, and every other file is what it was
+abbrev pub Puts : FileName → Option (List ℕ) → Option Files → Option Files → Type 0
+Puts path contents before after =
+    Turns before after (λ old new. (new path ≡ contents) × ((other : FileName) → other ≢ path → new other ≡ old other))
+
+-- the file at the path is what was written, if a writer was made, and every other file is what it was
+abbrev pub Settles : FileName → Option (Option (List ℕ)) → Option Files → Option Files → Type 0
+Settles path None before after = SameFiles before after
+Settles path (Some contents) before after = Puts path contents before after
+
+-- a reader of this type has counted a failed read
+abbrev pub HasFailing : {R : Type 0} → (R → ℕ) → Type 0
+HasFailing {R = R} failures = (reader : R) × (0 < failures reader)
+
+-- Why the octets at the path are not found: there is no file, or a read failed; or it is too large;
+-- or out of memory.
+abbrev pub IsUnfound : Option Files → FileName → Type 0 → Fault → Type 0
+IsUnfound files path Failed ReadFailed = Lacks files path ⊎ Failed
+IsUnfound files path Failed InputTooLarge =
+    IfSome files (λ at. (octets : List ℕ) × ((at path ≡ Some octets) × (MAX_INPUT < length octets)))
+IsUnfound files path Failed (OutOfMemory sent) = sent ≡ 0
+IsUnfound files path Failed _ = ⊥
+
+-- The count of failures after a load: one more if a device failed.
+abbrev pub CountsUnread : {T : Type 0} → ℕ → ℕ → Result T Fault → Type 0
+CountsUnread before after (Err ReadFailed) = after ≡ one_more before
+CountsUnread before after _ = after ≡ before
+
+-- What a file holds that is created at its first write, if the opener tells: nothing before that,
+-- and then what its writer holds.
+abbrev pub held_by : Option Files → Option (Option (List ℕ)) → Option (List ℕ)
+held_by None contents = None
+held_by (Some at) None = Some []
+held_by (Some at) (Some contents) = contents
+
+-- the writer has written something, if there is one and the opener tells
+abbrev pub is_begun : Option Files → Option (Option (List ℕ)) → Bool
+is_begun None contents = true
+is_begun (Some at) None = true
+is_begun (Some at) (Some None) = false
+is_begun (Some at) (Some (Some [])) = false
+is_begun (Some at) (Some (Some (octet ∷ octets))) = true
+
+-- What is sent to a file that is created at its first write: the output for the octets, or the front
+-- that the refusal tells, and nothing if the writer is none.
+abbrev pub Creates : Form → List ℕ → Option Files → Option (Option (List ℕ)) → Result ℕ Fault → Type 0
+Creates form octets files contents result =
+    Delivers form octets (held_by files None) (held_by files contents) result × (is_begun files contents ≡ true)

@@ -1,0 +1,171 @@
+//! A disk over files that an opener reaches.
+ghost use Rattle.std.specs.Prelude.{◌≡◌, IfErr, IfOk, None, OnErr, option_map};
+ghost use Rattle.std.specs.Io.Buffered.{writer_contents};
+ghost use Rattle.plist_forms.specs.Load.{octets_or};
+ghost use Rattle.plist_convert.specs.Files.{Holds, SameFiles};
+ghost use Rattle.plist_convert.specs.Opens.{CountsUnread, Creates, HasFailing, IsUnfound};
+ghost use Rattle.plist_convert.specs.Opens.{Settles, held_by};
+
+use crate::created_file::CreatedFile;
+use crate::delivery::deliver;
+use crate::disks::{Disk, failures_after};
+use crate::opens::{Opens, Steady};
+use plist_forms::{Fault, Form, load_unless};
+use std::alloc::{AllocError, Global};
+use std::hash::BuildHasher;
+use std::io::BufWriter;
+
+/// The size of the write buffer: writes of 4,096 bytes cost several times as much per byte.
+const GATHERED: usize = 262_144;
+
+/// A disk over the files of an opener. It tells of them what the opener tells.
+///
+/// Scalars of what it stores are hashed by what the builder makes.
+#[derive(Drop)]
+pub struct FileDisk<O, H> {
+    opener: O,
+    hasher: H,
+    failures: u64,
+}
+
+impl<O: Opens, H: BuildHasher + Copy> FileDisk<O, H> {
+    ghost use Rattle.plist_convert.specs.FileDisk.{failures_of, files_of};
+
+    /// Returns a disk over the files of this opener.
+    pub fn over(opener: O, hasher: H) -> FileDisk<O, H>
+        ensures files { files_of O.files result ≡ O.files opener }
+        ensures failures { failures_of result ≡ 0 }
+    {
+        FileDisk {
+            opener,
+            hasher,
+            failures: 0,
+        }
+    }
+}
+
+impl<O: Steady, H: BuildHasher + Copy> Disk for FileDisk<O, H> {
+    ghost use Rattle.plist_convert.specs.FileDisk.{failures_of, files_of};
+
+    ghost files = { files_of O.files };
+
+    ghost failures = { failures_of };
+
+    fn load(&mut self, alloc: Global, path: &str) -> Result<Vec<u8>, Fault> {
+        match self.load_unless(alloc, path, &[])? {
+            Some(octets) => Ok(octets),
+            None => Ok(Vec::new(alloc)),
+        }
+    }
+
+    fn load_unless(
+        &mut self,
+        alloc: Global,
+        path: &str,
+        known: &[u8],
+    ) -> Result<Option<Vec<u8>>, Fault> {
+        let found = octets_at(&self.opener, alloc, path, known);
+        self.failures = failures_after_load(self.failures, &found);
+        found
+    }
+
+    fn store(
+        &mut self,
+        alloc: Global,
+        path: &str,
+        octets: Vec<u8>,
+        form: Form,
+    ) -> Result<u64, Fault> {
+        let (writer, stored) = create(&self.opener, alloc, self.hasher, path, octets, form);
+        settle(&mut self.opener, path, writer)?;
+        self.failures = failures_after(self.failures, &stored);
+        stored
+    }
+
+    fn failures(&self) -> u64 {
+        self.failures
+    }
+}
+
+/// Returns all bytes of the file at the path, or `None` if they are the known ones.
+///
+/// # Errors
+///
+/// [`Fault::ReadFailed`] (50) if the file cannot be opened or a read fails. Otherwise fails like
+/// [`load_unless`].
+fn octets_at<O: Opens>(
+    opener: &O,
+    alloc: Global,
+    path: &str,
+    known: &[u8],
+) -> Result<Option<Vec<u8>>, Fault>
+    ensures found { IfOk result (λ found.
+        Holds (O.files opener.now) path.now (octets_or known.now found)) }
+    ensures refused { IfErr result
+        (IsUnfound (O.files opener.now) path.now (HasFailing O.Reader.failures)) }
+{
+    match opener.open(path) {
+        Ok(reader) => {
+            let mut reader = reader;
+            load_unless(alloc, &mut reader, known)
+        }
+        Err(_) => Err(Fault::ReadFailed),
+    }
+}
+
+/// Returns the count of failures after a load.
+fn failures_after_load(failures: u64, found: &Result<Option<Vec<u8>>, Fault>) -> u64
+    ensures { CountsUnread failures result found.now }
+{
+    match found {
+        Err(Fault::ReadFailed) => failures.saturating_add(1),
+        _ => failures,
+    }
+}
+
+/// Writes the value that the octets spell to the file at the path, in this form, and creates it at
+/// the first write. Returns the writer of the file if it was created. Fails like [`deliver`].
+fn create<'a, O: Opens, H: BuildHasher + Copy>(
+    opener: &'a O,
+    alloc: Global,
+    hasher: H,
+    path: &'a str,
+    octets: Vec<u8>,
+    form: Form,
+) -> (Option<O::Writer>, Result<u64, Fault>)
+    ensures { Creates form octets.items (O.files opener.entry.now)
+        (option_map O.Writer.contents result.0) result.1 }
+{
+    let buffer = gathering(opener, alloc, path);
+    let (file, stored) = deliver(alloc, hasher, buffer, octets, form);
+    (file.writer, stored)
+}
+
+/// Closes the file at the path, if it was created. If there is no memory for that, no file changes.
+fn settle<O: Opens>(opener: &mut O, path: &str, writer: Option<O::Writer>) -> Result<(), AllocError>
+    ensures settles { IfOk result (λ _. Settles path.now
+        (option_map O.Writer.contents writer) (O.files opener.old) (O.files opener.new)) }
+    ensures unchanged { OnErr result (SameFiles (O.files opener.old) (O.files opener.new)) }
+{
+    match writer {
+        Some(writer) => opener.keep(path, writer),
+        None => Ok(()),
+    }
+}
+
+/// Returns a buffer before the file at the path, which is not created. If there is no memory for
+/// it, each piece is a write.
+fn gathering<'a, O: Opens>(
+    opener: &'a O,
+    alloc: Global,
+    path: &'a str,
+) -> BufWriter<CreatedFile<'a, O>>
+    ensures { writer_contents
+        (λ file. held_by (O.files file.opener.now) (option_map O.Writer.contents file.writer))
+        result ≡ held_by (O.files opener.entry.now) None }
+{
+    match BufWriter::with_capacity(alloc, GATHERED, CreatedFile::new(opener, path)) {
+        Ok(writer) => writer,
+        Err(_) => BufWriter::with_capacity(alloc, 0, CreatedFile::new(opener, path)).unwrap(),
+    }
+}
