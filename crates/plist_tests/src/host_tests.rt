@@ -26,7 +26,7 @@ pub(crate) fn status_of(rt: &HostRuntime, words: &[&str], output: &mut Vec<u8>) 
 }
 
 /// What stands at the paths of the rows.
-const FILES: [(&str, &[u8]); 10] = [
+const FILES: [(&str, &[u8]); 11] = [
     ("row2.txt", TABLE_TEXT),
     ("row2.bin", TABLE),
     ("unsorted.bin", UNSORTED),
@@ -37,10 +37,11 @@ const FILES: [(&str, &[u8]); 10] = [
     ("values.bin", VALUES_FIRST),
     ("short.bin", b"bplist00"),
     ("old", b"old"),
+    ("empty", b""),
 ];
 
 /// Runs one after another. A file that is refused stays as it is, where it is OUT too.
-const ROWS: [&str; 33] = [
+const ROWS: [&str; 39] = [
     "convert binary1 row2.txt converted|0 ",
     "same row2.txt row2.bin|0 equal\n",
     "same real4.bin real8.bin|1 different\n",
@@ -74,6 +75,12 @@ const ROWS: [&str; 33] = [
     "print missing|4 missing: refused 50 ReadFailed\n",
     "convert binary1 twice.txt twice.txt|2 twice.txt: refused 14 DuplicateKey at octet 3\n",
     "convert openstep true.bin true.bin|2 true.bin: refused 40 NotInOpenStep\n",
+    "lint empty|0 empty: OK\n",
+    "same row2.txt empty|1 different\n",
+    "same empty empty|0 equal\n",
+    "check empty|2 empty: refused 1 TooShort\n",
+    "convert binary1 empty table|0 ",
+    "same empty table|0 equal\n",
 ];
 
 // The first row that is answered otherwise.
@@ -121,6 +128,7 @@ fn answers_the_worked_rows(rt: HostRuntime) -> Result<(), Fail> {
     assert!(rt; !fs::exists(&rt, "new")?);
     remove_files(&rt)?;
     fs::remove_file(&rt, "converted")?;
+    fs::remove_file(&rt, "table")?;
     fs::remove_file(&rt, "text")?;
     Ok(())
 }
