@@ -10,8 +10,9 @@ of 60, having sent as many octets as that line says. Where it is refused before 
 that was to be written stands as it was. A test must pass, or end with an allocation error or with 60. Tests
 that make more than 2,000 allocations, or take longer than a second, are left out by name.
 
-With --library each allocation of plistconv_check is refused in turn, on the canonical file of the list of the numbers 0
-to 254. It builds no value, so it makes fewer than 100, and with the 100th refused the answer is canonical.
+With --library each allocation of plistconv_check is refused in turn, on the canonical file of the list of the texts 000
+to 254. It builds no value, so it makes fewer than 100, and with the 100th refused the answer is canonical; a checker that
+read and wrote the value made 318.
 
 With --short only a few inputs are tried, and no tests, which takes seconds. `rt test` in a crate builds its tests. The
 library that refuses is bench/refuse.c, made with cc.
@@ -107,24 +108,24 @@ def program_runs(program, names):
         yield [program], INPUTS[name]
 
 
-def numbers_to_254():
-    """The canonical file of the list of the numbers 0 to 254."""
-    numbers = b"".join(b"\x10" + octets_of(number, 1) for number in range(255))
-    objects = head(0xA0, 255) + b"".join(octets_of(place, 2) for place in range(1, 256)) + numbers
+def texts_to_254():
+    """The canonical file of the list of the texts 000 to 254, 2,085 octets."""
+    texts = b"".join(b"\x53%03d" % text for text in range(255))
+    objects = head(0xA0, 255) + b"".join(octets_of(place, 2) for place in range(1, 256)) + texts
     end = 8 + len(objects)
-    places = b"".join(octets_of(place, 2) for place in [8, *range(end - len(numbers), end, 2)])
+    places = b"".join(octets_of(place, 2) for place in [8, *range(end - len(texts), end, 4)])
     return (b"bplist00" + objects + places + bytes([0] * 6 + [2, 2])
             + octets_of(256, 8) + octets_of(0, 8) + octets_of(end, 8))
 
 
 def refuse_in_check(library, refusing):
     """How many runs of plistconv_check end otherwise than they must."""
-    program, octets = os.path.join(refusing.folder, "check"), numbers_to_254()
+    program, octets = os.path.join(refusing.folder, "check"), texts_to_254()
     source, include = os.path.join(refused.HERE, "check.c"), os.path.join(refused.HERE, "..", "include")
     subprocess.run(["cc", "-std=c99", "-D_POSIX_C_SOURCE=200809L", f"-I{include}", source, library, "-o", program], check=True)
     wrong, ample = 0, (0, b"canonical\n", BEFORE)
     ending, _, allocations = refusing.run([program], octets, 100)
-    print(f"plistconv_check of the numbers 0 to 254: {allocations} allocations; with the 100th refused: {ending[:2]}")
+    print(f"plistconv_check of the texts 000 to 254: {allocations} allocations; with the 100th refused: {ending[:2]}")
     if ending != ample or not 0 < allocations < 100:
         wrong += 1
     for number in range(1, allocations + 1):
