@@ -1,5 +1,5 @@
-//! The public surface, named item by item with its signature: what does not stand here so, does not
-//! compile.
+//! Calls of the public surface, each by a function that has its signature: another one does not
+//! compile. Not all items are here.
 ghost use Rattle.std.specs.Prelude.{◌<◌};
 ghost use Rattle.plist_object.specs.Layout.{trailer_of};
 ghost use Rattle.plist_object.specs.Views.{octets_of};

@@ -1,8 +1,12 @@
 //! Conversions from a source to a sink.
 use crate::devices::Noting;
 use crate::worked_files::{TABLE, TABLE_TEXT, TRUE, UNSORTED, WRITTEN_TEXT};
-use plist_convert::{Fault, Form, ListSink, ListSource, Sink, Source, canonicalise, convert};
+use plist_canon::write_canonical;
+use plist_convert::{
+    Fault, Form, ListSink, ListSource, Sink, Source, canonicalise, convert, read_any,
+};
 use plist_forms::convert_octets;
+use plist_object::BinFile;
 use plist_value::FixedHasher;
 use std::alloc::{AllocError, Global};
 use std::ops::Range;
@@ -143,18 +147,42 @@ fn long_data(alloc: Global) -> Result<Vec<u8>, AllocError> {
     Ok(text)
 }
 
+/// The first four octets of the first object of a file, the place of the offset table, and the
+/// widths of offsets and references.
+type Layout = ([u8; 4], u64, u8, u8);
+
+const MANY: Layout = ([0xaf, 0x11, 0xea, 0x60], 480_012, 4, 2);
+const LONG: Layout = ([0x4f, 0x11, 0x0f, 0xdc], 4072, 2, 1);
+
+fn has_layout(octets: &[u8], layout: Layout) -> bool {
+    let (head, table, offsets, references) = layout;
+    match BinFile::of(octets) {
+        Ok(file) => {
+            octets[8..].starts_with(&head)
+                && file.table() == table
+                && (file.offset_width(), file.reference_width()) == (offsets, references)
+        }
+        Err(_) => false,
+    }
+}
+
 // Of the data the header, the object and its offset are 4,074 octets: the trailer has no room after
 // them.
 #[test]
 fn no_piece_is_longer_than_the_longest_object(rt: HostRuntime) -> Result<(), Fail> {
     let alloc = rt.alloc();
     let rows = [
-        (many_texts(alloc)?, 120_004, 720_048),
-        (long_data(alloc)?, 4074, 4106),
+        (many_texts(alloc)?, 120_004, 720_048, MANY),
+        (long_data(alloc)?, 4074, 4106, LONG),
     ];
-    for (text, longest, all) in rows {
+    for (text, longest, all, layout) in rows {
         let file = canonicalise(alloc, text.as_slice())?;
         assert_eq!(rt; file.len(), all);
+        assert!(rt; has_layout(file.as_slice(), layout));
+        let mut noting = Noting { longest: 0, all: 0 };
+        let value = read_any(alloc, text.as_slice())?;
+        assert_eq!(rt; write_canonical(alloc, &value, &mut noting), Ok(all as u64));
+        assert_eq!(rt; (noting.longest, noting.all), (longest, all));
         // The file of a text, and that of the file.
         for octets in [text.as_slice(), file.as_slice()] {
             let mut noting = Noting { longest: 0, all: 0 };
