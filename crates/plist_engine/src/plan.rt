@@ -1,5 +1,5 @@
 //! The objects of the canonical file, in the order of their numbers, as they are found in a file.
-ghost use Rattle.std.specs.Prelude.{◌≡◌, ℕ, List, length, IfOk, OnOk};
+ghost use Rattle.std.specs.Prelude.{◌≡◌, ◌↔◌, ◌<◌, ℕ, List, length, IsOk, IfOk, OnOk};
 ghost use Rattle.plist_value.specs.Scalars.{content_of};
 ghost use Rattle.plist_value.specs.Plist.{Pairs};
 ghost use Rattle.plist_object.specs.Views.{numbers_of, octets_of};
@@ -116,6 +116,7 @@ impl<'a, S: BuildHasher + Copy> Plan<'a, S> {
 
     // The number of the next object.
     fn next_number(&self) -> Result<u32, AllocError>
+        ensures fits { IsOk result ↔ (length self.now.originals.items < SINGLE) }
         ensures is { IfOk result (λ number. number ≡ length self.now.originals.items) }
         ensures some { IfOk result IsNumber }
     {
