@@ -14,7 +14,7 @@ use std::alloc::Global;
 pub const MAX_INPUT: u64 = 4_294_967_295;
 
 /// How many octets one take asks for.
-const TAKE_SIZE: usize = 65_536;
+const TAKE_SIZE: usize = 4096;
 
 /// Takes octets until the source has no more, and answers them all.
 ///
