@@ -15,10 +15,12 @@ import stat
 import subprocess
 import sys
 import tempfile
+import threading
 from functools import lru_cache
-from typing import Callable, NoReturn
+from typing import IO, Callable, NoReturn
 
 COMMAND = os.path.basename(sys.argv[0])
+PRINT_LIMIT = 64_000_000  # bytes of a printed text, unless the environment has PLISTCONV_PRINT_LIMIT
 XML_HINT = (
     "XML is converted first, always by the same one of: plistconv-canonicalise --from-xml FILE; "
     "plutil -convert binary1 -o OUT IN; plistutil -i IN -f bin -o OUT"
@@ -140,19 +142,51 @@ def program() -> str:
     raise Trouble(f"there is no program {shown(named or 'plistconv')}")
 
 
-def ask(arguments: list[str], octets: bytes) -> tuple[int, bytes]:
-    """Runs the program over the bytes and returns its status and what it printed. Raises `Refused` if it refuses."""
-    try:
-        run = subprocess.run([program(), *arguments], input=octets, stdout=subprocess.PIPE, check=False)
-    except OSError as fault:
-        raise Trouble(f"{shown(program())} cannot be run: {reason(fault)}") from None
-    if run.returncode in (0, 1):
-        return run.returncode, run.stdout
-    why = re.search(rb"refused [ -~]*", run.stdout)
-    if run.returncode not in (2, 5) or why is None:
-        raise Trouble(f"{shown(program())} ended with status {run.returncode}")
+def ask(arguments: list[str], octets: bytes, limit: int = sys.maxsize) -> tuple[int, bytes]:
+    """Runs the program over the bytes and returns its status and what it printed. Raises `Refused` if it refuses, or
+    prints more bytes than the limit: then it is ended."""
+    status, output = run_over([program(), *arguments], octets, limit)
+    if len(output) > limit:
+        raise Refused(f"prints more than {limit} bytes, the limit (PLISTCONV_PRINT_LIMIT)")
+    if status in (0, 1):
+        return status, output
+    why = re.search(rb"refused [ -~]*", output)
+    if status not in (2, 5) or why is None:
+        raise Trouble(f"{shown(program())} ended with status {status}")
     line = why[0].decode()
     raise RefusedXml(f"{line} (XML)") if is_xml(octets) else Refused(line)
+
+
+def run_over(command: list[str], octets: bytes, limit: int) -> tuple[int, bytes]:
+    """Runs a program over the bytes and returns its status and its output. A program whose output gets longer than
+    `limit` bytes is ended then."""
+    try:
+        process = subprocess.Popen(command, stdin=subprocess.PIPE, stdout=subprocess.PIPE)
+    except OSError as fault:
+        raise Trouble(f"{shown(command[0])} cannot be run: {reason(fault)}") from None
+    with process:
+        assert process.stdin is not None and process.stdout is not None
+        feeder = threading.Thread(target=feed, args=(process.stdin, octets))
+        feeder.start()
+        output = bytearray()
+        while len(output) <= limit:
+            part = process.stdout.read(1 << 20)
+            if not part:
+                break
+            output += part
+        else:
+            process.kill()
+        feeder.join()
+    return process.returncode, bytes(output)
+
+
+def feed(pipe: IO[bytes], octets: bytes) -> None:
+    """Writes all of the bytes to a pipe and closes it. Its reader may end earlier."""
+    try:
+        with pipe:
+            pipe.write(octets)
+    except BrokenPipeError:
+        pass
 
 
 def canonical(octets: bytes) -> bytes:
@@ -160,12 +194,21 @@ def canonical(octets: bytes) -> bytes:
     return ask([], octets)[1]
 
 
+def print_limit() -> int:
+    """Returns how many bytes a printed text may have."""
+    given = os.environ.get("PLISTCONV_PRINT_LIMIT", str(PRINT_LIMIT))
+    if not re.fullmatch("[0-9]{1,15}", given):
+        raise Trouble(f"PLISTCONV_PRINT_LIMIT is no number of bytes: {shown(given)}")
+    return int(given)
+
+
 def printed(octets: bytes) -> bytes:
-    """Returns the printed text of a property list, of XML too. Raises `Refused`."""
+    """Returns the printed text of a property list, of XML too. Raises `Refused`, also if it is too long."""
+    limit = print_limit()
     try:
-        return ask(["print", "/dev/stdin"], octets)[1]
+        return ask(["print", "/dev/stdin"], octets, limit)[1]
     except RefusedXml:
-        return ask(["print", "/dev/stdin"], binary_of_xml(octets))[1]
+        return ask(["print", "/dev/stdin"], binary_of_xml(octets), limit)[1]
 
 
 def is_xml(octets: bytes) -> bool:

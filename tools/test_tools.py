@@ -99,6 +99,22 @@ class EveryCommand(Case):
             os.close(writing)
             self.assertEqual(run.stderr, b"")
 
+    def test_texts_that_are_too_long(self):
+        # Twenty-two lists, each with the one before it twice, print more than 64 MB.
+        halves = b"".join(b"\xa2" + bytes([at + 1, at + 1]) for at in range(22)) + b"Qx"
+        places = bytes(8 + 3 * at for at in range(23))
+        deep = b"bplist00" + halves + places + bytes(6) + b"\1\1" + bytes(7) + bytes([23]) + bytes(15) + bytes([8 + len(halves)])
+        self.put("deep", deep)
+        digest = hashlib.sha256(deep).hexdigest()
+        why = "prints more than %s bytes, the limit (PLISTCONV_PRINT_LIMIT)"
+        self.prints(f"Binary file: {why % 64000000}; SHA-256 {digest}\n".encode(), "textconv", "deep")
+        self.refuses(f"plistconv-diff: deep: {why % 64000000}", "diff", "a", "deep", status=2)
+        for limit, status in ((len(PRINTED), 0), (len(PRINTED) - 1, 2)):
+            env = {**self.environment, "PLISTCONV_PRINT_LIMIT": str(limit)}
+            self.tool("diff", "a", "a", status=status, env=env)
+        env = {**self.environment, "PLISTCONV_PRINT_LIMIT": "1 GB"}
+        self.refuses("PLISTCONV_PRINT_LIMIT is no number of bytes: 1 GB", "textconv", "a", status=2, env=env)
+
     def test_no_temporary_folder_is_needed(self):
         env = {**self.environment, "TMPDIR": "/none"}
         self.prints(PRINTED, "textconv", "a", env=env)
