@@ -32,8 +32,8 @@ pub trait Opens {
         ensures { IfOk result (λ writer.
             IsNew (files self.now) (Self.Writer.contents writer)) };
 
-    /// Closes the file at the path, which holds what the writer wrote. If there is no memory to keep
-    /// that, no file changes.
+    /// Closes the file at the path, which holds what the writer wrote. No file changes if there is
+    /// no memory to keep that.
     fn keep(&mut self, path: &str, writer: Self::Writer) -> Result<(), AllocError>
         ensures kept { IfOk result (λ _.
             Puts path.now (Self.Writer.contents writer) (files self.old) (files self.new)) }

@@ -7,8 +7,7 @@ ghost use Rattle.plist_forms.specs.Laws.{WrittenIsAccepted};
 /// 4,294,967,295 bytes of an input.
 pub fn limits()
     ensures { AreLimits }
-{
-}
+{}
 
 /// No octets spell two values.
 pub fn one_value()

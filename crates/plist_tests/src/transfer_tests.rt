@@ -152,6 +152,7 @@ fn long_data(alloc: Global) -> Result<Vec<u8>, AllocError> {
 type Layout = ([u8; 4], u64, u8, u8);
 
 const MANY: Layout = ([0xaf, 0x11, 0xea, 0x60], 480_012, 4, 2);
+
 const LONG: Layout = ([0x4f, 0x11, 0x0f, 0xdc], 4072, 2, 1);
 
 fn has_layout(octets: &[u8], layout: Layout) -> bool {
