@@ -20,5 +20,4 @@ pub mod Bits
 pub mod Sieve
 pub mod Memo
 pub mod Plan
-pub mod Order
 pub mod Parts

@@ -7,7 +7,6 @@ mod bits;
 mod ends;
 pub mod faults;
 mod hashed;
-pub mod known_orders;
 pub mod laws;
 mod making;
 mod memo;

@@ -3,12 +3,11 @@ ghost use Rattle.std.specs.Prelude.{◌≡◌, None, Some, IfOk};
 ghost use Rattle.plist_value.specs.Plist.{Plist};
 ghost use Rattle.plist_object.specs.Spelled.{IsBinary};
 ghost use Rattle.plist_object.specs.Views.{octets_of};
-ghost use Rattle.plist_object.specs.Order.{AreSortedIfAny};
 ghost use Rattle.plist_engine.specs.Canonical.{canon};
 
 use crate::sending::write_canonical_of;
 use crate::{DeviceFault, Sink};
-use plist_object::{BinFile, SortedKeys};
+use plist_object::BinFile;
 use std::alloc::{AllocError, Global};
 use std::hash::BuildHasher;
 
@@ -57,10 +56,8 @@ pub fn canonical_of<'a, S: BuildHasher + Copy>(
     alloc: Global,
     hasher: S,
     file: &BinFile<'a>,
-    sorted: Option<SortedKeys<'a>>,
 ) -> Result<Vec<u8>, AllocError>
     requires binary { (v : Plist) × IsBinary (octets_of file.now) v }
-    requires sorted { AreSortedIfAny (octets_of file.now) sorted }
     ensures { IfOk result (λ octets. (v : Plist) → IsBinary (octets_of file.now) v
         → octets.items ≡ canon v) }
 {
@@ -68,7 +65,7 @@ pub fn canonical_of<'a, S: BuildHasher + Copy>(
         octets: Vec::new(alloc),
         failures: 0,
     };
-    match write_canonical_of(alloc, hasher, file, sorted, &mut sink) {
+    match write_canonical_of(alloc, hasher, file, &mut sink) {
         Ok(_) => Ok(sink.octets),
         Err(_) => Err(AllocError),
     }

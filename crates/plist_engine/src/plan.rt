@@ -4,15 +4,15 @@ ghost use Rattle.plist_value.specs.Scalars.{content_of};
 ghost use Rattle.plist_value.specs.Plist.{Pairs};
 ghost use Rattle.plist_object.specs.Views.{numbers_of, octets_of};
 ghost use Rattle.plist_engine.specs.Memo.{IsNumber, kept};
-ghost use Rattle.plist_engine.specs.Order.{IsOrdered};
+ghost use Rattle.plist_object.specs.KeyOrder.{IsReady};
 ghost use Rattle.plist_engine.specs.Spelling.{IsTable, SpellTable, in_turn};
 ghost use Rattle.plist_engine.specs.Plan.{Begins, IsEmptyPlan, IsUnmet};
 ghost use Rattle.plist_engine.specs.Plan.{KnowsScalars, MeetsScalar, NumbersScalar};
 
 use crate::memo::{Memo, SINGLE};
-use crate::order::{KeyOrder, push_all};
+use crate::order::{push_all, push_sorted};
 use crate::scalars::Scalars;
-use plist_object::{BinFile, Refs, short};
+use plist_object::{BinFile, KeyOrder, Refs, short};
 use plist_value::{MAX_NODES, ScalarRef};
 use std::alloc::{AllocError, Global};
 use std::hash::BuildHasher;
@@ -151,16 +151,16 @@ impl<'a, S: BuildHasher + Copy> Plan<'a, S> {
     ) -> Result<u32, AllocError>
         requires table { IsTable (octets_of file.now) (numbers_of keys.now)
             (numbers_of values.now) }
-        requires ordered { IsOrdered (octets_of file.now) order.old }
+        requires ready { IsReady (octets_of file.now) order.old }
         ensures begins { IfOk result (λ number. (rows : List (ℕ × ℕ)) (ps : Pairs)
             → SpellTable (octets_of file.now) (numbers_of keys.now) (numbers_of values.now) rows ps
             → Begins object (in_turn rows) self.old self.new number) }
-        ensures ordered { OnOk result (IsOrdered (octets_of file.now) order.new) }
+        ensures ready { OnOk result (IsReady (octets_of file.now) order.new) }
     {
         let number = self.next_number()?;
         let original = short(object)?;
         self.originals.push(original)?;
-        order.push_sorted(alloc, file, keys, values, &mut self.references)?;
+        push_sorted(alloc, file, order, keys, values, &mut self.references)?;
         Ok(number)
     }
 }

@@ -7,7 +7,6 @@ ghost use Rattle.plist_object.specs.Sizes.{IsWidth};
 ghost use Rattle.plist_object.specs.Spelled.{IsBinary};
 ghost use Rattle.plist_object.specs.Spelling.{least_width, scalar_spelling};
 ghost use Rattle.plist_object.specs.Views.{octets_of};
-ghost use Rattle.plist_object.specs.Order.{AreSortedIfAny};
 ghost use Rattle.plist_object.specs.Files.{starts};
 ghost use Rattle.plist_engine.specs.Canonical.{canon, file_of, objects_of};
 ghost use Rattle.plist_engine.specs.Pieces.{CanSpellAll, CanSpellPart, octets_in_part};
@@ -25,7 +24,7 @@ use crate::plan::Objects;
 use crate::putting::{Part, part_length, put_part};
 use crate::walk::objects_of;
 use crate::{Output, Sink, WriteFault};
-use plist_object::{BinFile, HEADER, SortedKeys, put_data_head, width_of};
+use plist_object::{BinFile, HEADER, put_data_head, width_of};
 use plist_value::ScalarRef;
 use std::alloc::Global;
 use std::hash::BuildHasher;
@@ -51,11 +50,9 @@ pub fn write_canonical_of<'a, S: BuildHasher + Copy, W: Sink>(
     alloc: Global,
     hasher: S,
     file: &BinFile<'a>,
-    sorted: Option<SortedKeys<'a>>,
     out: &mut W,
 ) -> Result<u64, WriteFault>
     requires binary { (v : Plist) × IsBinary (octets_of file.now) v }
-    requires sorted { AreSortedIfAny (octets_of file.now) sorted }
     ensures written { (v : Plist) → IsBinary (octets_of file.now) v
         → IsWritten (canon v) (W.taken out.old) (W.taken out.new)
         (W.failures out.old) (W.failures out.new) result }
@@ -63,7 +60,7 @@ pub fn write_canonical_of<'a, S: BuildHasher + Copy, W: Sink>(
     ensures pieces { (v : Plist) → IsBinary (octets_of file.now) v
         → ArePieces (objects_of (preorder v)) (W.longest out.old) (W.longest out.new) }
 {
-    let Ok(objects) = objects_of(alloc, hasher, file, sorted) else {
+    let Ok(objects) = objects_of(alloc, hasher, file) else {
         return Err(WriteFault::OutOfMemory { sent: 0 });
     };
     send_file(alloc, file, objects, out)

@@ -3,18 +3,16 @@ ghost use Rattle.std.specs.Prelude.{◌≡◌, ◌≤◌, length, drop, IfOk, On
 ghost use Rattle.plist_value.specs.Plist.{Plist};
 ghost use Rattle.plist_object.specs.Spelled.{IsBinary, SpellsWithin};
 ghost use Rattle.plist_object.specs.Views.{octets_of};
-ghost use Rattle.plist_object.specs.Order.{AreSortedIfAny};
 ghost use Rattle.plist_engine.specs.Spelling.{SpellWithin};
-ghost use Rattle.plist_engine.specs.Order.{IsOrdered};
+ghost use Rattle.plist_object.specs.KeyOrder.{IsReady};
 ghost use Rattle.plist_engine.specs.Plan.{AreObjectsOf, AreWalked, IsWalked, KnowsScalars};
 ghost use Rattle.plist_engine.specs.Memo.{kept};
 
 use crate::ahead::Ahead;
 use crate::memo::SINGLE;
 use crate::objects::object_of;
-use crate::order::KeyOrder;
 use crate::plan::{Objects, Plan};
-use plist_object::{BinFile, Object, SortedKeys};
+use plist_object::{BinFile, KeyOrder, Object};
 use plist_value::MAX_DEPTH;
 use std::alloc::{AllocError, Global};
 use std::hash::BuildHasher;
@@ -24,15 +22,13 @@ pub(crate) fn objects_of<'a, S: BuildHasher + Copy>(
     alloc: Global,
     hasher: S,
     file: &BinFile<'a>,
-    sorted: Option<SortedKeys<'a>>,
 ) -> Result<Objects, AllocError>
-    requires binary { (v : Plist) × IsBinary (octets_of file.now) v }
-    requires sorted { AreSortedIfAny (octets_of file.now) sorted }
+    requires { (v : Plist) × IsBinary (octets_of file.now) v }
     ensures { IfOk result (λ objects. (v : Plist) → IsBinary (octets_of file.now) v
         → AreObjectsOf (octets_of file.now) v objects) }
 {
     let mut plan = Plan::new(alloc, hasher, file)?;
-    let mut order = KeyOrder::new(alloc, sorted);
+    let mut order = KeyOrder::new(alloc, file);
     let mut ahead = Ahead::new();
     walk(
         alloc,
@@ -61,10 +57,10 @@ fn walk<'a, S: BuildHasher + Copy>(
 ) -> Result<u32, AllocError>
     requires spells { SpellsWithin (octets_of file.now) object levels }
     requires knows { KnowsScalars (octets_of file.now) plan.old }
-    requires ordered { IsOrdered (octets_of file.now) order.old }
+    requires ready { IsReady (octets_of file.now) order.old }
     ensures walked { IfOk result (IsWalked (octets_of file.now) object plan.old plan.new) }
     ensures knows { OnOk result (KnowsScalars (octets_of file.now) plan.new) }
-    ensures ordered { OnOk result (IsOrdered (octets_of file.now) order.new) }
+    ensures ready { OnOk result (IsReady (octets_of file.now) order.new) }
 {
     if let Some(number) = plan.memo.number_of(object) {
         return Ok(number);
@@ -90,10 +86,10 @@ fn walk_object<'a, S: BuildHasher + Copy>(
     requires spells { SpellsWithin (octets_of file.now) object levels }
     requires knows { KnowsScalars (octets_of file.now) plan.old }
     requires unmet { SINGLE ≤ kept plan.old.memo object }
-    requires ordered { IsOrdered (octets_of file.now) order.old }
+    requires ready { IsReady (octets_of file.now) order.old }
     ensures walked { IfOk result (IsWalked (octets_of file.now) object plan.old plan.new) }
     ensures knows { OnOk result (KnowsScalars (octets_of file.now) plan.new) }
-    ensures ordered { OnOk result (IsOrdered (octets_of file.now) order.new) }
+    ensures ready { OnOk result (IsReady (octets_of file.now) order.new) }
 {
     match object_of(file, object) {
         Object::Scalar(scalar) => plan.scalar(alloc, file, object, scalar),
@@ -128,10 +124,10 @@ fn walk_children<'a, S: BuildHasher + Copy>(
     requires spell { SpellWithin (octets_of file.now)
         (drop first plan.old.references.items) levels }
     requires knows { KnowsScalars (octets_of file.now) plan.old }
-    requires ordered { IsOrdered (octets_of file.now) order.old }
+    requires ready { IsReady (octets_of file.now) order.old }
     ensures walked { OnOk result (AreWalked (octets_of file.now) first plan.old plan.new) }
     ensures knows { OnOk result (KnowsScalars (octets_of file.now) plan.new) }
-    ensures ordered { OnOk result (IsOrdered (octets_of file.now) order.new) }
+    ensures ready { OnOk result (IsReady (octets_of file.now) order.new) }
 {
     for i in first..plan.references.len() {
         ahead.look_unmet(file, &plan.memo, plan.references.as_slice(), i);

@@ -16,3 +16,4 @@ pub mod ReadScalars
 pub mod SameOctets
 pub mod Ranked
 pub mod Orders
+pub mod KeyOrders

@@ -19,7 +19,7 @@ module _ {X : Type 0} (place_of : X → ℕ) (units_at : X → List ℕ) (f keys
   abbrev HoldsRow : X → Type 0
   HoldsRow x = what_holds f (slice_index keys (place_of x)) ≡ Ok (holds_scalar (text (units_at x)))
 
-  held_rows : (xs : List X) → AllByRecursion HoldsRow xs → map (λ place. what_holds f (slice_index keys place)) (map place_of xs) ≡ map (λ units. Ok (holds_scalar (text units))) (map units_at xs)
+  pub held_rows : (xs : List X) → AllByRecursion HoldsRow xs → map (λ place. what_holds f (slice_index keys place)) (map place_of xs) ≡ map (λ units. Ok (holds_scalar (text units))) (map units_at xs)
   held_rows [] held = refl
   held_rows (x ∷ xs) held = let one = held.0 in let others = held_rows xs held.1 in cc
 

@@ -19,7 +19,7 @@ use Rattle.plist_object.specs.declared.ranks.Ranks.{Ranks}
 use Rattle.plist_object.specs.declared.keys.Key.{Key}
 use Rattle.plist_object.specs.Ranks.{HoldsUnits, HoldsKey, AreRanks, in_order, rank_of, text_of_rank, texts_of}
 
-irreflexive : (units : List ℕ) → slice_cmp nat_cmp units units ≡ Less → ⊥
+pub irreflexive : (units : List ℕ) → slice_cmp nat_cmp units units ≡ Less → ⊥
 irreflexive units below = absurd (let tied = tied_itself nat_list_cmp_total units in let e : Less ≡ Equal = sym below ∙ tied in cc)
 
 -- of texts that ascend the lower has the lower rank

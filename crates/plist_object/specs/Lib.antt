@@ -20,3 +20,4 @@ pub mod Shortest
 pub mod Heads
 pub mod Ranks
 pub mod Order
+pub mod KeyOrder

@@ -1,14 +1,25 @@
 -- The keys of a table in the order of their texts.
-use Rattle.std.specs.Prelude.{◌≡◌, ℕ, ◌<◌, List, Option, All, IfSome, Ok, length, map, slice_index}
+use Rattle.std.specs.Prelude.{◌≡◌, ℕ, ◌<◌, List, Option, All, EachIndex, IfSome, Ok, length, map, slice_index}
 use Rattle.std.specs.Ordering.{nat_cmp}
 use Rattle.std.specs.Cmp.Lexicographic.{slice_cmp}
-use Rattle.std.specs.List.{zip}
-use Rattle.std.specs.List.Sorted.{IsPermutation, IsStrictlySortedBy}
+use Rattle.std.specs.List.{range_with_len, zip}
+use Rattle.std.specs.List.Sorted.{IsPermutation, IsSorted, IsStrictlySortedBy}
 use Rattle.plist_value.specs.Plist.{text}
 use Rattle.plist_object.specs.Objects.{holds_scalar}
-use Rattle.plist_object.specs.Places.{what_holds}
+use Rattle.plist_object.specs.Places.{what_holds, HoldsText}
 use Rattle.plist_object.specs.Views.{numbers_of}
 use Rattle.plist_object.specs.declared.sorted.SortedKeys.{SortedKeys}
+
+-- each of the references names a string
+abbrev pub NameTexts : List ℕ → List ℕ → Type 0
+NameTexts f keys = EachIndex keys (λ k. HoldsText f (slice_index keys k))
+
+-- the positions of the keys, in the order of their strings, of which none is below the one before
+pub record IsInOrder (f keys places : List ℕ) : Type 0 where
+  pub texts : List (List ℕ)
+  pub moved : IsPermutation (range_with_len 0 (length keys)) places
+  pub held : map (λ place. what_holds f (slice_index keys place)) places ≡ map (λ units. Ok (holds_scalar (text units))) texts
+  pub sorted : IsSorted (slice_cmp nat_cmp) texts
 
 -- what stands at a place of two lists
 abbrev pub pair_of : List ℕ → List ℕ → ℕ → ℕ × ℕ

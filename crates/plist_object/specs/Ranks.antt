@@ -13,6 +13,7 @@ use Rattle.plist_object.specs.Places.{Holds}
 use Rattle.plist_object.specs.declared.keys.Key.{Key}
 use Rattle.plist_object.specs.declared.keys.Keys.{Keys}
 use Rattle.plist_object.specs.declared.ranks.Ranks.{Ranks}
+use Rattle.plist_object.specs.declared.reached.Reached.{Reached}
 
 -- the object holds the text, whose units are units
 abbrev pub HoldsUnits : List ℕ → ℕ → List ℕ → Type 0
@@ -29,6 +30,10 @@ in_order a b = ordering_then (slice_cmp nat_cmp (units_of a.text) (units_of b.te
 pub record AreKeys (f : List ℕ) (keys : Keys) : Type 0 where
   pub held : All (HoldsKey f) keys.entries.items
   pub marked : length keys.seen.items ≡ (trailer_of f).count
+
+-- each object has a mark
+abbrev pub AreMarked : List ℕ → Reached → Type 0
+AreMarked f reached = length reached.marks.items ≡ (trailer_of f).count
 
 -- the rank of the object, if it has one
 abbrev pub rank_of : Ranks → ℕ → Option ℕ

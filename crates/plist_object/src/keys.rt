@@ -10,6 +10,7 @@ use crate::layout::BinFile;
 use crate::markers::TABLE;
 use crate::object::{Object, ObjectFault};
 use crate::ranks::{Ranks, ranks_in_order};
+use crate::reached::reached_keys;
 use crate::refs::Refs;
 use plist_value::{ScalarRef, TextRef};
 use std::alloc::{AllocError, Global};
@@ -62,8 +63,15 @@ impl<'a> Keys<'a> {
         Ok(keys)
     }
 
+    /// The keys of the dictionaries that the top object reaches.
+    pub fn of_reached(alloc: Global, file: &BinFile<'a>) -> Result<Keys<'a>, AllocError>
+        ensures { IfOk result (λ keys. AreKeys (octets_of file.now) keys) }
+    {
+        reached_keys(alloc, file)
+    }
+
     // None yet, where so many octets may be read.
-    fn none(alloc: Global, file: &BinFile<'a>, room: u64) -> Result<Keys<'a>, AllocError>
+    pub(crate) fn none(alloc: Global, file: &BinFile<'a>, room: u64) -> Result<Keys<'a>, AllocError>
         ensures { IfOk result (λ keys. AreKeys (octets_of file.now) keys) }
     {
         let mut seen = Vec::new(alloc);
@@ -139,6 +147,17 @@ impl<'a> Keys<'a> {
             }
         }
         Ok(true)
+    }
+
+    // Adds each key that is a string.
+    pub(crate) fn add_each(&mut self, file: &BinFile<'a>, keys: &Refs) -> Result<(), AllocError>
+        requires { AreKeys (octets_of file.now) self.old }
+        ensures { OnOk result (AreKeys (octets_of file.now) self.new) }
+    {
+        for k in 0..keys.len() {
+            self.add(file, keys.get(k))?;
+        }
+        Ok(())
     }
 
     // Whether the object holds a text, which is then among the keys, and no objects overlap.

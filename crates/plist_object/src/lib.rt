@@ -9,8 +9,10 @@ pub mod layout;
 pub mod lengths;
 mod markers;
 pub mod object;
+pub mod order;
 pub mod puts;
 pub mod ranks;
+mod reached;
 mod reading;
 pub mod refs;
 pub mod shortest;
@@ -22,6 +24,7 @@ pub use layout::{BinFile, LayoutFault, Spanned};
 pub use lengths::{list_length, scalar_length, short, table_length, width_of};
 pub use markers::HEADER;
 pub use object::{Object, ObjectFault};
+pub use order::{KeyOrder, text_of};
 pub use puts::{
     put_data_head, put_list, put_number, put_scalar, put_short_list, put_short_table, put_table,
     put_trailer,

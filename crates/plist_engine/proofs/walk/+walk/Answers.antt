@@ -74,12 +74,12 @@ walk_object-walk_children-requires g t c =
     let added = c.in_ok-number-in-List.ensures.references_added in
     let begun : drop first c.begin_list.new.self.references.items ≡ objects = ap (drop first) added ∙ drop_at old objects first (sym at_end) in
     let within = items_within f c.args.object c.args.levels objects c.requires.spells c.in-List.ensures.holds in
-    λ κs lives. (omega (arith, c.decreases), (lives.0, (lives.1, (behind_old old objects c.begin_list.new.self.references.items first at_end added, (subst (λ (refs : List ℕ). SpellWithin f refs (c.args.levels - 1)) (sym begun) within, (knows-begun f c.args.object objects c.args.plan.now c.begin_list.new.self c.in_ok-number-in-List.number (list-apart f c.args.object objects c.in-List.ensures.holds) c.in_ok-number-in-List.ensures c.requires.knows, c.requires.ordered))))))
+    λ κs lives. (omega (arith, c.decreases), (lives.0, (lives.1, (behind_old old objects c.begin_list.new.self.references.items first at_end added, (subst (λ (refs : List ℕ). SpellWithin f refs (c.args.levels - 1)) (sym begun) within, (knows-begun f c.args.object objects c.args.plan.now c.begin_list.new.self c.in_ok-number-in-List.number (list-apart f c.args.object objects c.in-List.ensures.holds) c.in_ok-number-in-List.ensures c.requires.knows, c.requires.ready))))))
 
 pub walk_object-begin_table-requires : goal.walk_object-begin_table-requires
 walk_object-begin_table-requires g t c = record {
   table = is_table (octets_of c.args.file.now) c.args.object c.args.levels (numbers_of c.in-Table.keys) (numbers_of c.in-Table.values) c.requires.spells c.in-Table.ensures.holds c.in-Table.ensures.valid;
-  ordered = c.requires.ordered;
+  ready = c.requires.ready;
 }
 
 pub walk_object-overflow_sub-levels-in-Table : goal.walk_object-overflow_sub-levels-in-Table
@@ -99,7 +99,7 @@ walk_object-walk_children-requires-in-Table g t c =
     let objects = in_turn within.rows in
     let added = (c.in_ok-number-in-Table.ensures.begins within.rows within.pairs within.spell).references_added in
     let begun : drop first c.begin_table.new.self.references.items ≡ objects = ap (drop first) added ∙ drop_at old objects first (sym at_end) in
-    λ κs lives. (omega (arith, c.decreases), (lives.0, (lives.1, (behind_old old objects c.begin_table.new.self.references.items first at_end added, (subst (λ (refs : List ℕ). SpellWithin f refs (c.args.levels - 1)) (sym begun) (flat_within f keys values (c.args.levels - 1) within), (knows-begun f c.args.object objects c.args.plan.now c.begin_table.new.self c.in_ok-number-in-Table.number (table-apart f c.args.object keys values c.in-Table.ensures.holds) (c.in_ok-number-in-Table.ensures.begins within.rows within.pairs within.spell) c.requires.knows, c.in_ok-number-in-Table.ensures.ordered))))))
+    λ κs lives. (omega (arith, c.decreases), (lives.0, (lives.1, (behind_old old objects c.begin_table.new.self.references.items first at_end added, (subst (λ (refs : List ℕ). SpellWithin f refs (c.args.levels - 1)) (sym begun) (flat_within f keys values (c.args.levels - 1) within), (knows-begun f c.args.object objects c.args.plan.now c.begin_table.new.self c.in_ok-number-in-Table.number (table-apart f c.args.object keys values c.in-Table.ensures.holds) (c.in_ok-number-in-Table.ensures.begins within.rows within.pairs within.spell) c.requires.knows, c.in_ok-number-in-Table.ensures.ready))))))
 
 pub walk_object-returns-in-Scalar-clause-walked : goal.walk_object-returns-in-Scalar-clause-walked
 walk_object-returns-in-Scalar-clause-walked g t c =
@@ -138,7 +138,7 @@ walk_children-loop-i-init g t c = record {
   filling = filling-start c.args.first c.args.plan.now.references.items c.requires.first;
   more = λ new numbers w. w;
   knows = c.requires.knows;
-  ordered = c.requires.ordered;
+  ready = c.requires.ready;
 }
 
 pub walk_children-walk-requires : goal.walk_children-walk-requires
@@ -156,7 +156,7 @@ walk_children-walk-requires g t c =
     let far : first + (i - first) ≡ i = omega arith in
     let at : get_or (drop first start) (i - first) 0 ≡ get_or start i 0 = get_or-drop first start (i - first) 0 ∙ ap (λ k. get_or start k 0) far in
     let within = value_within f (drop first start) c.args.levels (i - first) c.requires.spell (omega arith) in
-    λ κs lives. (omega (arith, c.decreases), (lives.0, (lives.1, (subst (λ (x : ℕ). SpellsWithin f x c.args.levels) (at ∙ sym stands ∙ sym object ∙ sym c.from.ensures) within, (c.loop-i.invariant.knows, c.loop-i.invariant.ordered)))))
+    λ κs lives. (omega (arith, c.decreases), (lives.0, (lives.1, (subst (λ (x : ℕ). SpellsWithin f x c.args.levels) (at ∙ sym stands ∙ sym object ∙ sym c.from.ensures) within, (c.loop-i.invariant.knows, c.loop-i.invariant.ready)))))
 
 pub walk_children-index_mut-requires : goal.walk_children-index_mut-requires
 walk_children-index_mut-requires g t c =
@@ -192,7 +192,7 @@ walk_children-loop-i-preserved g t c =
           let all = c.loop-i.invariant.more new (n ∷ numbers) (walked-next f start i c.from.result c.loop-i.plan mid _ new n numbers below (c.from.ensures ∙ object ∙ stands) long one refl (kept-behind i (length start) mid.references.items n below) w) in
           subst (λ (ns : List ℕ). ItemsWalked f (length start) (drop first start) c.args.plan.now new ns) (sym (append_assoc done (n ∷ []) numbers)) all;
       knows = knows-same f mid _ refl refl refl c.in_ok-number.ensures.knows;
-      ordered = c.in_ok-number.ensures.ordered;
+      ready = c.in_ok-number.ensures.ready;
     }
 
 pub walk_children-returns-clause-walked : goal.walk_children-returns-clause-walked

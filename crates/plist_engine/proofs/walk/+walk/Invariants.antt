@@ -1,7 +1,7 @@
 use Rattle.std.proofs.Common.{ℕ, ◌+◌, ◌*◌, List, ◌++◌, length, drop}
+use Rattle.plist_object.specs.KeyOrder.{IsReady}
 use Rattle.plist_object.specs.Views.{octets_of}
 use Rattle.plist_engine.specs.declared.plan.Plan.{Plan}
-use Rattle.plist_engine.specs.Order.{IsOrdered}
 use Rattle.plist_engine.specs.Plan.{ItemsWalked, KnowsScalars}
 use Rattle.plist_engine.proofs.Filling.{IsFilling}
 use Rattle.plist_engine.proofs.walk.+walk.Given as goal
@@ -24,5 +24,5 @@ invariant-walk_children-loop-i g l =
       filling : IsFilling l.first l.i start l.plan.references.items done;
       more : (new : Plan _ _) (numbers : List ℕ) → ItemsWalked (octets_of l.file) (length start) (drop l.i start) l.plan new numbers → ItemsWalked (octets_of l.file) (length start) (drop l.first start) l.fn.plan new (done ++ numbers);
       knows : KnowsScalars (octets_of l.file) l.plan;
-      ordered : IsOrdered (octets_of l.file) l.order;
+      ready : IsReady (octets_of l.file) l.order;
     }

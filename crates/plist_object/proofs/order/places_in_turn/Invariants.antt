@@ -1,6 +1,6 @@
 use Rattle.std.proofs.Common.{◌≡◌, ◌++◌, drop, map}
-use Rattle.plist_engine.specs.Order.{place_of}
-use Rattle.plist_engine.proofs.order.places_in_turn.Given as goal
+use Rattle.plist_object.specs.KeyOrder.{place_of}
+use Rattle.plist_object.proofs.order.places_in_turn.Given as goal
 
 abbrev pub invariant-loop-row : goal.invariant-loop-row
 invariant-loop-row l =

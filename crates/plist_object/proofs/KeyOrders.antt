@@ -1,0 +1,114 @@
+-- Rows of keys in the order of their numbers are in the order of their strings.
+use Rattle.std.proofs.Common.{◌≡◌, ℕ, ◌+◌, ◌<◌, List, [], ◌∷◌, ◌++◌, length, get_or, map, slice_index, refl, sym, ap, ◌∙◌, subst, arith, inl, inr, Ok}
+use Rattle.std.specs.Prelude.{All, true, false, Bool}
+use Rattle.std.specs.declared.cmp.Ordering.{Ordering}
+use Rattle.std.specs.declared.cmp.Ordering.TheVariants.{Less, Equal}
+use Rattle.std.specs.Ordering.{nat_cmp, ordering_then, on, is_lt}
+use Rattle.std.specs.Cmp.{nat_cmp_is}
+use Rattle.std.specs.Cmp.Lexicographic.{slice_cmp}
+use Rattle.std.specs.List.{range_with_len}
+use Rattle.std.specs.List.Sorted.{IsPermutation, IsSorted}
+use Rattle.std.proofs.lemmas.Bool.{cases_lt, true≢false, false_from_ne_true}
+use Rattle.std.proofs.lemmas.Cmp.{nat_list_cmp_total}
+use Rattle.std.proofs.lemmas.List.{get_or-map, length-map, map-append}
+use Rattle.std.proofs.lemmas.List.FromFn.{map-range_with_len_more}
+use Rattle.std.proofs.lemmas.List.Elements.{recursion_from_All}
+use Rattle.std.proofs.lemmas.List.Sorted.{All-permutation, IsPermutation-map, IsPermutation-refl, IsPermutation-trans}
+use Rattle.plist_object.specs.declared.order.Row.{Row}
+use Rattle.plist_object.specs.declared.ranks.Ranks.{Ranks}
+use Rattle.plist_object.specs.KeyOrder.{AreRows, HoldsRow, IsRankedRow, TellsOrder, place_of, units_at}
+use Rattle.plist_object.specs.Order.{IsInOrder}
+use Rattle.plist_object.specs.Ranks.{AreRanks, texts_of}
+use Rattle.plist_object.proofs.Orders.{held_rows}
+use Rattle.plist_object.proofs.Ranked.{below_from_ranks, irreflexive, less_from_lt}
+
+ranks_tell : (f : List ℕ) (ranks : Ranks) (row other : Row) → AreRanks f ranks → IsRankedRow ranks row → IsRankedRow ranks other → TellsOrder row other
+ranks_tell f ranks row other are is is_other below =
+    sym (ap (λ us. slice_cmp nat_cmp us (get_or (texts_of ranks) other.number [])) is.1 ∙ ap (λ us. slice_cmp nat_cmp (units_at row) us) is_other.1)
+    ∙ below_from_ranks (texts_of ranks) row.number other.number are.ascending is_other.0 below
+
+-- rows that stand as in the file
+from_file : (f keys : List ℕ) (n : ℕ) (rows : List Row) → length keys ≡ n → map place_of rows ≡ range_with_len 0 n → All (HoldsRow f keys) rows → All (λ row. All (TellsOrder row) rows) rows → AreRows f keys rows
+from_file f keys n rows long are held tell = record {
+  moved = subst (λ (ps : List ℕ). IsPermutation (range_with_len 0 (length keys)) ps) (ap (range_with_len 0) long ∙ sym are) (IsPermutation-refl (range_with_len 0 (length keys)));
+  held = held;
+  tell = tell;
+}
+
+pub AreRows-ranked : (f keys : List ℕ) (n : ℕ) (ranks : Ranks) (rows : List Row) → AreRanks f ranks → length keys ≡ n → map place_of rows ≡ range_with_len 0 n → All (HoldsRow f keys) rows → All (IsRankedRow ranks) rows → AreRows f keys rows
+AreRows-ranked f keys n ranks rows are long places held ranked =
+    from_file f keys n rows long places held (λ i d h j e g. ranks_tell f ranks (get_or rows i d) (get_or rows j e) are (ranked i d h) (ranked j e g))
+
+pub AreRows-unnumbered : (f keys : List ℕ) (n : ℕ) (rows : List Row) → length keys ≡ n → map place_of rows ≡ range_with_len 0 n → All (HoldsRow f keys) rows → All (λ row. row.number ≡ 0) rows → AreRows f keys rows
+AreRows-unnumbered f keys n rows long places held none =
+    from_file f keys n rows long places held (λ i d h j e g below. absurd (let first = none i d h in let second = none j e g in omega (arith, first, second, below)))
+
+map_self : (xs : List ℕ) → map (λ x. x) xs ≡ xs
+map_self [] = refl
+map_self (x ∷ xs) = ap (λ ys. x ∷ ys) (map_self xs)
+
+range-more : (k : ℕ) → range_with_len 0 (k + 1) ≡ range_with_len 0 k ++ k ∷ []
+range-more k =
+    sym (map_self (range_with_len 0 (k + 1))) ∙ map-range_with_len_more (λ n. n) 0 k k (omega arith) ∙ ap (λ ns. ns ++ k ∷ []) (map_self (range_with_len 0 k))
+
+-- one row more
+pub places-push : (rows pushed : List Row) (row : Row) (k : ℕ) → pushed ≡ rows ++ row ∷ [] → row.place ≡ k → map place_of rows ≡ range_with_len 0 k → map place_of pushed ≡ range_with_len 0 (k + 1)
+places-push rows pushed row k is at so_far =
+    ap (map place_of) is ∙ map-append place_of rows (row ∷ []) ∙ ap (λ ps. ps ++ place_of row ∷ []) so_far ∙ ap (λ p. range_with_len 0 k ++ p ∷ []) at ∙ sym (range-more k)
+
+-- rows in another order
+moved_rows : (f keys : List ℕ) (rows sorted : List Row) → IsPermutation rows sorted → AreRows f keys rows → AreRows f keys sorted
+moved_rows f keys rows sorted moved are =
+    let to_each : All (λ row. All (TellsOrder row) sorted) rows = λ k d h. All-permutation (TellsOrder (get_or rows k d)) rows sorted moved (are.tell k d h) in
+    record {
+      moved = IsPermutation-trans (range_with_len 0 (length keys)) (map place_of rows) (map place_of sorted) are.moved (IsPermutation-map place_of rows sorted moved);
+      held = All-permutation (HoldsRow f keys) rows sorted moved are.held;
+      tell = All-permutation (λ row. All (TellsOrder row) sorted) rows sorted moved to_each;
+    }
+
+-- by numbers, and by strings where these are equal
+abbrev pub by_number : Row → Row → Ordering
+by_number row other =
+    ordering_then (nat_cmp row.number other.number) (slice_cmp nat_cmp (units_at row) (units_at other))
+
+-- a lower string goes first
+lower_first : (row other : Row) → TellsOrder other row → slice_cmp nat_cmp (units_at row) (units_at other) ≡ Less → is_lt (by_number row other) ≡ true
+lower_first row other tells less =
+    let p = slice_cmp nat_cmp (units_at row) (units_at other) in
+    elim (cases_lt row.number other.number) [
+      | inl below ↦ ap (λ first. is_lt (ordering_then first p)) (sym (nat_cmp_is row.number other.number Less below))
+      | inr above ↦ elim (cases_lt other.number row.number) [
+        | inl before ↦ absurd (irreflexive (units_at row) (nat_list_cmp_total.trans (units_at row) (units_at other) (units_at row) less (tells before)))
+        | inr after ↦ (
+            let same : row.number ≡ other.number = omega arith in
+            ap (λ first. is_lt (ordering_then first p)) (sym (nat_cmp_is row.number other.number Equal same)) ∙ ap is_lt less)
+      ]
+    ]
+
+in_order : (f keys : List ℕ) (rows : List Row) → AreRows f keys rows → IsSorted by_number rows → (k : ℕ) (e : Row) → k + 1 < length rows → is_lt (slice_cmp nat_cmp (units_at (get_or rows (k + 1) e)) (units_at (get_or rows k e))) ≡ false
+in_order f keys rows are sorted k e h =
+    let row = get_or rows k e in
+    let next = get_or rows (k + 1) e in
+    false_from_ne_true (is_lt (slice_cmp nat_cmp (units_at next) (units_at row))) (λ lower.
+    true≢false (sym (lower_first next row (are.tell k e (omega arith) (k + 1) e h) (less_from_lt (slice_cmp nat_cmp (units_at next) (units_at row)) lower)) ∙ sorted k e (omega arith) h))
+
+texts_in_order : (f keys : List ℕ) (rows : List Row) → AreRows f keys rows → IsSorted by_number rows → IsSorted (slice_cmp nat_cmp) (map units_at rows)
+texts_in_order f keys [] are sorted k d low high = absurd (omega arith)
+texts_in_order f keys (first ∷ rows) are sorted k d low high =
+    let all = first ∷ rows in
+    let long = length-map all units_at in
+    let within : k + 1 < length all = omega (arith, long, high) in
+    let lower = get_or-map units_at all k first d (omega arith) in
+    let upper = get_or-map units_at all (k + 1) first d within in
+    ap (λ us. is_lt (slice_cmp nat_cmp us (get_or (map units_at all) k d))) upper ∙ ap (λ us. is_lt (slice_cmp nat_cmp (units_at (get_or all (k + 1) first)) us)) lower ∙ in_order f keys all are sorted k first within
+
+-- the positions of rows that are sorted by their numbers
+pub IsInOrder-rows : (f keys : List ℕ) (rows sorted : List Row) → AreRows f keys rows → IsPermutation rows sorted → IsSorted by_number sorted → IsInOrder f keys (map place_of sorted)
+IsInOrder-rows f keys rows sorted are moved order =
+    let now = moved_rows f keys rows sorted moved are in
+    record {
+      texts = map units_at sorted;
+      moved = now.moved;
+      held = held_rows place_of units_at f keys sorted (recursion_from_All _ sorted (λ k d h. (now.held k d h).reads));
+      sorted = texts_in_order f keys sorted now order;
+    }

@@ -1,0 +1,47 @@
+-- What is kept of the keys of dictionaries, and the rows by which keys are sorted.
+use Rattle.std.specs.Prelude.{◌≡◌, ℕ, ◌<◌, List, [], All, IfSome, length, map, slice_index, slice_index_or}
+use Rattle.std.specs.declared.cmp.Ordering.TheVariants.{Less}
+use Rattle.std.specs.Ordering.{nat_cmp}
+use Rattle.std.specs.Cmp.Lexicographic.{slice_cmp}
+use Rattle.std.specs.List.{range_with_len}
+use Rattle.std.specs.List.Sorted.{IsPermutation}
+use Rattle.plist_value.specs.Plist.{text}
+use Rattle.plist_value.specs.Texts.{units_of}
+use Rattle.plist_object.specs.Objects.{holds_scalar}
+use Rattle.plist_object.specs.Places.{Holds}
+use Rattle.plist_object.specs.Views.{numbers_of}
+use Rattle.plist_object.specs.Order.{IsInOrder}
+use Rattle.plist_object.specs.Ranks.{AreRanks, texts_of}
+use Rattle.plist_object.specs.declared.ranks.Ranks.{Ranks}
+use Rattle.plist_object.specs.declared.order.Row.{Row}
+use Rattle.plist_object.specs.declared.order.KeyOrder.{KeyOrder}
+
+abbrev pub place_of : Row → ℕ
+place_of row = row.place
+
+abbrev pub units_at : Row → List ℕ
+units_at row = units_of row.text
+
+-- the reference at the row's position names its string
+abbrev pub HoldsRow : List ℕ → List ℕ → Row → Type 0
+HoldsRow f keys row = Holds f (slice_index keys row.place) (holds_scalar (text (units_at row)))
+
+-- the row's number is the rank of its string
+abbrev pub IsRankedRow : Ranks → Row → Type 0
+IsRankedRow ranks row = (row.number < length (texts_of ranks)) × (slice_index_or (texts_of ranks) row.number [] ≡ units_at row)
+
+-- a lower number means a lower string
+abbrev pub TellsOrder : Row → Row → Type 0
+TellsOrder row other = row.number < other.number → slice_cmp nat_cmp (units_at row) (units_at other) ≡ Less
+
+-- one row for each of the keys, with numbers that tell their order
+pub record AreRows (f keys : List ℕ) (rows : List Row) : Type 0 where
+  pub moved : IsPermutation (range_with_len 0 (length keys)) (map place_of rows)
+  pub held : All (HoldsRow f keys) rows
+  pub tell : All (λ row. All (TellsOrder row) rows) rows
+
+-- the positions that are kept are those of the last dictionary's keys, in order, and the ranks are
+-- of this file
+pub record IsReady (f : List ℕ) (order : KeyOrder) : Type 0 where
+  pub last : IfSome order.last (λ keys. IsInOrder f (numbers_of keys) order.places.items)
+  pub ranks : AreRanks f order.ranks

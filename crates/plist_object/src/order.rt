@@ -1,0 +1,196 @@
+//! The order of the keys of dictionaries.
+ghost use Rattle.std.specs.Prelude.{◌≡◌, ◌<◌, ℕ, List, All, IfOk, OnOk, IfSome, map, length};
+ghost use Rattle.plist_value.specs.Plist.{text};
+ghost use Rattle.plist_value.specs.Texts.{units_of};
+ghost use Rattle.plist_object.specs.Objects.{holds_scalar};
+ghost use Rattle.plist_object.specs.Places.{Holds, HoldsText};
+ghost use Rattle.plist_object.specs.Views.{numbers_of, octets_of};
+ghost use Rattle.plist_object.specs.Order.{IsInOrder, NameTexts};
+ghost use Rattle.plist_object.specs.KeyOrder.{AreRows, IsRankedRow, IsReady, place_of, units_at};
+ghost use Rattle.plist_object.specs.Ranks.{AreRanks};
+
+use crate::keys::Keys;
+use crate::layout::BinFile;
+use crate::ranks::Ranks;
+use crate::refs::Refs;
+use plist_value::TextRef;
+use std::alloc::{AllocError, Global};
+
+// A key of a dictionary and its position among the keys. Where two numbers differ, the key with
+// the lower one has the lower string.
+#[derive(Clone, Copy)]
+pub(crate) struct Row<'a> {
+    pub(crate) number: u64,
+    pub(crate) text: TextRef<'a>,
+    pub(crate) place: u64,
+}
+
+/// Orders the keys of a file's dictionaries.
+///
+/// Most dictionaries have the same keys as the one before, so that order is kept. Otherwise the
+/// strings are compared, until the strings compared so far are longer in all than the file. Then
+/// all keys are ranked, once, and from there on numbers are compared.
+#[derive(Drop)]
+pub struct KeyOrder<'a> {
+    last: Option<Refs<'a>>,
+    places: Vec<u64>,
+    // How many UTF-16 units may still be compared; none once the keys are ranked.
+    left: Option<u64>,
+    ranks: Ranks<'a>,
+}
+
+impl<'a> KeyOrder<'a> {
+    /// An order of no keys yet.
+    pub fn new(alloc: Global, file: &BinFile<'a>) -> KeyOrder<'a>
+        ensures { (f : List ℕ) → IsReady f result }
+    {
+        KeyOrder {
+            last: None,
+            places: Vec::new(alloc),
+            left: Some(file.table()),
+            ranks: Ranks::none(alloc),
+        }
+    }
+
+    /// The positions of the keys that were sorted last, counted from 0, in ascending order of their
+    /// strings by UTF-16 units.
+    pub fn places(&self) -> &[u64]
+        ensures { result.now ≡ self.now.places.items }
+    {
+        &self.places
+    }
+
+    /// Sorts the keys of a dictionary. [`places`](KeyOrder::places) then gives their order.
+    ///
+    /// # Errors
+    ///
+    /// [`AllocError`] if memory runs out.
+    pub fn sort(
+        &mut self,
+        alloc: Global,
+        file: &BinFile<'a>,
+        keys: &Refs<'a>,
+    ) -> Result<(), AllocError>
+        requires names { NameTexts (octets_of file.now) (numbers_of keys.now) }
+        requires ready { IsReady (octets_of file.now) self.old }
+        ensures order { OnOk result (IsInOrder (octets_of file.now) (numbers_of keys.now)
+            self.new.places.items) }
+        ensures ready { OnOk result (IsReady (octets_of file.now) self.new) }
+    {
+        if let Some(last) = self.last
+            && last.is_same(keys)
+        {
+            return Ok(());
+        }
+        let mut rows = self.rows(alloc, file, keys)?;
+        rows.sort_unstable_by_key(|row| (row.number, row.text));
+        self.places = places_in_turn(alloc, &rows)?;
+        self.last = Some(*keys);
+        Ok(())
+    }
+
+    // The keys as they stand in the file, with numbers that tell their order.
+    fn rows(
+        &mut self,
+        alloc: Global,
+        file: &BinFile<'a>,
+        keys: &Refs,
+    ) -> Result<Vec<Row<'a>>, AllocError>
+        requires names { NameTexts (octets_of file.now) (numbers_of keys.now) }
+        requires ready { IsReady (octets_of file.now) self.old }
+        ensures rows { IfOk result (λ rows. AreRows (octets_of file.now) (numbers_of keys.now)
+            rows.items) }
+        ensures ranks { OnOk result (AreRanks (octets_of file.now) self.new.ranks) }
+    {
+        if let Some(left) = self.left {
+            let rows = text_rows(alloc, file, keys)?;
+            self.left = left.checked_sub(units_in(&rows));
+            if self.left.is_some() {
+                return Ok(rows);
+            }
+            self.ranks = Keys::of_reached(alloc, file)?.ranks(alloc, file)?;
+        }
+        ranked_rows(alloc, file, &self.ranks, keys)
+    }
+}
+
+// The keys with their ranks, if all have one.
+fn ranked_rows<'a>(
+    alloc: Global,
+    file: &BinFile<'a>,
+    ranks: &Ranks<'a>,
+    keys: &Refs,
+) -> Result<Vec<Row<'a>>, AllocError>
+    requires names { NameTexts (octets_of file.now) (numbers_of keys.now) }
+    requires ranks { AreRanks (octets_of file.now) ranks.now }
+    ensures { IfOk result (λ rows. AreRows (octets_of file.now) (numbers_of keys.now) rows.items) }
+{
+    let mut rows = Vec::with_capacity(alloc, keys.len() as usize)?;
+    for place in 0..keys.len() {
+        let Some(row) = ranked_row(ranks, keys.get(place), place) else {
+            return text_rows(alloc, file, keys);
+        };
+        rows.push(row)?;
+    }
+    Ok(rows)
+}
+
+// The key that the object holds, if it has a rank.
+fn ranked_row<'a>(ranks: &Ranks<'a>, object: u64, place: u64) -> Option<Row<'a>>
+    ensures place { IfSome result (λ row. row.place ≡ place) }
+    ensures held { IfSome result (λ row. (f : List ℕ) → AreRanks f ranks.now
+        → Holds f object (holds_scalar (text (units_at row)))) }
+    ensures ranked { IfSome result (IsRankedRow ranks.now) }
+{
+    let number = ranks.get(object)?;
+    let text = ranks.text(number)?;
+    Some(Row {
+        number,
+        text,
+        place,
+    })
+}
+
+// The keys with their strings alone.
+fn text_rows<'a>(alloc: Global, file: &BinFile<'a>, keys: &Refs) -> Result<Vec<Row<'a>>, AllocError>
+    requires { NameTexts (octets_of file.now) (numbers_of keys.now) }
+    ensures { IfOk result (λ rows. AreRows (octets_of file.now) (numbers_of keys.now) rows.items) }
+{
+    let mut rows = Vec::with_capacity(alloc, keys.len() as usize)?;
+    for place in 0..keys.len() {
+        let text = text_of(file, keys.get(place));
+        rows.push(Row {
+            number: 0,
+            text,
+            place,
+        })?;
+    }
+    Ok(rows)
+}
+
+// How many units the strings have in all.
+fn units_in(rows: &[Row]) -> u64 {
+    let mut units: u64 = 0;
+    for row in rows {
+        units = units.saturating_add(row.text.len() as u64);
+    }
+    units
+}
+
+fn places_in_turn(alloc: Global, rows: &[Row]) -> Result<Vec<u64>, AllocError>
+    ensures { IfOk result (λ places. places.items ≡ map place_of rows.now) }
+{
+    let mut places = Vec::with_capacity(alloc, rows.len())?;
+    for row in rows {
+        places.push(row.place)?;
+    }
+    Ok(places)
+}
+
+/// The string that an object holds.
+pub fn text_of<'a>(file: &BinFile<'a>, n: u64) -> TextRef<'a>
+    requires { HoldsText (octets_of file.now) n }
+    ensures { Holds (octets_of file.now) n (holds_scalar (text (units_of result))) }
+{
+    file.text(n).unwrap()
+}

@@ -1,0 +1,99 @@
+//! The keys of the dictionaries that a file's top object reaches.
+ghost use Rattle.std.specs.Prelude.{◌≡◌, ◌<◌, IfOk, OnOk};
+ghost use Rattle.plist_object.specs.Layout.{trailer_of};
+ghost use Rattle.plist_object.specs.Views.{octets_of};
+ghost use Rattle.plist_object.specs.Ranks.{AreKeys, AreMarked};
+
+use crate::keys::Keys;
+use crate::layout::BinFile;
+use crate::markers::{LIST, TABLE};
+use crate::object::Object;
+use crate::refs::Refs;
+use std::alloc::{AllocError, Global};
+
+// Arrays and dictionaries that were met, each once, and a mark for each object of the file.
+#[derive(Drop)]
+pub(crate) struct Reached {
+    pub(crate) marks: Vec<bool>,
+    containers: Vec<u64>,
+}
+
+/// The strings that reachable dictionaries name as keys.
+pub(crate) fn reached_keys<'a>(alloc: Global, file: &BinFile<'a>) -> Result<Keys<'a>, AllocError>
+    ensures { IfOk result (λ keys. AreKeys (octets_of file.now) keys) }
+{
+    let mut keys = Keys::none(alloc, file, u64::MAX)?;
+    let mut reached = Reached::none(alloc, file)?;
+    reached.meet(file, file.top())?;
+    for i in 0..file.count() {
+        let Some(container) = reached.containers.get(i as usize).copied() else {
+            return Ok(keys);
+        };
+        visit(file, &mut keys, &mut reached, container)?;
+    }
+    Ok(keys)
+}
+
+// Adds the keys of the object, if it is a dictionary, and meets what it contains.
+fn visit<'a>(
+    file: &BinFile<'a>,
+    keys: &mut Keys<'a>,
+    reached: &mut Reached,
+    object: u64,
+) -> Result<(), AllocError>
+    requires keys { AreKeys (octets_of file.now) keys.old }
+    requires marks { AreMarked (octets_of file.now) reached.old }
+    ensures keys { OnOk result (AreKeys (octets_of file.now) keys.new) }
+    ensures marks { OnOk result (AreMarked (octets_of file.now) reached.new) }
+{
+    if object >= file.count() {
+        return Ok(());
+    }
+    match file.object(object) {
+        Ok(Object::List(items)) => reached.meet_all(file, &items),
+        Ok(Object::Table(names, values)) => {
+            keys.add_each(file, &names)?;
+            reached.meet_all(file, &values)
+        }
+        _ => Ok(()),
+    }
+}
+
+impl Reached {
+    fn none(alloc: Global, file: &BinFile) -> Result<Reached, AllocError>
+        ensures { IfOk result (AreMarked (octets_of file.now)) }
+    {
+        let mut marks = Vec::new(alloc);
+        marks.resize(file.count() as usize, false)?;
+        Ok(Reached {
+            marks,
+            containers: Vec::new(alloc),
+        })
+    }
+
+    fn meet_all(&mut self, file: &BinFile, refs: &Refs) -> Result<(), AllocError>
+        requires { AreMarked (octets_of file.now) self.old }
+        ensures { OnOk result (AreMarked (octets_of file.now) self.new) }
+    {
+        for i in 0..refs.len() {
+            self.meet(file, refs.get(i))?;
+        }
+        Ok(())
+    }
+
+    // Marks the object and keeps it, if it is a container that was not met before.
+    fn meet(&mut self, file: &BinFile, object: u64) -> Result<(), AllocError>
+        requires { AreMarked (octets_of file.now) self.old }
+        ensures { OnOk result (AreMarked (octets_of file.now) self.new) }
+    {
+        if object >= file.count() || self.marks[object as usize] {
+            return Ok(());
+        }
+        let kind = file.marker(object) / 16;
+        if kind == LIST || kind == TABLE {
+            self.marks[object as usize] = true;
+            self.containers.push(object)?;
+        }
+        Ok(())
+    }
+}
