@@ -1,28 +1,28 @@
--- What a contract sees of a `ListSource`.
+-- What contracts know of a `ListSource`.
 use Rattle.std.specs.Prelude.{◌≡◌, ℕ, ◌+◌, ◌≤◌, ◌⊎◌, List, Option, Some}
 use Rattle.plist_devices.specs.Count.{count_limit}
 use Rattle.plist_devices.specs.declared.list_source.ListSource.{ListSource}
 
--- the octets still to come
+-- the bytes still to come
 abbrev pub octets_left : ListSource → List ℕ
 octets_left source = source.rest.now
 
--- how many octets a take gives at most
+-- the number of bytes that a take gives at most
 abbrev pub step_of : ListSource → ℕ
 step_of source = source.step
 
--- the number of the take that is to fail, if one is
+-- the number of the take that is to fail, if there is one
 abbrev pub failing_take : ListSource → Option ℕ
 failing_take source = source.fail_at
 
--- how many takes were made, up to the greatest count
+-- the number of takes so far, up to the maximum
 abbrev pub takes_made : ListSource → ℕ
 takes_made source = source.takes
 
--- how many of them failed
+-- the number of takes that failed
 abbrev pub failures_of : ListSource → ℕ
 failures_of source = source.failures
 
--- the next take is the one that is to fail, or its number is above the greatest count
+-- the next take is the one that is to fail, or its number is above the maximum
 abbrev pub FailsNext : ListSource → Type 0
 FailsNext source = (failing_take source ≡ Some (takes_made source + 1)) ⊎ (count_limit ≤ takes_made source)

@@ -1,20 +1,20 @@
--- What a sink does: it has octets taken, where it tells them, and a count of failures.
+-- What a sink does. It has the bytes taken, if it knows them, and a count of failures.
 use Rattle.std.specs.Prelude.{◌≡◌, ◌⊎◌, ℕ, ◌<◌, ◌≤◌, List, length, Ok, Option, Result, IfOk, IsErr, OnErr}
 use Rattle.std.specs.Io.KnownBytes.{WriteAppends}
 use Rattle.plist_devices.specs.Count.{Counts}
 
--- One put: the octets taken and the count of failures before it, the same after it, its result, and
--- the piece.
+-- One put: the bytes taken and the count of failures, before and after it, its result, and the
+-- piece.
 pub record IsPut {E : Type 0} (taken after_taken : Option (List ℕ)) (before after : ℕ) (result : Result ℕ E) (piece : List ℕ) : Type 0 where
   -- it takes no more than the piece has, and some of a piece that is not empty
   pub within : IfOk result (λ n. n ≤ length piece)
   pub some : IfOk result (λ n. 0 < length piece → 0 < n)
-  -- the front of the piece goes behind the octets taken; a put that fails takes none
+  -- a prefix of the piece is appended to the bytes taken; a put that fails appends nothing
   pub octets : WriteAppends taken after_taken result piece
   pub count : Counts before after result
 
--- What a put answers of a write of the piece: how many octets that took, or a failure, where that
--- failed or took none of a piece that is not empty.
+-- How the result of a put follows from one write of the piece. It is the number of bytes written,
+-- or a failure if the write failed or took none of a piece that is not empty.
 pub record IsAnswerOf {E : Type 0} (written : Result ℕ E) (piece : List ℕ) (result : Result ℕ E) : Type 0 where
   pub taken : IfOk result (λ n. written ≡ Ok n)
   pub failed : OnErr result (IsErr written ⊎ ((written ≡ Ok 0) × (0 < length piece)))
@@ -24,7 +24,7 @@ abbrev pub IsOneWrite : {D E : Type 0} → (D → D → List ℕ → Result ℕ 
 IsOneWrite {E = E} gives before after piece result =
     (written : Result ℕ E) × gives before after piece written × IsAnswerOf written piece result
 
--- With a piece of this length, the greatest length of a piece becomes no more than it was or than
--- this.
+-- After a piece of this length the recorded maximum length is at most the greater of it and the
+-- maximum before.
 abbrev pub IsLongest : ℕ → ℕ → ℕ → Type 0
 IsLongest longest now_longest length = (most : ℕ) → longest ≤ most → length ≤ most → now_longest ≤ most

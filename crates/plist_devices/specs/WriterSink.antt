@@ -1,4 +1,4 @@
--- What a contract sees of a `WriterSink`.
+-- What contracts know of a `WriterSink`.
 use Rattle.std.specs.Prelude.{ℕ, List, Option}
 use Rattle.plist_devices.specs.declared.writer_sink.WriterSink.{WriterSink}
 
@@ -6,10 +6,10 @@ use Rattle.plist_devices.specs.declared.writer_sink.WriterSink.{WriterSink}
 abbrev pub device_of : {W : Type 0} → WriterSink W → W
 device_of sink = sink.device
 
--- the octets that the device tells
+-- the bytes taken, if the device knows them
 abbrev pub octets_taken : {W : Type 0} → (W → Option (List ℕ)) → WriterSink W → Option (List ℕ)
 octets_taken contents sink = contents (device_of sink)
 
--- how many puts failed, up to the greatest count
+-- the number of puts that failed, up to the maximum
 abbrev pub failures_of : {W : Type 0} → WriterSink W → ℕ
 failures_of sink = sink.failures

@@ -1,8 +1,7 @@
-//! The failure of a device.
+//! The error type of devices.
 use thiserror::Error;
 
-/// A device did not do what it was asked: nothing was given or taken, and the device counted one
-/// more failure.
+/// Reports that a device failed: nothing was transferred, and the device counted one more failure.
 #[derive(Clone, Copy, Debug, PartialEq, Eq, Error)]
 #[error("the device failed")]
 pub struct DeviceFault;

@@ -1,5 +1,5 @@
-//! Devices that take and give octets: what a sink and a source are, over memory, over readers and
-//! over writers of the library.
+//! Devices that give and take bytes: the traits [`Source`] and [`Sink`], with implementations over
+//! memory and over the standard library's readers and writers.
 #![tactic(auto)]
 
 mod faults;

@@ -1,4 +1,4 @@
-//! A list of octets as a sink.
+//! A sink over memory.
 ghost use Rattle.std.specs.Prelude.{◌≡◌, ◌+◌, ◌-◌, ◌<◌, ◌≤◌, ◌↔◌, ◌++◌, [], None, Some, IsErr};
 ghost use Rattle.std.specs.Prelude.{IsTrue, IfOk, min, length, take, vec_len, vec_capacity};
 ghost use Rattle.plist_devices.specs.Sink.{IsPut};
@@ -6,7 +6,7 @@ ghost use Rattle.plist_devices.specs.Sink.{IsPut};
 use crate::{DeviceFault, Sink};
 use std::alloc::{AllocError, Global};
 
-/// A sink into memory with room for so many octets, which takes at most `step` of them per put.
+/// A sink over memory that holds up to `room` bytes and takes at most `step` of them per put.
 #[derive(Debug, Drop)]
 pub struct ListSink {
     octets: Vec<u8>,
@@ -23,11 +23,11 @@ impl ListSink {
     ghost use Rattle.plist_devices.specs.ListSink.{octets_taken, room_of, step_of, failures_of};
     ghost use Rattle.plist_devices.specs.ListSink.{FailsAt};
 
-    /// An empty sink, with memory for all of its room. The step is above 0.
+    /// Creates an empty sink and reserves memory for `room` bytes. `step` must be above 0.
     ///
     /// # Errors
     ///
-    /// Where there is no memory for the room.
+    /// Fails if out of memory.
     pub fn new(alloc: Global, room: usize, step: usize) -> Result<ListSink, AllocError>
         requires { 0 < step }
         ensures taken { IfOk result (λ sink. octets_taken sink ≡ []) }
@@ -43,7 +43,7 @@ impl ListSink {
         })
     }
 
-    /// The octets taken so far.
+    /// Returns the bytes taken so far.
     pub fn taken(&self) -> &[u8]
         ensures { result.now ≡ octets_taken self.now }
     {

@@ -1,4 +1,4 @@
-//! A list of octets as a source.
+//! A source over memory.
 ghost use Rattle.std.specs.Prelude.{◌≡◌, ◌<◌, ◌≤◌, ◌↔◌, ◌++◌, Some, IsErr};
 ghost use Rattle.std.specs.Prelude.{IsTrue, IfOk, OnErr, min, length, take, drop};
 ghost use Rattle.plist_devices.specs.Count.{one_more};
@@ -6,7 +6,8 @@ ghost use Rattle.plist_devices.specs.Source.{IsTake};
 
 use crate::{DeviceFault, Source};
 
-/// A list of octets as a source, for tests: it gives them in small pieces, and one take can fail.
+/// A source over a slice, for tests: it gives the bytes in small pieces, and one take can be made
+/// to fail.
 #[derive(Debug, Drop)]
 pub struct ListSource<'a> {
     rest: &'a [u8],
@@ -22,8 +23,8 @@ impl<'a> ListSource<'a> {
     ghost use Rattle.plist_devices.specs.ListSource.{octets_left, step_of, failing_take};
     ghost use Rattle.plist_devices.specs.ListSource.{takes_made, failures_of, FailsNext};
 
-    /// A source of these octets that gives at most `step` of them per take. The take number
-    /// `fail_at`, counted from 1, fails, and so does any after number 2^64 - 1.
+    /// Creates a source of `octets` that gives at most `step` bytes per take. Take number
+    /// `fail_at`, counted from 1, fails, and so does every take after number 2^64 - 1.
     pub fn new(octets: &'a [u8], step: usize, fail_at: Option<u64>) -> ListSource<'a>
         requires { 0 < step }
         ensures octets { octets_left result ≡ octets.entry.now }

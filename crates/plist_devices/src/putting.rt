@@ -1,4 +1,4 @@
-//! Octets that are all put.
+//! Puts that repeat until all bytes are taken.
 ghost use Rattle.std.specs.Prelude.{◌≡◌, ◌<◌, length, take, IfErr, OnOk};
 ghost use Rattle.std.specs.Io.KnownBytes.{Appends};
 ghost use Rattle.plist_devices.specs.Count.{one_more};
@@ -6,11 +6,11 @@ ghost use Rattle.plist_devices.specs.Sink.{IsLongest};
 
 use crate::Sink;
 
-/// Puts all of the octets, in as many puts as the sink asks for.
+/// Puts all of `octets`, calling [`Sink::put`] until none are left.
 ///
 /// # Errors
 ///
-/// How many octets the sink took before a put failed; no put follows that one.
+/// If a put fails, returns how many bytes the sink took before it, and puts no more.
 pub fn put_all<W: Sink>(octets: &[u8], out: &mut W) -> Result<(), usize>
     ensures all { OnOk result (Appends (W.taken out.old) (W.taken out.new) octets.now
         × (W.failures out.new ≡ W.failures out.old)) }

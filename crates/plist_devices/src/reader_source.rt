@@ -1,4 +1,4 @@
-//! A reader of the library as a source.
+//! A source over a reader of the standard library.
 ghost use Rattle.std.specs.Prelude.{◌≡◌, ◌<◌};
 ghost use Rattle.plist_devices.specs.Count.{count_limit};
 ghost use Rattle.plist_devices.specs.Source.{IsTake};
@@ -6,9 +6,9 @@ ghost use Rattle.plist_devices.specs.Source.{IsTake};
 use crate::{Device, DeviceFault, Source};
 use std::io::Read;
 
-/// A reader of the library as a source. Each failing read is a failing take.
+/// A source over a reader of the standard library. A take fails if the read fails.
 ///
-/// It tells the octets still to come where the reader does, as one over memory.
+/// The remaining bytes are known if the reader knows them, as one over memory does.
 #[derive(Debug, Drop)]
 pub struct ReaderSource<R> {
     device: R,
@@ -18,7 +18,7 @@ pub struct ReaderSource<R> {
 impl<R: Read> ReaderSource<R> {
     ghost use Rattle.plist_devices.specs.ReaderSource.{octets_to_come, failures_of};
 
-    /// A source of what the reader gives.
+    /// Creates a source that reads from `device`.
     pub fn new(device: R) -> ReaderSource<R>
         ensures octets { octets_to_come R.remaining result ≡ R.remaining device }
         ensures failures { failures_of result ≡ 0 }
@@ -41,8 +41,8 @@ impl<D: Device> Source for ReaderSource<D> {
         ensures take { IsTake (octets_to_come D.remaining self.old)
             (octets_to_come D.remaining self.new)
             (failures_of self.old) (failures_of self.new) result into.new }
-        // It is one read of the device, and fails where that read does, or where the count stands
-        // at the greatest.
+        // A take is one read of the device. It fails if the read fails or the count is at its
+        // maximum.
         ensures read { failures_of self.old < count_limit
             → D.read_gives (device_of self.old) (device_of self.new) into.new result }
     {

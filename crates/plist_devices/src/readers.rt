@@ -1,4 +1,4 @@
-//! What is read, with its reads as a relation that contracts can name.
+//! Readers whose reads contracts can name as a relation.
 ghost use Rattle.std.specs.Prelude.{ℕ, List, Option, Result};
 ghost use Rattle.std.specs.Io.{ReadsAtMost};
 ghost use Rattle.std.specs.Io.KnownBytes.{ReadConsumes};
@@ -8,16 +8,15 @@ ghost use Rattle.plist_devices.specs.declared.faults.DeviceFault.{DeviceFault};
 use crate::DeviceFault;
 use std::io::Read;
 
-/// A device that is read. Every reader of the library is one.
+/// A device that is read. Every `Read` is one.
 pub trait Device {
-    // The octets still to come, where the device tells them.
+    // The bytes still to come, if the device knows them.
     ghost remaining: { Self → Option (List ℕ) };
 
-    // What one read does: the device before and after it, the buffer as it leaves it, and its
-    // result.
+    // Relates the device before and after a read to the buffer after it and the result.
     ghost read_gives: { Self → Self → List ℕ → Result ℕ DeviceFault → Type 0 };
 
-    /// One read of the device: the octets put in front of the buffer, or that the read failed.
+    /// Reads once into the start of `into` and returns the number of bytes read.
     fn read_once(&mut self, into: &mut [u8]) -> Result<usize, DeviceFault>
         ensures within { ReadsAtMost result into.new }
         ensures octets { ReadConsumes (remaining self.old) (remaining self.new) result into.new }

@@ -1,29 +1,30 @@
-//! What gives octets.
+//! The trait of sources.
 ghost use Rattle.std.specs.Prelude.{◌≡◌, ℕ, List, Option};
 ghost use Rattle.plist_devices.specs.Source.{IsTake};
 
 use crate::DeviceFault;
 
-/// A device that gives octets, and counts the takes that failed.
+/// A device that gives bytes and counts the takes that failed.
 ///
-/// A device over memory tells the octets that are still to come. Of one that does not, as a file or
-/// a pipe, nothing is said of which octets it gives.
+/// The bytes that a device over memory will give are known. Of a file or a pipe no contract says
+/// which bytes it gives.
 pub trait Source {
-    // The octets still to come, where the device tells them.
+    // The bytes still to come, if the device knows them.
     ghost remaining: { Self → Option (List ℕ) };
 
-    // How many takes failed, up to `u64::MAX`.
+    // The number of takes that failed, up to `u64::MAX`.
     ghost failures: { Self → ℕ };
 
-    /// Puts some of the octets still to come in front of the buffer and answers how many: none into
-    /// a buffer with room only at the end. What the rest of the buffer holds then is left open. A
-    /// take that fails gives none and counts one failure more; where the count stands at `u64::MAX`
-    /// every take fails.
+    /// Writes some of the remaining bytes to the start of `into` and returns their number, which is
+    /// 0 only at the end or if `into` is empty. The rest of `into` is then unspecified. A take that
+    /// fails gives nothing and adds one to the count of failures. Once that is `u64::MAX` every
+    /// take fails.
     fn take(&mut self, into: &mut [u8]) -> Result<usize, DeviceFault>
         ensures { IsTake (remaining self.old) (remaining self.new)
             (failures self.old) (failures self.new) result into.new };
 
-    /// How many takes failed so far. The count stays at `u64::MAX`.
+    /// Returns the number of takes that failed so far, which stays at `u64::MAX` once it is
+    /// reached.
     fn failures(&self) -> u64
         ensures { result ≡ failures self.now };
 }

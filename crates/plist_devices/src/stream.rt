@@ -1,4 +1,4 @@
-//! A writer of the library that is borrowed, as a sink.
+//! A sink over a borrowed writer of the standard library.
 ghost use Rattle.std.specs.Prelude.{◌≡◌, ◌<◌, Some};
 ghost use Rattle.plist_devices.specs.Count.{count_limit};
 ghost use Rattle.plist_devices.specs.Sink.{IsOneWrite, IsPut};
@@ -7,10 +7,10 @@ use crate::writer_sink::put_on;
 use crate::{DeviceFault, Sink, WriteDevice};
 use std::io::Write;
 
-/// A writer of the library that is borrowed to print on. A write that fails, or takes none of a
-/// piece that is not empty, is a put that fails.
+/// A sink over a borrowed writer of the standard library. A put fails if the write fails, or takes
+/// none of a piece that is not empty.
 ///
-/// As [`WriterSink`](crate::WriterSink), but whoever lends the writer knows what was put on it.
+/// Like [`WriterSink`](crate::WriterSink), but the lender of the writer knows what was put on it.
 #[derive(Drop)]
 pub struct Stream<'a, O> {
     device: &'a mut O,
@@ -20,7 +20,7 @@ pub struct Stream<'a, O> {
 impl<'a, O: Write> Stream<'a, O> {
     ghost use Rattle.plist_devices.specs.Stream.{device_of, octets_taken, failures_of};
 
-    /// A sink that writes to this writer.
+    /// Creates a sink that writes to `device`.
     pub fn new(device: &'a mut O) -> Stream<'a, O>
         ensures device { device_of result ≡ Some device.entry.ghost_name }
         ensures taken { octets_taken O.contents result ≡ O.contents device.old }
@@ -46,8 +46,8 @@ impl<D: WriteDevice> Sink for Stream<'_, D> {
         ensures put { IsPut (octets_taken D.contents self.old) (octets_taken D.contents self.new)
             (failures_of self.old) (failures_of self.new) result piece.now }
         ensures same { device_of self.new ≡ device_of self.old }
-        // It is one write of the device, and fails where that write does, or where the count stands
-        // at the greatest.
+        // A put is one write of the device. It fails if the write fails or the count is at its
+        // maximum.
         ensures write { failures_of self.old < count_limit
             → IsOneWrite D.write_gives (device_now self.old) (device_now self.new)
             piece.now result }

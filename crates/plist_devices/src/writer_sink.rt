@@ -1,4 +1,4 @@
-//! A writer of the library as a sink.
+//! A sink over an owned writer of the standard library.
 ghost use Rattle.std.specs.Prelude.{◌≡◌, ◌<◌};
 ghost use Rattle.plist_devices.specs.Count.{count_limit};
 ghost use Rattle.plist_devices.specs.Sink.{IsOneWrite, IsPut};
@@ -6,10 +6,10 @@ ghost use Rattle.plist_devices.specs.Sink.{IsOneWrite, IsPut};
 use crate::{DeviceFault, Sink, WriteDevice};
 use std::io::Write;
 
-/// A writer of the library as a sink. A write that fails, or takes none of a piece that is not
-/// empty, is a put that fails.
+/// A sink over a writer of the standard library. A put fails if the write fails, or takes none of a
+/// piece that is not empty.
 ///
-/// It tells the octets taken where the writer does, as one into memory.
+/// The bytes taken are known if the writer knows them, as one into memory does.
 #[derive(Debug, Drop)]
 pub struct WriterSink<W> {
     device: W,
@@ -19,7 +19,7 @@ pub struct WriterSink<W> {
 impl<W: Write> WriterSink<W> {
     ghost use Rattle.plist_devices.specs.WriterSink.{octets_taken, failures_of};
 
-    /// A sink that writes to this writer.
+    /// Creates a sink that writes to `device`.
     pub fn new(device: W) -> WriterSink<W>
         ensures taken { octets_taken W.contents result ≡ W.contents device }
         ensures failures { failures_of result ≡ 0 }
@@ -41,8 +41,8 @@ impl<D: WriteDevice> Sink for WriterSink<D> {
     fn put(&mut self, piece: &[u8]) -> Result<usize, DeviceFault>
         ensures put { IsPut (octets_taken D.contents self.old) (octets_taken D.contents self.new)
             (failures_of self.old) (failures_of self.new) result piece.now }
-        // It is one write of the device, and fails where that write does, or where the count stands
-        // at the greatest.
+        // A put is one write of the device. It fails if the write fails or the count is at its
+        // maximum.
         ensures write { failures_of self.old < count_limit
             → IsOneWrite D.write_gives (device_of self.old) (device_of self.new) piece.now result }
     {
@@ -54,7 +54,7 @@ impl<D: WriteDevice> Sink for WriterSink<D> {
     }
 }
 
-/// One write to the device, which is counted where it fails.
+/// Writes to the device once and counts a failure.
 pub(crate) fn put_on<D: WriteDevice>(
     device: &mut D,
     failures: &mut u64,

@@ -1,4 +1,4 @@
-//! What is written, with its writes as a relation that contracts can name.
+//! Writers whose writes contracts can name as a relation.
 ghost use Rattle.std.specs.Prelude.{ℕ, List, Option, Result};
 ghost use Rattle.std.specs.Io.{WritesAtMost};
 ghost use Rattle.std.specs.Io.KnownBytes.{WriteAppends};
@@ -8,16 +8,15 @@ ghost use Rattle.plist_devices.specs.declared.faults.DeviceFault.{DeviceFault};
 use crate::DeviceFault;
 use std::io::Write;
 
-/// A device that is written. Every writer of the library is one.
+/// A device that is written. Every `Write` is one.
 pub trait WriteDevice {
-    // The octets taken, where the device tells them.
+    // The bytes taken, if the device knows them.
     ghost contents: { Self → Option (List ℕ) };
 
-    // What one write does: the device before and after it, the piece, and its result.
+    // Relates the device before and after a write to the piece and the result.
     ghost write_gives: { Self → Self → List ℕ → Result ℕ DeviceFault → Type 0 };
 
-    /// One write to the device: how many octets it took of the front of the piece, or that the
-    /// write failed.
+    /// Writes once from the start of `piece` and returns the number of bytes taken.
     fn write_once(&mut self, piece: &[u8]) -> Result<usize, DeviceFault>
         ensures within { WritesAtMost result piece.now }
         ensures octets { WriteAppends (contents self.old) (contents self.new) result piece.now }
