@@ -1,4 +1,5 @@
--- The entries of a walk as the numbers of places, and what the objects of these hold.
+-- The entries of a walk as the numbers of places, and the contents of the objects with these
+-- numbers.
 use Rattle.std.proofs.Common.{◌≡◌, ℕ, zero, suc, ◌+◌, ◌<◌, ◌≤◌, List, [], ◌∷◌, ◌++◌, length, get_or, sym, subst, ◌∙◌, arith, nat_cmp, map, refl, ap, add-zero, add-one}
 use Rattle.std.specs.Prelude.{⊤}
 use Rattle.std.proofs.lemmas.List.{get_or_at}
@@ -18,7 +19,7 @@ abbrev pub AreNumbers : (ℕ → ℕ) → ℕ → List ℕ → Type 0
 AreNumbers number k [] = ⊤
 AreNumbers number k (entry ∷ entries) = (number k ≡ entry) × AreNumbers number (suc k) entries
 
--- the objects of the places from k on, where the values stand, hold these
+-- the objects of the places from k on, where the values are, contain these values
 abbrev pub PlacesHold : List ℕ → (ℕ → ℕ) → ℕ → List Plist → Type 0
 PlacesHold f number k [] = ⊤
 PlacesHold f number k (v ∷ vs) = Holds f (number k) (held_at number k v) × PlacesHold f number (suc k) vs
@@ -31,7 +32,7 @@ pub AreNumbers-rest : (number : ℕ → ℕ) (k n : ℕ) (xs ys : List ℕ) → 
 AreNumbers-rest number k n [] ys far h = let here : k ≡ n = omega arith in subst (λ m. AreNumbers number m ys) here h
 AreNumbers-rest number k n (x ∷ xs) ys far h = AreNumbers-rest number (suc k) n xs ys (omega arith) h.1
 
--- other numbers that agree where the entries stand
+-- other numbers that agree at the entries
 pub AreNumbers-same : (number other : ℕ → ℕ) (k : ℕ) (entries : List ℕ) → ((j : ℕ) → k ≤ j → j < k + length entries → number j ≡ other j) → AreNumbers number k entries → AreNumbers other k entries
 AreNumbers-same number other k [] same h = tt
 AreNumbers-same number other k (entry ∷ entries) same h =
@@ -42,7 +43,7 @@ AreNumbers-stand all d k [] h = tt
 AreNumbers-stand all d k (x ∷ xs) h =
     (rw h.whole (get_or_at h.before x (xs ++ h.after) d k h.place), AreNumbers-stand all d (suc k) xs (Stands-tail x xs h))
 
--- entries are the numbers of their places
+-- entries are the numbers of their own places
 pub AreNumbers-own : (entries : List ℕ) → AreNumbers (λ k. get_or entries k 0) 0 entries
 AreNumbers-own entries = AreNumbers-stand entries 0 0 entries (Stands-all entries)
 
@@ -55,14 +56,14 @@ PlacesHold-at f number k j n [] h below far = absurd (omega arith)
 PlacesHold-at f number k zero n (v ∷ vs) h below far = let here : k ≡ n = omega arith in subst (λ m. Holds f (number m) (held_at number m v)) here h.0
 PlacesHold-at f number k (suc j) n (v ∷ vs) h below far = PlacesHold-at f number (suc k) j n vs h.1 (omega arith) (omega arith)
 
--- The pairs of a table from its keys and its values.
+-- The pairs of a dictionary from its keys and its values.
 
 abbrev pub pairs_of : List (List ℕ) → Items → Pairs
 pairs_of [] vs = no_pairs
 pairs_of (key ∷ keys) no_items = no_pairs
 pairs_of (key ∷ keys) (item v vs) = pair key v (pairs_of keys vs)
 
--- texts as items before other items
+-- strings as items before other items
 abbrev pub put_texts : List (List ℕ) → Items → Items
 put_texts [] vs = vs
 put_texts (key ∷ keys) vs = item (scalar (text key)) (put_texts keys vs)
@@ -85,7 +86,7 @@ preorder_values-pairs_of [] (item v vs) even = absurd (omega arith)
 preorder_values-pairs_of (key ∷ keys) no_items even = absurd (omega arith)
 preorder_values-pairs_of (key ∷ keys) (item v vs) even = ap (λ rest. preorder v ++ rest) (preorder_values-pairs_of keys vs (omega arith))
 
--- the places of the pairs hold the keys and then the values
+-- the places of the pairs are those of the keys followed by those of the values
 pub preorder-pairs_of : (keys : List (List ℕ)) (vs : Items) → item_count vs ≡ length keys → preorder_items (put_texts keys vs) ≡ key_texts (pairs_of keys vs) ++ preorder_values (pairs_of keys vs)
 preorder-pairs_of keys vs even =
     rw (preorder-put_texts keys vs, key_texts-pairs_of keys vs even, preorder_values-pairs_of keys vs even) refl
@@ -104,7 +105,7 @@ value_places-pairs_of k [] (item v vs) even = absurd (omega arith)
 value_places-pairs_of k (key ∷ keys) no_items even = absurd (omega arith)
 value_places-pairs_of k (key ∷ keys) (item v vs) even = ap (λ rest. k ∷ rest) (value_places-pairs_of (k + nodes v) keys vs (omega arith))
 
--- and so stand the keys and then the values
+-- the places of the keys precede those of the values
 pub places-pairs_of : (k : ℕ) (keys : List (List ℕ)) (vs : Items) → item_count vs ≡ length keys → item_places k (put_texts keys vs) ≡ key_places k (pairs_of keys vs) ++ value_places (k + length keys) (pairs_of keys vs)
 places-pairs_of k keys vs even =
     key_places-pairs_of k keys vs vs even ∙ ap (λ places. key_places k (pairs_of keys vs) ++ places) (sym (value_places-pairs_of (k + length keys) keys vs even))
@@ -119,7 +120,7 @@ IsKeyBelow-pairs_of key [] vs sorted = (tt, tt)
 IsKeyBelow-pairs_of key (next ∷ keys) no_items sorted = (tt, sorted.1)
 IsKeyBelow-pairs_of key (next ∷ keys) (item v vs) sorted = (sorted.0.0, sorted.1)
 
--- with keys that ascend the pairs are those of a table
+-- with ascending keys the pairs are those of a dictionary
 pub ArePairs-pairs_of : (keys : List (List ℕ)) (vs others : Items) → AreItems (put_texts keys others) → AreItems vs → IsStrictlySortedBy (slice_cmp nat_cmp) keys → ArePairs (pairs_of keys vs)
 ArePairs-pairs_of [] vs others units valid sorted = tt
 ArePairs-pairs_of (key ∷ keys) no_items others units valid sorted = tt

@@ -1,4 +1,4 @@
--- The file of some objects follows the rules that speak of the trailer and of where objects stand.
+-- The file of given objects follows the rules about the trailer and about where objects are.
 use Rattle.std.proofs.Common.{◌≡◌, ℕ, zero, suc, ◌+◌, ◌-◌, ◌<◌, ◌≤◌, List, [], ◌∷◌, ◌++◌, length, take, drop, get_or, Result, Ok, refl, sym, ap, ◌∙◌, arith, length-append, length-drop, lt-ltb, le-leb}
 use Rattle.std.specs.List.{concat}
 use Rattle.std.proofs.lemmas.List.{take_at, drop-drop}
@@ -14,7 +14,7 @@ use Rattle.plist_canon.specs.Rules.{HasPlainTrailer, HasLeastWidths, Adjoins}
 use Rattle.plist_object.proofs.Files.{is_piece, before_trailer, before_table, drop-end}
 use Rattle.plist_engine.proofs.File.{trailer_for, trailer_of-file, place_of-file}
 
--- the object i begins at its place, and ends where the rest of its octets is left
+-- object i begins at its offset, and ends where the remaining bytes begin
 span_of-is : (f : List ℕ) (i start table : ℕ) (held : Held) (octets behind : List ℕ) → octets_at f i ≡ Ok octets → place_of f i ≡ start → (trailer_of f).table ≡ table → object_in (trailer_of f).reference_width octets ≡ Ok (held, behind) → span_of f i ≡ Ok (start, table - length behind)
 unfolding span_of object_at
 span_of-is f i start table held octets behind at place is reads = rw (at, reads, place, is) refl
@@ -31,7 +31,7 @@ starts-next k (o ∷ []) i h = absurd (omega arith)
 starts-next k (o ∷ p ∷ os) zero h = refl
 starts-next k (o ∷ p ∷ os) (suc i) h = starts-next (k + length o) (p ∷ os) i (omega arith)
 
--- where the last one ends
+-- where the last object ends
 starts-last : (k : ℕ) (objects : List (List ℕ)) (i : ℕ) → suc i ≡ length objects → get_or (starts k objects) i 0 + length (get_or objects i []) ≡ k + length (concat objects)
 starts-last k [] i h = absurd (omega arith)
 starts-last k (o ∷ []) zero h = rw length-append (omega arith)
@@ -60,7 +60,7 @@ starts-first : (k : ℕ) (objects : List (List ℕ)) → 1 ≤ length objects �
 starts-first k [] some = absurd (omega arith)
 starts-first k (o ∷ os) some = refl
 
--- objects that stand one after another adjoin
+-- objects that follow one another are contiguous
 spans_adjoin : (f : List ℕ) (objects : List (List ℕ)) → (trailer_of f).count ≡ length objects → (trailer_of f).table ≡ 8 + length (concat objects) → ((i : ℕ) → i < length objects → span_of f i ≡ Ok (get_or (starts 8 objects) i 0, get_or (starts 8 objects) i 0 + length (get_or objects i []))) → (i : ℕ) → i < length objects → Adjoins f i
 spans_adjoin f objects counted table_is span i h = record {
   first = λ start end none at.
@@ -106,8 +106,7 @@ module _ (objects : List (List ℕ)) (some : 1 ≤ length objects)
   pub least_widths : HasLeastWidths (file_of objects)
   least_widths = widths_from (file_of objects) (length objects) table_place (trailer_of-file objects some each count_fits table_fits)
 
-  -- The octets from the object i on are its own, and those behind it, which reach up to the offset
-  -- table.
+  -- The bytes from object i on are its own and the rest, which reaches up to the offset table.
   record IsAt (i : ℕ) : Type 0 where
     pub behind : List ℕ
     pub octets : octets_at (file_of objects) i ≡ Ok (get_or objects i [] ++ behind)
@@ -132,7 +131,7 @@ module _ (objects : List (List ℕ)) (some : 1 ≤ length objects)
         ends = omega arith;
       }
 
-  -- what each object holds, whatever stands behind it, is spelled by its octets
+  -- the bytes of each object encode its content, whatever follows it
   module _ (held : ℕ → Held)
       (reads : (i : ℕ) (behind : List ℕ) → i < length objects → object_in (least_width (length objects)) (get_or objects i [] ++ behind) ≡ Ok (held i, behind))
       (spelled : (i : ℕ) → i < length objects → get_or objects i [] ≡ spelling_of (least_width (length objects)) (held i)) where

@@ -1,4 +1,4 @@
--- A file whose objects occupy pieces that touch is the file of those pieces.
+-- A file whose objects occupy contiguous pieces is the file of those pieces.
 use Rattle.std.proofs.Common.{◌≡◌, ℕ, suc, ◌+◌, ◌-◌, ◌*◌, ◌<◌, ◌≤◌, ltb, cond, List, [], ◌++◌, length, take, drop, get_or, refl, sym, ap, ◌∙◌, ⊎_elim, arith, length-drop, take-append-drop, append_assoc, lt-ltb, le-ltb, subst}
 use Rattle.std.specs.List.{concat}
 use Rattle.std.proofs.lemmas.Bool.{cases_lt}
@@ -21,7 +21,7 @@ use Rattle.plist_engine.specs.Found.{held_at, number_in}
 use Rattle.plist_engine.proofs.Found.{octets-held}
 use Rattle.plist_canon.proofs.KeptPlaces.{is_made}
 
--- a file is its four parts
+-- a file is the concatenation of its four parts
 join_file : (f head body offsets trailer : List ℕ) (t n : ℕ) → take 8 (take t f) ≡ head → drop 8 (take t f) ≡ body → take n (drop t f) ≡ offsets → drop n (drop t f) ≡ trailer → f ≡ head ++ (body ++ (offsets ++ trailer))
 join_file f head body offsets trailer t n heads bodies entries ends =
     let front : take t f ≡ head ++ body = sym (take-append-drop 8 (take t f)) ∙ ap (λ (xs : List ℕ). xs ++ drop 8 (take t f)) heads ∙ ap (λ (xs : List ℕ). head ++ xs) bodies in
@@ -38,7 +38,7 @@ module _ (f : List ℕ) (octets : AreOctets f) (laid : IsLaid f) (plain : HasPla
   abbrev w : ℕ
   w = (trailer_of f).offset_width
 
-  -- where the object i begins, or behind the last one the offset table
+  -- where object i begins, or the offset table after the last one
   abbrev edge : ℕ → ℕ
   edge i = cond (ltb i (length objects)) (place_of f i) t
 
@@ -116,15 +116,15 @@ module _ (f : List ℕ) (octets : AreOctets f) (laid : IsLaid f) (plain : HasPla
       let parts = join_file f header (concat objects) (references (least_width t) (starts 8 objects)) (trailer_octets (length objects) t) t (length objects * w) head body (offsets ∙ width) trailer in
       sym (parts ∙ ap (λ (p : ℕ). header ++ (concat objects ++ (references (least_width p) (starts 8 objects) ++ trailer_octets (length objects) p))) table-is)
 
--- A file whose objects read as the places of a tree do, in the canonical spelling, and touch, is
--- the canonical one.
+-- A file is canonical if its objects decode as the places of a tree do, have their canonical
+-- encoding, and are contiguous.
 
 module _ (f : List ℕ) (octets : AreOctets f) (laid : IsLaid f) (plain : HasPlainTrailer f) (least : HasLeastWidths f)
     (adjoins : (i : ℕ) → i < (trailer_of f).count → Adjoins f i)
     (canonically : (i : ℕ) → i < (trailer_of f).count → IsSpelledCanonically f i)
     (all : List Plist) (count : (trailer_of f).count ≡ length (kept_places all))
     (holds : (k : ℕ) → k < length all → Holds f (number_in all k) (held_at (number_in all) k (value_at all k))) where
-  -- the object i is made at a place, and holds what stands there
+  -- object i is made at a place, and contains what is there
   occupies_kept : (i : ℕ) → i < length (kept_places all) → Occupies f i (get_or (objects_of all) i [])
   occupies_kept i h =
       let width = least_width (length (kept_places all)) in

@@ -62,7 +62,7 @@ module _ (all : List Plist) (some : 1 ≤ length all) (small : length all ≤ 16
       stands = stands;
     }
 
-    -- all rules, where the values spelled by object 0 are within the limits
+    -- all rules hold if the values of object 0 are within the limits
     follows : ((w : Plist) → IsPlist w → Spells (file_of (objects_of all)) 0 w → Fits w) → IsNumberedInPreorder (file_of (objects_of all)) → FollowsRules (file_of (objects_of all))
     follows fits walk =
         let f = file_of (objects_of all) in
@@ -84,7 +84,6 @@ module _ (all : List Plist) (some : 1 ≤ length all) (small : length all ≤ 16
           numbered_in_preorder = walk;
         }
 
--- a canonical file has the layout and follows the eight rules
 pub canonical_follows_rules : (v : Plist) → IsPlist v → Fits v → IsLaid (canon v) × FollowsRules (canon v)
 unfolding canon
 canonical_follows_rules v valid fits =
@@ -103,7 +102,7 @@ canonical_follows_rules v valid fits =
 
 -- The canonical files are those that have the layout and follow the eight rules.
 
--- the rules force a value, and its canonical file is the file
+-- the rules determine a value, whose canonical file is the file
 rules-canonical : (f : List ℕ) → AreOctets f → IsLaid f → FollowsRules f → IsCanonical f
 rules-canonical f octets laid rules =
     let tree = tree_is_forced f octets rules in
@@ -121,7 +120,7 @@ canonical-rules f x =
 pub canonicity-local : CanonicityIsLocal
 canonicity-local f octets = (λ h. rules-canonical f octets h.0 h.1, canonical-rules f)
 
--- no rule is broken of a file that follows all
+-- no rule is broken by a file that follows all
 none-broken : (f : List ℕ) (rule object : ℕ) → IsBroken f rule object → FollowsRules f → ⊥
 none-broken f _ _ (breaks_c0 i below fails) rules = fails (rules.reads_within_limits.read i below)
 none-broken f _ _ (breaks_limits v valid spells fails) rules = fails (rules.reads_within_limits.fits v valid spells)
@@ -134,7 +133,7 @@ none-broken f _ _ (breaks_c6 i below fails) rules = fails (rules.no_repeat i bel
 none-broken f _ _ (breaks_c7 holder fails turns) rules = fails rules.numbered_in_preorder
 none-broken f _ _ (leaves_over fails left) rules = fails rules.numbered_in_preorder
 
--- a verdict on a laid file is Canonical exactly where it is a canonical file
+-- the verdict on a file that has the layout is Canonical if and only if the file is canonical
 pub verdict_decides : (f : List ℕ) → AreOctets f → IsLaid f → (answer : Verdict) → IsVerdict f answer → (answer ≡ verdict.Canonical) ↔ IsCanonical f
 verdict_decides f octets laid verdict.Canonical rules = (λ _. rules-canonical f octets laid rules, λ _. refl)
 verdict_decides f octets laid (verdict.Broken rule object) broken =

@@ -1,4 +1,4 @@
--- The rules force a value, and the numbers of its places.
+-- The rules determine a value, and the numbers of its places.
 use Rattle.std.proofs.Common.{◌≡◌, ℕ, suc, ◌+◌, ◌<◌, ◌≤◌, cond, eqb, ltb, true, false, List, [], ◌∷◌, length, get_or, refl, sym, ap, subst, ◌∙◌, inl, inr, arith, lt-ltb}
 use Rattle.std.proofs.lemmas.Bool.{cond_both, cases_lt, ltb-true}
 use Rattle.plist_value.specs.Plist.{Scalar, Plist, scalar, list, table, AreOctets, IsPlist}
@@ -26,7 +26,7 @@ count_below-monotone (p ∷ kept) m n h =
     (λ e. let below = ltb-true p.0 m e in rw (lt-ltb p.0 n (omega arith)) (omega arith))
     (λ _. cond_both (ltb p.0 n) (suc (count_below n kept)) (count_below n kept) (λ c. count_below m kept ≤ c) (λ _. omega arith) (λ _. omega arith))
 
--- each number below those counted is that of a place before with an object of its own
+-- each number below the count is that of an earlier place with an object of its own
 made-before : (all : List Plist) (k n : ℕ) → n < count_below k (kept_places all) → (p : ℕ) × (p < k) × (first_place all p (value_at all p) ≡ p) × (count_below p (kept_places all) ≡ n)
 made-before all k n below =
     let most = count_below-le k (kept_places all) in
@@ -37,7 +37,7 @@ made-before all k n below =
       | inr late ↦ absurd (let more = count_below-monotone (kept_places all) k made.place late in omega arith)
     ]
 
--- the number of a place before is among those counted
+-- the number of an earlier place is below the count
 number-counted : (all : List Plist) (j k : ℕ) → j < k → k ≤ length all → number_in all j < count_below k (kept_places all)
 number-counted all j k before most =
     let v = value_at all j in
@@ -48,7 +48,7 @@ number-counted all j k before most =
     let rest = count_below-monotone (kept_places all) (suc first) k (omega arith) in
     omega arith
 
--- what stands at a place whose object holds a scalar
+-- a place whose object is a scalar contains that scalar
 scalar-stands : (f : List ℕ) (i k : ℕ) (number : ℕ → ℕ) (v : Plist) (s : Scalar) → Holds f i (held_at number k v) → Holds f i (holds_scalar s) → v ≡ scalar s
 scalar-stands f i k number (scalar t) s x y = let same = same_held f i (holds_scalar t) (holds_scalar s) x y in cc
 scalar-stands f i k number (list vs) s x y = absurd (let same = same_held f i (held_at number k (list vs)) (holds_scalar s) x y in cc)
@@ -83,7 +83,7 @@ module _ (f : List ℕ) (all : List Plist) (entry : ℕ → ℕ) (holds : (k : �
   own-first k (list vs) at below forced next = refl
   own-first k (table ps) at below forced next = refl
 
-  -- the entry of a scalar that was met is the number of its first place, which is before
+  -- the entry of a visited scalar is the number of its first place, which is earlier
   met-first : (k : ℕ) → k < length all → AreForced k → entry k < count_below k (kept_places all) → HoldsScalar f (entry k) → (first_place all k (value_at all k) < k) × (entry k ≡ number_in all k)
   met-first k below forced met held =
       let s = held.0 in
@@ -95,8 +95,8 @@ module _ (f : List ℕ) (all : List Plist) (entry : ℕ → ℕ) (holds : (k : �
       let first : first_place all k (value_at all k) ≡ p.0 = ap (first_place all k) here ∙ ap (first_place all p.0) (sym there) ∙ p.2 in
       (omega arith, sym (ap (λ n. count_below n (kept_places all)) first ∙ p.3))
 
-  -- where the entries meet the objects in order, each is the number of its place, and all objects
-  -- were met at the end
+  -- if the entries visit the objects in order, each is the number of its place, and in the end all
+  -- objects are visited
   forced-numbers : (entries : List ℕ) (k met after : ℕ) → k + length entries ≡ length all → AreNumbers entry k entries → met ≡ count_below k (kept_places all) → AreForced k → MeetsInOrder f met entries after → AreForced (length all) × (after ≡ length (kept_places all))
   forced-numbers [] k met after long own counted forced order =
       let end : k ≡ length all = omega arith in
@@ -114,7 +114,7 @@ module _ (f : List ℕ) (all : List Plist) (entry : ℕ → ℕ) (holds : (k : �
             forced-numbers entries (suc k) met after (omega arith) own.1 (counted ∙ sym same) (one-more k forced first.1) known.2)
       ]
 
--- The file has the objects of this value, under its numbers.
+-- The file has the objects of this value, with its numbers.
 pub record ForcedTree (f : List ℕ) : Type 0 where
   pub value : Plist
   pub valid : IsPlist value
@@ -122,7 +122,7 @@ pub record ForcedTree (f : List ℕ) : Type 0 where
   pub counted : (trailer_of f).count ≡ length (kept_places (preorder value))
   pub reads : (k : ℕ) → k < length (preorder value) → Holds f (number_in (preorder value) k) (held_at (number_in (preorder value)) k (value_at (preorder value) k))
 
--- the rules force a value and its numbering
+-- the rules determine a value and its numbers
 pub tree_is_forced : (f : List ℕ) → AreOctets f → FollowsRules f → ForcedTree f
 tree_is_forced f octets rules =
     let within = rules.reads_within_limits in

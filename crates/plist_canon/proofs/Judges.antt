@@ -1,4 +1,4 @@
--- What holds of each item of two lists holds of each of both together.
+-- From each index of a list to each item.
 use Rattle.std.proofs.Common.{List, [], ◌∷◌, ◌++◌, ◌≡◌, ℕ, zero, suc, ◌+◌, ◌-◌, ◌<◌, ◌≤◌, length, Bool, false, Ok, Err, Result, refl, sym, ap, subst, ◌∙◌, arith, inl, inr}
 use Rattle.std.specs.List.{AllByRecursion}
 use Rattle.std.specs.Prelude.{◌↔◌, ◌≢◌, slice_index, EachIndex, IsOk, IsTrue}
@@ -26,9 +26,9 @@ pub every_append : {X : Type 0} (P : X → Type 0) (xs ys : List X) → AllByRec
 every_append P [] ys each others = others
 every_append P (x ∷ xs) ys each others = (each.0, every_append P xs ys each.1 others)
 
--- What is judged of one object.
+-- What is validated of one object.
 
--- a test that answers false refutes what it tests
+-- a test that returns false refutes what it tests
 pub refuted : (P : Type 0) (b : Bool) → IsTrue b ↔ P → b ≡ false → ¬ P
 refuted P b test refused holds = true≢false (sym (test.1 holds) ∙ refused)
 
@@ -57,7 +57,7 @@ pub Holds-span : (f : List ℕ) (i : ℕ) (held : Held) → Holds f i held → I
 unfolding span_of
 Holds-span f i held holds = span_reads (object_at f i) _ (Holds-reads f i held holds)
 
--- an object that reads begins at its place
+-- an object that can be decoded begins at its offset
 abbrev ok_pair : ℕ × ℕ → Result (ℕ × ℕ) ObjectFault
 ok_pair p = Ok p
 
@@ -69,19 +69,19 @@ pub span-starts : (f : List ℕ) (i : ℕ) → IsOk (object_at f i) → (end : �
 unfolding span_of
 span-starts f i ok = started (place_of f i) (trailer_of f).table (object_at f i) ok
 
--- texts that the references name
+-- the strings that the references are to
 pub texts_of : (f keys : List ℕ) → AllByRecursion (HoldsText f) keys → (texts : List (List ℕ)) × HoldTexts f keys texts
 texts_of f [] all = ([], refl)
 texts_of f (i ∷ keys) all =
     let rest = texts_of f keys all.1 in
     (all.0.0 ∷ rest.0, (all.0.1, rest.1))
 
--- a text is the one that the object holds
+-- an object contains only one string
 pub same_text : (f : List ℕ) (i : ℕ) (units others : List ℕ) → Holds f i (holds_scalar (text units)) → Holds f i (holds_scalar (text others)) → units ≡ others
 same_text f i units others a b =
     let e = same_held f i (holds_scalar (text units)) (holds_scalar (text others)) a b in cc
 
--- texts that ascend in turn are below all that follow
+-- strings that ascend pairwise are below all later ones
 above_all : (units : List ℕ) (next : List ℕ) (texts : List (List ℕ)) → slice_cmp nat_cmp units next ≡ Less → AllByRecursion (λ later. slice_cmp nat_cmp next later ≡ Less) texts → AllByRecursion (λ later. slice_cmp nat_cmp units later ≡ Less) texts
 above_all units next [] below all = tt
 above_all units next (later ∷ texts) below all =
@@ -117,7 +117,7 @@ turns_from_sorted f (i ∷ j ∷ keys) (units ∷ next ∷ texts) hold sorted ze
 turns_from_sorted f (i ∷ j ∷ keys) (units ∷ next ∷ texts) hold sorted (suc k) below =
     turns_from_sorted f (j ∷ keys) (next ∷ texts) hold.1 sorted.1 k (omega arith)
 
--- the keys of a table ascend where the texts that its references name do
+-- the keys of a dictionary ascend if the strings that its references are to do
 pub HasAscendingKeys-turns : (f : List ℕ) (i : ℕ) (keys values : List ℕ) → Holds f i (holds_table keys values) → AscendInTurn f keys → HasAscendingKeys f i
 HasAscendingKeys-turns f i keys values holds ascend others more texts reads hold =
     let e : holds_table keys values ≡ holds_table others more = (let a = holds.reads in cc) in
@@ -128,7 +128,7 @@ pub HasAscendingKeys-other : (f : List ℕ) (i : ℕ) (held : Held) → Holds f 
 HasAscendingKeys-other f i held holds other keys values texts reads hold =
     absurd (other keys values (let a = holds.reads in cc))
 
--- where one object begins
+-- an object that begins elsewhere breaks rule 3
 pub not-Adjoins : (f : List ℕ) (i place start end : ℕ) → IsEndBefore f i place → span_of f i ≡ Ok (start, end) → start ≢ place → ¬ Adjoins f i
 not-Adjoins f zero place start end before span other adjoins =
     other (adjoins.first start end refl span ∙ sym before)
@@ -162,7 +162,7 @@ Adjoins-follows f (suc i) follows last = record {
   last = last;
 }
 
--- what is read refers well
+-- an object that obeys rule 0 has valid references
 pub IsWellRead-refers : (f : List ℕ) (i : ℕ) (held : Held) → what_holds f i ≡ Ok held → IsWellRead f i → RefersWell f held
 IsWellRead-refers f i held reads read =
     let here = read.holds.reads in
@@ -179,7 +179,7 @@ pub unspanned : (f : List ℕ) (i : ℕ) (fault : ObjectFault) → span_of f i �
 unspanned f i fault fails read =
     true≢false (sym (subst (λ (span : Result (ℕ × ℕ) ObjectFault). IsOk span) fails (Holds-span f i read.held read.holds)))
 
--- a fact of each number below the next
+-- a property of all numbers below k, and of k
 pub below_or_last : (P : ℕ → Type 0) (k : ℕ) → ((j : ℕ) → j < k → P j) → P k → (j : ℕ) → j < k + 1 → P j
 below_or_last P k before last j below =
     elim (cases_lt j k) [
@@ -225,7 +225,7 @@ no_scalar (shown.Scalar x) other s e = other x refl
 no_scalar (shown.List items) other s e = absurd cc
 no_scalar (shown.Table keys values) other s e = absurd cc
 
--- where the last object does not end at the offset table
+-- rule 3 is broken if the last object does not end at the offset table
 pub last-apart : (f : List ℕ) (n end : ℕ) → n ≡ (trailer_of f).count → 1 ≤ n → IsEndBefore f n end → end ≢ (trailer_of f).table → (n - 1 < (trailer_of f).count) × (¬ Adjoins f (n - 1))
 last-apart f zero end all some before other = absurd (omega arith)
 last-apart f (suc m) end all some before other =
@@ -239,7 +239,7 @@ all-adjoin f n end all before is follows i below =
     let ends : IsEndBefore f (suc i) end = subst (λ (k : ℕ). IsEndBefore f k end) here before in
     (same_span f i start last ends.0 end span ends.1).1 ∙ is)
 
--- keys that ascend, of which there are several, name texts
+-- two or more keys that ascend are strings
 pub ascending_name : (f keys : List ℕ) → 1 < length keys → AscendInTurn f keys → EachIndex keys (λ k. HoldsText f (slice_index keys k))
 ascending_name f keys several ascend k below =
     elim (cases_lt (suc k) (length keys)) [
@@ -250,7 +250,7 @@ ascending_name f keys several ascend k below =
           subst (λ (n : ℕ). HoldsText f (slice_index keys n)) far (turn.second, turn.holds_second))
     ]
 
--- the keys of a table ascend in turn exactly where rule 5 holds of it
+-- the keys of a dictionary ascend pairwise if and only if rule 5 holds of it
 pub ascend-both : (f : List ℕ) (i : ℕ) (keys values : List ℕ) (b : Bool) → Holds f i (holds_table keys values) → EachIndex keys (λ k. HoldsText f (slice_index keys k)) → IsTrue b ↔ AscendInTurn f keys → IsTrue b ↔ HasAscendingKeys f i
 ascend-both f i keys values b holds named told = (
   λ yes. HasAscendingKeys-turns f i keys values holds (told.0 yes),

@@ -1,4 +1,4 @@
--- At each place of a tree stands the tree of what the place holds.
+-- Each place of a tree begins the subtree of its value.
 use Rattle.std.proofs.Common.{◌≡◌, ℕ, zero, suc, ◌+◌, ◌<◌, ◌≤◌, cond, ltb, List, [], ◌∷◌, ◌++◌, length, refl, subst, arith, add-zero, eqb, true, false, get_or, sym, ap, ◌∙◌, inl, inr, lt-ltb}
 use Rattle.std.specs.Prelude.{⊤}
 use Rattle.plist_value.specs.Plist.{text, Plist, scalar, list, table, Items, no_items, item, Pairs, no_pairs, pair}
@@ -9,7 +9,7 @@ use Rattle.std.proofs.lemmas.Bool.{le-ltb, eqb-true, cases_Bool}
 use Rattle.plist_engine.specs.Found.{number_in}
 use Rattle.plist_engine.proofs.Numbering.{count_below-none, number-entry}
 
--- the tree of each of these values, which stand from the place k on, stands at its place
+-- each of these values, which are at the places from k on, begins its own subtree there
 abbrev pub EachStands : List Plist → ℕ → List Plist → Type 0
 EachStands all k [] = ⊤
 EachStands all k (v ∷ rest) = Stands all k (preorder v) × EachStands all (suc k) rest
@@ -49,7 +49,7 @@ mutual
       let others = EachStands-values all ps (k + length (preorder v)) (Stands-rest (preorder v) (preorder_values ps) (length (preorder v)) refl h) in
       EachStands-append all k (preorder v) (preorder_values ps) first others
 
--- the tree that stands at the place k, which is the place m of these values
+-- the subtree at place k, which is place m of these values
 pub EachStands-at : (all rest : List Plist) (j m k : ℕ) → m < length rest → j + m ≡ k → EachStands all j rest → Stands all k (preorder (value_at rest m))
 EachStands-at all [] j m k h at each = absurd (omega arith)
 EachStands-at all (v ∷ rest) j zero k h at each = let same : j ≡ k = omega arith in subst (λ (n : ℕ). Stands all n (preorder v)) same each.0
@@ -57,7 +57,7 @@ EachStands-at all (v ∷ rest) j (suc m) k h at each = EachStands-at all rest (s
 
 -- Each number below the count of objects is that of a place with an object of its own.
 
--- The object i is made at the place `from + offset`, where `rest` stands from the place `from` on.
+-- Object i is made at place `from + offset`, if `rest` is at the places from `from` on.
 record IsMadeIn (all : List Plist) (from : ℕ) (rest : List Plist) (i : ℕ) : Type 0 where
   pub offset : ℕ
   pub place : ℕ
@@ -66,14 +66,14 @@ record IsMadeIn (all : List Plist) (from : ℕ) (rest : List Plist) (i : ℕ) : 
   pub own : first_place all place (value_at rest offset) ≡ place
   pub counted : count_below place (kept_from all from rest) ≡ i
 
--- so it is behind a place with no object of its own
+-- one place earlier, if that has no object of its own
 made_behind : (all : List Plist) (from : ℕ) (v : Plist) (rest : List Plist) (i : ℕ) → eqb (first_place all from v) from ≡ false → IsMadeIn all (suc from) rest i → IsMadeIn all from (v ∷ rest) i
 made_behind all from v rest i other x =
     let at = x.place_is in
     let b = x.below in
     record { offset = suc x.offset; place = x.place; place_is = omega arith; below = omega arith; own = x.own; counted = rw other x.counted }
 
--- and one number more, where that place has one
+-- one place earlier and one number more, if that has an object of its own
 made_later : (all : List Plist) (from : ℕ) (v : Plist) (rest : List Plist) (i : ℕ) → eqb (first_place all from v) from ≡ true → IsMadeIn all (suc from) rest i → IsMadeIn all from (v ∷ rest) (suc i)
 made_later all from v rest i same x =
     let at = x.place_is in
@@ -107,7 +107,7 @@ made_in all from (v ∷ rest) (suc i) h =
       | inr other ↦ (let x = made_in all (suc from) rest (suc i) (rw other at h) in made_behind all from v rest (suc i) other x)
     ]
 
--- the place at which the object of a number is made
+-- the place at which the object with number i is made
 pub record IsMade (all : List Plist) (i : ℕ) : Type 0 where
   pub place : ℕ
   pub below : place < length all
@@ -132,7 +132,7 @@ is_made all i h =
       entry_is = ap (λ n. get_or (kept_places all) n (0, list no_items)) (sym number_is) ∙ entry.1 (0, list no_items) ∙ ap (λ (n : ℕ). (n, v)) own;
     }
 
--- the kept places from k on are all below the end
+-- all kept places are below the end
 pub count_below-end : (all rest : List Plist) (k n : ℕ) → k + length rest ≤ n → count_below n (kept_from all k rest) ≡ length (kept_from all k rest)
 count_below-end all [] k n h = refl
 count_below-end all (v ∷ rest) k n h =

@@ -1,4 +1,4 @@
--- The scalars that were met, where one is entered among them.
+-- The scalars seen, after one is entered.
 use Rattle.std.proofs.Common.{◌≡◌, ◌⊎◌, ℕ, Option, Bool, cond, true, false, Some, None, refl, sym, ap, ◌∙◌, inl, inr, suc, ◌<◌, List, subst, arith}
 use Rattle.std.specs.Option.{is_some, option_or}
 use Rattle.std.proofs.lemmas.Bool.{cases_Bool, true≢false, cases_lt}
@@ -23,7 +23,7 @@ is_some-or (Some n) true next = refl
 is_some-or (Some n) false next = refl
 
 module _ {S H : Type 0} (s : ScalarRef) (next : ℕ) (old new : Scalars S H) (had : Option ℕ) (enters : EntersScalar s next old new had) where
-  -- equal scalars were met now, and all others where they were before
+  -- scalars equal to the new one are seen now, all others if they were before
   met-each : (q : ScalarRef) → was_met new q ≡ cond (scalar_eq (content_of s) (content_of q)) true (was_met old q)
   met-each q = ap is_some (enters.each q) ∙ is_some-or (number_stored old q) (scalar_eq (content_of s) (content_of q)) next
 
@@ -48,14 +48,14 @@ module _ {S H : Type 0} (s : ScalarRef) (next : ℕ) (old new : Scalars S H) (ha
 
 -- Scalars that may repeat others, and those that cannot.
 
--- an object holds one scalar
+-- an object contains only one scalar
 one_scalar : (f : List ℕ) (i : ℕ) (s t : Scalar) → HoldsIt f i s → HoldsIt f i t → s ≡ t
 one_scalar f i s t a b = let e : holds_scalar s ≡ holds_scalar t = cc in cc
 
 held_later : (sieve : Sieve) (f : List ℕ) (i : ℕ) (s : Scalar) → IsHeldBefore sieve f i s → IsHeldBefore sieve f (suc i) s
 held_later sieve f i s before = (before.0, (omega (arith, before.1.0), before.1.1))
 
--- what the object i holds is met where it may repeat another
+-- entering object i, which may repeat another
 module _ {S H : Type 0} (sieve : Sieve) (f : List ℕ) (i next : ℕ) (s : ScalarRef) (old new : Scalars S H) (had : Option ℕ) (may : MayRepeat sieve i) (holds : HoldsIt f i (content_of s)) (met : HasMet sieve f i old) (enters : EntersScalar s next old new had) where
   met_here : (q : ScalarRef) → HoldsIt f i (content_of q) → was_met new q ≡ true
   met_here q reads =
@@ -79,7 +79,7 @@ module _ {S H : Type 0} (sieve : Sieve) (f : List ℕ) (i next : ℕ) (s : Scala
     );
   }
 
--- nothing is met at an object that holds no scalar which may repeat another
+-- an object that is not a scalar, or cannot repeat another, changes nothing
 pub HasMet-past : {S H : Type 0} → (sieve : Sieve) (f : List ℕ) (i : ℕ) (scalars : Scalars S H) → ((s : Scalar) → MayRepeat sieve i → HoldsIt f i s → ⊥) → HasMet sieve f i scalars → HasMet sieve f (suc i) scalars
 HasMet-past sieve f i scalars none met = record {
   numbered = met.numbered;

@@ -1,4 +1,4 @@
--- Pieces that touch make up what they stand in, and the numbers of their places are their starts.
+-- Contiguous pieces make up the bytes that they are in, and begin at their offsets.
 use Rattle.std.proofs.Common.{◌≡◌, ℕ, suc, ◌+◌, ◌*◌, ◌<◌, ◌≤◌, List, [], ◌∷◌, ◌++◌, length, drop, get_or, refl, sym, ap, ◌∙◌, arith, ◌-◌, ltb, leb, ◌&&◌, Bool, true, false, cond, take, Result, Ok, Err, IsOk, length-append, length-drop, ltb-true, leb-true, subst, slice_index, replicate, take-append-drop, take_all}
 use Rattle.std.specs.List.{concat}
 use Rattle.std.proofs.lemmas.List.{drop_at, drop-drop, drop_all, length-take-le, take_rest, get_or-drop, drop_more}
@@ -20,11 +20,11 @@ use Rattle.plist_object.specs.Spelling.{least_width}
 use Rattle.plist_object.proofs.SameOctets.{big_bytes-big_number, AreOctets-drop}
 use Rattle.plist_engine.specs.Canonical.{trailer_octets}
 
--- the piece stands in the octets at the place
+-- the piece is in the bytes at this offset
 abbrev pub StandsAt : List ℕ → ℕ → List ℕ → Type 0
 StandsAt octets place piece = (behind : List ℕ) × (drop place octets ≡ piece ++ behind)
 
--- each of the objects ends at the edge where the next one begins
+-- each object ends at the edge where the next one begins
 abbrev pub Touch : (ℕ → ℕ) → List (List ℕ) → Type 0
 Touch edge objects = (i : ℕ) → i < length objects → edge (suc i) ≡ edge i + length (get_or objects i [])
 
@@ -49,10 +49,9 @@ numbers-starts w octets edge (o ∷ os) entries touch =
     let others = numbers-starts w (drop w octets) (λ i. edge (suc i)) os entry (λ i h. touch (suc i) (omega arith)) in
     rw (first, others, next) refl
 
--- The octets that an object of a file occupies, where they are the canonical spelling of what it
--- holds.
+-- The bytes that an object of a file occupies, if they are its canonical encoding.
 
--- the place of the object i lies between the header and the offset table, where these octets begin
+-- object i begins between the header and the offset table, with these bytes
 pub record IsPlaced (f : List ℕ) (i : ℕ) (octets : List ℕ) : Type 0 where
   pub from : 8 ≤ place_of f i
   pub before : place_of f i < (trailer_of f).table
@@ -68,7 +67,7 @@ pub is_placed : (f : List ℕ) (i : ℕ) (octets : List ℕ) → octets_at f i �
 unfolding octets_at
 is_placed f i octets h = placed_by_test f i octets _ refl h
 
--- what was read of the whole was read
+-- decoding the whole implies decoding the part
 reads_whole : (read : Result (Held × List ℕ) ObjectFault) (held : Held) → (read >>= λ parts. Ok parts.0) ≡ Ok held → IsOk read
 reads_whole (Ok parts) held h = refl
 reads_whole (Err e) held h = absurd cc
@@ -89,7 +88,7 @@ span-shortest : (f : List ℕ) (i : ℕ) (x : IsShortest f i) → span_of f i �
 unfolding span_of
 span-shortest f i x = rw (reads-shortest f i x) refl
 
--- The object i occupies these octets, which stand between the header and the offset table.
+-- Object i occupies these bytes, between the header and the offset table.
 pub record Occupies (f : List ℕ) (i : ℕ) (octets : List ℕ) : Type 0 where
   pub from : 8 ≤ place_of f i
   pub before : place_of f i < (trailer_of f).table
@@ -115,16 +114,16 @@ occupies_shortest f i table x =
       within = omega arith;
     }
 
--- so does an object that holds this and is spelled canonically
+-- an object in its canonical encoding occupies that encoding
 pub occupies : (f : List ℕ) (i : ℕ) (held : Held) → (trailer_of f).table ≤ length f → Holds f i held → IsSpelledCanonically f i → Occupies f i (spelling_of (trailer_of f).reference_width held)
 occupies f i held table holds canonically =
     let x = canonically (reads_object f i held holds.reads) in
     let same : x.held ≡ held = let other = held-shortest f i x in cc (other, holds.reads) in
     rw same at (occupies_shortest f i table x)
 
--- Objects that begin as the canonical spelling of what they hold.
+-- Objects that begin like their canonical encoding.
 
--- the octets from the place of an object on, as they were read
+-- the bytes from an object on, as they were decoded
 record AreParts (f : List ℕ) (i : ℕ) (held : Held) : Type 0 where
   octets : List ℕ
   behind : List ℕ
@@ -157,7 +156,7 @@ Holds-placed f i held holds =
     let x = are_parts f i held holds.reads in
     (is_placed f i x.octets x.stands).before
 
--- an object that begins there is in its shortest spelling exactly if it begins canonically
+-- an object is in its shortest encoding if and only if it begins canonically
 pub begins-shortest : (f : List ℕ) (i place : ℕ) (objects : List ℕ) (held : Held) → Holds f i held → IsHeld held → IsCounted held → place_of f i ≡ place → objects ≡ take (trailer_of f).table f → AreOctets (take (length objects - place) (drop place objects)) → BeginsCanonically held (take (length objects - place) (drop place objects)) ↔ IsShortest f i
 begins-shortest f i place objects held holds valid counted starts is are_octets =
     let x = are_parts f i held holds.reads in
@@ -177,7 +176,7 @@ table-within f trailed =
     let x = trailer_of f in
     first_part x.table (x.count * x.offset_width) (length f) trailed.ends
 
--- the place of an object lies in the octets before the offset table
+-- an object begins before the offset table
 pub Holds-inside : (f : List ℕ) (i place : ℕ) (objects : List ℕ) (held : Held) → IsTrailer (length f) (trailer_of f) → Holds f i held → place_of f i ≡ place → objects ≡ take (trailer_of f).table f → place ≤ length objects
 Holds-inside f i place objects held trailed holds starts is =
     let x = trailer_of f in
@@ -185,9 +184,9 @@ Holds-inside f i place objects held trailed holds starts is =
     let long : length objects ≡ x.table = ap length is ∙ length-take-le x.table f (table-within f trailed) in
     omega arith
 
--- The trailer of a file whose trailer is plain and whose widths are least.
+-- The trailer of a file that is plain and has the least widths.
 
--- 32 octets are their parts
+-- 32 bytes are the concatenation of their fields
 join_trailer : (e zeros : List ℕ) (w r : ℕ) (count top place : List ℕ) → length e ≡ 32 → take 6 e ≡ zeros → get_or e 6 0 ≡ w → get_or e 7 0 ≡ r → take 8 (drop 8 e) ≡ count → take 8 (drop 16 e) ≡ top → take 8 (drop 24 e) ≡ place → e ≡ zeros ++ (w ∷ r ∷ (count ++ (top ++ place)))
 join_trailer e zeros w r count top place long slack width reference_width counts tops places =
     let seventh : drop 6 e ≡ w ∷ drop 7 e = drop_more e 6 0 (omega arith) ∙ ap (λ (x : ℕ). x ∷ drop 7 e) width in

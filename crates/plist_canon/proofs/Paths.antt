@@ -1,4 +1,4 @@
--- The walk goes on along its path, and takes from the limits.
+-- The walk continues along its path, and takes from the limits.
 use Rattle.std.proofs.Common.{◌≡◌, ℕ, zero, suc, ◌+◌, ◌-◌, ◌<◌, ◌≤◌, List, [], ◌∷◌, ◌++◌, length, take, drop, refl, sym, ap, subst, ◌∙◌, arith, Option, Some, None, add-one, true, false}
 use Rattle.std.specs.Prelude.{slice_index, slice_index_or, slice_set, ◌↔◌, MatchOption}
 use Rattle.std.proofs.lemmas.Bool.{true≢false}
@@ -28,7 +28,7 @@ path_groups-push [] frame = refl
 path_groups-push (first ∷ frames) frame =
     ap (λ groups. groups ++ (frame_group first ∷ [])) (path_groups-push frames frame)
 
--- the last frame of the path was changed to this
+-- replacing the last frame of the path
 path_groups-set : (frames : List Frame) (count : ℕ) (frame : Frame) → length frames ≡ count → 0 < count → path_groups (slice_set frames (count - 1) frame) ≡ frame_group frame ∷ path_groups (take (count - 1) frames)
 path_groups-set frames count frame counted some =
     let long = length-set frames (count - 1) frame in
@@ -58,18 +58,18 @@ Awaits-next f met owner levels left outer stands held after holds pays =
       owed = λ octets ascending. Owes-entered f owner levels met outer (weight_of held) weighs (ascending met holds.listed) octets held left after holds pays (stands.owed octets ascending);
     }
 
--- after the first turn
+-- the state after the first visit
 pub Stands-after : (f : List ℕ) (turns : ℕ) (left : Option Budget) (groups : List Group) → 0 < turns → StandsAfter f turns left groups → Stands f turns left groups
 Stands-after f zero left groups some stands = absurd (omega arith)
 Stands-after f (suc before) left groups some stands = stands
 
--- where groups are left the first turn was
+-- if groups are left, the first visit was made
 Stands-left : (f : List ℕ) (turns : ℕ) (left : Option Budget) (first : Group) (outer : List Group) → StandsAfter f turns left (first ∷ outer) → Stands f turns left (first ∷ outer)
 Stands-left f zero left first outer stands = absurd (let none = stands.0 in cc)
 Stands-left f (suc before) left first outer stands = stands
 
 module _ (frames : List Frame) (count : ℕ) (frame : Frame) (counted : length frames ≡ count) (some : 0 < count) where
-  -- the first reference of the last frame is taken by itself
+  -- the next reference of the last frame, split off
   Stands-parted : (f : List ℕ) (met done i : ℕ) (left : Option Budget) → Stands f met left (grouped frame.owner frame.levels (i ∷ drop done (numbers_of frame.refs)) ∷ path_groups (take (count - 1) frames)) → Stands f met left (grouped frame.owner frame.levels (i ∷ []) ∷ path_groups (slice_set frames (count - 1) (record frame { done = done })))
   Stands-parted f met done i left stands =
       let rest = drop done (numbers_of frame.refs) in
@@ -80,7 +80,7 @@ module _ (frames : List Frame) (count : ℕ) (frame : Frame) (counted : length f
         owed = λ octets ascending. Owes-parted f frame.owner frame.levels i rest outer left (stands.owed octets ascending);
       })
 
-  -- the next reference is to the object whose turn is next
+  -- the next reference is to the next object
   pub Awaits-here : (f : List ℕ) (turns : ℕ) (left : Option Budget) → frame ≡ slice_index_or frames (count - 1) frame → frame.done < length (numbers_of frame.refs) → slice_index (numbers_of frame.refs) frame.done ≡ turns → StandsAfter f turns left (path_groups frames) → Awaits f turns frame.levels left (path_groups (slice_set frames (count - 1) (record frame { done = frame.done + 1 })))
   Awaits-here f turns left is below next stands =
       let outer = path_groups (take (count - 1) frames) in
@@ -90,7 +90,7 @@ module _ (frames : List Frame) (count : ℕ) (frame : Frame) (counted : length f
       Awaits-next f turns frame.owner frame.levels left _ (Stands-parted f turns (frame.done + 1) turns left here)
 
 module _ (weights : List Weight) (owner levels i : ℕ) (refs : List ℕ) (outer : List Group) (before after : Option Budget) where
-  -- a scalar is passed
+  -- a scalar is skipped
   pub Stands-passed : Passes weights levels i before after → GoesOn weights (grouped owner levels (i ∷ refs) ∷ outer) before (grouped owner levels refs ∷ outer) after
   Stands-passed passes f weighed stands =
       let weighs = weighed i passes.listed in
@@ -129,17 +129,17 @@ module _ (weights : List Weight) (groups : List Group) (before mid after : Optio
   pub GoesOn-popped : FrameGoesOn weights frame mid None after → GoesOn weights groups before (path_groups (take (count - 1) frames)) after
   GoesOn-popped ends f weighed stands = ends (path_groups (take (count - 1) frames)) f weighed (split f weighed stands)
 
-  -- it came to one of them
+  -- the walk got to one of the references
   pub GoesOn-visited : (done i : ℕ) → FrameGoesOn weights frame mid (Some (done, i)) after → GoesOn weights groups before (grouped frame.owner frame.levels (i ∷ []) ∷ path_groups (slice_set frames (count - 1) (record frame { done = done }))) after
   GoesOn-visited done i ahead f weighed stands =
       Stands-parted frames count frame counted some f (length weights) done i after (ahead (path_groups (take (count - 1) frames)) f weighed (split f weighed stands))
 
--- the object of a number that is not that of a scalar among those that were met holds none
+-- a visited object that is not a visited scalar is no scalar
 pub none_met : (f : List ℕ) (weights : List Weight) (i : ℕ) → AreWeights f weights → IsNoneMet weights i → i < length weights → ¬ HoldsScalar f i
 none_met f weights i weighed none below scalar =
     true≢false (sym (scalar-Weighs f i (slice_index_or weights i container) (weighed i below) scalar) ∙ none below)
 
--- The walk goes along with the turns of the objects.
+-- The walk keeps pace with the objects.
 
 broken-stays : (broken : Option ℕ) (A B : Type 0) (P : ℕ → Type 0) → is_some broken ≡ true → MatchOption broken A P → MatchOption broken B P
 broken-stays None A B P is holds = absurd (true≢false (sym is))
@@ -158,7 +158,7 @@ module _ (f : List ℕ) (i : ℕ) (walk : Walk) where
   pub Walked-met : is_some walk.broken_at ≡ false → Walked f i walk ↔ MetInTurn f i walk
   Walked-met = none-broken walk.broken_at (MetInTurn f i walk) (λ holder. IsBroken f 7 holder)
 
--- no object had its turn
+-- before the first visit
 pub MetInTurn-none : (f : List ℕ) (walk : Walk) (whole : Budget) → walk.weights.items ≡ [] → walk.path.items ≡ [] → walk.left ≡ Some whole → whole.nodes ≡ MAX_NODES → whole.payload ≡ MAX_PAYLOAD → MetInTurn f 0 walk
 MetInTurn-none f walk whole weights_are path_is left_is nodes_are payload_is =
     let counted : length walk.weights.items ≡ 0 = ap length weights_are in
@@ -169,7 +169,7 @@ MetInTurn-none f walk whole weights_are path_is left_is nodes_are payload_is =
       stands = subst (λ (n : ℕ). StandsAfter f n walk.left (path_groups walk.path.items)) (sym counted) (ap path_groups path_is, owes);
     }
 
--- one object more was met
+-- after one more visit
 pub MetInTurn-more : (f : List ℕ) (i number levels : ℕ) (held : Held) (old new : Walk) (weight : Weight) (left : Option Budget) (groups : List Group)
     → Holds f i held → MetInTurn f i old → weight ≡ weight_of held → Awaits f (length old.weights.items) levels left groups → Pays levels weight left new.left
     → new.weights.items ≡ old.weights.items ++ (weight ∷ []) → number ≡ length old.weights.items → path_groups new.path.items ≡ groups_of number (levels - 1) held ++ groups → MetInTurn f (suc i) new
@@ -190,7 +190,7 @@ module _ (f : List ℕ) (walk : Walk) (all : WalkedAll f walk) (met : MetInTurn 
   stands : Stands f (length walk.weights.items) walk.left (path_groups walk.path.items)
   stands = let counted = met.counted in let some = all.some in Stands-after f _ walk.left _ (omega arith) met.stands
 
-  -- a reference is left that is not to a scalar which was met
+  -- a reference is left that is not to a visited scalar
   pub breaks-at : (owner levels i : ℕ) (after : Option Budget) (groups : List Group) → GoesOn walk.weights.items (path_groups walk.path.items) walk.left (grouped owner levels (i ∷ []) ∷ groups) after → IsNoneMet walk.weights.items i → IsBroken f 7 owner
   breaks-at owner levels i after groups goes none =
       let left = goes f met.weighed stands in
@@ -200,7 +200,7 @@ module _ (f : List ℕ) (walk : Walk) (all : WalkedAll f walk) (met : MetInTurn 
   ends : (after : Option Budget) → GoesOn walk.weights.items (path_groups walk.path.items) walk.left [] after → Stands f (length walk.weights.items) after []
   ends after goes = goes f met.weighed stands
 
-  -- none is left, and the limits are kept
+  -- no reference is left, and the limits are kept
   pub walks-within : (left : Budget) → GoesOn walk.weights.items (path_groups walk.path.items) walk.left [] (Some left) → WalksWithinLimits f
   walks-within left goes =
       let last = ends (Some left) goes in
@@ -209,7 +209,7 @@ module _ (f : List ℕ) (walk : Walk) (all : WalkedAll f walk) (met : MetInTurn 
         fits = Owes-end f left (last.owed all.octets all.ascending);
       }
 
-  -- none is left, and a limit is passed
+  -- no reference is left, and a limit is exceeded
   pub breaks-limits : GoesOn walk.weights.items (path_groups walk.path.items) walk.left [] None → IsBroken f 0 0
   breaks-limits goes =
       let last = ends None goes in

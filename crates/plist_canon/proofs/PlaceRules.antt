@@ -1,4 +1,4 @@
--- The objects of a tree follow the rules that speak of one object and what it refers to.
+-- The objects of a tree follow the rules about one object and its references.
 use Rattle.std.proofs.Common.{◌≡◌, ℕ, suc, ◌+◌, ◌<◌, List, [], ◌∷◌, ◌++◌, length, map, Ok, refl, sym, ap, subst, ◌∙◌, arith, ◌≤◌, ltb, eqb, cond, true, false, inl, inr, add-zero, lt-ltb, append_assoc}
 use Rattle.std.specs.declared.cmp.Ordering.TheVariants.{Less}
 use Rattle.std.specs.Ordering.{nat_cmp}
@@ -23,14 +23,14 @@ use Rattle.std.proofs.lemmas.Bool.{cond_both, cases_lt, le-ltb}
 use Rattle.plist_engine.proofs.Numbering.{count_below-none, first_place-le, first_place-holds, first_place-first, number-top}
 use Rattle.plist_engine.proofs.Counting.{count-kept, count-shared}
 
--- The file has the objects of the places of a tree: as many as there are places with an object of
--- their own, and the object of each place holds what stands there.
+-- The file has one object for each place of a tree that has an object of its own, and the object of
+-- each place contains what is there.
 pub record HasObjects (f : List ℕ) (all : List Plist) : Type 0 where
   pub counted : (trailer_of f).count ≡ length (kept_places all)
   pub reads : (k : ℕ) (v : Plist) → value_at all k ≡ v → k < length all → Holds f (number_in all k) (held_at (number_in all) k v)
   pub stands : (k : ℕ) → k < length all → Stands all k (preorder (value_at all k))
 
--- the keys of a table in their order
+-- the keys of a dictionary in order
 abbrev key_units : Pairs → List (List ℕ)
 key_units no_pairs = []
 key_units (pair key v ps) = key ∷ key_units ps
@@ -110,7 +110,7 @@ module _ (f : List ℕ) (all : List Plist) (has : HasObjects f all) where
       let made = is_made all i (rw has.counted at h) in
       subst (IsWellRead f) made.number_is (well_read_at (value_at all made.place) made.place (has.stands made.place made.below))
 
-  -- texts that references to keys name are the keys
+  -- the strings that references to keys are to are the keys
   texts_named : (ps : Pairs) (k : ℕ) (texts : List (List ℕ)) → Stands all k (key_texts ps) → HoldTexts f (map (number_in all) (key_places k ps)) texts → texts ≡ key_units ps
   texts_named no_pairs k [] h named = refl
   texts_named no_pairs k (units ∷ texts) h named = absurd named
@@ -144,7 +144,7 @@ module _ (f : List ℕ) (all : List Plist) (has : HasObjects f all) where
       let made = is_made all i (rw has.counted at h) in
       subst (HasAscendingKeys f) made.number_is (ascending_at (value_at all made.place) made.place (has.stands made.place made.below) (valid made.place made.below))
 
-  -- a place whose object holds a scalar holds the scalar
+  -- a place whose object is a scalar contains that scalar
   scalar_from : (v : Plist) (k : ℕ) (s : Scalar) → held_at (number_in all) k v ≡ holds_scalar s → v ≡ scalar s
   scalar_from (scalar t) k s e = cc
   scalar_from (list vs) k s e = absurd (cc)
@@ -156,7 +156,7 @@ module _ (f : List ℕ) (all : List Plist) (has : HasObjects f all) where
       let e : Ok (held_at (number_in all) k (value_at all k)) ≡ Ok (holds_scalar s) = sym holds ∙ reads in
       scalar_from (value_at all k) k s (cc)
 
-  -- places that are the first of one scalar are one place
+  -- two first places of one scalar are the same
   same_place : (s : Scalar) (j k : ℕ) → value_at all j ≡ scalar s → value_at all k ≡ scalar s → first_place all j (value_at all j) ≡ j → first_place all k (value_at all k) ≡ k → j ≡ k
   same_place s j k at_j at_k own_j own_k =
       let a : first_place all j (scalar s) ≡ j = rw at_j at own_j in
@@ -174,9 +174,9 @@ module _ (f : List ℕ) (all : List Plist) (has : HasObjects f all) where
       let e : earlier ≡ i = sym first.number_is ∙ ap (number_in all) same ∙ made.number_is in
       omega arith
 
--- The walk through the objects of a tree meets them in the order of its places.
+-- The walk through the objects of a tree visits them in the order of its places.
 
--- the numbers of the places from k on, where these values stand
+-- the numbers of the places from k on, where these values are
 abbrev pub entries_of : (ℕ → ℕ) → ℕ → List Plist → List ℕ
 entries_of number k [] = []
 entries_of number k (v ∷ rest) = number k ∷ entries_of number (suc k) rest
@@ -188,7 +188,7 @@ entries-append number k (x ∷ xs) ys =
     let moved : suc k + length xs ≡ k + suc (length xs) = omega arith in
     ap (λ ns. number k ∷ ns) (rw moved at others)
 
--- no fewer places are below a later one
+-- the count of kept places grows with the place
 count-grows : (m n : ℕ) (kept : List (ℕ × Plist)) → m ≤ n → count_below m kept ≤ count_below n kept
 count-grows m n [] h = omega arith
 count-grows m n (p ∷ kept) h =
@@ -242,7 +242,7 @@ module _ (f : List ℕ) (all : List Plist) (has : HasObjects f all) where
         subst (Walks f (map (number_in all) (value_places k (pair key v ps)))) (sym (entries-append (number_in all) k (preorder v) (preorder_values ps)))
         (step (number_in all k) _ (entries_of (number_in all) k (preorder v)) (entries_of (number_in all) (k + length (preorder v)) (preorder_values ps)) first (subst (λ (refs : List ℕ). Walks f refs (entries_of (number_in all) (k + length (preorder v)) (preorder_values ps))) places others))
 
-  -- what shares the object of an earlier place is a scalar
+  -- a place that shares the object of an earlier one is a scalar
   shared_scalar : (v : Plist) (k : ℕ) → value_at all k ≡ v → k < length all → first_place all k v < k → HoldsScalar f (number_in all k)
   shared_scalar (scalar s) k at h before = (s, has.reads k (scalar s) at h)
   shared_scalar (list vs) k at h before = absurd (omega arith)
@@ -251,7 +251,7 @@ module _ (f : List ℕ) (all : List Plist) (has : HasObjects f all) where
   number_at : (k : ℕ) (v : Plist) → value_at all k ≡ v → number_in all k ≡ count_below (first_place all k v) (kept_places all)
   number_at k v at = ap (λ u. count_below (first_place all k u) (kept_places all)) at
 
-  -- the number of such a place was met
+  -- the number of such a place was visited
   shared_below : (v : Plist) (k : ℕ) → value_at all k ≡ v → k < length all → first_place all k v < k → number_in all k < count_below k (kept_places all)
   shared_below v k at h before =
       let first = first_place all k v in
@@ -272,7 +272,7 @@ module _ (f : List ℕ) (all : List Plist) (has : HasObjects f all) where
         | inr own ↦ (let own_place : first_place all k v ≡ k = omega arith in let next = count-kept all k v at.0 at.1 own_place in inl (number_at k v at.0 ∙ ap (λ n. count_below n (kept_places all)) own_place, rw next at others))
       ]
 
--- the walk from the top of a tree
+-- the walk from the root of a tree
 pub numbered : (f : List ℕ) (v : Plist) → HasObjects f (preorder v) → IsNumberedInPreorder f
 numbered f v has =
     let all = preorder v in

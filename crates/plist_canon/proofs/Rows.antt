@@ -18,8 +18,8 @@ use Rattle.plist_object.specs.References.{references_of}
 use Rattle.plist_canon.specs.Rules.{ReadsWithinLimits, FollowsRules, HasPlainTrailer, HasLeastWidths, Adjoins, IsSpelledCanonically, HasAscendingKeys, IsNoRepeat, Walk, visit, Walks, end, step, MeetsInOrder, IsNumberedInPreorder, held_by, begins, TurnsAt}
 use Rattle.plist_canon.proofs.Followed.{canonical_follows_rules}
 
--- The end of a file of fewer than 256 octets: the first octet of the slack, the width of a
--- reference, how many objects there are, and the place of the offset table.
+-- The end of a file of fewer than 256 bytes: the first unused byte of the trailer, the width of a
+-- reference, the number of objects, and where the offset table begins.
 abbrev end_with : ℕ → ℕ → ℕ → ℕ → List ℕ
 end_with slack width count place =
     slack ∷ (replicate 5 0 ++ (1 ∷ width ∷ (replicate 7 0 ++ (count ∷ (replicate 15 0 ++ (place ∷ []))))))
@@ -27,7 +27,7 @@ end_with slack width count place =
 abbrev end_of : ℕ → ℕ → List ℕ
 end_of count place = end_with 0 1 count place
 
--- the canonical file of the table {a = b; b = a}, which follows the rules
+-- the canonical file of {a = b; b = a}, which follows the rules
 abbrev swapped_file : List ℕ
 swapped_file = header ++ (210 ∷ 1 ∷ 2 ∷ 2 ∷ 1 ∷ 81 ∷ 97 ∷ 81 ∷ 98 ∷ 8 ∷ 13 ∷ 15 ∷ end_of 3 17)
 
@@ -49,7 +49,7 @@ follows =
 same_head : (m n : ℕ) (ms ns : List ℕ) → m ∷ ms ≡ n ∷ ns → m ≡ n
 same_head m n ms ns e = cc
 
--- a list of a reference to no object
+-- an array with a reference to no object
 abbrev stray_file : List ℕ
 stray_file = header ++ (161 ∷ 1 ∷ 8 ∷ end_of 1 10)
 
@@ -66,21 +66,21 @@ breaks-c0 h =
     let top : Holds stray_file 0 (holds_list (1 ∷ [])) = record { listed = omega arith; reads = refl } in
     numbers_below read.held (same_held stray_file 0 read.held (holds_list (1 ∷ [])) read.holds top) read.numbers
 
--- an empty table, and 1 in the first octet of the slack
+-- an empty dictionary, with 1 in the first byte of the trailer
 abbrev slack_file : List ℕ
 slack_file = header ++ (208 ∷ 8 ∷ end_with 1 1 1 9)
 
 breaks-c1 : HasPlainTrailer slack_file → ⊥
 breaks-c1 h = let first = same_head 1 0 (replicate 5 0) (replicate 5 0) h.slack in omega arith
 
--- a list of one flag, whose reference has two octets
+-- an array of one boolean, with a reference of two bytes
 abbrev wide_file : List ℕ
 wide_file = header ++ (161 ∷ 0 ∷ 1 ∷ 9 ∷ 8 ∷ 11 ∷ end_with 0 2 2 12)
 
 breaks-c2 : HasLeastWidths wide_file → ⊥
 breaks-c2 h = let reference = h.reference in omega arith
 
--- a list of one flag, and an octet between the two objects
+-- an array of one boolean, with a byte between the two objects
 abbrev unused_file : List ℕ
 unused_file = header ++ (161 ∷ 1 ∷ 0 ∷ 9 ∷ 8 ∷ 11 ∷ end_of 2 12)
 
@@ -88,7 +88,7 @@ breaks-c3 : Adjoins unused_file 1 → ⊥
 unfolding span_of object_at octets_at marked_object list_object content count_of_content simple_object
 breaks-c3 h = let touches = h.next 0 8 10 11 12 refl refl refl in omega arith
 
--- a text of one unit, whose head has its count in an octet of its own
+-- a string of one unit, with its count in a byte of its own
 abbrev long_head_file : List ℕ
 long_head_file = header ++ (95 ∷ 16 ∷ 1 ∷ 97 ∷ 8 ∷ end_of 1 12)
 
@@ -112,7 +112,7 @@ breaks-c4 : IsSpelledCanonically long_head_file 0 → ⊥
 unfolding object_at octets_at marked_object ascii_object content count_of_content count_spelled
 breaks-c4 h = not_shortest (h refl)
 
--- a table with the key b before the key a
+-- a dictionary with the key b before the key a
 abbrev descending_file : List ℕ
 descending_file = header ++ (210 ∷ 1 ∷ 2 ∷ 2 ∷ 1 ∷ 81 ∷ 98 ∷ 81 ∷ 97 ∷ 8 ∷ 13 ∷ 15 ∷ end_of 3 17)
 
@@ -125,7 +125,7 @@ breaks-c5 h =
     let e : Greater ≡ Less = sorted.0.0 in
     absurd (cc)
 
--- a list of the text a twice, each in an object of its own
+-- an array with the string a twice, each in an object of its own
 abbrev repeat_file : List ℕ
 repeat_file = header ++ (162 ∷ 1 ∷ 2 ∷ 81 ∷ 97 ∷ 81 ∷ 97 ∷ 8 ∷ 11 ∷ 13 ∷ end_of 3 15)
 
@@ -133,16 +133,16 @@ breaks-c6 : IsNoRepeat repeat_file 2 → ⊥
 unfolding what_holds object_at octets_at marked_object ascii_object content count_of_content
 breaks-c6 h = h (text (97 ∷ [])) refl 1 (omega arith) refl
 
--- a list of two texts, of which the first is the object 2
+-- an array of two strings, the first of which is object 2
 abbrev unordered_file : List ℕ
 unordered_file = header ++ (162 ∷ 2 ∷ 1 ∷ 81 ∷ 97 ∷ 81 ∷ 98 ∷ 8 ∷ 11 ∷ 13 ∷ end_of 3 15)
 
--- the walks from references begin with the first of them
+-- the walks from references begin with the first reference
 abbrev BeginWith : List ℕ → List ℕ → Type 0
 BeginWith [] entries = ⊤
 BeginWith (i ∷ refs) entries = (rest : List ℕ) × (entries ≡ i ∷ rest)
 
--- what a walk visits first, and what it walks from there
+-- the object that a walk visits first, and the rest of the walk
 walk_parts : (f : List ℕ) (i : ℕ) (entries : List ℕ) → Walk f i entries → (held : Held) × ((rest : List ℕ) × ((entries ≡ i ∷ rest) × Holds f i held × Walks f (references_of held) rest))
 walk_parts f i entries (visit j held rest holds walks) = (held, (rest, (refl, holds, walks)))
 
@@ -166,7 +166,7 @@ breaks-c7 h =
     let begin = walks_begin unordered_file (2 ∷ 1 ∷ []) x.1.0 walks in
     not_in_order begin.0 (subst (λ (es : List ℕ). MeetsInOrder unordered_file 0 es 3) (x.1.1.0 ∙ ap (λ es. 0 ∷ es) begin.1) h.order)
 
--- the walk comes to object 2 where object 1 is next, and object 0 holds that reference
+-- object 1 would be next, but object 0 refers to object 2
 turns-c7 : TurnsAt unordered_file 0
 unfolding what_holds object_at octets_at marked_object list_object content count_of_content
 turns-c7 =
@@ -180,7 +180,7 @@ turns-c7 =
       known = λ below. absurd (omega arith);
     }
 
--- the files that break a rule are laid
+-- the files that break a rule have the layout
 all-laid : IsLaid stray_file × IsLaid slack_file × IsLaid wide_file × IsLaid unused_file × IsLaid long_head_file × IsLaid descending_file × IsLaid repeat_file × IsLaid unordered_file
 all-laid = (
   record { long = omega arith; headed = refl; trailed = omega arith },

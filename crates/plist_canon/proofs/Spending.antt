@@ -1,4 +1,4 @@
--- What the walk spends of the limits.
+-- What the walk takes from the limits.
 use Rattle.std.proofs.Common.{◌≡◌, ℕ, suc, ◌+◌, ◌-◌, ◌≤◌, min, max, List, [], ◌∷◌, ◌++◌, length, refl, sym, ap, subst, ◌∙◌, arith, Some, None}
 use Rattle.std.specs.Prelude.{Option}
 use Rattle.plist_value.specs.Plist.{AreOctets, Scalar, Plist, scalar, list, table, Items, no_items, item, Pairs, IsPlist, AreItems, ArePairs}
@@ -22,7 +22,7 @@ use Rattle.plist_canon.proofs.Visiting.{Weighs-held}
 use Rattle.plist_canon.proofs.TableParts.{some_nodes, table_parts}
 use Rattle.plist_value.proofs.Items.{some_depth}
 
--- what holds of each value that an object may spell, by what it holds
+-- what holds of each value that an object may encode, by its content
 by_scalar : (f : List ℕ) (i : ℕ) (s : Scalar) (P : Plist → Type 0) → Holds f i (holds_scalar s) → P (scalar s) → (v : Plist) → Spells f i v → P v
 by_scalar f i s P holds here (scalar t) spells =
     let e = same_held f i (holds_scalar s) (holds_scalar t) holds spells in
@@ -66,7 +66,7 @@ no_items_left : (f : List ℕ) (rest : Items) → SpellItems f [] rest → rest 
 no_items_left f no_items spells = refl
 no_items_left f (item v vs) spells = absurd spells
 
--- the one value that one reference names
+-- the only value, of the only reference
 record LoneItem (f : List ℕ) (i : ℕ) (items : Items) : Type 0 where
   value : Plist
   valid : IsPlist value
@@ -110,12 +110,12 @@ held_least f i (holds_scalar s) holds v spells =
 held_least f i (holds_list refs) holds v spells = omega arith
 held_least f i (holds_table keys values) holds v spells = omega arith
 
--- an object's value takes no less than its weight
+-- the value of an object takes at least its weight
 weight_least : (f : List ℕ) (i : ℕ) (weight : Weight) → Weighs f i weight → (v : Plist) → Spells f i v → payload_of_weight weight ≤ payload v
 weight_least f i weight weighs v spells =
     subst (λ (w : Weight). payload_of_weight w ≤ payload v) (sym weighs.is) (held_least f i weighs.held weighs.holds v spells)
 
--- the values that are named before a step of the walk, and those that are behind it
+-- the values that are left before and after a step of the walk
 pub record Step (f : List ℕ) (groups : List Group) (named : AllNamed f groups) (others : List Group) (spent payload_spent : ℕ) : Type 0 where
   pub later : AllNamed f others
   pub nodes_are : nodes_named f groups named ≡ spent + nodes_named f others later
@@ -168,7 +168,7 @@ module _ (f : List ℕ) (owner levels i : ℕ) (refs : List ℕ) (outer : List G
       let h : depth_of_items first.items ≡ max (depth n.value) (depth_of_items n.others) = ap depth_of_items n.is in
       over (omega arith) (omega arith) (omega arith)
 
-  -- the first object is paid for
+  -- the first object is counted
   paid : (others : List Group) (before after : Option Budget) → (1 ≤ levels → payload_of_weight weight ≤ MAX_PAYLOAD → (named : AllNamed f (grouped owner levels (i ∷ refs) ∷ outer)) → Step f (grouped owner levels (i ∷ refs) ∷ outer) named others 1 (payload_of_weight weight)) → Pays levels weight before after → Owes f (grouped owner levels (i ∷ refs) ∷ outer) before → Owes f others after
   paid others None after step pays owes = subst (λ (left : Option Budget). Owes f others left) (sym pays) owes
   paid others (Some before) None step pays owes = passes_limit before pays owes
@@ -195,7 +195,7 @@ module _ (f : List ℕ) (owner levels i : ℕ) (refs : List ℕ) (outer : List G
         back = λ w. (let d = w.0 in omega arith, w.1);
       }
 
-  -- a reference to a scalar is passed
+  -- a reference to a scalar is skipped
   pub Owes-passed : (before after : Option Budget) → HoldsScalar f i → Pays levels weight before after → Owes f (grouped owner levels (i ∷ refs) ∷ outer) before → Owes f (grouped owner levels refs ∷ outer) after
   Owes-passed before after held = paid (grouped owner levels refs ∷ outer) before after (scalar_step held)
 
@@ -214,7 +214,7 @@ Owes-popped f owner levels outer left = moves f (grouped owner levels [] ∷ out
       back = λ w. (omega arith, w);
     })
 
--- the first reference by itself
+-- the first reference, split off
 pub Owes-parted : (f : List ℕ) (owner levels i : ℕ) (refs : List ℕ) (outer : List Group) (left : Option Budget) → Owes f (grouped owner levels (i ∷ refs) ∷ outer) left → Owes f (grouped owner levels (i ∷ []) ∷ grouped owner levels refs ∷ outer) left
 Owes-parted f owner levels i refs outer left = moves f (grouped owner levels (i ∷ refs) ∷ outer) (grouped owner levels (i ∷ []) ∷ grouped owner levels refs ∷ outer) left (λ named.
     let first = named.0 in
@@ -234,7 +234,7 @@ Owes-parted f owner levels i refs outer left = moves f (grouped owner levels (i 
       back = λ w. (let d = w.0 in let k = w.1.0 in omega arith, w.1.1);
     })
 
--- what a list or a table takes, and what it holds
+-- what an array or dictionary takes, and its items
 record OpenedList (f refs : List ℕ) (v : Plist) : Type 0 where
   items : Named f (grouped 0 0 refs)
   nodes_are : nodes v ≡ 1 + nodes_of_items items.items
@@ -333,12 +333,12 @@ module _ (f : List ℕ) (owner levels i : ℕ) (outer : List Group) (weight : We
         back = λ w. (let k = w.1.0 in omega arith, w.1.1);
       }
 
-  -- the object is met for the first time
+  -- the object is visited for the first time
   pub Owes-entered : (octets : AreOctets f) (held : Held) (before after : Option Budget) → Holds f i held → Pays levels weight before after → Owes f before_it before → Owes f (groups_of i (levels - 1) held ++ outer) after
   Owes-entered octets held before after holds =
       paid f owner levels i [] outer weight weighs (groups_of i (levels - 1) held ++ outer) before after (opening held holds (Holds-held f i held octets holds))
 
--- before anything is walked
+-- before the walk
 pub Owes-start : (f : List ℕ) (whole : Budget) → whole.nodes ≡ MAX_NODES → whole.payload ≡ MAX_PAYLOAD → Owes f (grouped 0 MAX_DEPTH (0 ∷ []) ∷ []) (Some whole)
 Owes-start f whole all_nodes all_payload v valid spells = record {
   named = (record { items = item v no_items; valid = (valid, tt); spelled = (spells, refl) }, tt);
@@ -349,7 +349,7 @@ Owes-start f whole all_nodes all_payload v valid spells = record {
   deep = λ w. (let d = w.0 in omega arith);
 }
 
--- all was walked
+-- after the walk
 pub Owes-end : (f : List ℕ) (left : Budget) → Owes f [] (Some left) → (v : Plist) → IsPlist v → Spells f 0 v → Fits v
 Owes-end f left owes v valid spells =
     let o = owes v valid spells in

@@ -1,4 +1,4 @@
--- The objects of a file in their turns.
+-- Visiting the objects of a file in the order of their numbers.
 use Rattle.std.proofs.Common.{◌≡◌, ℕ, zero, suc, ◌+◌, ◌-◌, ◌<◌, ◌≤◌, List, Option, Some, None, arith, inl, inr, [], get_or, sym}
 use Rattle.std.specs.Prelude.{slice_index, Option, true}
 use Rattle.std.proofs.lemmas.Bool.{cases_lt, true≢false}
@@ -20,7 +20,7 @@ use Rattle.plist_object.specs.declared.ranks.Ranks.{Ranks}
 use Rattle.plist_object.specs.Ranks.{AreRanks, rank_of, texts_of}
 use Rattle.plist_object.proofs.Ranked.{below_from_ranks, ranks_from_below}
 
--- what rules 3 and 4 hold of, and holds a text, is judged
+-- a string that follows rules 3 and 4 follows all rules about one object
 pub text-judged : (f : List ℕ) (i : ℕ) (units : List ℕ) → Holds f i (holds_scalar (text units)) → Follows f i → IsSpelledCanonically f i → IsJudged f i
 text-judged f i units holds follows spelled = record {
   read = record { held = holds_scalar (text units); holds = holds; numbers = tt; texts = tt };
@@ -33,7 +33,7 @@ pub judged-more : (f : List ℕ) (first behind : ℕ) → AreJudgedFrom f first 
 judged-more f first behind judged last i least below =
     below_or_last (λ j. first ≤ j → IsJudged f j) behind (λ j before from. judged j from before) (λ from. last) i below least
 
--- the objects before one, that one, and those behind it
+-- the objects before one, that one, and those after it
 pub judged-all : (f : List ℕ) (i behind : ℕ) → ((j : ℕ) → j < i → IsJudged f j) → IsJudged f i → AreJudgedFrom f (i + 1) behind → (j : ℕ) → j < behind → IsJudged f j
 judged-all f i behind before here later j below =
     elim (cases_lt i j) [
@@ -41,12 +41,12 @@ judged-all f i behind before here later j below =
       | inr not ↦ below_or_last (λ k. IsJudged f k) i before here j (omega (arith, not))
     ]
 
--- the last of the first keys holds this text, if there is one
+-- the last of the first keys is this string, if there is one
 abbrev pub IsLastKey : List ℕ → List ℕ → ℕ → Option TextRef → Type 0
 IsLastKey f keys k (Some t) = Holds f (slice_index keys (k - 1)) (holds_scalar (text (units_of t)))
 IsLastKey f keys k None = k ≡ 0
 
--- a key above it
+-- adding a key above it
 pub above-in-order : (f keys : List ℕ) (k : ℕ) (last : Option TextRef) (t : TextRef) → ((j : ℕ) → suc j < k → AreInOrder f (slice_index keys j) (slice_index keys (suc j))) → IsLastKey f keys k last → IsAbove last t → Holds f (slice_index keys k) (holds_scalar (text (units_of t))) → (j : ℕ) → suc j < k + 1 → AreInOrder f (slice_index keys j) (slice_index keys (suc j))
 above-in-order f keys k None t before none above holds j below =
     let empty : k ≡ 0 = none in
@@ -61,7 +61,7 @@ above-in-order f keys (suc k) (Some lower) t before last above holds j below =
       below = above;
     }) j below
 
--- no more objects are judged than there are
+-- no more objects are validated than there are
 pub judged-most : (f : List ℕ) (first behind : ℕ) → first ≤ (trailer_of f).count → AreJudgedFrom f first behind → behind ≤ (trailer_of f).count
 judged-most f first zero some judged = omega arith
 judged-most f first (suc n) some judged =
@@ -72,15 +72,15 @@ judged-most f first (suc n) some judged =
           omega (arith, listed))
     ]
 
--- where no fewer are, all are
+-- if no fewer are validated than there are, all are
 pub judged-whole : (f : List ℕ) (n : ℕ) → ((j : ℕ) → j < n → IsJudged f j) → (trailer_of f).count ≤ n → n ≡ (trailer_of f).count
 judged-whole f n judged whole =
     let most = judged-most f 0 n (omega arith) (λ j least below. judged j below) in
     omega (arith, most, whole)
 
--- What the ranks of objects say of the texts that they hold.
+-- What the sort positions of objects say of their strings.
 
--- an object with a rank holds a text
+-- an object with a sort position is a string
 ranked_text : (f : List ℕ) (ranks : Ranks) (i rank : ℕ) → AreRanks f ranks → rank_of ranks i ≡ Some rank → HoldsText f i
 ranked_text f ranks i rank sound is = (get_or (texts_of ranks) rank [], (sound.held i rank is).0)
 
@@ -88,7 +88,7 @@ pub some_ranked : (f : List ℕ) (ranks : Ranks) (i : ℕ) (o : Option ℕ) → 
 some_ranked f ranks i (Some rank) sound is some = ranked_text f ranks i rank sound (sym is)
 some_ranked f ranks i None sound is some = absurd (true≢false some)
 
--- two with ranks are in order where their ranks are
+-- two objects are in order if their sort positions are
 pub ranked_in_order : (f : List ℕ) (ranks : Ranks) (i j first second : ℕ) → AreRanks f ranks → rank_of ranks i ≡ Some first → rank_of ranks j ≡ Some second → first < second → AreInOrder f i j
 ranked_in_order f ranks i j first second sound lower higher below = record {
   first = get_or (texts_of ranks) first [];

@@ -15,7 +15,7 @@ use Rattle.plist_object.specs.References.{references_of}
 use Rattle.plist_canon.specs.Rules.{Walk, Walks, visit, end, step, MeetsInOrder, IsNumberedInPreorder, Reference, held_by, ComesTo, begins, meets, passes, IsBroken, breaks_c7, leaves_over}
 use Rattle.plist_canon.specs.Preorders.{CanFinish, numbers, IsWalking, Group, groups_of, references_left}
 
--- what an object holds is what was weighed
+-- the weight is that of the object's content
 pub Weighs-held : (f : List ℕ) (i : ℕ) (weight : Weight) (held : Held) → Weighs f i weight → Holds f i held → weight ≡ weight_of held
 Weighs-held f i weight held weighs holds = weighs.is ∙ ap weight_of (same_held f i weighs.held held weighs.holds holds)
 
@@ -42,7 +42,7 @@ weights-more f weights number weight weighed counted weighs i below =
           rw (get_or_push weights weight container i is) (subst (λ (k : ℕ). Weighs f k weight) (sym counted ∙ is) weighs))
     ]
 
--- the weight of one object more was pushed
+-- the weight of one more object was pushed
 pub AreWeights-more : (f : List ℕ) (weights pushed : List Weight) (number : ℕ) (weight : Weight) → pushed ≡ weights ++ (weight ∷ []) → AreWeights f weights → length weights ≡ number → Weighs f number weight → AreWeights f pushed
 AreWeights-more f weights pushed number weight is weighed counted weighs =
     subst (λ (ws : List Weight). AreWeights f ws) (sym is) (weights-more f weights number weight weighed counted weighs)
@@ -53,7 +53,7 @@ length-more weights pushed number weight is counted =
     let same : length pushed ≡ length (weights ++ (weight ∷ [])) = ap length is in
     omega arith
 
--- What is left of a walk to finish, as its references are visited.
+-- What a walk still has to visit, as it follows references.
 
 -- a walk from an object, taken apart
 record Entered (f : List ℕ) (i : ℕ) (entries : List ℕ) : Type 0 where
@@ -72,7 +72,7 @@ enter f i entries (visit j held rest holds walks) = record {
   joined = refl;
 }
 
--- walks from references, taken apart behind the first
+-- walks from references, taken apart after the first
 record Stepped (f : List ℕ) (i : ℕ) (refs entries : List ℕ) : Type 0 where
   first : List ℕ
   others : List ℕ
@@ -123,7 +123,7 @@ Walks-split f (i ∷ refs) others entries walks =
       joined = s.joined ∙ ap (λ es. s.first ++ es) r.joined ∙ sym (append_assoc s.first r.front r.back);
     }
 
--- nothing is left exactly where all were met
+-- nothing is left if and only if all objects were visited
 pub CanFinish-none : (f : List ℕ) (met : ℕ) → CanFinish f [] met ↔ (met ≡ (trailer_of f).count)
 CanFinish-none f met = (
   λ can. subst (λ (es : List ℕ). MeetsInOrder f met es (trailer_of f).count) (no_entry f can.entries can.walks) can.order,
@@ -155,7 +155,7 @@ next f i refs met can =
       order = subst (λ (es : List ℕ). MeetsInOrder f met es (trailer_of f).count) is can.order;
     }
 
--- the next new object: what it refers to comes next
+-- the next reference is to the next object, whose references then come first
 pub CanFinish-new : (f : List ℕ) (refs : List ℕ) (met : ℕ) (held : Held) → Holds f met held → CanFinish f (met ∷ refs) met ↔ CanFinish f (references_of held ++ refs) (suc met)
 CanFinish-new f refs met held holds = (
   λ can.
@@ -179,7 +179,7 @@ CanFinish-new f refs met held holds = (
       },
 )
 
--- a scalar that was met
+-- the next reference is to a visited scalar
 pub CanFinish-known : (f : List ℕ) (i : ℕ) (refs : List ℕ) (met : ℕ) → i < met → HoldsScalar f i → CanFinish f (i ∷ refs) met ↔ CanFinish f refs met
 CanFinish-known f i refs met below scalar = (
   λ can.
@@ -243,7 +243,7 @@ numbers-held : (holder : ℕ) (refs : List ℕ) (rest : List Reference) → numb
 numbers-held holder [] rest = refl
 numbers-held holder (i ∷ refs) rest = ap (λ xs. i ∷ xs) (numbers-held holder refs rest)
 
--- the references of an object that is entered come before those that are left
+-- the references of an object that is entered precede those that are left
 references-entered : (number levels : ℕ) (held : Held) (outer : List Group) → references_left (groups_of number levels held ++ outer) ≡ held_by number (references_of held) ++ references_left outer
 references-entered number levels (holds_scalar s) outer = refl
 references-entered number levels (holds_list refs) outer = refl
@@ -264,7 +264,7 @@ IsWalking-start f levels held holds =
 
 module _ (f : List ℕ) (met : ℕ) where
   module _ (holder i : ℕ) (left : List Reference) (walking : IsWalking f met (reference holder i ∷ left)) where
-    -- a scalar that was met before
+    -- a reference to a visited scalar
     pub IsWalking-passed : i < met → HoldsScalar f i → IsWalking f met left
     IsWalking-passed below scalar =
         let finishes = walking.finishes in
@@ -274,13 +274,13 @@ module _ (f : List ℕ) (met : ℕ) where
           finishes = (λ numbered. known.0 (finishes.0 numbered), λ can. finishes.1 (known.1 can));
         }
 
-    -- any other reference but the next object
+    -- any other reference, except to the next object
     pub IsWalking-other : ¬ ((i ≡ met) × (met < (trailer_of f).count)) → (i < met → ¬ HoldsScalar f i) → IsBroken f 7 holder
     IsWalking-other other known =
         breaks_c7 holder (λ numbered. CanFinish-other f i (numbers left) met other known (walking.finishes.0 numbered))
         (record { met = met; number = i; left = left; comes = walking.comes; other = other; known = known })
 
-  -- the next object
+  -- a reference to the next object
   pub IsWalking-met : (holder : ℕ) (outer : List Group) (levels : ℕ) (held : Held) → IsWalking f met (reference holder met ∷ references_left outer) → Holds f met held → IsWalking f (suc met) (references_left (groups_of met levels held ++ outer))
   IsWalking-met holder outer levels held walking holds =
       let left = references_left outer in

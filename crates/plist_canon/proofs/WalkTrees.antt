@@ -21,8 +21,8 @@ use Rattle.plist_object.proofs.HeldRanges.{Holds-held}
 use Rattle.plist_canon.proofs.Judges.{texts_of}
 use Rattle.plist_canon.proofs.Entries.{AreNumbers, PlacesHold, AreNumbers-front, AreNumbers-rest, AreNumbers-own, PlacesHold-append, PlacesHold-at, pairs_of, put_texts, key_texts-pairs_of, preorder-pairs_of, places-pairs_of, AreItems-put_texts, ArePairs-pairs_of}
 
--- The walk from the object i meets these entries, and they are those of this value: with the
--- entries as numbers, each place's object holds what stands there.
+-- The walk from object i visits these entries, and they are those of this value: with the entries
+-- as numbers, the object of each place contains what is there.
 pub record WalkedTree (f : List ℕ) (i : ℕ) (entries : List ℕ) : Type 0 where
   pub value : Plist
   pub valid : IsPlist value
@@ -31,13 +31,13 @@ pub record WalkedTree (f : List ℕ) (i : ℕ) (entries : List ℕ) : Type 0 whe
   pub reads : (number : ℕ → ℕ) (k : ℕ) → AreNumbers number k entries → PlacesHold f number k (preorder value)
   pub same_scalar : (s : Scalar) → Holds f i (holds_scalar s) → value ≡ scalar s
 
--- where a reference names a scalar, the item in its place is that scalar
+-- if a reference is to a scalar, the item in its place is that scalar
 abbrev SameScalars : List ℕ → List ℕ → Items → Type 0
 SameScalars f refs no_items = refs ≡ []
 SameScalars f [] (item v vs) = ⊥
 SameScalars f (i ∷ refs) (item v vs) = ((s : Scalar) → Holds f i (holds_scalar s) → v ≡ scalar s) × SameScalars f refs vs
 
--- so it is of the walks from references in turn
+-- like `WalkedTree`, for the walks from several references
 record WalkedItems (f refs entries : List ℕ) : Type 0 where
   items : Items
   valid : AreItems items
@@ -103,7 +103,7 @@ list-walked f i refs entries holds xs = record {
   same_scalar = λ t other. let same = same_held f i (holds_list refs) (holds_scalar t) holds other in cc;
 }
 
--- references to texts name them in turn
+-- as many strings as references
 length-HoldTexts : (f keys : List ℕ) (texts : List (List ℕ)) → HoldTexts f keys texts → length texts ≡ length keys
 length-HoldTexts f keys [] h = ap length (sym h)
 length-HoldTexts f [] (units ∷ texts) h = absurd h
@@ -114,7 +114,7 @@ length-SameScalars f refs no_items h = ap length (sym h)
 length-SameScalars f [] (item v vs) h = absurd h
 length-SameScalars f (i ∷ refs) (item v vs) h = ap suc (length-SameScalars f refs vs h.1)
 
--- the items of references to keys are their texts
+-- the items of references to keys are their strings
 texts-first : (f keys values : List ℕ) (texts : List (List ℕ)) (vs : Items) → HoldTexts f keys texts → SameScalars f (keys ++ values) vs → (others : Items) × (vs ≡ put_texts texts others) × SameScalars f values others
 texts-first f [] values [] vs names same = (vs, refl, same)
 texts-first f [] values (units ∷ texts) vs names same = absurd names
@@ -124,7 +124,7 @@ texts-first f (i ∷ keys) values (units ∷ texts) (item v vs) names same =
     let rest = texts-first f keys values texts vs names.1 same.1 in
     (rest.0, ap₂ item (same.0 (text units) names.0) rest.1, rest.2)
 
--- two lists beside each other are the first of those with its length, and the second
+-- equal concatenations with equally long first lists have equal parts
 append-parts : (xs ys vs ws : List ℕ) → length xs ≡ length vs → xs ++ ys ≡ vs ++ ws → (xs ≡ vs) × (ys ≡ ws)
 append-parts xs ys vs ws long same = (
   sym (take_at xs ys (length vs) long) ∙ ap (take (length vs)) same ∙ take_at vs ws (length vs) refl,
@@ -186,13 +186,13 @@ module _ (f : List ℕ) (i : ℕ) (keys values entries : List ℕ) (octets : Are
     same_scalar = λ t other. let same = same_held f i (holds_table keys values) (holds_scalar t) holds other in cc;
   }
 
--- with the entries of the walk as numbers, the object of each place holds what stands there
+-- with the entries of the walk as numbers, the object of each place contains what is there
 pub held-walked : (f : List ℕ) (i : ℕ) (entries : List ℕ) (tree : WalkedTree f i entries) (k : ℕ) (v : Plist) → value_at (preorder tree.value) k ≡ v → k < length (preorder tree.value) → Holds f (get_or entries k 0) (held_at (λ j. get_or entries j 0) k v)
 held-walked f i entries tree k v at below =
     let number : ℕ → ℕ = λ j. get_or entries j 0 in
     rw at at (PlacesHold-at f number 0 k k (preorder tree.value) (tree.reads number 0 (AreNumbers-own entries)) below (omega arith))
 
--- so the object spells the value
+-- the object encodes the value of its walk
 pub Spells-walked : (f : List ℕ) (i : ℕ) (entries : List ℕ) (tree : WalkedTree f i entries) → Spells f i tree.value
 Spells-walked f i entries tree =
     let number : ℕ → ℕ = λ k. get_or entries k 0 in
@@ -216,7 +216,7 @@ module _ (f : List ℕ) (octets : AreOctets f) (read : (i : ℕ) → i < (traile
     items_of_walks _ _ (step i refs entries others walk walks) =
         item-walked f i refs entries others (tree_of_walk i entries walk) (items_of_walks refs others walks)
 
-  -- the object from which a walk begins spells a value
+  -- the object where a walk begins encodes a value
   pub value_of_walk : (i : ℕ) (entries : List ℕ) → Walk f i entries → (v : Plist) × IsPlist v × Spells f i v
   value_of_walk i entries walk =
       let tree = tree_of_walk i entries walk in

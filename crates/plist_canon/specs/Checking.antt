@@ -1,4 +1,4 @@
--- What a check of a file answers, and what its parts say.
+-- The result of a check, and of its parts.
 use Rattle.std.specs.Prelude.{◌≡◌, ℕ, zero, suc, ◌<◌, nat_lt, if◌then◌else◌, length, slice_index, EachIndex, List, Ok, ⊤}
 use Rattle.std.specs.List.{AllByRecursion}
 use Rattle.std.specs.declared.cmp.Ordering.TheVariants.{Less}
@@ -18,50 +18,50 @@ use Rattle.plist_canon.specs.declared.checking.Verdict.TheVariants as verdict
 use Rattle.plist_canon.specs.declared.judging.Flaw.{Flaw}
 use Rattle.plist_canon.specs.declared.judging.Flaw.TheVariants as flaw
 
--- a fault but want of memory is the layout's
+-- every error but out of memory is one of the layout
 abbrev pub IsCheckFault : List ℕ → CheckFault → Type 0
 IsCheckFault f fault.TooShort = IsLayoutFault layout.TooShort f
 IsCheckFault f fault.BadHeader = IsLayoutFault layout.BadHeader f
 IsCheckFault f fault.BadTrailer = IsLayoutFault layout.BadTrailer f
 IsCheckFault f fault.OutOfMemory = ⊤
 
--- the rules hold, or the rule that is told is broken at the object
+-- the rules hold, or the reported rule is broken at the object
 abbrev pub IsVerdict : List ℕ → Verdict → Type 0
 IsVerdict f verdict.Canonical = FollowsRules f
 IsVerdict f (verdict.Broken rule object) = IsBroken f rule object
 
--- a rule is broken, or memory is wanted
+-- a rule is broken, or memory ran out
 abbrev pub IsFlaw : List ℕ → Flaw → Type 0
 IsFlaw f (flaw.Broken rule object) = IsBroken f rule object
 IsFlaw f flaw.NoMemory = ⊤
 
--- Of two flaws the one that is answered: want of memory, or else the one at the earlier object, and
--- of two at one object the first.
+-- The flaw to report of two: out of memory if either is, else the one at the earlier object, and
+-- the first of two at the same object.
 abbrev pub earlier : Flaw → Flaw → Flaw
 earlier flaw.NoMemory other = flaw.NoMemory
 earlier (flaw.Broken rule object) flaw.NoMemory = flaw.NoMemory
 earlier (flaw.Broken rule object) (flaw.Broken other first) =
     if nat_lt first object then flaw.Broken other first else flaw.Broken rule object
 
--- each object is well read
+-- each object can be decoded, with valid references
 abbrev pub AllRead : List ℕ → Type 0
 AllRead f = (i : ℕ) → i < (trailer_of f).count → IsWellRead f i
 
--- the keys of each table ascend
+-- the keys of each dictionary ascend
 abbrev pub AllAscend : List ℕ → Type 0
 AllAscend f = (i : ℕ) → i < (trailer_of f).count → HasAscendingKeys f i
 
--- the references of what is held are numbers of objects, and those to keys name texts
+-- the references are numbers of objects, and those to keys are to strings
 pub record RefersWell (f : List ℕ) (held : Held) : Type 0 where
   pub numbers : AllByRecursion (λ reference. reference < (trailer_of f).count) (references_of held)
   pub texts : AllByRecursion (HoldsText f) (keys_of held)
 
--- each reference is the number of an object that holds a text
+-- each reference is the number of an object that is a string
 pub record NameTexts (f keys : List ℕ) : Type 0 where
   pub numbers : EachIndex keys (λ k. slice_index keys k < (trailer_of f).count)
   pub texts : EachIndex keys (λ k. HoldsText f (slice_index keys k))
 
--- the objects hold texts, the first below the second
+-- both objects are strings, the first below the second
 pub record AreInOrder (f : List ℕ) (i j : ℕ) : Type 0 where
   pub first : List ℕ
   pub second : List ℕ
@@ -69,23 +69,23 @@ pub record AreInOrder (f : List ℕ) (i j : ℕ) : Type 0 where
   pub holds_second : Holds f j (holds_scalar (text second))
   pub below : slice_cmp nat_cmp first second ≡ Less
 
--- each reference names a text that is below the next
+-- each reference is to a string that is below the next
 abbrev pub AscendInTurn : List ℕ → List ℕ → Type 0
 AscendInTurn f keys = (k : ℕ) → suc k < length keys → AreInOrder f (slice_index keys k) (slice_index keys (suc k))
 
--- where the object before i ends, or the header
+-- the end of the object before i, or of the header
 abbrev pub IsEndBefore : List ℕ → ℕ → ℕ → Type 0
 IsEndBefore f zero place = place ≡ 8
 IsEndBefore f (suc before) place = (start : ℕ) × (span_of f before ≡ Ok (start, place))
 
--- the object i begins where the one before it ends, or the header
+-- object i begins where its predecessor ends, or the header
 pub record Follows (f : List ℕ) (i : ℕ) : Type 0 where
   pub place : ℕ
   pub end : ℕ
   pub before : IsEndBefore f i place
   pub span : span_of f i ≡ Ok (place, end)
 
--- the rules hold that are judged of one object alone, but for the place of the offset table
+-- the rules about one object alone hold, except for the place of the offset table
 pub record IsJudged (f : List ℕ) (i : ℕ) : Type 0 where
   pub read : IsWellRead f i
   pub follows : Follows f i

@@ -1,4 +1,4 @@
--- Which refusal each fault of a check is, its number, and what is printed of it.
+-- The refusal for each error of a check, its number, and its printed form.
 use Rattle.std.specs.Prelude.{ℕ, List}
 use Rattle.plist_value.specs.Refusals.{number_of, reports, report_text}
 use Rattle.plist_value.specs.declared.refusals.Place.TheVariants.{Nowhere}
@@ -9,23 +9,22 @@ use Rattle.plist_object.specs.declared.layout.LayoutFault.TheVariants as layout
 use Rattle.plist_canon.specs.declared.checking.CheckFault.{CheckFault}
 use Rattle.plist_canon.specs.declared.checking.CheckFault.TheVariants.{TooShort, BadHeader, BadTrailer, OutOfMemory}
 
--- the fault of a layout, as one of the check
+-- the error of a layout as one of the check
 abbrev pub of_layout : LayoutFault → CheckFault
 of_layout layout.TooShort = TooShort
 of_layout layout.BadHeader = BadHeader
 of_layout layout.BadTrailer = BadTrailer
 
--- the refusal; it stands nowhere
+-- the refusal, which has no position
 abbrev pub check_report : CheckFault → Report
 check_report TooShort = reports refusal.TooShort Nowhere
 check_report BadHeader = reports refusal.BadHeader Nowhere
 check_report BadTrailer = reports refusal.BadTrailer Nowhere
 check_report OutOfMemory = reports refusal.OutOfMemory Nowhere
 
--- the number of the refusal
 abbrev pub check_code : CheckFault → ℕ
 check_code fault = number_of (check_report fault).0
 
--- what is printed: the number and the name
+-- the printed form: number and name
 abbrev pub check_text : CheckFault → List ℕ
 check_text fault = report_text (check_report fault)

@@ -1,4 +1,4 @@
--- The scalars that were met, of objects that may hold one which another object holds.
+-- The scalars seen so far, among the objects that may repeat another.
 use Rattle.std.specs.Prelude.{◌≡◌, ◌↔◌, Bool, true, ℕ, ◌<◌, List}
 use Rattle.std.specs.Option.{is_some}
 use Rattle.plist_value.specs.Plist.{Scalar}
@@ -9,15 +9,15 @@ use Rattle.plist_engine.specs.Sieve.{HoldsIt, MayRepeat}
 use Rattle.plist_engine.specs.declared.scalars.Scalars.{Scalars}
 use Rattle.plist_engine.specs.declared.sieve.Sieve.{Sieve}
 
--- whether an equal scalar was met
+-- whether an equal scalar was seen
 abbrev pub was_met : {S H : Type 0} → Scalars S H → ScalarRef → Bool
 was_met met r = is_some (number_stored met r)
 
--- an object before i that may repeat another holds the scalar
+-- an object before i that may repeat another contains the scalar
 abbrev pub IsHeldBefore : Sieve → List ℕ → ℕ → Scalar → Type 0
 IsHeldBefore sieve f i s = (earlier : ℕ) × ((earlier < i) × (MayRepeat sieve earlier × HoldsIt f earlier s))
 
--- the scalars were met that such objects hold
+-- the scalars of such objects, and no others, were seen
 pub record HasMet {S H : Type 0} (sieve : Sieve) (f : List ℕ) (i : ℕ) (met : Scalars S H) : Type 0 where
   pub numbered : AreNumbered met
   pub each : (r : ScalarRef) → (was_met met r ≡ true) ↔ IsHeldBefore sieve f i (content_of r)

@@ -10,7 +10,7 @@ use Rattle.plist_canon.specs.declared.weights.Weight.{Weight}
 use Rattle.plist_canon.specs.Weights.{payload_of_weight}
 use Rattle.plist_canon.specs.Preorders.{Group}
 
--- the values that the references of a group name in turn
+-- the values that the references of a group refer to
 pub record Named (f : List ℕ) (group : Group) : Type 0 where
   pub items : Items
   pub valid : AreItems items
@@ -28,13 +28,13 @@ abbrev pub payload_named : (f : List ℕ) (groups : List Group) → AllNamed f g
 payload_named f [] named = 0
 payload_named f (group ∷ groups) named = payload_of_items named.0.items + payload_named f groups named.1
 
--- none of them is deeper than its group allows
+-- no value is deeper than its group allows
 abbrev pub AreWithin : (f : List ℕ) (groups : List Group) → AllNamed f groups → Type 0
 AreWithin f [] named = ⊤
 AreWithin f (group ∷ groups) named = (depth_of_items named.0.items ≤ group.levels) × AreWithin f groups named.1
 
--- All of the value was spent but what the groups name, and it is within the limits as to depth
--- exactly if these are.
+-- All of the value but what the groups refer to is spent. The value is within the limit of depth if
+-- and only if the groups are.
 pub record IsSpent (f : List ℕ) (groups : List Group) (left : Budget) (v : Plist) : Type 0 where
   pub named : AllNamed f groups
   pub nodes_left : left.nodes + nodes v ≡ MAX_NODES + nodes_named f groups named
@@ -43,12 +43,12 @@ pub record IsSpent (f : List ℕ) (groups : List Group) (left : Budget) (v : Pli
   pub within : depth v ≤ MAX_DEPTH → AreWithin f groups named
   pub deep : AreWithin f groups named → depth v ≤ MAX_DEPTH
 
--- what is left of the limits before the groups are walked; none where a limit is passed
+-- what is left of the limits before the groups are walked, none if a limit is exceeded
 abbrev pub Owes : List ℕ → List Group → Option Budget → Type 0
 Owes f groups (Some left) = (v : Plist) → IsPlist v → Spells f 0 v → IsSpent f groups left v
 Owes f groups None = (v : Plist) → IsPlist v → Spells f 0 v → ¬ Fits v
 
--- what an object of this weight takes, where so many levels are allowed
+-- what an object of this weight takes if `levels` are allowed
 abbrev pub Pays : ℕ → Weight → Option Budget → Option Budget → Type 0
 Pays levels weight None after = after ≡ None
 Pays levels weight (Some before) (Some after) = (1 ≤ levels) × Spends before 1 (payload_of_weight weight) after

@@ -1,4 +1,4 @@
--- What is left to visit in the walk from object 0.
+-- What the walk from object 0 still has to visit.
 use Rattle.std.specs.Prelude.{◌≡◌, ◌↔◌, ℕ, ◌<◌, false, List, [], ◌∷◌, ◌++◌, length, drop, slice_index_or}
 use Rattle.plist_object.specs.Layout.{trailer_of}
 use Rattle.plist_object.specs.Objects.{Held, holds_scalar, holds_list, holds_table}
@@ -8,24 +8,23 @@ use Rattle.plist_canon.specs.Weights.{container, is_scalar_weight}
 use Rattle.plist_canon.specs.declared.weights.Weight.{Weight}
 use Rattle.plist_canon.specs.declared.preorder.Frame.{Frame}
 
--- the references can be walked so that, where the objects below `met` were met, all are met in
--- order
+-- the references can be walked so that the objects from `met` on are visited in order, if those
+-- below were
 pub record CanFinish (f : List ℕ) (refs : List ℕ) (met : ℕ) : Type 0 where
   pub entries : List ℕ
   pub walks : Walks f refs entries
   pub order : MeetsInOrder f met entries (trailer_of f).count
 
--- the numbers of references
 abbrev pub numbers : List Reference → List ℕ
 numbers [] = []
 numbers (reference ∷ references) = reference.number ∷ numbers references
 
--- The objects below `met` were met in order, and the walk goes on along these references.
+-- The objects below `met` were visited in order, and the walk continues with these references.
 pub record IsWalking (f : List ℕ) (met : ℕ) (left : List Reference) : Type 0 where
   pub comes : ComesTo f met left
   pub finishes : IsNumberedInPreorder f ↔ CanFinish f (numbers left) met
 
--- references of one container in turn, and how many levels the values may have that they name
+-- references of one container, and the depth allowed for the values that they refer to
 pub record Group : Type 0 where
   pub owner : ℕ
   pub levels : ℕ
@@ -34,27 +33,26 @@ pub record Group : Type 0 where
 abbrev pub grouped : ℕ → ℕ → List ℕ → Group
 grouped owner levels refs = record { owner = owner; levels = levels; refs = refs }
 
--- the references of groups, each with its holder
+-- the references of the groups, each with its container
 abbrev pub references_left : List Group → List Reference
 references_left [] = []
 references_left (group ∷ groups) = held_by group.owner group.refs ++ references_left groups
 
--- the references of a frame that are still to be visited
+-- the references of a frame that are not visited yet
 abbrev pub frame_group : Frame → Group
 frame_group frame = grouped frame.owner frame.levels (drop frame.done (numbers_of frame.refs))
 
--- those of a path, the last ones first
+-- the references of a path that are not visited yet, those of the last frame first
 abbrev pub path_groups : List Frame → List Group
 path_groups [] = []
 path_groups (frame ∷ frames) = path_groups frames ++ (frame_group frame ∷ [])
 
--- the references of what an object holds, to values of so many levels
+-- the references of an object, with the depth allowed for their values
 abbrev pub groups_of : ℕ → ℕ → Held → List Group
 groups_of owner levels (holds_scalar s) = []
 groups_of owner levels (holds_list refs) = grouped owner levels refs ∷ []
 groups_of owner levels (holds_table keys values) = grouped owner levels keys ∷ grouped owner levels values ∷ []
 
--- the number is not that of a scalar which was met, where these are the weights of the objects
--- that were
+-- the number is not that of a visited scalar, if these are the weights of the visited objects
 abbrev pub IsNoneMet : List Weight → ℕ → Type 0
 IsNoneMet weights i = i < length weights → is_scalar_weight (slice_index_or weights i container) ≡ false

@@ -1,4 +1,5 @@
--- The eight rules of a canonical file (our profile). Each speaks of a laid file alone.
+-- The eight rules of a canonical file (this project's profile). Each is stated in terms of a file
+-- that has the layout.
 use Rattle.std.specs.Prelude.{◌≡◌, ◌≢◌, ◌⊎◌, ℕ, suc, ◌<◌, List, [], ◌∷◌, ◌++◌, replicate, Ok, IsOk}
 use Rattle.std.specs.List.{AllByRecursion}
 use Rattle.std.specs.List.Sorted.{IsStrictlySortedBy}
@@ -14,32 +15,33 @@ use Rattle.plist_object.specs.Spelling.{least_width}
 use Rattle.plist_object.specs.References.{references_of}
 use Rattle.plist_object.specs.Shortest.{IsShortest}
 
--- the references of a table to its keys
+-- the references of a dictionary to its keys
 abbrev pub keys_of : Held → List ℕ
 keys_of (holds_scalar s) = []
 keys_of (holds_list refs) = []
 keys_of (holds_table keys values) = keys
 
--- the references name these texts in turn
+-- the references are to these strings, in this order
 abbrev pub HoldTexts : List ℕ → List ℕ → List (List ℕ) → Type 0
 HoldTexts f refs [] = refs ≡ []
 HoldTexts f [] (units ∷ texts) = ⊥
 HoldTexts f (i ∷ refs) (units ∷ texts) = Holds f i (holds_scalar (text units)) × HoldTexts f refs texts
 
--- The object i reads, each of its references is the number of an object, and those to keys name
--- texts.
+-- Object i can be decoded, each of its references is the number of an object, and those to keys are
+-- to strings.
 pub record IsWellRead (f : List ℕ) (i : ℕ) : Type 0 where
   pub held : Held
   pub holds : Holds f i held
   pub numbers : AllByRecursion (λ reference. reference < (trailer_of f).count) (references_of held)
   pub texts : AllByRecursion (HoldsText f) (keys_of held)
 
--- C0: every object is well read, and the value that object 0 spells is within the limits.
+-- C0: every object can be decoded, with valid references, and the value of object 0 is within the
+-- limits.
 pub record ReadsWithinLimits (f : List ℕ) : Type 0 where
   pub read : (i : ℕ) → i < (trailer_of f).count → IsWellRead f i
   pub fits : (v : Plist) → IsPlist v → Spells f 0 v → Fits v
 
--- C1: the first six octets of the trailer are zero, and the top object is 0.
+-- C1: the first six bytes of the trailer are zero, and the top object is 0.
 pub record HasPlainTrailer (f : List ℕ) : Type 0 where
   pub slack : slack_of f ≡ replicate 6 0
   pub top : (trailer_of f).top ≡ 0
@@ -49,30 +51,30 @@ pub record HasLeastWidths (f : List ℕ) : Type 0 where
   pub offset : (trailer_of f).offset_width ≡ least_width (trailer_of f).table
   pub reference : (trailer_of f).reference_width ≡ least_width (trailer_of f).count
 
--- C3 at i: the first object begins behind the header, each other one where the one before it ends,
--- and the last one ends where the offset table begins. The rule holds at i where an object that it
--- speaks of does not read.
+-- C3 at i: the first object begins after the header, each other one where its predecessor ends, and
+-- the last one ends where the offset table begins. The rule says nothing of objects that cannot be
+-- decoded.
 pub record Adjoins (f : List ℕ) (i : ℕ) : Type 0 where
   pub first : (start end : ℕ) → i ≡ 0 → span_of f i ≡ Ok (start, end) → start ≡ 8
   pub next : (before start middle begin end : ℕ) → i ≡ suc before → span_of f before ≡ Ok (start, middle) → span_of f i ≡ Ok (begin, end) → begin ≡ middle
   pub last : (start end : ℕ) → suc i ≡ (trailer_of f).count → span_of f i ≡ Ok (start, end) → end ≡ (trailer_of f).table
 
--- C4 at i: where the object i reads, its octets are the canonical spelling of what it holds.
+-- C4 at i: if object i can be decoded, its bytes are its canonical encoding.
 abbrev pub IsSpelledCanonically : List ℕ → ℕ → Type 0
 IsSpelledCanonically f i = IsOk (object_at f i) → IsShortest f i
 
--- C5 at i: where the object i is a table and its keys are texts, each key is below the next, unit
+-- C5 at i: if object i is a dictionary and its keys are strings, each key is below the next, unit
 -- by unit.
 abbrev pub HasAscendingKeys : List ℕ → ℕ → Type 0
 HasAscendingKeys f i =
     (keys values : List ℕ) (texts : List (List ℕ)) → what_holds f i ≡ Ok (holds_table keys values) → HoldTexts f keys texts → IsStrictlySortedBy (slice_cmp nat_cmp) texts
 
--- C6 at i: no earlier object holds the scalar that the object i holds.
+-- C6 at i: if object i is a scalar, no earlier object is an equal one.
 abbrev pub IsNoRepeat : List ℕ → ℕ → Type 0
 IsNoRepeat f i =
     (s : Scalar) → what_holds f i ≡ Ok (holds_scalar s) → (earlier : ℕ) → earlier < i → what_holds f earlier ≢ Ok (holds_scalar s)
 
--- The walk from the object i in preorder: i itself, and then the walks from its references in turn.
+-- The walk from object i in preorder: i itself, followed by the walks from its references in order.
 mutual
   pub data Walk (f : List ℕ) : ℕ → List ℕ → Type 0 where
     visit : (i : ℕ) (held : Held) (entries : List ℕ) → Holds f i held → Walks f (references_of held) entries → Walk f i (i ∷ entries)
@@ -81,21 +83,21 @@ mutual
     end : Walks f [] []
     step : (i : ℕ) (refs entries others : List ℕ) → Walk f i entries → Walks f refs others → Walks f (i ∷ refs) (entries ++ others)
 
--- Where the objects below `met` were met and no other, each entry is the next number not yet met,
--- or the number of a scalar already met; then the objects below `after` were met.
+-- Each entry is the next number not yet visited, or the number of a scalar already visited. At
+-- first exactly the objects below `met` are visited, in the end those below `after`.
 abbrev pub MeetsInOrder : List ℕ → ℕ → List ℕ → ℕ → Type 0
 MeetsInOrder f met [] after = met ≡ after
 MeetsInOrder f met (entry ∷ entries) after =
     ((entry ≡ met) × MeetsInOrder f (suc met) entries after) ⊎ ((entry < met) × HoldsScalar f entry × MeetsInOrder f met entries after)
 
--- C7: the walk from object 0 meets all objects in the order of their numbers, and only scalars
+-- C7: the walk from object 0 visits all objects in the order of their numbers, and only scalars
 -- again.
 pub record IsNumberedInPreorder (f : List ℕ) : Type 0 where
   pub entries : List ℕ
   pub walk : Walk f 0 entries
   pub order : MeetsInOrder f 0 entries (trailer_of f).count
 
--- all eight
+-- all eight rules
 pub record FollowsRules (f : List ℕ) : Type 0 where
   pub reads_within_limits : ReadsWithinLimits f
   pub plain_trailer : HasPlainTrailer f
@@ -106,7 +108,7 @@ pub record FollowsRules (f : List ℕ) : Type 0 where
   pub no_repeat : (i : ℕ) → i < (trailer_of f).count → IsNoRepeat f i
   pub numbered_in_preorder : IsNumberedInPreorder f
 
--- A reference on the way of the walk, with the object that holds it.
+-- A reference that the walk has still to follow, with the object that holds it.
 pub record Reference : Type 0 where
   pub holder : ℕ
   pub number : ℕ
@@ -116,15 +118,15 @@ abbrev pub held_by : ℕ → List ℕ → List Reference
 held_by holder [] = []
 held_by holder (i ∷ refs) = record { holder = holder; number = i } ∷ held_by holder refs
 
--- The walk from object 0 in preorder, as long as each reference is the next number not yet met, or
--- the number of a scalar already met: it comes to where the objects below `met` were met and no
--- other, and these references are left, the next one first.
+-- The state of the walk from object 0 in preorder, while each reference is the next number not yet
+-- visited or that of a visited scalar. Exactly the objects below `met` are visited, and these
+-- references are left, the next one first.
 pub data ComesTo (f : List ℕ) : ℕ → List Reference → Type 0 where
   begins : (held : Held) → Holds f 0 held → ComesTo f 1 (held_by 0 (references_of held))
   meets : (met holder : ℕ) (held : Held) (left : List Reference) → ComesTo f met (record { holder = holder; number = met } ∷ left) → Holds f met held → ComesTo f (suc met) (held_by met (references_of held) ++ left)
   passes : (met holder i : ℕ) (left : List Reference) → ComesTo f met (record { holder = holder; number = i } ∷ left) → i < met → HoldsScalar f i → ComesTo f met left
 
--- the walk comes to a reference that is neither, and this object holds it
+-- the walk reaches a reference that is neither, in the object `holder`
 pub record TurnsAt (f : List ℕ) (holder : ℕ) : Type 0 where
   pub met : ℕ
   pub number : ℕ
@@ -133,16 +135,16 @@ pub record TurnsAt (f : List ℕ) (holder : ℕ) : Type 0 where
   pub other : ¬ ((number ≡ met) × (met < (trailer_of f).count))
   pub known : number < met → ¬ HoldsScalar f number
 
--- the walk ends, and an object was not met
+-- the walk ends, and an object was not visited
 pub record LeavesOver (f : List ℕ) : Type 0 where
   pub met : ℕ
   pub comes : ComesTo f met []
   pub over : met < (trailer_of f).count
 
--- The rule of this number is false of the file, at this object. C0: the object is not well read; or
--- all are, and the value is not within the limits, at object 0. C1 and C2 at object 0, those from
--- C3 to C6 at the object. C7 at the object that holds the first bad reference of the walk, or at 0
--- where an object is left over.
+-- The rule with this number does not hold of the file, and is reported at this object. C0: at an
+-- object that cannot be decoded or has a bad reference; at object 0 if the value exceeds the
+-- limits. C1 and C2: at object 0. C3 to C6: at the object. C7: at the object with the first bad
+-- reference of the walk, or at 0 if an object is never visited.
 pub data IsBroken (f : List ℕ) : ℕ → ℕ → Type 0 where
   breaks_c0 : (i : ℕ) → i < (trailer_of f).count → ¬ IsWellRead f i → IsBroken f 0 i
   breaks_limits : (v : Plist) → IsPlist v → Spells f 0 v → ¬ Fits v → IsBroken f 0 0

@@ -19,68 +19,69 @@ use Rattle.plist_canon.specs.Weights.{container, weight_of, is_scalar_weight, Ar
 use Rattle.plist_canon.specs.Preorders.{IsWalking, Group, grouped, groups_of, references_left, frame_group, path_groups}
 use Rattle.plist_canon.specs.Owing.{Owes, Pays}
 
--- The objects below `met` were met, and the groups are left.
+-- The objects below `met` were visited, and the groups are left.
 pub record Stands (f : List ℕ) (met : ℕ) (left : Option Budget) (groups : List Group) : Type 0 where
   pub walking : IsWalking f met (references_left groups)
   pub owed : AreOctets f → AllAscend f → Owes f groups left
 
--- the reference is to a scalar that was met, where these are the weights of the objects that were
+-- the reference is to a visited scalar, if these are the weights of the visited objects
 pub record Passes (weights : List Weight) (levels i : ℕ) (before after : Option Budget) : Type 0 where
   pub listed : i < length weights
   pub is_scalar : is_scalar_weight (slice_index_or weights i container) ≡ true
   pub pays : Pays levels (slice_index_or weights i container) before after
 
--- from the first groups the walk comes to the others, past scalars of these weights
+-- the walk gets from the first groups to the others by skipping scalars of these weights
 abbrev pub GoesOn : List Weight → List Group → Option Budget → List Group → Option Budget → Type 0
 GoesOn weights groups before others after =
     (f : List ℕ) → AreWeights f weights → Stands f (length weights) before groups → Stands f (length weights) after others
 
--- from the first group it comes to the other, whatever is behind them
+-- the walk gets from the first group to the other, whatever follows them
 abbrev pub GroupGoesOn : List Weight → Group → Option Budget → Group → Option Budget → Type 0
 GroupGoesOn weights first before other after =
     (outer : List Group) → GoesOn weights (first ∷ outer) before (other ∷ outer) after
 
--- it comes to a reference in the frame, or past all of them
+-- the walk gets to a reference in the frame, or past all of them
 abbrev pub FrameGoesOn : List Weight → Frame → Option Budget → Option (ℕ × ℕ) → Option Budget → Type 0
 FrameGoesOn weights frame before (Some p) after =
     GroupGoesOn weights (frame_group frame) before (grouped frame.owner frame.levels (p.1 ∷ drop p.0 (numbers_of frame.refs))) after
 FrameGoesOn weights frame before None after =
     (outer : List Group) → GoesOn weights (frame_group frame ∷ outer) before outer after
 
--- it comes to this visit, or to the end of the path
+-- the walk gets to this visit, or to the end of the path
 abbrev pub PathGoesOn : List Weight → List Frame → Option Budget → Option Visit → List Frame → Option Budget → Type 0
 PathGoesOn weights old before (Some visit) new after =
     GoesOn weights (path_groups old) before (grouped visit.owner visit.levels (visit.reference ∷ []) ∷ path_groups new) after
 PathGoesOn weights old before None new after = GoesOn weights (path_groups old) before [] after
 
--- after the turns of so many objects; before the first one nothing is spent
+-- the state after visiting this number of objects; before the first one nothing is spent
 abbrev pub StandsAfter : List ℕ → ℕ → Option Budget → List Group → Type 0
 StandsAfter f zero left groups = (groups ≡ []) × Owes f (grouped 0 MAX_DEPTH (0 ∷ []) ∷ []) left
 StandsAfter f (suc before) left groups = Stands f (suc before) left groups
 
--- the object is the next to be met, where so many levels are allowed, and then the groups are left
+-- the object is visited next, with `levels` allowed, and then the groups are left
 abbrev pub Awaits : List ℕ → ℕ → ℕ → Option Budget → List Group → Type 0
 Awaits f i levels left groups =
     (held : Held) (after : Option Budget) → Holds f i held → Pays levels (weight_of held) left after → Stands f (suc i) after (groups_of i (levels - 1) held ++ groups)
 
--- it comes to the object whose turn is next, with the levels that are allowed there, or breaks rule 7
+-- the walk gets to the next object, with the levels allowed there, or breaks rule 7
 abbrev pub ComesToNext : List Weight → List Frame → Option Budget → Result ℕ ℕ → List Frame → Option Budget → Type 0
 ComesToNext weights old before (Ok levels) new after =
     (f : List ℕ) → AreWeights f weights → StandsAfter f (length weights) before (path_groups old) → Awaits f (length weights) levels after (path_groups new)
 ComesToNext weights old before (Err owner) new after =
     (f : List ℕ) → AreWeights f weights → StandsAfter f (length weights) before (path_groups old) → length weights < (trailer_of f).count → IsBroken f 7 owner
 
--- the walk met the objects below i, and no other, in their turns
+-- the walk visited the objects below i, and no others
 pub record MetInTurn (f : List ℕ) (i : ℕ) (walk : Walk) : Type 0 where
   pub counted : length walk.weights.items ≡ i
   pub weighed : AreWeights f walk.weights.items
   pub stands : StandsAfter f (length walk.weights.items) walk.left (path_groups walk.path.items)
 
--- the objects below i had their turns: the walk met them, or rule 7 is broken
+-- the objects below i were handled: the walk visited them, or rule 7 is broken
 abbrev pub Walked : List ℕ → ℕ → Walk → Type 0
 Walked f i walk = MatchOption walk.broken_at (MetInTurn f i walk) (λ holder. IsBroken f 7 holder)
 
--- all objects of a file had their turns, and are well read, and the keys of each table ascend
+-- all objects of a file were handled, can be decoded with valid references, and the keys of each
+-- dictionary ascend
 pub record WalkedAll (f : List ℕ) (walk : Walk) : Type 0 where
   pub some : 0 < (trailer_of f).count
   pub octets : AreOctets f
@@ -88,7 +89,7 @@ pub record WalkedAll (f : List ℕ) (walk : Walk) : Type 0 where
   pub ascending : AllAscend f
   pub walked : Walked f (trailer_of f).count walk
 
--- The walk meets all objects in order, and the value that object 0 spells is within the limits.
+-- The walk visits all objects in order, and the value of object 0 is within the limits.
 pub record WalksWithinLimits (f : List ℕ) : Type 0 where
   pub numbered : IsNumberedInPreorder f
   pub fits : (v : Plist) → IsPlist v → Spells f 0 v → Fits v

@@ -1,4 +1,4 @@
--- What the limits ask of an object besides its references.
+-- What an object without its references counts against the limits.
 use Rattle.std.specs.Prelude.{◌≡◌, ℕ, suc, ◌-◌, ◌<◌, min, Bool, nat_lt, List, length, slice_index_or}
 use Rattle.plist_value.specs.Limits.{payload_of_scalar}
 use Rattle.plist_object.specs.Objects.{Held, holds_scalar, holds_list, holds_table}
@@ -9,7 +9,7 @@ use Rattle.plist_canon.specs.declared.weights.TheConstants.{MOST_TOLD}
 abbrev pub container : Weight
 container = record { told = 0 }
 
--- that of a scalar: one more than its payload, which is told only so far, past the limit
+-- the weight of a scalar: 1 plus its payload, which is capped above the limit
 abbrev pub of_payload : ℕ → Weight
 of_payload n = record { told = suc (min n MOST_TOLD) }
 
@@ -21,11 +21,11 @@ weight_of (holds_table keys values) = container
 abbrev pub is_scalar_weight : Weight → Bool
 is_scalar_weight weight = nat_lt 0 weight.told
 
--- a container has no payload of its own
+-- the payload of the object, which is 0 for a container
 abbrev pub payload_of_weight : Weight → ℕ
 payload_of_weight weight = weight.told - 1
 
--- the object reads, and this is the weight of what it holds
+-- the object can be decoded, and has this weight
 pub record Weighs (f : List ℕ) (i : ℕ) (weight : Weight) : Type 0 where
   pub held : Held
   pub holds : Holds f i held

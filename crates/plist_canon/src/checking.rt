@@ -1,4 +1,4 @@
-//! Whether a file is canonical, without the value that it spells.
+//! Checks whether a file is canonical, without building its value.
 ghost use Rattle.std.specs.Prelude.{◌≡◌, ◌↔◌, IfOk, IfErr, OnOk};
 ghost use Rattle.plist_value.specs.Plist.{AreOctets};
 ghost use Rattle.plist_object.specs.Layout.{IsLaid};
@@ -16,28 +16,27 @@ use std::fmt;
 use std::hash::BuildHasher;
 use thiserror::Error;
 
-/// Why a file was not checked.
+/// The error of a check.
 #[derive(Clone, Copy, Debug, PartialEq, Eq, Error)]
 pub enum CheckFault {
-    /// 1: there are fewer than 42 octets.
+    /// 1: fewer than 42 bytes.
     TooShort,
-    /// 2: the first eight octets are not `bplist00`.
+    /// 2: the first eight bytes are not `bplist00`.
     BadHeader,
     /// 3: the trailer does not fit the file.
     BadTrailer,
-    /// 60: no memory was left.
+    /// 60: out of memory.
     OutOfMemory,
 }
 
 impl CheckFault {
-    /// The number of the refusal: 1, 2, 3 or 60.
+    /// Returns the number of the refusal: 1, 2, 3 or 60.
     pub fn code(&self) -> u8
         ensures { result ≡ check_code self.now }
     {
         self.report().0.number()
     }
 
-    // What is printed of it.
     fn report(&self) -> Report
         ensures { result ≡ check_report self.now }
     {
@@ -50,7 +49,7 @@ impl CheckFault {
     }
 }
 
-/// The number and the name of the refusal, as `1 TooShort`.
+/// Prints the number and the name of the refusal, such as `1 TooShort`.
 impl fmt::Display for CheckFault {
     ghost use Rattle.std.specs.Prelude.{Some};
     ghost use Rattle.plist_canon.specs.Codes.{check_text};
@@ -77,48 +76,49 @@ impl From<LayoutFault> for CheckFault {
     }
 }
 
-/// What a check finds of a file that has the layout.
+/// The result of checking a file that has the layout.
 #[derive(Clone, Copy, Debug, PartialEq, Eq)]
 pub enum Verdict {
     /// The file is the canonical file of a value within the limits.
     Canonical,
-    /// It is not: the rule, from 0 to 7, is broken at the object.
+    /// The file is not canonical: `object` breaks `rule`, which is from 0 to 7.
     Broken { rule: u8, object: u64 },
 }
 
-/// Whether the octets are the canonical file of a value within the limits. They are where eight
-/// rules hold, each of which speaks of the file alone (our profile):
+/// Checks whether `octets` is the canonical file of a value within the limits.
 ///
-/// - 0: each object reads, its references are numbers of objects, those to keys name texts, and the
-///   value is
-///   within the limits;
-/// - 1: the first six octets of the trailer are zero, and the top object is 0;
+/// It is if and only if eight rules hold, each stated in terms of the file alone (this project's
+/// profile):
+///
+/// - 0: every object can be decoded, its references are numbers of objects, references to keys are
+///   to strings, and the value is within the limits;
+/// - 1: the first six bytes of the trailer are zero, and the top object is 0;
 /// - 2: offsets and references have the least widths;
-/// - 3: the objects stand one behind the other, from behind the header up to the offset table;
-/// - 4: each object has its canonical spelling;
-/// - 5: the keys of each table ascend, unit by unit;
-/// - 6: no two objects hold one scalar;
-/// - 7: the walk from object 0 in preorder meets the objects in the order of their numbers, and
-///   only scalars
-///   again.
+/// - 3: the objects follow one another without gaps, from the header to the offset table;
+/// - 4: each object has its canonical encoding;
+/// - 5: the keys of each dictionary ascend, unit by unit;
+/// - 6: no two objects are equal scalars;
+/// - 7: the walk from object 0 in preorder visits the objects in the order of their numbers, and
+///   only scalars more than once.
 ///
-/// The rules are tested in this order: 1, 2, then object by object 0, 3, 4, 5 and 6, then 3 at the
-/// last object for the place of the offset table, then 7, and last 0 at object 0 for the limits.
-/// Rule 6 is broken at the later of two equal ones, and rule 7 at the container that holds the
-/// first bad reference of the walk, or at 0 where objects are left over.
+/// The rules are tested in this order: 1 and 2; object by object 0, 3, 4, 5 and 6; 3 at the last
+/// object, for the place of the offset table; 7; and last 0 at object 0, for the limits. Rule 6 is
+/// broken at the later of two equal objects. Rule 7 is broken at the container with the first bad
+/// reference of the walk, or at 0 if an object is never visited.
 ///
-/// No value is built. It is linear in the file's size, but for sorting the texts of the keys once,
-/// and takes memory for each object, for the scalars that may be met twice, for the keys and for
-/// the path of the walk. So where tables overlap and have more keys than there are octets before
-/// the offset table, or where the texts of their keys do and are together longer, the first object
-/// that does not read, or does not stand where the one before it ends, may be answered even if
-/// another rule is broken at an object before it.
+/// No value is built. Time is linear in the size of the file, except for sorting the keys once.
+/// Memory is needed for each object, for scalars that may occur twice, for keys and for the path of
+/// the walk.
+///
+/// If dictionaries overlap, they can have more keys, or keys of more units, than there are bytes
+/// before the offset table. The result may then be the first object that cannot be decoded or does
+/// not begin where its predecessor ends, even if an earlier object breaks another rule.
 ///
 /// # Errors
 ///
-/// Where the octets do not have the layout: [`CheckFault::TooShort`] (1) for fewer than 42 octets,
+/// Fails if the bytes do not have the layout: [`CheckFault::TooShort`] (1) for fewer than 42 bytes,
 /// [`CheckFault::BadHeader`] (2) for another header, [`CheckFault::BadTrailer`] (3) for a trailer
-/// that does not fit; and [`CheckFault::OutOfMemory`] (60) where there is no memory.
+/// that does not fit. Fails with [`CheckFault::OutOfMemory`] (60) if out of memory.
 pub fn check(alloc: Global, octets: &[u8]) -> Result<Verdict, CheckFault>
     ensures fault { IfErr result (IsCheckFault octets.now) }
     ensures laid { IfOk result (λ _. IsLaid octets.now) }
@@ -129,13 +129,13 @@ pub fn check(alloc: Global, octets: &[u8]) -> Result<Verdict, CheckFault>
     check_with_hasher(alloc, FixedHasher::new(), octets)
 }
 
-/// The same as [`check`], whose scalars are hashed by what the builder makes. Where somebody else
-/// picks the files, hand it a [`RandomState`](std::hash::RandomState): scalars that were picked to
-/// collide under [`FixedHasher`] cost no more than others then.
+/// Like [`check`], but hashes scalars with `hasher`. If files come from an untrusted source, pass a
+/// [`RandomState`](std::hash::RandomState), so that scalars chosen to collide under [`FixedHasher`]
+/// cost no more than others.
 ///
 /// # Errors
 ///
-/// Those of [`check`].
+/// Fails like [`check`].
 pub fn check_with_hasher<S: BuildHasher + Copy>(
     alloc: Global,
     hasher: S,
@@ -155,7 +155,7 @@ pub fn check_with_hasher<S: BuildHasher + Copy>(
     }
 }
 
-// A broken rule, if there is one.
+// Returns the first broken rule as an error.
 fn judge<'a, S: BuildHasher + Copy>(
     alloc: Global,
     hasher: S,

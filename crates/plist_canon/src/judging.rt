@@ -1,4 +1,4 @@
-//! The rules of the trailer and of each object.
+//! The rules about the trailer and about each object.
 ghost use Rattle.std.specs.Prelude.{◌≡◌, ◌↔◌, ◌<◌, ◌≤◌, ℕ, IsTrue, Ok, length};
 ghost use Rattle.std.specs.Prelude.{IfOk, IfErr, OnOk, take};
 ghost use Rattle.plist_object.specs.Layout.{trailer_of};
@@ -23,7 +23,7 @@ use plist_object::{BinFile, Object, Spanned, begins_canonically, width_of};
 use std::alloc::{AllocError, AllocFailed, Global};
 use std::hash::BuildHasher;
 
-/// A broken rule and the object at which it is, or want of memory.
+/// A broken rule and the object that breaks it, or out of memory.
 #[derive(Clone, Copy)]
 pub(crate) enum Flaw {
     Broken { rule: u8, object: u64 },
@@ -39,8 +39,7 @@ impl Flaw {
         Flaw::Broken { rule, object }
     }
 
-    // Of this and the other the one that is answered: want of memory, or else the one at an object
-    // before that of the other.
+    // Returns the flaw to report: out of memory if either is, else the one at the earlier object.
     fn or_earlier(self, other: Flaw) -> Flaw
         ensures { result ≡ earlier self other }
     {
@@ -73,7 +72,7 @@ impl<T: Drop> From<AllocFailed<T>> for Flaw {
     }
 }
 
-/// Rules 1 and 2: the trailer is plain, and its widths are the least.
+/// Validates rules 1 and 2: a plain trailer and the least widths.
 pub(crate) fn judge_trailer(file: &BinFile) -> Result<(), Flaw>
     ensures plain { OnOk result (HasPlainTrailer (octets_of file.now)) }
     ensures widths { OnOk result (HasLeastWidths (octets_of file.now)) }
@@ -102,9 +101,9 @@ fn has_least_widths(file: &BinFile) -> bool
     file.offset_width() == offset_width && file.reference_width() == reference_width
 }
 
-/// Rules 0, 3, 4, 5 and 6 of each object in turn, but for the limits; then the place of the offset
-/// table. All objects stand in these octets before the table. The walk that went along with them is
-/// answered.
+/// Validates rules 0, 3, 4, 5 and 6 for each object, except for the limits, and then the place of
+/// the offset table. `objects` are the bytes before that table. Returns the walk, which kept pace
+/// with the objects.
 pub(crate) fn judge_objects<'a, S: BuildHasher + Copy>(
     alloc: Global,
     hasher: S,
@@ -141,7 +140,7 @@ pub(crate) fn judge_objects<'a, S: BuildHasher + Copy>(
     Ok(turns.walk)
 }
 
-// The flaw, or that of rule 6 of the objects that were noted, where it is at one before.
+// Returns `flaw`, or a breach of rule 6 at an earlier object if there is one.
 fn first_flaw<S: BuildHasher + Copy>(
     alloc: Global,
     hasher: S,
@@ -160,7 +159,7 @@ fn first_flaw<S: BuildHasher + Copy>(
     }
 }
 
-// Rule 3 at the last object: the offset table stands where all objects end.
+// Validates rule 3 at the last object: the offset table begins where the objects end.
 fn judge_table(file: &BinFile, end: u64) -> Result<(), Flaw>
     requires follows { (i : ℕ) → i < (trailer_of (octets_of file.now)).count
         → Follows (octets_of file.now) i }
@@ -176,8 +175,8 @@ fn judge_table(file: &BinFile, end: u64) -> Result<(), Flaw>
     Ok(())
 }
 
-// The rules of the object but for rule 6, where it holds this and stands there, and the one before
-// it ends at the place.
+// Validates all rules but 6 for object `i`, decoded as `read`; `place` is the end of its
+// predecessor.
 fn judge_object<'a>(
     alloc: Global,
     objects: &[u8],
@@ -206,8 +205,8 @@ fn judge_object<'a>(
     Ok(())
 }
 
-/// Rules 3 and 4 of the object, where it holds this and stands there, and the one before it ends at
-/// the place.
+/// Validates rules 3 and 4 for object `i`, decoded as `read`; `place` is the end of its
+/// predecessor.
 #[inline(always)]
 pub(crate) fn judge_standing(
     objects: &[u8],
@@ -235,7 +234,7 @@ pub(crate) fn judge_standing(
     Ok(())
 }
 
-// Rule 0 of the references of an object that holds this. Whether rule 5 holds is answered.
+// Validates rule 0 for the references of object `i` and returns whether rule 5 holds.
 #[inline(always)]
 fn judge_references<'a>(
     alloc: Global,

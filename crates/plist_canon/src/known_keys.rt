@@ -1,4 +1,4 @@
-//! What is known of keys while the objects of a file are judged.
+//! What is known of keys while objects are validated.
 ghost use Rattle.std.specs.Prelude.{◌<◌, ◌↔◌, IsTrue, EachIndex, List, ℕ};
 ghost use Rattle.std.specs.Prelude.{IfOk, IfErr, OnOk, slice_index};
 ghost use Rattle.std.specs.Bool.{OnTrue};
@@ -14,18 +14,18 @@ use crate::references::keys_ascend;
 use plist_object::{BinFile, Ranks, Refs};
 use std::alloc::Global;
 
-/// The keys of the last table, if they ascend: those of the next are often the same. And the ranks
-/// of all keys, once the texts that were named are too long.
+/// The keys of the last dictionary, if they are in order, because the next one often has the same
+/// keys. Also the sort positions of all keys, once the keys that were compared are too long in all.
 #[derive(Drop)]
 pub(crate) struct KnownKeys<'a> {
     pub(crate) last: Option<Refs<'a>>,
     pub(crate) ranks: Ranks<'a>,
-    // How long texts may be still that are named, until there are ranks.
+    // What is left for comparing keys by their strings; `None` once there are sort positions.
     named: Option<Named>,
 }
 
 impl<'a> KnownKeys<'a> {
-    /// No table came yet.
+    /// Creates the state before the first dictionary.
     pub(crate) fn new(alloc: Global, file: &BinFile) -> KnownKeys<'a>
         ensures { (f : List ℕ) → AreKnown f result }
     {
@@ -36,7 +36,7 @@ impl<'a> KnownKeys<'a> {
         }
     }
 
-    /// Whether the keys are those of the last table, which ascend.
+    /// Returns whether `keys` are those of the last dictionary, which are in order.
     pub(crate) fn are_last(&self, keys: &Refs) -> bool
         ensures { OnTrue result ((f : List ℕ) → AreKnown f self.now
             → NamesInOrder f (numbers_of keys.now)) }
@@ -47,8 +47,8 @@ impl<'a> KnownKeys<'a> {
         }
     }
 
-    /// Whether the texts that a table names as keys ascend, unit by unit. All keys of the file are
-    /// ranked once the texts that were named are too long.
+    /// Returns whether the strings that `keys` refer to ascend, unit by unit. Sorts all keys of the
+    /// file once the budget for comparing strings is used up.
     pub(crate) fn ascend(
         &mut self,
         alloc: Global,

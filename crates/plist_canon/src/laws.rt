@@ -5,7 +5,7 @@ pub use plist_engine::laws::{
     canonical_is_short, canonical_spells_its_value, canonical_tells_values_apart,
 };
 
-/// Octets have the layout and follow the eight rules exactly if they are the canonical file of a
+/// Bytes have the layout and follow the eight rules if and only if they are the canonical file of a
 /// value within the limits.
 pub fn canonicity_is_local()
     ensures { CanonicityIsLocal }

@@ -1,5 +1,5 @@
-//! Whether a binary file is the one canonical file of a property list; with it, how that file is
-//! made.
+//! Checks whether a binary file is the one canonical file of a property list, and makes that file
+//! from a value.
 #![tactic(auto)]
 
 pub mod checking;

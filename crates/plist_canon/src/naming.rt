@@ -1,4 +1,4 @@
-//! Keys of tables that are compared by their texts, as long as these are not too long.
+//! Comparing keys by their strings, as long as these are short in all.
 ghost use Rattle.std.specs.Prelude.{◌<◌, ◌↔◌, IsTrue, EachIndex, IfSome};
 ghost use Rattle.std.specs.Prelude.{slice_index};
 ghost use Rattle.plist_value.specs.Plist.{text};
@@ -12,24 +12,24 @@ ghost use Rattle.plist_canon.specs.Checking.{AreInOrder, AscendInTurn};
 use plist_object::{BinFile, Refs};
 use plist_value::TextRef;
 
-/// How many units more the texts may have that tables name as keys.
+/// A budget of units for keys that are compared by their strings.
 ///
-/// As long as all together have no more units than the file has octets before the offset table, to
-/// compare them unit by unit takes no longer than to read the file, and ranks are of no use. Which
-/// keys are compared so costs time alone.
+/// While the compared keys have no more units in all than there are bytes before the offset table,
+/// comparing them costs no more than reading the file, and sort positions would not pay. The budget
+/// affects only speed.
 #[derive(Clone, Copy)]
 pub(crate) struct Named {
     left: u64,
 }
 
 impl Named {
-    /// None was named.
     pub(crate) fn new(file: &BinFile) -> Named {
         Named { left: file.table() }
     }
 
-    /// Whether the texts that a table names as keys ascend, unit by unit; all of them are named
-    /// then. `None` says nothing: it is answered at a text that is too long, or is none.
+    /// Returns whether the strings that `keys` refer to ascend, unit by unit, and takes their units
+    /// from the budget. `None` is only a hint, given if a string exceeds the budget or a key is not
+    /// a string: the caller then uses sort positions.
     pub(crate) fn ascend(&mut self, file: &BinFile, keys: &Refs) -> Option<bool>
         requires { EachIndex (numbers_of keys.now)
             (λ k. slice_index (numbers_of keys.now) k < (trailer_of (octets_of file.now)).count) }
@@ -50,7 +50,7 @@ impl Named {
         Some(ascend)
     }
 
-    // The text that the object holds, if it is not too long.
+    // Returns the string at `key` if it is within the budget.
     #[inline(always)]
     fn name<'a>(&mut self, file: &BinFile<'a>, key: u64) -> Option<TextRef<'a>>
         requires { key < (trailer_of (octets_of file.now)).count }
@@ -63,7 +63,7 @@ impl Named {
     }
 }
 
-// Whether the text that the first object holds is below the one that the second holds.
+// Returns whether the string of object `first` precedes that of object `second`.
 #[inline(always)]
 fn is_below(file: &BinFile, first: u64, lower: TextRef, second: u64, higher: TextRef) -> bool
     requires lower { Holds (octets_of file.now) first (holds_scalar (text (units_of lower))) }

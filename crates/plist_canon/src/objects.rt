@@ -1,4 +1,4 @@
-//! What objects hold.
+//! The contents of objects.
 ghost use Rattle.std.specs.Prelude.{◌<◌, IfSome, IfNone};
 ghost use Rattle.plist_value.specs.Plist.{Scalar};
 ghost use Rattle.plist_value.specs.Scalars.{content_of};
@@ -9,7 +9,7 @@ ghost use Rattle.plist_engine.specs.Sieve.{HoldsIt};
 use plist_object::{BinFile, Object};
 use plist_value::ScalarRef;
 
-/// The scalar that the object holds, if it holds one.
+/// Returns the scalar that object `n` contains, if it is a scalar.
 pub(crate) fn scalar_of<'a>(file: &BinFile<'a>, n: u64) -> Option<ScalarRef<'a>>
     requires { n < (trailer_of (octets_of file.now)).count }
     ensures some { IfSome result (λ s. HoldsIt (octets_of file.now) n (content_of s)) }

@@ -16,8 +16,9 @@ use plist_object::{Object, Refs};
 use plist_value::{Budget, MAX_DEPTH, MAX_NODES};
 use std::alloc::{AllocError, Global};
 
-// References on the path of the walk, how many levels the values may have that they name, and how
-// many of them were visited: those of a list, or those of a table to its keys or to its values.
+// The references of an array, or those of a dictionary to its keys or to its values, on the path of
+// the walk. `levels` is the depth allowed for the values that they refer to; `done` of them were
+// visited.
 #[derive(Clone, Copy)]
 struct Frame<'a> {
     owner: u64,
@@ -26,7 +27,7 @@ struct Frame<'a> {
     done: u64,
 }
 
-// A reference, how many levels the value may have that it names, and the container that holds it.
+// A reference, the depth allowed for its value, and the container that holds it.
 #[derive(Clone, Copy)]
 struct Visit {
     owner: u64,
@@ -34,21 +35,21 @@ struct Visit {
     reference: u64,
 }
 
-/// The walk in preorder from object 0, which meets the objects in the order of their numbers.
+/// The walk in preorder from object 0, which visits the objects in the order of their numbers.
 #[derive(Drop)]
 pub(crate) struct Walk<'a> {
-    // Those of the objects that had their turn.
+    // One for each object visited so far.
     weights: Vec<Weight>,
     path: Vec<Frame<'a>>,
-    // What is left of the limits: `None` once one is passed.
+    // What is left of the limits, `None` once one is exceeded.
     left: Option<Budget>,
-    // Where rule 7 is broken: the container that holds the first bad reference, or 0 where an
-    // object is left over. The walk ends there.
+    // Set once rule 7 is broken, which ends the walk: the container with the first bad reference,
+    // or 0 if an object is never visited.
     broken_at: Option<u64>,
 }
 
 impl<'a> Walk<'a> {
-    /// Before object 0, in a file of so many objects.
+    /// Creates a walk before object 0, in a file of `count` objects.
     pub(crate) fn new(alloc: Global, count: u64) -> Result<Walk<'a>, AllocError>
         ensures none { IfOk result (λ walk. length walk.weights.items ≡ 0) }
         ensures walked { IfOk result (λ walk. (f : List ℕ) → Walked f 0 walk) }
@@ -61,14 +62,14 @@ impl<'a> Walk<'a> {
         })
     }
 
-    /// How many objects had their turn.
+    /// Returns how many objects were visited.
     pub(crate) fn done(&self) -> u64
         ensures { result ≡ length self.now.weights.items }
     {
         self.weights.len() as u64
     }
 
-    /// The next object has its turn, and holds this.
+    /// Visits the next object, which contains `object`.
     #[inline(always)]
     pub(crate) fn meet(&mut self, object: &Object<'a>) -> Result<(), AllocError>
         ensures one { OnOk result
@@ -96,9 +97,9 @@ impl<'a> Walk<'a> {
         Ok(())
     }
 
-    /// Rule 7, after the turns of all objects: the walk meets them in the order of their numbers,
-    /// and only scalars again. Then rule 0 of the limits: the value that object 0 spells is within
-    /// them.
+    /// Validates rule 7 after all objects were visited: the walk visits them in the order of their
+    /// numbers, and only scalars again. Then validates rule 0 for the limits: the value of object 0
+    /// is within them.
     pub(crate) fn finish(self) -> Result<(), Flaw>
         ensures ok { OnOk result ((f : List ℕ) → WalkedAll f self.entry → WalksWithinLimits f) }
         ensures err { IfErr result (λ flaw. (f : List ℕ) → WalkedAll f self.entry → IsFlaw f flaw) }
@@ -122,8 +123,8 @@ impl<'a> Walk<'a> {
     }
 }
 
-// How many levels the value may have that the object spells whose turn is next, where the walk
-// meets it; else where rule 7 is broken.
+// Returns the depth allowed for the next object if the walk reaches it next, else the container at
+// which rule 7 is broken.
 #[inline(always)]
 fn next_levels(
     path: &mut Vec<Frame>,
@@ -138,7 +139,8 @@ fn next_levels(
     }
 }
 
-// The same where the next reference is to the object of this number: most often it is.
+// Like [`next_levels`] if the next reference is to object `number`, which is the common case.
+// Otherwise returns `None` and changes nothing.
 #[inline(always)]
 fn levels_at(path: &mut Vec<Frame>, number: u64) -> Option<u64>
     ensures some { IfSome result (λ levels. (f : List ℕ) (left : Option Budget)
@@ -154,7 +156,8 @@ fn levels_at(path: &mut Vec<Frame>, number: u64) -> Option<u64>
     Some(frame.levels)
 }
 
-// The same past references to scalars that were met, and of object 0.
+// Like [`next_levels`], but first skips references to visited scalars. Also starts the walk at
+// object 0.
 #[inline(never)]
 fn levels_behind(
     path: &mut Vec<Frame>,
@@ -175,7 +178,8 @@ fn levels_behind(
     Ok(visit.levels)
 }
 
-// What was met at so many levels has its references next, one level further down.
+// Pushes the references of an object that was visited with `levels` allowed; for them one less is
+// allowed.
 #[inline(always)]
 fn enter<'a>(
     object: &Object<'a>,
@@ -196,7 +200,7 @@ fn enter<'a>(
     }
 }
 
-// References none of which was visited, of an object that was met at so many levels.
+// Pushes references of `owner`, none of them visited yet.
 fn push_part<'a>(
     path: &mut Vec<Frame<'a>>,
     owner: u64,
@@ -215,7 +219,7 @@ fn push_part<'a>(
     Ok(())
 }
 
-// The next reference on the path but those to scalars that were met.
+// Returns the next reference on the path that is not to a visited scalar.
 #[inline(always)]
 fn next_visit(path: &mut Vec<Frame>, left: &mut Option<Budget>, weights: &[Weight]) -> Option<Visit>
     ensures goes { PathGoesOn weights.now path.old.items left.old result path.new.items left.new }
@@ -235,8 +239,7 @@ fn next_visit(path: &mut Vec<Frame>, left: &mut Option<Budget>, weights: &[Weigh
     None
 }
 
-// The first reference of the frame that is still to be visited, but those to scalars that were
-// met, and the place behind it.
+// Returns the next reference of the frame that is not to a visited scalar, and the index after it.
 #[inline(always)]
 fn first_other(frame: &Frame, left: &mut Option<Budget>, weights: &[Weight]) -> Option<(u64, u64)>
     ensures goes { FrameGoesOn weights.now frame.now left.old result left.new }
@@ -251,8 +254,8 @@ fn first_other(frame: &Frame, left: &mut Option<Budget>, weights: &[Weight]) -> 
     None
 }
 
-// Goes past a reference to a scalar that was met, and tells whether it was one. The value that it
-// names may be so many levels deep.
+// Skips a reference to a visited scalar, counts it against the limits, and returns whether it was
+// one. `levels` is the depth allowed for its value.
 #[inline(always)]
 fn pass(left: &mut Option<Budget>, weights: &[Weight], reference: u64, levels: u64) -> bool
     ensures passed { IsTrue result → Passes weights.now levels reference left.old left.new }
@@ -270,8 +273,7 @@ fn pass(left: &mut Option<Budget>, weights: &[Weight], reference: u64, levels: u
     true
 }
 
-// What is left of the limits after an object of this weight, whose value may be so many levels
-// deep.
+// Returns the budget left after an object of this size; `levels` is the depth still allowed.
 #[inline(always)]
 fn spend(left: Option<Budget>, weight: Weight, levels: u64) -> Option<Budget>
     ensures { Pays levels weight left result }

@@ -1,4 +1,4 @@
-//! The ranks of keys.
+//! The sort positions of keys.
 ghost use Rattle.std.specs.Prelude.{◌≡◌, ◌<◌, Ok, IfOk, IfErr, IfSome};
 ghost use Rattle.plist_object.specs.Layout.{trailer_of};
 ghost use Rattle.plist_object.specs.Places.{span_of};
@@ -10,7 +10,7 @@ use crate::judging::Flaw;
 use plist_object::{BinFile, Keys, Ranks};
 use std::alloc::Global;
 
-/// The ranks of the texts that tables name as keys.
+/// Sorts the strings that dictionaries use as keys and returns their sort positions.
 pub(crate) fn rank_keys<'a>(alloc: Global, file: &BinFile<'a>) -> Result<Ranks<'a>, Flaw>
     ensures ok { IfOk result (λ ranks. AreRanks (octets_of file.now) ranks) }
     ensures err { IfErr result (IsFlaw (octets_of file.now)) }
@@ -22,9 +22,9 @@ pub(crate) fn rank_keys<'a>(alloc: Global, file: &BinFile<'a>) -> Result<Ranks<'
     Ok(keys.ranks(alloc, file)?)
 }
 
-// The same where texts overlap: of the tables up to the first object that does not stand where the
-// one before it ends. If so many of their texts overlap that they cannot be sorted in time, that
-// object is answered.
+// Like [`rank_keys`], if keys overlap. Sorts only the keys of dictionaries before the first object
+// that cannot be decoded or does not begin where its predecessor ends. Fails at that object if
+// these overlap too, because sorting them could take too long.
 fn rank_placed<'a>(alloc: Global, file: &BinFile<'a>) -> Result<Ranks<'a>, Flaw>
     ensures ok { IfOk result (λ ranks. AreRanks (octets_of file.now) ranks) }
     ensures err { IfErr result (IsFlaw (octets_of file.now)) }
@@ -39,16 +39,16 @@ fn rank_placed<'a>(alloc: Global, file: &BinFile<'a>) -> Result<Ranks<'a>, Flaw>
     Ok(keys.ranks(alloc, file)?)
 }
 
-// How far the objects stand one behind the other, from the header on.
+// How many objects follow one another without gaps, from the header on.
 #[derive(Clone, Copy)]
 struct Placed {
-    // How many objects do.
     objects: u64,
-    // Why the next one does not, if there is one.
+    // The flaw of the next object, if there is one.
     flaw: Option<Flaw>,
 }
 
-// How far the objects read, and begin where the one before them ends.
+// Counts the objects that can be decoded and begin where their predecessor ends, up to the first
+// other.
 fn judge_places(file: &BinFile) -> Placed
     ensures { IfSome result.flaw (IsFlaw (octets_of file.now)) }
 {
@@ -71,8 +71,7 @@ fn judge_places(file: &BinFile) -> Placed
     }
 }
 
-// Rule 3 of any object, but for the place of the offset table: where the object ends, which has to
-// read and to begin at the place.
+// Validates that object `i` can be decoded and begins at `place`, and returns where it ends.
 fn judge_place(file: &BinFile, i: u64, place: u64) -> Result<u64, Flaw>
     requires listed { i < (trailer_of (octets_of file.now)).count }
     requires before { IsEndBefore (octets_of file.now) i place }

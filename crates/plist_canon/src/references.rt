@@ -1,4 +1,4 @@
-//! The rules of an object's references.
+//! The rules about references.
 ghost use Rattle.std.specs.Prelude.{◌<◌, ◌↔◌, IsTrue, EachIndex, slice_index};
 ghost use Rattle.std.specs.Prelude.{IfSome, IfNone, IfOk, IfErr, OnOk};
 ghost use Rattle.plist_value.specs.Plist.{text};
@@ -18,8 +18,8 @@ use plist_object::{BinFile, Object, Ranks, Refs};
 use plist_value::TextRef;
 use std::alloc::Global;
 
-/// Whether the keys of the object ascend, unit by unit, where its references are numbers of objects
-/// and those to keys name texts. What is no table has no keys, which ascend.
+/// Returns whether the keys of object `i` ascend, unit by unit, or `None` if a reference is not the
+/// number of an object or a key is not a string. An object without keys counts as ascending.
 pub(crate) fn object_keys_ascend<'a>(
     alloc: Global,
     file: &BinFile<'a>,
@@ -61,7 +61,7 @@ fn list_keys_ascend(file: &BinFile, i: u64, items: &Refs) -> Option<bool>
     }
 }
 
-// The keys of the last table are not compared again.
+// Does not compare the keys again if they are those of the last dictionary.
 fn table_keys_ascend<'a>(
     alloc: Global,
     file: &BinFile<'a>,
@@ -97,8 +97,8 @@ fn table_keys_ascend<'a>(
     Ok(Some(ascend))
 }
 
-// Whether the texts that the references name ascend, if each names one. Mostly they ascend, and
-// then each of several was seen to name a text.
+// Returns whether the strings that `keys` refer to ascend, or `None` if a key is not a string. Two
+// or more keys that ascend were seen to be strings, so the common case needs no second look.
 fn named_texts_ascend<'a>(
     alloc: Global,
     file: &BinFile<'a>,
@@ -163,7 +163,7 @@ fn names_text(file: &BinFile, ranks: &Ranks, key: u64) -> bool
     ranks.get(key).is_some() || file.text(key).is_some()
 }
 
-/// Whether the texts that the references name ascend, unit by unit.
+/// Returns whether the strings that `keys` refer to ascend, unit by unit.
 pub(crate) fn keys_ascend(file: &BinFile, ranks: &Ranks, keys: &Refs) -> bool
     requires ranks { AreRanks (octets_of file.now) ranks.now }
     requires below { EachIndex (numbers_of keys.now)
@@ -178,7 +178,7 @@ pub(crate) fn keys_ascend(file: &BinFile, ranks: &Ranks, keys: &Refs) -> bool
     true
 }
 
-// Whether the objects hold texts, the first below the second.
+// Returns whether both objects are strings, the first below the second.
 fn are_in_order(file: &BinFile, ranks: &Ranks, first: u64, second: u64) -> bool
     requires ranks { AreRanks (octets_of file.now) ranks.now }
     requires first { first < (trailer_of (octets_of file.now)).count }

@@ -1,4 +1,4 @@
-//! Rule 6: no two objects hold one scalar.
+//! Rule 6: no two objects are equal scalars.
 ghost use Rattle.std.specs.Prelude.{ℕ, ◌<◌, ◌≤◌, suc, length, IfErr, OnOk};
 ghost use Rattle.plist_object.specs.Layout.{trailer_of};
 ghost use Rattle.plist_object.specs.Views.{octets_of};
@@ -14,10 +14,10 @@ use plist_object::BinFile;
 use std::alloc::Global;
 use std::hash::BuildHasher;
 
-// The greatest number of a scalar that is met.
+// The largest number stored with a scalar. Only whether one is stored matters.
 const MOST: u64 = 4_294_967_295;
 
-/// Rule 6 of the objects that were noted. Only those that may repeat others are read again.
+/// Validates rule 6 for the recorded objects. Decodes only those again that may repeat another.
 pub(crate) fn judge_repeats<S: BuildHasher + Copy>(
     alloc: Global,
     hasher: S,
@@ -38,7 +38,7 @@ pub(crate) fn judge_repeats<S: BuildHasher + Copy>(
     Ok(())
 }
 
-// Rule 6 of one object.
+// Validates rule 6 for object `i`.
 #[inline(always)]
 fn judge_repeat<'a, S: BuildHasher + Copy>(
     file: &BinFile<'a>,

@@ -1,4 +1,4 @@
-//! The objects of a file in their turns.
+//! Visiting the objects of a file in the order of their numbers.
 ghost use Rattle.std.specs.Prelude.{◌≡◌, ◌<◌, ◌≤◌, ℕ, List, Ok, IfSome, IfNone, IfOk, OnOk};
 ghost use Rattle.std.specs.Prelude.{◌+◌, ◌↔◌, IsTrue, length, take};
 ghost use Rattle.plist_value.specs.Plist.{text};
@@ -20,17 +20,17 @@ use plist_value::{ScalarRef, TextRef};
 use std::alloc::{AllocError, Global};
 use std::hash::BuildHasher;
 
-/// What is kept of the objects that had their turn, which are the first of the file.
+/// What is kept of the objects visited so far, which are the first of the file.
 #[derive(Drop)]
 pub(crate) struct Turns<'a> {
-    // Where the last of them ends, or the header.
+    // The end of the last object visited, or of the header.
     pub(crate) end: u64,
     pub(crate) notes: Notes,
     pub(crate) walk: Walk<'a>,
 }
 
 impl<'a> Turns<'a> {
-    /// No object had its turn.
+    /// Creates the state before object 0.
     pub(crate) fn new<S: BuildHasher>(
         alloc: Global,
         hasher: &S,
@@ -46,14 +46,14 @@ impl<'a> Turns<'a> {
         })
     }
 
-    /// How many objects had their turn: the number of the next.
+    /// Returns how many objects were visited, which is the number of the next one.
     pub(crate) fn done(&self) -> u64
         ensures { result ≡ length self.now.walk.weights.items }
     {
         self.walk.done()
     }
 
-    /// The next object has its turn, which was read as this.
+    /// Visits the next object, which was decoded as `read`.
     #[inline(always)]
     pub(crate) fn take(&mut self, read: &Spanned<'a>) -> Result<(), AllocError>
         ensures one { OnOk result
@@ -70,8 +70,8 @@ impl<'a> Turns<'a> {
     }
 }
 
-/// The turns of the keys of the object, if it is a table and they are the next objects, as long as
-/// each of them holds a text above the one before and is well judged. The others have theirs later.
+/// Visits the keys of a dictionary if they directly follow it and are in order. Stops at the first
+/// key that does not or is not valid; it is visited later like any other object.
 #[inline(always)]
 pub(crate) fn take_keys<'a>(
     objects: &[u8],
@@ -108,7 +108,7 @@ pub(crate) fn take_keys<'a>(
     Ok(())
 }
 
-// The turn of the next object, if it holds a text above this one and is well judged; and the text.
+// Visits the next object and returns its string, if it is a valid string above `lower`.
 #[inline(always)]
 fn take_key<'a>(
     objects: &[u8],
@@ -152,7 +152,7 @@ fn take_key<'a>(
     Ok(Some(text))
 }
 
-// Whether the text is above the lower one, if there is one.
+// Returns whether `text` is above `lower`, if there is one.
 #[inline(always)]
 fn is_above(lower: Option<TextRef>, text: TextRef) -> bool
     ensures { IsTrue result ↔ IsAbove lower.entry text.entry }

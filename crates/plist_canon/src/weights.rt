@@ -1,4 +1,4 @@
-//! What the limits ask of an object.
+//! What an object counts against the limits.
 ghost use Rattle.std.specs.Prelude.{◌≡◌, IfSome, IfNone};
 ghost use Rattle.plist_value.specs.Budget.{Spends, IsOver};
 ghost use Rattle.plist_object.specs.Views.{held_of};
@@ -8,20 +8,21 @@ ghost use Rattle.plist_canon.specs.Weights.{is_scalar_weight, payload_of_weight}
 use plist_object::Object;
 use plist_value::{Budget, ScalarRef};
 
-// The greatest payload that is told, past the limit of `MAX_PAYLOAD`.
+// The largest payload that is kept exactly. It is above `MAX_PAYLOAD`, so larger ones need no
+// telling apart.
 const MOST_TOLD: u64 = 4_294_967_294;
 
-/// What the limits ask of an object besides its references, in four octets: there is one for each
-/// object of a file.
+/// What an object without its references counts against the limits. There is one for each object of
+/// a file, so it has only four bytes.
 #[derive(Clone, Copy)]
 pub(crate) struct Weight {
-    // 0 of a list or a table. Of a scalar one more than its payload in octets: two for each unit of
-    // a text. More than `MOST_TOLD` are told as so many.
+    // 0 for an array or dictionary. For a scalar, 1 plus its payload in bytes (2 for each unit of a
+    // string), which is capped at `MOST_TOLD`.
     told: u32,
 }
 
 impl Weight {
-    /// What is asked of the object. No text and no data is read.
+    /// Returns the weight of `object`. Needs only the length of a string or of data.
     pub(crate) fn of(object: &Object) -> Weight
         ensures { result ≡ weight_of (held_of object.now) }
     {
@@ -35,7 +36,7 @@ impl Weight {
         }
     }
 
-    // That of a scalar with so many octets of payload.
+    // Returns the weight of a scalar with `payload` bytes.
     fn of_payload(payload: u64) -> Weight
         ensures { result ≡ of_payload payload }
     {
@@ -44,7 +45,7 @@ impl Weight {
         }
     }
 
-    /// What is left of the budget after one node and its payload. A container has no payload of its
+    /// Returns the budget left after one node and its payload. A container has no payload of its
     /// own.
     pub(crate) fn spend(self, left: Budget) -> Option<Budget>
         ensures left { IfSome result (Spends left 1 (payload_of_weight self)) }
@@ -53,7 +54,7 @@ impl Weight {
         left.spend(u128::from(self.told.saturating_sub(1)))
     }
 
-    /// Whether the object holds a scalar.
+    /// Returns whether the object is a scalar.
     pub(crate) fn is_scalar(self) -> bool
         ensures { result ≡ is_scalar_weight self }
     {

@@ -1,4 +1,4 @@
-//! The canonical file of a value: it is that of a binary file into which the value is put.
+//! Makes the canonical file of a value, by way of a binary file that the value is put into.
 ghost use Rattle.std.specs.Prelude.{◌≡◌, IfOk};
 ghost use Rattle.plist_value.specs.Limits.{Fits};
 ghost use Rattle.plist_value.specs.View.{view};
@@ -15,14 +15,16 @@ use plist_value::{FixedHasher, Value};
 use std::alloc::{AllocError, Global};
 use std::hash::BuildHasher;
 
-/// The canonical file of a value that is within the limits: one file for each value, and a binary
-/// file of it (the layout of CFBinaryPList.c; which of the files it is, is our profile). It goes
-/// over the value once, which it copies into another binary file, and then over that file as
-/// [`canonical_of`](plist_engine::canonical_of) does.
+/// Returns the canonical file of a value within the limits. Each value has exactly one: a binary
+/// file (the layout of CFBinaryPList.c), chosen among the files of that value by this project's
+/// profile.
+///
+/// Copies the value into another binary file, from which
+/// [`canonical_of`](plist_engine::canonical_of) makes the canonical one.
 ///
 /// # Errors
 ///
-/// Where there is no memory for one of the two files, or for the plan of the objects.
+/// Fails if there is no memory for either file, or for the plan of the objects.
 pub fn canonical(alloc: Global, value: &Value) -> Result<Vec<u8>, AllocError>
     requires { Fits (view value.now) }
     ensures { IfOk result (λ octets. octets.items ≡ canon (view value.now)) }
@@ -30,12 +32,12 @@ pub fn canonical(alloc: Global, value: &Value) -> Result<Vec<u8>, AllocError>
     canonical_with_hasher(alloc, FixedHasher::new(), value)
 }
 
-/// The same as [`canonical`], whose scalars are hashed by what the builder makes, as
-/// [`write_canonical_with_hasher`] says.
+/// Like [`canonical`], but hashes scalars with `hasher`, as explained at
+/// [`write_canonical_with_hasher`].
 ///
 /// # Errors
 ///
-/// Those of [`canonical`].
+/// Fails like [`canonical`].
 pub fn canonical_with_hasher<S: BuildHasher + Copy>(
     alloc: Global,
     hasher: S,
@@ -51,15 +53,15 @@ pub fn canonical_with_hasher<S: BuildHasher + Copy>(
     canonical_of(alloc, hasher, &file, None)
 }
 
-/// Sends the canonical file of a value that is within the limits, object after object, and answers
-/// how many octets it has. The value is copied into a binary file, but its canonical file is never
-/// in memory as a whole: no piece is longer than the longest object, or than 4,096 octets.
+/// Sends the canonical file of a value within the limits, object by object, and returns its length
+/// in bytes. The value is copied into a binary file, but its canonical file is never in memory as a
+/// whole: no piece is longer than the longest object or 4,096 bytes.
 ///
 /// # Errors
 ///
-/// [`WriteFault::WriteFailed`] (51) where the sink fails, and [`WriteFault::OutOfMemory`] (60)
-/// where there is no memory for the copy, for the plan of the objects or for one of them. Exactly
-/// the first `sent` octets of the file went out then.
+/// Fails with [`WriteFault::WriteFailed`] (51) if the sink fails, and with
+/// [`WriteFault::OutOfMemory`] (60) if there is no memory for the copy, for the plan of the objects
+/// or for an object. In both cases exactly the first `sent` bytes of the file were sent.
 pub fn write_canonical<W: Sink>(
     alloc: Global,
     value: &Value,
@@ -75,13 +77,13 @@ pub fn write_canonical<W: Sink>(
     write_canonical_with_hasher(alloc, FixedHasher::new(), value, out)
 }
 
-/// The same as [`write_canonical`], whose scalars are hashed by what the builder makes. Where
-/// somebody else picks the values, hand it a [`RandomState`](std::hash::RandomState): scalars that
-/// were picked to collide under [`FixedHasher`] cost no more than others then.
+/// Like [`write_canonical`], but hashes scalars with `hasher`. If values come from an untrusted
+/// source, pass a [`RandomState`](std::hash::RandomState), so that scalars chosen to collide under
+/// [`FixedHasher`] cost no more than others.
 ///
 /// # Errors
 ///
-/// Those of [`write_canonical`].
+/// Fails like [`write_canonical`].
 pub fn write_canonical_with_hasher<S: BuildHasher + Copy, W: Sink>(
     alloc: Global,
     hasher: S,
@@ -104,7 +106,7 @@ pub fn write_canonical_with_hasher<S: BuildHasher + Copy, W: Sink>(
     write_canonical_of(alloc, hasher, &file, None, out)
 }
 
-// A binary file of the value, in which each use of a scalar is an object of its own.
+// Returns a binary file of the value, with an object for each use of a scalar.
 fn binary_of(alloc: Global, value: &Value) -> Result<Vec<u8>, AllocError>
     requires { Fits (view value.now) }
     ensures { IfOk result (λ octets. IsBinary octets.items (view value.now)) }
