@@ -1,4 +1,4 @@
--- A table without braces, row by row.
+-- A dictionary without braces, row by row.
 use Rattle.std.proofs.Common.{◌≡◌, ℕ, ◌+◌, ◌*◌, ◌≤◌, true, false, List, [], ◌∷◌, length, refl, sym, ap, subst, ◌∙◌, arith}
 use Rattle.std.specs.Prelude.{Result, IfErr}
 use Rattle.std.proofs.lemmas.Result.{IfErr-weaker}
@@ -33,7 +33,7 @@ use Rattle.ostep_text.proofs.Standing.{before-are, string-refuses}
 use Rattle.ostep_text.proofs.DueSteps.{row-more, bare-due}
 use Rattle.ostep_text.proofs.TakeSteps.{no-pairs-taken, pair-taken}
 
--- rows so far, one at least
+-- the rows so far, at least one
 pub record BareRead (octets : List ℕ) (left : Budget) (pairs : Pairs) (reader : Reader) : Type 0 where
   pub tokens : List Placed
   pub has : HasRead octets tokens reader.tokens
@@ -105,7 +105,7 @@ pub bare-ends : {octets : List ℕ} {left : Budget} {pairs : Pairs} {reader : Re
     → Machine.row_or_end Machine.bare l ≡ Machine.dead → (rest : List Lexeme) → runs Machine.front (b.whole (l ∷ rest)) ≡ Machine.dead
 bare-ends b l e rest = b.due.leads (l ∷ rest) ∙ (ap (λ s. runs s rest) e ∙ stays-dead rest)
 
--- the first string and the token behind it
+-- the first string and the token after it
 pub before-two : (at behind : Placed) (l m : Lexeme) → at.lexeme ≡ l → behind.lexeme ≡ m → AreBefore (at ∷ behind ∷ []) (λ rest. l ∷ m ∷ rest)
 before-two at behind l m e f rest = ap (λ x. x ∷ behind.lexeme ∷ rest) e ∙ ap (λ x. l ∷ x ∷ rest) f
 
@@ -133,7 +133,7 @@ first_alone-refuses at behind octet key levels left l s e h i =
     string-refuses [] (behind ∷ []) at octet key (λ rest. rest) levels (2 * length key) left l s (λ rest. refl) h
     (λ others. rw e (Begun.value (Begun.at_key (Begun.new_key Begun.bare rows_end refl)) refl)) (omega arith) i
 
--- what the first row took, but for the node of its table
+-- what the first row took, without the node of its dictionary
 pub record FirstTaken (key : List ℕ) (v : Plist) (after : Budget) : Type 0 where
   pub left : Budget
   pub is_left : IsLeft left 511 (opened nothing)
@@ -181,7 +181,7 @@ empty-text t = record {
   fits = record { nodes_fit = omega arith; depth_fits = omega arith; payload_fits = omega arith };
 }
 
--- a value at the front, with all that is left of the limits
+-- a value at the start, with all of the limits left
 pub whole-left : (left : Budget) → left.nodes ≡ MAX_NODES → left.payload ≡ MAX_PAYLOAD → IsLeft left MAX_DEPTH nothing
 whole-left left n p = record { nodes_left = omega (arith, n); payload_left = omega (arith, p); levels_left = omega arith }
 
@@ -201,6 +201,6 @@ front-due first e y = record {
   waits = λ n. cc (n, y);
 }
 
--- a fault that stands, and so no text
+-- if a fault is true, the bytes are not a text
 pub refused-by : {T : Type 0} (octets : List ℕ) → FaultyIsNoText → (r : Result T TextFault) → IfErr r (Stands octets) → IfErr r (λ fault. ¬ (fault ≡ OutOfMemory) → IsNoText octets)
 refused-by octets law r s = IfErr-weaker r (Stands octets) (λ fault. ¬ (fault ≡ OutOfMemory) → IsNoText octets) (λ fault stands n. law octets fault stands n) s

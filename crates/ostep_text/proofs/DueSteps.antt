@@ -17,7 +17,7 @@ use Rattle.ostep_text.proofs.PhraseSteps.{push_row, items-last, rows-more}
 use Rattle.plist_value.proofs.Items.{push}
 use Rattle.ostep_text.proofs.SortingSteps.{reordered-more, put-stands, put-ascends, reordered-has, pairs-ascend}
 
--- lists
+-- arrays
 pub list-due : {whole : Front} {b : Before} {a : Around} → ValueDue whole b a paren_open → ListDue (λ rest. whole (paren_open ∷ rest)) b a
 list-due d = record {
   at = λ rest. d.at (paren_open ∷ rest);
@@ -57,7 +57,7 @@ item-open {a = a} {vs = vs} {w = w} inside more d s p = record {
   unfinished = ap accepts (item-leads inside more d s p []);
 }
 
--- tables
+-- dictionaries
 pub table-due : {whole : Front} {b : Before} {a : Around} → ValueDue whole b a brace_open → TableDue (λ rest. whole (brace_open ∷ rest)) b a
 table-due d = record {
   at = λ rest. d.at (brace_open ∷ rest);
@@ -164,7 +164,7 @@ row_value-behind {w = w} more d p = record {
   unfinished = ap accepts (row_value-leads more d p []) ∙ behind-table d.table;
 }
 
--- the first row of a table without braces
+-- the first row of a dictionary without braces
 bare-leads : {tokens rest : List Lexeme} {key : List ℕ} {v : Plist} → RowPhrase tokens key v rest → runs Machine.front tokens ≡ runs (Machine.rows Machine.bare) rest
 bare-leads (with_value p) = value-runs Machine.bare p
 bare-leads key_alone = refl

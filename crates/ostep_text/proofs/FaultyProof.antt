@@ -1,4 +1,4 @@
--- Octets in which a fault stands are a text of no value.
+-- Bytes of which a fault is true are not a text of any value.
 use Rattle.std.proofs.Common.{◌≡◌, ℕ, List, ◌++◌, refl, ap, subst, append_assoc, append-nil, arith}
 use Rattle.std.proofs.lemmas.List.{map-append}
 use Rattle.plist_value.specs.Plist.{Plist}
@@ -16,7 +16,7 @@ use Rattle.ostep_text.specs.Stands.{Splits, BeginsAt, HasKeyTwice, IsTooDeep, Ha
 use Rattle.ostep_text.specs.Laws.{FaultyIsNoText}
 use Rattle.ostep_text.proofs.WholeLemmas.{NodeWithin, rows-there, row-once, node-within}
 
--- the tokens before and behind a place of a text are a phrase of its value
+-- the tokens before and after an offset of a text together are a phrase of its value
 split-phrase : {octets : List ℕ} {at : ℕ} {before from : List Lexeme} {v : Plist} → OneLexing → Splits octets at before from → IsText octets v → TopPhrase (before ++ from) v
 split-phrase {octets} {before = before} {from = from} {v = v} one s t =
     let same : lexemes t.tokens ≡ lexemes (s.tokens ++ s.others) = ap lexemes (one octets t.tokens (s.tokens ++ s.others) t.has s.has) in

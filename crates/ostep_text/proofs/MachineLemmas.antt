@@ -1,5 +1,5 @@
--- A phrase leads the machine from where a value is due to what is behind it, so a whole phrase is
--- accepted; and tokens that lead it nowhere.
+-- A phrase leads the machine from where a value is due to the state after it, so a whole phrase is
+-- accepted. Other tokens lead to no accepting state.
 use Rattle.std.proofs.Common.{◌≡◌, ℕ, true, false, List, [], ◌∷◌, refl, ap, ◌∙◌}
 use Rattle.std.specs.Prelude.{Vec}
 use Rattle.std.specs.declared.alloc.Global.{Global}
@@ -18,7 +18,7 @@ behind-value : {t : Around} → IsTable t → (rest : List Lexeme) → runs (Mac
 behind-value braces rest = refl
 behind-value without rest = refl
 
--- no phrase begins with the parenthesis that ends a list
+-- no item begins with the parenthesis that ends an array
 pub item-begins : {tokens rest : List Lexeme} {v : Plist} (a : Around) → Phrase tokens v rest → runs (Machine.items a) tokens ≡ runs (Machine.due (Machine.in_list a)) tokens
 item-begins a a_string = refl
 item-begins a some_data = refl
@@ -47,7 +47,7 @@ mutual
   rows-runs i rows_end = refl
   rows-runs i (a_row p r d) = row-runs i p ∙ rows-runs i r
 
--- a table without braces that has a row
+-- a dictionary without braces that has a row
 bare-accepted : {tokens rest : List Lexeme} {k : List ℕ} {v : Plist} {rs : Pairs} → RowPhrase tokens k v rest → RowsPhrase rest rs [] → accepts (runs Machine.front tokens) ≡ true
 bare-accepted (with_value p) r = ap accepts (value-runs Machine.bare p ∙ rows-runs without r)
 bare-accepted key_alone r = ap accepts (rows-runs without r)
@@ -79,7 +79,7 @@ pub stays-dead : (tokens : List Lexeme) → runs Machine.dead tokens ≡ Machine
 stays-dead [] = refl
 stays-dead (l ∷ ls) = stays-dead ls
 
--- from a state that the token ends nothing goes on
+-- after a token that leads to the dead state nothing follows
 pub leads-nowhere : (whole : Front) (s : State) (l : Lexeme) → ((rest : List Lexeme) → runs Machine.front (whole rest) ≡ runs s rest) → step s l ≡ Machine.dead
     → (rest : List Lexeme) → runs Machine.front (whole (l ∷ rest)) ≡ Machine.dead
 leads-nowhere whole s l d e rest = d (l ∷ rest) ∙ (ap (λ x. runs x rest) e ∙ stays-dead rest)
@@ -184,7 +184,7 @@ value-none Equals t o p b = refl
 value-none (Text units) t o p b = absurd (t units refl)
 value-none (Octets xs) t o p b = absurd (o xs refl)
 
--- at the front too, but for a string
+-- at the start too, except for a string
 pub front-begun : (kind : TokenKind) → ((units : List ℕ) → ¬ (kind ≡ Text units)) → Machine.at_front (lexeme_of kind) ≡ begun Machine.top (lexeme_of kind)
 front-begun BraceOpen t = refl
 front-begun BraceClose t = refl

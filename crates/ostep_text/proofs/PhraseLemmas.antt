@@ -1,4 +1,4 @@
--- Tokens are a phrase of one value at most.
+-- Tokens are a phrase of at most one value.
 use Rattle.std.proofs.Common.{◌≡◌, ℕ, Bool, true, false, List, [], ◌∷◌, refl, sym, subst}
 use Rattle.plist_value.specs.Plist.{Plist, Items, Pairs}
 use Rattle.ostep_lex.specs.Lexeme.{Lexeme, paren_close, text as string}

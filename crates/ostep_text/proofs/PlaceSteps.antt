@@ -1,4 +1,4 @@
--- What is put at the place of a key.
+-- Inserting at the entry of a key.
 use Rattle.std.proofs.Common.{◌≡◌, ℕ, Bool, false, List, nat_cmp, sym, ◌∙◌}
 use Rattle.std.specs.Prelude.{Option, None, Some}
 use Rattle.std.specs.Option.{is_some, unwrap_or}
@@ -13,7 +13,7 @@ use Rattle.ostep_text.proofs.SortingSteps.{has_key-looked}
 pub known-has : (known : Bool) (key : List ℕ) (rows : BTreeMap (List ℕ) Value) → known ≡ is_some (get (slice_cmp nat_cmp) rows key) → has_key key (view_pairs rows.entries) ≡ known
 known-has known key rows k = sym (k ∙ has_key-looked key rows.entries)
 
--- what is put where no value was
+-- inserting into an entry without a value
 pub new-value : (old : Option Value) (value now : Value) → is_some old ≡ false → now ≡ unwrap_or old value → now ≡ value
 new-value None value now n e = e
 new-value (Some v) value now n e = absurd (cc n)

@@ -1,4 +1,4 @@
--- What was read, from its parts.
+-- Composing what was read from its parts.
 use Rattle.std.proofs.Common.{◌≡◌, ℕ, false, List, [], ◌∷◌, ◌++◌, refl, sym, subst, ◌∙◌}
 use Rattle.plist_value.specs.Plist.{Plist, scalar, text, bytes, list, table, Items, no_items, Pairs, no_pairs, ArePairs}
 use Rattle.plist_value.proofs.Pairs.{put_pair}
@@ -25,7 +25,7 @@ reads-token tokens token l e h = record {
   follow = λ whole b. subst (λ x. AreBefore (tokens ++ token ∷ []) (λ rest. whole (x ∷ rest))) e (before-more tokens token whole b);
 }
 
--- what was read first, and what was read then
+-- two parts read one after the other
 reads-then : {old known : Known} {tokens : List Placed} {inside more : Front} (r : ReadsOn old tokens inside) → ReadsOn known r.all more
     → ReadsOn known tokens (λ rest. inside (more rest))
 reads-then {inside = inside} r s = record {
@@ -51,7 +51,7 @@ data-read tokens first xs e h = record {
   reads = reads-token tokens first first.lexeme refl h;
 }
 
--- behind a first token
+-- after a first token
 behind-first : {known : Known} {inside : Front} (tokens : List Placed) (first : Placed) → ReadsOn known (tokens ++ first ∷ []) inside
     → ReadsOn known tokens (λ rest. first.lexeme ∷ inside rest)
 behind-first tokens first r = record {
@@ -153,7 +153,7 @@ rows-read r token e h = record {
   reads = reads-then r.reads (reads-token r.reads.all token brace_close e h);
 }
 
--- rows that are, in the order of their keys, the pairs
+-- rows that are the pairs, once sorted by their keys
 pub no-pairs-read : {octets : List ℕ} {tokens : List Placed} {source : Tokens} → HasRead octets tokens source → Reading.ReadsRows octets tokens [] no_pairs source
 no-pairs-read h = record { rows = no_pairs; read = no-rows-read h; same = none }
 

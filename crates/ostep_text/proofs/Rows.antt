@@ -1,4 +1,4 @@
--- Worked rows, shown on the definitions by computing.
+-- Worked examples, shown on the definitions by computing.
 use Rattle.std.proofs.Common.{◌≡◌, ℕ, zero, suc, ◌<◌, List, true, false, Some, None, [], ◌∷◌, ◌++◌, refl, ap, lit<, lit≤}
 use Rattle.std.specs.Prelude.{codes}
 use Rattle.std.specs.Char.{encode_utf8}
@@ -38,7 +38,7 @@ b_text = scalar (text (codes "b"))
 abbrev two_rows : Pairs
 two_rows = pair (codes "a") b_text (pair (codes "b") a_text no_pairs)
 
--- `{b=a;a=b;}`: the pairs of a table stand in the order of their keys, whatever the order of the
+-- `{b=a;a=b;}`: the pairs of a dictionary are in the order of their keys, whatever the order of the
 -- rows
 pub sorted_table : TopPhrase (brace_open ∷ b ∷ equals ∷ a ∷ semicolon ∷ a ∷ equals ∷ b ∷ semicolon ∷ brace_close ∷ []) (table two_rows)
 sorted_table =
@@ -49,11 +49,11 @@ sorted_table =
       ascending = (refl, (tt, tt));
     }))
 
--- `(a, <61>,)`: a comma may stand behind the last item
+-- `(a, <61>,)`: a comma may follow the last item
 pub comma_behind_last : TopPhrase (paren_open ∷ a ∷ comma ∷ data_token (codes "a") ∷ comma ∷ paren_close ∷ []) (list (item a_text (item (scalar (bytes (codes "a"))) no_items)))
 comma_behind_last = Phrase.a_value (Phrase.a_list (Phrase.an_item Phrase.a_string (Phrase.an_item Phrase.some_data Phrase.items_end)))
 
--- `a = b; c;`: a table without its braces, and a key that is its own value
+-- `a = b; c;`: a dictionary without its braces, and a key that is its own value
 pub bare_table : TopPhrase (a ∷ equals ∷ b ∷ semicolon ∷ string (codes "c") ∷ semicolon ∷ [])
     (table (pair (codes "a") b_text (pair (codes "c") (scalar (text (codes "c"))) no_pairs)))
 bare_table =
@@ -64,7 +64,7 @@ bare_table =
       ascending = (refl, (tt, tt));
     })
 
--- `{b=a;a=b;}`, and no octets
+-- `{b=a;a=b;}`, and no bytes
 one_unit : (unit : ℕ) → unit < 65536 → AreUnits (unit ∷ [])
 one_unit unit h zero = h
 one_unit unit h (suc i) = lit< tt
@@ -101,7 +101,7 @@ empty_text = record {
   fits = record { nodes_fit = lit≤ tt; depth_fits = lit≤ tt; payload_fits = lit≤ tt };
 }
 
--- the string `bplist`, the unit d800, escapes, data, two pairs, no item, and a list of true
+-- the string `bplist`, the unit d800, escapes, data, two pairs, no item, and an array of true
 pub written_as_binary_begins : text_of (scalar (text (codes "bplist"))) ≡ Some (codes "\"bplist\"\n")
 written_as_binary_begins = refl
 
@@ -123,7 +123,7 @@ written_empty_list = refl
 pub not_written : text_of (list (item (scalar (flag true)) no_items)) ≡ None
 not_written = refl
 
--- `a = ((b, <00>), c);`: the last item, with the table and the two lists before it
+-- `a = ((b, <00>), c);`: the last item, after the dictionary and both arrays
 pub last_item : NodeAt
     (a ∷ equals ∷ paren_open ∷ paren_open ∷ b ∷ comma ∷ data_token (0 ∷ []) ∷ paren_close ∷ comma ∷ string (codes "c") ∷ paren_close ∷ semicolon ∷ [])
     (record { open_containers = 2; nodes = 6; payload = 5 })
@@ -134,11 +134,11 @@ last_item =
     (Phrase.an_item (Phrase.a_list (Phrase.an_item Phrase.a_string (Phrase.last_item Phrase.some_data))) Phrase.items_end))
     refl
 
--- `{a;`: the value of a key alone stands at its key, behind the key
+-- `{a;`: the value of a key alone is at its key, and counted after it
 pub value_at_key : NodeAt (brace_open ∷ a ∷ semicolon ∷ []) (record { open_containers = 1; nodes = 2; payload = 2 }) (a ∷ semicolon ∷ [])
 value_at_key = Begun.value (Begun.at_key (Begun.new_key (Begun.behind_brace Begun.front) Phrase.rows_end refl)) refl
 
--- the tokens before an octet, and those from it on
+-- the tokens before an offset, and those from it on
 splits : {octets : List ℕ} (tokens others : List Placed) (whole : List ℕ) → Spells octets whole → Lexes (places_of octets) whole (tokens ++ others)
     → Splits octets (start_of octets others) (lexemes tokens) (lexemes others)
 splits tokens others whole spells lexes = record {
@@ -174,7 +174,7 @@ key_twice = record {
   twice = refl;
 }
 
--- no phrase goes on where the machine does not
+-- no phrase continues where the machine does not
 no-phrase : (tokens : List Lexeme) → ((others : List Lexeme) → runs Machine.front (tokens ++ others) ≡ runs Machine.dead others) → ¬ BeginsPhrase tokens
 no-phrase tokens leads h = cc (phrase-accepted (h.1), ap accepts (leads (h.0)), ap accepts (stays-dead (h.0)))
 
@@ -199,7 +199,7 @@ brace_for_semicolon =
     (not-accepted refl)
     (no-phrase (brace_open ∷ a ∷ equals ∷ b ∷ brace_close ∷ []) (λ others. refl))
 
--- `=`: no phrase begins so
+-- `=`: no phrase begins with it
 pub equals_first : IsUnfinished (codes "=") 0
 unfolding encode_utf8
 equals_first =

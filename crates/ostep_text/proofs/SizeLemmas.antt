@@ -1,4 +1,4 @@
--- Rows in another order are as many, as deep and as large.
+-- A permutation of rows has the same nodes, depth and payload.
 use Rattle.std.proofs.Common.{◌≡◌, ℕ, ◌+◌, ◌*◌, List, length, refl, arith}
 use Rattle.std.specs.Prelude.{max}
 use Rattle.plist_value.specs.Plist.{Plist, Pairs}

@@ -1,4 +1,4 @@
--- Rows have one order by their keys at most.
+-- Rows are sorted by their keys in at most one way.
 use Rattle.std.proofs.Common.{◌≡◌, ℕ, false, List, Less, Greater, nat_cmp, refl, sym, subst, ap, ◌∙◌}
 use Rattle.std.proofs.lemmas.Cmp.{nat_list_cmp_total}
 use Rattle.std.specs.Cmp.Lexicographic.{slice_cmp, pointwise, bytes_decides}
@@ -20,7 +20,7 @@ below_others : {key : List ℕ} {v : Plist} {others all : Pairs} → StandsAmong
 below_others {key} {others = others} first low b h = below_next low key others b h.0
 below_others (later s) low b h = b
 
--- without one of them ascending pairs ascend
+-- ascending pairs still ascend without one of them
 others_ascend : {key : List ℕ} {v : Plist} {others all : Pairs} → StandsAmong key v others all → IsAscending all → IsAscending others
 others_ascend first h = h.1
 others_ascend (later {next = next} s) h = (below_others s next h.0 h.1, others_ascend s h.1)
@@ -29,7 +29,7 @@ not_both : (low high : List ℕ) → slice_cmp nat_cmp low high ≡ Less → sli
 not_both low high b h =
     let e : Less ≡ Greater = sym h ∙ (nat_list_cmp_total.antisymm high low ∙ ap ordering_reverse b) in cc e
 
--- a pair has one place among ascending ones
+-- a pair has only one place among ascending pairs
 one_place : {key : List ℕ} {v : Plist} {others ps qs : Pairs} → StandsAmong key v others ps → StandsAmong key v others qs → IsAscending ps → IsAscending qs
     → ps ≡ qs
 one_place first first h k = refl
@@ -51,7 +51,7 @@ other_key key next b =
     false_from_ne_true (pointwise nat_eq key next) (λ e. let same : next ≡ key = sym ((bytes_decides key next).0 e) in
     let below : slice_cmp nat_cmp key key ≡ Less = subst (λ x. slice_cmp nat_cmp key x ≡ Less) same b in not_both key key below below)
 
--- a key below ascending pairs is none of theirs
+-- a key below ascending pairs is not among their keys
 pub low_key : (key : List ℕ) (ps : Pairs) → IsKeyBelow key ps → IsAscending ps → has_key key ps ≡ false
 low_key key no_pairs b h = refl
 low_key key (pair next v ps) b h = rw (other_key key next b) (low_key key ps (below_next key next ps b h.0) h.1)

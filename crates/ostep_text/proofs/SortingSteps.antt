@@ -1,4 +1,4 @@
--- A row more goes to its place among the sorted rows.
+-- Inserting one more row into the sorted rows.
 use Rattle.std.proofs.Common.{◌≡◌, ℕ, ◌+◌, ◌*◌, ◌≤◌, Bool, true, false, List, [], ◌∷◌, length, Ordering, Less, Equal, Greater, nat_cmp, refl, sym, ap, subst, ◌∙◌, arith}
 use Rattle.std.specs.Prelude.{nat_eq, Option, Some, cond, ◌||◌}
 use Rattle.std.specs.Option.{is_some}
@@ -18,7 +18,7 @@ use Rattle.ostep_text.specs.Sorting.{has_key, StandsAmong, first, later, AreReor
 use Rattle.ostep_text.proofs.PhraseSteps.{push_row, has_key-head, has_key-tail}
 use Rattle.ostep_text.proofs.SizeLemmas.{among-nodes, among-depth, among-payload}
 
--- two rows among others, the later one put first
+-- two rows among others, in exchanged order
 pub record Exchanged (key : List ℕ) (v : Plist) (k : List ℕ) (w : Plist) (others all : Pairs) : Type 0 where
   pub middle : Pairs
   pub outer : StandsAmong key v others middle
@@ -35,7 +35,7 @@ pub reordered-more : {rows ps all : Pairs} {key : List ℕ} {v : Plist} → AreR
 reordered-more none s = row none s
 reordered-more (row r t) s = let e = exchange t s in row (reordered-more r e.outer) e.inner
 
--- another key is below or above
+-- a different key is below or above
 data Apart (key next : List ℕ) : Type 0 where
   below : slice_cmp nat_cmp key next ≡ Less → Apart key next
   above : slice_cmp nat_cmp key next ≡ Greater → slice_cmp nat_cmp next key ≡ Less → Apart key next
@@ -106,7 +106,7 @@ pub reordered-has : {rows ps : Pairs} (key : List ℕ) → AreReordered rows ps 
 reordered-has key none = refl
 reordered-has key (row {key = k} {rows = rows} {others = others} {all = all} r s) = ap (λ b. pointwise nat_eq key k || b) (reordered-has key r) ∙ sym (among-has key s)
 
--- as the map looks a key up
+-- looking a key up as the map does
 or-cond : (b c : Bool) (v : Value) (r : Option Value) → is_some r ≡ c → is_some (cond b (Some v) r) ≡ (b || c)
 or-cond true c v r e = refl
 or-cond false c v r e = e

@@ -1,4 +1,4 @@
--- Faults that are true if the octets have tokens, from what was read, and the front of a text.
+-- Faults that are true if the bytes have tokens, from what was read; and the start of a text.
 use Rattle.std.proofs.Common.{◌≡◌, ℕ, ◌≤◌, true, false, List, [], ◌∷◌, ◌++◌, length, refl, sym, ap, subst, ◌∙◌, append_assoc, append-nil, arith, ◌*◌}
 use Rattle.std.proofs.lemmas.List.{map-append}
 use Rattle.plist_value.specs.declared.budget.Budget.{Budget}
@@ -41,7 +41,7 @@ tokens-stand octets (lexer.OddData at) s = s
 tokens-stand octets (lexer.BadData at) s = s
 tokens-stand octets (lexer.BadUtf16 at) s = s
 
--- one token more stands before
+-- adding one more token before
 pub before-more : (tokens : List Placed) (token : Placed) (whole : Front) → AreBefore tokens whole → AreBefore (tokens ++ token ∷ []) (λ rest. whole (token.lexeme ∷ rest))
 before-more tokens token whole b rest =
     ap (λ ls. ls ++ rest) (map-append (λ (t : Placed). t.lexeme) tokens (token ∷ [])) ∙ (append_assoc (lexemes tokens) (token.lexeme ∷ []) rest ∙ b (token.lexeme ∷ rest))
@@ -52,7 +52,7 @@ before-are tokens whole b = sym (append-nil (lexemes tokens)) ∙ b []
 pub whole-append : (tokens : List Placed) (whole : Front) → AreBefore tokens whole → (rest : List Lexeme) → whole [] ++ rest ≡ whole rest
 whole-append tokens whole b rest = ap (λ ls. ls ++ rest) (sym (before-are tokens whole b)) ∙ b rest
 
--- all tokens of the octets, from a token that was read on
+-- all tokens of the bytes, split at a token that was read
 pub record SplitsAt (octets : List ℕ) (before : List Lexeme) (token : Placed) (more : List Placed) : Type 0 where
   pub others : List Placed
   pub splits : Splits octets token.start before (token.lexeme ∷ lexemes (more ++ others))
@@ -77,7 +77,7 @@ splits-at {octets} tokens more token whole b h all t =
 pub begins-phrase : (tokens : List Placed) (whole : Front) → AreBefore tokens whole → (o : IsOpen whole) → BeginsPhrase (whole [])
 begins-phrase tokens whole b o = (o.others, subst (λ ls. IsPhrase ls) (sym (whole-append tokens whole b o.others)) o.goes_on)
 
--- no phrase goes on with a token that leads nowhere
+-- no phrase continues with a token that leads to the dead state
 pub goes-nowhere : (tokens : List Placed) (whole : Front) (l : Lexeme) → AreBefore tokens whole → ((rest : List Lexeme) → runs Machine.front (whole (l ∷ rest)) ≡ Machine.dead)
     → ¬ BeginsPhrase (whole [] ++ l ∷ [])
 goes-nowhere tokens whole l b d p =
@@ -109,7 +109,7 @@ pub expected-front : {octets : List ℕ} {source : Tokens} (token : Placed) → 
 expected-front token h d all t =
     Faults.at_front (splits-at [] [] token (λ rest. rest) (λ rest. refl) h all t).splits (goes-nowhere [] (λ rest. rest) token.lexeme (λ rest. refl) d)
 
--- some tokens stand before
+-- at least one token precedes
 data IsSome (ls : List Lexeme) : Type 0 where
   some : (first : Lexeme) (more : List Lexeme) → ls ≡ first ∷ more → IsSome ls
 
@@ -144,7 +144,7 @@ begins-at {b = b} tokens more token whole f h n all t =
       },
     )
 
--- where a value or a key begins at a token, a limit that it passes is refused there
+-- if a value or a key begins at a token, a limit that it exceeds is refused there
 pub node-refuses : {octets : List ℕ} {source : Tokens} {b : Before} (tokens more : List Placed) (token : Placed) (whole : Front) (levels load : ℕ) (left : Budget)
     → AreBefore tokens whole → HasRead octets (tokens ++ token ∷ more) source
     → ((others : List Placed) → NodeAt (whole (token.lexeme ∷ lexemes (more ++ others))) b (token.lexeme ∷ lexemes (more ++ others)))
@@ -171,7 +171,7 @@ value-ends {first = first} r e l rest =
 payload-string : (l : Lexeme) (key : List ℕ) (rest : List Lexeme) → l ≡ string key → payload_at (l ∷ rest) ≡ 2 * length key
 payload-string l key rest e = rw e refl
 
--- at a string, a node whose payload is at most that of the string
+-- a node at a string, with at most the payload of the string
 pub string-refuses : {octets : List ℕ} {source : Tokens} {b : Before} (tokens more : List Placed) (at : Placed) (octet : ℕ) (key : List ℕ) (whole : Front) (levels load : ℕ) (left : Budget)
     → at.lexeme ≡ string key → at.start ≡ octet → ((rest : List Lexeme) → lexemes tokens ++ rest ≡ whole rest) → HasRead octets (tokens ++ at ∷ more) source
     → ((others : List Placed) → NodeAt (whole (string key ∷ lexemes (more ++ others))) b (string key ∷ lexemes (more ++ others)))
@@ -182,7 +182,7 @@ string-refuses {octets} {b = b} tokens more at octet key whole levels load left 
     (λ others. subst (λ x. NodeAt (whole (x ∷ lexemes (more ++ others))) b (x ∷ lexemes (more ++ others))) (sym l) (n others))
     (λ rest. let load_is : payload_at (at.lexeme ∷ rest) ≡ 2 * length key = payload-string at.lexeme key rest l in omega (arith, load_is, m)) i)
 
--- the string at the front, as a value or a table that begins there, and as the first key
+-- the string at the start, as a value or as a dictionary that begins there, and as the first key
 pub front-refuses : {octets : List ℕ} {source : Tokens} (more : List Placed) (at : Placed) (octet : ℕ) (key : List ℕ) (levels load : ℕ) (left : Budget)
     → at.lexeme ≡ string key → at.start ≡ octet → HasRead octets (at ∷ more) source → load ≤ 2 * length key → IsLeft left levels nothing → MayRefuse octets octet levels load left
 front-refuses more at octet key levels load left l s h m i =

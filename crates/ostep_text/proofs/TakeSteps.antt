@@ -1,4 +1,4 @@
--- What was taken from the limits, and what is left of them behind it.
+-- What was taken from the limits, and what is left of them.
 use Rattle.std.proofs.Common.{◌≡◌, ℕ, ◌-◌, ◌*◌, ◌≤◌, false, List, length, sym, subst, arith}
 use Rattle.plist_value.specs.declared.budget.Budget.{Budget}
 use Rattle.plist_value.specs.Budget.{Spends}
@@ -80,7 +80,7 @@ key-left key i s = record {
   levels_left = i.levels_left;
 }
 
--- with what stayed the same between
+-- taken by an item, and by a scalar
 pub item-taken-at : {old at new : Budget} {levels : ℕ} (vs all : Items) (w : Plist) → TakesItems old levels vs at → Takes at levels w new → all ≡ push vs w → TakesItems old levels all new
 item-taken-at {old} {new = new} {levels = levels} vs all w t u g = subst (λ x. TakesItems old levels x new) (sym g) (item-taken vs w t u)
 

@@ -1,5 +1,5 @@
--- What stands in a whole phrase where a value, rows or a key should begin, and that with what
--- stands before it it is within the value.
+-- What a whole phrase has where a value, rows or a key are expected. Together with what comes
+-- before, it is within the value.
 use Rattle.std.proofs.Common.{◌≡◌, ℕ, ◌+◌, ◌*◌, ◌≤◌, Bool, true, false, ◌||◌, List, [], ◌∷◌, length, refl, ap, sym, subst, arith}
 use Rattle.std.specs.Prelude.{max, nat_eq}
 use Rattle.std.specs.Cmp.Lexicographic.{pointwise, bytes_decides}
@@ -15,13 +15,13 @@ use Rattle.std.proofs.lemmas.Bool.{false_from_ne_true}
 use Rattle.ostep_text.proofs.SizeLemmas.{reordered-nodes, reordered-depth, reordered-payload}
 use Rattle.ostep_text.proofs.PhraseLemmas.{begins_row, row-begins, no-phrase, Phrase-same, Row-same, value-or-row}
 
--- with so much more, what stands before is within the value
+-- what comes before, together with this much more, is within the value
 pub record Within (b : Before) (deep more load : ℕ) (v : Plist) : Type 0 where
   pub nodes_within : b.nodes + more ≤ nodes v
   pub depth_within : b.open_containers + deep ≤ depth v
   pub payload_within : b.payload + load ≤ payload v
 
--- an item of all items
+-- an item among all items
 record ItemThere (at : List Lexeme) (vs all : Items) : Type 0 where
   value : Plist
   behind : List Lexeme
@@ -66,7 +66,7 @@ item-there {at = at} (an_item {v = v} {vs = all} {others = others} p r) (an_item
     let i = item-there r (subst (λ x. ItemsPhrase x vs at) after_is s) b in
     subst (λ w. ItemThere at (item w vs) (item v all)) (e.0) (behind-item i)
 
--- a row of all rows
+-- a row among all rows
 record RowThere (key : List ℕ) (rest : List Lexeme) (rows all : Pairs) : Type 0 where
   value : Plist
   behind : List Lexeme
@@ -132,18 +132,18 @@ row-there {rest = rest} {key = key} (a_row {key = next} {v = v} {rows = all} p r
     subst (λ k. RowThere key rest (pair k w rows) (pair next v all)) (e.0)
     (subst (λ x. RowThere key rest (pair next x rows) (pair next v all)) (e.1) (behind-row c t))
 
--- where a value begins stands a value, or the rows of a whole without braces
+-- a place for a value has a value, or the rows of a whole text without braces
 pub data ValueThere (b : Before) (v : Plist) (at : List Lexeme) : Type 0 where
   stands : {w : Plist} {rest : List Lexeme} → Phrase at w rest → Within b (depth w) (nodes w) (payload w) v → ValueThere b v at
   rows : {all : Pairs} → RowsPhrase at all [] → Within b (depth_of_pairs all) (nodes_of_pairs all) (payload_of_pairs all) v → ValueThere b v at
 
--- where rows of a table stand are all its rows, or at the front the whole is a value
+-- a place for rows has all rows of a dictionary, or at the start the whole text is a value
 pub data RowsThere (b : Before) (v : Plist) (inside : List Lexeme) : Type 0 where
   rows : {all : Pairs} {end : List Lexeme} → RowsPhrase inside all end → begins_row end ≡ false
       → Within b (depth_of_pairs all) (nodes_of_pairs all) (payload_of_pairs all) v → RowsThere b v inside
   value : Phrase inside v [] → b ≡ opened nothing → RowsThere b v inside
 
--- behind a key stands the rest of its row, or nothing
+-- after a key comes the rest of its row, or nothing
 pub data KeyThere (b : Before) (v : Plist) (key : List ℕ) (rest : List Lexeme) : Type 0 where
   row : {w : Plist} {behind : List Lexeme} → RowPhrase (string key ∷ rest) key w behind
       → Within b (max 1 (depth w)) (1 + nodes w) (2 * length key + payload w) v → KeyThere b v key rest
@@ -244,14 +244,14 @@ mutual
   pub new_key-there : {whole rest : List Lexeme} {b : Before} {v : Plist} {key : List ℕ} → TopPhrase whole v → NewKeyAt whole b key rest → KeyThere b v key rest
   new_key-there t (Begun.new_key p q d) = key-there (rows-there t p) q
 
--- the key of a row begins its table's rows once
+-- the key of a row occurs only once among the rows of its dictionary
 pub row-once : {b : Before} {v : Plist} {inside rest : List Lexeme} {key : List ℕ} {before : Pairs} → RowsThere b v inside
     → RowsPhrase inside before (string key ∷ rest) → has_key key before ≡ false
 row-once (rows p h w) q = (row-there p h q).once
 row-once {key = key} (value p e) q = subst (λ x. has_key key x ≡ false) (sym ((alone p q).1)) refl
 
--- with the token at which a value or a key begins, what stands before it is within the value; but a
--- string alone may also be the first key of a table without braces
+-- what comes before a value or a key is, together with its token, within the value; a string alone
+-- may also be the first key of a dictionary without braces
 pub record NodeWithin (b : Before) (at : List Lexeme) (v : Plist) : Type 0 where
   pub nodes_within : b.nodes + 1 ≤ max 2 (nodes v)
   pub depth_within : b.open_containers + 1 ≤ max 2 (depth v)

@@ -29,7 +29,7 @@ use Rattle.ostep_lex.specs.Lexing.{Lexes, none, next}
 use Rattle.ostep_text.specs.Text.{lexemes}
 use Rattle.ostep_text.proofs.SortedLemmas.{low_key}
 
--- the tokens of a written value, and those behind it
+-- the tokens of a written value, followed by the others
 abbrev pub scalar_tokens : Scalar → List Lexeme → List Lexeme
 scalar_tokens (text units) rest = string units ∷ rest
 scalar_tokens (bytes xs) rest = data_token xs ∷ rest
@@ -89,7 +89,7 @@ mutual
       let w = both (is_writable v) (are_writable_pairs ps) e in
       a_row (with_value (value-phrase v _ h.1 w.0)) (rows-phrase ps rest h.3 w.1) (low_key key ps h.2 (ascending ps h.3))
 
--- six octets for a unit at most, and two quotes
+-- at most six bytes for a unit, and two quotes
 if-short : (b : Bool) (most : ℕ) (xs ys : List ℕ) → length xs ≤ most → length ys ≤ most → length (if b then xs else ys) ≤ most
 if-short true most xs ys h k = h
 if-short false most xs ys h k = k
@@ -209,7 +209,7 @@ units-quoted [] rest h = Quoted.close refl
 units-quoted (unit ∷ units) rest h =
     rw (append_assoc (quoted_unit unit) (flat_map quoted_unit units) (34 ∷ rest)) (Quoted.piece (unit-piece unit _ (h 0)) (units-quoted units rest (λ i. h (suc i))))
 
--- what is written for octets gives them
+-- the written digits of bytes read as these bytes
 octet-piece : (x : ℕ) (rest : List ℕ) → x < 256 → OctetsPiece (two_digits x ++ rest) (x ∷ []) rest
 octet-piece x rest h =
     subst (λ y. OctetsPiece (two_digits x ++ rest) (y ∷ []) rest)
@@ -220,7 +220,7 @@ pub octets-data : (xs rest : List ℕ) → AreOctets xs → Octets (flat_map two
 octets-data [] rest h = Octets.close
 octets-data (x ∷ xs) rest h = rw (append_assoc (two_digits x) (flat_map two_digits xs) (62 ∷ rest)) (Octets.piece (octet-piece x _ (h 0)) (octets-data xs rest (λ i. h (suc i))))
 
--- a plain text is a run
+-- a plain string is an unquoted string
 pub alphanumeric-run : (c : ℕ) → is_ascii_alphanumeric c ≡ true → is_run c ≡ true
 alphanumeric-run c e = grind (arith, nat_tests)
 

@@ -1,4 +1,4 @@
--- A written text is ASCII, so its octets are its characters; it does not begin as a binary file,
+-- A written text is ASCII, so its bytes are its characters. It does not begin like a binary file,
 -- and it is a text of its value.
 use Rattle.std.proofs.Common.{◌≡◌, ℕ, ◌+◌, ◌<◌, Bool, true, false, List, [], ◌∷◌, ◌++◌, length, take, get_or, refl, sym, subst, ◌&&◌, arith, ◌/◌, ◌%◌, ◌≤◌, not, ◌||◌, ap, ◌∙◌, if◌then◌else◌, suc, lit≤, Some, None, length-append}
 use Rattle.std.proofs.lemmas.Bool.Decides.{nat_tests}
@@ -41,7 +41,7 @@ plain-ascii units e = alphanumerics-ascii units (both _ _ (both _ _ e).0).1
 ascii-one : (unit : ℕ) → unit < 128 → are_ascii (unit ∷ []) ≡ true
 ascii-one unit h = grind (arith, nat_tests)
 
--- one unit more
+-- one more unit
 pub ascii-more : (units : List ℕ) (i : ℕ) → i < length units → are_ascii (take i units) ≡ true → get_or units i 0 < 128 → are_ascii (take (i + 1) units) ≡ true
 ascii-more units i h e k =
     subst (λ (us : List ℕ). are_ascii us ≡ true) (sym (take_more units i 0 h)) (append-ascii (take i units) (get_or units i 0 ∷ []) e (ascii-one (get_or units i 0) k))
@@ -104,7 +104,7 @@ mutual
       (append-ascii (written_text key ++ codes " = ") (written v) (append-ascii (written_text key) (codes " = ") (text-ascii key h.0) refl) (value-ascii v h.1)) refl)
       (pairs-ascii ps h.3)
 
--- so its octets spell it
+-- the bytes of ASCII characters are the characters
 below : (c : ℕ) → nat_lt c 128 ≡ true → c < 128
 below c e = grind (arith, nat_tests)
 
@@ -136,7 +136,7 @@ ascii-spells xs h =
 pub newline-ascii : (v : Plist) → IsPlist v → are_ascii (written v ++ codes "\n") ≡ true
 newline-ascii v h = append-ascii (written v) (codes "\n") (value-ascii v h) refl
 
--- a newline behind a plain text begins no binary file with it
+-- a newline after a plain string does not make it begin like a binary file
 abbrev has_newline : List ℕ → Bool
 has_newline [] = false
 has_newline (c ∷ rest) = (c == 10) || has_newline rest

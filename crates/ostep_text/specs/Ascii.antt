@@ -1,4 +1,4 @@
--- Units that an octet holds as they are.
+-- Units that fit into one byte of UTF-8.
 use Rattle.std.specs.Prelude.{ℕ, Bool, true, List, [], ◌∷◌, ◌&&◌, nat_lt}
 
 abbrev pub are_ascii : List ℕ → Bool

@@ -1,4 +1,4 @@
--- Where a value or a key begins in the tokens of a text, and how much stands before it.
+-- Where a value or a key begins among the tokens of a text, and what comes before it.
 use Rattle.std.specs.Prelude.{◌≡◌, ℕ, ◌+◌, ◌*◌, Bool, true, false, List, ◌∷◌, length}
 use Rattle.plist_value.specs.Plist.{Items, Pairs}
 use Rattle.plist_value.specs.Limits.{nodes_of_items, nodes_of_pairs, payload_of_items, payload_of_pairs}
@@ -6,7 +6,8 @@ use Rattle.ostep_lex.specs.Lexeme.{Lexeme, brace_open, paren_open, semicolon, eq
 use Rattle.ostep_text.specs.Phrase.{ItemsPhrase, RowsPhrase}
 use Rattle.ostep_text.specs.Sorting.{has_key}
 
--- so many lists and tables are open; so many values and keys began, with so much payload
+-- how many arrays and dictionaries are open, how many values and keys began, and how much payload
+-- they have
 pub record Before : Type 0 where
   pub open_containers : ℕ
   pub nodes : ℕ
@@ -15,11 +16,11 @@ pub record Before : Type 0 where
 abbrev pub nothing : Before
 nothing = record { open_containers = 0; nodes = 0; payload = 0 }
 
--- and then a list or a table was opened
+-- after an array or dictionary was opened as well
 abbrev pub opened : Before → Before
 opened b = record { open_containers = b.open_containers + 1; nodes = b.nodes + 1; payload = b.payload }
 
--- and then these items, these rows, or this key stood there
+-- after these items, these rows, or this key as well
 abbrev pub with_items : Items → Before → Before
 with_items vs b = record { open_containers = b.open_containers; nodes = b.nodes + nodes_of_items vs; payload = b.payload + payload_of_items vs }
 
@@ -30,8 +31,8 @@ abbrev pub with_key : List ℕ → Before → Before
 with_key key b = record { open_containers = b.open_containers; nodes = b.nodes + 1; payload = b.payload + 2 * length key }
 
 mutual
-  -- Where a value should stand: at the front of the text, behind items of an open list, and behind
-  -- a new key and `=`. The value of a key alone stands at its key.
+  -- Where a value is expected: at the start of the text, after items of an open array, and after a
+  -- new key and `=`. The value of a key alone is at its key.
   pub data ValueAt (whole : List Lexeme) : Before → List Lexeme → Type 0 where
     front : ValueAt whole nothing whole
     behind_items : {b : Before} {vs : Items} {inside at : List Lexeme} → ValueAt whole b (paren_open ∷ inside) → ItemsPhrase inside vs at
@@ -40,12 +41,12 @@ mutual
     at_key : {b : Before} {key : List ℕ} {rest : List Lexeme} → NewKeyAt whole b key (semicolon ∷ rest)
         → ValueAt whole (with_key key b) (string key ∷ semicolon ∷ rest)
 
-  -- where rows of a table stand: behind its brace, or at the front of the text
+  -- where rows of a dictionary are: after its brace, or at the start of the text
   pub data RowsAt (whole : List Lexeme) : Before → List Lexeme → Type 0 where
     behind_brace : {b : Before} {inside : List Lexeme} → ValueAt whole b (brace_open ∷ inside) → RowsAt whole (opened b) inside
     bare : RowsAt whole (opened nothing) whole
 
-  -- a key that no row before it has, and the tokens behind it
+  -- a key that no row before it has, and the tokens after it
   pub data NewKeyAt (whole : List Lexeme) : Before → List ℕ → List Lexeme → Type 0 where
     new_key : {b : Before} {rows : Pairs} {key : List ℕ} {inside rest : List Lexeme} → RowsAt whole b inside
         → RowsPhrase inside rows (string key ∷ rest) → has_key key rows ≡ false → NewKeyAt whole (with_rows rows b) key rest

@@ -1,5 +1,5 @@
--- What is known where something is due in a text: that it may stand there, that a text goes on with
--- it, and the state of the machine.
+-- What is known where something is due in a text: that it may occur there, that a text continues
+-- with it, and the state of the machine.
 use Rattle.std.specs.Prelude.{◌≡◌, false, List, [], ◌∷◌}
 use Rattle.plist_value.specs.Plist.{Plist, Items, Pairs}
 use Rattle.ostep_lex.specs.Lexeme.{Lexeme, paren_open, paren_close, brace_open, brace_close, semicolon}
@@ -11,7 +11,7 @@ use Rattle.ostep_text.specs.Machine
 use Rattle.ostep_text.specs.Machine.{Around, IsTable, State, begun, runs, accepts}
 use Rattle.ostep_text.specs.Reading.{Front}
 
--- the tokens are the first of a phrase, and no phrase
+-- the tokens begin a phrase, but are not one
 pub record IsOpen (whole : Front) : Type 0 where
   pub others : List Lexeme
   pub goes_on : IsPhrase (whole others)
@@ -25,7 +25,7 @@ pub record ValueDue (whole : Front) (b : Before) (a : Around) (first : Lexeme) :
   pub leads : (rest : List Lexeme) → runs Machine.front (whole (first ∷ rest)) ≡ runs (begun a first) rest
   pub waits : begins_value (first ∷ []) ≡ false → accepts (runs Machine.front (whole [])) ≡ false
 
--- the value of a row, behind its `=`
+-- the value of a row, after its `=`
 pub record RowValueDue (whole : Front) (b : Before) (t : Around) : Type 0 where
   pub table : IsTable t
   pub at : (rest : List Lexeme) → ValueAt (whole rest) b rest
@@ -33,14 +33,14 @@ pub record RowValueDue (whole : Front) (b : Before) (t : Around) : Type 0 where
   pub closes : (tokens : List Lexeme) (v : Plist) → Phrase tokens v (semicolon ∷ closing) → IsPhrase (whole tokens)
   pub leads : (rest : List Lexeme) → runs Machine.front (whole rest) ≡ runs (Machine.due t) rest
 
--- the items of a list, behind its parenthesis
+-- the items of an array, after its parenthesis
 pub record ListDue (whole : Front) (b : Before) (a : Around) : Type 0 where
   pub at : (rest : List Lexeme) → ValueAt (whole rest) b (paren_open ∷ rest)
   pub closing : List Lexeme
   pub closes : (tokens : List Lexeme) (vs : Items) → ItemsPhrase tokens vs (paren_close ∷ closing) → IsPhrase (whole tokens)
   pub leads : (rest : List Lexeme) → runs Machine.front (whole rest) ≡ runs (Machine.items a) rest
 
--- the rows of a table, behind its brace
+-- the rows of a dictionary, after its brace
 pub record TableDue (whole : Front) (b : Before) (a : Around) : Type 0 where
   pub at : (rest : List Lexeme) → ValueAt (whole rest) b (brace_open ∷ rest)
   pub closing : List Lexeme
@@ -48,7 +48,7 @@ pub record TableDue (whole : Front) (b : Before) (a : Around) : Type 0 where
       → IsPhrase (whole tokens)
   pub leads : (rest : List Lexeme) → runs Machine.front (whole rest) ≡ runs (Machine.rows (Machine.in_braces a)) rest
 
--- a row, behind rows of a table, in braces or without
+-- a row, after other rows of a dictionary, in braces or without
 pub record RowDue (whole : Front) (b : Before) (t : Around) (rows pairs : Pairs) : Type 0 where
   pub table : IsTable t
   pub inside : Front

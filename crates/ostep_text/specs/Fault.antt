@@ -1,4 +1,4 @@
--- The refusals of a text: which refusal each fault is, its number, and what is printed of it.
+-- The refusal for each fault of a text, its number, and its printed form.
 use Rattle.std.specs.Prelude.{ℕ, List}
 use Rattle.plist_value.specs.Refusals.{number_of, reports, report_text}
 use Rattle.plist_value.specs.declared.refusals.Place.TheVariants.{Nowhere, Octet}
@@ -9,7 +9,7 @@ use Rattle.ostep_lex.specs.declared.fault.LexFault.TheVariants as tokens
 use Rattle.ostep_text.specs.declared.fault.TextFault.{TextFault}
 use Rattle.ostep_text.specs.declared.fault.TextFault.TheVariants.{BadUtf8, XmlForm, UnexpectedCharacter, UnclosedString, UnclosedComment, BadEscape, OctalRange, OddData, BadData, BadUtf16, DuplicateKey, TooDeep, TooManyNodes, TooMuchPayload, Expected, Junk, OutOfMemory}
 
--- a fault of the text's tokens, as one of the text
+-- a fault of the tokens as one of the text
 abbrev pub of_tokens : LexFault → TextFault
 of_tokens (tokens.BadUtf8 octet) = BadUtf8 octet
 of_tokens (tokens.XmlForm octet) = XmlForm octet
@@ -23,7 +23,7 @@ of_tokens (tokens.BadData octet) = BadData octet
 of_tokens (tokens.BadUtf16 octet) = BadUtf16 octet
 of_tokens tokens.OutOfMemory = OutOfMemory
 
--- the refusal and its octet; out of memory stands nowhere
+-- the refusal and its byte; out of memory has no position
 abbrev pub report_of : TextFault → Report
 report_of (BadUtf8 octet) = reports refusal.BadUtf8 (Octet octet)
 report_of (XmlForm octet) = reports refusal.XmlForm (Octet octet)
@@ -43,7 +43,6 @@ report_of (Expected octet) = reports refusal.Expected (Octet octet)
 report_of (Junk octet) = reports refusal.Junk (Octet octet)
 report_of OutOfMemory = reports refusal.OutOfMemory Nowhere
 
--- the number of a refusal
 abbrev pub code_of : TextFault → ℕ
 code_of fault = number_of (report_of fault).0
 

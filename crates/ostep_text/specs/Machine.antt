@@ -1,18 +1,24 @@
--- Where tokens have come in a text, as far as their kinds tell: a machine that each token moves on.
--- That keys are apart is not its business: it goes on wherever a phrase does.
+-- A state machine that follows the kinds of the tokens of a text. It does not look whether keys are
+-- distinct, so it accepts every phrase, and more.
 use Rattle.std.specs.Prelude.{Bool, true, false, List, [], ◌∷◌}
 use Rattle.ostep_lex.specs.Lexeme.{Lexeme, brace_open, brace_close, paren_open, paren_close, comma, semicolon, equals, text as string, octets as data_token}
 
--- what is around a value: nothing, a list, a table, or a table without braces
+-- what encloses a value: nothing, an array, a dictionary, or a dictionary without braces
 pub data Around : Type 0 where
   top : Around
   in_list : Around → Around
   in_braces : Around → Around
   bare : Around
 
--- the front of a text; behind a string there; where a value is due; in a list, where an item or its
--- end is due; behind a value; in a table, where a row or its end is due; behind a key; and where no
--- phrase goes on
+-- The states:
+-- - `front`: at the start of a text;
+-- - `lone`: after a string there;
+-- - `due`: a value has to follow;
+-- - `items`: in an array, before an item or its end;
+-- - `behind`: after a value;
+-- - `rows`: in a dictionary, before a row or its end;
+-- - `key`: after a key;
+-- - `dead`: no phrase continues like this.
 pub data State : Type 0 where
   front : State
   lone : State
@@ -23,7 +29,7 @@ pub data State : Type 0 where
   key : Around → State
   dead : State
 
--- where a value may begin
+-- the state after a token where a value may begin
 abbrev pub begun : Around → Lexeme → State
 begun a (string units) = behind a
 begun a (data_token xs) = behind a
@@ -31,7 +37,7 @@ begun a paren_open = items a
 begun a brace_open = rows (in_braces a)
 begun a l = dead
 
--- in a list that is itself in a
+-- the state after a token in an array enclosed by `a`, before an item or its end
 abbrev pub item_or_end : Around → Lexeme → State
 item_or_end a paren_close = behind a
 item_or_end a l = begun (in_list a) l
@@ -72,7 +78,7 @@ abbrev pub runs : State → List Lexeme → State
 runs s [] = s
 runs s (l ∷ ls) = runs (step s l) ls
 
--- where a text may end
+-- whether a text may end in the state
 abbrev pub accepts : State → Bool
 accepts front = true
 accepts lone = true
@@ -80,7 +86,7 @@ accepts (behind top) = true
 accepts (rows bare) = true
 accepts _ = false
 
--- a table, in braces or without
+-- a dictionary, in braces or without
 pub data IsTable : Around → Type 0 where
   braces : {a : Around} → IsTable (in_braces a)
   without : IsTable bare

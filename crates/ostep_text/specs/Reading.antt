@@ -17,28 +17,28 @@ pub use Rattle.ostep_text.specs.Read.{Front, AreBefore}
 use Rattle.ostep_text.specs.Stands.{Stands}
 use Rattle.ostep_text.specs.declared.tokens.Tokens.{Tokens}
 
--- of the input these tokens were read
+-- these tokens of the input were read
 pub record HasRead (octets : List ℕ) (tokens : List Placed) (source : Tokens) : Type 0 where
   pub behind : StandsBehind octets tokens source.cursor
   pub ends : source.end ≡ length octets
 
--- the fault stands if the octets have tokens
+-- the fault is true if the bytes have tokens
 abbrev pub StandsIfLexed : List ℕ → TextFault → Type 0
 StandsIfLexed octets fault = (all : List Placed) → HasTokens octets all → Stands octets fault
 
--- where the node at the octet passes a limit, that fault stands
+-- if the node at this byte exceeds a limit, the fault of that limit is true
 pub record MayRefuse (octets : List ℕ) (at levels load : ℕ) (left : Budget) : Type 0 where
   pub many : left.nodes ≡ 0 → StandsIfLexed octets (TooManyNodes at)
   pub deep : levels ≡ 0 → StandsIfLexed octets (TooDeep at)
   pub much : left.payload < load → StandsIfLexed octets (TooMuchPayload at)
 
--- what is left of the limits behind so much
+-- what is left of the limits after what is counted in `b`
 pub record IsLeft (left : Budget) (levels : ℕ) (b : Before) : Type 0 where
   pub nodes_left : left.nodes + b.nodes ≡ MAX_NODES
   pub payload_left : left.payload + b.payload ≡ MAX_PAYLOAD
   pub levels_left : levels + b.open_containers ≡ MAX_DEPTH
 
--- what was read of the input up to there
+-- what was read of the input up to the state `source`
 abbrev pub ReadsValue : List ℕ → List Placed → Lexeme → Plist → Tokens → Type 0
 ReadsValue octets tokens first v source = Read.ReadsValue (λ all. HasRead octets all source) tokens first v
 
@@ -51,14 +51,13 @@ ReadsItems octets tokens end vs source = Read.ReadsItems (λ all. HasRead octets
 abbrev pub ReadsRow : List ℕ → List Placed → List ℕ → Plist → Tokens → Type 0
 ReadsRow octets tokens key v source = Read.ReadsRow (λ all. HasRead octets all source) tokens key v
 
--- and rows that are, in the order of their keys, the pairs
+-- like `Read.ReadsRows`, with the rows sorted by their keys
 pub record ReadsRows (octets : List ℕ) (tokens : List Placed) (end : List Lexeme) (pairs : Pairs) (source : Tokens) : Type 0 where
   pub rows : Pairs
   pub read : Read.ReadsRows (λ all. HasRead octets all source) tokens end rows
   pub same : AreReordered rows pairs
 
--- a value, items, pairs, or a row, as they must be to lie so many levels deep, with what is left
--- then
+-- what a value, items, pairs or a row take, and that they are valid and at most `levels` deep
 pub record Takes (left : Budget) (levels : ℕ) (v : Plist) (after : Budget) : Type 0 where
   pub spent : Spends left (nodes v) (payload v) after
   pub deep : depth v ≤ levels

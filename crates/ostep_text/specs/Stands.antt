@@ -1,4 +1,4 @@
--- Where each fault of a text stands.
+-- Which fault of a text is true, and where.
 use Rattle.std.specs.Prelude.{◌≡◌, ℕ, ◌+◌, ◌*◌, ◌<◌, ◌≤◌, true, List, [], ◌∷◌, ◌++◌, length, ⊤}
 use Rattle.plist_value.specs.Plist.{Plist, Pairs}
 use Rattle.plist_value.specs.declared.TheConstants.{MAX_NODES, MAX_DEPTH, MAX_PAYLOAD}
@@ -13,12 +13,12 @@ use Rattle.ostep_text.specs.Sorting.{has_key}
 use Rattle.ostep_text.specs.Begun.{Before, RowsAt, NodeAt}
 use Rattle.ostep_text.specs.Text.{lexemes}
 
--- the first octet of the first token, or the number of the octets
+-- where the first token begins, or the number of bytes
 abbrev pub start_of : List ℕ → List Placed → ℕ
 start_of octets [] = length octets
 start_of octets (token ∷ others) = token.start
 
--- the octets have tokens, these before the octet `at` and those from it on
+-- the bytes have tokens, these before offset `at` and those from it on
 pub record Splits (octets : List ℕ) (at : ℕ) (before from : List Lexeme) : Type 0 where
   pub tokens : List Placed
   pub others : List Placed
@@ -27,13 +27,13 @@ pub record Splits (octets : List ℕ) (at : ℕ) (before from : List Lexeme) : T
   pub from_are : lexemes others ≡ from
   pub stands : at ≡ start_of octets others
 
--- at the octet a value or a key begins
+-- a value or a key begins at this byte
 pub record BeginsAt (octets : List ℕ) (at : ℕ) (b : Before) (from : List Lexeme) : Type 0 where
   pub before : List Lexeme
   pub splits : Splits octets at before from
   pub begins : NodeAt (before ++ from) b from
 
--- DuplicateKey: at the octet a key begins that a row before it in its table has
+-- DuplicateKey: a key begins at this byte that an earlier row of its dictionary has
 pub record HasKeyTwice (octets : List ℕ) (at : ℕ) : Type 0 where
   pub key : List ℕ
   pub before : List Lexeme
@@ -46,15 +46,15 @@ pub record HasKeyTwice (octets : List ℕ) (at : ℕ) : Type 0 where
   pub rows_before : RowsPhrase inside rows (string key ∷ behind)
   pub twice : has_key key rows ≡ true
 
--- TooDeep: at the octet a value or a key begins, inside as many open lists and tables as a value is
--- deep at most
+-- TooDeep: a value or a key begins at this byte, and the greatest allowed number of arrays and
+-- dictionaries is open there
 pub record IsTooDeep (octets : List ℕ) (at : ℕ) : Type 0 where
   pub before : Before
   pub from : List Lexeme
   pub begins : BeginsAt octets at before from
   pub full : before.open_containers ≡ MAX_DEPTH
 
--- TooManyNodes: at the octet a value or a key begins, behind as many as a value has at most
+-- TooManyNodes: a value or a key begins at this byte, after as many as a value may have
 pub record HasTooManyNodes (octets : List ℕ) (at : ℕ) : Type 0 where
   pub before : Before
   pub from : List Lexeme
@@ -67,7 +67,7 @@ payload_at (string units ∷ behind) = 2 * length units
 payload_at (data_token xs ∷ behind) = length xs
 payload_at _ = 0
 
--- TooMuchPayload: with the string or the data that begins at the octet the payload passes the limit
+-- TooMuchPayload: with the string or data that begins at this byte the payload exceeds the limit
 pub record HasTooMuchPayload (octets : List ℕ) (at : ℕ) : Type 0 where
   pub before : Before
   pub from : List Lexeme
@@ -79,12 +79,12 @@ pub record HasTooMuchPayload (octets : List ℕ) (at : ℕ) : Type 0 where
 abbrev pub IsPhrase : List Lexeme → Type 0
 IsPhrase tokens = (v : Plist) × TopPhrase tokens v
 
--- the tokens are the first of a phrase
+-- the tokens begin a phrase
 abbrev pub BeginsPhrase : List Lexeme → Type 0
 BeginsPhrase tokens = (others : List Lexeme) × IsPhrase (tokens ++ others)
 
--- Expected: no phrase goes on with the token at the octet, or the text ends there, and the tokens
--- before it are none or an unfinished phrase
+-- Expected: no phrase continues with the token at this byte, or the text ends there, and the tokens
+-- before it are not a complete phrase
 pub data IsUnfinished (octets : List ℕ) (at : ℕ) : Type 0 where
   at_token : {before others : List Lexeme} {token : Lexeme} → Splits octets at before (token ∷ others) → BeginsPhrase before
       → ¬ IsPhrase before → ¬ BeginsPhrase (before ++ token ∷ []) → IsUnfinished octets at
@@ -92,12 +92,12 @@ pub data IsUnfinished (octets : List ℕ) (at : ℕ) : Type 0 where
   at_front : {others : List Lexeme} {token : Lexeme} → Splits octets at [] (token ∷ others) → ¬ BeginsPhrase (token ∷ [])
       → IsUnfinished octets at
 
--- Junk: the tokens before the octet are a phrase, and no phrase goes on with the token there
+-- Junk: the tokens before this byte are a phrase, which no phrase continues with the token there
 pub data HasJunk (octets : List ℕ) (at : ℕ) : Type 0 where
   behind_phrase : {first token : Lexeme} {more others : List Lexeme} → Splits octets at (first ∷ more) (token ∷ others)
       → IsPhrase (first ∷ more) → ¬ BeginsPhrase (first ∷ (more ++ token ∷ [])) → HasJunk octets at
 
--- the octets have the fault at its place; out of memory says nothing of them
+-- the fault is true of the bytes, at its place; out of memory says nothing about them
 abbrev pub Stands : List ℕ → TextFault → Type 0
 Stands octets (BadUtf8 at) = StandsInTokens octets (tokens.BadUtf8 at)
 Stands octets (XmlForm at) = StandsInTokens octets (tokens.XmlForm at)

@@ -9,8 +9,7 @@ use Rattle.ostep_text.specs.Phrase.{TopPhrase}
 abbrev pub lexemes : List Placed → List Lexeme
 lexemes tokens = map (λ token. token.lexeme) tokens
 
--- the octets are those of a text whose tokens are a phrase of the value, and the value is within
--- the limits
+-- the bytes are a text whose tokens are a phrase of the value, which is within the limits
 pub record IsText (octets : List ℕ) (v : Plist) : Type 0 where
   pub tokens : List Placed
   pub has : HasTokens octets tokens
@@ -18,6 +17,6 @@ pub record IsText (octets : List ℕ) (v : Plist) : Type 0 where
   pub is_plist : IsPlist v
   pub fits : Fits v
 
--- the octets are a text of no value
+-- the bytes are not a text of any value
 abbrev pub IsNoText : List ℕ → Type 0
 IsNoText octets = (v : Plist) → IsText octets v → ⊥

@@ -1,5 +1,4 @@
--- The refusals of the writer of texts: which refusal each fault is, its number, and what is printed
--- of it.
+-- The refusal for each fault of the writer, its number, and its printed form.
 use Rattle.std.specs.Prelude.{ℕ, List}
 use Rattle.plist_value.specs.Refusals.{number_of, reports, report_text}
 use Rattle.plist_value.specs.declared.refusals.Place.TheVariants.{Nowhere}
@@ -8,12 +7,11 @@ use Rattle.plist_value.specs.declared.refusals.Report.{Report}
 use Rattle.ostep_text.specs.declared.write_fault.TextWriteFault.{TextWriteFault}
 use Rattle.ostep_text.specs.declared.write_fault.TextWriteFault.TheVariants.{NotInOpenStep, OutOfMemory}
 
--- the refusal; it stands nowhere
+-- the refusal, which has no position
 abbrev pub report_of : TextWriteFault → Report
 report_of NotInOpenStep = reports refusal.NotInOpenStep Nowhere
 report_of OutOfMemory = reports refusal.OutOfMemory Nowhere
 
--- the number of a refusal
 abbrev pub code_of : TextWriteFault → ℕ
 code_of fault = number_of (report_of fault).0
 

@@ -1,4 +1,4 @@
--- The text that is written for a value.
+-- The text written for a value.
 use Rattle.std.specs.Prelude.{ℕ, ◌/◌, ◌%◌, Bool, true, false, not, ◌&&◌, ◌==◌, List, [], ◌∷◌, ◌++◌, Option, Some, None, nat_eq, if◌then◌else◌, codes, flat_map}
 use Rattle.std.specs.Char.{is_ascii_alphanumeric}
 use Rattle.std.specs.Int.{is_in_range}
@@ -6,7 +6,7 @@ use Rattle.std.specs.List.{starts_with}
 use Rattle.plist_value.specs.Plist.{Scalar, text, bytes, Plist, scalar, list, table, Items, no_items, item, Pairs, no_pairs, pair}
 use Rattle.plist_value.specs.Digits.{two_digits}
 
--- texts and data, and lists and tables of such
+-- whether the value has only strings, data, arrays and dictionaries
 abbrev pub is_writable_scalar : Scalar → Bool
 is_writable_scalar (text units) = true
 is_writable_scalar (bytes xs) = true
@@ -26,7 +26,7 @@ abbrev mutual
   are_writable_pairs no_pairs = true
   are_writable_pairs (pair key v ps) = is_writable v && are_writable_pairs ps
 
--- `<`, the octets, `>`
+-- `<`, the digits of the bytes, `>`
 abbrev pub written_data : List ℕ → List ℕ
 written_data xs = codes "<" ++ flat_map two_digits xs ++ codes ">"
 
@@ -38,12 +38,12 @@ abbrev pub is_empty : List ℕ → Bool
 is_empty [] = true
 is_empty (unit ∷ units) = false
 
--- ASCII letters and digits alone, at least one, and not those that a binary file begins with
+-- only ASCII letters and digits, at least one, and not beginning like a binary file
 abbrev pub is_plain : List ℕ → Bool
 is_plain units = not (is_empty units) && are_alphanumeric units && not (starts_with nat_eq units (codes "bplist"))
 
--- a unit between quotes: as an escape, as itself where it is a printable ASCII character, or as
--- `\U` and four lower-case hexadecimal digits
+-- a unit between quotes: an escape, the unit itself if it is a printable ASCII character, or `\U`
+-- and four lower-case hexadecimal digits
 abbrev pub quoted_unit : ℕ → List ℕ
 quoted_unit unit =
     if unit == 34 then codes "\\\""
@@ -54,7 +54,7 @@ quoted_unit unit =
     else (if is_in_range 0x20 0x7e unit then unit ∷ []
     else codes "\\U" ++ two_digits (unit / 256) ++ two_digits (unit % 256))))))
 
--- as it stands where it is plain, else between quotes
+-- unchanged if the string is plain, else between quotes
 abbrev pub written_text : List ℕ → List ℕ
 written_text units = if is_plain units then units else codes "\"" ++ flat_map quoted_unit units ++ codes "\""
 
@@ -63,8 +63,8 @@ written_scalar (text units) = written_text units
 written_scalar (bytes xs) = written_data xs
 written_scalar _ = []
 
--- a list is `(`, each item with `,` behind it, `)`; a table `{`, each key, ` = `, its value and
--- `;`, `}`; a newline stands behind each opening, each `,` and each `;`
+-- An array is `(` and a newline, each item followed by `,` and a newline, and `)`. A dictionary is
+-- `{` and a newline, each key followed by ` = `, its value, `;` and a newline, and `}`.
 abbrev mutual
   pub written : Plist → List ℕ
   written (scalar s) = written_scalar s
@@ -79,6 +79,6 @@ abbrev mutual
   written_pairs no_pairs = []
   written_pairs (pair key v ps) = written_text key ++ codes " = " ++ written v ++ codes ";\n" ++ written_pairs ps
 
--- the whole text, with a newline at its end: Some exactly where the value is writable
+-- the whole text, with a newline at its end: Some if and only if the value is writable
 abbrev pub text_of : Plist → Option (List ℕ)
 text_of v = if is_writable v then Some (written v ++ codes "\n") else None

@@ -1,4 +1,4 @@
-//! Why octets are a text of no value.
+//! The error type of the reader.
 ghost use Rattle.std.specs.Prelude.{◌≡◌, Some};
 ghost use Rattle.ostep_text.specs.Fault.{code_of, of_tokens, report_of, text_of_fault};
 ghost use Rattle.ostep_text.specs.declared.fault.TextFault.TheVariants.{OutOfMemory};
@@ -9,59 +9,59 @@ use std::alloc::{AllocError, AllocFailed};
 use std::fmt;
 use thiserror::Error;
 
-/// Why octets are a text of no value. Each place counts octets from the input's first, its mark
-/// included. A fault of the tokens (`BadUtf8` to `BadUtf16`) comes before all others but
-/// `OutOfMemory`.
+/// Why bytes are not a text of any value. Offsets count bytes from the start of the input, its BOM
+/// included. Faults of tokens (`BadUtf8` to `BadUtf16`) come before all others but `OutOfMemory`.
 #[derive(Clone, Copy, Debug, PartialEq, Eq, Error)]
 pub enum TextFault {
-    /// No UTF-8 character begins at this octet, and whole characters stand before it. Comes before
-    /// all other faults of a text with no UTF-16 mark.
+    /// No UTF-8 character begins at this byte; only whole characters come before it. Comes before
+    /// all other faults of a text without a UTF-16 BOM.
     BadUtf8 { octet: usize },
-    /// The text begins as an XML property list does, at this octet, its `<`. Comes next.
+    /// The text begins like an XML property list; its `<` is at this byte. Comes next.
     XmlForm { octet: usize },
-    /// The character at this octet begins no token, white or comment.
+    /// The character at this byte begins no token, whitespace or comment.
     UnexpectedCharacter { octet: usize },
-    /// The string whose quote stands at this octet has no end.
+    /// The string whose quote is at this byte has no end.
     UnclosedString { octet: usize },
-    /// The comment whose `/*` stands at this octet has no end.
+    /// The comment whose `/*` is at this byte has no end.
     UnclosedComment { octet: usize },
-    /// No hexadecimal digit follows the `\U` whose backslash stands at this octet.
+    /// No hexadecimal digit follows the `\U` whose backslash is at this byte.
     BadEscape { octet: usize },
-    /// The octal escape whose backslash stands at this octet has a value above octal 177.
+    /// The octal escape whose backslash is at this byte has a value above octal 177.
     OctalRange { octet: usize },
-    /// No second digit follows the hexadecimal digit at this octet of a data token.
+    /// No second digit follows the hexadecimal digit at this byte of a data token.
     OddData { octet: usize },
-    /// At this octet of a data token stands neither a pair of digits nor `>`, or the text ends.
+    /// This byte of a data token begins neither a pair of digits nor `>`, or is the end of the
+    /// text.
     BadData { octet: usize },
-    /// No UTF-16 character begins at this octet, and whole characters stand between the mark and
-    /// it. Comes before all other faults of a text with a UTF-16 mark.
+    /// No UTF-16 character begins at this byte; only whole characters come between the BOM and it.
+    /// Comes before all other faults of a text with a UTF-16 BOM.
     BadUtf16 { octet: usize },
-    /// At this octet a key begins that a row before it in its table has.
+    /// The key that begins at this byte already occurs in its dictionary.
     DuplicateKey { octet: usize },
-    /// The value or key that begins at this octet lies inside `MAX_DEPTH` lists and tables.
+    /// The value or key that begins at this byte is nested in `MAX_DEPTH` arrays and dictionaries.
     TooDeep { octet: usize },
-    /// The value or key that begins at this octet is one more than a value may hold, `MAX_NODES`.
+    /// The value or key that begins at this byte exceeds `MAX_NODES`.
     TooManyNodes { octet: usize },
-    /// With the string or the data that begins at this octet the payload passes `MAX_PAYLOAD`.
+    /// With the string or data that begins at this byte the payload exceeds `MAX_PAYLOAD`.
     TooMuchPayload { octet: usize },
-    /// No text goes on with the token at this octet, or the text ends there, and the tokens before
-    /// it are none or no whole text.
+    /// The token at this byte, or the end, cannot continue the text, and the tokens before it are
+    /// not a complete text.
     Expected { octet: usize },
-    /// The tokens before this octet are a whole text, and none goes on with the token there.
+    /// The tokens before this byte are a complete text, which the token there cannot continue.
     Junk { octet: usize },
-    /// There was no memory. May come before any other fault.
+    /// Out of memory. May come before any other fault.
     OutOfMemory,
 }
 
 impl TextFault {
-    /// The number of the refusal: 14, 16 to 18, 20, 21, 23 to 32 or 60.
+    /// Returns the number of the refusal: 14, 16 to 18, 20, 21, 23 to 32 or 60.
     pub fn code(&self) -> u8
         ensures { result ≡ code_of self.now }
     {
         self.report().0.number()
     }
 
-    /// Which refusal it is, and what it names.
+    /// Returns the refusal and the byte that it names.
     pub fn report(&self) -> Report
         ensures { result ≡ report_of self.now }
     {
@@ -95,7 +95,7 @@ impl TextFault {
     }
 }
 
-/// The number, the name and the place of the refusal, as `30 Expected at octet 4`.
+/// Prints the number, the name and the place of the refusal, such as `30 Expected at octet 4`.
 impl fmt::Display for TextFault {
     ghost output = { λ fault. Some (text_of_fault fault) };
 
@@ -105,7 +105,7 @@ impl fmt::Display for TextFault {
     }
 }
 
-/// A fault of the text's tokens, under its own name.
+/// Keeps the name of a fault of the tokens.
 impl From<LexFault> for TextFault {
     ghost from_gives = { λ fault e. e ≡ of_tokens fault };
 

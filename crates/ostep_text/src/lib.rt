@@ -1,10 +1,11 @@
-//! Property lists as OpenStep texts: the reader and the writer.
+//! Reads and writes property lists as OpenStep texts.
 //!
-//! The form is that of Apple's guide "Old-Style ASCII Property Lists", in our profile: at the top
-//! the braces of a dictionary may be missing, and a text without tokens is the empty dictionary.
+//! The format is that of Apple's guide "Old-Style ASCII Property Lists", with this project's
+//! choices: at the top level the braces of a dictionary may be missing, and a text without tokens
+//! is the empty dictionary.
 //!
-//! The definitions stand in `specs/`: what is a text of a value, where each refusal stands, and the
-//! text that is written for a value. What holds of them alone is proved in `laws`.
+//! The definitions are in `specs/`: what a text of a value is, which refusal is true and where, and
+//! the text that is written for a value. `laws` proves what holds of them alone.
 #![tactic(auto)]
 
 pub mod fault;

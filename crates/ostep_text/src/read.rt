@@ -1,4 +1,4 @@
-//! Whole texts.
+//! Reading a whole text.
 ghost use Rattle.std.specs.Prelude.{◌≢◌, IfOk, IfErr};
 ghost use Rattle.plist_value.specs.View.{view};
 ghost use Rattle.ostep_text.specs.Text.{IsText, IsNoText};
@@ -12,21 +12,21 @@ use plist_value::{Budget, Value};
 use std::alloc::Global;
 use std::collections::BTreeMap;
 
-/// The value of a text: UTF-8, or UTF-16 of either order behind its mark. At the top the braces of
-/// a table may be missing, and a text without tokens is the empty table.
+/// Reads a text: UTF-8, or UTF-16 of either byte order after its BOM. At the top level the braces
+/// of a dictionary may be missing, and a text without tokens is the empty dictionary.
 ///
 /// # Errors
 ///
-/// Those of [`tokens`](ostep_lex::tokens) first, whatever else is wrong. Then the leftmost of
-/// these: a token that no text has there, or an end that comes too early (`Expected`, `Junk`), a
-/// duplicate key (`DuplicateKey`), and a node past the limits (`TooManyNodes`, `TooDeep`,
-/// `TooMuchPayload`, in this order at one node). Any step may fail with `OutOfMemory`.
+/// Faults of [`tokens`](ostep_lex::tokens) come first, wherever they are. Otherwise fails with the
+/// leftmost of these: a token that cannot occur there, or an early end (`Expected`, `Junk`); a
+/// duplicate key (`DuplicateKey`); a node beyond the limits (`TooManyNodes`, `TooDeep`,
+/// `TooMuchPayload`, in this order for one node). Any step may fail with `OutOfMemory`.
 pub fn read_text(alloc: Global, octets: &[u8]) -> Result<Value, TextFault>
-    // The octets are a text of the value, which is within the limits.
+    // The bytes are a text of the value, which is within the limits.
     ensures read { IfOk result (λ value. IsText octets.now (view value)) }
-    // The fault stands at its place.
+    // The fault is true at its place.
     ensures stands { IfErr result (Stands octets.now) }
-    // The octets are a text of no value.
+    // The bytes are not a text of any value.
     ensures refused { IfErr result (λ fault.
         fault ≢ TextFault.OutOfMemory → IsNoText octets.now) }
 {

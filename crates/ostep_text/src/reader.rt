@@ -1,4 +1,4 @@
-//! Values, lists and tables, as their tokens are read, and whole texts.
+//! Parsing values, arrays, dictionaries and whole texts as their tokens are read.
 ghost use Rattle.std.specs.Prelude.{◌≡◌, ◌≤◌, ◌*◌, ◌∷◌, ◌++◌, [], false, ℕ, List};
 ghost use Rattle.std.specs.Prelude.{length, IfOk, IfErr};
 ghost use Rattle.std.specs.Result.{OnOk};
@@ -28,10 +28,10 @@ use plist_value::{Budget, MAX_DEPTH, Utf16, Value};
 use std::alloc::Global;
 use std::collections::BTreeMap;
 
-// How many levels deep what lies in a table without braces may be.
+// The depth allowed inside a dictionary without braces.
 const BARE_LEVELS: u64 = MAX_DEPTH - 1;
 
-// The tokens that are to be read of a text, and what is left of the limits.
+// The tokens not yet read, and what is left of the limits.
 #[derive(Drop)]
 pub(crate) struct Reader<'a> {
     pub(crate) alloc: Global,
@@ -40,7 +40,7 @@ pub(crate) struct Reader<'a> {
 }
 
 impl<'a> Reader<'a> {
-    // The text that begins with the token, which is no string.
+    // Reads a text that begins with this token, which is not a string.
     pub(crate) fn value_first(&mut self, first: Token) -> Result<Value, TextFault>
         ensures read { (octets : List ℕ) → HasRead octets (placed first ∷ []) self.old.tokens
             → IsLeft self.old.left MAX_DEPTH nothing
@@ -58,7 +58,7 @@ impl<'a> Reader<'a> {
         self.finish(value)
     }
 
-    // The value, behind which the text ends; its first token is no string.
+    // Returns `value` if the text ends after it. Its first token is not a string.
     fn finish(&mut self, value: Value) -> Result<Value, TextFault>
         ensures read { (octets : List ℕ) (first : Lexeme)
             → ReadsValue octets [] first (view value) self.old.tokens
@@ -75,7 +75,7 @@ impl<'a> Reader<'a> {
         }
     }
 
-    // The text that begins with the string: the string, or a table without braces.
+    // Reads a text that begins with this string: the string alone, or a dictionary without braces.
     pub(crate) fn string_first(&mut self, text: Utf16, octet: usize) -> Result<Value, TextFault>
         ensures read { (octets : List ℕ) (at : Placed) → at.lexeme ≡ string text
             → at.start ≡ octet → HasRead octets (at ∷ []) self.old.tokens
@@ -109,8 +109,8 @@ impl<'a> Reader<'a> {
         }
     }
 
-    // The table without braces, a node at the first token, and its first key, the token behind
-    // which was read.
+    // Counts a dictionary without braces, as a node at its first token, and its first key. The
+    // token after the key was read already.
     fn first_key(&mut self, key: &Utf16, octet: usize) -> Result<(), TextFault>
         ensures spent { OnOk result (Spends self.old.left 2 (2 * length key.now) self.new.left) }
         ensures valid { OnOk result (AreUnits key.now) }
@@ -124,7 +124,7 @@ impl<'a> Reader<'a> {
         self.charge(octet, BARE_LEVELS, text_payload(key))
     }
 
-    // The table without braces, from behind its first row on.
+    // Reads a dictionary without braces after its first row.
     fn bare_table(&mut self, key: Utf16, value: Value) -> Result<Value, TextFault>
         ensures read { (octets : List ℕ) (left : Left) → IsLeft left BARE_LEVELS (opened nothing)
             → TakesRow left BARE_LEVELS key (view value) self.old.left
@@ -154,7 +154,7 @@ impl<'a> Reader<'a> {
         Ok(Value::Table(rows))
     }
 
-    // The value that begins with the token, of at most so many levels.
+    // Reads the value that begins with this token; `levels` is the depth allowed for it.
     #[cycle(value)]
     fn value(&mut self, first: Token, levels: u64) -> Result<Value, TextFault>
         ensures shorter { OnOk result
@@ -195,7 +195,7 @@ impl<'a> Reader<'a> {
         }
     }
 
-    // The items of a list, behind its parenthesis, and the parenthesis that ends it.
+    // Reads the items of an array after its `(`, up to and with its `)`.
     #[cycle(value)]
     fn items(&mut self, levels: u64) -> Result<Vec<Value>, TextFault>
         ensures shorter { OnOk result
@@ -230,7 +230,7 @@ impl<'a> Reader<'a> {
         }
     }
 
-    // The rows of a table, behind its brace, and the brace that ends it.
+    // Reads the rows of a dictionary after its `{`, up to and with its `}`.
     #[cycle(value)]
     fn rows(&mut self, levels: u64) -> Result<BTreeMap<Utf16, Value>, TextFault>
         ensures shorter { OnOk result
@@ -264,8 +264,8 @@ impl<'a> Reader<'a> {
         }
     }
 
-    // The value of a row more, which begins with the key at the octet; a row has the key if it is
-    // known, and then the key is refused.
+    // Reads the rest of a row after its key, which begins at `octet`, and returns the value.
+    // Refuses the key if it is already `known`.
     #[cycle(value)]
     fn row(
         &mut self,
@@ -305,7 +305,7 @@ impl<'a> Reader<'a> {
         }
     }
 
-    // The value of a row, behind its `=`, and the `;` behind it.
+    // Reads the value of a row after its `=`, and the `;` after it.
     #[cycle(value)]
     fn row_value(&mut self, levels: u64) -> Result<Value, TextFault>
         ensures shorter { OnOk result
@@ -332,7 +332,7 @@ impl<'a> Reader<'a> {
         }
     }
 
-    // The value of a key that stands alone, which begins at the octet: the key itself.
+    // Returns the value of a key without `=`, which is the key itself and begins at `octet`.
     fn key_alone(&mut self, key: &Utf16, octet: usize, levels: u64) -> Result<Value, TextFault>
         ensures tokens { self.new.tokens ≡ self.old.tokens }
         ensures value { IfOk result (λ value. view value ≡ scalar (text key.now)) }
@@ -348,7 +348,8 @@ impl<'a> Reader<'a> {
         Ok(Value::Text(key.copy(self.alloc)?))
     }
 
-    // One node more, which begins at the octet and may be so many levels deep, and its payload.
+    // Counts a node that begins at `octet`, and its payload, against the limits; `levels` is the
+    // depth allowed for it.
     fn charge(&mut self, octet: usize, levels: u64, payload: u128) -> Result<(), TextFault>
         ensures spent { OnOk result (Spends self.old.left 1 payload self.new.left) }
         ensures deep { OnOk result (1 ≤ levels) }

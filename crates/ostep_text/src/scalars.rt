@@ -1,4 +1,4 @@
-//! Texts and data as they are written.
+//! Writing strings and data.
 ghost use Rattle.std.specs.Prelude.{◌≡◌, ◌<◌, ◌≤◌, [], ◌∷◌, ◌++◌, true, nat_eq};
 ghost use Rattle.std.specs.Prelude.{length, take, drop, codes, flat_map, OnOk, IfOk};
 ghost use Rattle.std.specs.Bool.{OnTrue};
@@ -11,7 +11,7 @@ ghost use Rattle.ostep_text.specs.Written.{written_data, written_text};
 use plist_value::{digits_of, put_digits};
 use std::alloc::AllocError;
 
-/// The octets as data, behind what `out` has.
+/// Appends the bytes as data to `out`.
 pub(crate) fn put_data(out: &mut Vec<u8>, octets: &[u8]) -> Result<(), AllocError>
     ensures { OnOk result (out.new.items ≡ out.old.items ++ written_data octets.now) }
 {
@@ -22,7 +22,7 @@ pub(crate) fn put_data(out: &mut Vec<u8>, octets: &[u8]) -> Result<(), AllocErro
     Ok(())
 }
 
-/// The text of these units, without quotes where it is plain, behind what `out` has.
+/// Appends the string to `out`, without quotes if it is plain.
 pub(crate) fn put_text(out: &mut Vec<u8>, units: &[u16]) -> Result<(), AllocError>
     ensures { OnOk result (out.new.items ≡ out.old.items ++ written_text units.now) }
 {
@@ -33,7 +33,7 @@ pub(crate) fn put_text(out: &mut Vec<u8>, units: &[u16]) -> Result<(), AllocErro
     }
 }
 
-// Whether the text stands without quotes.
+// Returns whether the string needs no quotes.
 fn is_plain(units: &[u16]) -> bool
     ensures { result ≡ is_plain units.now }
 {
@@ -51,21 +51,21 @@ fn are_alphanumeric(units: &[u16]) -> bool
     true
 }
 
-// Whether the unit is an ASCII letter or digit.
+// Returns whether the unit is an ASCII letter or digit.
 fn is_alphanumeric(unit: u16) -> bool
     ensures { result ≡ is_ascii_alphanumeric unit }
 {
     matches!(unit, 0x30..=0x39 | 0x41..=0x5a | 0x61..=0x7a)
 }
 
-// Whether the text begins with `bplist`, as a binary file does.
+// Returns whether the string begins with `bplist`, as a binary file does.
 fn begins_as_binary(units: &[u16]) -> bool
     ensures { result ≡ starts_with nat_eq units.now (codes "bplist") }
 {
     units.starts_with(&[0x62, 0x70, 0x6c, 0x69, 0x73, 0x74])
 }
 
-// The units as they are, each an octet.
+// Appends each unit as a byte.
 fn put_units(out: &mut Vec<u8>, units: &[u16]) -> Result<(), AllocError>
     requires { are_ascii units.now ≡ true }
     ensures { OnOk result (out.new.items ≡ out.old.items ++ units.now) }
@@ -76,7 +76,7 @@ fn put_units(out: &mut Vec<u8>, units: &[u16]) -> Result<(), AllocError>
     Ok(())
 }
 
-// Each unit into its octet.
+// Copies each unit into its byte.
 fn narrow(octets: &mut [u8], units: &[u16])
     requires long { length octets.old ≡ length units.now }
     requires ascii { are_ascii units.now ≡ true }
@@ -87,7 +87,7 @@ fn narrow(octets: &mut [u8], units: &[u16])
     }
 }
 
-// The units between quotes.
+// Appends the string between quotes.
 fn put_quoted(out: &mut Vec<u8>, units: &[u16]) -> Result<(), AllocError>
     ensures { OnOk result (out.new.items
         ≡ out.old.items ++ codes "\"" ++ flat_map quoted_unit units.now ++ codes "\"") }
@@ -102,7 +102,7 @@ fn put_quoted(out: &mut Vec<u8>, units: &[u16]) -> Result<(), AllocError>
     Ok(())
 }
 
-// The units at the front that stand between quotes as they are. It answers those behind them.
+// Appends the longest prefix that needs no escapes and returns the rest.
 fn put_stretch<'a>(out: &mut Vec<u8>, units: &'a [u16]) -> Result<&'a [u16], AllocError>
     ensures octets { IfOk result (λ left. out.new.items ++ flat_map quoted_unit left.now
         ≡ out.old.items ++ flat_map quoted_unit units.entry.now) }
@@ -113,7 +113,7 @@ fn put_stretch<'a>(out: &mut Vec<u8>, units: &'a [u16]) -> Result<&'a [u16], All
     Ok(left)
 }
 
-// How many units at the front stand between quotes as they are.
+// Returns the length of the longest prefix that needs no escapes.
 fn stretch_length(units: &[u16]) -> usize
     ensures within { result ≤ length units.now }
     ensures ascii { are_ascii (take result units.now) ≡ true }
@@ -128,7 +128,7 @@ fn stretch_length(units: &[u16]) -> usize
     units.len()
 }
 
-// Whether the unit stands between quotes as it is: printable ASCII, and neither `"` nor a
+// Returns whether the unit needs no escape between quotes: printable ASCII, and neither `"` nor a
 // backslash.
 fn stands_itself(unit: u16) -> bool
     ensures ascii { OnTrue result (unit < 128) }

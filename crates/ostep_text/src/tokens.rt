@@ -1,4 +1,4 @@
-//! The tokens of a text, one after another, and their faults.
+//! The tokens of a text in order, and their faults.
 ghost use Rattle.std.specs.Prelude.{◌≡◌, ◌<◌, ◌∷◌, ◌++◌, [], ℕ, List, length};
 ghost use Rattle.std.specs.Prelude.{MatchOption, IfSome, IfNone, IfOk, IfErr};
 ghost use Rattle.std.specs.Result.{OnOk};
@@ -14,7 +14,7 @@ use crate::TextFault;
 use ostep_lex::{Cursor, Token, TokenKind, next_mark, next_token};
 use std::alloc::Global;
 
-// The tokens of an input of `end` octets, from a place on.
+// The tokens from `cursor` on of an input of `end` bytes.
 #[derive(Drop)]
 pub(crate) struct Tokens<'a> {
     pub(crate) alloc: Global,
@@ -23,7 +23,7 @@ pub(crate) struct Tokens<'a> {
 }
 
 impl<'a> Tokens<'a> {
-    // The next token, or None where the text ends.
+    // Returns the next token, or `None` at the end of the text.
     pub(crate) fn next(&mut self) -> Result<Option<Token>, TextFault>
         ensures read { (octets : List ℕ) (tokens : List Placed) → HasRead octets tokens self.old
             → IfOk result (λ found. MatchOption found (HasTokens octets tokens)
@@ -43,7 +43,7 @@ impl<'a> Tokens<'a> {
         }
     }
 
-    // The next token, where a text may not end.
+    // Returns the next token, or fails at the end of the text.
     pub(crate) fn expect(&mut self) -> Result<Token, TextFault>
         ensures read { (octets : List ℕ) (tokens : List Placed) → HasRead octets tokens self.old
             → IfOk result (λ token. HasRead octets (tokens ++ placed token ∷ []) self.new) }
@@ -60,7 +60,7 @@ impl<'a> Tokens<'a> {
         }
     }
 
-    // The next token, as `expect` has it, with less work where it is the mark.
+    // Like [`expect`](Tokens::expect), but cheaper if the next token is `mark`.
     #[inline(always)]
     pub(crate) fn expect_mark(&mut self, mark: char) -> Result<Token, TextFault>
         ensures read { (octets : List ℕ) (tokens : List Placed) → HasRead octets tokens self.old
@@ -80,7 +80,8 @@ impl<'a> Tokens<'a> {
         }
     }
 
-    // The fault, unless one of the tokens that are left comes first.
+    // Returns `fault`, or the first fault of the remaining tokens if there is one, which takes
+    // precedence.
     pub(crate) fn refuse(&self, fault: TextFault) -> TextFault
         ensures { (octets : List ℕ) (tokens : List Placed) → HasRead octets tokens self.now
             → StandsIfLexed octets fault → Stands octets result }
@@ -96,7 +97,7 @@ impl<'a> Tokens<'a> {
     }
 }
 
-// Whether a value begins with the token.
+// Returns whether a value begins with the token.
 pub(crate) fn begins_value(kind: &TokenKind) -> bool
     ensures { result ≡ begins_value (lexeme_of kind.now ∷ []) }
 {

@@ -1,4 +1,4 @@
-//! What is asked of a key or of a scalar that was read.
+//! Looking up keys, and the payload of scalars.
 ghost use Rattle.std.specs.Prelude.{◌≡◌, ◌*◌, ℕ, List, length, Some, None};
 ghost use Rattle.std.specs.Option.{is_some};
 ghost use Rattle.std.specs.Ordering.{nat_cmp};
@@ -11,7 +11,7 @@ ghost use Rattle.plist_value.specs.Plist.{AreOctets, AreUnits};
 use plist_value::{Utf16, Value};
 use std::collections::btree_map::Entry;
 
-// Whether a row has the key of the place, which is one among the rows.
+// Returns whether the key of this entry is already present.
 pub(crate) fn is_known(place: &Entry<'_, Utf16, Value>) -> bool
     ensures { (rows : Map (List ℕ) Value) (key : List ℕ)
         → MatchEntry place.now ((ContainsKey (slice_cmp nat_cmp) rows key)
@@ -25,7 +25,7 @@ pub(crate) fn is_known(place: &Entry<'_, Utf16, Value>) -> bool
     }
 }
 
-// The payload of a text: two octets for each unit.
+// Returns the payload of a string: two bytes for each unit.
 pub(crate) fn text_payload(text: &Utf16) -> u128
     ensures payload { result ≡ 2 * length text.now }
     ensures valid { AreUnits text.now }
@@ -34,7 +34,7 @@ pub(crate) fn text_payload(text: &Utf16) -> u128
     2 * units.len() as u128
 }
 
-// The payload of data: one for each octet.
+// Returns the payload of data: its length.
 pub(crate) fn data_payload(octets: &[u8]) -> u128
     ensures payload { result ≡ length octets.now }
     ensures valid { AreOctets octets.now }

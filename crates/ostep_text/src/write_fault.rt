@@ -1,4 +1,4 @@
-//! Why a property list has no text.
+//! The error type of the writer.
 ghost use Rattle.std.specs.Prelude.{◌≡◌, Some};
 ghost use Rattle.ostep_text.specs.WriteFault.{code_of, report_of, text_of_fault};
 ghost use Rattle.ostep_text.specs.declared.write_fault.TextWriteFault.TheVariants.{OutOfMemory};
@@ -11,21 +11,20 @@ use thiserror::Error;
 /// Why a property list was not written as a text.
 #[derive(Clone, Copy, Debug, PartialEq, Eq, Error)]
 pub enum TextWriteFault {
-    /// The value holds a number, a flag, a real or a date, for which the form has no text.
+    /// The value contains an integer, boolean, real or date, which OpenStep texts cannot express.
     NotInOpenStep,
-    /// There was no memory. May come in place of the other.
+    /// Out of memory. May come in place of the other.
     OutOfMemory,
 }
 
 impl TextWriteFault {
-    /// The number of the refusal: 40 or 60.
+    /// Returns the number of the refusal: 40 or 60.
     pub fn code(&self) -> u8
         ensures { result ≡ code_of self.now }
     {
         self.report().0.number()
     }
 
-    // What is printed of it.
     fn report(&self) -> Report
         ensures { result ≡ report_of self.now }
     {
@@ -36,7 +35,7 @@ impl TextWriteFault {
     }
 }
 
-/// The number and the name of the refusal, as `40 NotInOpenStep`.
+/// Prints the number and the name of the refusal, such as `40 NotInOpenStep`.
 impl fmt::Display for TextWriteFault {
     ghost output = { λ fault. Some (text_of_fault fault) };
 

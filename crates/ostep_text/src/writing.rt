@@ -1,4 +1,4 @@
-//! The text of a value.
+//! Writing a value.
 ghost use Rattle.std.specs.Prelude.{◌≡◌, ◌++◌, true, false, Some, None, IfOk, OnOk, IsErrOf};
 ghost use Rattle.plist_value.specs.Plist.{list, table};
 ghost use Rattle.plist_value.specs.Limits.{Fits};
@@ -12,13 +12,13 @@ use plist_value::{Utf16, Value};
 use std::alloc::Global;
 use std::collections::BTreeMap;
 
-/// The text of a value that is within the limits, in OpenStep form: one for each value that has
-/// any. It goes over the value once, and recurses as deep as the value.
+/// Returns the OpenStep text of a value within the limits. Each value has at most one. Visits the
+/// value once, and recurses as deep as the value.
 ///
 /// # Errors
 ///
-/// `NotInOpenStep` where the value holds a number, a flag, a real or a date anywhere. `OutOfMemory`
-/// where there is no memory for the text; it may come in place of the other.
+/// Fails with `NotInOpenStep` if the value contains an integer, boolean, real or date anywhere.
+/// Fails with `OutOfMemory` if there is no memory for the text, possibly in place of the other.
 pub fn write_text(alloc: Global, value: &Value) -> Result<Vec<u8>, TextWriteFault>
     requires { Fits (view value.now) }
     ensures ok { IfOk result (λ octets. text_of (view value.now) ≡ Some octets.items) }
@@ -30,7 +30,7 @@ pub fn write_text(alloc: Global, value: &Value) -> Result<Vec<u8>, TextWriteFaul
     Ok(out)
 }
 
-// The value, behind what `out` has.
+// Appends the value to `out`.
 #[cycle(put)]
 fn put_value(out: &mut Vec<u8>, value: &Value) -> Result<(), TextWriteFault>
     ensures octets { OnOk result (out.new.items ≡ out.old.items ++ written (view value.now)) }

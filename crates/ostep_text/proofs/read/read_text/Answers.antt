@@ -72,7 +72,7 @@ returns-in-Text-clause-refused c =
     let left : IsLeft c.whole.result MAX_DEPTH nothing = whole-left c.whole.result c.whole.ensures.nodes c.whole.ensures.payload in
     refused-by octets c.faulty_is_no_text.ensures c.string_first.result (c.string_first.ensures.stands octets first (rw c.in-Text.is refl) refl one left)
 
--- where the first token is no string
+-- if the first token is not a string
 pub returns-in_default-kind-clause-read : goal.returns-in_default-kind-clause-read
 returns-in_default-kind-clause-read c =
     let octets = c.args.octets.now in

@@ -2,6 +2,6 @@ use Rattle.std.proofs.Common.{◌≡◌, drop}
 use Rattle.ostep_text.specs.Written.{are_alphanumeric}
 use Rattle.ostep_text.proofs.scalars.are_alphanumeric.Given as goal
 
--- the units that are left decide
+-- the remaining units decide
 abbrev pub invariant-loop-unit : goal.invariant-loop-unit
 invariant-loop-unit l = are_alphanumeric (drop l.unit-index l.units) ≡ are_alphanumeric l.units

@@ -2,7 +2,7 @@ use Rattle.std.proofs.Common.{◌≡◌, true, length, take, drop}
 use Rattle.ostep_text.specs.Ascii.{are_ascii}
 use Rattle.ostep_text.proofs.scalars.narrow.Given as goal
 
--- the octets so far are the units, and those that are left are small
+-- the bytes so far are the units, and the remaining units are ASCII
 abbrev pub invariant-loop-i : goal.invariant-loop-i
 invariant-loop-i l = record {
   so_far : take l.i l.octets ≡ take l.i l.units;

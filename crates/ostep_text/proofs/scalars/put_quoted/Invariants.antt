@@ -3,7 +3,7 @@ use Rattle.std.specs.Prelude.{codes, flat_map}
 use Rattle.ostep_text.specs.Written.{quoted_unit}
 use Rattle.ostep_text.proofs.scalars.put_quoted.Given as goal
 
--- with the units that are left, all is written behind the quote
+-- the bytes so far, followed by the remaining units, are the whole string
 abbrev pub invariant-loop-unit : goal.invariant-loop-unit
 invariant-loop-unit l = l.out.items ++ flat_map quoted_unit l.left ≡ l.fn.out.items ++ codes "\"" ++ flat_map quoted_unit l.units
 

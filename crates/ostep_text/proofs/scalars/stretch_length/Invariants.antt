@@ -4,7 +4,7 @@ use Rattle.ostep_text.specs.Written.{quoted_unit}
 use Rattle.ostep_text.specs.Ascii.{are_ascii}
 use Rattle.ostep_text.proofs.scalars.stretch_length.Given as goal
 
--- the units so far stand as they are
+-- the units so far need no escape
 abbrev pub invariant-loop-i : goal.invariant-loop-i
 invariant-loop-i l = record {
   within : l.i ≤ length l.units;

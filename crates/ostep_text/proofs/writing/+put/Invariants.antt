@@ -3,7 +3,7 @@ use Rattle.plist_value.specs.View.{view_items, view_pairs}
 use Rattle.ostep_text.specs.Written.{written_items, written_pairs, are_writable_items, are_writable_pairs}
 use Rattle.ostep_text.proofs.writing.+put.Given as goal
 
--- with the items that are left, all is written, and they decide
+-- the bytes so far, followed by the remaining items, are everything, and the remaining items decide
 abbrev pub invariant-put_list-loop-item : goal.invariant-put_list-loop-item
 invariant-put_list-loop-item l =
     let all = view_items l.items.items in

@@ -5,7 +5,7 @@ use Rattle.ostep_lex.specs.Cursor.{ahead}
 use Rattle.ostep_text.specs.Reading.{HasRead, ReadsItems, ReadsRows, TakesItems, TakesPairs}
 use Rattle.ostep_text.proofs.reader.Reader.+value.Given as goal
 
--- by the levels, with what calls before what is called
+-- by the levels, with callers before what they call
 abbrev pub decreases-value : goal.decreases-value
 decreases-value l = 4 * l.levels
 
@@ -27,7 +27,7 @@ decreases-items-loop-items l = length (ahead l.self.tokens.cursor)
 abbrev pub decreases-rows-loop-rows : goal.decreases-rows-loop-rows
 decreases-rows-loop-rows l = length (ahead l.self.tokens.cursor)
 
--- items so far, and what they took
+-- the items so far, and what they took
 abbrev pub invariant-items-loop-items : goal.invariant-items-loop-items
 invariant-items-loop-items l =
     record {
@@ -36,7 +36,7 @@ invariant-items-loop-items l =
       read : (octets : List ℕ) (tokens : List Placed) → HasRead octets tokens l.initial.self.tokens → ReadsItems octets tokens [] (view_items l.items.items) l.self.tokens;
     }
 
--- rows so far
+-- the rows so far
 abbrev pub invariant-rows-loop-rows : goal.invariant-rows-loop-rows
 invariant-rows-loop-rows l =
     record {

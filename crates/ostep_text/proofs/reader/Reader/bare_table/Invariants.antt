@@ -10,7 +10,7 @@ use Rattle.ostep_text.proofs.reader.Reader.bare_table.Given as goal
 abbrev pub decreases-loop-rows : goal.decreases-loop-rows
 decreases-loop-rows l = length (ahead l.self.tokens.cursor)
 
--- rows so far, one at least
+-- the rows so far, at least one
 abbrev pub invariant-loop-rows : goal.invariant-loop-rows
 invariant-loop-rows l =
     (octets : List ℕ) (left : Budget) → IsLeft left 511 (opened nothing) → TakesRow left 511 l.fn.key (view l.fn.value) l.fn.self.left
