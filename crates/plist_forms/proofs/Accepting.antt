@@ -1,4 +1,4 @@
--- What accepted octets say of the value that they spell.
+-- What accepted bytes say of their value.
 use Rattle.std.proofs.Common.{◌≡◌, ◌∙◌, true, false, inl, inr, refl, subst, sym, List, ℕ}
 use Rattle.plist_value.specs.Plist.{Plist, IsPlist}
 use Rattle.plist_value.specs.Limits.{Fits}
@@ -28,7 +28,7 @@ pub canon_begins : (v : Plist) → begins_as_binary (canon v) ≡ true
 unfolding canon
 canon_begins v = refl
 
--- what the canonical file of a value spells is what the value's source does
+-- the canonical file of a value encodes only the value of its source
 pub canon_drafts : OneValue → CanonicalIsAccepted → (source file : List ℕ) (w : Plist) → IsAccepted source w → file ≡ canon w
     → (v : Plist) → IsBinary file v → IsAccepted source v
 canon_drafts one own source file w accepted e v binary =

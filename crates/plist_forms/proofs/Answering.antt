@@ -1,4 +1,4 @@
--- What a call answers that sends octets to a sink, step by step.
+-- The result of a call that sends bytes to a sink, step by step.
 use Rattle.std.proofs.Common.{◌≡◌, ap, inr, refl, subst, Err, List, Ok, Option, Result, ℕ}
 use Rattle.std.specs.Result.{IfErr, IsErrAnd}
 use Rattle.plist_value.specs.Plist.{Plist}
@@ -27,20 +27,20 @@ pub untouched : (Untouched : Type 0) (result : Result ℕ Fault) → Untouched �
 untouched Untouched (Ok n) same = tt
 untouched Untouched (Err f) same = λ _. same
 
--- a fault of sending is none that comes before the first put
+-- an error of sending does not come before the first put
 pub after_put : (Untouched : Type 0) (fault : WriteFault) (result : Result ℕ Fault)
     → IsErrAnd result (λ f. f ≡ write_fault_for fault) → IfErr result (λ f. IsBeforePut f → Untouched)
 after_put Untouched fault (Ok n) is = absurd is
 after_put Untouched (write.WriteFailed sent) (Err f) is = λ early. absurd (subst IsBeforePut is early)
 after_put Untouched (write.OutOfMemory sent) (Err f) is = λ early. absurd (subst IsBeforePut is early)
 
--- the answer of a call that failed while it sent
+-- the result of a call that failed while sending
 pub failed_answer : (fault : WriteFault) (result : Result ℕ Fault) → IsErrAnd result (λ f. f ≡ write_fault_for fault)
     → result ≡ answer_of (Err fault)
 failed_answer fault (Ok n) is = absurd is
 failed_answer fault (Err f) is = ap Err is
 
--- the printed text of accepted octets is sent
+-- the printed text of an accepted input is sent
 pub text_sent : (octets : List ℕ) (v : Plist) → IsAccepted octets v → (old new : Option (List ℕ)) (before after : ℕ)
     (sent : Result ℕ WriteFault) (result : Result ℕ Fault) → result ≡ answer_of sent
     → IsWritten (printed v) old new before after sent → Prints octets old new before after result
@@ -52,7 +52,7 @@ text_sent octets v accepted old new before after sent result is written = inr (r
   written = written;
 })
 
--- the canonical file of accepted octets is sent
+-- the canonical file of an accepted input is sent
 pub file_sent : (octets : List ℕ) (v : Plist) → IsAccepted octets v → (old new : Option (List ℕ)) (before after : ℕ)
     (sent : Result ℕ WriteFault) (result : Result ℕ Fault) → result ≡ answer_of sent
     → IsWritten (canon v) old new before after sent → Writes Binary1 octets old new before after result

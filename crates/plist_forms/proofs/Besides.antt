@@ -1,4 +1,4 @@
--- A piece behind octets that were taken, beside others that are known.
+-- Appending a piece to bytes taken, compared with known ones.
 use Rattle.std.proofs.Common.{◌≡◌, ◌∙◌, ap, sym, refl, ℕ, ◌+◌, ◌≤◌, true, false, List, ◌++◌, length, drop, take}
 use Rattle.std.specs.Prelude.{◌≢◌, nat_eq}
 use Rattle.std.specs.List.{starts_with}
@@ -8,7 +8,7 @@ use Rattle.std.proofs.lemmas.List.{append_assoc, length-take-le}
 use Rattle.std.proofs.lemmas.Slice.Eq.{starts_is}
 use Rattle.std.proofs.Math.Seq.{drop-append_seam, take-add, take-append_seam}
 
--- the known octets go on with the piece
+-- the known bytes continue with the piece
 pub goes_on : (known piece : List ℕ) (count : ℕ) → starts_with nat_eq (drop count known) piece ≡ true
     → take (count + length piece) known ≡ take count known ++ piece
 goes_on known piece count starts =
@@ -16,7 +16,7 @@ goes_on known piece count starts =
     let split : drop count known ≡ piece ++ rest = (starts_is Decides-eqb (drop count known) piece _ refl).0 starts in
     take-add count (length piece) known ∙ ap (λ l. take count known ++ take (length piece) l) split ∙ ap (λ l. take count known ++ l) (take-append_seam piece rest)
 
--- the known octets do not go on with the piece
+-- the known bytes do not continue with the piece
 pub goes_apart : (known piece : List ℕ) (count : ℕ) → count ≤ length known → starts_with nat_eq (drop count known) piece ≡ false
     → (rest : List ℕ) → (take count known ++ piece) ++ rest ≢ known
 goes_apart known piece count within apart rest same =
@@ -26,6 +26,6 @@ goes_apart known piece count within apart rest same =
     let split : drop count known ≡ piece ++ rest = ap (drop count) (sym same ∙ append_assoc front piece rest) ∙ ap (λ n. drop n (front ++ (piece ++ rest))) (sym long) ∙ behind in
     false≢true (sym apart ∙ (starts_is Decides-eqb (drop count known) piece _ refl).1 rest split)
 
--- what goes apart goes apart with more behind it
+-- bytes that are not a prefix stay so with more after them
 pub stays_apart : (known octets piece : List ℕ) → ((rest : List ℕ) → octets ++ rest ≢ known) → (rest : List ℕ) → (octets ++ piece) ++ rest ≢ known
 stays_apart known octets piece apart rest same = apart (piece ++ rest) (sym (append_assoc octets piece rest) ∙ same)

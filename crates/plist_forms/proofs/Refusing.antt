@@ -49,7 +49,7 @@ text_refused octets begins fault stands none = record {
     go other v (inl accepted) = let no : true ≡ false = sym accepted.0 ∙ begins in cc
     go other v (inr accepted) = none other v accepted.1
 
--- a call that is refused so
+-- a call that fails with this refusal
 pub refused_as : {A : Type 0} (octets : List ℕ) (refusal : Fault) (result : Result A Fault)
     → IsErrAnd result (λ fault. fault ≡ refusal) → IsRefused octets refusal → IfErr result (IsRefused octets)
 refused_as octets refusal (Ok value) is refused = tt

@@ -1,4 +1,4 @@
--- Worked rows of the definitions, by computing.
+-- Worked examples of the definitions, by computing.
 use Rattle.std.proofs.Common.{◌≡◌, refl, codes}
 use Rattle.std.specs.Fmt.{digits}
 use Rattle.plist_binary.specs.declared.fault.BinaryFault.TheVariants as binary
@@ -14,6 +14,6 @@ line-sent : line_of (codes "PATH") (WriteFailed 10) ≡ codes "PATH: refused 51 
 unfolding digits
 line-sent = refl
 
--- the reader's want of memory is this crate's, before anything went out
+-- out of memory in a reader is this crate's, before anything was sent
 status-memory : status_for (code_of (fault_for binary.OutOfMemory)) ≡ 5
 status-memory = refl

@@ -1,4 +1,4 @@
--- What holds of all accepted octets.
+-- What holds of all accepted inputs.
 use Rattle.std.specs.Prelude.{◌≡◌, ◌↔◌, true, List, Some, ℕ}
 use Rattle.plist_value.specs.Plist.{Plist, IsPlist}
 use Rattle.plist_value.specs.Limits.{Fits}
@@ -15,23 +15,23 @@ pub record AreLimits : Type 0 where
   pub payload : MAX_PAYLOAD ≡ 1_073_741_824
   pub input : MAX_INPUT ≡ 4_294_967_295
 
--- no octets spell two values
+-- no input encodes two values
 abbrev pub OneValue : Type 0
 OneValue = (octets : List ℕ) (v w : Plist) → IsAccepted octets v → IsAccepted octets w → v ≡ w
 
--- the canonical file of a value within the limits begins with `bplist`, is accepted, and spells the
--- value
+-- the canonical file of a value within the limits begins with `bplist`, is accepted, and encodes
+-- the value
 abbrev pub CanonicalIsAccepted : Type 0
 CanonicalIsAccepted =
     (v : Plist) → IsPlist v → Fits v → (begins_as_binary (canon v) ≡ true) × IsAccepted (canon v) v
 
--- where a value within the limits has an OpenStep text, that text is accepted, and spells the value
+-- if a value within the limits has an OpenStep text, that text is accepted and encodes the value
 abbrev pub WrittenIsAccepted : Type 0
 WrittenIsAccepted =
     (v : Plist) (octets : List ℕ) → IsPlist v → Fits v → text_of v ≡ Some octets → IsAccepted octets v
 
--- Two canonical files are equal octet for octet exactly if the two values are; each is accepted,
--- spells the value that its source spells, and is its own canonical file.
+-- Two canonical files are equal byte for byte if and only if the values are. Each is accepted,
+-- encodes the value of its source, and is its own canonical file.
 pub record IsHeadline (v w : Plist) : Type 0 where
   pub equal : (canon v ≡ canon w) ↔ (v ≡ w)
   pub accepted : IsAccepted (canon v) v

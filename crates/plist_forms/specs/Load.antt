@@ -6,7 +6,7 @@ use Rattle.plist_forms.specs.declared.faults.Fault.TheVariants.{ReadFailed, Inpu
 use Rattle.plist_forms.specs.declared.taken.Taken.{Taken}
 use Rattle.plist_forms.specs.declared.taken.Taken.TheVariants.{Known, Other}
 
--- The call took some octets, the first of those that were to come, and P holds of them.
+-- The call took some bytes, the first of those to come, and P holds of them.
 abbrev pub Takes : Option (List ℕ) → Option (List ℕ) → (List ℕ → Type 0) → Type 0
 Takes to_come rest P = (taken : List ℕ) × Consumes to_come rest taken × P taken
 
@@ -17,17 +17,17 @@ IsLoadFault InputTooLarge = Unit {0}
 IsLoadFault (OutOfMemory sent) = sent ≡ 0
 IsLoadFault _ = ⊥
 
--- the octets that were found, where `None` stands for those that are known
+-- the bytes found, with `None` for the known ones
 abbrev pub octets_or : {Z : Type 0} → List ℕ → Option (Vec ℕ Z) → List ℕ
 octets_or known (Some octets) = octets.items
 octets_or known None = known
 
--- what was taken so far
+-- the bytes taken so far
 abbrev pub octets_taken : List ℕ → Taken → List ℕ
 octets_taken known (Known count) = take count known
 octets_taken known (Other octets) = octets.items
 
--- The known octets begin with what was taken, or not, as is noted.
+-- The bytes taken are a prefix of the known ones in the first case, and are not in the second.
 abbrev pub StandsBeside : List ℕ → Taken → Type 0
 StandsBeside known (Known count) = count ≤ length known
 StandsBeside known (Other octets) = (rest : List ℕ) → octets.items ++ rest ≢ known

@@ -1,4 +1,4 @@
--- What is written for octets: the output of the value that they spell, in one of the forms.
+-- The output for an input: its value in one of the forms.
 use Rattle.std.specs.Prelude.{◌≡◌, ◌⊎◌, ℕ, List, None, Option, Some}
 use Rattle.plist_value.specs.Plist.{Plist}
 use Rattle.plist_engine.specs.Canonical.{canon}
@@ -10,25 +10,24 @@ use Rattle.plist_forms.specs.declared.faults.Fault.TheVariants.{NotInOpenStep}
 use Rattle.plist_forms.specs.declared.forms.Form.{Form}
 use Rattle.plist_forms.specs.declared.forms.Form.TheVariants.{Binary1, OpenStep}
 
--- what is written for a value: its canonical file, or its OpenStep text where it has one
+-- the output for a value: its canonical file, or its OpenStep text if it has one
 abbrev pub output_of : Form → Plist → Option (List ℕ)
 output_of Binary1 v = Some (canon v)
 output_of OpenStep v = text_of v
 
--- the octets spell a value, and this is written for it
+-- the input encodes a value, and this is the output for it
 pub record IsOutput (form : Form) (octets output : List ℕ) : Type 0 where
   pub value : Plist
   pub accepted : IsAccepted octets value
   pub written : output_of form value ≡ Some output
 
--- the octets spell a value for which nothing can be written
+-- the input encodes a value without an output
 pub record HasNoOutput (form : Form) (octets : List ℕ) (fault : Fault) : Type 0 where
   pub value : Plist
   pub accepted : IsAccepted octets value
   pub none : output_of form value ≡ None
   pub is : fault ≡ NotInOpenStep
 
--- why there is nothing to write for octets: they are refused, or spell a value that cannot be
--- written
+-- why there is no output: the input is refused, or its value cannot be written
 abbrev pub IsOutputFault : Form → List ℕ → Fault → Type 0
 IsOutputFault form octets fault = IsRefused octets fault ⊎ HasNoOutput form octets fault

@@ -1,4 +1,4 @@
--- Two octet lists that are compared by the values that they spell.
+-- Two inputs that are compared by their values.
 use Rattle.std.specs.Prelude.{◌≡◌, ◌↔◌, ℕ, List, ◌++◌, Bool, IsTrue, codes}
 use Rattle.plist_value.specs.Plist.{Plist}
 use Rattle.plist_engine.specs.Canonical.{canon}
@@ -8,7 +8,7 @@ use Rattle.plist_forms.specs.Refusals.{IsRefused}
 use Rattle.plist_forms.specs.declared.pairs.PairFault.{PairFault}
 use Rattle.plist_forms.specs.declared.pairs.PairFault.TheVariants.{First, Second}
 
--- both are accepted, and the answer is whether their values, and so their canonical files, are
+-- both are accepted, and the result is whether their values, and so their canonical files, are
 -- equal
 pub record IsPair (a b : List ℕ) (equal : Bool) : Type 0 where
   pub first : Plist
@@ -18,7 +18,7 @@ pub record IsPair (a b : List ℕ) (equal : Bool) : Type 0 where
   pub values : IsTrue equal ↔ (first ≡ second)
   pub files : IsTrue equal ↔ (canon first ≡ canon second)
 
--- which of them is refused, and how; the second only where the first is accepted
+-- which of them is refused, and how; the second only if the first is accepted
 abbrev pub IsRefusedPair : List ℕ → List ℕ → PairFault → Type 0
 IsRefusedPair a b (First fault) = IsRefused a fault
 IsRefusedPair a b (Second fault) = (v : Plist) × (IsAccepted a v × IsRefused b fault)
@@ -27,7 +27,7 @@ abbrev pub pair_code : PairFault → ℕ
 pair_code (First fault) = code_of fault
 pair_code (Second fault) = code_of fault
 
--- what is printed: which of them, and its refusal
+-- the printed form: which of them, and its refusal
 abbrev pub pair_text : PairFault → List ℕ
 pair_text (First fault) = codes "the first: " ++ fault_text fault
 pair_text (Second fault) = codes "the second: " ++ fault_text fault

@@ -1,4 +1,4 @@
--- What is refused, and what a refusal says of the octets.
+-- What is refused, and what a refusal says of the input.
 use Rattle.std.specs.Prelude.{◌≡◌, ◌≢◌, true, false, ℕ, List}
 use Rattle.plist_value.specs.Plist.{Plist}
 use Rattle.plist_binary.specs.Faults as of_binary
@@ -10,9 +10,9 @@ use Rattle.plist_forms.specs.Fault.{code_of}
 use Rattle.plist_forms.specs.declared.faults.Fault.{Fault}
 use Rattle.plist_forms.specs.declared.faults.Fault.TheVariants.{Binary, Text, NotInOpenStep, ReadFailed, WriteFailed, InputTooLarge, OutOfMemory}
 
--- The fault stands in the octets, at its place, and is of the form that they are read as. A want of
--- memory says nothing of them: it came before anything went out, and is told by its own name, not
--- as a reader's.
+-- The fault is true of the input, at its place, and belongs to the form that it is read as. Out of
+-- memory says nothing of the input. It has its own name, not a reader's, and occurs before anything
+-- is sent.
 abbrev pub FaultStands : List ℕ → Fault → Type 0
 FaultStands octets (Binary binary.OutOfMemory) = ⊥
 FaultStands octets (Binary fault) = (begins_as_binary octets ≡ true) × of_binary.Stands octets fault
@@ -24,8 +24,7 @@ FaultStands octets ReadFailed = ⊥
 FaultStands octets (WriteFailed sent) = ⊥
 FaultStands octets InputTooLarge = ⊥
 
--- The octets are refused so: the fault stands, and with another number than that of a want of
--- memory no value is spelled.
+-- The refusal is true, and unless it is out of memory, the input encodes no value.
 pub record IsRefused (octets : List ℕ) (fault : Fault) : Type 0 where
   pub stands : FaultStands octets fault
   pub none : code_of fault ≢ 60 → (v : Plist) → IsAccepted octets v → ⊥

@@ -1,4 +1,4 @@
--- The numbers of the statuses.
+-- The exit statuses.
 use Rattle.std.specs.Prelude.{ℕ}
 use Rattle.plist_forms.specs.declared.statuses.Status.{Status}
 use Rattle.plist_forms.specs.declared.statuses.Status.TheVariants.{Done, Differs, Refused, BadWords, DeviceFailed, NoMemory}

@@ -1,4 +1,4 @@
-//! From octets to values and to canonical files.
+//! From bytes to values and to canonical files.
 ghost use Rattle.std.specs.Prelude.{◌≡◌, true, false, IfOk, IfErr, OnOk};
 ghost use Rattle.plist_value.specs.Plist.{Plist};
 ghost use Rattle.plist_value.specs.Limits.{Fits};
@@ -16,13 +16,13 @@ use plist_value::{FixedHasher, Value};
 use std::alloc::Global;
 use std::hash::BuildHasher;
 
-/// The value that the octets spell: those that begin with `bplist` are read as a binary file, and
-/// all others as a text. It is within the limits.
+/// Returns the value that the bytes encode, which is within the limits. Bytes that begin with
+/// `bplist` are read as a binary file, all others as a text.
 ///
 /// # Errors
 ///
-/// Those of [`plist_binary::read`] and of [`ostep_text::read_text`]; their want of memory is
-/// `OutOfMemory { sent: 0 }`.
+/// Fails like [`plist_binary::read`] or [`ostep_text::read_text`]; out of memory is `OutOfMemory {
+/// sent: 0 }`.
 pub fn read_any(alloc: Global, octets: &[u8]) -> Result<Value, Fault>
     ensures read { IfOk result (λ value. IsAccepted octets.now (view value)) }
     ensures fits { IfOk result (λ value. Fits (view value)) }
@@ -35,12 +35,12 @@ pub fn read_any(alloc: Global, octets: &[u8]) -> Result<Value, Fault>
     }
 }
 
-/// Whether the octets spell a value, which is not made: a text is read into a binary file, and that
-/// is judged.
+/// Validates that the bytes encode a value, without building it. A text is read into a binary file,
+/// which is then validated.
 ///
 /// # Errors
 ///
-/// Those of [`read_any`].
+/// Fails like [`read_any`].
 pub fn judge_any(alloc: Global, octets: &[u8]) -> Result<(), Fault>
     ensures ok { OnOk result ((v : Plist) × IsAccepted octets.now v) }
     ensures refused { IfErr result (IsRefused octets.now) }
@@ -54,8 +54,9 @@ pub fn judge_any(alloc: Global, octets: &[u8]) -> Result<(), Fault>
     Ok(())
 }
 
-/// Why the octets are refused, for whoever knows that they are and not why: what a text was read
-/// into may be refused in its place. Octets that spell a value are `OutOfMemory { sent: 0 }`.
+/// Returns why the bytes are refused, for callers that only know that they are: a draft may be
+/// refused for another reason than its text. For bytes that encode a value returns `OutOfMemory {
+/// sent: 0 }`.
 pub fn refusal(alloc: Global, octets: &[u8]) -> Fault
     ensures { IsRefused octets.now result }
 {
@@ -65,19 +66,19 @@ pub fn refusal(alloc: Global, octets: &[u8]) -> Fault
     }
 }
 
-/// Whether the octets are read as a binary file: they begin with `bplist`.
+/// Returns whether the bytes are read as a binary file, that is, whether they begin with `bplist`.
 pub fn begins_as_binary(octets: &[u8]) -> bool
     ensures { result ≡ begins octets.now }
 {
     octets.starts_with(b"bplist")
 }
 
-/// The canonical file of the value that the octets spell, which is not made: the canonical file is
-/// planned and made from the binary file, or from the one that a text is read into.
+/// Returns the canonical file of the value that the bytes encode. Builds no value: the file is made
+/// from the binary file, or from the one that a text is read into.
 ///
 /// # Errors
 ///
-/// Those of [`read_any`].
+/// Fails like [`read_any`].
 pub fn canonicalise(alloc: Global, octets: &[u8]) -> Result<Vec<u8>, Fault>
     ensures canonical { IfOk result (λ file. IsCanonicalOf octets.now file.items) }
     ensures refused { IfErr result (IsRefused octets.now) }
@@ -85,13 +86,13 @@ pub fn canonicalise(alloc: Global, octets: &[u8]) -> Result<Vec<u8>, Fault>
     canonicalise_with_hasher(alloc, FixedHasher::new(), octets)
 }
 
-/// The same as [`canonicalise`], where scalars are hashed by what the builder makes. Where somebody
-/// else picks the files, hand it a [`RandomState`](std::hash::RandomState): scalars that were
-/// picked to collide under [`FixedHasher`] cost no more than others then.
+/// Like [`canonicalise`], but hashes scalars with `hasher`. If files come from an untrusted source,
+/// pass a [`RandomState`](std::hash::RandomState), so that scalars chosen to collide under
+/// [`FixedHasher`] cost no more than others.
 ///
 /// # Errors
 ///
-/// Those of [`canonicalise`].
+/// Fails like [`canonicalise`].
 pub fn canonicalise_with_hasher<S: BuildHasher + Copy>(
     alloc: Global,
     hasher: S,
@@ -107,7 +108,6 @@ pub fn canonicalise_with_hasher<S: BuildHasher + Copy>(
     }
 }
 
-// The canonical file of what a binary file spells.
 fn canonicalise_binary<S: BuildHasher + Copy>(
     alloc: Global,
     hasher: S,
@@ -121,7 +121,7 @@ fn canonicalise_binary<S: BuildHasher + Copy>(
     Ok(canonical_of(alloc, hasher, &file, sorted)?)
 }
 
-// The canonical file of what a text says, by the binary file that it is read into.
+// Goes by the binary file that the text is read into.
 fn canonicalise_text<S: BuildHasher + Copy>(
     alloc: Global,
     hasher: S,
@@ -136,13 +136,12 @@ fn canonicalise_text<S: BuildHasher + Copy>(
     Ok(canonical_of(alloc, hasher, &file, sorted)?)
 }
 
-/// Whether the two octet lists spell equal values, which is whether their canonical files are
-/// equal. The first is read before the second; of equal octets no canonical file is made.
+/// Returns whether two inputs encode equal values, that is, whether their canonical files are
+/// equal. Reads `a` before `b`. If the inputs are equal byte for byte, makes no canonical file.
 ///
 /// # Errors
 ///
-/// `First` with the first list's own refusal, `Second` with the second's where the first is
-/// accepted.
+/// Fails with `First` if `a` is refused, and with `Second` if only `b` is.
 pub fn same_files(alloc: Global, a: &[u8], b: &[u8]) -> Result<bool, PairFault>
     ensures same { IfOk result (λ equal. IsPair a.now b.now equal) }
     ensures refused { IfErr result (IsRefusedPair a.now b.now) }
@@ -150,12 +149,12 @@ pub fn same_files(alloc: Global, a: &[u8], b: &[u8]) -> Result<bool, PairFault>
     same_files_with_hasher(alloc, FixedHasher::new(), a, b)
 }
 
-/// The same as [`same_files`], where scalars are hashed by what the builder makes, as
-/// [`canonicalise_with_hasher`] says.
+/// Like [`same_files`], but hashes scalars with `hasher`, as explained at
+/// [`canonicalise_with_hasher`].
 ///
 /// # Errors
 ///
-/// Those of [`same_files`].
+/// Fails like [`same_files`].
 pub fn same_files_with_hasher<S: BuildHasher + Copy>(
     alloc: Global,
     hasher: S,
@@ -179,7 +178,7 @@ pub fn same_files_with_hasher<S: BuildHasher + Copy>(
     Ok(first == second)
 }
 
-// Whether octets spell the same as themselves, which they do if they are accepted.
+// Compares an input with itself: equal if it is accepted.
 fn same_as_itself(alloc: Global, octets: &[u8]) -> Result<bool, PairFault>
     ensures same { IfOk result (λ equal. IsPair octets.now octets.now equal) }
     ensures refused { IfErr result (IsRefusedPair octets.now octets.now) }

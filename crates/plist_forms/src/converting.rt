@@ -1,4 +1,4 @@
-//! The conversion of a property list, from a source to a sink.
+//! Converting a property list from a source to a sink.
 ghost use Rattle.std.specs.Prelude.{◌≡◌, ◌<◌, ◌↔◌, true, length, IfErr, IsErrOf};
 ghost use Rattle.plist_devices.specs.Count.{HasFailed, one_more};
 ghost use Rattle.plist_forms.specs.Accepted.{begins_as_binary as begins};
@@ -20,21 +20,22 @@ use plist_value::FixedHasher;
 use std::alloc::Global;
 use std::hash::BuildHasher;
 
-/// Loads a property list from the source, in either form, and sends its value to the sink: as the
-/// canonical file, or as the OpenStep text. Answers how many octets were sent.
+/// Loads a property list in either form from `from`, sends its value to `to` as a canonical file or
+/// as an OpenStep text, and returns the number of bytes sent.
 ///
-/// All of the source is loaded and read, and it is sure that the value can be written, before the
-/// first put. A text that was loaded is given up before that: its canonical file is sent from the
-/// binary file that it was read into. A binary file stays in memory, since its canonical file is
-/// sent from there.
+/// Before the first put the whole source is loaded and read, and it is certain that the value can
+/// be written. A text is freed before that: its canonical file is sent from the binary file that it
+/// was read into. A binary file stays in memory, because its canonical file is sent from there.
 ///
 /// # Errors
 ///
-/// In this order: `ReadFailed` (50) where the source fails, or `InputTooLarge` (52) past
-/// [`MAX_INPUT`] octets; those of [`read_any`](crate::read_any); `NotInOpenStep` (40) where
-/// the value has no text; `WriteFailed` (51) where the sink fails. Want of memory (60) may come
-/// before any of them. After 51 and 60 exactly the first `sent` octets of the output went out, and
-/// after any other the sink is untouched. The octets that were taken are gone from the source.
+/// In this order: `ReadFailed` (50) if the source fails, or `InputTooLarge` (52) above
+/// [`MAX_INPUT`] bytes; the errors of [`read_any`](crate::read_any); `NotInOpenStep` (40) if the
+/// value has no text; `WriteFailed` (51) if the sink fails. Out of memory (60) may come before any
+/// of them.
+///
+/// After 51 and 60 exactly the first `sent` bytes of the output were sent; after any other error
+/// the sink is untouched. The bytes taken from the source are lost.
 pub fn convert<S: Source, W: Sink>(
     alloc: Global,
     from: &mut S,
@@ -46,8 +47,8 @@ pub fn convert<S: Source, W: Sink>(
     ensures untouched { IfErr result (λ fault. IsBeforePut fault → to.new ≡ to.old) }
     ensures same { W.device to.new ≡ W.device to.old }
 
-    // The source fails in this call exactly where that is answered; then it fails once, and else
-    // never.
+    // ReadFailed is returned if and only if the source fails in this call, which it does at most
+    // once.
     ensures failed { IsErrOf result Fault.ReadFailed
         ↔ HasFailed (S.failures from.old) (S.failures from.new) }
     ensures at_once { IsErrOf result Fault.ReadFailed
@@ -61,13 +62,13 @@ pub fn convert<S: Source, W: Sink>(
     convert_with_hasher(alloc, FixedHasher::new(), from, to, form)
 }
 
-/// The same as [`convert`], where scalars are hashed by what the builder makes. Where somebody else
-/// picks what is converted, hand it a [`RandomState`](std::hash::RandomState): scalars that were
-/// picked to collide under [`FixedHasher`] cost no more than others then.
+/// Like [`convert`], but hashes scalars with `hasher`. If the input comes from an untrusted source,
+/// pass a [`RandomState`](std::hash::RandomState), so that scalars chosen to collide under
+/// [`FixedHasher`] cost no more than others.
 ///
 /// # Errors
 ///
-/// Those of [`convert`].
+/// Fails like [`convert`].
 pub fn convert_with_hasher<H: BuildHasher + Copy, S: Source, W: Sink>(
     alloc: Global,
     hasher: H,
@@ -80,8 +81,8 @@ pub fn convert_with_hasher<H: BuildHasher + Copy, S: Source, W: Sink>(
     ensures untouched { IfErr result (λ fault. IsBeforePut fault → to.new ≡ to.old) }
     ensures same { W.device to.new ≡ W.device to.old }
 
-    // The source fails in this call exactly where that is answered; then it fails once, and else
-    // never.
+    // ReadFailed is returned if and only if the source fails in this call, which it does at most
+    // once.
     ensures failed { IsErrOf result Fault.ReadFailed
         ↔ HasFailed (S.failures from.old) (S.failures from.new) }
     ensures at_once { IsErrOf result Fault.ReadFailed
@@ -96,19 +97,19 @@ pub fn convert_with_hasher<H: BuildHasher + Copy, S: Source, W: Sink>(
     convert_octets(alloc, hasher, octets, to, form)
 }
 
-/// Sends the value that the octets spell, in either form, to the sink, and answers how many octets
-/// were sent.
+/// Sends the value that the bytes encode to `to`, in the given form, and returns the number of
+/// bytes sent.
 ///
-/// It is [`convert`] of octets that were loaded, and they are given up: those of a text before the
-/// first put, those of a binary file whose canonical file is asked for when that is sent. Scalars
-/// are hashed by what the builder makes, as [`convert_with_hasher`] says.
+/// Like [`convert`] for bytes that were loaded already, which are freed: those of a text before the
+/// first put, those of a binary file after its canonical file is sent. Scalars are hashed with
+/// `hasher`, as explained at [`convert_with_hasher`].
 ///
 /// # Errors
 ///
-/// In this order: those of [`read_any`](crate::read_any); `NotInOpenStep` (40) where the
-/// value has no text; `WriteFailed` (51) where the sink fails. Want of memory (60) may come before
-/// any of them. After 51 and 60 exactly the first `sent` octets of the output went out, and after
-/// any other the sink is untouched.
+/// In this order: the errors of [`read_any`](crate::read_any); `NotInOpenStep` (40) if the value
+/// has no text; `WriteFailed` (51) if the sink fails. Out of memory (60) may come before any of
+/// them. After 51 and 60 exactly the first `sent` bytes of the output were sent; after any other
+/// error the sink is untouched.
 pub fn convert_octets<H: BuildHasher + Copy, W: Sink>(
     alloc: Global,
     hasher: H,
@@ -127,7 +128,7 @@ pub fn convert_octets<H: BuildHasher + Copy, W: Sink>(
     }
 }
 
-// The canonical file of what the octets spell. Those of a text are given up before the first put.
+// Frees the bytes of a text before the first put.
 fn write_binary1<H: BuildHasher + Copy, W: Sink>(
     alloc: Global,
     hasher: H,
@@ -148,7 +149,6 @@ fn write_binary1<H: BuildHasher + Copy, W: Sink>(
     Ok(write_canonical_of(alloc, hasher, &file, sorted, to)?)
 }
 
-// The canonical file of what a binary file spells.
 fn write_file<H: BuildHasher + Copy, W: Sink>(
     alloc: Global,
     hasher: H,
@@ -165,7 +165,6 @@ fn write_file<H: BuildHasher + Copy, W: Sink>(
     Ok(write_canonical_of(alloc, hasher, &file, sorted, to)?)
 }
 
-// The OpenStep text of what the octets spell.
 fn write_openstep<W: Sink>(alloc: Global, octets: Vec<u8>, to: &mut W) -> Result<u64, Fault>
     ensures writes { Writes Form.OpenStep octets.items (W.taken to.old) (W.taken to.new)
         (W.failures to.old) (W.failures to.new) result }

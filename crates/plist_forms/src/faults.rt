@@ -1,4 +1,4 @@
-//! Every refusal of this crate, with its number, its printed form, and the program's status for it.
+//! Every refusal of this crate, with its number, its printed form and its exit status.
 ghost use Rattle.std.specs.Prelude.{◌≡◌};
 ghost use Rattle.plist_forms.specs.Fault.{check_fault_for, code_of, fault_for};
 ghost use Rattle.plist_forms.specs.Fault.{fault_text, report_of, status_for};
@@ -17,34 +17,34 @@ use std::alloc::AllocError;
 use std::fmt;
 use thiserror::Error;
 
-/// Why a call was refused.
+/// The error type of this crate.
 #[derive(Clone, Copy, Debug, PartialEq, Eq, Error)]
 pub enum Fault {
-    /// 1 to 18: the octets are no binary file of a value.
+    /// 1 to 18: the bytes are not a binary file of any value.
     Binary(BinaryFault),
-    /// 14, 16 to 18, 20, 21 and 23 to 32: the octets are no text of a value.
+    /// 14, 16 to 18, 20, 21 and 23 to 32: the bytes are not a text of any value.
     Text(TextFault),
     /// 40: the value has no OpenStep text.
     NotInOpenStep,
     /// 50: the source failed.
     ReadFailed,
-    /// 51: the sink failed after it had taken `sent` octets.
+    /// 51: the sink failed after it had taken `sent` bytes.
     WriteFailed { sent: u64 },
-    /// 52: the source gave more than [`MAX_INPUT`](crate::MAX_INPUT) octets.
+    /// 52: the source gave more than [`MAX_INPUT`](crate::MAX_INPUT) bytes.
     InputTooLarge,
-    /// 60: no memory was left, after `sent` octets had gone out.
+    /// 60: out of memory, after `sent` bytes were sent.
     OutOfMemory { sent: u64 },
 }
 
 impl Fault {
-    /// The number of the refusal.
+    /// Returns the number of the refusal.
     pub fn code(&self) -> u8
         ensures { result ≡ code_of self.now }
     {
         self.report().0.number()
     }
 
-    /// Which refusal it is, and what it names.
+    /// Returns the refusal and the place that it names.
     pub fn report(&self) -> Report
         ensures { result ≡ report_of self.now }
     {
@@ -59,15 +59,15 @@ impl Fault {
         }
     }
 
-    /// The status with which the program ends: 4 where a device failed (50, 51), 5 where no memory
-    /// was left (60), and 2 for all others.
+    /// Returns the exit status of the program: 4 if a device failed (50, 51), 5 if out of memory
+    /// (60), and 2 for all others.
     pub fn status(&self) -> u8
         ensures { result ≡ status_for (code_of self.now) }
     {
         self.end_status().code()
     }
 
-    /// The status with which the program ends, by its name.
+    /// Returns the exit status of the program, by name.
     pub fn end_status(&self) -> Status
         ensures { status_code result ≡ status_for (code_of self.now) }
     {
@@ -79,7 +79,7 @@ impl Fault {
     }
 }
 
-/// The number, the name and the place of the refusal: `14 DuplicateKey at object 0`.
+/// Prints the number, the name and the place of the refusal: `14 DuplicateKey at object 0`.
 impl fmt::Display for Fault {
     ghost use Rattle.std.specs.Prelude.{Some};
 

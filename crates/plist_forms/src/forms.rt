@@ -1,6 +1,6 @@
-//! The forms in which a value is written.
+//! The forms in which a value can be written.
 
-/// The form of a property list that is written.
+/// The form in which a property list is written.
 #[derive(Clone, Copy, Debug, PartialEq, Eq)]
 pub enum Form {
     /// The canonical binary file.

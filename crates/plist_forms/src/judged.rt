@@ -1,4 +1,4 @@
-//! Binary files that were judged: one that is given, or the draft of a text.
+//! Validating binary files: the input itself, or the draft of a text.
 ghost use Rattle.std.specs.Prelude.{◌≡◌, true, false, IfOk, IfErr, OnOk};
 ghost use Rattle.plist_value.specs.Plist.{Plist};
 ghost use Rattle.plist_object.specs.Order.{AreSortedIfAny};
@@ -15,7 +15,7 @@ use plist_binary::{JudgedFile, judge_keys};
 use plist_canon::canonical;
 use std::alloc::Global;
 
-/// The octets as a binary file, which spells a value within the limits.
+/// Validates the bytes as a binary file of a value within the limits.
 pub(crate) fn judge_binary(alloc: Global, octets: &[u8]) -> Result<JudgedFile<'_>, Fault>
     requires { begins octets.now ≡ true }
     ensures file { IfOk result (λ judged. octets_of judged.file ≡ octets.entry.now) }
@@ -26,8 +26,8 @@ pub(crate) fn judge_binary(alloc: Global, octets: &[u8]) -> Result<JudgedFile<'_
     Ok(judge_keys(alloc, octets)?)
 }
 
-/// The binary file that a text is read into. It is to be judged: what it spells, if that is a value
-/// within the limits, is what the text says.
+/// Reads a text into a binary file, its draft. The draft has to be validated: if it encodes a value
+/// within the limits, that is the value of the text.
 pub(crate) fn draft_of(alloc: Global, text: &[u8]) -> Result<Vec<u8>, Fault>
     requires { begins text.now ≡ false }
     ensures drafted { IfOk result (λ draft. (v : Plist) → IsBinary draft.items v
@@ -41,8 +41,8 @@ pub(crate) fn draft_of(alloc: Global, text: &[u8]) -> Result<Vec<u8>, Fault>
     }
 }
 
-// The canonical file of the text's value, for a text without a draft: the text's own refusal, if it
-// has one, and else what a draft would spell.
+// Returns the canonical file of the text's value, for a text without a draft. Almost always this
+// fails with the text's own refusal. If there is a value, its canonical file serves as the draft.
 fn file_of_value(alloc: Global, text: &[u8]) -> Result<Vec<u8>, Fault>
     ensures drafted { IfOk result (λ file. (v : Plist) → IsBinary file.items v
         → IsAccepted text.now v) }
@@ -55,8 +55,7 @@ fn file_of_value(alloc: Global, text: &[u8]) -> Result<Vec<u8>, Fault>
     Ok(file)
 }
 
-/// The draft of a text as a binary file, which spells a value within the limits. A refusal is the
-/// text's own.
+/// Validates the draft of a text. Fails with the refusal of the text.
 pub(crate) fn judge_draft<'a>(
     alloc: Global,
     draft: &'a [u8],

@@ -1,6 +1,5 @@
-//! Property lists of either form as octets: what is loaded from a source, the value that it spells,
-//! its canonical file and its printed text, every refusal with its number and its printed line, and
-//! conversions from a source to a sink.
+//! Property lists in either form, as bytes: loading them from a source, reading, comparing,
+//! converting and printing them, and every refusal with its number and its printed line.
 #![tactic(auto)]
 
 pub mod canonicals;

@@ -1,13 +1,13 @@
-//! How a refusal is printed.
+//! Printing a refusal.
 ghost use Rattle.std.specs.Prelude.{◌≡◌, IfOk, string_bytes};
 ghost use Rattle.plist_forms.specs.Line.{line_of};
 
 use crate::Fault;
 use std::alloc::{AllocError, Global};
 
-/// The line of a refusal, without a line end: `PATH: refused 11 NotAscii at object 0`.
+/// Returns the line of a refusal, without a line end: `PATH: refused 11 NotAscii at object 0`.
 ///
-/// A fault of an object ends in `at object N`, a failed write and a want of memory in `after N
+/// A fault of an object ends in `at object N`, a failed write and out of memory in `after N
 /// octets`.
 pub fn line(alloc: Global, path: &str, fault: &Fault) -> Result<String, AllocError>
     ensures { IfOk result (λ text. string_bytes text ≡ line_of path.now fault.now) }

@@ -1,4 +1,4 @@
-//! All that a source gives, as one list.
+//! Loading all bytes of a source.
 ghost use Rattle.std.specs.Prelude.{◌≡◌, ◌≢◌, ◌<◌, ◌≤◌, ◌↔◌, length, vec_len};
 ghost use Rattle.std.specs.Prelude.{IsErrOf, IfOk, IfErr, IfSome, OnOk};
 ghost use Rattle.std.specs.Io.KnownBytes.{IsAtEnd};
@@ -10,25 +10,27 @@ use crate::taken::Taken;
 use plist_devices::Source;
 use std::alloc::Global;
 
-/// The greatest number of octets of one input: 2^32 - 1.
+/// The maximum number of bytes of one input: 2^32 - 1.
 pub const MAX_INPUT: u64 = 4_294_967_295;
 
-/// How many octets one take asks for.
+/// The number of bytes that one take asks for.
 const TAKE_SIZE: usize = 4096;
 
-/// Takes octets until the source has no more, and answers them all.
+/// Takes bytes until the source has no more and returns all of them.
 ///
-/// A failing take is [`Fault::ReadFailed`] at once. More than [`MAX_INPUT`] octets are
-/// [`Fault::InputTooLarge`], and where no memory is left the fault is [`Fault::OutOfMemory`]. After
-/// a refusal the octets that were taken are gone from the source.
+/// # Errors
+///
+/// Fails with [`Fault::ReadFailed`] as soon as a take fails, with [`Fault::InputTooLarge`] above
+/// [`MAX_INPUT`] bytes, and with [`Fault::OutOfMemory`] if out of memory. The bytes taken from the
+/// source are then lost.
 pub fn load<S: Source>(alloc: Global, from: &mut S) -> Result<Vec<u8>, Fault>
     ensures whole { IfOk result (λ octets.
         IfSome (S.remaining from.old) (λ all. octets.items ≡ all)) }
     ensures within { IfOk result (λ octets. vec_len octets ≤ MAX_INPUT) }
     ensures end { OnOk result (IsAtEnd (S.remaining from.new)) }
 
-    // A failure is counted in this call exactly where it is answered; then it is one, and else
-    // none.
+    // ReadFailed is returned if and only if a failure is counted in this call, which is at most
+    // one.
     ensures failed { IsErrOf result Fault.ReadFailed
         ↔ HasFailed (S.failures from.old) (S.failures from.new) }
     ensures at_once { IsErrOf result Fault.ReadFailed
@@ -46,12 +48,11 @@ pub fn load<S: Source>(alloc: Global, from: &mut S) -> Result<Vec<u8>, Fault>
     }
 }
 
-/// Takes octets until the source has no more, as [`load`] does, and answers them unless they are
-/// the known ones: for these it answers `None`, and they take no memory a second time.
+/// Like [`load`], but returns `None` if the bytes equal `known`, for which it allocates nothing.
 ///
 /// # Errors
 ///
-/// Those of [`load`].
+/// Fails like [`load`].
 pub fn load_unless<S: Source>(
     alloc: Global,
     from: &mut S,

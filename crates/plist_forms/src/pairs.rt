@@ -1,4 +1,4 @@
-//! The refusal of one of two octet lists.
+//! The refusal of one of two inputs.
 ghost use Rattle.std.specs.Prelude.{◌≡◌};
 ghost use Rattle.plist_forms.specs.Pair.{pair_code, pair_text};
 
@@ -6,17 +6,17 @@ use crate::Fault;
 use std::fmt;
 use thiserror::Error;
 
-/// Which of two octet lists was refused, and why.
+/// Which of two inputs was refused, and why.
 #[derive(Clone, Copy, Debug, PartialEq, Eq, Error)]
 pub enum PairFault {
-    /// The first list.
+    /// The first input.
     First(Fault),
-    /// The second list, the first being accepted.
+    /// The second input; the first is accepted.
     Second(Fault),
 }
 
 impl PairFault {
-    /// The number of the refusal, which is that of its fault.
+    /// Returns the number of the refusal.
     pub fn code(&self) -> u8
         ensures { result ≡ pair_code self.now }
     {
@@ -26,7 +26,7 @@ impl PairFault {
     }
 }
 
-/// Which of the lists is refused, and the number, the name and the place of its refusal: `the
+/// Prints which input is refused, and the number, the name and the place of its refusal: `the
 /// second: 14 DuplicateKey at object 0`.
 impl fmt::Display for PairFault {
     ghost use Rattle.std.specs.Prelude.{Some};

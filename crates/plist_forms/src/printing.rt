@@ -1,4 +1,4 @@
-//! From octets to the printed text of the value that they spell.
+//! Printing the value of an input.
 ghost use Rattle.std.specs.Prelude.{◌≡◌, IfErr};
 ghost use Rattle.plist_forms.specs.Printed.{Prints};
 ghost use Rattle.plist_forms.specs.Sent.{IsBeforePut};
@@ -10,19 +10,19 @@ use plist_devices::Sink;
 use plist_print::print_of;
 use std::alloc::Global;
 
-/// Sends the printed text of the value that the octets spell, in either form, and answers how many
-/// octets it has. Two values print the same exactly if they are equal
+/// Sends the printed text of the value that the bytes encode, in either form, and returns its
+/// length in bytes. Two values print the same if and only if they are equal
 /// (`plist_print::laws::print_tells_values_apart`).
 ///
-/// All of the octets are read before the first put. What is printed goes out piece by piece, and is
-/// never in memory as a whole. A binary file is printed from its octets, a text from the binary
-/// file that it is read into.
+/// All bytes are read before the first put. The printed text is sent piece by piece and is never in
+/// memory as a whole. A binary file is printed from its bytes, a text from the binary file that it
+/// is read into.
 ///
 /// # Errors
 ///
-/// In this order: those of [`judge_any`](crate::judge_any); `WriteFailed` (51) if the sink fails.
-/// Out of memory (60) may come before either of them. After 51 and 60 exactly the first `sent`
-/// octets of the printed text went out, and after any other the sink is untouched.
+/// In this order: the errors of [`judge_any`](crate::judge_any); `WriteFailed` (51) if the sink
+/// fails. Out of memory (60) may come before either. After 51 and 60 exactly the first `sent` bytes
+/// of the printed text were sent; after any other error the sink is untouched.
 pub fn print<W: Sink>(alloc: Global, octets: &[u8], to: &mut W) -> Result<u64, Fault>
     ensures prints { Prints octets.now (W.taken to.old) (W.taken to.new)
         (W.failures to.old) (W.failures to.new) result }

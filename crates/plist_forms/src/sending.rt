@@ -1,4 +1,4 @@
-//! Octets in memory, to a sink.
+//! Sending bytes from memory.
 ghost use Rattle.std.specs.Prelude.{◌≡◌};
 ghost use Rattle.plist_engine.specs.Sending.{IsWritten};
 ghost use Rattle.plist_forms.specs.declared.forms.Form.TheVariants.{OpenStep};
@@ -7,7 +7,7 @@ ghost use Rattle.plist_forms.specs.Transfer.{NeedsNoMemory};
 use plist_devices::{Sink, put_all};
 use plist_engine::WriteFault;
 
-/// Sends all of the octets, in as many puts as the sink asks for, and answers how many they are.
+/// Sends all bytes, with as many puts as the sink needs, and returns their number.
 pub(crate) fn send<W: Sink>(octets: &[u8], to: &mut W) -> Result<u64, WriteFault>
     ensures written { IsWritten octets.now (W.taken to.old) (W.taken to.new)
         (W.failures to.old) (W.failures to.new) result }

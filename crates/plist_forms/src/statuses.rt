@@ -1,26 +1,26 @@
-//! How the program ends.
+//! The exit statuses of the program.
 ghost use Rattle.std.specs.Prelude.{◌≡◌, ◌≤◌};
 ghost use Rattle.plist_forms.specs.Status.{status_code};
 
 /// How the program ends.
 #[derive(Clone, Copy, Debug, PartialEq, Eq)]
 pub enum Status {
-    /// 0: it is done; two files say the same; a file that was checked is canonical.
+    /// 0: done; the two files are equal; the file is canonical.
     Done,
-    /// 1: two files differ; a file that was checked is not canonical.
+    /// 1: the two files differ; the file is not canonical.
     Differs,
     /// 2: the input is refused.
     Refused,
-    /// 3: the words are not understood.
+    /// 3: the arguments are not understood.
     BadWords,
     /// 4: a file cannot be read or written, or a line cannot be printed.
     DeviceFailed,
-    /// 5: no memory is left.
+    /// 5: out of memory.
     NoMemory,
 }
 
 impl Status {
-    /// The exit status, from 0 to 5.
+    /// Returns the exit status, from 0 to 5.
     pub fn code(self) -> u8
         ensures code { result ≡ status_code self }
         ensures within { result ≤ 5 }

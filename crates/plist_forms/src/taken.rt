@@ -1,21 +1,21 @@
-//! Octets that are taken from a source, beside others that are known.
+//! Bytes taken from a source, compared with known ones as they come.
 ghost use Rattle.std.specs.Prelude.{◌≡◌, ◌≢◌, ◌≤◌, ◌++◌, List, ℕ, IfOk, IfSome};
 ghost use Rattle.std.specs.Prelude.{length, take};
 ghost use Rattle.plist_forms.specs.Load.{StandsBeside, octets_or, octets_taken};
 
 use std::alloc::{AllocError, Global};
 
-/// What was taken so far.
+/// The bytes taken so far.
 #[derive(Drop)]
 pub(crate) enum Taken {
-    /// So many octets, with which the known ones begin.
+    /// The number of bytes, which are a prefix of the known ones.
     Known(usize),
-    /// Octets with which the known ones do not begin.
+    /// Bytes that are not a prefix of the known ones.
     Other(Vec<u8>),
 }
 
 impl Taken {
-    /// How many octets were taken.
+    /// Returns the number of bytes taken.
     pub(crate) fn len(&self) -> usize
         ensures { (known : List ℕ) → StandsBeside known self.now
             → result ≡ length (octets_taken known self.now) }
@@ -26,7 +26,7 @@ impl Taken {
         }
     }
 
-    /// These octets, and the piece behind them.
+    /// Appends a piece.
     pub(crate) fn then(self, alloc: Global, known: &[u8], piece: &[u8]) -> Result<Taken, AllocError>
         requires { StandsBeside known.now self }
         ensures octets { IfOk result (λ taken. octets_taken known.now taken
@@ -42,7 +42,7 @@ impl Taken {
         }
     }
 
-    /// All octets that were taken, unless they are the known ones.
+    /// Returns all bytes taken, or `None` if they are the known ones.
     pub(crate) fn unless_known(
         self,
         alloc: Global,
@@ -61,7 +61,7 @@ impl Taken {
     }
 }
 
-// The first octets of the known ones, and the piece behind them.
+// Appends a piece to the first `count` known bytes.
 fn then_after(alloc: Global, known: &[u8], count: usize, piece: &[u8]) -> Result<Taken, AllocError>
     requires { count ≤ length known.now }
     ensures octets { IfOk result (λ taken. octets_taken known.now taken

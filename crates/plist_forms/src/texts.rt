@@ -1,4 +1,4 @@
-//! What octets spell, with the octets given up.
+//! Values and texts of inputs that are freed on the way.
 ghost use Rattle.std.specs.Prelude.{IfErr, IfOk};
 ghost use Rattle.plist_value.specs.Limits.{Fits};
 ghost use Rattle.plist_value.specs.View.{view};
@@ -13,9 +13,9 @@ use ostep_text::{TextWriteFault, write_text};
 use plist_value::Value;
 use std::alloc::Global;
 
-/// The value that the octets spell, which are given up. Their block is first cut to an octet: once
-/// the C library has freed a large block, it takes blocks up to that size from its heap, where a
-/// vector that grows is copied and leaves holes.
+/// Returns the value that the bytes encode and frees the bytes. The buffer is first shrunk to one
+/// byte: once the C library has freed a large block, it serves blocks up to that size from its
+/// heap, where growing vectors are copied and leave holes.
 pub(crate) fn value_of(alloc: Global, octets: Vec<u8>) -> Result<Value, Fault>
     ensures read { IfOk result (λ value. IsAccepted octets.items (view value)) }
     ensures fits { IfOk result (λ value. Fits (view value)) }
@@ -28,7 +28,7 @@ pub(crate) fn value_of(alloc: Global, octets: Vec<u8>) -> Result<Value, Fault>
     Ok(value)
 }
 
-/// The OpenStep text of what the octets spell. They and their value are given up.
+/// Returns the OpenStep text of the value that the bytes encode. Frees the bytes and the value.
 pub(crate) fn text_of(alloc: Global, octets: Vec<u8>) -> Result<Vec<u8>, Fault>
     ensures text { IfOk result (λ text. IsOutput OpenStep octets.items text.items) }
     ensures refused { IfErr result (IsOutputFault OpenStep octets.items) }
