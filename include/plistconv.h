@@ -4,10 +4,10 @@
  * refusal that is true of the input. The header compiles as C99 and later, and as C++98 and later.
  *
  * Every call requires:
- * - Each pointer points to `count` or `room` bytes and is not null. If the count is 0 the pointer may be anything, null
- *   too (an empty vector's data(), a nil slice). A hash key is 16 bytes, or null.
+ * - Each pointer points to `count` or `room` bytes and is not null. If the count is 0, any pointer will do, null too
+ *   (an empty vector's data(), a nil slice). A hash key is 16 bytes, or null.
  * - The input and the output buffer, into[0 .. room), are initialised. A buffer from malloc has to be set first; calloc
- *   does that. The reason: the proof says that a byte which is not written keeps its value, so it must have one, and
+ *   does that. The reason: the proof says that a byte that is not written keeps its value, so it must have one, and
  *   the compiled code may rely on that. The structures and numbers that a call writes need not be initialised, and
  *   the _alloc calls below take care of their buffers.
  * - What a call writes overlaps none of its other arguments.
@@ -17,16 +17,16 @@
  * Callers without this header (dlsym, another language) also have to: pass a valid pointer beside a count of 0, pass 16
  * zero bytes for no hash key, and initialise the structures and numbers that a call writes.
  *
- * Threads: calls share nothing, so any number may run at once, each on memory of its own. They may share input and key,
- * which are only read. Memory comes from malloc, realloc and free; a call that returns holds none.
+ * Threads: calls share no state, so any number may run at once, each on its own output. They may share input and key,
+ * which are only read. Memory comes from malloc, realloc and free; after a call returns it keeps none.
  *
- * Refusals, by call (the names are below; 50 and 51 are those of the program, which reads and writes files):
+ * Refusals, by call (names are below; only the program, which reads and writes files, uses 50 and 51):
  *   plistconv_canonical, plistconv_same, plistconv_print, plistconv_lint    1 to 32, 52, 60
  *   plistconv_text                                          1 to 32, 40, 52, 60
  *   plistconv_check                                         1 to 3, 52, 60
  *   plistconv_line                                          60, and 255 (PLISTCONV_UNTOLD)
- * An input that begins with `bplist` is refused with 1 to 18, any other with 14, 16 to 18 and 20 to 32. An input of more
- * than 4,294,967,295 bytes is refused with 52, and only with that.
+ * An input that begins with `bplist` is refused with 1 to 18, any other with 14, 16 to 18 and 20 to 32. An input of
+ * more than 4,294,967,295 bytes is refused with 52, and only with that.
  */
 #ifndef PLISTCONV_H
 #define PLISTCONV_H
@@ -39,13 +39,13 @@
 extern "C" {
 #endif
 
-/* The version of this header, also as a number (10,000 * major + 100 * minor + patch). plistconv_version() returns that
- * of the library that is linked. */
+/* The version of this header, also as a number (10,000 * major + 100 * minor + patch). plistconv_version() returns the
+ * number of the linked library. */
 #define PLISTCONV_VERSION "0.2.0"
 #define PLISTCONV_VERSION_NUMBER 200
 uint32_t plistconv_version(void);
 
-/* The refusals by number. docs/FORMATS.md says when each is answered, and which place it names. */
+/* The refusals by number. docs/FORMATS.md says what each means, and which place it names. */
 #define PLISTCONV_TOO_SHORT 1
 #define PLISTCONV_BAD_HEADER 2
 #define PLISTCONV_BAD_TRAILER 3
@@ -82,17 +82,17 @@ uint32_t plistconv_version(void);
 #define PLISTCONV_INPUT_TOO_LARGE 52
 #define PLISTCONV_OUT_OF_MEMORY 60
 
-/* The largest size of the canonical file, and of the OpenStep text, of a value with `nodes` nodes whose strings, keys
+/* The maximum size of the canonical file, and of the OpenStep text, of a value with `nodes` nodes whose strings, keys
  * and data have `payload` bytes (2 for each UTF-16 unit). If you know neither, use the _alloc calls, or call with a
  * room of 0 to get the size. */
 #define PLISTCONV_FILE_ROOM(payload, nodes) (40 + (uint64_t)(payload) + 25 * (uint64_t)(nodes))
 #define PLISTCONV_TEXT_ROOM(payload, nodes) (1 + 3 * (uint64_t)(payload) + 5 * (uint64_t)(nodes))
 
-/* What the place of a refusal is. */
+/* The units of a refusal's place. */
 #define PLISTCONV_NO_PLACE 0 /* there is none, and `place` is 0 */
 #define PLISTCONV_OBJECT 1   /* the number of an object of a binary file */
 #define PLISTCONV_OCTET 2    /* the offset of a byte in a text, counted from 0, its byte order mark included */
-#define PLISTCONV_SENT 3     /* how many bytes were written: 0 here, beside the number 60 */
+#define PLISTCONV_SENT 3     /* the number of bytes written: here only 0, with the refusal 60 */
 
 /* Why a call was refused. All fields are 0 if it was not. */
 typedef struct {
@@ -104,30 +104,30 @@ typedef struct {
 
 /* What plistconv_check finds. All fields are 0 if the input was refused. */
 typedef struct {
-    uint64_t object;   /* the object at which the rule is broken; 0 if none is */
+    uint64_t object;   /* the object that breaks the rule; 0 if none does */
     uint8_t canonical; /* 1: the input is the canonical file of a value within the limits; else 0 */
-    uint8_t rule;      /* a rule that is broken, from 0 to 7; 0 if none is */
+    uint8_t rule;      /* a broken rule, from 0 to 7; 0 if none is broken */
 } plistconv_finding;
 
-/* The hash key of a call, `key`: 16 bytes under which it hashes scalars (by SipHash), or null for a fixed seed, which
- * is faster. No answer depends on the key: the proof is for all keys.
- * Scalars can be picked that collide under the fixed seed, and a call then takes time quadratic in their number: 20
- * seconds for 100,000. So pass a key if somebody else picks the input, as for a server: one for the process, from
- * getentropy or the like, kept secret. A key of 16 zeros is no key. */
+/* The hash key of a call, `key`: 16 bytes with which it hashes scalars (by SipHash), or null for a fixed seed, which
+ * is faster. No result depends on the key: the proof is for all keys.
+ * Scalars can be chosen that collide under the fixed seed, and a call then takes time quadratic in their number: 20
+ * seconds for 100,000. So pass a key if the input is untrusted, as in a server: one for the process, from getentropy
+ * or the like, kept secret. A key of 16 zeros counts as none. */
 #define PLISTCONV_HASH_KEY_OCTETS 16
 
 /* Writes the canonical file of the value of octets[0 .. count). Input that begins with `bplist` is read as a binary
  * property list, any other as OpenStep text.
  * Returns 0 with the size of the file in *length. If that is at most `room`, the file is in into[0 .. *length) and the
- * rest of the buffer is unchanged; if it is more, the whole buffer is unchanged, and *length is the room to call with.
- * Else returns the number of the refusal, with *refusal set and *length 0; the buffer is unchanged. */
+ * rest of the buffer is unchanged; if it is more, the whole buffer is unchanged, and *length is the room needed.
+ * Otherwise returns the number of the refusal, with *refusal set and *length 0; the buffer is unchanged. */
 uint8_t plistconv_canonical(const uint8_t *octets, size_t count, const uint8_t *key, uint8_t *into,
                             size_t room, size_t *length, plistconv_refusal *refusal);
 
 /* Compares the values of two inputs, which are equal if and only if their canonical files are identical.
  * Returns 0 with 1 or 0 in *equal.
- * Else returns the number of the refusal, with *refusal set and *equal 0. The refusal is one of the second input only
- * if the first is accepted. */
+ * Otherwise returns the number of the refusal, with *refusal set and *equal 0. The refusal is one of the second input
+ * only if the first is accepted. */
 uint8_t plistconv_same(const uint8_t *first, size_t first_count, const uint8_t *second,
                        size_t second_count, const uint8_t *key, uint8_t *equal, plistconv_refusal *refusal);
 
@@ -139,18 +139,18 @@ uint8_t plistconv_text(const uint8_t *octets, size_t count, uint8_t *into, size_
 
 /* Writes the printed text of the value of octets[0 .. count): for people, of every value, with one line for each item
  * of an array and each pair of a dictionary. Two values print the same if and only if they are equal. The text may be
- * far longer than the input, which may have a part once that the value contains many times.
+ * far longer than the input, because a part that the input has once may occur many times in the value.
  * Returns like plistconv_canonical. */
 uint8_t plistconv_print(const uint8_t *octets, size_t count, uint8_t *into, size_t room, size_t *length,
                         plistconv_refusal *refusal);
 
-/* Checks whether octets[0 .. count) is accepted. It writes nothing and builds no value.
- * Returns 0 if it is, else the number of the refusal, with *refusal set. */
+/* Checks whether octets[0 .. count) is accepted. Writes nothing and builds no value.
+ * Returns 0 if it is, otherwise the number of the refusal, with *refusal set. */
 uint8_t plistconv_lint(const uint8_t *octets, size_t count, plistconv_refusal *refusal);
 
 /* Checks whether octets[0 .. count), a binary property list, is already canonical, without building its value.
  * Returns 0 with *finding set.
- * Else returns 1 to 3 if the input does not have the layout of a binary file, 52 or 60, with *refusal set and all
+ * Otherwise returns 1 to 3 if the input does not have the layout of a binary file, 52 or 60, with *refusal set and all
  * fields of *finding 0. */
 uint8_t plistconv_check(const uint8_t *octets, size_t count, const uint8_t *key, plistconv_finding *finding,
                         plistconv_refusal *refusal);
@@ -166,8 +166,8 @@ uint8_t plistconv_check(const uint8_t *octets, size_t count, const uint8_t *key,
 uint8_t plistconv_line(const uint8_t *path, size_t path_count, const plistconv_refusal *refusal,
                        uint8_t *into, size_t room, size_t *length);
 
-/* Calls by the names above go through these functions, which are compiled with their caller. They pass a pointer to a
- * byte of their own beside a count of 0, zeros for no key, and set what a call writes. */
+/* Calls by the names above go through these functions, which are compiled into the caller. They pass a pointer to a
+ * byte of their own if a count is 0, pass zeros for no key, and initialise what a call writes. */
 static inline const uint8_t *plistconv_read_(const uint8_t *octets, size_t count, const uint8_t *none) {
     return count == 0 ? none : octets;
 }
@@ -272,7 +272,7 @@ static inline void plistconv_free(uint8_t *out) { free(out); }
 typedef uint8_t (*plistconv_writer_)(const uint8_t *octets, size_t count, const uint8_t *key, uint8_t *into,
                                      size_t room, size_t *length, plistconv_refusal *refusal);
 
-/* Calls `write` with a buffer of `factor` bytes for each byte of input, and again if it asks for more. */
+/* Calls `write` with a buffer of `factor` bytes for each byte of input, and again if that is too small. */
 static inline uint8_t plistconv_alloc_(plistconv_writer_ write, size_t factor, const uint8_t *octets, size_t count,
                                        const uint8_t *key, uint8_t **out, size_t *length,
                                        plistconv_refusal *refusal) {
@@ -280,7 +280,7 @@ static inline uint8_t plistconv_alloc_(plistconv_writer_ write, size_t factor, c
     size_t room = count < ((size_t)-1 >> 1) / factor ? factor * count + 256 : 256;
     uint8_t *into = (uint8_t *)calloc(room, 1), *shorter, number;
     *out = NULL;
-    if (!into) room = 0; /* the guess may exceed the size: ask for that */
+    if (!into) room = 0; /* the guess may be larger than necessary: ask for the size */
     number = write(octets, count, key, into, room, length, refusal);
     if (number == 0 && *length > room) {
         free(into);
@@ -303,8 +303,8 @@ static inline uint8_t plistconv_alloc_(plistconv_writer_ write, size_t factor, c
     return 0;
 }
 
-/* The calls with _alloc make the buffer themselves: they return 0 with the output in (*out)[0 .. *length), which the
- * caller frees with plistconv_free. They convert once if their first guess at the size is enough, else twice.
+/* The calls with _alloc allocate the buffer themselves. They return 0 with the output in (*out)[0 .. *length), which
+ * the caller frees with plistconv_free. They convert once if their first guess at the size is enough, otherwise twice.
  * Any other number is that of the refusal, 60 also if there is no memory for the buffer; *out is null and *length 0. */
 static inline uint8_t plistconv_canonical_alloc(const uint8_t *octets, size_t count, const uint8_t *key,
                                                 uint8_t **out, size_t *length, plistconv_refusal *refusal) {

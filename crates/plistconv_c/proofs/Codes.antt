@@ -43,6 +43,5 @@ above refusal.WriteFailed = lit< tt
 above refusal.InputTooLarge = lit< tt
 above refusal.OutOfMemory = lit< tt
 
--- no refusal has the number 0
 pub code_above : (fault : Fault) → 0 < code_of fault
 code_above fault = above (report_of fault).0

@@ -15,7 +15,7 @@ whole_text : (text gathered : List ℕ) (failures n : ℕ) (sent : Result ℕ Wr
 whole_text text gathered failures n (Ok m) is written = written.whole.0
 whole_text text gathered failures n (Err fault) is written = absurd cc
 
--- what was gathered of a print that went out whole is the printed text
+-- what was gathered of a complete print is the printed text
 pub gathered_text : (octets gathered : List ℕ) (failures n : ℕ)
     → Prints octets (Some []) (Some gathered) 0 failures (Ok n) → IsPrintOf octets gathered
 gathered_text octets gathered failures n (inl unsent) = absurd (let is = unsent.is in cc)
@@ -42,7 +42,7 @@ refused_fault octets NotInOpenStep refused = refused
 refused_fault octets ReadFailed refused = refused
 refused_fault octets InputTooLarge refused = refused
 
--- a print that did not is refused so
+-- an incomplete print fails with this refusal
 pub gathered_refused : (octets : List ℕ) (old new : Option (List ℕ)) (before after : ℕ) (fault : Fault)
     → Prints octets old new before after (Err fault) → IsRefused octets (gathered_fault fault)
 gathered_refused octets old new before after fault (inl unsent) =

@@ -1,5 +1,5 @@
--- Each fault is named by its unit, its number and its place, up to faults that are told and printed
--- alike.
+-- Each fault is determined by its unit, its number and its place, up to faults with the same
+-- refusal and the same line.
 use Rattle.std.proofs.Common.{◌≡◌, ◌∙◌, ℕ, Some, refl, sym, ap, subst}
 use Rattle.std.proofs.lemmas.Option.{same_Some}
 use Rattle.plist_binary.specs.declared.fault.BinaryFault.TheVariants as binary
@@ -11,7 +11,7 @@ use Rattle.plistconv_c.specs.Lines.{fault_at}
 use Rattle.plistconv_c.specs.Refusals.{place_of, refusal_of, unit_of}
 use Rattle.plistconv_c.specs.declared.refusals.Refusal.{Refusal}
 
--- the fault that the unit, the number and the place of a fault name
+-- the fault for the unit, the number and the place of a fault
 pub record IsNamed (fault : Fault) : Type 0 where
   pub one : Fault
   pub found : fault_at (unit_of (report_of fault).1) (code_of fault) (place_of (report_of fault).1) ≡ Some one
@@ -65,7 +65,7 @@ named (WriteFailed sent) = itself _ refl
 named InputTooLarge = itself _ refl
 named (OutOfMemory sent) = itself _ refl
 
--- the fault that a refusal names, which is told and printed as the fault that it tells
+-- the fault for a refusal has the same refusal and the same line as the fault that it stands for
 pub record IsNamedBy (fault : Fault) (told : Refusal) : Type 0 where
   pub one : Fault
   pub found : fault_at told.unit told.number told.place ≡ Some one
@@ -79,7 +79,7 @@ named_by fault input told is =
     record { one = name.one; found = name.found; told_so = sym (name.told input); printed = name.printed } in
     subst (IsNamedBy fault) (sym is) by
 
--- two faults that are told alike are printed alike
+-- two faults with the same refusal have the same line
 pub printed_alike : (f : Fault) → (g : Fault) → (i : ℕ) → (j : ℕ) → (told : Refusal) → told ≡ refusal_of f i
     → told ≡ refusal_of g j → fault_text f ≡ fault_text g
 printed_alike f g i j told is also =

@@ -1,4 +1,4 @@
--- What each call of the library answers.
+-- The result of each call of the library.
 use Rattle.std.specs.Prelude.{◌≡◌, ◌≤◌, ℕ, List, Bool, true, false, length}
 use Rattle.plist_value.specs.Plist.{Plist}
 use Rattle.plist_object.specs.Layout.{IsLaid}
@@ -18,7 +18,7 @@ use Rattle.plistconv_c.specs.Refusals.{no_refusal, refusal_of}
 use Rattle.plistconv_c.specs.declared.checking.Finding.{Finding}
 use Rattle.plistconv_c.specs.declared.refusals.Refusal.{Refusal}
 
--- the canonical file of the value that the octets spell is given in the buffer
+-- the canonical file of the input's value is in the buffer
 pub record IsCanonicalGiven (octets before after : List ℕ) (count : ℕ) (told : Refusal) : Type 0 where
   pub within : length octets ≤ MAX_INPUT
   pub file : List ℕ
@@ -26,7 +26,7 @@ pub record IsCanonicalGiven (octets before after : List ℕ) (count : ℕ) (told
   pub given : IsGiven file before after count
   pub none : told ≡ no_refusal
 
--- the printed text of the value that the octets spell is given in the buffer
+-- the printed text of the input's value is in the buffer
 pub record IsPrintGiven (octets before after : List ℕ) (count : ℕ) (told : Refusal) : Type 0 where
   pub within : length octets ≤ MAX_INPUT
   pub text : List ℕ
@@ -34,19 +34,19 @@ pub record IsPrintGiven (octets before after : List ℕ) (count : ℕ) (told : R
   pub given : IsGiven text before after count
   pub none : told ≡ no_refusal
 
--- the refusal of a call that gathers octets before any goes out: a put fails where memory runs out
+-- the refusal of a call that gathers its output: a put fails only if memory runs out
 abbrev pub gathered_fault : Fault → Fault
 gathered_fault (WriteFailed sent) = OutOfMemory 0
 gathered_fault (OutOfMemory sent) = OutOfMemory 0
 gathered_fault fault = fault
 
--- the input is accepted: it spells a value
+-- the input is accepted: it encodes a value
 pub record IsLinted (octets : List ℕ) (told : Refusal) : Type 0 where
   pub value : Plist
   pub accepted : IsInputAccepted octets value
   pub none : told ≡ no_refusal
 
--- the input is refused, and the refusal is told by its number and its place
+-- the input is refused, and the refusal describes why
 pub record IsRefusalTold (octets : List ℕ) (told : Refusal) (number : ℕ) : Type 0 where
   pub fault : Fault
   pub refused : IsInputRefused octets fault
@@ -64,7 +64,7 @@ abbrev pub number_of : Bool → ℕ
 number_of true = 1
 number_of false = 0
 
--- both are accepted, and the answer is whether they spell equal values
+-- both are accepted, and the result is whether their values are equal
 pub record IsCompared (first second : List ℕ) (equal : ℕ) (told : Refusal) : Type 0 where
   pub first_within : length first ≤ MAX_INPUT
   pub second_within : length second ≤ MAX_INPUT
@@ -73,12 +73,12 @@ pub record IsCompared (first second : List ℕ) (equal : ℕ) (told : Refusal) :
   pub answer : equal ≡ number_of same
   pub none : told ≡ no_refusal
 
--- the input that is refused, and its fault; the second only where the first is accepted
+-- the input that is refused, and its fault; the second only if the first is accepted
 pub data RefusedInput (first second : List ℕ) (fault : Fault) (input : ℕ) : Type 0 where
   first_refused : IsInputRefused first fault → input ≡ 1 → RefusedInput first second fault input
   second_refused : (v : Plist) → IsInputAccepted first v → IsInputRefused second fault → input ≡ 2 → RefusedInput first second fault input
 
--- one of the two is refused, and the refusal is told
+-- one of the two is refused, and the refusal describes why
 pub record IsRefusedPair (first second : List ℕ) (equal : ℕ) (told : Refusal) (number : ℕ) : Type 0 where
   pub fault : Fault
   pub input : ℕ
@@ -87,12 +87,12 @@ pub record IsRefusedPair (first second : List ℕ) (equal : ℕ) (told : Refusal
   pub number_told : number ≡ told.number
   pub nothing : equal ≡ 0
 
--- what is found, in numbers
+-- the verdict in numbers
 abbrev pub finding_of : Verdict → Finding
 finding_of Canonical = record { object = 0; canonical = 1; rule = 0 }
 finding_of (Broken rule object) = record { object = object; canonical = 0; rule = rule }
 
--- the octets have the layout, and what is found of them is told
+-- the bytes have the layout, and the finding describes the verdict on them
 pub record IsChecked (octets : List ℕ) (finding : Finding) (told : Refusal) : Type 0 where
   pub within : length octets ≤ MAX_INPUT
   pub laid : IsLaid octets
@@ -103,7 +103,7 @@ pub record IsChecked (octets : List ℕ) (finding : Finding) (told : Refusal) : 
   pub other : finding.canonical ≡ 0 → ¬ IsCanonical octets
   pub none : told ≡ no_refusal
 
--- the input is too large, does not have the layout, or memory ran out, and the refusal is told
+-- the input is too large, does not have the layout, or memory ran out, and the refusal says so
 pub record IsUnchecked (octets : List ℕ) (finding : Finding) (told : Refusal) (number : ℕ) : Type 0 where
   pub fault : Fault
   pub refused : IsCheckRefused octets fault

@@ -1,8 +1,8 @@
--- Octets that are given in a buffer of the caller.
+-- Bytes written to a buffer of the caller.
 use Rattle.std.specs.Prelude.{◌≡◌, ◌≤◌, ◌<◌, ℕ, List, ◌++◌, length, drop}
 
--- The octets stand at the head of the buffer where it has room for them, and what is behind them is
--- as it was; else the buffer is as it was. The count is theirs, which is the room that is needed.
+-- The bytes are at the start of the buffer if they fit, and the rest of it is unchanged; otherwise
+-- the whole buffer is. The count is their number.
 pub record IsGiven (octets before after : List ℕ) (count : ℕ) : Type 0 where
   pub counted : count ≡ length octets
   pub given : length octets ≤ length before → after ≡ octets ++ drop (length octets) before

@@ -1,4 +1,4 @@
--- The fault that a refusal tells, and the line that is printed of it.
+-- The fault that a refusal stands for, and the line printed for it.
 use Rattle.std.specs.Prelude.{◌≡◌, ◌⊎◌, ◌==◌, ℕ, List, Option, Some, None, if◌then◌else◌}
 use Rattle.plist_binary.specs.declared.fault.BinaryFault.TheVariants as binary
 use Rattle.ostep_text.specs.declared.fault.TextFault.TheVariants as text
@@ -9,22 +9,22 @@ use Rattle.plistconv_c.specs.Given.{IsGiven}
 use Rattle.plistconv_c.specs.Refusals.{refusal_of}
 use Rattle.plistconv_c.specs.declared.refusals.Refusal.{Refusal}
 
--- a fault is told so
+-- the refusal stands for some fault
 abbrev pub IsTold : Refusal → Type 0
 IsTold told = (fault : Fault) × ((input : ℕ) × (told ≡ refusal_of fault input))
 
--- The line of the fault that is told is given in the buffer. There is such a fault, and all that
--- are told alike have one line.
+-- The buffer has the line of the fault that the refusal stands for. There is such a fault, and if
+-- there are several, they have the same line.
 pub record IsLineGiven (path before after : List ℕ) (count : ℕ) (told : Refusal) : Type 0 where
   pub known : IsTold told
   pub given : (fault : Fault) → (input : ℕ) → told ≡ refusal_of fault input
       → IsGiven (line_of path fault) before after count
 
--- no fault is told so
+-- the refusal stands for no fault
 abbrev pub IsUntold : Refusal → Type 0
 IsUntold told = (fault : Fault) → (input : ℕ) → told ≡ refusal_of fault input → ⊥
 
--- memory ran out for the line of a fault that is told so, or none is; the buffer is unchanged
+-- memory ran out for the line, or the refusal stands for no fault; the buffer is unchanged
 pub record IsNoLine (before after : List ℕ) (count : ℕ) (told : Refusal) (number : ℕ) : Type 0 where
   pub reason : ((number ≡ 60) × IsTold told) ⊎ ((number ≡ 255) × IsUntold told)
   pub kept : after ≡ before
@@ -62,7 +62,7 @@ fault_at_object number place =
     else (if number == 18 then Some (Binary (binary.TooMuchPayload place))
     else None))))))))))))))
 
--- the fault at an octet of a text
+-- the fault at a byte of a text
 abbrev pub fault_at_octet : ℕ → ℕ → Option Fault
 fault_at_octet number place =
     if number == 14 then Some (Text (text.DuplicateKey place))
@@ -83,14 +83,14 @@ fault_at_octet number place =
     else (if number == 32 then Some (Text (text.BadUtf16 place))
     else None)))))))))))))))
 
--- the fault after so many octets had gone out
+-- the fault after this number of bytes were sent
 abbrev pub fault_after : ℕ → ℕ → Option Fault
 fault_after number place =
     if number == 51 then Some (WriteFailed place)
     else (if number == 60 then Some (OutOfMemory place)
     else None)
 
--- the fault that a unit, a number and a place name
+-- the fault for a unit, a number and a place
 abbrev pub fault_at : ℕ → ℕ → ℕ → Option Fault
 fault_at unit number place =
     if unit == 0 then fault_nowhere number

@@ -1,4 +1,4 @@
--- A refusal by its number and its place.
+-- A refusal as a number and a place.
 use Rattle.std.specs.Prelude.{ℕ}
 use Rattle.plist_value.specs.declared.refusals.Place.{Place}
 use Rattle.plist_value.specs.declared.refusals.Place.TheVariants.{Nowhere, Object, Octet, After}
@@ -6,14 +6,15 @@ use Rattle.plist_forms.specs.Fault.{code_of, report_of}
 use Rattle.plist_forms.specs.declared.faults.Fault.{Fault}
 use Rattle.plistconv_c.specs.declared.refusals.Refusal.{Refusal}
 
--- what a place is: 0 nothing, 1 an object, 2 an octet of the input, 3 how many octets had gone out
+-- the unit of a place: 0 none, 1 the number of an object, 2 the offset of a byte in the input, 3
+-- the number of bytes sent
 abbrev pub unit_of : Place → ℕ
 unit_of Nowhere = 0
 unit_of (Object object) = 1
 unit_of (Octet octet) = 2
 unit_of (After sent) = 3
 
--- the place, in that unit, and 0 where there is none
+-- the place in that unit, and 0 if there is none
 abbrev pub place_of : Place → ℕ
 place_of Nowhere = 0
 place_of (Object object) = object

@@ -1,4 +1,4 @@
--- What the call for a text answers.
+-- The result of the call for a text.
 use Rattle.std.specs.Prelude.{◌≡◌, ℕ, List, Some, None}
 use Rattle.plist_value.specs.Plist.{Plist}
 use Rattle.ostep_text.specs.Written.{text_of}
@@ -9,7 +9,7 @@ use Rattle.plistconv_c.specs.Inputs.{IsInputAccepted, IsInputRefused}
 use Rattle.plistconv_c.specs.Refusals.{no_refusal, refusal_of}
 use Rattle.plistconv_c.specs.declared.refusals.Refusal.{Refusal}
 
--- the text of the value that the octets spell is given in the buffer
+-- the text of the input's value is in the buffer
 pub record IsTextGiven (octets before after : List ℕ) (count : ℕ) (told : Refusal) : Type 0 where
   pub value : Plist
   pub text : List ℕ
@@ -18,12 +18,12 @@ pub record IsTextGiven (octets before after : List ℕ) (count : ℕ) (told : Re
   pub given : IsGiven text before after count
   pub none : told ≡ no_refusal
 
--- the octets are refused, or they spell a value that has no text
+-- the input is refused, or encodes a value that has no text
 pub data IsUnwritten (octets : List ℕ) (told : Refusal) : Type 0 where
   unread : (fault : Fault) → IsInputRefused octets fault → told ≡ refusal_of fault 1 → IsUnwritten octets told
   no_text : (v : Plist) → IsInputAccepted octets v → text_of v ≡ None → told ≡ refusal_of NotInOpenStep 1 → IsUnwritten octets told
 
--- the refusal is told by its number and its place, and the buffer is as it was
+-- the refusal describes why, and the buffer is unchanged
 pub record IsTextRefused (octets before after : List ℕ) (count : ℕ) (told : Refusal) (number : ℕ) : Type 0 where
   pub reason : IsUnwritten octets told
   pub number_told : number ≡ told.number

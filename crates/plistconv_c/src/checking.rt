@@ -1,4 +1,4 @@
-//! Whether a binary file is canonical.
+//! Checking whether a binary file is canonical.
 ghost use Rattle.std.specs.Prelude.{◌≡◌, ◌≢◌, ◌↔◌, ◌≤◌, length, IfOk, IfErr, OnOk};
 ghost use Rattle.plist_object.specs.Layout.{IsLaid};
 ghost use Rattle.plist_canon.specs.Checking.{IsCheckFault, IsVerdict};
@@ -14,26 +14,27 @@ use plist_canon::{CheckFault, Verdict, check, check_with_hasher};
 use plist_forms::Fault;
 use std::alloc::Global;
 
-/// What a check finds.
+/// The result of a check.
 #[repr(C)]
 #[derive(Clone, Copy, Drop)]
 pub struct Finding {
-    /// The object at which the rule is broken; 0 where none is.
+    /// The object that breaks the rule; 0 if none does.
     pub object: u64,
-    /// 1 where the octets are the canonical file of a value within the limits, else 0.
+    /// 1 if the input is the canonical file of a value within the limits, else 0.
     pub canonical: u8,
-    /// A rule that is broken, from 0 to 7; 0 where none is.
+    /// A broken rule, from 0 to 7; 0 if none is broken.
     pub rule: u8,
 }
 
-/// Whether the octets, a binary file, are canonical, and a broken rule where they are not. No value
-/// is built. Scalars are hashed under the key, or, where it is all zeros, under a fixed seed, for
-/// which somebody can pick scalars that collide.
+/// Checks whether a binary file is canonical, and finds a broken rule if it is not. Builds no
+/// value. Scalars are hashed with `key`, or with a fixed seed if it is all zeros; scalars can be
+/// chosen that collide under the fixed seed.
 ///
 /// # Errors
 ///
-/// 1 to 3 if the octets do not have the layout of a binary file, 52 if they are more than
-/// [`MAX_INPUT`](plist_forms::MAX_INPUT), and 60 if memory runs out; the finding is 0 throughout.
+/// Fails with 1 to 3 if the input does not have the layout of a binary file, with 52 if it has more
+/// than [`MAX_INPUT`](plist_forms::MAX_INPUT) bytes, and with 60 if out of memory. All fields of
+/// the finding are then 0.
 #[unsafe(no_mangle)]
 pub extern "C" fn plistconv_check(
     alloc: Global,
@@ -63,7 +64,7 @@ pub extern "C" fn plistconv_check(
     }
 }
 
-// The verdict on an input, found under the key.
+// Checks an input with the key, if it is not too large.
 fn checked(alloc: Global, octets: &[u8], key: &[u8; 16]) -> Result<Verdict, Fault>
     ensures fault { IfErr result (IsCheckRefused octets.now) }
     ensures within { OnOk result (length octets.now ≤ MAX_INPUT) }
@@ -79,7 +80,7 @@ fn checked(alloc: Global, octets: &[u8], key: &[u8; 16]) -> Result<Verdict, Faul
     }
 }
 
-// The verdict on the file, found under the key.
+// Checks a file with the key.
 fn verdict_of(alloc: Global, octets: &[u8], key: &[u8; 16]) -> Result<Verdict, CheckFault>
     ensures fault { IfErr result (IsCheckFault octets.now) }
     ensures laid { IfOk result (λ _. IsLaid octets.now) }

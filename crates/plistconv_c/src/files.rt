@@ -1,4 +1,4 @@
-//! The canonical file of octets, and whether two spell the same.
+//! Making a canonical file, and comparing two inputs.
 ghost use Rattle.std.specs.Prelude.{◌≡◌, ◌≢◌, ◌≤◌, length, IfOk, IfErr, OnOk};
 ghost use Rattle.plist_forms.specs.Accepted.{IsCanonicalOf};
 ghost use Rattle.plist_forms.specs.Pair.{IsPair};
@@ -16,14 +16,13 @@ use plist_forms::{
 };
 use std::alloc::Global;
 
-/// The canonical file of the value that the octets spell, at the head of the buffer. Where the
-/// buffer has no room for it, the buffer is as it was, and `length` is what is needed. Scalars are
-/// hashed under the key, or, where it is all zeros, under a fixed seed, for which somebody can pick
-/// scalars that collide.
+/// Writes the canonical file of the value of `octets` to the start of the buffer. If it does not
+/// fit, the buffer is unchanged and `length` is the size needed. Scalars are hashed with `key`, or
+/// with a fixed seed if it is all zeros; scalars can be chosen that collide under the fixed seed.
 ///
 /// # Errors
 ///
-/// The number of the refusal; the buffer is as it was, and `length` is 0.
+/// Returns the number of the refusal; the buffer is unchanged, and `length` is 0.
 #[unsafe(no_mangle)]
 pub extern "C" fn plistconv_canonical(
     alloc: Global,
@@ -52,7 +51,7 @@ pub extern "C" fn plistconv_canonical(
     }
 }
 
-// The canonical file of the value that the octets spell, made under the key.
+// Makes the canonical file with the key, if the input is not too large.
 fn canonical_file(alloc: Global, octets: &[u8], key: &[u8; 16]) -> Result<Vec<u8>, Fault>
     ensures within { OnOk result (length octets.now ≤ MAX_INPUT) }
     ensures canonical { IfOk result (λ file. IsCanonicalOf octets.now file.items) }
@@ -65,12 +64,13 @@ fn canonical_file(alloc: Global, octets: &[u8], key: &[u8; 16]) -> Result<Vec<u8
     }
 }
 
-/// Whether the two octet lists spell equal values: `equal` is 1 or 0. Scalars are hashed as in
+/// Compares the values of two inputs and sets `equal` to 1 or 0. Scalars are hashed as in
 /// [`plistconv_canonical`].
 ///
 /// # Errors
 ///
-/// The number of the refusal, of the second input only where the first is accepted; `equal` is 0.
+/// Returns the number of the refusal, which is that of the second input only if the first is
+/// accepted; `equal` is 0.
 #[unsafe(no_mangle)]
 pub extern "C" fn plistconv_same(
     alloc: Global,
@@ -103,7 +103,7 @@ pub extern "C" fn plistconv_same(
     }
 }
 
-// Whether the two spell equal values, found under the key.
+// Compares two inputs with the key, if neither is too large.
 fn is_same(alloc: Global, first: &[u8], second: &[u8], key: &[u8; 16]) -> Result<bool, PairFault>
     ensures first { OnOk result (length first.now ≤ MAX_INPUT) }
     ensures second { OnOk result (length second.now ≤ MAX_INPUT) }

@@ -1,11 +1,10 @@
-//! Octets that are gathered in memory.
+//! A sink that gathers bytes in memory.
 ghost use Rattle.std.specs.Prelude.{◌≡◌, [], None, Some};
 
 use plist_devices::{DeviceFault, Sink};
 use std::alloc::Global;
 
-/// A sink that keeps all octets that it takes. A put fails only where there is no memory for the
-/// piece.
+/// A sink that keeps all bytes that it takes. A put fails only if out of memory.
 #[derive(Drop)]
 pub(crate) struct Gathering {
     pub(crate) octets: Vec<u8>,
@@ -13,7 +12,6 @@ pub(crate) struct Gathering {
 }
 
 impl Gathering {
-    // No octets.
     pub(crate) fn new(alloc: Global) -> Gathering
         ensures octets { result.octets.items ≡ [] }
         ensures failures { result.failures ≡ 0 }

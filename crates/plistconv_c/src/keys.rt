@@ -1,10 +1,10 @@
-//! The hash key under which a call hashes scalars.
+//! The key for hashing scalars.
 
 use std::hash::RandomState;
 use std::io;
 use std::random::RandomSource;
 
-// A key as what a hash builder takes for random octets.
+// A key in the role of the random bytes that a hash builder asks for.
 #[derive(Clone, Copy)]
 struct Key<'a>(&'a [u8; 16]);
 
@@ -17,7 +17,7 @@ impl<'a> RandomSource for Key<'a> {
     }
 }
 
-// The hash builder of the key; none of sixteen zeros, which stand for no key.
+// Returns the hash builder for the key, or `None` for sixteen zeros, which mean no key.
 pub(crate) fn keyed_hasher(key: &[u8; 16]) -> Option<RandomState> {
     if *key == [0; 16] {
         None

@@ -1,7 +1,7 @@
-//! The C library: what `plist_forms` offers, over buffers of the caller.
+//! The C library: the functions of `plist_forms` on buffers of the caller.
 //!
-//! Each call answers 0, or the number of the refusal, which it also tells in a [`Refusal`]. Calls
-//! share nothing. `include/plistconv.h` says the same in C.
+//! Each call returns 0 or the number of a refusal, which it also describes in a [`Refusal`]. Calls
+//! share no state. `include/plistconv.h` documents them for C.
 #![tactic(auto)]
 
 mod checking;

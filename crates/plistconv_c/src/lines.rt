@@ -1,4 +1,4 @@
-//! The printed line of a refusal.
+//! Printing the line of a refusal.
 ghost use Rattle.std.specs.Prelude.{◌≡◌, ◌≢◌, IfOk};
 ghost use Rattle.plist_forms.specs.Line.{line_of};
 ghost use Rattle.plistconv_c.specs.Lines.{IsLineGiven, IsNoLine};
@@ -9,15 +9,14 @@ use crate::giving::give;
 use plist_forms::{Fault, line};
 use std::alloc::{AllocError, Global};
 
-/// The printed line of a refusal that a call told, without a line end, at the head of the buffer:
-/// `PATH: refused 14 DuplicateKey at octet 9`. The path stands in it as it is given, in whatever
-/// octets. Where the buffer has no room for the line, the buffer is as it was, and `length` is what
-/// is needed.
+/// Writes the line of a refusal that a call set, without a line end, to the start of the buffer:
+/// `PATH: refused 14 DuplicateKey at octet 9`. The path may have any bytes and is copied unchanged.
+/// If the line does not fit, the buffer is unchanged and `length` is the size needed.
 ///
 /// # Errors
 ///
-/// 60 where no memory was left, and 255 where no call tells such a refusal; the buffer is as it
-/// was, and `length` is 0.
+/// Fails with 60 if out of memory, and with 255 if no call sets such a refusal; the buffer is
+/// unchanged, and `length` is 0.
 #[unsafe(no_mangle)]
 pub extern "C" fn plistconv_line(
     alloc: Global,
@@ -44,7 +43,7 @@ pub extern "C" fn plistconv_line(
     }
 }
 
-// The line of the fault, behind a path in whatever octets.
+// Returns the line of the fault for a path, which may have any bytes.
 fn line_at(alloc: Global, path: &[u8], fault: &Fault) -> Result<Vec<u8>, AllocError>
     ensures { IfOk result (λ text. text.items ≡ line_of path.now fault.now) }
 {

@@ -1,4 +1,4 @@
-//! Whether an input spells a value.
+//! Checking whether an input is accepted.
 ghost use Rattle.std.specs.Prelude.{◌≡◌, ◌≢◌, IfErr, OnOk};
 ghost use Rattle.plist_value.specs.Plist.{Plist};
 ghost use Rattle.plistconv_c.specs.Answers.{IsLinted, IsRefusalTold};
@@ -9,11 +9,11 @@ use crate::inputs::admit;
 use plist_forms::{Fault, judge_any};
 use std::alloc::Global;
 
-/// Whether the octets spell a value within the limits. Nothing is written, and no value is built.
+/// Checks whether the input encodes a value within the limits. Writes nothing and builds no value.
 ///
 /// # Errors
 ///
-/// The number of the refusal.
+/// Returns the number of the refusal.
 #[unsafe(no_mangle)]
 pub extern "C" fn plistconv_lint(alloc: Global, octets: &[u8], refusal: &mut Refusal) -> u8
     ensures linted { result ≡ 0 → IsLinted octets.now refusal.new }
@@ -31,7 +31,7 @@ pub extern "C" fn plistconv_lint(alloc: Global, octets: &[u8], refusal: &mut Ref
     }
 }
 
-// Judges an input.
+// Validates an input, if it is not too large.
 fn judged(alloc: Global, octets: &[u8]) -> Result<(), Fault>
     ensures accepted { OnOk result ((v : Plist) × IsInputAccepted octets.now v) }
     ensures refused { IfErr result (IsInputRefused octets.now) }

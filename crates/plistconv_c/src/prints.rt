@@ -1,4 +1,4 @@
-//! The printed text of a value.
+//! Printing a value.
 ghost use Rattle.std.specs.Prelude.{◌≡◌, ◌≢◌, ◌≤◌, length, IfOk, IfErr, OnOk};
 ghost use Rattle.plist_forms.specs.Printed.{IsPrintOf};
 ghost use Rattle.plist_forms.specs.declared.loading.TheConstants.{MAX_INPUT};
@@ -12,13 +12,13 @@ use crate::inputs::admit;
 use plist_forms::{Fault, print};
 use std::alloc::Global;
 
-/// The printed text of the value that the octets spell, at the head of the buffer. Two values print
-/// the same exactly if they are equal. If the buffer has no room for the text, it is as it was, and
-/// `length` is what is needed.
+/// Writes the printed text of the value of `octets` to the start of the buffer. Two values print
+/// the same if and only if they are equal. If the text does not fit, the buffer is unchanged and
+/// `length` is the size needed.
 ///
 /// # Errors
 ///
-/// The number of the refusal; the buffer is as it was, and `length` is 0.
+/// Returns the number of the refusal; the buffer is unchanged, and `length` is 0.
 #[unsafe(no_mangle)]
 pub extern "C" fn plistconv_print(
     alloc: Global,
@@ -46,8 +46,7 @@ pub extern "C" fn plistconv_print(
     }
 }
 
-// The printed text of the value that the octets spell. Nothing of it has gone out if memory runs
-// out.
+// Returns the printed text of the value of `octets`. Nothing was sent yet if memory runs out.
 fn printed_text(alloc: Global, octets: &[u8]) -> Result<Vec<u8>, Fault>
     ensures within { OnOk result (length octets.now ≤ MAX_INPUT) }
     ensures text { IfOk result (λ text. IsPrintOf octets.now text.items) }
@@ -61,7 +60,7 @@ fn printed_text(alloc: Global, octets: &[u8]) -> Result<Vec<u8>, Fault>
     }
 }
 
-// The refusal if nothing goes out before all is gathered: a put fails only if memory runs out.
+// Returns the refusal of a call that gathers its output: a put fails only if out of memory.
 fn unsent(fault: Fault) -> Fault
     ensures { result ≡ gathered_fault fault }
 {

@@ -1,27 +1,26 @@
-//! A refusal by its number and its place.
+//! A refusal as a number and a place.
 ghost use Rattle.std.specs.Prelude.{◌≡◌};
 ghost use Rattle.plistconv_c.specs.Refusals.{no_refusal, place_of, refusal_of, unit_of};
 
 use plist_forms::Fault;
 use plist_value::Place;
 
-/// Why a call was refused: all are 0 where it was not.
+/// Why a call was refused. All fields are 0 if it was not.
 #[repr(C)]
 #[derive(Clone, Copy, PartialEq, Eq, Drop)]
 pub struct Refusal {
-    /// The place, in the unit of `unit`; 0 where there is none.
+    /// The place, in the unit of `unit`; 0 if there is none.
     pub place: u64,
     /// The number of the refusal.
     pub number: u8,
-    /// What `place` is: 0 nothing, 1 the number of an object, 2 an octet of the input, from 0 on,
-    /// and 3 how many octets had gone out.
+    /// The unit of `place`: 0 none, 1 the number of an object, 2 the offset of a byte in the input,
+    /// 3 the number of bytes sent.
     pub unit: u8,
-    /// Which of the call's inputs is refused, 1 or 2.
+    /// Which input of the call is refused, 1 or 2.
     pub input: u8,
 }
 
 impl Refusal {
-    // No refusal.
     pub(crate) fn none() -> Refusal
         ensures { result ≡ no_refusal }
     {
@@ -33,7 +32,7 @@ impl Refusal {
         }
     }
 
-    // The refusal of the input.
+    // Returns the refusal of the input for a fault.
     pub(crate) fn of(fault: &Fault, input: u8) -> Refusal
         ensures { result ≡ refusal_of fault.now input }
     {

@@ -1,4 +1,4 @@
-//! The text of a value in OpenStep form.
+//! Writing a value as OpenStep text.
 ghost use Rattle.std.specs.Prelude.{◌≡◌, ◌≢◌, IfOk, IfErr};
 ghost use Rattle.plist_value.specs.View.{view};
 ghost use Rattle.plistconv_c.specs.Inputs.{IsInputAccepted, IsInputRefused};
@@ -12,13 +12,13 @@ use plist_forms::{Fault, read_any};
 use plist_value::Value;
 use std::alloc::Global;
 
-/// The OpenStep text of the value that the octets spell, at the head of the buffer. Where the
-/// buffer has no room for it, the buffer is as it was, and `length` is what is needed.
+/// Writes the OpenStep text of the value of `octets` to the start of the buffer. If it does not
+/// fit, the buffer is unchanged and `length` is the size needed.
 ///
 /// # Errors
 ///
-/// The number of the refusal, 40 where the value has no text in this form; the buffer is as it was,
-/// and `length` is 0.
+/// Returns the number of the refusal, 40 if the value has no OpenStep text; the buffer is
+/// unchanged, and `length` is 0.
 #[unsafe(no_mangle)]
 pub extern "C" fn plistconv_text(
     alloc: Global,
@@ -57,7 +57,7 @@ pub extern "C" fn plistconv_text(
     }
 }
 
-// The value of an input.
+// Reads an input, if it is not too large.
 fn value_of(alloc: Global, octets: &[u8]) -> Result<Value, Fault>
     ensures accepted { IfOk result (λ value. IsInputAccepted octets.now (view value)) }
     ensures refused { IfErr result (IsInputRefused octets.now) }

@@ -1,4 +1,4 @@
-//! The answers to rows.
+//! Answering rows.
 ghost use Rattle.std.specs.Prelude.{◌<◌};
 ghost use Rattle.plist_object.specs.Layout.{trailer_of};
 ghost use Rattle.plist_object.specs.Views.{octets_of};
@@ -14,10 +14,10 @@ use plist_value::Utf16;
 use std::alloc::{AllocError, Global};
 use std::fmt::Write;
 
-// The greatest printed text of a row, in octets.
+// The maximum number of bytes of a printed text.
 const ROOM: usize = 65_536;
 
-/// The line that answers the row.
+/// Returns the line that answers the row.
 pub(crate) fn answer(alloc: Global, row: &Row) -> Result<String, AllocError> {
     let octets = row.octets.as_slice();
     match row.question {
@@ -29,7 +29,6 @@ pub(crate) fn answer(alloc: Global, row: &Row) -> Result<String, AllocError> {
     }
 }
 
-// The printed text of the value.
 fn answer_print(alloc: Global, name: &str, octets: &[u8]) -> Result<String, AllocError> {
     let mut sink = ListSink::new(alloc, ROOM, ROOM)?;
     match print(alloc, octets, &mut sink) {
@@ -38,8 +37,8 @@ fn answer_print(alloc: Global, name: &str, octets: &[u8]) -> Result<String, Allo
     }
 }
 
-// The trailer, and then each object: from where up to where it stands, whether it is spelled
-// shortest, and what it refers to.
+// The trailer, followed by each object: where it begins and ends, whether it has its shortest
+// encoding, and its references.
 fn answer_layout(alloc: Global, name: &str, octets: &[u8]) -> Result<String, AllocError> {
     let file = match BinFile::of(octets) {
         Ok(file) => file,
@@ -97,7 +96,7 @@ fn put_references(line: &mut String, references: Refs) -> Result<(), AllocError>
     Ok(())
 }
 
-// Where the text begins, and its tokens: from where up to where each stands, and what it is.
+// Where the text begins, followed by each token: where it begins and ends, and what it is.
 fn answer_tokens(alloc: Global, name: &str, octets: &[u8]) -> Result<String, AllocError> {
     let found = match tokens(alloc, octets) {
         Ok(found) => found,
@@ -126,7 +125,7 @@ fn put_token(line: &mut String, token: &Token) -> Result<(), AllocError> {
     }
 }
 
-// Puts the units of a string: printable ASCII as it is, each other in four digits.
+// Writes the units of a string: printable ASCII unchanged, every other unit as four digits.
 fn put_units(line: &mut String, text: &Utf16) -> Result<(), AllocError> {
     write!(line, "\"")?;
     for unit in text.units() {
@@ -138,8 +137,8 @@ fn put_units(line: &mut String, text: &Utf16) -> Result<(), AllocError> {
     write!(line, "\"")
 }
 
-// How the fronts are refused, the whole octets among them: the length from which on each answer
-// holds.
+// How each prefix is refused, from the empty one to the whole: each answer with the length from
+// which on it holds.
 fn answer_fronts(alloc: Global, name: &str, octets: &[u8]) -> Result<String, AllocError> {
     let mut line = format!(in alloc; "{name}:")?;
     let mut last = None;

@@ -1,8 +1,8 @@
-//! Rows: octets, what is asked of them, and the line that answers it.
+//! Rows: an input, a question about it, and the line that answers it.
 //!
-//! Standard input has a row in each line: `NAME QUESTION FORM OCTETS`, as [`row::Row::read`] says;
-//! `#` begins a comment. A line is printed for each row, which begins with its name. What must be
-//! printed stands in `stdout`.
+//! Standard input has a row in each line: `NAME QUESTION FORM OCTETS`, as described at
+//! [`row::Row::read`]; `#` begins a comment. For each row a line is printed that begins with its
+//! name. `stdout` has the expected lines.
 #![tactic(auto)]
 
 mod answers;

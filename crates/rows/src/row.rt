@@ -1,21 +1,21 @@
-//! A row: its name, what it asks, and its octets.
+//! A row: its name, its question and its input.
 use crate::octets::spelled;
 use std::alloc::{AllocError, Global};
 use test_files::{Draft, file};
 
-/// What is asked of octets.
+/// What is asked of an input.
 #[derive(Clone, Copy, Debug)]
 pub(crate) enum Question {
-    /// Which value they spell: its canonical file and its OpenStep text; of a binary file also
-    /// whether it is canonical.
+    /// Its value: the canonical file and the OpenStep text. For a binary file also whether it is
+    /// canonical.
     Value,
-    /// How their value is printed.
+    /// The printed text of its value.
     Print,
-    /// What stands in a binary file: its trailer, and each of its objects.
+    /// The trailer and the objects of a binary file.
     Layout,
     /// The tokens of a text.
     Tokens,
-    /// How each front of them is refused.
+    /// How each prefix of it is refused.
     Fronts,
 }
 
@@ -41,14 +41,13 @@ pub(crate) struct Row<'a> {
 }
 
 impl<'a> Row<'a> {
-    /// The row of a line `NAME QUESTION FORM OCTETS`, if it is one. The forms:
+    /// Parses a line `NAME QUESTION FORM OCTETS`, or returns `None` if it is not a row. The forms:
     ///
-    /// - `text OCTETS`: these octets;
-    /// - `file WIDTH OBJECT ..`: the binary file of these objects, with references of so many
-    ///   octets;
-    /// - `laid WIDTH OBJECTS ENTRIES`: the binary file of these octets of objects and these entries
-    ///   of the
-    ///   offset table, of one octet each.
+    /// - `text OCTETS`: these bytes;
+    /// - `file WIDTH OBJECT ..`: the binary file of these objects, with references of `WIDTH`
+    ///   bytes;
+    /// - `laid WIDTH OBJECTS ENTRIES`: the binary file of these bytes of objects and these entries
+    ///   of the offset table, one byte each.
     pub(crate) fn read(alloc: Global, line: &'a str) -> Result<Option<Row<'a>>, AllocError> {
         let Some((name, rest)) = line.split_once(' ') else {
             return Ok(None);
@@ -70,7 +69,7 @@ impl<'a> Row<'a> {
     }
 }
 
-// The octets of a form and what stands behind it.
+// Returns the input for a form and what follows it.
 fn octets_of(alloc: Global, text: &str) -> Result<Option<Vec<u8>>, AllocError> {
     let (form, rest) = text.split_once(' ').unwrap_or((text, ""));
     if form == "text" {
@@ -89,7 +88,7 @@ fn octets_of(alloc: Global, text: &str) -> Result<Option<Vec<u8>>, AllocError> {
     }
 }
 
-// The file of the objects, with blanks between them.
+// Returns the file of the objects, which are separated by spaces.
 fn file_of(alloc: Global, objects: &str, width: u8) -> Result<Vec<u8>, AllocError> {
     let mut draft = Draft::new(alloc)?;
     for object in objects.split(' ') {
@@ -98,7 +97,7 @@ fn file_of(alloc: Global, objects: &str, width: u8) -> Result<Vec<u8>, AllocErro
     draft.finish(1, width)
 }
 
-// The file of the octets of objects, a blank and the entries.
+// Returns the file of the bytes of objects and, after a space, the entries.
 fn laid(alloc: Global, text: &str, width: u8) -> Result<Option<Vec<u8>>, AllocError> {
     let Some((objects, entries)) = text.split_once(' ') else {
         return Ok(None);

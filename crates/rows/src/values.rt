@@ -1,5 +1,4 @@
-//! The value that octets spell, told by its canonical file and its OpenStep text, and how others
-//! are refused.
+//! The value of an input, shown as its canonical file and its OpenStep text, or its refusal.
 use crate::octets::shown;
 use ostep_text::write_text;
 use plist_canon::{Verdict, canonical, check};
@@ -9,7 +8,7 @@ use plist_forms::{
 use std::alloc::{AllocError, Global};
 use std::fmt::Write;
 
-/// The line of the value, or of the refusal. Where calls answer otherwise than one another, the
+/// Returns the line for the value, or for the refusal. If the calls of the library disagree, the
 /// line says so.
 pub(crate) fn answer_value(alloc: Global, name: &str, octets: &[u8]) -> Result<String, AllocError> {
     let mut said = match read_any(alloc, octets) {
@@ -50,7 +49,7 @@ fn put_unless(said: &mut String, agrees: bool) -> Result<(), AllocError> {
     }
 }
 
-// Whether each call takes the octets as a spelling of the value of this canonical file.
+// Returns whether every call takes the input as an encoding of the value with this canonical file.
 fn is_file_of(alloc: Global, octets: &[u8], file: &[u8]) -> bool {
     let is_own = |octets: &[u8]| match canonicalise(alloc, octets) {
         Ok(own) => own.as_slice() == file,
@@ -64,7 +63,8 @@ fn is_file_of(alloc: Global, octets: &[u8], file: &[u8]) -> bool {
         && check(alloc, file) == Ok(Verdict::Canonical)
 }
 
-// Whether each call refuses the octets by this fault, as the first of two files and as the second.
+// Returns whether every call refuses the input with this fault, as the first and as the second of
+// two files.
 fn is_refused(alloc: Global, octets: &[u8], fault: Fault) -> bool {
     judge_any(alloc, octets) == Err(fault)
         && canonicalise(alloc, octets).err() == Some(fault)
@@ -72,7 +72,7 @@ fn is_refused(alloc: Global, octets: &[u8], fault: Fault) -> bool {
         && same_files(alloc, b"{b=a;a=b;}", octets) == Err(PairFault::Second(fault))
 }
 
-// Puts whether the binary file is canonical.
+// Appends whether the binary file is canonical.
 fn put_verdict(said: &mut String, alloc: Global, octets: &[u8]) -> Result<(), AllocError> {
     match check(alloc, octets) {
         Ok(Verdict::Canonical) => write!(said, "; canonical"),

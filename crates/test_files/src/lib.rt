@@ -1,9 +1,9 @@
-//! Small binary files, made octet by octet and not by the code that is tested.
+//! Small binary files, made byte by byte and not by the code under test.
 #![tactic(auto)]
 
 use std::alloc::{AllocError, Global};
 
-/// A binary file that is made object after object. Its top object is the first.
+/// A binary file that is built object by object. The first is its top object.
 #[derive(Drop)]
 pub struct Draft {
     octets: Vec<u8>,
@@ -11,7 +11,7 @@ pub struct Draft {
 }
 
 impl Draft {
-    /// A file with its header alone.
+    /// Creates a file with only its header.
     pub fn new(alloc: Global) -> Result<Draft, AllocError> {
         Ok(Draft {
             octets: Vec::from_slice(alloc, b"bplist00")?,
@@ -25,7 +25,7 @@ impl Draft {
         self.octets.extend_from_slice(object)
     }
 
-    /// The file, with offsets and references of so many octets.
+    /// Returns the file, with offsets and references of the given widths in bytes.
     pub fn finish(self, offset_width: u8, reference_width: u8) -> Result<Vec<u8>, AllocError> {
         let Draft { mut octets, places } = self;
         let table = octets.len() as u64;
@@ -39,13 +39,13 @@ impl Draft {
     }
 }
 
-/// The binary file of this object alone.
+/// Returns the binary file with only this object.
 pub fn one(alloc: Global, object: &[u8]) -> Result<Vec<u8>, AllocError> {
     file(alloc, object, &[8], 1)
 }
 
-/// The binary file of these octets of objects, with these entries of the offset table, of one octet
-/// each, and this width of a reference.
+/// Returns the binary file of these bytes of objects and these entries of the offset table, one
+/// byte each, with references of `width` bytes.
 pub fn file(
     alloc: Global,
     objects: &[u8],
@@ -58,8 +58,8 @@ pub fn file(
     Ok(file)
 }
 
-/// The binary file of these objects, one behind the other, with offsets of one octet and this width
-/// of a reference.
+/// Returns the binary file of these objects, one after the other, with offsets of one byte and
+/// references of `reference_width` bytes.
 pub fn file_of(
     alloc: Global,
     objects: &[&[u8]],
@@ -72,8 +72,8 @@ pub fn file_of(
     draft.finish(1, reference_width)
 }
 
-/// Ends a file with this offset table, these widths of an offset and of a reference, and this count
-/// of objects.
+/// Ends a file with this offset table, these widths of an offset and of a reference, and this
+/// number of objects.
 pub fn end(
     file: &mut Vec<u8>,
     table: &[u8],
@@ -85,8 +85,8 @@ pub fn end(
     put_trailer(file, widths, count, place)
 }
 
-/// Appends a trailer with these widths of an offset and of a reference, this count of objects and
-/// this place of the offset table.
+/// Appends a trailer with these widths of an offset and of a reference, this number of objects and
+/// this offset of the offset table.
 pub fn put_trailer(
     file: &mut Vec<u8>,
     widths: [u8; 2],
@@ -100,8 +100,8 @@ pub fn put_trailer(
     file.extend_from_slice(&table.to_be_bytes())
 }
 
-/// Lists that each hold the next object, and one last object, so many in all, with widths of two
-/// octets.
+/// Returns `count` objects: arrays that each contain the next object, and `last`. Offsets and
+/// references have two bytes.
 pub fn chain(alloc: Global, count: u16, last: &[u8]) -> Result<Vec<u8>, AllocError> {
     let mut draft = Draft::new(alloc)?;
     for i in 1..count {
@@ -112,7 +112,8 @@ pub fn chain(alloc: Global, count: u16, last: &[u8]) -> Result<Vec<u8>, AllocErr
     draft.finish(2, 2)
 }
 
-/// A list of so many references, at least 256, to one other object, with offsets of this width.
+/// Returns an array of `count` references (at least 256) to one other object, with offsets of
+/// `offset_width` bytes.
 pub fn fan(
     alloc: Global,
     count: u32,
@@ -138,8 +139,8 @@ pub fn fan(
     draft.finish(offset_width, 1)
 }
 
-/// Thirty lists that each hold the next object twice, and an empty one: 2^31 - 1 nodes in 31
-/// objects.
+/// Returns thirty arrays that each contain the next object twice, and an empty one: 2^31 - 1 nodes
+/// in 31 objects.
 pub fn tower(alloc: Global) -> Result<Vec<u8>, AllocError> {
     let mut draft = Draft::new(alloc)?;
     for i in 1..31u8 {

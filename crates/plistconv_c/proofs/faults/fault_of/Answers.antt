@@ -4,7 +4,7 @@ use Rattle.std.proofs.lemmas.Bool.Decides.{Decides-eqb}
 use Rattle.plistconv_c.specs.declared.refusals.Refusal.{Refusal}
 use Rattle.plistconv_c.proofs.faults.fault_of.Goals as goal
 
--- two refusals with equal fields are one
+-- two refusals with equal fields are equal
 same_fields : (a b : Refusal)
     → ((a.place == b.place) && ((a.number == b.number) && ((a.unit == b.unit) && (a.input == b.input)))) ≡ true
     → a ≡ b
