@@ -1,11 +1,11 @@
-//! A system that gives no random octets: all else is the host's.
+//! A system that has no random bytes; otherwise it is the host.
 
 use std::alloc::Allocator;
 use std::fs::{Files, Metadata, OpenOptions};
 use std::io;
 use std::random::RandomSource;
 
-/// The files of the host, without a source of random octets.
+/// The files of the host, without a source of random bytes.
 #[derive(Drop)]
 pub(crate) struct NoChance<'a>(pub(crate) &'a HostRuntime);
 

@@ -1,4 +1,4 @@
-//! Texts of values as deep as a value may be, and deeper.
+//! Texts of values as deep as allowed, and deeper.
 use crate::texts::{LISTS, Parts, nested};
 use ostep_text::{TextFault, read_text, write_text};
 use plist_convert::{Fault, canonicalise};
@@ -9,10 +9,11 @@ use test_files::chain;
 
 const TABLES: Parts = [b"", b"{a=", b"b", b";}", b""];
 
-// In a table without braces.
+// In a dictionary without braces.
 const BARE: Parts = [b"a = ", b"(", b"a", b")", b";"];
 
-// Each is refused where the value 513 levels deep begins, whatever comes after that.
+// The parts, how often they are nested, and the byte of the refusal. Each is refused where the
+// value 513 levels deep begins, whatever comes after it.
 const ROWS: [(Parts, usize, Option<usize>); 9] = [
     (LISTS, 511, None),
     (LISTS, 512, Some(512)),
@@ -25,7 +26,7 @@ const ROWS: [(Parts, usize, Option<usize>); 9] = [
     (BARE, 511, Some(515)),
 ];
 
-// The place of the first row that is answered otherwise.
+// Returns the index of the first row with another result.
 fn first_wrong(alloc: Global) -> Result<Option<usize>, AllocError> {
     for (place, (parts, times, octet)) in ROWS.iter().enumerate() {
         let text = nested(alloc, parts, *times)?;

@@ -1,8 +1,8 @@
-//! Readers, writers and sinks that fail or are narrow.
+//! Readers, writers and sinks that fail or take little.
 use plist_convert::{DeviceFault, Sink};
 use std::io::{self, ErrorKind, Read, Write};
 
-/// Gives two octets and then fails.
+/// A reader that gives two bytes and then fails.
 #[derive(Drop)]
 pub(crate) struct BrokenReader {
     has_given: bool,
@@ -25,7 +25,7 @@ impl Read for BrokenReader {
     }
 }
 
-/// Takes one octet at a time, and none past the room.
+/// A writer that takes one byte at a time, up to `room` bytes.
 #[derive(Drop)]
 pub(crate) struct Narrow {
     pub(crate) room: usize,
@@ -43,7 +43,7 @@ impl Write for Narrow {
     }
 }
 
-/// Fails at each write.
+/// A writer that always fails.
 #[derive(Drop)]
 pub(crate) struct BrokenWriter;
 
@@ -57,7 +57,7 @@ impl Write for BrokenWriter {
     }
 }
 
-/// Takes all, and notes the longest piece and how many octets there were.
+/// A sink that takes everything, and records the longest piece and the number of bytes.
 #[derive(Drop)]
 pub(crate) struct Noting {
     pub(crate) longest: usize,

@@ -1,5 +1,5 @@
-//! Drafts: their files octet by octet, the values that are read back, and that a refused put leaves
-//! a draft.
+//! Drafts: their files byte by byte, the values read back, and that a failed put leaves a draft
+//! unchanged.
 use ostep_text::read_text;
 use plist_binary::read;
 use plist_draft::{Draft, Role, put_value};
@@ -12,7 +12,7 @@ use test_files::file;
 const ONE_TEXT: &[u8] = b"bplist00Qa\0\0\0\x08\0\0\0\0\0\0\x04\x04\0\0\0\0\0\0\0\x01\
                           \0\0\0\0\0\0\0\0\0\0\0\0\0\0\0\x0a";
 
-// The file of a table of a under b and b under a.
+// The file of the dictionary {a = b; b = a}.
 const TABLE: &[u8] = b"bplist00QaQb\xd2\0\0\0\x01\0\0\0\0\0\0\0\0\0\0\0\x01\
                        \0\0\0\x08\0\0\0\x0a\0\0\0\x0c\0\0\0\0\0\0\x04\x04\0\0\0\0\0\0\0\x03\
                        \0\0\0\0\0\0\0\x02\0\0\0\0\0\0\0\x1d";
@@ -31,7 +31,7 @@ fn one_text(alloc: Global) -> Result<Vec<u8>, AllocError> {
     draft.finish(top)
 }
 
-// Its keys are not in order.
+// Puts the keys out of order.
 fn table(alloc: Global) -> Result<Vec<u8>, AllocError> {
     let mut draft = Draft::new(alloc)?;
     let a = put_text(&mut draft, &[0x61])?;
@@ -40,7 +40,7 @@ fn table(alloc: Global) -> Result<Vec<u8>, AllocError> {
     draft.finish(top)
 }
 
-// Whether the file spells the value of the text.
+// Returns whether the file encodes the value of the text.
 fn is_file_of(alloc: Global, octets: &[u8], text: &[u8]) -> Result<bool, Fail> {
     let value = read(alloc, octets)?;
     Ok(same(&value, &read_text(alloc, text)?))
@@ -75,9 +75,8 @@ fn equal_scalars_are_one_object(rt: HostRuntime) -> Result<(), Fail> {
     Ok(())
 }
 
-// Of texts that are put once few would be found: many that follow are put without a look, and then
-// equal ones are found again. That few keys are found says nothing of values, and the other way
-// round.
+// After many distinct strings, the next ones are put without a lookup for a while, and then equal
+// ones are found again. The hit rates of keys and of values are independent.
 #[test]
 fn few_equal_scalars_are_not_looked_for(rt: HostRuntime) -> Result<(), Fail> {
     for (role, other) in [(Role::Value, Role::Key), (Role::Key, Role::Value)] {
@@ -98,7 +97,7 @@ fn few_equal_scalars_are_not_looked_for(rt: HostRuntime) -> Result<(), Fail> {
     Ok(())
 }
 
-// The file of what is put behind one string, or of that string, where the put is refused.
+// Returns the file of the object put, or, if the put failed, of the string put before it.
 fn finished(draft: Draft, put: Result<u32, AllocError>) -> Result<(Vec<u8>, bool), AllocError> {
     match put {
         Ok(top) => Ok((draft.finish(top)?, true)),
@@ -106,7 +105,8 @@ fn finished(draft: Draft, put: Result<u32, AllocError>) -> Result<(Vec<u8>, bool
     }
 }
 
-// Whether a list of one string twice is put, or refused with the draft as it was.
+// Returns whether an array with one string twice is put, or the put fails and leaves the draft
+// unchanged.
 fn is_list_put(alloc: Global) -> Result<bool, Fail> {
     let mut draft = Draft::new(alloc)?;
     let a = put_text(&mut draft, &[0x61])?;
@@ -138,7 +138,7 @@ fn is_scalar_put(alloc: Global, is_shared: bool) -> Result<bool, Fail> {
     is_file_of(alloc, octets.as_slice(), text)
 }
 
-// Also where memory is refused from outside.
+// Also with allocations refused from outside.
 #[test]
 fn a_refused_put_leaves_the_draft(rt: HostRuntime) -> Result<(), Fail> {
     assert!(rt; is_scalar_put(rt.alloc(), false)?);
@@ -148,7 +148,7 @@ fn a_refused_put_leaves_the_draft(rt: HostRuntime) -> Result<(), Fail> {
     Ok(())
 }
 
-// Whether the value is read back from the file of a draft into which it is put.
+// Returns whether a value is read back from the file of the draft that it is put into.
 fn is_put(alloc: Global, value: &Value) -> Result<bool, Fail> {
     let mut draft = Draft::new(alloc)?;
     let top = put_value(alloc, &mut draft, value)?;
@@ -156,7 +156,7 @@ fn is_put(alloc: Global, value: &Value) -> Result<bool, Fail> {
     Ok(same(&read(alloc, octets.as_slice())?, value))
 }
 
-// A list of a number, a flag, a real of four octets, a date and data.
+// An array of an integer, a boolean, a real of four bytes, a date and data.
 fn scalars(alloc: Global) -> Result<Vec<u8>, AllocError> {
     let objects = b"\xa5\x01\x02\x03\x04\x05\x10\x05\x09\x22\0\0\0\x01\x33\0\0\0\0\0\0\0\x02\x41a";
     file(alloc, objects, &[8, 14, 16, 17, 22, 31], 1)

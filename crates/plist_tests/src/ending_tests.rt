@@ -1,4 +1,4 @@
-//! The program that ends with its run, and one that goes on, over the files of the host.
+//! The program that ends with its run, and one that continues, over the files of the host.
 use crate::chance::NoChance;
 use crate::host_tests::{holds, put_files, remove_files, status_of};
 use crate::words::words_of;
@@ -7,7 +7,7 @@ use plist_convert::run_to_end;
 use std::fs;
 use std::test::Fail;
 
-/// Words, what then stands at the path `old`, and the status.
+/// The arguments, what the path `old` has afterwards, and the exit status.
 type Ending = (&'static str, &'static [u8], u8);
 
 const ENDINGS: [Ending; 7] = [
@@ -20,18 +20,18 @@ const ENDINGS: [Ending; 7] = [
     ("convert binary1 missing old", b"old", 4),
 ];
 
-/// Which program runs.
+/// The program that runs.
 #[derive(Clone, Copy)]
 enum Running {
-    /// One that goes on.
+    /// One that continues.
     On,
-    /// One that ends then.
+    /// One that ends.
     ToEnd,
-    /// One that ends then, where the system gives no random octets.
+    /// One that ends, on a system without random bytes.
     ToEndWithoutChance,
 }
 
-// The status of a run.
+// Runs the program and returns its exit status.
 fn status_at(rt: &HostRuntime, words: &[&str], running: Running) -> u8 {
     let mut output = Vec::new(rt.alloc());
     let mut input: &[u8] = b"";
@@ -44,8 +44,8 @@ fn status_at(rt: &HostRuntime, words: &[&str], running: Running) -> u8 {
     }
 }
 
-// The words of the first row that ends with another status, or leaves other octets at the path
-// `old`, whichever program runs.
+// Returns the arguments of the first row for which some program ends with another status, or leaves
+// other bytes at the path `old`.
 fn wrong_ending(rt: &HostRuntime) -> Result<Option<&'static str>, Fail> {
     for (text, stands, want) in &ENDINGS {
         let words = words_of(rt.alloc(), text)?;

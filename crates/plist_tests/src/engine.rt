@@ -1,4 +1,4 @@
-//! The canonical files of binary files, made without their values.
+//! Canonical files made from binary files, without their values.
 ghost use Rattle.std.specs.Prelude.{IfOk};
 ghost use Rattle.plist_value.specs.Plist.{Plist};
 ghost use Rattle.plist_object.specs.Spelled.{IsBinary};
@@ -11,7 +11,7 @@ use std::alloc::{AllocError, Global};
 use std::test::Fail;
 use test_files::Draft;
 
-// Whether the octets spell a value.
+// Validates the bytes for the contract of `canonical_of`.
 fn judge(alloc: Global, octets: &[u8]) -> Result<(), AllocError>
     ensures { IfOk result (λ _. (v : Plist) × IsBinary octets.now v) }
 {
@@ -22,7 +22,7 @@ fn judge(alloc: Global, octets: &[u8]) -> Result<(), AllocError>
     Ok(())
 }
 
-/// The canonical file of the value that the octets spell.
+/// Returns the canonical file of the value that the bytes encode.
 pub(crate) fn canonical_file(alloc: Global, octets: &[u8]) -> Result<Vec<u8>, AllocError> {
     judge(alloc, octets)?;
     match BinFile::of(octets) {
@@ -31,9 +31,9 @@ pub(crate) fn canonical_file(alloc: Global, octets: &[u8]) -> Result<Vec<u8>, Al
     }
 }
 
-// Two long data, equal or apart in the last octet, and more of one length than are told apart
-// without a hash, with repeats: the list of a file and the last octets of its data, and then those
-// of the canonical file.
+// Long pieces of data: two that are equal, two that differ in the last byte, and more than are
+// compared without a hash, with repeats. Each row has the array and the last bytes of the data, for
+// a file and for its canonical file.
 const LONG: [[&[u8]; 4]; 3] = [
     [&[0xa2, 1, 2], &[7, 7], &[0xa2, 1, 1], &[7]],
     [&[0xa2, 1, 2], &[7, 8], &[0xa2, 1, 2], &[7, 8]],
@@ -55,7 +55,7 @@ const LONG: [[&[u8]; 4]; 3] = [
     ],
 ];
 
-// The file of a list and of data of 65,536 octets, all zero but the last.
+// Returns the file of an array and of data of 65,536 bytes, all zero except the last.
 fn file_of_long(alloc: Global, list: &[u8], lasts: &[u8]) -> Result<Vec<u8>, AllocError> {
     let mut draft = Draft::new(alloc)?;
     draft.put(list)?;
@@ -79,9 +79,9 @@ fn long_data_share_objects_where_all_octets_are_equal(rt: HostRuntime) -> Result
     Ok(())
 }
 
-// The file of a list of 12,000 references to so many scalars, and once more to the first ones:
-// numbers, or data of two octets. The scalars behind the first 10,000 repeat these, the numbers in
-// four octets.
+// Returns the file of an array with 12,000 references to `objects` scalars, the last ones to the
+// first scalars again. The scalars are integers, or data of two bytes. Those after the first 10,000
+// repeat the first ones, integers as four bytes.
 fn file_of_many(alloc: Global, objects: u16, are_numbers: bool) -> Result<Vec<u8>, AllocError> {
     let mut list = Vec::from_slice(alloc, &[0xaf, 0x11, 0x2e, 0xe0])?;
     for place in 0..12_000u16 {

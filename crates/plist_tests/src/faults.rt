@@ -1,4 +1,4 @@
-//! Each refusal by its number, and what is printed of it.
+//! Each refusal with its number, and how it is printed.
 use ostep_text::TextFault;
 use plist_binary::BinaryFault;
 use plist_convert::{DeviceFault, Fault, PairFault, line};
@@ -56,8 +56,8 @@ const FAULTS: [(u8, Fault); 5] = [
     (60, Fault::OutOfMemory { sent: 7 }),
 ];
 
-// The number of the first fault that is not printed by its number, its name, and the place if it
-// has one.
+// Returns the number of the first fault that is not printed as its number, its name, and its place
+// if it has one.
 fn wrong<F: Debug + Display>(
     alloc: Global,
     faults: &[(u8, F)],

@@ -2,7 +2,7 @@
 use std::alloc::{AllocError, Global};
 use test_files::{Draft, chain, file, file_of, one};
 
-// Objects that stand alone in a file.
+// Files with a single object.
 const ALONE: [&[u8]; 35] = [
     b"\xd0",
     b"\x10\xff",
@@ -41,7 +41,7 @@ const ALONE: [&[u8]; 35] = [
     b"\x62\xd8\x3d\xde\x00",
 ];
 
-// Objects that stand in a file one behind the other, and the width of a reference.
+// Files with several objects in sequence, and the width of a reference.
 const TOGETHER: [(&[&[u8]], u8); 17] = [
     (&[b"\xd2\x01\x02\x02\x01", b"Qa", b"Qb"], 1),
     (&[b"\xd2\x01\x02\x02\x01", b"Qb", b"Qa"], 1),
@@ -87,7 +87,7 @@ const TOGETHER: [(&[&[u8]], u8); 17] = [
     (&[b"\xa1\x01", b"\xa0"], 1),
 ];
 
-// The canonical file of a table, but for an octet in its trailer.
+// Returns the canonical file of a dictionary, with one byte of its trailer changed.
 fn marked(alloc: Global) -> Result<Vec<u8>, AllocError> {
     let mut file = file_of(alloc, &[b"\xd2\x01\x02\x02\x01", b"Qa", b"Qb"], 1)?;
     if let Some(slack) = file.get_mut(20) {
@@ -96,8 +96,8 @@ fn marked(alloc: Global) -> Result<Vec<u8>, AllocError> {
     Ok(file)
 }
 
-/// The file of the list of the texts of the numbers below the count, of three digits each, with
-/// references of this width.
+/// Returns the file of an array of the strings 000, 001 and so on, `count` of them, with references
+/// of `width` bytes.
 pub(crate) fn numbers(alloc: Global, count: u8, width: u8) -> Result<Vec<u8>, AllocError> {
     let mut list = Vec::from_slice(alloc, &[0xaf, 0x10, count])?;
     for number in 1..=u64::from(count) {
@@ -113,7 +113,8 @@ pub(crate) fn numbers(alloc: Global, count: u8, width: u8) -> Result<Vec<u8>, Al
     draft.finish(2, width)
 }
 
-/// The file of data of so many zeros, with this head and offsets of this width.
+/// Returns the file of data of `count` zeros, with this marker and count, and offsets of `width`
+/// bytes.
 pub(crate) fn zeros(
     alloc: Global,
     head: &[u8],
@@ -128,8 +129,8 @@ pub(crate) fn zeros(
     draft.finish(width, 1)
 }
 
-/// Files of at most 80 octets, and canonical files of 288 to 2,598 octets: of 255 and 256 objects,
-/// of data just below and at the place 256, and of lists 512 deep.
+/// Returns files of at most 80 bytes, and canonical files of 288 to 2,598 bytes: of 255 and 256
+/// objects, with offset tables below and at offset 256, and of arrays 512 deep.
 pub(crate) fn files(alloc: Global) -> Result<Vec<Vec<u8>>, AllocError> {
     let mut files = Vec::new(alloc);
     for object in ALONE {
@@ -138,8 +139,8 @@ pub(crate) fn files(alloc: Global) -> Result<Vec<Vec<u8>>, AllocError> {
     for (objects, width) in TOGETHER {
         files.push(file_of(alloc, objects, width)?)?;
     }
-    // Two texts of which one lies in the other, an object in the header, and a trailer that does
-    // not begin with zeros.
+    // Two strings of which one lies inside the other, an object in the header, and a trailer that
+    // does not begin with zeros.
     files.push(file(alloc, b"\xa2\x01\x02RQa", &[8, 11, 12], 1)?)?;
     files.push(file(alloc, b"\x09", &[7], 1)?)?;
     files.push(marked(alloc)?)?;

@@ -1,6 +1,5 @@
-//! Refused memory: each call that allocates answers 60, or what it answers with ample memory. A
-//! test is run once for each allocation that it makes, which is refused from outside, by
-//! bench/growths.py.
+//! Refused memory: each call that allocates returns 60, or the same as with ample memory.
+//! bench/growths.py runs a test once for each of its allocations, which it refuses from outside.
 use crate::worked_files::{TABLE, TABLE_TEXT, TWICE, WRITTEN_TEXT};
 use ostep_text::{TextFault, TextWriteFault, read_text, write_text};
 use plist_binary::{BinaryFault, read};
@@ -12,12 +11,12 @@ use std::alloc::{AllocError, Global};
 use std::test::Fail;
 use test_files::file;
 
-// A text whose keys ascend by their units, and how many octets its canonical file has.
+// A text whose keys ascend by their units, and the size of its canonical file.
 const SURROGATES: &[u8] = b"{\"\\Uff61\"=a;\"\\Ud800\\Udc00\"=b;}";
 
 const SURROGATES_SIZE: u64 = 62;
 
-// Texts with the number of their refusal, 0 where there is none.
+// Texts with the number of their refusal, 0 if they are accepted.
 const TEXTS: [(&[u8], u8); 8] = [
     (b"(/usr/bin, a//b, /* c */ d)", 0),
     (b"a/*c*/", 23),
@@ -29,7 +28,7 @@ const TEXTS: [(&[u8], u8); 8] = [
     (b" ", 0),
 ];
 
-// The value of a text.
+// Reads a text.
 fn value_of(alloc: Global, octets: &[u8]) -> Result<Value, Fail> {
     Ok(read_text(alloc, octets)?)
 }
@@ -86,7 +85,7 @@ fn files_are_made(rt: HostRuntime) -> Result<(), Fail> {
     Ok(())
 }
 
-// What a file of these objects, places and first octet behind the places is answered by the check.
+// Checks the file of these objects, with `slack` as the first byte of its trailer.
 fn checked(
     alloc: Global,
     objects: &[u8],
@@ -100,7 +99,7 @@ fn checked(
     Ok(check(alloc, octets.as_slice()))
 }
 
-/// Objects, the first octet behind their places, and what the check says of the file.
+/// The objects, the first byte of the trailer, and the verdict on the file.
 const CHECKED: [(&[u8], u8, Verdict); 4] = [
     (b"\xd2\x01\x02\x02\x01QaQb", 0, Verdict::Canonical),
     (b"\xd2\x02\x01\x01\x02QbQa", 0, BROKEN_7),

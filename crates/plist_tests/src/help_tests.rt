@@ -1,9 +1,9 @@
-//! What the program says of itself and of each of its words.
+//! The help of the program and of each command.
 use crate::host_tests::status_of;
 use crate::words::words_of;
 use std::test::Fail;
 
-// How many lines the text has, and how many characters the longest of them.
+// Returns the number of lines, and the length of the longest.
 fn size_of(text: &str) -> (usize, usize) {
     let mut longest = 0;
     for line in text.lines() {
@@ -12,7 +12,7 @@ fn size_of(text: &str) -> (usize, usize) {
     (text.lines().count(), longest)
 }
 
-/// Words, how their help begins, and an example in it.
+/// The arguments, how the help begins, and an example in it.
 const ROWS: [(&str, &str, &str); 6] = [
     (
         "--help",
@@ -46,7 +46,8 @@ const ROWS: [(&str, &str, &str); 6] = [
     ),
 ];
 
-// Whether the help of a command fits on a screen, begins so, and has its example and what all have.
+// Returns whether the help of a command fits on a screen, begins as expected, and has its example
+// and the parts that all have.
 fn explains(text: &str, line: &str, front: &str, example: &str) -> bool {
     let (lines, longest) = size_of(text);
     let most = if line == "--help" { 30 } else { 40 };

@@ -1,4 +1,4 @@
-//! The words of the program, over the files of the host.
+//! The commands of the program, over the files of the host.
 use crate::devices::{BrokenReader, Narrow};
 use crate::words::{printed_of, words_of};
 use crate::worked_files::{
@@ -10,7 +10,7 @@ use std::fs;
 use std::io::{Read, Write};
 use std::test::Fail;
 
-// The status of a run with this input.
+// Runs the program with this input and returns its exit status.
 fn status_with<R: Read>(
     rt: &HostRuntime,
     words: &[&str],
@@ -25,7 +25,7 @@ pub(crate) fn status_of(rt: &HostRuntime, words: &[&str], output: &mut Vec<u8>) 
     status_with(rt, words, &mut input, output)
 }
 
-/// What stands at the paths of the rows.
+/// The files of the rows.
 const FILES: [(&str, &[u8]); 11] = [
     ("row2.txt", TABLE_TEXT),
     ("row2.bin", TABLE),
@@ -40,7 +40,7 @@ const FILES: [(&str, &[u8]); 11] = [
     ("empty", b""),
 ];
 
-/// Runs one after another. A file that is refused stays as it is, where it is OUT too.
+/// Runs, one after another. If the input is refused, OUT is unchanged, even if it is the input.
 const ROWS: [&str; 39] = [
     "convert binary1 row2.txt converted|0 ",
     "same row2.txt row2.bin|0 equal\n",
@@ -83,7 +83,7 @@ const ROWS: [&str; 39] = [
     "same empty table|0 equal\n",
 ];
 
-// The first row that is answered otherwise.
+// Returns the first row with another result.
 fn wrong(rt: &HostRuntime, rows: &[&'static str]) -> Result<Option<&'static str>, AllocError> {
     for row in rows {
         let words = words_of(rt.alloc(), row)?;
@@ -110,7 +110,7 @@ pub(crate) fn remove_files(rt: &HostRuntime) -> Result<(), Fail> {
     Ok(())
 }
 
-// Whether these octets stand at the path.
+// Returns whether the file at `path` has these bytes.
 pub(crate) fn holds(rt: &HostRuntime, path: &str, octets: &[u8]) -> Result<bool, Fail> {
     let found = fs::read(rt, path)?;
     Ok(found.as_slice() == octets)
@@ -133,14 +133,14 @@ fn answers_the_worked_rows(rt: HostRuntime) -> Result<(), Fail> {
     Ok(())
 }
 
-/// What is done with a long file.
+/// Runs on a long file.
 const LONG_ROWS: [&str; 3] = [
     "convert binary1 long.txt long|0 ",
     "check long|0 canonical\n",
     "same long.txt long|0 equal\n",
 ];
 
-// The text of the list of 50,000 words.
+// Returns the text of an array of 50,000 strings.
 fn long_text(alloc: Global) -> Result<Vec<u8>, Fail> {
     let mut text = Vec::from_slice(alloc, b"(")?;
     for number in 0..50_000_u32 {
@@ -150,8 +150,7 @@ fn long_text(alloc: Global) -> Result<Vec<u8>, Fail> {
     Ok(text)
 }
 
-/// A file of more octets than are gathered before they are written, of objects of a few octets
-/// each.
+/// The file is larger than the buffer of the writer, with objects of a few bytes each.
 #[test]
 fn writes_a_long_file(rt: HostRuntime) -> Result<(), Fail> {
     let text = long_text(rt.alloc())?;
@@ -162,7 +161,7 @@ fn writes_a_long_file(rt: HostRuntime) -> Result<(), Fail> {
     Ok(())
 }
 
-/// Runs, and how what they print begins.
+/// Runs, and how their output begins.
 const OTHER_WORDS: [&str; 11] = [
     "-h|0 Converts Apple property lists",
     "lint -h|0 Says whether a file is a",
@@ -177,7 +176,7 @@ const OTHER_WORDS: [&str; 11] = [
     "--|3 error: ",
 ];
 
-// The first row that is answered otherwise.
+// Returns the first row with another result.
 fn wrong_front(rt: &HostRuntime) -> Result<Option<&'static str>, AllocError> {
     for row in &OTHER_WORDS {
         let words = words_of(rt.alloc(), row)?;
@@ -197,7 +196,7 @@ fn answers_other_words(rt: HostRuntime) -> Result<(), Fail> {
     Ok(())
 }
 
-// Whether a run of these words makes the canonical file of each of the inputs.
+// Returns whether a run with these arguments makes the canonical file of each input.
 fn filters(rt: &HostRuntime, words: &[&str]) -> bool {
     for mut input in [UNSORTED, TABLE_TEXT] {
         let mut output = Vec::new(rt.alloc());
@@ -217,7 +216,7 @@ fn filters_standard_input(rt: HostRuntime) -> Result<(), Fail> {
     let status = status_with(&rt, &[], &mut BrokenReader::new(), &mut output);
     assert_eq!(rt; status, 4);
     assert_eq!(rt; output.as_slice(), b"-: refused 50 ReadFailed\n".as_slice());
-    // The status says that the file breaks off, where its line cannot be printed either.
+    // The status tells that the file is incomplete, even if the line cannot be printed.
     let mut input = TABLE;
     let mut narrow = Narrow { room: 10 };
     let status = run(&rt, rt.alloc(), &[], &mut input, &mut narrow);

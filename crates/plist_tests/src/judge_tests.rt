@@ -1,5 +1,5 @@
-//! The judge and the reader where no row of octets shows them: keys of long tables, tables that
-//! overlap, and refused memory.
+//! The validator and the reader, beyond the rows: keys of long dictionaries, overlapping
+//! dictionaries, and refused memory.
 use crate::worked_files::UNSORTED;
 use plist_binary::{BinaryFault, judge, judge_keys, read};
 use plist_canon::{CheckFault, Verdict, check};
@@ -7,9 +7,9 @@ use std::alloc::{AllocError, Global};
 use std::test::Fail;
 use test_files::{Draft, end};
 
-// The text of this number among those that begin with so many units, of which so many share the
-// first one and all the others: one or two units more, and texts that ascend with the number. The
-// last units rise from 88 to 107 in ASCII, and from 245 to 264.
+// Returns key `number` of a long dictionary, which ascends with the number. Keys begin with `units`
+// units, of which the first is shared by `sharing` keys and the others by all; one or two units
+// follow. The last unit goes from 88 to 107 in ASCII keys, and from 245 to 264 in the others.
 fn key(alloc: Global, sharing: u8, units: u8, number: u8) -> Result<Vec<u8>, AllocError> {
     let step = number / 2;
     let ascii = step < 20;
@@ -32,7 +32,7 @@ fn key(alloc: Global, sharing: u8, units: u8, number: u8) -> Result<Vec<u8>, All
     Ok(key)
 }
 
-// One table of eighty keys that are not in order; the last but one is this number.
+// Returns a dictionary of eighty keys out of order, the last but one of which has number `last`.
 fn long_table(alloc: Global, sharing: u8, units: u8, last: u8) -> Result<Vec<u8>, AllocError> {
     let mut table = Vec::from_slice(alloc, &[0xdf, 0x10, 80])?;
     for i in 1..81u8 {
@@ -49,7 +49,7 @@ fn long_table(alloc: Global, sharing: u8, units: u8, last: u8) -> Result<Vec<u8>
     draft.finish(2, 1)
 }
 
-// Whether the keys of the long table are put in their order.
+// Returns whether the keys of the long dictionary are sorted.
 fn is_in_order(alloc: Global, octets: &[u8]) -> Result<bool, AllocError> {
     let Ok(judged) = judge_keys(alloc, octets) else {
         return Ok(false);
@@ -66,14 +66,15 @@ fn is_in_order(alloc: Global, octets: &[u8]) -> Result<bool, AllocError> {
 }
 
 // How many keys share their first unit, and how many units they begin with: fewer than are compared
-// at a time, as many, and more than the keys are sorted by.
+// at a time, as many, and more than the sort looks at.
 const BEGINNINGS: [(u8, &[u8]); 3] = [
     (80, &[0, 1, 40, 62, 63, 64, 65, 90]),
     (8, &[1, 7, 8, 9, 16, 63, 64, 65, 90]),
     (2, &[1, 8, 17, 90]),
 ];
 
-// The first beginning of which a table, or one that has a key twice, is answered otherwise.
+// Returns the first beginning for which the dictionary, or one with a duplicate key, has another
+// result.
 fn wrong_beginning(alloc: Global) -> Result<Option<(u8, u8)>, AllocError> {
     for (sharing, counts) in &BEGINNINGS {
         for units in counts.iter() {
@@ -96,9 +97,9 @@ fn keys_of_a_long_table(rt: HostRuntime) -> Result<(), Fail> {
     Ok(())
 }
 
-// Two references to one empty list; a table with its keys not in order; a list that holds itself.
-// As literals, so that each allocation is one of the calls'. With the number of the refusal, 0
-// where there is none.
+// Two references to one empty array; a dictionary with its keys out of order; an array that
+// contains itself. Literals, so that only the calls allocate. With the number of the refusal, 0 if
+// the file is accepted.
 const FILES: [(&[u8], u8); 3] = [
     (
         b"bplist00\xa2\x01\x01\xa0\x08\x0b\0\0\0\0\0\0\x01\x01\0\0\0\0\0\0\0\x02\0\0\0\0\0\0\0\
@@ -113,8 +114,8 @@ const FILES: [(&[u8], u8); 3] = [
     ),
 ];
 
-// Whether the judge and the reader answer this number, and the check no fault, or that there is
-// no memory.
+// Returns whether the validator and the reader give this number, and the check no error, unless
+// they are out of memory.
 fn is_answered(alloc: Global, octets: &[u8], code: u8) -> bool {
     let judged = judge(alloc, octets).err().map_or(0, |fault| fault.code());
     let value = read(alloc, octets).err().map_or(0, |fault| fault.code());
@@ -124,7 +125,7 @@ fn is_answered(alloc: Global, octets: &[u8], code: u8) -> bool {
         && (checked.is_none() || checked == Some(CheckFault::OutOfMemory))
 }
 
-// The place of the first file that is answered otherwise.
+// Returns the index of the first file with another result.
 fn wrong_file(alloc: Global) -> Option<usize> {
     for (place, (octets, code)) in FILES.iter().enumerate() {
         if !is_answered(alloc, octets, *code) {
@@ -134,7 +135,8 @@ fn wrong_file(alloc: Global) -> Option<usize> {
     None
 }
 
-// A table of so many keys, each of which is one text, and so many objects that are all this table.
+// Returns a file with a dictionary of `count` keys, all of them one string, and `count` objects
+// that are all this dictionary.
 fn one_table_often(alloc: Global, count: u32) -> Result<Vec<u8>, AllocError> {
     let mut file = Vec::from_slice(alloc, b"bplist00\xdf\x12")?;
     file.extend_from_slice(&count.to_be_bytes())?;
@@ -151,7 +153,7 @@ fn one_table_often(alloc: Global, count: u32) -> Result<Vec<u8>, AllocError> {
     Ok(file)
 }
 
-// The keys of each table anew would take minutes.
+// Comparing the keys of each dictionary again would take minutes.
 #[test]
 fn tables_that_overlap_take_no_longer(rt: HostRuntime) -> Result<(), Fail> {
     let octets = one_table_often(rt.alloc(), 150_000)?;

@@ -1,7 +1,7 @@
-//! All tests of what no row of `rows` spells: files that are made, devices that fail, each prefix
-//! of small files and texts, deep texts, refused memory, and the program over the files of the host
-//! and over a disk in memory. They are in one crate, since a crate of tests loads the proofs of all
-//! that is below it.
+//! The tests that no row of `rows` can express: generated files, failing devices, each prefix of
+//! small files and texts, deep texts, refused memory, and the program over the files of the host
+//! and over a disk in memory. They are in one crate, because a crate with tests loads the proofs of
+//! everything below it.
 #![tactic(auto)]
 
 #[cfg(test)]

@@ -1,5 +1,5 @@
-//! Files that are made: the limits on depth, nodes and payload, as the judge, the reader and the
-//! check have them, and the widths of references and offsets.
+//! Generated files: the limits on depth, nodes and payload, as the validator, the reader and the
+//! check apply them, and the widths of references and offsets.
 use crate::engine::canonical_file;
 use crate::files::{numbers, zeros};
 use plist_binary::{BinaryFault, judge, read};
@@ -10,7 +10,8 @@ use std::alloc::{AllocError, Global};
 use std::test::Fail;
 use test_files::{Draft, chain, fan, tower};
 
-// Thirty tables whose two keys each name the next one, a flag, and the keys a and b.
+// Returns thirty dictionaries whose two keys both have the next one as their value, a boolean, and
+// the keys a and b.
 fn tower_of_tables(alloc: Global) -> Result<Vec<u8>, AllocError> {
     let mut draft = Draft::new(alloc)?;
     for i in 1..31u8 {
@@ -22,7 +23,8 @@ fn tower_of_tables(alloc: Global) -> Result<Vec<u8>, AllocError> {
     draft.finish(1, 1)
 }
 
-// So many lists that each hold the next object, and a flag, with references of three octets.
+// Returns `count` objects: arrays that each contain the next one, and a boolean, with references of
+// three bytes.
 fn long_chain(alloc: Global, count: u32) -> Result<Vec<u8>, AllocError> {
     let mut draft = Draft::new(alloc)?;
     for i in 1..count {
@@ -33,7 +35,8 @@ fn long_chain(alloc: Global, count: u32) -> Result<Vec<u8>, AllocError> {
     draft.finish(4, 3)
 }
 
-// A list of a chain of 300 levels, and of another of 300 lists that ends in the first.
+// Returns an array of a chain of 300 levels, and of another one of 300 arrays that ends in the
+// first.
 fn shared_chain(alloc: Global) -> Result<Vec<u8>, AllocError> {
     let mut draft = Draft::new(alloc)?;
     draft.put(b"\xa2\x00\x01\x01\x2d")?;
@@ -50,8 +53,8 @@ fn shared_chain(alloc: Global) -> Result<Vec<u8>, AllocError> {
     draft.finish(2, 2)
 }
 
-// A list of so many references to one scalar of this head and so many letters, with offsets of this
-// width.
+// Returns an array of `count` references to one scalar with this marker and count and this number
+// of letters, with offsets of `width` bytes.
 fn heavy_fan(
     alloc: Global,
     count: u32,
@@ -65,7 +68,7 @@ fn heavy_fan(
     fan(alloc, count, object.as_slice(), width)
 }
 
-// A table of 1,025 keys: 1,024 times a text of 524,288 units, and the last.
+// Returns a dictionary of 1,025 keys: 1,024 times a string of 524,288 units, and object `last`.
 fn heavy_keys(alloc: Global, last: u8) -> Result<Vec<u8>, AllocError> {
     let mut table = Vec::from_slice(alloc, &[0xdf, 0x11, 0x04, 0x01])?;
     table.resize(4 + 1024, 1)?;
@@ -80,30 +83,32 @@ fn heavy_keys(alloc: Global, last: u8) -> Result<Vec<u8>, AllocError> {
     draft.finish(4, 1)
 }
 
-/// A file that is made.
+/// A generated file.
 #[derive(Clone, Copy)]
 enum Shape {
-    /// So many objects: lists that each hold the next one, and a last one of this octet.
+    /// A number of objects: arrays that each contain the next one, and a last one of this byte.
     Chain(u16, u8),
-    /// The same with references of three octets, and a flag at the end.
+    /// Like `Chain`, with references of three bytes, and a boolean at the end.
     LongChain(u32),
-    /// Two chains, of which one ends in the other.
+    /// Two chains, one of which ends in the other.
     SharedChain,
-    /// Thirty lists that each hold the next object twice.
+    /// Thirty arrays that each contain the next object twice.
     Tower,
-    /// Thirty tables that each hold the next object twice.
+    /// Thirty dictionaries that each contain the next object twice.
     TowerOfTables,
-    /// A list that holds a flag so many times.
+    /// An array that contains a boolean this number of times.
     Flags(u32),
-    /// A list that holds data of 1,048,576 octets so many times, with offsets of so many octets.
+    /// An array that contains data of 1,048,576 bytes this number of times, with offsets of this
+    /// width.
     Data(u32, u8),
-    /// A list that holds a text of 524,288 units so many times.
+    /// An array that contains a string of 524,288 units this number of times.
     Texts(u32),
-    /// A list of so many texts of three digits, with references of so many octets.
+    /// An array of this number of strings of three digits, with references of this width.
     Numbers(u8, u8),
-    /// Data of so many zeros behind a head, with an offset of so many octets.
+    /// Data with this marker and count and this number of zeros, with an offset of this width.
     Zeros(&'static [u8], u8, u8),
-    /// A table whose keys have as much payload as a value may have, and one key more, this object.
+    /// A dictionary whose keys have the maximum payload of a value, and as one more key this
+    /// object.
     HeavyKeys(u8),
 }
 
@@ -127,15 +132,15 @@ impl Shape {
     }
 }
 
-/// What the judge, the reader and `canonicalise` answer.
+/// The result of the validator, the reader and `canonicalise`.
 #[derive(Clone, Copy)]
 enum Answer {
-    /// All refuse it so.
+    /// All refuse the file with this fault.
     Refused(BinaryFault),
-    /// All accept it, and it is the canonical file of the value that is read.
+    /// All accept the file, which is the canonical file of the value that is read.
     Read,
-    /// It is accepted, and its own canonical file. Its value is not read here, since it takes much
-    /// memory.
+    /// The file is accepted and is its own canonical file. It is not read, because its value needs
+    /// much memory.
     Judged,
 }
 
@@ -161,12 +166,12 @@ const ZEROS_244: Shape = Shape::Zeros(b"\x4f\x10\xf4", 244, 1);
 
 const ZEROS_245: Shape = Shape::Zeros(b"\x4f\x10\xf5", 245, 2);
 
-/// A shape, how many octets its file has, what is answered, and the rule that the check finds
-/// broken at which object.
+/// A shape, the size of its file, the result, and the rule that the check finds broken, with the
+/// object.
 type Row = (Shape, usize, Answer, Option<(u8, u64)>);
 
-// The check finds 0 broken at 0 for a value past the limits. It meets the container of a tower
-// twice before it counts a node.
+// The check finds rule 0 broken at object 0 for a value beyond the limits. It reaches the container
+// of a tower a second time before it counts a node.
 const ROWS: [Row; 24] = [
     (Shape::Chain(512, 0x09), 2598, Answer::Read, None),
     (Shape::Chain(513, 0x09), 2603, DEEP, Some((0, 0))),
@@ -186,17 +191,17 @@ const ROWS: [Row; 24] = [
     (Shape::Data(1025, 4), 1_049_659, HEAVY, Some((0, 0))),
     (Shape::Texts(1024), 525_370, Answer::Judged, None),
     (Shape::Texts(1025), 525_371, HEAVY, Some((0, 0))),
-    // Where a reference and an offset grow past one octet.
+    // A reference and an offset that outgrow one byte.
     (NUMBERS_254, 1823, Answer::Read, None),
     (NUMBERS_255, 2085, Answer::Read, None),
     (ZEROS_244, 288, Answer::Read, None),
     (ZEROS_245, 290, Answer::Read, None),
-    // A key that is no text, or one text more, behind so much payload as a value may have.
+    // A key that is not a string, or one more string, after the maximum payload of a value.
     (Shape::HeavyKeys(2), 1_050_689, NO_TEXT, Some((0, 0))),
     (Shape::HeavyKeys(1), 1_050_689, HEAVY, Some((5, 0))),
 ];
 
-// What the check answers, if this rule is broken at this object.
+// Returns the verdict if this rule is broken at this object.
 fn verdict(broken: Option<(u8, u64)>) -> Verdict {
     match broken {
         Some((rule, object)) => Verdict::Broken { rule, object },
@@ -204,7 +209,7 @@ fn verdict(broken: Option<(u8, u64)>) -> Verdict {
     }
 }
 
-// Whether the octets are the canonical file of the value that is read of them.
+// Returns whether the bytes are the canonical file of their own value.
 fn is_own(alloc: Global, octets: &[u8]) -> Result<bool, Fail> {
     let value = read(alloc, octets)?;
     if !fits(&value) {
@@ -215,14 +220,14 @@ fn is_own(alloc: Global, octets: &[u8]) -> Result<bool, Fail> {
     Ok(made.as_slice() == octets && own.as_slice() == octets)
 }
 
-// Whether the judge, the reader and `canonicalise` refuse it so.
+// Returns whether the validator, the reader and `canonicalise` refuse the file with this fault.
 fn is_refused(alloc: Global, octets: &[u8], fault: BinaryFault) -> bool {
     judge(alloc, octets).err() == Some(fault)
         && read(alloc, octets).err() == Some(fault)
         && canonicalise(alloc, octets).err() == Some(Fault::Binary(fault))
 }
 
-// Whether the judge, the reader and `canonicalise` answer so.
+// Returns whether the validator, the reader and `canonicalise` have this result.
 fn is_answered(alloc: Global, octets: &[u8], answer: Answer) -> Result<bool, Fail> {
     if let Answer::Refused(fault) = answer {
         return Ok(is_refused(alloc, octets, fault));
@@ -235,7 +240,7 @@ fn is_answered(alloc: Global, octets: &[u8], answer: Answer) -> Result<bool, Fai
     }
 }
 
-// The place of the first row that is answered otherwise.
+// Returns the index of the first row with another result.
 fn wrong_row(alloc: Global) -> Result<Option<usize>, Fail> {
     for (place, (shape, size, answer, broken)) in ROWS.iter().enumerate() {
         let octets = shape.file(alloc)?;
@@ -267,7 +272,7 @@ const SOURCES: [(Shape, Shape); 8] = [
     (Shape::Data(257, 3), Shape::Data(257, 4)),
 ];
 
-// The place of the first source that has another canonical file.
+// Returns the index of the first source with another canonical file.
 fn wrong_source(alloc: Global) -> Result<Option<usize>, Fail> {
     for (place, (source, own)) in SOURCES.iter().enumerate() {
         let canonical = canonicalise(alloc, source.file(alloc)?.as_slice())?;

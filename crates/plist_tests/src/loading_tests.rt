@@ -7,7 +7,7 @@ use std::test::Fail;
 
 #[test]
 fn loads_a_list_in_pieces(rt: HostRuntime) -> Result<(), Fail> {
-    // Four takes give octets, and the fifth finds the end.
+    // Four takes give bytes, and the fifth finds the end.
     for number in 1..6 {
         let mut source = ListSource::new(TABLE_TEXT, 3, Some(number));
         let fault = load(rt.alloc(), &mut source).err();
@@ -24,7 +24,7 @@ fn loads_unless_known(rt: HostRuntime) -> Result<(), Fail> {
     let mut source = ListSource::new(TABLE_TEXT, 3, None);
     let found = load_unless(rt.alloc(), &mut source, TABLE_TEXT)?;
     assert!(rt; found.is_none());
-    // Known ones that are shorter or longer, or differ in a later piece.
+    // Known bytes that are shorter or longer, or differ in a later piece.
     for known in [&b""[..], b"{b=a", b"{b=a;a=c;}", b"{b=a;a=b;}}"] {
         let mut source = ListSource::new(TABLE_TEXT, 3, None);
         let found = load_unless(rt.alloc(), &mut source, known)?.ok_or("known")?;

@@ -8,7 +8,7 @@ use std::alloc::{AllocError, Global};
 use std::hash::{BuildHasher, RandomState};
 use std::test::Fail;
 
-// The status of a row's run and its output, where scalars are hashed by what the builder makes.
+// Runs a row with this hash builder, and returns the exit status and the output.
 fn ran<H: BuildHasher + Copy>(
     alloc: Global,
     hasher: H,
@@ -29,7 +29,7 @@ fn ran<H: BuildHasher + Copy>(
     Ok((status, output))
 }
 
-/// Runs one after another over one disk.
+/// Runs, one after another, over one disk.
 const RUNS: [&str; 8] = [
     "check in|1 broken C5 at object 0\n",
     "convert binary1 in out|0 ",
@@ -41,7 +41,7 @@ const RUNS: [&str; 8] = [
     "convert binary1 missing old|4 missing: refused 50 ReadFailed\n",
 ];
 
-// Whether all of them are answered so over a disk of their own, and leave what they should.
+// Returns whether all runs have their results over a new disk, and leave the right files.
 fn all_are_answered<H: BuildHasher + Copy>(alloc: Global, hasher: H) -> Result<bool, AllocError> {
     let mut disk = MemoryDisk::new(alloc, 100, 7);
     disk.put(alloc, "in", Vec::from_slice(alloc, UNSORTED)?)?;
@@ -79,12 +79,12 @@ fn a_full_disk_takes_a_front(rt: HostRuntime) -> Result<(), Fail> {
     Ok(())
 }
 
-/// What follows the data, but for the last octet: the offset table and the trailer.
+/// The bytes after the data, without the last: the offset table and the trailer.
 const LONG_END: &[u8] = b"\0\x08\0\0\0\0\0\0\x02\x01\0\0\0\0\0\0\0\x01\
       \0\0\0\0\0\0\0\0\0\0\0\0\0\0\x13";
 
-// The file of 5,000 octets of data, with this front, and its offset table at the place whose last
-// octet this is.
+// Returns the file of 5,000 bytes of data after `front`, with the last byte of the offset of its
+// offset table.
 fn long_data(alloc: Global, front: &[u8], table: u8) -> Result<Vec<u8>, AllocError> {
     let mut octets = Vec::from_slice(alloc, front)?;
     octets.extend_from_slice(&[7; 5000])?;
@@ -97,7 +97,7 @@ fn long_data(alloc: Global, front: &[u8], table: u8) -> Result<Vec<u8>, AllocErr
 fn filters_in_memory(rt: HostRuntime) -> Result<(), Fail> {
     let alloc = rt.alloc();
     let mut disk = MemoryDisk::new(alloc, 100, 7);
-    // Data of more than 4,096 octets goes out without a copy.
+    // Data of more than 4,096 bytes is written without a copy.
     let long = long_data(alloc, b"bplist00\x4f\x12\0\0\x13\x88", 0x96)?;
     let own = long_data(alloc, b"bplist00\x4f\x11\x13\x88", 0x94)?;
     let rows: [(&[u8], Option<u64>, &[u8], u8); 4] = [

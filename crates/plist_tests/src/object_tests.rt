@@ -1,12 +1,12 @@
-//! Single objects: which are handed over as they are spelled, and that a refused put leaves the
-//! list.
+//! Single objects: which are handed over in their encoding of the file, and that a failed put
+//! leaves the list unchanged.
 use plist_object::{BinFile, put_list, put_scalar, put_table};
 use plist_value::{ScalarRef, TextRef};
 use std::alloc::AllocError;
 use std::test::Fail;
 use test_files::file_of;
 
-// A list, and scalars, of which the last two are longer than they have to be.
+// An array, and scalars, of which the last two are not in their shortest encoding.
 const OBJECTS: [&[u8]; 11] = [
     b"\xaa\x01\x02\x03\x04\x05\x06\x07\x08\x09\x0a",
     b"\x52ab",
@@ -46,8 +46,8 @@ fn scalars_as_they_stand(rt: HostRuntime) -> Result<(), Fail> {
     Ok(())
 }
 
-// Whether these octets are in a list that held aa before the put. A refused put is an error, if the
-// list holds aa alone.
+// Returns whether these bytes are in a list that was aa before the put. A failed put is an error if
+// the list is still aa.
 fn is_put(put: Result<(), AllocError>, out: &[u8], octets: &[u8]) -> Result<bool, AllocError> {
     match put {
         Ok(()) => Ok(out == octets),
@@ -56,7 +56,7 @@ fn is_put(put: Result<(), AllocError>, out: &[u8], octets: &[u8]) -> Result<bool
     }
 }
 
-// Also where memory is refused from outside.
+// Also with allocations refused from outside.
 #[test]
 fn a_refused_put_leaves_the_list(rt: HostRuntime) -> Result<(), Fail> {
     let wide = TextRef::of_wide(b"\x00a").ok_or("an even length")?;
@@ -66,7 +66,7 @@ fn a_refused_put_leaves_the_list(rt: HostRuntime) -> Result<(), Fail> {
     let mut out = Vec::from_slice(rt.alloc(), b"\xaa")?;
     let put = put_list(&mut out, 2, &[1]);
     assert!(rt; is_put(put, out.as_slice(), b"\xaa\xa1\x00\x01")?);
-    // A reference that 32 bits do not hold.
+    // A reference that does not fit into 32 bits.
     let mut out = Vec::from_slice(rt.alloc(), b"\xaa")?;
     let put = put_list(&mut out, 8, &[1 << 32]);
     assert!(rt; is_put(put, out.as_slice(), b"\xaa\xa1\0\0\0\x01\0\0\0\0")?);

@@ -1,5 +1,5 @@
-//! Each prefix of files and texts: what reads it answers, and refuses with numbers of its own. A
-//! text that is read straight into a binary file has the canonical file of its value, or none.
+//! Each prefix of files and texts: its refusals are ones that each call can give. A text that is
+//! read straight into a binary file has the canonical file of its value, or none.
 use crate::engine::canonical_file;
 use crate::files::files;
 use crate::texts::{LISTS, Parts, SMALL_TEXTS, nested};
@@ -11,20 +11,20 @@ use plist_forms::read_any;
 use std::alloc::Global;
 use std::test::Fail;
 
-// The canonical file by way of the draft.
+// Returns the canonical file by way of the draft.
 fn drafted(alloc: Global, octets: &[u8]) -> Option<Vec<u8>> {
     let draft = draft_text(alloc, octets).ok()?;
     judge(alloc, &draft).ok()?;
     canonical_file(alloc, &draft).ok()
 }
 
-// The canonical file by way of the value.
+// Returns the canonical file by way of the value.
 fn valued(alloc: Global, octets: &[u8]) -> Option<Vec<u8>> {
     let value = read_any(alloc, octets).ok()?;
     canonical(alloc, &value).ok()
 }
 
-// The numbers of the refusals of the check, the reader and the lexer, 0 where there is none.
+// Returns the numbers of the refusals of the check, the reader and the lexer, 0 for none.
 fn codes(alloc: Global, octets: &[u8]) -> [u8; 3] {
     [
         check(alloc, octets).err().map_or(0, |fault| fault.code()),
@@ -35,9 +35,9 @@ fn codes(alloc: Global, octets: &[u8]) -> [u8; 3] {
     ]
 }
 
-// Whether each refusal is one of those that its call may give. What begins as a binary file is too
-// short below 42 octets, and its layout is refused by the reader as it is by the check. A text
-// without tokens is refused by the reader as it is by the lexer.
+// Returns whether each refusal is one that its call can give. The check refuses any input below 42
+// bytes as too short. The reader refuses the layout of a binary file like the check, and the tokens
+// of a text like the lexer.
 fn is_answered(alloc: Global, octets: &[u8]) -> bool {
     let [checked, read, lexed] = codes(alloc, octets);
     let is_named = checked <= 3 && matches!(lexed, 0 | 20 | 21 | 23..=29 | 32);
@@ -50,17 +50,18 @@ fn is_answered(alloc: Global, octets: &[u8]) -> bool {
     is_named && is_short && is_read
 }
 
-// Whether both ways give the same canonical file of a text, or none.
+// Returns whether both ways give the same canonical file of a text, or none.
 fn is_same(alloc: Global, octets: &[u8]) -> bool {
     octets.starts_with(b"bplist") || drafted(alloc, octets) == valued(alloc, octets)
 }
 
-// Whether both hold, the second of short texts alone: a prefix of a long one takes its time.
+// Tests both, but the second only on short texts, because the prefixes of a long one take too much
+// time.
 fn is_right(alloc: Global, octets: &[u8]) -> bool {
     is_answered(alloc, octets) && (octets.len() > 80 || is_same(alloc, octets))
 }
 
-// The length of the first prefix, the whole among them, that is answered otherwise.
+// Returns the length of the first prefix, the whole included, with another result.
 fn first_other(alloc: Global, octets: &[u8]) -> Option<usize> {
     for length in 0..octets.len() {
         if !is_right(alloc, &octets[..length]) {
@@ -94,14 +95,14 @@ fn prefixes_of_texts(rt: HostRuntime) -> Result<(), Fail> {
     Ok(())
 }
 
-// Lists, tables, and tables in one without braces.
+// Arrays, dictionaries, and dictionaries inside one without braces.
 const DEEP: [Parts; 3] = [
     LISTS,
     [b"", b"{a=", b"<0f>", b";}", b""],
     [b"", b"a={", b"a;", b"};", b""],
 ];
 
-// Tables with lists in them.
+// Dictionaries with arrays in them.
 const MIXED: Parts = [b"", b"{a=(", b"{a;}", b");}", b""];
 
 #[test]
@@ -117,7 +118,7 @@ fn deep_texts_in_both_ways(rt: HostRuntime) -> Result<(), Fail> {
     Ok(())
 }
 
-// Without memory no draft is made: none is made of another value.
+// Without memory there is no draft, rather than the draft of another value.
 #[test]
 fn a_refused_growth_drafts_nothing_else(rt: HostRuntime) -> Result<(), Fail> {
     let text = b"{b=(a,<0f>);a;}";

@@ -1,4 +1,4 @@
-//! Prints to sinks that fail, and where memory runs out.
+//! Printing to sinks that fail, and without memory.
 use crate::transfer_tests::is_front;
 use crate::worked_files::{TABLE as SORTED, TABLE_TEXT, TWICE};
 use plist_devices::{ListSink, Sink};
@@ -12,7 +12,7 @@ const TABLE: &[u8] = b"{b=(a,<0f>);a=b;}";
 const PRINTED: &[u8] =
     b"{\n  \"a\" => \"b\"\n  \"b\" => [\n    0 => \"a\"\n    1 => <0f>\n  ]\n}\n";
 
-// The answer for a sink of this room, and the sink.
+// Prints to a sink for `room` bytes, and returns the result and the sink.
 fn printing(
     alloc: Global,
     octets: &[u8],
@@ -23,7 +23,8 @@ fn printing(
     Ok((answer, sink))
 }
 
-// The first room that does not take all, or as much as there is room for and then a refusal.
+// Returns the first size of a sink that does not take everything, or all that fits followed by a
+// refusal.
 fn wrong_room(alloc: Global, octets: &[u8]) -> Result<Option<usize>, AllocError> {
     for room in 0..PRINTED.len() + 2 {
         let (answer, sink) = printing(alloc, octets, room)?;
@@ -53,7 +54,7 @@ fn a_sink_of_any_room_holds_a_front_of_the_print(rt: HostRuntime) -> Result<(), 
 
 #[test]
 fn nothing_of_refused_octets_is_printed(rt: HostRuntime) -> Result<(), Fail> {
-    // A list of a flag and of itself: the flag is not printed before the cycle is found.
+    // An array of a boolean and of itself: the boolean is not printed before the cycle is found.
     let circular = file(rt.alloc(), &[0xa2, 1, 0, 9], &[8, 11], 1)?;
     let rows = [
         (circular.as_slice(), 15),
@@ -68,7 +69,7 @@ fn nothing_of_refused_octets_is_printed(rt: HostRuntime) -> Result<(), Fail> {
     Ok(())
 }
 
-// Also where memory is refused from outside, at any of the growths.
+// Also with any allocation refused from outside.
 #[test]
 fn what_was_printed_is_a_front(rt: HostRuntime) -> Result<(), Fail> {
     let alloc = rt.alloc();

@@ -1,4 +1,4 @@
-//! Canonical files of values that are sent to devices, piece by piece.
+//! Sending the canonical files of values to sinks, piece by piece.
 use crate::files::{numbers, zeros};
 use plist_binary::read;
 use plist_canon::{ListSink, WriteFault, canonical, write_canonical};
@@ -7,8 +7,8 @@ use std::alloc::Global;
 use std::test::Fail;
 use test_files::one;
 
-// What is answered where the value of the canonical file is sent to a sink of this room that takes
-// so many octets at once, and whether the sink has a front of the file, or all of it.
+// Sends the value of a canonical file to a sink for `room` bytes that takes `step` at a time.
+// Returns the result, and whether the sink has a prefix of the file, or all of it.
 fn send(
     alloc: Global,
     file: &[u8],

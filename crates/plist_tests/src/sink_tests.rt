@@ -1,12 +1,12 @@
-//! Writers of the library as sinks.
+//! Writers of the standard library as sinks.
 use crate::devices::{BrokenWriter, Narrow};
 use plist_devices::{DeviceFault, Sink, Stream, WriterSink, put_all};
 use std::test::Fail;
 
-/// What is put, and what is answered.
+/// The bytes put, and the result.
 type Put = (&'static [u8], Result<usize, DeviceFault>);
 
-// The octets of the first put that is answered otherwise.
+// Returns the bytes of the first put with another result.
 fn wrong_put<S: Sink>(sink: &mut S, puts: &[Put]) -> Option<&'static [u8]> {
     for (octets, answer) in puts {
         if sink.put(octets) != *answer {
@@ -16,13 +16,13 @@ fn wrong_put<S: Sink>(sink: &mut S, puts: &[Put]) -> Option<&'static [u8]> {
     None
 }
 
-/// The puts that a writer with room takes.
+/// Puts to a writer with enough room.
 const TAKEN: [Put; 2] = [(b"abc", Ok(3)), (b"", Ok(0))];
 
-/// The puts on a writer with room for one octet.
+/// Puts to a writer with room for one byte.
 const NARROW: [Put; 3] = [(b"abc", Ok(1)), (b"bc", Err(DeviceFault)), (b"", Ok(0))];
 
-/// The puts on a writer that fails.
+/// Puts to a writer that fails.
 const BROKEN: [Put; 2] = [(b"abc", Err(DeviceFault)), (b"", Err(DeviceFault))];
 
 #[test]

@@ -1,5 +1,5 @@
-//! Calls of the public surface, each by a function that has its signature: another one does not
-//! compile. Not all items are here.
+//! Calls of the public interface, each in a function with its signature, so that a changed
+//! signature does not compile. Not all items are here.
 ghost use Rattle.std.specs.Prelude.{◌<◌};
 ghost use Rattle.plist_object.specs.Layout.{trailer_of};
 ghost use Rattle.plist_object.specs.Views.{octets_of};

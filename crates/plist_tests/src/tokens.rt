@@ -1,11 +1,11 @@
-//! Tokens a step at a time, and with memory refused.
+//! Tokens one at a time, and with memory refused.
 use ostep_lex::{LexFault, next_mark, next_plain, next_token, next_units, open, tokens};
 use std::alloc::{AllocError, Global};
 use std::test::Fail;
 
 const TABLE: &[u8] = b"{a = <0F>;}";
 
-// The tokens of the table, as they are printed for a developer.
+// The debug output of the tokens of the dictionary.
 const TABLE_TOKENS: &str = "[Token { kind: BraceOpen, start: 0, end: 1 }, \
     Token { kind: Text(Utf16 { units: [97] }), start: 1, end: 2 }, \
     Token { kind: Equals, start: 3, end: 4 }, \
@@ -13,7 +13,7 @@ const TABLE_TOKENS: &str = "[Token { kind: BraceOpen, start: 0, end: 1 }, \
     Token { kind: Semicolon, start: 9, end: 10 }, \
     Token { kind: BraceClose, start: 10, end: 11 }]";
 
-// The steps of a reader that keeps no token: how many there are.
+// Counts the tokens without keeping any.
 fn count_of(alloc: Global, octets: &[u8]) -> Result<usize, LexFault> {
     let mut rest = open(octets)?;
     for count in 0..octets.len() {
@@ -33,7 +33,7 @@ fn a_step_at_a_time(rt: HostRuntime) -> Result<(), Fail> {
     Ok(())
 }
 
-// From where to where the mark stands, if it is read with white alone before it.
+// Returns where the punctuation mark begins and ends, if only whitespace precedes it.
 fn mark_of(octets: &[u8], mark: char) -> Result<Option<(usize, usize)>, LexFault> {
     match next_mark(open(octets)?, mark) {
         Some((token, _)) => Ok(Some((token.start, token.end))),
@@ -41,7 +41,7 @@ fn mark_of(octets: &[u8], mark: char) -> Result<Option<(usize, usize)>, LexFault
     }
 }
 
-// Octets, a mark, and from where to where it is read.
+// An input, a punctuation mark, and where it begins and ends if it is read.
 const MARKS: [(&[u8], char, Option<(usize, usize)>); 5] = [
     (b" \t= 1", '=', Some((2, 3))),
     (b"\xff\xfe\x28\x20;\0", ';', Some((4, 6))),
@@ -58,7 +58,7 @@ fn a_mark_after_whitespace_alone(rt: HostRuntime) -> Result<(), Fail> {
     Ok(())
 }
 
-// The units of the string that stands first, if it is read as octets, and the place behind it.
+// Returns the units of the first string, if it is read as bytes, and the offset after it.
 fn plain_of(octets: &[u8]) -> Result<Option<(&[u8], usize)>, LexFault> {
     match next_plain(open(octets)?) {
         Some((text, behind)) => Ok(text.octets().map(|units| (units, behind.place()))),
@@ -66,7 +66,7 @@ fn plain_of(octets: &[u8]) -> Result<Option<(&[u8], usize)>, LexFault> {
     }
 }
 
-// Octets, and the string that is read as octets where it is, with the place after it.
+// An input, and its first string if that is read as bytes in place, with the offset after it.
 const PLAIN: [(&[u8], Option<(&[u8], usize)>); 11] = [
     (b" \ta-1/$;", Some((b"a-1/$", 7))),
     (b"\"a 'b' \"c", Some((b"a 'b' ", 8))),
@@ -89,7 +89,7 @@ fn a_string_where_it_stands(rt: HostRuntime) -> Result<(), Fail> {
     Ok(())
 }
 
-// An input that begins with a string, the units of the string, and the place behind it.
+// An input that begins with a string, the units of the string, and the offset after it.
 type UnitsRow = (&'static [u8], &'static [u16], usize);
 
 const UNITS: [UnitsRow; 5] = [
@@ -100,7 +100,7 @@ const UNITS: [UnitsRow; 5] = [
     (b"//\n''", &[], 5),
 ];
 
-// Inputs of which no string is read: another token, a fault, a string that begins with a slash.
+// Inputs that are not read as a string: another token, a fault, a string that begins with a slash.
 const NO_UNITS: [&[u8]; 5] = [b"{", b"<00>", b"\"a", b"/a", b""];
 
 #[test]
@@ -120,7 +120,7 @@ fn units_in_the_room_of_those_before(rt: HostRuntime) -> Result<(), Fail> {
     Ok(())
 }
 
-// With each allocation refused in turn: want of memory, or the answer with ample memory.
+// With each allocation refused in turn: out of memory, or the same result as with ample memory.
 #[test]
 fn a_refused_growth_changes_no_answer(rt: HostRuntime) -> Result<(), Fail> {
     match tokens(rt.alloc(), TABLE) {

@@ -13,7 +13,7 @@ use std::ops::Range;
 use std::test::Fail;
 use test_files::one;
 
-/// What a conversion left: its answer, how often the source failed, and the sink.
+/// The outcome of a conversion: its result, how often the source failed, and the sink.
 #[derive(Drop)]
 struct Sent {
     answer: Result<u64, Fault>,
@@ -21,8 +21,8 @@ struct Sent {
     sink: ListSink,
 }
 
-// Converts the octets, from a source that fails at the take of this number, into a sink of this
-// room.
+// Converts the bytes, from a source that fails at take number `failing`, to a sink for `room`
+// bytes.
 fn conversion(
     alloc: Global,
     octets: &[u8],
@@ -43,7 +43,7 @@ fn conversion(
 
 #[test]
 fn a_failing_take_leaves_the_sink_empty(rt: HostRuntime) -> Result<(), Fail> {
-    // Four takes give octets, and the fifth finds the end.
+    // Four takes give bytes, and the fifth finds the end.
     for number in 1..6 {
         for form in [Form::Binary1, Form::OpenStep] {
             let left = conversion(rt.alloc(), TABLE_TEXT, Some(number), form, 100)?;
@@ -57,7 +57,7 @@ fn a_failing_take_leaves_the_sink_empty(rt: HostRuntime) -> Result<(), Fail> {
     Ok(())
 }
 
-// The first room of these that does not take all, or as much as there is room for and then a
+// Returns the first size of a sink that does not take everything, or all that fits followed by a
 // refusal.
 fn wrong_room(
     alloc: Global,
@@ -92,7 +92,7 @@ fn a_sink_of_any_room_holds_a_front(rt: HostRuntime) -> Result<(), Fail> {
         let wrong = wrong_room(alloc, octets, Form::OpenStep, 0..20, WRITTEN_TEXT)?;
         assert_eq!(rt; wrong, None);
     }
-    // Data past the greatest offset of one octet.
+    // Data that puts the offset table beyond the largest offset of one byte.
     let mut data = Vec::from_slice(alloc, &[0x4f, 0x11, 0, 245])?;
     data.extend_from_slice(&[7; 245])?;
     let source = one(alloc, data.as_slice())?;
@@ -104,7 +104,7 @@ fn a_sink_of_any_room_holds_a_front(rt: HostRuntime) -> Result<(), Fail> {
     Ok(())
 }
 
-/// Octets, the form that is asked for, and the number of the refusal.
+/// An input, the form to convert it to, and the number of the refusal.
 const REFUSED: [(&[u8], Form, u8); 6] = [
     (b"{a;a=b;}", Form::Binary1, 14),
     (b"{a;a=b;}", Form::OpenStep, 14),
@@ -124,7 +124,7 @@ fn refused_octets_leave_the_sink_empty(rt: HostRuntime) -> Result<(), Fail> {
     Ok(())
 }
 
-// The list of the texts 00000 to 59999, as a text.
+// Returns the text of an array of the strings 00000 to 59999.
 fn many_texts(alloc: Global) -> Result<Vec<u8>, AllocError> {
     let mut text = Vec::from_slice(alloc, b"(")?;
     for number in 0..60_000u32 {
@@ -137,7 +137,7 @@ fn many_texts(alloc: Global) -> Result<Vec<u8>, AllocError> {
     Ok(text)
 }
 
-// Data of 4,060 octets, as a text.
+// Returns the text of data of 4,060 bytes.
 fn long_data(alloc: Global) -> Result<Vec<u8>, AllocError> {
     let mut text = Vec::from_slice(alloc, b"<")?;
     for _ in 0..4060 {
@@ -147,7 +147,7 @@ fn long_data(alloc: Global) -> Result<Vec<u8>, AllocError> {
     Ok(text)
 }
 
-/// The first four octets of the first object of a file, the place of the offset table, and the
+/// The first four bytes of the first object of a file, the offset of the offset table, and the
 /// widths of offsets and references.
 type Layout = ([u8; 4], u64, u8, u8);
 
@@ -167,8 +167,8 @@ fn has_layout(octets: &[u8], layout: Layout) -> bool {
     }
 }
 
-// Of the data the header, the object and its offset are 4,074 octets: the trailer has no room after
-// them.
+// For the data, the header, the object and its offset take 4,074 bytes, so that the trailer does
+// not fit after them.
 #[test]
 fn no_piece_is_longer_than_the_longest_object(rt: HostRuntime) -> Result<(), Fail> {
     let alloc = rt.alloc();
@@ -184,7 +184,7 @@ fn no_piece_is_longer_than_the_longest_object(rt: HostRuntime) -> Result<(), Fai
         let value = read_any(alloc, text.as_slice())?;
         assert_eq!(rt; write_canonical(alloc, &value, &mut noting), Ok(all as u64));
         assert_eq!(rt; (noting.longest, noting.all), (longest, all));
-        // The file of a text, and that of the file.
+        // The canonical file of the text, and that of the file itself.
         for octets in [text.as_slice(), file.as_slice()] {
             let mut noting = Noting { longest: 0, all: 0 };
             let mut source = ListSource::new(octets, 4096, None);
@@ -197,7 +197,7 @@ fn no_piece_is_longer_than_the_longest_object(rt: HostRuntime) -> Result<(), Fai
     Ok(())
 }
 
-// Whether the sink holds the output: all of it, or as many octets as the answer says, where memory
+// Returns whether the sink has the output: all of it, or as many bytes as the result says if memory
 // was refused.
 pub(crate) fn is_front(answer: &Result<u64, Fault>, sink: &ListSink, whole: &[u8]) -> bool {
     let most = match answer {
@@ -209,7 +209,7 @@ pub(crate) fn is_front(answer: &Result<u64, Fault>, sink: &ListSink, whole: &[u8
     whole.get(..most as usize) == Some(sink.taken())
 }
 
-// Also where memory is refused from outside, at any of the growths.
+// Also with any allocation refused from outside.
 #[test]
 fn what_went_out_is_a_front_of_the_output(rt: HostRuntime) -> Result<(), Fail> {
     let alloc = rt.alloc();

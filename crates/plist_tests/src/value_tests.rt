@@ -6,7 +6,7 @@ use std::alloc::{AllocError, Global};
 use std::collections::BTreeMap;
 use std::test::Fail;
 
-// A value of each kind.
+// Returns a value of each kind.
 fn values(alloc: Global) -> Result<Vec<Value>, Fail> {
     let mut values = Vec::new(alloc);
     let alone = Utf16::from_units(Vec::from_slice(alloc, &[0xd800])?);
@@ -23,8 +23,8 @@ fn values(alloc: Global) -> Result<Vec<Value>, Fail> {
     Ok(values)
 }
 
-// The places of the first two values of which the first's copy is the other and should not be,
-// or is not and should be.
+// Returns the indices of the first two values such that the copy of one wrongly equals the other,
+// or wrongly differs.
 fn wrong_pair(alloc: Global, values: &[Value]) -> Result<Option<(usize, usize)>, AllocError> {
     for (i, value) in values.iter().enumerate() {
         let again = copy(alloc, value)?;
