@@ -1,5 +1,5 @@
--- Pairs that move into a map, the highest key first; texts that ascend, and texts of which no two
--- are equal.
+-- Pairs that move into a map, the highest key first; strings that ascend, and strings no two of
+-- which are equal.
 use Rattle.std.proofs.Common.{◌≡◌, ℕ, zero, ◌==◌, ◌<◌, List, [], ◌∷◌, ◌++◌, length, get_or, set, map, false, refl, sym, ap, ◌∙◌, subst, append_assoc, arith, ◌+◌, ◌-◌, ◌≤◌, true, ⊎_elim}
 use Rattle.std.specs.Prelude.{Bool, IsTrue, ◌↔◌}
 use Rattle.std.specs.declared.cmp.Ordering.{Ordering}
@@ -36,7 +36,7 @@ zip-seconds [] (y ∷ ys) long = absurd (omega arith)
 zip-seconds (x ∷ xs) [] long = absurd (omega arith)
 zip-seconds (x ∷ xs) (y ∷ ys) long = ap (λ l. y ∷ l) (zip-seconds xs ys (omega arith))
 
--- a key below all that the map has
+-- inserting a key below all that the map has
 insert_first : {X : Type 0} (k : List ℕ) (v : X) (es : List (List ℕ × X)) → AllByRecursion (λ q. slice_cmp nat_cmp k q ≡ Less) (keys_of es) → insert_entry (slice_cmp nat_cmp) es k v ≡ (k, v) ∷ es
 insert_first k v [] below = refl
 insert_first {X} k v (e ∷ es) below =
@@ -51,7 +51,7 @@ pub keys-pairs : (vs : List Value) (keys : List Key) → keys_of (map (pair_at v
 keys-pairs vs [] = refl
 keys-pairs vs (key ∷ keys) = ap (λ (l : List (List ℕ)). units_at key ∷ l) (keys-pairs vs keys)
 
--- a value is written at a place that no key has
+-- writing a value at a place that no key has
 set_elsewhere : (vs : List Value) (place : ℕ) (v : Value) (keys : List Key) → AllByRecursion (λ q. (place == q) ≡ false) (map place_of keys) → map (pair_at (set vs place v)) keys ≡ map (pair_at vs) keys
 set_elsewhere vs place v [] apart = refl
 set_elsewhere vs place v (key ∷ keys) apart =
@@ -75,7 +75,7 @@ pub left_within : (left : List Key) (key : Key) (n : ℕ) → All (λ key. place
 left_within left key n within =
     All-tail (λ key. place_of key < n) key left (All-permutation (λ key. place_of key < n) (left ++ key ∷ []) (key ∷ left) (IsPermutation-to_front left key) within)
 
--- the pair of the last key moves from those that are left into the map
+-- the pair of the last remaining key moves into the map
 pub moved_more : (keys left : List Key) (key : Key) (all vs : List Value) (v there taken : Value) (k : List ℕ) (es new : List (List ℕ × Value)) → IsStrictlySortedBy (slice_cmp nat_cmp) (map units_at keys) → IsDistinct (λ x y. x == y) (map place_of (left ++ key ∷ [])) → map (pair_at vs) (left ++ key ∷ []) ++ es ≡ map (pair_at all) keys → key.place < length vs → there ≡ get_or vs key.place there → taken ≡ there → k ≡ units_at key → new ≡ insert_entry (slice_cmp nat_cmp) es k taken → map (pair_at (set vs key.place v)) left ++ new ≡ map (pair_at all) keys
 moved_more keys left key all vs v there taken k es new ascend apart pairs within read took is put =
     let front = map (pair_at vs) left in
@@ -88,7 +88,7 @@ moved_more keys left key all vs v there taken k es new ascend apart pairs within
     let kept = set_elsewhere vs key.place v left (IsDistinct-head (λ x y. x == y) key.place (map place_of left) (last_apart left key apart)) in
     ap (λ (l : List (List ℕ × Value)). l ++ new) kept ∙ ap (λ (l : List (List ℕ × Value)). front ++ l) inserted ∙ whole
 
--- Texts that ascend, and texts of which no two are equal.
+-- Strings that ascend, and strings no two of which are equal.
 
 -- each of the first n is below the next
 abbrev pub AscendTo : ℕ → List (List ℕ) → Type 0
@@ -141,7 +141,7 @@ strict_from g xs d order distinct =
     (ap (λ us. is_lt (slice_cmp nat_cmp us (get_or keys k []))) upper ∙ ap (λ us. is_lt (slice_cmp nat_cmp (g (get_or xs (k + 1) d)) us)) lower ∙ order k d (omega arith) (omega arith))
     (apart_from_distinct same_key keys k (k + 1) [] distinct (omega arith) h))
 
--- texts in order, of which no two are equal, ascend
+-- sorted strings ascend if no two are equal
 pub ascent_from_distinct : {A : Type 0} (g : A → List ℕ) (xs : List A) → IsSorted (on g (slice_cmp nat_cmp)) xs → IsDistinct same_key (map g xs) → IsStrictlySortedBy (slice_cmp nat_cmp) (map g xs)
 unfolding IsStrictlySortedBy
 ascent_from_distinct g [] order distinct = tt
@@ -150,7 +150,7 @@ ascent_from_distinct g (x ∷ xs) order distinct = strict_from g (x ∷ xs) x or
 pub distinct_from_ascent : (keys : List (List ℕ)) → IsStrictlySortedBy (slice_cmp nat_cmp) keys → IsDistinct same_key keys
 distinct_from_ascent keys sorted = IsDistinct-from_sorted (slice_cmp nat_cmp) keys sorted
 
--- in another order
+-- strings in another order are still distinct
 pub distinct_moved : {A : Type 0} (g : A → List ℕ) (xs ys : List A) → IsPermutation xs ys → IsDistinct same_key (map g xs) → IsDistinct same_key (map g ys)
 distinct_moved g xs ys moved distinct =
     IsDistinct-IsPermutation same_key (eq_by_cmp_equiv nat_list_cmp_total).symm (map g xs) (map g ys) (IsPermutation-map g xs ys moved) distinct

@@ -39,7 +39,7 @@ Begins-leads f (j ∷ before) i nodes payload begins = (
 pub IsBegun-leads : (f before : List ℕ) (i : ℕ) (whole left : Budget) → IsBegun f before i whole left → Leads f before i
 IsBegun-leads f before i whole left begun = Begins-leads f before i begun.nodes begun.payload begun.begins
 
--- one node less: the container itself
+-- taking the node of the container itself
 pub IsEntered-begun : (f before : List ℕ) (j : ℕ) (whole left after : Budget) → IsBegun f before j whole left → ¬ Contains before j → length before < MAX_DEPTH → Spends left 1 0 after → IsEntered f before j whole after
 IsEntered-begun f before j whole left after begun new shallow node = record {
   nodes = begun.nodes;
@@ -60,7 +60,7 @@ no_more : (xs : List ℕ) → xs ≡ xs ++ []
 no_more [] = refl
 no_more (x ∷ xs) = ap (λ l. x ∷ l) (no_more xs)
 
--- the items of a list
+-- the items of an array
 pub AreNext-items : (f before : List ℕ) (j : ℕ) (refs : List ℕ) (whole left : Budget) → IsEntered f before j whole left → Holds f j (holds_list refs) → AreNext f before j refs whole left
 AreNext-items f before j refs whole left entered holds = record {
   nodes = entered.nodes;
@@ -82,7 +82,7 @@ AreNext-items f before j refs whole left entered holds = record {
   };
 }
 
--- the keys of a table
+-- the keys of a dictionary
 pub AreNext-keys : (f before : List ℕ) (j : ℕ) (keys : List ℕ) (whole left : Budget) → IsEntered f before j whole left → HasKeys f j keys → AreNext f before j keys whole left
 AreNext-keys f before j keys whole left entered table = record {
   nodes = entered.nodes;
@@ -104,7 +104,7 @@ AreNext-keys f before j keys whole left entered table = record {
   };
 }
 
--- the values of a table, behind its keys
+-- the values of a dictionary, after its keys
 pub AreNext-values : (f before : List ℕ) (j : ℕ) (keys values : List ℕ) (levels : ℕ) (whole left after : Budget) (vs : Items) → IsEntered f before j whole left → Holds f j (holds_table keys values) → length before + 1 + levels ≡ MAX_DEPTH → ReadsItems f keys levels left vs after → AreNext f before j values whole after
 AreNext-values f before j keys values levels whole left after vs entered holds levels_are read = record {
   nodes = entered.nodes;
@@ -129,14 +129,14 @@ AreNext-values f before j keys values levels whole left after vs entered holds l
 pub AreNext-leads : (f before : List ℕ) (j : ℕ) (refs : List ℕ) (whole left : Budget) → AreNext f before j refs whole left → Leads f before j
 AreNext-leads f before j refs whole left next = Begins-leads f before j next.nodes next.payload next.begins
 
--- those before one of the references, and those behind it
+-- the references before one of them, and those after it
 around_next : (front refs behind : List ℕ) (k i : ℕ) → k < length refs → i ≡ slice_index refs k → front ++ (refs ++ behind) ≡ (front ++ take k refs) ++ i ∷ (drop (suc k) refs ++ behind)
 around_next front refs behind k i within is =
     ap (λ (l : List ℕ). front ++ (l ++ behind)) (sym (around refs k i within is))
     ∙ ap (λ (l : List ℕ). front ++ l) (append_assoc (take k refs) (i ∷ drop (suc k) refs) behind)
     ∙ sym (append_assoc front (take k refs) (i ∷ (drop (suc k) refs ++ behind)))
 
--- the reference that comes behind those that were read
+-- the reference after those that were followed
 pub IsBegun-next : (f before : List ℕ) (j : ℕ) (refs : List ℕ) (k i levels : ℕ) (whole left after : Budget) (vs : Items) → AreNext f before j refs whole left → length before + 1 + levels ≡ MAX_DEPTH → k < length refs → i ≡ slice_index refs k → ReadsItems f (take k refs) levels left vs after → IsBegun f (j ∷ before) i whole after
 IsBegun-next f before j refs k i levels whole left after vs next levels_are within is read =
     let values = join next.values vs in

@@ -1,4 +1,4 @@
--- What is made of a file that was judged: the parts of what is spelled.
+-- Building the value of a validated file: the parts of what is encoded.
 use Rattle.std.proofs.Common.{◌≡◌, ℕ, ◌+◌, ◌-◌, ◌<◌, ◌≤◌, List, [], ◌∷◌, ◌++◌, length, take, slice_index, refl, sym, subst, ⊎_elim, arith}
 use Rattle.std.specs.List.{IsDistinct, zip}
 use Rattle.std.specs.List.Sorted.{IsPermutation}
@@ -25,7 +25,7 @@ use Rattle.plist_binary.proofs.TableSteps.{Unsorted, unsort}
 pub HoldsSome-within : (f : List ℕ) (i levels : ℕ) → SpellsWithin f i levels → HoldsSome f i
 HoldsSome-within f i levels within = Spells-held f i within.value within.spells
 
--- the items of a list that spells a value
+-- the items of an array that encodes a value
 items_within : (f refs : List ℕ) (levels : ℕ) (vs : Items) (i : ℕ) → SpellItems f refs vs → AreItems vs → depth_of_items vs ≤ levels → Among i refs → SpellsWithin f i levels
 items_within f [] levels vs i spell valid deep among = absurd among
 items_within f (j ∷ refs) levels no_items i spell valid deep among =
@@ -44,7 +44,7 @@ items_within f (j ∷ refs) levels (item v vs) i spell valid deep among =
 pub AllSpellWithin-items : (f refs : List ℕ) (levels : ℕ) (vs : Items) → SpellItems f refs vs → AreItems vs → depth_of_items vs ≤ levels → AllSpellWithin f refs levels
 AllSpellWithin-items f refs levels vs spell valid deep i among = items_within f refs levels vs i spell valid deep (Among-contains i refs among)
 
--- what a list spells
+-- what an array encodes
 list_within : (f refs : List ℕ) (i levels : ℕ) (v : Plist) → Holds f i (holds_list refs) → Spells f i v → IsPlist v → depth v ≤ levels → AllSpellWithin f refs (levels - 1)
 list_within f refs i levels (scalar s) holds spells valid deep =
     absurd (let held = same_held f i (holds_list refs) (holds_scalar s) holds spells in cc)
@@ -79,7 +79,7 @@ table_within f keys values i levels (table ps) holds spells valid deep =
 pub SpellsPairsWithin-table : (f keys values : List ℕ) (i levels : ℕ) → Holds f i (holds_table keys values) → SpellsWithin f i levels → SpellsPairsWithin f keys values (levels - 1)
 SpellsPairsWithin-table f keys values i levels holds within = table_within f keys values i levels within.value holds within.spells within.valid within.deep
 
--- the keys and the values of a table in the order of the file
+-- the keys and the values of a dictionary in the order of the file
 pub unsorted : (f keys values : List ℕ) (levels : ℕ) (within : SpellsPairsWithin f keys values levels) → Unsorted f keys values levels within.pairs
 unsorted f keys values levels within = unsort f keys values levels within.rows within.pairs within.long within.moved within.spell within.valid within.deep
 
@@ -108,20 +108,20 @@ IsSpelled-table f keys values i ps holds are = record {
   valid = are.valid;
 }
 
--- one value more
+-- one more value
 pub AreSpelled-next : (f refs : List ℕ) (k i : ℕ) (vs : Items) (v : Plist) → k < length refs → i ≡ slice_index refs k → AreSpelled f (take k refs) vs → IsSpelled f i v → AreSpelled f (take (k + 1) refs) (push vs v)
 AreSpelled-next f refs k i vs v within is are one = record {
   spell = subst (λ (xs : List ℕ). SpellItems f xs (push vs v)) (next refs k i within is) (SpellItems-push f (take k refs) vs i v are.spell one.spells);
   valid = AreItems-push vs v are.valid one.valid;
 }
 
--- one text more
+-- one more string
 pub AreTexts-next : (f refs : List ℕ) (k i : ℕ) (keys : List (List ℕ)) (units : List ℕ) → k < length refs → i ≡ slice_index refs k → AreTexts f (take k refs) keys → Holds f i (holds_scalar (text units)) → AreTexts f (take (k + 1) refs) (keys ++ units ∷ [])
 AreTexts-next f refs k i keys units within is are one = record {
   spell = subst (λ (vs : Items). SpellItems f (take (k + 1) refs) vs) (sym (texts-push keys units)) (subst (λ (xs : List ℕ). SpellItems f xs (push (texts keys) (scalar (text units)))) (next refs k i within is) (SpellItems-push f (take k refs) (texts keys) i (scalar (text units)) are.spell one));
 }
 
--- references spell texts in one way
+-- references are to strings in only one way
 same_texts : (f keys : List ℕ) (us ws : List (List ℕ)) → SpellItems f keys (texts us) → SpellItems f keys (texts ws) → us ≡ ws
 same_texts f keys [] [] a b = refl
 same_texts f [] [] (w ∷ ws) a b = absurd b
@@ -133,7 +133,7 @@ same_texts f (k ∷ keys) (u ∷ us) (w ∷ ws) a b =
     let rest = same_texts f keys us ws a.1 b.1 in
     cc
 
--- the texts of a table's keys
+-- the strings of the keys of a dictionary
 pub distinct_texts : (f keys values : List ℕ) (levels : ℕ) (us : List (List ℕ)) → SpellsPairsWithin f keys values levels → AreTexts f keys us → IsDistinct same_key us
 distinct_texts f keys values levels us within are =
     let apart = unsorted f keys values levels within in
@@ -144,7 +144,7 @@ valid_texts f keys values levels us within are =
     let apart = unsorted f keys values levels within in
     subst (λ (l : List (List ℕ)). AreItems (texts l)) (same_texts f keys apart.us us apart.spell_keys are.spell) apart.valid_keys
 
--- what the top object was found to spell is within the limits
+-- the value found at the top is within the limits
 pub Fits-top : (f : List ℕ) (v : Plist) → PassesTop f → IsSpelled f (trailer_of f).top v → Fits v
 Fits-top f v passed is =
     let reads = passed.passes.reads in
@@ -155,7 +155,7 @@ Fits-top f v passed is =
       payload_fits = omega (arith, reads.spent.payload_left);
     }
 
--- the top object spells a value, of at most so many levels
+-- the top object encodes a value of at most the maximum depth
 pub SpellsWithin-top : (f : List ℕ) → PassesTop f → SpellsWithin f (trailer_of f).top MAX_DEPTH
 SpellsWithin-top f passed = record {
   value = passed.passes.value;

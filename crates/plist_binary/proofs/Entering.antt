@@ -1,4 +1,5 @@
--- A table holds as many references to values as to keys; what an object that is entered holds.
+-- A dictionary has as many references to values as to keys; and the content of an object that is
+-- entered.
 use Rattle.std.proofs.Common.{◌≡◌, ℕ, ◌+◌, ◌*◌, ◌/◌, ◌%◌, ◌==◌, List, [], ◌∷◌, length, drop, Ok, Err, Result, Bool, true, false, sym, ◌∙◌, subst, suc, ◌≤◌, ◌++◌, ap, ⊎_elim, inl, inr, arith, ◌-◌, ◌<◌}
 use Rattle.std.specs.Prelude.{⊤, nat_lt, if◌then◌else◌, ◌⊎◌}
 use Rattle.std.specs.List.{list_all, Contains, zip}
@@ -117,14 +118,12 @@ held_paired : (f : List ℕ) (i : ℕ) → HoldsPaired (what_holds f i)
 unfolding what_holds
 held_paired f i = without_rest (object_at f i) (placed f i)
 
--- a table holds as many references to values as to keys
 pub length-values : (f : List ℕ) (i : ℕ) (keys values : List ℕ) → Holds f i (holds_table keys values) → length keys ≡ length values
 length-values f i keys values holds = subst HoldsPaired holds.reads (held_paired f i)
 
--- What an object spells is less than what an object spells that leads to it, so that a cycle spells
--- nothing.
+-- An object has fewer nodes than one that leads to it, so a cycle encodes nothing.
 
--- the object spells a value of at most so many nodes
+-- the object encodes a value of at most this many nodes
 pub record SpellsBelow (f : List ℕ) (i most : ℕ) : Type 0 where
   pub value : Plist
   pub valid : IsPlist value
@@ -154,7 +153,7 @@ among_items f i (j ∷ refs) (item v vs) valid spell among =
     (λ (later : Among i refs). wider f i (nodes_of_items vs) (nodes v + nodes_of_items vs) (omega arith) (among_items f i refs vs valid.1 spell.1 later))
     among
 
--- a row among those that spell pairs: its key, and its value
+-- a row among those of the pairs: its key, and its value
 among_keys : (f : List ℕ) (row : ℕ × ℕ) (rows : List (ℕ × ℕ)) (ps : Pairs) → ArePairs ps → SpellPairs f rows ps → Among row rows → SpellsBelow f row.0 (nodes_of_pairs ps)
 among_keys f row [] ps valid spell among = absurd among
 among_keys f row (r ∷ rows) no_pairs valid spell among =
@@ -185,7 +184,7 @@ among_values f row (r ∷ rows) (pair key v ps) valid spell among =
     (λ (later : Among row rows). wider f row.1 (nodes_of_pairs ps) (1 + nodes v + nodes_of_pairs ps) (omega arith) (among_values f row rows ps valid.3 spell.2 later))
     among
 
--- each of two lists of one length has its members in the rows of both
+-- each member of one of two equally long lists is in a row of both
 key_among : (i : ℕ) (keys values : List ℕ) → length keys ≡ length values → Among i keys → (j : ℕ) × Among (i, j) (zip keys values)
 key_among i [] values long among = absurd among
 key_among i (k ∷ keys) [] long among = absurd (omega arith)
@@ -213,7 +212,7 @@ among_both i (x ∷ xs) ys among =
     ⊎_elim (λ (m : Among i xs). inl (inr m)) (λ (m : Among i ys). inr m) (among_both i xs ys later))
     among
 
--- what holds a reference to i spells more than i does
+-- an object that holds a reference to i encodes more than i does
 pub descends : (f : List ℕ) (j i : ℕ) (v : Plist) → IsPlist v → Spells f j v → Refers f j i → (most : ℕ) → nodes v ≤ suc most → SpellsBelow f i most
 descends f j i (scalar s) valid spells refers most few =
     let held = same_held f j refers.held (holds_scalar s) refers.holds spells in
@@ -242,7 +241,7 @@ descends f j i (table ps) valid spells refers most few =
     among_values f (row.0, i) rows ps valid spell (Among-permutation (row.0, i) (zip keys values) rows moved row.1))
     (among_both i keys values among))
 
--- Why a reference to an object is refused before the object is looked at, or for the object's own
+-- Why a reference to an object is refused before the object is decoded, or for the object's own
 -- fault.
 
 pub some_node : (v : Plist) → 1 ≤ nodes v
@@ -255,7 +254,7 @@ some_level (scalar s) = omega arith
 some_level (list vs) = omega arith
 some_level (table ps) = omega arith
 
--- an object on the path to i spells more than i does
+-- an object on the path to i encodes more than i does
 path_descends : (f containers : List ℕ) (i j : ℕ) (v : Plist) → IsPlist v → Spells f j v → Leads f containers i → Among j containers → (most : ℕ) → nodes v ≤ suc most → SpellsBelow f i most
 path_descends f [] i j v valid spells leads among most few = absurd among
 path_descends f (c ∷ containers) i j v valid spells leads among most few =
@@ -267,7 +266,7 @@ path_descends f (c ∷ containers) i j v valid spells leads among most few =
     descends f c i above.value above.valid above.spells leads.0 most (omega (arith, above.few)))
     among
 
--- an object on a path to itself spells nothing
+-- an object on its own path encodes nothing
 cycle_spells_none : (f containers : List ℕ) (i : ℕ) (v : Plist) → Leads f containers i → Among i containers → IsPlist v → Spells f i v → ⊥
 cycle_spells_none f containers i v leads among valid spells =
     let some = some_node v in
@@ -323,14 +322,14 @@ Refuses-depth f whole before i levels left laid leads depth_left none_left =
       none = λ _ v valid spells deep affords. omega (arith, some_level v);
     }
 
--- an object with a fault spells nothing
+-- an object with a fault encodes nothing
 faulty_spells_none : (f : List ℕ) (i : ℕ) (e : ObjectFault) (v : Plist) → what_holds f i ≡ Err e → Spells f i v → ⊥
 faulty_spells_none f i e v fails spells =
     let held = Spells-held f i v spells in
     let reads = held.1.reads in
     cc
 
--- a fault of an object stands where the object has it
+-- the fault of an object is true at that object
 stands-of_object : (f : List ℕ) (i nodes payload : ℕ) (e : ObjectFault) → IsFaulty f i e → StandsWithin f nodes payload (of_object i e)
 stands-of_object f i nodes payload object.BadOffset faulty = faulty
 stands-of_object f i nodes payload object.CutObject faulty = faulty

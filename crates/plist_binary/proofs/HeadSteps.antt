@@ -1,4 +1,4 @@
--- Heads of texts: of two texts the lower has no higher head.
+-- Sort prefixes are monotone: the lower of two strings has no larger one.
 use Rattle.std.proofs.Common.{◌≡◌, ℕ, zero, suc, ◌+◌, ◌*◌, ◌^◌, ◌<◌, ◌≤◌, List, [], ◌∷◌, ◌++◌, sym, ap, ◌∙◌, subst, arith, inl, inr, refl, lt-ltb, le-ltb, ◌-◌, length, get_or, set, map, take, drop}
 use Rattle.std.proofs.Math.Nat.{pow-zero, pow-suc, mul-le-mul_right, mul-le-mul_left, one-le-pow}
 use Rattle.std.specs.declared.cmp.Ordering.TheVariants.{Less, Greater, Equal}
@@ -44,7 +44,7 @@ head_below (suc k) (unit ∷ units) =
           rw (head_cut k unit units wide, p) (omega (arith, below)))
     ]
 
--- no head is above that of a unit that is cut off
+-- the sort prefix of a unit of 256 or more is the largest
 head_highest : (k unit : ℕ) (units : List ℕ) → 256 ≤ unit → head_of k (unit ∷ units) + 1 ≡ 256 ^ k
 head_highest zero unit units wide = rw (pow-zero 256) refl
 head_highest (suc k) unit units wide =
@@ -53,7 +53,7 @@ head_highest (suc k) unit units wide =
     let first = head_cut k unit units wide in
     omega (arith, e, p, first)
 
--- below by the first unit
+-- strings that differ in the first unit
 first_below : (k a b : ℕ) (us vs : List ℕ) → a < b → head_of (suc k) (a ∷ us) ≤ head_of (suc k) (b ∷ vs)
 first_below k a b us vs below =
     elim (cases_lt b 256) [
@@ -69,7 +69,7 @@ first_below k a b us vs below =
           omega (arith, under, highest))
     ]
 
--- alike in the first unit
+-- strings with the same first unit
 rest_below : (k a : ℕ) (us vs : List ℕ) → head_of k us ≤ head_of k vs → head_of (suc k) (a ∷ us) ≤ head_of (suc k) (a ∷ vs)
 rest_below k a us vs below =
     elim (cases_lt a 256) [
@@ -83,7 +83,7 @@ rest_below k a us vs below =
           omega (arith, first, second))
     ]
 
--- of two texts the lower has no higher head
+-- the lower of two strings has no larger sort prefix
 pub monotone : (k : ℕ) (us vs : List ℕ) → slice_cmp nat_cmp us vs ≡ Less → head_of k us ≤ head_of k vs
 monotone zero us vs less = omega arith
 monotone (suc k) [] vs less = let e = head_none (suc k) in omega (arith, e)
@@ -96,14 +96,14 @@ monotone (suc k) (a ∷ us) (b ∷ vs) less =
     subst (λ (n : ℕ). head_of (suc k) (a ∷ us) ≤ head_of (suc k) (n ∷ vs)) same (rest_below k a us vs (monotone k us vs rest)))
     (λ above _. absurd (let wrong : Greater ≡ Less = sym (ap (λ o. ordering_then o (slice_cmp nat_cmp us vs)) above) ∙ less in cc))
 
--- texts with the same units at the front compare as what stands behind these
+-- strings with a common prefix compare like the units after it
 pub compared_behind : (front us vs : List ℕ) → slice_cmp nat_cmp (front ++ us) (front ++ vs) ≡ slice_cmp nat_cmp us vs
 compared_behind [] us vs = refl
 compared_behind (unit ∷ front) us vs =
     ap (λ o. ordering_then o (slice_cmp nat_cmp (front ++ us) (front ++ vs))) (tied_itself nat_cmp_total unit) ∙ compared_behind front us vs
 
--- The heads of keys: how they are read, and that keys in their order are in the order of their
--- texts.
+-- The sort prefixes of keys: how they are read, and that keys sorted by them are sorted by their
+-- strings.
 
 -- the keys up to i were changed, and now the next
 pub changed_more : (f : Key → Key) (i : ℕ) (before now : List Key) (next d : Key) → i < length before → now ≡ map f (take i before) ++ drop i before → next ≡ f (get_or now i d) → set now i next ≡ map f (take (i + 1) before) ++ drop (i + 1) before
@@ -118,7 +118,7 @@ changed_more f (suc i) (key ∷ before) now next d within is next_is =
     let one : suc i + 1 ≡ suc (i + 1) = omega arith in
     ap (λ (ks : List Key). set ks (suc i) next) is ∙ ap (λ (ks : List Key). f key ∷ ks) more ∙ ap (λ (n : ℕ). map f (take n (key ∷ before)) ++ drop n (key ∷ before)) (sym one)
 
--- the key with another head
+-- the key with another sort prefix
 pub with_head_is : (front : ℕ) (key : Key) (head : ℕ) → head ≡ head_of 8 (drop front (units_at key)) → record { text = key.text; rank = key.rank; place = key.place; head = head } ≡ with_head front key
 with_head_is front key head is =
     ap (λ (n : ℕ). record { text = key.text; rank = key.rank; place = key.place; head = n }) is
@@ -129,7 +129,7 @@ step_of a b c p h i whole same other sum =
     let f : b * p ≡ c * p = ap (λ n. n * p) same in
     omega (arith, e, f, other, sum)
 
--- an octet more of a head
+-- one more byte of a sort prefix
 pub head_step : (left next octets octet head : ℕ) (units rest : List ℕ) → left ≡ suc next → octet ≡ octet_of units → rest ≡ behind units → octets * 256 ^ left + head_of left units ≡ head → (256 * octets + octet) * 256 ^ next + head_of next rest ≡ head
 head_step left next octets octet head units rest one is behind_is whole =
     let p : 256 ^ suc next ≡ 256 ^ next * 256 = pow-suc 256 next in
@@ -137,7 +137,7 @@ head_step left next octets octet head units rest one is behind_is whole =
     let first : octets * (256 ^ next * 256) + (octet_of units * 256 ^ next + head_of next (behind units)) ≡ head = ap (λ (n : ℕ). octets * n + head_of (suc next) units) (sym p) ∙ all in
     step_of octets octet (octet_of units) (256 ^ next) (head_of next (behind units)) (head_of next rest) head is (ap (head_of next) behind_is) first
 
--- the octet at a place, and what stands behind it
+-- the byte at an index, and the units after it
 pub octet_here : (octets : List ℕ) (place : ℕ) (d : ℕ) → place < length octets → get_or octets place d < 256 → (get_or octets place d ≡ octet_of (drop place octets)) × (drop (place + 1) octets ≡ behind (drop place octets))
 octet_here [] place d within small = absurd (omega arith)
 octet_here (octet ∷ octets) zero d within small = (rw (lt-ltb octet 256 small) refl, rw (lt-ltb octet 256 small) refl)
@@ -146,7 +146,7 @@ octet_here (octet ∷ octets) (suc place) d within small =
     let one : suc place + 1 ≡ suc (place + 1) = omega arith in
     (rest.0, ap (λ (n : ℕ). drop n (octet ∷ octets)) one ∙ rest.1)
 
--- with one octet more the head still fits
+-- with one more byte the sort prefix still fits
 pub head_fits : (left next octets octet head : ℕ) (units : List ℕ) → left ≡ suc next → octet ≡ octet_of units → octets * 256 ^ left + head_of left units ≡ head → 256 * octets + octet ≤ head
 head_fits left next octets octet head units one is whole =
     let one_at_least = one-le-pow next 256 (omega arith) in
@@ -154,7 +154,7 @@ head_fits left next octets octet head units one is whole =
     let m : (256 * octets + octet) * 1 ≤ (256 * octets + octet) * 256 ^ next = mul-le-mul_left (256 * octets + octet) one_at_least in
     omega (arith, step, m)
 
--- an octet more of the head of octets
+-- one more byte of the sort prefix of bytes
 pub octets_step : (front i head octet : ℕ) (octets : List ℕ) → i < 8 → front + 8 ≤ length octets → get_or octets (front + i) 0 < 256 → octet ≡ get_or octets (front + i) 0 → head * 256 ^ (8 - i) + head_of (8 - i) (drop (front + i) octets) ≡ head_of 8 (drop front octets) → (256 * head + octet) * 256 ^ (8 - (i + 1)) + head_of (8 - (i + 1)) (drop (front + (i + 1)) octets) ≡ head_of 8 (drop front octets)
 octets_step front i head octet octets more within small is whole =
     let here = octet_here octets (front + i) 0 (omega arith) small in
@@ -168,7 +168,7 @@ octets_fit front i head octet octets more within small is whole =
     let below = head_below 8 (drop front octets) in
     omega (arith, most, below)
 
--- by heads, and by texts where two are equal
+-- by sort prefix, and by string if two are equal
 abbrev by_head : Key → Key → Ordering
 by_head key next =
     ordering_then (nat_cmp key.head next.head) (slice_cmp nat_cmp (units_at key) (units_at next))
@@ -179,14 +179,14 @@ lower_head o p less = ap (λ first. is_lt (ordering_then first p)) less
 level_head : (o p : Ordering) → o ≡ Equal → p ≡ Less → is_lt (ordering_then o p) ≡ true
 level_head o p equal less = ap (λ first. is_lt (ordering_then first p)) equal ∙ ap is_lt less
 
--- what stands behind the shared units is compared
+-- the units after the shared prefix are compared
 compared : (front : ℕ) (first us vs : List ℕ) → take front us ≡ take front first → take front vs ≡ take front first → slice_cmp nat_cmp us vs ≡ slice_cmp nat_cmp (drop front us) (drop front vs)
 compared front first us vs shared_us shared_vs =
     let whole_us : us ≡ take front first ++ drop front us = sym (take-append-drop front us) ∙ ap (λ (ws : List ℕ). ws ++ drop front us) shared_us in
     let whole_vs : vs ≡ take front first ++ drop front vs = sym (take-append-drop front vs) ∙ ap (λ (ws : List ℕ). ws ++ drop front vs) shared_vs in
     ap (λ (ws : List ℕ). slice_cmp nat_cmp ws vs) whole_us ∙ ap (λ (ws : List ℕ). slice_cmp nat_cmp (take front first ++ drop front us) ws) whole_vs ∙ compared_behind (take front first) (drop front us) (drop front vs)
 
--- of two texts the lower has no higher head
+-- the lower of two strings has no larger sort prefix
 no_higher_head : (front : ℕ) (first us vs : List ℕ) → take front us ≡ take front first → take front vs ≡ take front first → slice_cmp nat_cmp us vs ≡ Less → head_of 8 (drop front us) ≤ head_of 8 (drop front vs)
 no_higher_head front first us vs shared_us shared_vs less =
     monotone 8 (drop front us) (drop front vs) (sym (compared front first us vs shared_us shared_vs) ∙ less)
@@ -196,7 +196,7 @@ no_higher front first key next is is_next less =
     let most = no_higher_head front first (units_at key) (units_at next) is.0 is_next.0 less in
     omega (arith, most, is.1, is_next.1)
 
--- a text that is lower goes first by its head too
+-- a lower string goes first by its sort prefix too
 lower_first : (front : ℕ) (first : List ℕ) (key next : Key) → IsHeaded front first key → IsHeaded front first next → slice_cmp nat_cmp (units_at key) (units_at next) ≡ Less → is_lt (by_head key next) ≡ true
 lower_first front first key next is is_next less =
     let most = no_higher front first key next is is_next less in
@@ -213,7 +213,7 @@ are_headed front first keys shared k d within =
     let h : k < length keys = omega (arith, within, length-map keys (with_head front)) in
     subst (IsHeaded front first) (sym (get_or-map (with_head front) keys k d d h)) (shared k d h, refl)
 
--- keys in the order of their heads are in the order of their texts
+-- keys sorted by sort prefixes are sorted by their strings
 pub sorted_from_heads : (front : ℕ) (first : List ℕ) (before after : List Key) → All (λ key. take front (units_at key) ≡ take front first) before → IsPermutation (map (with_head front) before) after → IsSorted by_head after → IsSorted (on units_at (slice_cmp nat_cmp)) (map headless after)
 sorted_from_heads front first before after shared moved sorted k d low high =
     let within : k + 1 < length after = omega (arith, high, length-map after headless) in
@@ -233,12 +233,12 @@ headless_again front (key ∷ keys) none =
     let first : headless (with_head front key) ≡ key = ap (λ (n : ℕ). record { text = key.text; rank = key.rank; place = key.place; head = n }) (sym (none 0 key (omega arith))) in
     ap (λ (k : Key). k ∷ map headless (map (with_head front) keys)) first ∙ ap (λ (ks : List Key). key ∷ ks) (headless_again front keys (λ k d within. none (suc k) d (omega arith)))
 
--- the keys have moved, and nothing else
+-- the keys were moved, and nothing else
 pub moved_by_heads : (front : ℕ) (before after : List Key) → AreHeadless before → IsPermutation (map (with_head front) before) after → IsPermutation before (map headless after)
 moved_by_heads front before after none moved =
     subst (λ (ks : List Key). IsPermutation ks (map headless after)) (headless_again front before none) (IsPermutation-map headless (map (with_head front) before) after moved)
 
--- the heads of keys in another order
+-- the sort prefixes of keys in another order
 pub headed_moved : (front : ℕ) (first : List ℕ) (before after : List Key) → All (λ key. take front (units_at key) ≡ take front first) before → IsPermutation (map (with_head front) before) after → AreHeaded after
 headed_moved front first before after shared moved = record {
   front = front;
@@ -254,12 +254,12 @@ headed_two keys i j x y first second x_is y_is are = record {
   each = two (IsHeaded are.front are.first) x y (subst (IsHeaded are.front are.first) (sym x_is) (are.each i x first)) (subst (IsHeaded are.front are.first) (sym y_is) (are.each j y second));
 }
 
--- the texts are those of the keys without heads
+-- the strings do not change if sort prefixes are removed
 pub units_headless : (keys : List Key) → map units_at (map headless keys) ≡ map units_at keys
 units_headless [] = refl
 units_headless (key ∷ keys) = ap (λ (us : List (List ℕ)). units_at key ∷ us) (units_headless keys)
 
--- of two texts in whichever order the lower has no higher head
+-- the string with the smaller sort prefix is the lower
 pub lower_by_head : (front : ℕ) (first us vs : List ℕ) (o : Ordering) → take front us ≡ take front first → take front vs ≡ take front first → slice_cmp nat_cmp us vs ≡ o → head_of 8 (drop front us) < head_of 8 (drop front vs) → o ≡ Less
 lower_by_head front first us vs Less shared_us shared_vs order below = refl
 lower_by_head front first us vs Equal shared_us shared_vs order below =
@@ -271,7 +271,7 @@ not_lower : (front : ℕ) (first : List ℕ) (key next : Key) → IsHeaded front
 not_lower front first key next is is_next below =
     lower_by_head front first (units_at key) (units_at next) (slice_cmp nat_cmp (units_at key) (units_at next)) is.0 is_next.0 refl (omega (arith, below, is.1, is_next.1))
 
--- two keys of different heads compare by these
+-- two keys with different sort prefixes compare by these
 pub below_by_heads : (key next : Key) → AreHeaded (key ∷ next ∷ []) → (key.head ≡ next.head → ⊥) → (key.head < next.head) ↔ (slice_cmp nat_cmp (units_at key) (units_at next) ≡ Less)
 below_by_heads key next are apart =
     let is = are.each 0 key (omega arith) in

@@ -1,4 +1,4 @@
--- Items and keys that references spell in turn, and the first of them that is refused.
+-- Items and keys that references are to, and the first of them that is refused.
 use Rattle.std.proofs.Common.{ℕ, List, ◌≡◌, ◌+◌, ◌≤◌, [], ◌∷◌, ◌++◌, refl, arith, ◌<◌, subst, ◌*◌, length, Ok, sym, ap, ⊎_elim, inl, inr, suc, take, drop, drop-cons, slice_index, ◌∙◌}
 use Rattle.plist_value.specs.Plist.{Plist, scalar, list, table, Items, no_items, item, AreItems, IsPlist, text}
 use Rattle.plist_object.specs.Objects.{Held, holds_scalar, holds_list, holds_table}
@@ -19,13 +19,13 @@ use Rattle.plist_binary.specs.Faults.{IsText}
 use Rattle.std.proofs.lemmas.List.{take_more, take-append-drop, get_or_default}
 use Rattle.std.specs.List.{Contains}
 
--- what spells a value holds something
+-- an object that encodes a value can be decoded
 pub Spells-held : (f : List ℕ) (i : ℕ) (v : Plist) → Spells f i v → (held : Held) × Holds f i held
 Spells-held f i (scalar s) spells = (holds_scalar s, spells)
 Spells-held f i (list vs) spells = (holds_list spells.0, spells.1.0)
 Spells-held f i (table ps) spells = (holds_table spells.0 spells.1.0, spells.1.1.1.0)
 
--- Items that references spell in turn, one more and one after another.
+-- Items that references are to: one more, and one list after another.
 
 pub SpellItems-push : (f xs : List ℕ) (vs : Items) (i : ℕ) (v : Plist) → SpellItems f xs vs → Spells f i v → SpellItems f (xs ++ i ∷ []) (push vs v)
 SpellItems-push f [] no_items i v spell one = (one, refl)
@@ -34,7 +34,7 @@ SpellItems-push f [] (item w vs) i v spell one = absurd spell
 SpellItems-push f (x ∷ xs) (item w vs) i v spell one =
     (spell.0, SpellItems-push f xs vs i v spell.1 one)
 
--- the items, and others behind them
+-- the items, followed by others
 abbrev pub join : Items → Items → Items
 join no_items ws = ws
 join (item v vs) ws = item v (join vs ws)
@@ -63,7 +63,7 @@ pub depth-join : (vs ws : Items) (most : ℕ) → depth_of_items vs ≤ most →
 depth-join no_items ws most deep others = others
 depth-join (item v vs) ws most deep others = omega (arith, depth-join vs ws most (omega (arith, deep)) others, deep)
 
--- the items that the references of two lists spell, taken apart
+-- the items of two lists of references, taken apart
 pub record Parts (f xs ys : List ℕ) (ws : Items) : Type 0 where
   pub front : Items
   pub back : Items
@@ -103,7 +103,7 @@ take_apart f (x ∷ xs) ys (item w ws) spell valid =
       deep_back = omega (arith, rest.deep_back);
     }
 
--- The items of a container, reference after reference.
+-- The items of a container, reference by reference.
 
 pub ReadsItems-push : (f refs : List ℕ) (i levels : ℕ) (before left after : Budget) (vs : Items) (v : Plist) → i < (trailer_of f).count → ReadsItems f refs levels before vs left → Reads f i levels left v after → ReadsItems f (refs ++ i ∷ []) levels before (push vs v) after
 ReadsItems-push f refs i levels before left after vs v listed items one =
@@ -128,7 +128,7 @@ first_refused f i rest levels left (item w ws) none spell valid deep affords =
       payload_there = omega (arith, affords.payload_there);
     }
 
--- those before are spelled by what was read, and the one at i by nothing within what is left
+-- the references before i are to what was read, and i is to nothing that fits
 refused_at : (f refs : List ℕ) (i : ℕ) (rest : List ℕ) (levels : ℕ) (before left : Budget) (vs ws : Items) → ReadsItems f refs levels before vs left → AreItems ws → SpellItems f (refs ++ i ∷ rest) ws → depth_of_items ws ≤ levels → Affords before (nodes_of_items ws) (payload_of_items ws) → ((v : Plist) → IsPlist v → Spells f i v → depth v ≤ levels → Affords left (nodes v) (payload v) → ⊥) → ⊥
 refused_at f refs i rest levels before left vs ws items valid spell deep affords none =
     let parts = take_apart f refs (i ∷ rest) ws spell valid in
@@ -141,7 +141,7 @@ refused_at f refs i rest levels before left vs ws items valid spell deep affords
       payload_there = omega (arith, affords.payload_there, items.spent.payload_left);
     }
 
--- one reference that spells nothing within what is left: none of the items are spelled
+-- if one reference is to nothing that fits, the items do not fit
 pub RefusesItems-at : (f : List ℕ) (whole : Budget) (refs : List ℕ) (i : ℕ) (rest : List ℕ) (levels : ℕ) (before left : Budget) (vs : Items) (fault : BinaryFault) → i < (trailer_of f).count → ReadsItems f refs levels before vs left → Refuses f whole i levels left fault → RefusesItems f whole (refs ++ i ∷ rest) levels before fault
 RefusesItems-at f whole refs i rest levels before left vs fault listed items one =
     record {
@@ -169,7 +169,7 @@ RefusesItems-nowhere f whole before refs container i rest levels left laid leads
       first_nowhere f i rest parts.back above parts.spell_back;
 }
 
--- The keys of a table, reference after reference.
+-- The keys of a dictionary, reference by reference.
 
 pub among_left : (i : ℕ) (xs ys : List ℕ) → Among i xs → Among i (xs ++ ys)
 among_left i [] ys among = absurd among
@@ -187,7 +187,7 @@ Refers-key f j i key = record {
   among = Contains-among i (key.keys ++ key.table.values) (among_left i key.keys key.table.values (Among-contains i key.keys key.among));
 }
 
--- what refuses each value refuses each text
+-- what refuses every value refuses every string
 pub RefusesKey-value : (f : List ℕ) (whole : Budget) (i levels : ℕ) (left : Budget) (fault : BinaryFault) → Refuses f whole i levels left fault → RefusesKey f whole i levels left fault
 RefusesKey-value f whole i levels left fault refused = record {
   stands = refused.stands;
@@ -218,7 +218,7 @@ pub ReadsKeys-push : (f refs : List ℕ) (i levels : ℕ) (before left after : B
 ReadsKeys-push f refs i levels before left after keys units listed read one =
     subst (λ (vs : Items). ReadsItems f (refs ++ i ∷ []) levels before vs after) (sym (texts-push keys units)) (ReadsItems-push f refs i levels before left after (texts keys) (scalar (text units)) listed read one)
 
--- of texts, those behind the first ones
+-- the strings after the first ones
 record Behind (vs : Items) : Type 0 where
   keys : List (List ℕ)
   same : vs ≡ texts keys
@@ -261,14 +261,14 @@ RefusesKeys-at f whole refs i rest levels before left vs fault listed items one 
       none = λ unless keys valid spell deep affords. refused_key_at f refs i rest levels before left vs keys items valid spell deep affords (one.none unless);
     }
 
--- what refuses all items refuses texts
+-- what refuses all items refuses strings
 pub RefusesKeys-items : (f : List ℕ) (whole : Budget) (refs : List ℕ) (levels : ℕ) (left : Budget) (fault : BinaryFault) → RefusesItems f whole refs levels left fault → RefusesKeys f whole refs levels left fault
 RefusesKeys-items f whole refs levels left fault refused = record {
   stands = refused.stands;
   none = λ unless keys. refused.none unless (texts keys);
 }
 
--- One step of a loop over references, by the place of the reference.
+-- One step of a loop over references, by index.
 
 pub around : (refs : List ℕ) (k i : ℕ) → k < length refs → i ≡ slice_index refs k → take k refs ++ (i ∷ drop (suc k) refs) ≡ refs
 around refs k i within is =

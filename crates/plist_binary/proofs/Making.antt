@@ -1,4 +1,4 @@
--- What an object spells, from what its content, its items or its pairs took of the budget.
+-- What an object encodes, from what its content, its items or its pairs took of the budget.
 use Rattle.std.proofs.Common.{◌≡◌, ℕ, ◌+◌, ◌<◌, ◌≤◌, List, Ok, length, ◌∙◌, ap, subst, arith, ◌∷◌, refl, true, false, sym, ⊎_elim, inl, inr}
 use Rattle.std.specs.List.{zip, Contains}
 use Rattle.std.specs.List.Sorted.{IsPermutation}
@@ -66,7 +66,7 @@ Refuses-payload f whole containers i levels before left s laid begun listed read
       none = λ _ v valid spells deep affords. scalar_refused f i levels before left s v record { listed = listed; reads = reads } node over spells affords;
     }
 
--- a list, whose items are so many levels below
+-- an array, from its items, which may be one level less deep
 pub Reads-list : (f refs : List ℕ) (i levels below : ℕ) (before left after : Budget) (vs : Items) → 1 + below ≡ levels → i < (trailer_of f).count → what_holds f i ≡ Ok (holds_list refs) → Spends before 1 0 left → ReadsItems f refs below left vs after → Reads f i levels before (list vs) after
 Reads-list f refs i levels below before left after vs levels_is listed reads node items =
     record {
@@ -100,7 +100,7 @@ Refuses-list f whole refs i levels below before left fault levels_is listed read
       none = λ unless v valid spells deep affords. list_refused f whole refs i levels below before left fault v levels_is record { listed = listed; reads = reads } node refused unless valid spells deep affords;
     }
 
--- a table, whose pairs are so many levels below
+-- a dictionary, from its pairs, which may be one level less deep
 pub Reads-table : (f keys values : List ℕ) (i levels below : ℕ) (before left after : Budget) (ps : Pairs) → 1 + below ≡ levels → i < (trailer_of f).count → what_holds f i ≡ Ok (holds_table keys values) → Spends before 1 0 left → ReadsPairs f keys values below left ps after → Reads f i levels before (table ps) after
 Reads-table f keys values i levels below before left after ps levels_is listed reads node pairs =
     record {
@@ -134,7 +134,7 @@ Refuses-table f whole keys values i levels below before left fault levels_is lis
       none = λ unless v valid spells deep affords. table_refused f whole keys values i levels below before left fault v levels_is record { listed = listed; reads = reads } node refused unless valid spells deep affords;
     }
 
--- What is known of the objects of a file, where one of them is marked.
+-- What is known of the objects of a file, after one of them is marked.
 
 -- a longer path
 wider : (f path : List ℕ) (j i : ℕ) (state : State) → IsState f path i state → IsState f (j ∷ path) i state
@@ -142,7 +142,7 @@ wider f path j i Unseen is = tt
 wider f path j i Open is = Contains-among i (j ∷ path) (inr (Among-contains i path is))
 wider f path j i (Passed deep n size) is = is
 
--- another one among the containers is among those before the last
+-- another container on the path is one before the last
 earlier : (i j : ℕ) (path : List ℕ) → i ≢ j → Contains (j ∷ path) i → Contains path i
 earlier i j path apart among =
     ⊎_elim
@@ -166,7 +166,7 @@ marked P before after j state i mark here there =
     subst (P i) (sym (mark.elsewhere i apart.1)) (there apart.1))
     (eqb_tells i j)
 
--- the container is open
+-- the container is opened
 pub AreStates-open : (f path : List ℕ) (before after : List State) (j : ℕ) → IsMarked before j Open after → AreStates f path before → AreStates f (j ∷ path) after
 AreStates-open f path before after j mark are = record {
   each = λ i. marked (IsState f (j ∷ path)) before after j Open i mark (Contains-among j (j ∷ path) (inl refl)) (λ _. wider f path j i (state_of before i) (are.each i));
@@ -177,7 +177,7 @@ AreStates-open f path before after j mark are = record {
       (eqb_tells i j);
 }
 
--- the object was passed, and leaves the path
+-- the object was visited, and leaves the path
 pub AreStates-passed : (f path : List ℕ) (before after : List State) (j : ℕ) (memo : Memo) → IsMarked before j (Passed memo.depth memo.nodes memo.payload) after → IsMemo f j memo → ¬ Contains path j → AreStatesBut f path j before → AreStates f path after
 AreStates-passed f path before after j memo mark is new are = record {
   each = λ i. marked (IsState f path) before after j (Passed memo.depth memo.nodes memo.payload) i mark is (are.each i);
@@ -197,11 +197,11 @@ AreStates-last f path states j are = record {
   opened = λ i apart among. are.opened i (Contains-among i (j ∷ path) (inr (Among-contains i path among)));
 }
 
--- what is open is on the path
+-- an open object is on the path
 pub Open-among : (f path : List ℕ) (states : List State) (i : ℕ) → AreStates f path states → state_of states i ≡ Open → Among i path
 Open-among f path states i are is =
     Among-contains i path (subst (IsState f path i) is (are.each i))
 
--- what was passed has its memo
+-- a visited object has its memo
 pub Passed-memo : (f path : List ℕ) (states : List State) (i : ℕ) (memo : Memo) → AreStates f path states → state_of states i ≡ Passed memo.depth memo.nodes memo.payload → IsMemo f i memo
 Passed-memo f path states i memo are is = subst (IsState f path i) is (are.each i)

@@ -24,7 +24,7 @@ use Rattle.plist_binary.proofs.Rows.{pull}
 use Rattle.plist_value.proofs.Items.{items_of-push, depth-push}
 use Rattle.plist_binary.proofs.TableSteps.{ReadsPairs-sorted, pairs_sorted, depth-texts, length-texts, length-items}
 
--- a value that is known, and fits into what is left
+-- a value that is known and fits
 pub Passes-memo : (f : List ℕ) (i levels : ℕ) (before after : Budget) (memo : Memo) → IsMemo f i memo → memo.depth ≤ levels → Spends before memo.nodes memo.payload after → Passes f i levels before memo.depth after
 Passes-memo f i levels before after memo is fits spent =
     record {
@@ -42,7 +42,7 @@ Passes-memo f i levels before after memo is fits spent =
       within = fits;
     }
 
--- what was passed is known then
+-- what was passed is known afterwards
 pub IsMemo-passed : (f : List ℕ) (i levels : ℕ) (before after : Budget) (deep : ℕ) (memo : Memo) → Passes f i levels before deep after → after.nodes + memo.nodes ≡ before.nodes → after.payload + memo.payload ≡ before.payload → memo.depth ≡ deep → IsMemo f i memo
 IsMemo-passed f i levels before after deep memo passed nodes_gone payload_gone depth_is = record {
   value = passed.value;
@@ -77,7 +77,7 @@ Passes-table f keys values i levels below before left after deep levels_is liste
   within = omega (arith, passed.within);
 }
 
--- one item more
+-- one more item
 pub PassesItems-next : (f refs : List ℕ) (k i levels : ℕ) (before left after : Budget) (deepest deep : ℕ) → k < length refs → i ≡ slice_index refs k → i < (trailer_of f).count → PassesItems f (take k refs) levels before deepest left → Passes f i levels left deep after → PassesItems f (take (k + 1) refs) levels before (max deepest deep) after
 PassesItems-next f refs k i levels before left after deepest deep within is listed items one =
     let pushed = items_of-push items.values one.value in
@@ -88,7 +88,7 @@ PassesItems-next f refs k i levels before left after deepest deep within is list
       within = omega (arith, items.within, one.within);
     }
 
--- keys that were read, and are in order then, and values that were passed
+-- keys that were read, and have a sorted order, and values that were passed
 pub PassesPairs-sorted : (f keys values : List ℕ) (levels : ℕ) (before left after : Budget) (us sorted : List (List ℕ)) (deep : ℕ) → length keys ≡ length values → ReadsItems f keys levels before (texts us) left → PassesItems f values levels left deep after → IsPermutation us sorted → IsStrictlySortedBy (slice_cmp nat_cmp) sorted → PassesPairs f keys values levels before deep after
 PassesPairs-sorted f keys values levels before left after us sorted deep long read passed moved ascend =
     let vs = passed.values in

@@ -1,4 +1,4 @@
--- The keys of a table at their places, and in another order.
+-- The keys of a dictionary at their places, and in another order.
 use Rattle.std.proofs.Common.{◌≡◌, ℕ, zero, suc, ◌==◌, ◌+◌, ◌<◌, ◌≤◌, List, [], ◌∷◌, ◌++◌, length, get_or, map, false, refl, sym, ap, ◌∙◌, subst, ⊎_elim, length-append, arith}
 use Rattle.std.specs.List.{All, IsDistinct, zip}
 use Rattle.std.specs.List.Sorted.{IsPermutation}
@@ -32,7 +32,7 @@ zip_from n (key ∷ keys) all (v ∷ vs) long placed there =
     ap (λ (w : Value). (units_at key, w) ∷ zip (map units_at keys) vs) (sym value)
     ∙ ap (λ (l : List (List ℕ × Value)). pair_at all key ∷ l) (zip_from (suc n) keys all vs (omega arith) placed_next there_next)
 
--- the keys in turn, each with its value
+-- the keys in order, each with its value
 pub zip-placed : (keys : List Key) (vs : List Value) → length keys ≡ length vs → AreInPlace keys → zip (map units_at keys) vs ≡ map (pair_at vs) keys
 zip-placed keys vs long placed =
     zip_from 0 keys vs vs long (λ k d h. let at = placed k d h in omega arith) (λ k d. let at : 0 + k ≡ k = omega arith in ap (λ (p : ℕ). get_or vs p d) at)

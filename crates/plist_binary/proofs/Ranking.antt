@@ -1,4 +1,4 @@
--- Keys that are compared by the ranks of their texts.
+-- Keys that are compared by their sort positions.
 use Rattle.std.proofs.Common.{◌≡◌, ℕ, zero, suc, ◌+◌, ◌<◌, List, [], ◌∷◌, length, get_or, subst, sym, ap, ◌∙◌, arith, refl, Some, None}
 use Rattle.std.specs.Prelude.{Option, true, false, All, IsTrue, ◌↔◌}
 use Rattle.std.specs.declared.cmp.Ordering.TheVariants.{Less}
@@ -32,7 +32,7 @@ alike keys i j x y first second x_is y_is are = record {
   each = two (IsRanked are.texts) x y (subst (IsRanked are.texts) (sym x_is) (are.each i x first)) (subst (IsRanked are.texts) (sym y_is) (are.each j y second));
 }
 
--- in another order
+-- keys in another order
 pub AreRanked-moved : (before after : List Key) → IsPermutation before after → AreRanked before → AreRanked after
 AreRanked-moved before after moved are = record {
   texts = are.texts;
@@ -40,7 +40,7 @@ AreRanked-moved before after moved are = record {
   each = All-permutation (IsRanked are.texts) before after moved are.each;
 }
 
--- of two keys among the same texts the lower has the lower rank
+-- the lower of two keys has the lower sort position
 below_by_rank : (texts : List (List ℕ)) (key next : Key) (rank above : ℕ) → IsStrictlySortedBy (slice_cmp nat_cmp) texts → IsRanked texts key → IsRanked texts next → key.rank ≡ Some rank → next.rank ≡ Some above → (rank < above) ↔ (slice_cmp nat_cmp (units_at key) (units_at next) ≡ Less)
 below_by_rank texts key next rank above ascending ranked ranked_next is is_next =
     let first = ranked rank is in
@@ -68,7 +68,7 @@ not_lt r s (Some a) (Some b) is is_next order below =
 not_lt r s None p is is_next order below = absurd cc
 not_lt r s (Some a) None is is_next order below = absurd cc
 
--- keys in the order of their ranks are in the order of their texts
+-- keys sorted by sort positions are sorted by their strings
 pub sorted_from_ranks : (keys : List Key) → AreRanked keys → All HasRank keys → IsSorted (on (λ (key : Key). key.rank) (option_cmp nat_cmp)) keys → IsSorted (on units_at (slice_cmp nat_cmp)) keys
 sorted_from_ranks keys are all sorted k d low high =
     let key = get_or keys k d in
@@ -81,7 +81,7 @@ sorted_from_ranks keys are all sorted k d low high =
     let below = (below_by_rank are.texts next key second.0 first.0 are.ascending (are.each (k + 1) d (omega arith)) (are.each k d (omega arith)) second.1 first.1).1 less in
     not_lt second.0 first.0 next.rank key.rank second.1 first.1 order below)
 
--- a key that was read has the rank of its object
+-- a key that was read has the sort position of its object
 pub IsRanked-read : (f : List ℕ) (ranks : Ranks) (i : ℕ) (key : Key) → AreRanks f ranks → key.rank ≡ rank_of ranks i → Holds f i (holds_scalar (text (units_at key))) → IsRanked (texts_of ranks) key
 IsRanked-read f ranks i key sound is holds rank some =
     let here : rank_of ranks i ≡ Some rank = sym is ∙ some in
@@ -89,11 +89,11 @@ IsRanked-read f ranks i key sound is holds rank some =
     let e = same_held f i (holds_scalar (text (get_or (texts_of ranks) rank []))) (holds_scalar (text (units_at key))) there.0 holds in
     (sound.within i rank here, cc)
 
--- a key without a rank
+-- a key without a sort position
 pub IsRanked-none : (key : Key) → key.rank ≡ None → IsRanked [] key
 IsRanked-none key none rank some = absurd (let e : None ≡ Some rank = sym none ∙ some in cc)
 
--- no keys have ranks
+-- no keys have sort positions
 pub AreRanked-none : (keys : List Key) → All (IsRanked []) keys → AreRanked keys
 unfolding IsStrictlySortedBy
 AreRanked-none keys each = record { texts = []; ascending = tt; each = each }

@@ -1,4 +1,4 @@
--- Rows in the order of their heads stand for texts in their order.
+-- Rows sorted by their sort prefixes stand for strings in sorted order.
 use Rattle.std.proofs.Common.{◌≡◌, ℕ, zero, suc, ◌+◌, ◌-◌, ◌<◌, ◌≤◌, List, [], ◌∷◌, ◌++◌, length, get_or, set, map, take, drop, refl, sym, ap, ◌∙◌, subst, ⊎_elim, arith}
 use Rattle.std.specs.Prelude.{All}
 use Rattle.std.specs.Ordering.{nat_cmp}
@@ -45,7 +45,7 @@ map_swaps f xs [] = refl
 map_swaps {A} {B} f xs (move ∷ moves) =
     map_swap f (apply_swaps xs moves) move.0 move.1 ∙ ap (λ (ys : List B). swap ys move.0 move.1) (map_swaps f xs moves)
 
--- where all texts share units at the front, those at their places do
+-- if all strings share a prefix, those at the places do
 shared_at : (front : ℕ) (first : List ℕ) (texts : List (List ℕ)) → All (λ units. take front units ≡ take front first) texts → All (λ place. take front (text_at texts place) ≡ take front first) (all_places texts)
 shared_at front first texts shared k d within =
     let inside : k < length texts = omega (arith, within, length-range_with_len 0 (length texts)) in
@@ -84,7 +84,7 @@ places_of_rows front texts [] = refl
 places_of_rows front texts (place ∷ places) =
     ap (λ (ps : List ℕ). place ∷ ps) (places_of_rows front texts places)
 
--- the places of rows whose heads ascend
+-- the places of rows with ascending sort prefixes
 pub ordered_by_heads : (front : ℕ) (first : List ℕ) (refs : List TextRef) (rows : List Row) (places : List ℕ) → All (λ text. take front (units_of text) ≡ take front first) refs → IsPermutation (map (row_of front (map units_of refs)) (all_places (map units_of refs))) rows → HeadsAscend (length rows) rows → places ≡ map place_in rows → AreOrdered (map units_of refs) places
 ordered_by_heads front first refs rows places shared moved heads are =
     let texts = map units_of refs in
@@ -103,7 +103,7 @@ ordered_by_heads front first refs rows places shared moved heads are =
       ascend = subst (λ (ps : List ℕ). TextsAscend texts ps) at (ascend_by_heads front first texts sorted shares ascend);
     }
 
--- a row more, of the next text
+-- one more row, of the next string
 pub row_more : (front i : ℕ) (texts : List TextRef) (text : TextRef) (head place : ℕ) (rows : List Row) → i < length texts → text ≡ get_or texts i text → head ≡ head_of 8 (drop front (units_of text)) → place ≡ i → rows ≡ map (row_of front (map units_of texts)) (range_with_len 0 i) → rows ++ (record { head = head; run = 0; place = place }) ∷ [] ≡ map (row_of front (map units_of texts)) (range_with_len 0 (i + 1))
 row_more front i texts text head place rows within is head_is place_is before =
     let made = row_of front (map units_of texts) in
@@ -114,7 +114,7 @@ row_more front i texts text head place rows within is head_is place_is before =
     ∙ ap (λ (r : Row). map made (range_with_len 0 i) ++ r ∷ []) next
     ∙ sym (map-range_with_len_more made 0 i i (omega arith))
 
--- one row more has a higher head than that before it
+-- one more row, with a larger sort prefix than the one before
 pub heads_more : (i : ℕ) (rows : List Row) (d e : Row) → 1 ≤ i → i < length rows → (get_or rows (i - 1) d).head < (get_or rows i e).head → HeadsAscend i rows → HeadsAscend (i + 1) rows
 heads_more i rows d e some within last before k b h =
     ⊎_elim
@@ -129,7 +129,7 @@ heads_more i rows d e some within last before k b h =
     omega (arith, last, less, more))
     (cases_lt (k + 1) i)
 
--- Rows that keep their places, and rows in the order of their texts.
+-- Rows that keep their places, and rows in the order of their strings.
 
 -- a row is changed, and keeps its place
 pub same_places : (rows : List Row) (i : ℕ) (row d : Row) → i < length rows → place_in row ≡ place_in (get_or rows i d) → map place_in (set rows i row) ≡ map place_in rows
@@ -139,7 +139,7 @@ same_places (first ∷ rows) zero row d within same =
 same_places (first ∷ rows) (suc i) row d within same =
     ap (λ (ps : List ℕ). place_in first ∷ ps) (same_places rows i row d (omega arith) same)
 
--- the rows of texts, in another order
+-- the rows of strings, in another order
 pub moved_places : (front : ℕ) (texts : List (List ℕ)) (rows : List Row) → IsPermutation (map (row_of front texts) (all_places texts)) rows → IsPermutation (all_places texts) (map place_in rows)
 moved_places front texts rows moved =
     subst (λ (ps : List ℕ). IsPermutation ps (map place_in rows)) (places_of_rows front texts (all_places texts)) (IsPermutation-map place_in (map (row_of front texts) (all_places texts)) rows moved)
@@ -160,31 +160,31 @@ sorted_again n places rows marked read written sorted seen moved same again long
     let after : IsPermutation read seen = subst (λ (rs : List Row). IsPermutation rs seen) is (subst (λ (rs : List Row). IsPermutation written rs) (sym now) order) in
     IsPermutation-trans places (map place_in read) (map place_in seen) before (IsPermutation-map place_in read seen after)
 
--- the text that is read at a row's place
+-- the string that is read at a row's place
 read_text : (texts : List TextRef) (row : Row) (text : TextRef) → row.place < length texts → text ≡ get_or texts row.place text → text_at (map units_of texts) row.place ≡ units_of text
 read_text texts row text within is =
     get_or-map units_of texts row.place text [] within ∙ ap units_of (sym is)
 
--- the texts that are read at the places of two rows
+-- the strings that are read at the places of two rows
 pub texts_below : (texts : List TextRef) (row next : Row) (text above : TextRef) → row.place < length texts → text ≡ get_or texts row.place text → next.place < length texts → above ≡ get_or texts next.place above → slice_cmp nat_cmp (units_of text) (units_of above) ≡ Less → slice_cmp nat_cmp (text_at (map units_of texts) row.place) (text_at (map units_of texts) next.place) ≡ Less
 texts_below texts row next text above within is within_next is_next less =
     ap (λ (us : List ℕ). slice_cmp nat_cmp us (text_at (map units_of texts) next.place)) (read_text texts row text within is)
     ∙ ap (λ (us : List ℕ). slice_cmp nat_cmp (units_of text) us) (read_text texts next above within_next is_next)
     ∙ less
 
--- the texts at the places of rows
+-- the strings at the places of rows
 texts_of_rows : (texts : List (List ℕ)) (rows : List Row) → map (λ row. text_at texts (place_in row)) rows ≡ map (text_at texts) (map place_in rows)
 texts_of_rows texts [] = refl
 texts_of_rows texts (row ∷ rows) =
     ap (λ (us : List (List ℕ)). text_at texts (place_in row) ∷ us) (texts_of_rows texts rows)
 
--- rows of which the text of each is below that of the next
+-- rows each of whose strings is below that of the next
 pub rows_ascend : (texts : List (List ℕ)) (rows : List Row) → AscendTo (length rows) (map (λ row. text_at texts (place_in row)) rows) → TextsAscend texts (map place_in rows)
 rows_ascend texts rows ascend =
     let us = map (λ row. text_at texts (place_in row)) rows in
     subst (λ (us : List (List ℕ)). IsStrictlySortedBy (slice_cmp nat_cmp) us) (texts_of_rows texts rows) (sorted_from_ascent us (λ k h. ascend k (omega (arith, length-map rows (λ row. text_at texts (place_in row))))))
 
--- the places of rows whose texts ascend
+-- the places of rows with ascending strings
 pub ordered_by_texts : (texts : List (List ℕ)) (rows : List Row) (places : List ℕ) → IsPermutation (all_places texts) (map place_in rows) → TextsAscend texts (map place_in rows) → places ≡ map place_in rows → AreOrdered texts places
 ordered_by_texts texts rows places moved ascend are = record {
   moved = subst (λ (ps : List ℕ). IsPermutation (all_places texts) ps) (sym are) moved;

@@ -1,4 +1,4 @@
--- The rows of a table in the order of the file, and in the order of the keys.
+-- The rows of a dictionary in the order of the file, and in the order of the keys.
 use Rattle.std.proofs.Common.{◌≡◌, ℕ, ◌+◌, ◌*◌, ◌<◌, ◌≤◌, List, [], ◌∷◌, length, get_or, set, map, refl, sym, ap, ◌∙◌, arith}
 use Rattle.std.specs.declared.cmp.Ordering.TheVariants.{Less}
 use Rattle.std.specs.Ordering.{nat_cmp}
@@ -49,7 +49,7 @@ pull_swap g xs l i j h k pulled =
       maps = map-swap g zs i j (omega arith) (omega arith) ∙ ap (λ l. swap l i j) pulled.maps;
     }
 
--- an order of what a list maps to is one of the list
+-- a permutation of a mapped list comes from one of the list
 pub pull : {A B : Type 0} (g : A → B) (xs : List A) (ys : List B) → IsPermutation (map g xs) ys → Pulled g xs ys
 pull g xs ys moved =
     IsPermutation-keeps (map g xs) (λ l. Pulled g xs l) record { moved_list = xs; moved = IsPermutation-refl xs; maps = refl } (λ l i j h k pulled. pull_swap g xs l i j h k pulled) ys moved
@@ -58,7 +58,7 @@ pull g xs ys moved =
 abbrev pub Row : Type 0
 Row = (ℕ × ℕ) × (List ℕ × Plist)
 
--- the references spell the key and the value, of at most so many levels
+-- the references are to the key and to the value, which is at most `levels` deep
 pub record IsRow (f : List ℕ) (levels : ℕ) (r : Row) : Type 0 where
   pub key : Holds f r.0.0 (holds_scalar (text r.1.0))
   pub value : Spells f r.0.1 r.1.1
@@ -85,7 +85,7 @@ nodes_of_pair p = 1 + nodes p.1
 abbrev pub payload_of_pair : List ℕ × Plist → ℕ
 payload_of_pair p = 2 * length p.0 + payload p.1
 
--- from pairs that rows spell
+-- from pairs that the rows are to
 
 pub length-listed : (f : List ℕ) (rows : List (ℕ × ℕ)) (ps : Pairs) → SpellPairs f rows ps → length rows ≡ length (listed ps)
 length-listed f [] no_pairs spell = refl
@@ -131,7 +131,7 @@ keys_ascend (pair key v ps) valid = (keys_above key ps valid.3 valid.2, keys_asc
 pub keys_distinct : (ps : Pairs) → ArePairs ps → IsDistinct same_key (keys_of (listed ps))
 keys_distinct ps valid = distinct_from_ascent (keys_of (listed ps)) (keys_ascend ps valid)
 
--- to keys and values in turn
+-- to the keys and the values separately
 
 abbrev pub key_refs : List Row → List ℕ
 key_refs rs = map (λ (p : ℕ × ℕ). p.0) (map (λ (r : Row). r.0) rs)
@@ -167,7 +167,7 @@ pub payload-rows : (ps : List (List ℕ × Plist)) → sum_by payload_of_pair ps
 payload-rows [] = refl
 payload-rows (p ∷ ps) = omega (arith, payload-rows ps, sum_by-cons payload_of_pair p ps)
 
--- from keys and values in turn
+-- from the keys and the values separately
 
 pub AreRows-items : (f : List ℕ) (levels : ℕ) (keys values : List ℕ) (us : List (List ℕ)) (vs : List Plist) → length us ≡ length vs → SpellItems f keys (texts us) → SpellItems f values (items_of vs) → AreItems (texts us) → AreItems (items_of vs) → depth_of_items (texts us) ≤ levels → depth_of_items (items_of vs) ≤ levels → AreRows f levels (zip (zip keys values) (zip us vs)) × (length (zip keys values) ≡ length (zip us vs))
 AreRows-items f levels [] values [] vs long spell_keys spell_values valid_keys valid_values deep_keys deep_values = (tt, refl)

@@ -1,4 +1,4 @@
--- The keys of a table as they are kept, recalled and sorted.
+-- The keys of a dictionary as they are kept, recalled and sorted.
 use Rattle.std.proofs.Common.{◌≡◌, ℕ, ◌-◌, ◌≤◌, List, [], ◌∷◌, length, refl, arith, zero, suc, ◌+◌, ◌<◌, ◌++◌, Ok, get_or, map, take, drop, slice_index, sym, ap, subst, ◌∙◌}
 use Rattle.std.specs.Ordering.{nat_cmp}
 use Rattle.std.specs.Cmp.Lexicographic.{slice_cmp}
@@ -35,7 +35,7 @@ depth-one : (keys : List (List ℕ)) → depth_of_items (texts keys) ≤ 1
 depth-one [] = omega arith
 depth-one (key ∷ keys) = omega (arith, depth-one keys)
 
--- keys that are known, and fit into what is left
+-- keys that are known and fit
 pub ReadsApart-known : (f refs : List ℕ) (levels payload : ℕ) (before after : Budget) → SpellApart f refs payload → 1 ≤ levels → Spends before (length refs) payload after → ReadsApart f refs levels before after
 ReadsApart-known f refs levels payload before after known some spent =
     let one = depth-one known.keys in
@@ -55,7 +55,7 @@ ReadsApart-known f refs levels payload before after known some spent =
       apart = known.apart;
     }
 
--- keys that were read, and are in order then
+-- keys that were read, and have a sorted order
 pub ReadsApart-sorted : (f refs : List ℕ) (levels : ℕ) (before after : Budget) (keys sorted : List (List ℕ)) → ReadsItems f refs levels before (texts keys) after → IsPermutation keys sorted → IsStrictlySortedBy (slice_cmp nat_cmp) sorted → ReadsApart f refs levels before after
 ReadsApart-sorted f refs levels before after keys sorted reads moved ascend = record {
   keys = keys;
@@ -63,7 +63,7 @@ ReadsApart-sorted f refs levels before after keys sorted reads moved ascend = re
   apart = record { sorted = sorted; moved = moved; ascend = ascend };
 }
 
--- they are known then
+-- such keys are known afterwards
 pub SpellApart-read : (f refs : List ℕ) (levels payload : ℕ) (before after : Budget) → ReadsApart f refs levels before after → payload ≡ before.payload - after.payload → SpellApart f refs payload
 SpellApart-read f refs levels payload before after read is = record {
   keys = read.keys;
@@ -75,11 +75,11 @@ SpellApart-read f refs levels payload before after read is = record {
 
 -- The places of keys that were read and sorted.
 
--- each key stands at its place, counted from n
+-- the place of each key is its index, counted from n
 abbrev StandFrom : ℕ → List Key → Type 0
 StandFrom n keys = (k : ℕ) (d : Key) → k < length keys → place_of (get_or keys k d) ≡ n + k
 
--- what stands from n on in the list
+-- the references from n on in the list
 abbrev IsBehind : ℕ → List ℕ → List ℕ → Type 0
 IsBehind n all refs = (k : ℕ) → get_or all (n + k) 0 ≡ get_or refs k 0
 
@@ -94,7 +94,7 @@ first_at : (n i : ℕ) (key : Key) (keys : List Key) (all refs : List ℕ) → S
 first_at n i key keys all refs placed behind =
     ap (λ p. get_or all p 0) (placed zero key (omega arith)) ∙ behind zero
 
--- the reference at the key's place names its text
+-- the reference at the key's place is to its string
 abbrev HoldsKey : List ℕ → List ℕ → Key → Type 0
 HoldsKey f all key = what_holds f (slice_index all (place_of key)) ≡ Ok (holds_scalar (text (units_at key)))
 
@@ -117,7 +117,7 @@ zip_from n (key ∷ keys) all others (i ∷ refs) (j ∷ values) many long place
     let next = zip_from (suc n) keys all others refs values (omega arith) (omega arith) (stand_next n key keys placed) (behind_next n i all refs behind) (behind_next n j others values beside) in
     cc
 
--- the places of the keys once they ascend
+-- the places of the keys, once they ascend
 pub IsOrder-read : (f refs : List ℕ) (keys sorted : List Key) → SpellItems f refs (texts (map units_at keys)) → AreInPlace keys → IsPermutation keys sorted → IsStrictlySortedBy (slice_cmp nat_cmp) (map units_at sorted) → IsOrder f refs (map place_of sorted)
 IsOrder-read f refs keys sorted spell placed moved ascend =
     let many = length-texts f refs (map units_at keys) spell in
@@ -128,7 +128,7 @@ IsOrder-read f refs keys sorted spell placed moved ascend =
     let held = All-from_recursion (HoldsKey f refs) keys (held_from 0 keys f refs refs spell stand (whole refs)) in
     IsOrder-rows place_of units_at f refs sorted (places_within_moved keys sorted (length refs) as_many placed moved) (λ values equal. let pairs = IsPermutation-map (λ key. pair_of refs values (place_of key)) keys sorted moved in subst (λ (ps : List (ℕ × ℕ)). IsPermutation ps (map (λ key. pair_of refs values (place_of key)) sorted)) (sym (zip_from 0 keys refs values refs values as_many equal stand (whole refs) (whole values))) pairs) (All-permutation (HoldsKey f refs) keys sorted moved held) ascend
 
--- each text stands at its place
+-- each string is at its place
 texts_at_places : (us : List (List ℕ)) → us ≡ map (text_at us) (all_places us)
 texts_at_places us = fill_by_all (text_at us) us (length us) [] refl (λ k h. refl)
 
@@ -145,12 +145,12 @@ at_places P us places each moved =
     let same : k ≡ get_or (all_places us) k d = omega arith in
     subst P same (each k inside))
 
--- the texts in their order
+-- the strings in sorted order
 pub texts_moved : (us : List (List ℕ)) (places : List ℕ) → AreOrdered us places → IsPermutation us (map (text_at us) places)
 texts_moved us places are =
     subst (λ (ts : List (List ℕ)). IsPermutation ts (map (text_at us) places)) (sym (texts_at_places us)) (IsPermutation-map (text_at us) (all_places us) places are.moved)
 
--- the places of texts once they ascend
+-- the places of strings, once they ascend
 pub IsOrder-ordered : (f refs : List ℕ) (us : List (List ℕ)) (places : List ℕ) → SpellItems f refs (texts us) → AreOrdered us places → IsOrder f refs places
 IsOrder-ordered f refs us places spell are =
     let long : length refs ≡ length us = length-texts f refs us spell in

@@ -1,4 +1,4 @@
--- A table, from its keys and its values in turn.
+-- A dictionary, from its keys and its values separately.
 use Rattle.std.proofs.Common.{◌≡◌, ℕ, zero, suc, ◌+◌, ◌<◌, ◌≤◌, max, List, [], ◌∷◌, length, get_or, slice_index, map, true, false, refl, sym, ap, ◌∙◌, subst, ⊎_elim, inl, inr, arith}
 use Rattle.std.specs.Prelude.{◌⊎◌}
 use Rattle.std.specs.declared.cmp.Ordering.{Ordering}
@@ -84,7 +84,7 @@ RefusesPairs-keys f whole keys values levels left fault long refused = record {
       };
 }
 
--- the values are refused, behind keys that were read
+-- the values are refused, after keys that were read
 pub RefusesPairs-values : (f : List ℕ) (whole : Budget) (keys values : List ℕ) (levels : ℕ) (before left : Budget) (us : List (List ℕ)) (fault : BinaryFault) → length keys ≡ length values → ReadsItems f keys levels before (texts us) left → RefusesItems f whole values levels left fault → RefusesPairs f whole keys values levels before fault
 RefusesPairs-values f whole keys values levels before left us fault long read refused =
     record {
@@ -205,7 +205,7 @@ RefusesPairs-twice f whole containers keys values table levels before left us la
           not_distinct (subst (λ (l : List (List ℕ)). IsDistinct same_key l) (texts_same apart.us us same) apart.distinct);
     }
 
--- the pairs that keys and values spell, in the order of the keys
+-- the pairs of keys and values, in the order of the keys
 pub record SortedPairs (f keys values : List ℕ) (levels : ℕ) (ps : Pairs) : Type 0 where
   pub rows : List (ℕ × ℕ)
   pub moved : IsPermutation (zip keys values) rows

@@ -1,4 +1,4 @@
--- Small files: the value that one spells, and where faults stand in others.
+-- Small files: the value that one encodes, and where faults are true in others.
 use Rattle.std.proofs.Common.{◌≡◌, ℕ, zero, suc, ◌+◌, ◌*◌, ◌<◌, ◌≤◌, true, List, [], ◌∷◌, ◌++◌, replicate, refl, sym, subst, ⊎_elim, length, take, nat_lt, not-suc-le-zero, lit<, lit≤, inl, arith}
 use Rattle.std.specs.List.{list_all, Contains}
 use Rattle.std.proofs.lemmas.Bool.{and_parts, ltb-true}
@@ -25,8 +25,8 @@ all_under bound (x ∷ xs) h e zero = ltb-true x bound (and_parts (nat_lt x boun
 all_under bound (x ∷ xs) h e (suc i) =
     all_under bound xs h (and_parts (nat_lt x bound) (list_all (λ x. nat_lt x bound) xs) e).1 i
 
--- the end of a file whose numbers have one octet each: so many objects, the first at the top, and
--- the place of the offset table
+-- the end of a file with one-byte offsets and references: the number of objects, object 0 as the
+-- top, and where the offset table begins
 unfoldable end_of : ℕ → ℕ → List ℕ
 end_of count place = replicate 6 0 ++ (1 ∷ 1 ∷ (replicate 7 0 ++ (count ∷ (replicate 15 0 ++ (place ∷ [])))))
 
@@ -50,7 +50,7 @@ laid f count place is some behind ends long headed = record {
   };
 }
 
--- b under a and a under b, the later key first
+-- {b = a; a = b}, the later key first
 unfoldable unsorted : List ℕ
 unsorted = header ++ (210 ∷ 1 ∷ 2 ∷ 2 ∷ 1 ∷ 81 ∷ 98 ∷ 81 ∷ 97 ∷ 8 ∷ 13 ∷ 15 ∷ end_of 3 17)
 
@@ -86,17 +86,17 @@ unsorted-binary =
       fits = record { nodes_fit = lit≤ tt; depth_fits = lit≤ tt; payload_fits = lit≤ tt };
     }
 
--- fewer than 42 octets of it
+-- its first 41 bytes
 short : Stands (take 41 unsorted) TooShort
 unfolding unsorted end_of
 short = lit< tt
 
--- all octets but the last
+-- all its bytes except the last
 unended : Stands (take 51 unsorted) BadTrailer
 unfolding unsorted end_of
 unended = (lit≤ tt, refl, λ fits. not-suc-le-zero fits.offset_width_least)
 
--- the last value comes behind the table, both keys and the first value
+-- the last value comes after the dictionary, both keys and the first value
 unsorted-value : Begins unsorted (0 ∷ []) 1 4 6
 unfolding unsorted end_of
 unsorted-value =
@@ -122,7 +122,7 @@ unsorted-value =
       payload_sum = refl;
     }
 
--- where 7 octets of payload may be, those of the last value are above them
+-- with 7 bytes of payload allowed, those of the last value exceed them
 unsorted-last : StandsWithin unsorted 5 7 (TooMuchPayload 1)
 unfolding unsorted end_of what_holds object_at octets_at marked_object ascii_object content count_of_content
 unsorted-last = record {
@@ -137,7 +137,7 @@ unsorted-last = record {
   above = lit< tt;
 }
 
--- a list that holds a list that holds the first
+-- an array that contains an array that contains the first
 circular : List ℕ
 circular = header ++ (161 ∷ 1 ∷ 161 ∷ 0 ∷ 8 ∷ 10 ∷ end_of 2 12)
 
@@ -162,7 +162,7 @@ circular-cycle = record {
   on_path = (1, lit< tt, refl);
 }
 
--- a list whose item is the list itself: it has no node too many, however few may be
+-- an array whose item is the array itself: it has no node too many, however few are allowed
 own : List ℕ
 own = header ++ (161 ∷ 0 ∷ 8 ∷ end_of 1 10)
 
@@ -176,7 +176,7 @@ own-nodes few most stands = none stands.before stands.payload stands.begins stan
       let only : j ≡ 0 = (let listed = refers.holds.listed in omega (arith, listed)) in
       new (Contains-among 0 (j ∷ before) (inl (sym only)))
 
--- a list whose item is no object
+-- an array whose item is no object
 nowhere : List ℕ
 nowhere = header ++ (161 ∷ 1 ∷ 8 ∷ end_of 1 10)
 
@@ -201,7 +201,7 @@ null-object = record {
   fails = refl;
 }
 
--- a table whose key is a flag
+-- a dictionary whose key is a boolean
 flagged : List ℕ
 flagged = header ++ (209 ∷ 1 ∷ 1 ∷ 9 ∷ 8 ∷ 11 ∷ end_of 2 12)
 
@@ -219,7 +219,7 @@ flagged-key = record {
   no_text = λ none. none;
 }
 
--- a table with one key twice
+-- a dictionary with a duplicate key
 twice : List ℕ
 twice = header ++ (210 ∷ 1 ∷ 2 ∷ 3 ∷ 3 ∷ 81 ∷ 97 ∷ 81 ∷ 97 ∷ 9 ∷ 8 ∷ 13 ∷ 15 ∷ 17 ∷ end_of 4 18)
 
@@ -239,7 +239,7 @@ twice-key = record {
   second_reads = record { listed = lit< tt; reads = refl };
 }
 
--- a list that holds one empty list twice
+-- an array that contains one empty array twice
 unfoldable shared : List ℕ
 shared = header ++ (162 ∷ 1 ∷ 1 ∷ 160 ∷ 8 ∷ 11 ∷ end_of 2 12)
 
@@ -288,7 +288,7 @@ shared-again = record {
   payload_sum = refl;
 }
 
--- where two nodes may be, the third is one too many
+-- with two nodes allowed, the third is one too many
 shared-third : StandsWithin shared 2 0 (TooManyNodes 1)
 unfolding shared end_of trailer
 shared-third = record {
@@ -301,14 +301,14 @@ shared-third = record {
   within = lit≤ tt;
 }
 
--- and the object at the top is not
+-- the object at the top is not one too many
 shared-top : StandsWithin shared 2 0 (TooManyNodes 0) → ⊥
 shared-top stands = top stands.before stands.payload stands.begins where
   top : (before : List ℕ) (payload : ℕ) → Begins shared before 0 2 payload → ⊥
   top [] payload begins = omega (arith, begins.1)
   top (j ∷ before) payload begins = omega (arith, (shared-refers j 0 (Comes-refers shared j 0 begins.values begins.comes)).1)
 
--- the octets 30 30 31 32 33 34 20 6f of a text
+-- the bytes 30 30 31 32 33 34 20 6f of a string
 digits-head : head_of 8 (48 ∷ 48 ∷ 49 ∷ 50 ∷ 51 ∷ 52 ∷ 32 ∷ 111 ∷ 102 ∷ 32 ∷ []) ≡ 3472329404379832431
 digits-head = refl
 
@@ -316,6 +316,6 @@ digits-head = refl
 cut-head : head_of 8 (252 ∷ 256 ∷ 5 ∷ []) ≡ 18230571291595767807
 cut-head = refl
 
--- a unit of 255 is not cut off: ff, 07 and six times 00
+-- a unit of 255 is kept: ff, 07 and six times 00
 highest-head : head_of 8 (255 ∷ 7 ∷ []) ≡ 18376656804508598272
 highest-head = refl

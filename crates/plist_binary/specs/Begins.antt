@@ -1,5 +1,5 @@
--- Where an object begins in the value at the top of a file: what comes before it in preorder. Of a
--- table all keys come before the values.
+-- Where an object begins in the value of a file: what comes before it in preorder. All keys of a
+-- dictionary come before its values.
 use Rattle.std.specs.Prelude.{◌≡◌, ℕ, ◌+◌, ◌<◌, ◌≤◌, List, [], ◌∷◌, ◌++◌, length, Result, Ok, Err}
 use Rattle.std.specs.List.{Contains}
 use Rattle.plist_value.specs.Plist.{Items, AreItems}
@@ -14,14 +14,14 @@ use Rattle.plist_object.specs.Places.{Holds}
 use Rattle.plist_object.specs.Spelled.{SpellItems}
 use Rattle.plist_object.specs.References.{references_of}
 
--- the payload of the text or the data that was read
+-- the payload of the string or data that was decoded
 abbrev pub payload_read : Result Held ObjectFault → ℕ
 payload_read (Ok (holds_scalar s)) = payload_of_scalar s
 payload_read (Ok (holds_list refs)) = 0
 payload_read (Ok (holds_table keys values)) = 0
 payload_read (Err e) = 0
 
--- the object j holds a reference to i, behind references that spell these values in turn
+-- object j holds a reference to i, after references to these values
 pub record Comes (f : List ℕ) (j i : ℕ) (vs : Items) : Type 0 where
   pub held : Held
   pub holds : Holds f j held
@@ -31,8 +31,8 @@ pub record Comes (f : List ℕ) (j i : ℕ) (vs : Items) : Type 0 where
   pub spell : SpellItems f front vs
   pub valid : AreItems vs
 
--- before i come what comes before the container j, which is none of the containers before it, then j
--- itself, and the values of its references before the one to i, none of them too deep
+-- before i come: what comes before the container j, which is not on its own path; j itself; and the
+-- values of its references before the one to i, none of them too deep
 pub record BeginsIn (f before : List ℕ) (begins : ℕ → ℕ → Type 0) (j i nodes payload : ℕ) : Type 0 where
   pub nodes_above : ℕ
   pub payload_above : ℕ
@@ -44,21 +44,21 @@ pub record BeginsIn (f before : List ℕ) (begins : ℕ → ℕ → Type 0) (j i
   pub nodes_sum : nodes ≡ nodes_above + 1 + nodes_of_items values
   pub payload_sum : payload ≡ payload_above + payload_of_items values
 
--- the containers, the last first, lead from the top to i, before which come so many nodes and so
--- much payload
+-- the containers, the last first, lead from the top to i, and this many nodes and this much payload
+-- come before it
 abbrev pub Begins : List ℕ → List ℕ → ℕ → ℕ → ℕ → Type 0
 Begins f [] i nodes payload = (i ≡ (trailer_of f).top) × (nodes ≡ 0) × (payload ≡ 0)
 Begins f (j ∷ before) i nodes payload = BeginsIn f before (Begins f before j) j i nodes payload
 
--- what comes before i took from the whole budget what is gone
+-- what comes before i is what was taken from the whole budget
 pub record IsBegun (f before : List ℕ) (i : ℕ) (whole left : Budget) : Type 0 where
   pub nodes : ℕ
   pub payload : ℕ
   pub begins : Begins f before i nodes payload
   pub spent : Spends whole nodes payload left
 
--- what comes before the container j, which is none of those before it nor too deep, and j itself, took
--- from the whole budget what is gone
+-- what comes before the container j, and j itself, is what was taken from the whole budget; j is
+-- not on its own path nor too deep
 pub record IsEntered (f before : List ℕ) (j : ℕ) (whole left : Budget) : Type 0 where
   pub nodes : ℕ
   pub payload : ℕ
@@ -67,8 +67,8 @@ pub record IsEntered (f before : List ℕ) (j : ℕ) (whole left : Budget) : Typ
   pub shallow : length before < MAX_DEPTH
   pub spent : Spends whole (1 + nodes) payload left
 
--- what comes before these references, which the container j holds one behind another, took from
--- the whole budget what is gone
+-- what comes before these references, which the container j holds one after the other, is what was
+-- taken from the whole budget
 pub record AreNext (f before : List ℕ) (j : ℕ) (refs : List ℕ) (whole left : Budget) : Type 0 where
   pub nodes : ℕ
   pub payload : ℕ

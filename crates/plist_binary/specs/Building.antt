@@ -1,4 +1,4 @@
--- What is made of a file that was judged.
+-- Building the value of a validated file.
 use Rattle.std.specs.Prelude.{◌≡◌, ℕ, ◌≤◌, List, length}
 use Rattle.std.specs.List.{Contains, zip}
 use Rattle.std.specs.List.Sorted.{IsPermutation}
@@ -9,25 +9,25 @@ use Rattle.plist_object.specs.Places.{Holds}
 use Rattle.plist_object.specs.Spelled.{Spells, SpellItems, SpellPairs, SpellsWithin}
 use Rattle.plist_binary.specs.Readings.{texts}
 
--- the object holds something
+-- the object can be decoded
 abbrev pub HoldsSome : List ℕ → ℕ → Type 0
 HoldsSome f i = (held : Held) × Holds f i held
 
--- the object spells a text, with these units
+-- the object is a string with these units
 abbrev pub SpellsUnits : List ℕ → ℕ → List ℕ → Type 0
 SpellsUnits f i units = Holds f i (holds_scalar (text units))
 
 abbrev pub SpellsText : List ℕ → ℕ → Type 0
 SpellsText f i = (units : List ℕ) × SpellsUnits f i units
 
--- each of the references spells one
+-- each of the references is to such an object
 abbrev pub AllSpellWithin : List ℕ → List ℕ → ℕ → Type 0
 AllSpellWithin f refs levels = (i : ℕ) → Contains refs i → SpellsWithin f i levels
 
 abbrev pub AllSpellTexts : List ℕ → List ℕ → Type 0
 AllSpellTexts f refs = (i : ℕ) → Contains refs i → SpellsText f i
 
--- the references to keys and to values spell pairs of at most so many levels
+-- the references to keys and to values are to pairs that are at most `levels` deep
 pub record SpellsPairsWithin (f keys values : List ℕ) (levels : ℕ) : Type 0 where
   pub rows : List (ℕ × ℕ)
   pub pairs : Pairs
@@ -37,7 +37,7 @@ pub record SpellsPairsWithin (f keys values : List ℕ) (levels : ℕ) : Type 0 
   pub valid : ArePairs pairs
   pub deep : depth_of_pairs pairs ≤ levels
 
--- the object spells the value
+-- the object encodes the value, and similarly for references to items, strings and pairs
 pub record IsSpelled (f : List ℕ) (i : ℕ) (v : Plist) : Type 0 where
   pub spells : Spells f i v
   pub valid : IsPlist v

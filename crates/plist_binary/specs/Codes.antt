@@ -1,4 +1,4 @@
--- Which refusal each fault is, its number, and what is printed of it.
+-- The refusal for each fault, its number, and its printed form.
 use Rattle.std.specs.Prelude.{ℕ, List}
 use Rattle.plist_value.specs.Refusals.{number_of, reports, report_text}
 use Rattle.plist_value.specs.declared.refusals.Place.TheVariants as place
@@ -11,13 +11,13 @@ use Rattle.plist_object.specs.declared.object.ObjectFault.TheVariants as object
 use Rattle.plist_binary.specs.declared.fault.BinaryFault.{BinaryFault}
 use Rattle.plist_binary.specs.declared.fault.BinaryFault.TheVariants.{TooShort, BadHeader, BadTrailer, BadOffset, BadReference, CutObject, BadMarker, NullObject, UidObject, SetObject, NotAscii, WideInteger, KeyNotText, DuplicateKey, Cycle, TooDeep, TooManyNodes, TooMuchPayload, OutOfMemory}
 
--- the fault of a layout, as one of the file
+-- the fault of a layout as one of the file
 abbrev pub of_layout : LayoutFault → BinaryFault
 of_layout layout.TooShort = TooShort
 of_layout layout.BadHeader = BadHeader
 of_layout layout.BadTrailer = BadTrailer
 
--- the fault of the object i, as one of the file
+-- the fault of object i as one of the file
 abbrev pub of_object : ℕ → ObjectFault → BinaryFault
 of_object i object.BadOffset = BadOffset i
 of_object i object.CutObject = CutObject i
@@ -28,7 +28,7 @@ of_object i object.SetObject = SetObject i
 of_object i object.NotAscii = NotAscii i
 of_object i object.WideInteger = WideInteger i
 
--- the refusal, and the object that it names
+-- the refusal and the object that it names
 abbrev pub fault_report : BinaryFault → Report
 fault_report TooShort = reports refusal.TooShort place.Nowhere
 fault_report BadHeader = reports refusal.BadHeader place.Nowhere

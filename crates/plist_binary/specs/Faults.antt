@@ -1,4 +1,4 @@
--- Where each fault stands.
+-- Which fault of a file is true, and where.
 use Rattle.std.specs.Prelude.{◌≡◌, ℕ, ◌+◌, ◌<◌, ◌≤◌, List, ◌∷◌, length, slice_index, Err, ⊤}
 use Rattle.std.specs.List.{Contains}
 use Rattle.plist_value.specs.Plist.{text, whole, flag, real4, real8, moment, bytes}
@@ -14,7 +14,7 @@ use Rattle.plist_binary.specs.declared.fault.BinaryFault.TheVariants.{TooShort, 
 use Rattle.plist_binary.specs.Paths.{Refers, EndsPath}
 use Rattle.plist_binary.specs.Begins.{payload_read, Begins}
 
--- i ends a path, and has the fault of its own
+-- i ends a path, and cannot be decoded because of this fault
 pub record IsFaulty (f : List ℕ) (i : ℕ) (fault : ObjectFault) : Type 0 where
   pub ends : EndsPath f i
   pub listed : i < (trailer_of f).count
@@ -27,7 +27,7 @@ pub record RefersNowhere (f : List ℕ) (i : ℕ) : Type 0 where
   pub refers : Refers f i reference
   pub above : (trailer_of f).count ≤ reference
 
--- what is held is a text
+-- the content is a string
 abbrev pub IsText : Held → Type 0
 IsText (holds_scalar (text units)) = ⊤
 IsText (holds_scalar (whole z)) = ⊥
@@ -39,7 +39,7 @@ IsText (holds_scalar (bytes xs)) = ⊥
 IsText (holds_list refs) = ⊥
 IsText (holds_table keys values) = ⊥
 
--- i ends a path, and a key reference of it reads as no text
+-- i ends a path, and one of its keys is not a string
 pub record HasOtherKey (f : List ℕ) (i : ℕ) : Type 0 where
   pub ends : EndsPath f i
   pub keys : List ℕ
@@ -51,7 +51,7 @@ pub record HasOtherKey (f : List ℕ) (i : ℕ) : Type 0 where
   pub reads : Holds f key held
   pub no_text : ¬ IsText held
 
--- i ends a path, and two of its key references read as equal texts
+-- i ends a path, and two of its keys are equal strings
 pub record HasKeyTwice (f : List ℕ) (i : ℕ) : Type 0 where
   pub ends : EndsPath f i
   pub keys : List ℕ
@@ -65,19 +65,19 @@ pub record HasKeyTwice (f : List ℕ) (i : ℕ) : Type 0 where
   pub first_reads : Holds f (slice_index keys first) (holds_scalar (text units))
   pub second_reads : Holds f (slice_index keys second) (holds_scalar (text units))
 
--- i ends a path, and refers to an object of that path, itself included
+-- i ends a path, and refers to an object on that path, which includes i
 pub record ClosesCycle (f : List ℕ) (i : ℕ) : Type 0 where
   pub ends : EndsPath f i
   pub reference : ℕ
   pub refers : Refers f i reference
   pub on_path : Contains (i ∷ ends.before) reference
 
--- i ends a path of one object more than a value may be deep
+-- i ends a path with one object more than the maximum depth
 pub record IsTooDeep (f : List ℕ) (i : ℕ) : Type 0 where
   pub ends : EndsPath f i
   pub long : length ends.before ≡ MAX_DEPTH
 
--- i closes no cycle, and before it come as many nodes as may be, and no more payload than may be
+-- i closes no cycle, and before it come exactly `nodes` nodes and at most `most` payload
 pub record HasNodesBefore (f : List ℕ) (i nodes most : ℕ) : Type 0 where
   pub laid : IsLaid f
   pub listed : i < (trailer_of f).count
@@ -87,8 +87,8 @@ pub record HasNodesBefore (f : List ℕ) (i nodes most : ℕ) : Type 0 where
   pub new : ¬ Contains before i
   pub within : payload ≤ most
 
--- i is not too deep, and before it come fewer nodes than may be, and no more payload than may be, which
--- with that of i is more
+-- i is not too deep, and before it come fewer than `few` nodes and at most `most` payload, which
+-- the payload of i exceeds
 pub record HasPayloadAbove (f : List ℕ) (i few most : ℕ) : Type 0 where
   pub laid : IsLaid f
   pub before : List ℕ
@@ -100,7 +100,7 @@ pub record HasPayloadAbove (f : List ℕ) (i few most : ℕ) : Type 0 where
   pub within : payload ≤ most
   pub above : most < payload + payload_read (what_holds f i)
 
--- the fault stands at its place, where so many nodes and so much payload may be
+-- the fault is true at its place, with these limits on nodes and payload
 abbrev pub StandsWithin : List ℕ → ℕ → ℕ → BinaryFault → Type 0
 StandsWithin f nodes payload TooShort = IsLayoutFault layout.TooShort f
 StandsWithin f nodes payload BadHeader = IsLayoutFault layout.BadHeader f
@@ -122,6 +122,6 @@ StandsWithin f nodes payload (TooManyNodes i) = HasNodesBefore f i nodes payload
 StandsWithin f nodes payload (TooMuchPayload i) = HasPayloadAbove f i nodes payload
 StandsWithin f nodes payload OutOfMemory = ⊤
 
--- the fault stands at its place
+-- the fault is true at its place
 abbrev pub Stands : List ℕ → BinaryFault → Type 0
 Stands f fault = StandsWithin f MAX_NODES MAX_PAYLOAD fault

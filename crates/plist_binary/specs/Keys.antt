@@ -1,4 +1,4 @@
--- The keys of a table, with their places.
+-- The keys of a dictionary, with their places.
 use Rattle.std.specs.Prelude.{◌≡◌, ℕ, ◌<◌, List, [], ◌∷◌, length, slice_index_or, false, Some, All, IsTrue}
 use Rattle.std.specs.Option.{is_some}
 use Rattle.std.specs.Ordering.{nat_cmp}
@@ -15,7 +15,7 @@ units_at key = units_of key.text
 abbrev pub place_of : Key → ℕ
 place_of key = key.place
 
--- each key stands at its place
+-- the place of each key is its index
 abbrev pub AreInPlace : List Key → Type 0
 AreInPlace keys = (k : ℕ) (d : Key) → k < length keys → place_of (slice_index_or keys k d) ≡ k
 
@@ -23,18 +23,18 @@ AreInPlace keys = (k : ℕ) (d : Key) → k < length keys → place_of (slice_in
 abbrev pub pair_at : List Value → Key → List ℕ × Value
 pair_at values key = (units_at key, slice_index_or values key.place (Flag false))
 
--- where the key has a rank, its text stands there among the texts
+-- if the key has a sort position, its string is at that index of the strings
 abbrev pub IsRanked : List (List ℕ) → Key → Type 0
 IsRanked texts key =
     (rank : ℕ) → key.rank ≡ Some rank → (rank < length texts) × (slice_index_or texts rank [] ≡ units_at key)
 
--- the ranks of the keys are places among texts of which each is below the next
+-- the sort positions of the keys are indices into ascending strings
 pub record AreRanked (keys : List Key) : Type 0 where
   pub texts : List (List ℕ)
   pub ascending : IsStrictlySortedBy (slice_cmp nat_cmp) texts
   pub each : All (IsRanked texts) keys
 
--- the ranks of two keys are places among ascending texts
+-- the sort positions of two keys are indices into the same ascending strings
 abbrev pub AreRankedAlike : Key → Key → Type 0
 AreRankedAlike key next = AreRanked (key ∷ next ∷ [])
 

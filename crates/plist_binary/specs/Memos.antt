@@ -1,4 +1,4 @@
--- What is known of the objects of a file while it is judged.
+-- What is known of the objects of a file while it is validated.
 use Rattle.std.specs.Prelude.{◌≡◌, ◌≢◌, ℕ, ◌≤◌, List, slice_index_or, ⊤}
 use Rattle.std.specs.List.{Contains}
 use Rattle.plist_value.specs.Plist.{Plist, IsPlist}
@@ -8,7 +8,8 @@ use Rattle.plist_binary.specs.declared.memos.Memo.{Memo}
 use Rattle.plist_binary.specs.declared.memos.State.{State}
 use Rattle.plist_binary.specs.declared.memos.State.TheVariants.{Unseen, Open, Passed}
 
--- the object spells a value of just so many nodes and so much payload, and at most so deep
+-- the object encodes a value of exactly this many nodes and this much payload, and at most this
+-- depth
 pub record IsMemo (f : List ℕ) (i : ℕ) (memo : Memo) : Type 0 where
   pub value : Plist
   pub spells : Spells f i value
@@ -17,7 +18,7 @@ pub record IsMemo (f : List ℕ) (i : ℕ) (memo : Memo) : Type 0 where
   pub payload_is : payload value ≡ memo.payload
   pub deep : depth value ≤ memo.depth
 
--- what is known of the object is so, where these containers lead to what is judged now
+-- the state of the object is correct, if these containers lead to the current object
 abbrev pub IsState : List ℕ → List ℕ → ℕ → State → Type 0
 IsState f path i Unseen = ⊤
 IsState f path i Open = Contains path i
@@ -26,17 +27,17 @@ IsState f path i (Passed deep n size) = IsMemo f i (record { depth = deep; nodes
 abbrev pub state_of : List State → ℕ → State
 state_of states i = slice_index_or states i Unseen
 
--- what is known of each object is so, and the containers are open
+-- the state of each object is correct, and exactly the containers on the path are open
 pub record AreStates (f path : List ℕ) (states : List State) : Type 0 where
   pub each : (i : ℕ) → IsState f path i (state_of states i)
   pub opened : (i : ℕ) → Contains path i → state_of states i ≡ Open
 
--- what is known of each object but one is so, and the containers are open, that one aside
+-- like `AreStates`, for all objects except j
 pub record AreStatesBut (f path : List ℕ) (j : ℕ) (states : List State) : Type 0 where
   pub each : (i : ℕ) → i ≢ j → IsState f path i (state_of states i)
   pub opened : (i : ℕ) → i ≢ j → Contains path i → state_of states i ≡ Open
 
--- of the object is known the state, and of each other one what was known before
+-- the object has this state now, and all others have their old ones
 pub record IsMarked (before : List State) (object : ℕ) (state : State) (after : List State) : Type 0 where
   pub here : state_of after object ≡ state
   pub elsewhere : (i : ℕ) → i ≢ object → state_of after i ≡ state_of before i

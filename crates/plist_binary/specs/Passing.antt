@@ -1,5 +1,5 @@
--- What the judge passes: an object that spells a value within a budget, of which only the size is
--- told.
+-- What the validator passes: an object that encodes a value within a budget, of which only the size
+-- is known.
 use Rattle.std.specs.Prelude.{ℕ, ◌≤◌, List}
 use Rattle.plist_value.specs.Plist.{Plist, Pairs}
 use Rattle.plist_value.specs.Limits.{depth, depth_of_items, depth_of_pairs}
@@ -9,28 +9,28 @@ use Rattle.plist_value.specs.declared.TheConstants.{MAX_NODES, MAX_DEPTH, MAX_PA
 use Rattle.plist_object.specs.Layout.{trailer_of}
 use Rattle.plist_binary.specs.Readings.{Reads, ReadsItems, ReadsPairs}
 
--- the object spells a value, of at most so many levels, which took what is gone from the budget
+-- the object encodes a value, at most `levels` deep, that takes the difference of the budgets
 pub record Passes (f : List ℕ) (i levels : ℕ) (before : Budget) (deep : ℕ) (after : Budget) : Type 0 where
   pub value : Plist
   pub reads : Reads f i levels before value after
   pub depth_is : depth value ≤ deep
   pub within : deep ≤ levels
 
--- the references spell values in turn
+-- the references are to values, in order
 pub record PassesItems (f refs : List ℕ) (levels : ℕ) (before : Budget) (deep : ℕ) (after : Budget) : Type 0 where
   pub values : List Plist
   pub reads : ReadsItems f refs levels before (items_of values) after
   pub depth_is : depth_of_items (items_of values) ≤ deep
   pub within : deep ≤ levels
 
--- the references to keys and to values spell the pairs of a table
+-- the references to keys and to values are to the pairs of a dictionary
 pub record PassesPairs (f keys values : List ℕ) (levels : ℕ) (before : Budget) (deep : ℕ) (after : Budget) : Type 0 where
   pub pairs : Pairs
   pub reads : ReadsPairs f keys values levels before pairs after
   pub depth_is : depth_of_pairs pairs ≤ deep
   pub within : deep ≤ levels
 
--- the budget is one of the limits, or what is left of them
+-- the budget is at most the limits
 pub record IsWithinLimits (left : Budget) : Type 0 where
   pub nodes_most : left.nodes ≤ MAX_NODES
   pub payload_most : left.payload ≤ MAX_PAYLOAD
@@ -38,7 +38,7 @@ pub record IsWithinLimits (left : Budget) : Type 0 where
 abbrev pub limits : Budget
 limits = record { nodes = MAX_NODES; payload = MAX_PAYLOAD }
 
--- the top object spells a value within the limits
+-- the top object encodes a value within the limits
 pub record PassesTop (f : List ℕ) : Type 0 where
   pub deep : ℕ
   pub after : Budget

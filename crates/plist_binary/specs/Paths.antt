@@ -7,7 +7,7 @@ use Rattle.plist_object.specs.Places.{Holds}
 use Rattle.plist_object.specs.References.{references_of}
 use Rattle.plist_binary.specs.declared.path.Path.{Path, Above, In'}
 
--- the object j holds a reference to i
+-- object j holds a reference to i
 pub record Refers (f : List ℕ) (j i : ℕ) : Type 0 where
   pub held : Held
   pub holds : Holds f j held
@@ -25,17 +25,17 @@ pub record EndsPath (f : List ℕ) (i : ℕ) : Type 0 where
   pub before : List ℕ
   pub leads : Leads f before i
 
--- the containers that a `Path` shows
+-- the containers of a `Path`
 abbrev pub containers_of : Path → List ℕ
 containers_of Above = []
 containers_of (In' container at before) = container ∷ containers_of before
 
--- the object j holds a table, and these are its references to keys
+-- object j is a dictionary, and these are its references to keys
 pub record HasKeys (f : List ℕ) (j : ℕ) (keys : List ℕ) : Type 0 where
   pub values : List ℕ
   pub holds : Holds f j (holds_table keys values)
 
--- the object j holds a table, and i is one of its references to keys
+-- object j is a dictionary, and i is one of its references to keys
 pub record IsKeyOf (f : List ℕ) (j i : ℕ) : Type 0 where
   pub keys : List ℕ
   pub table : HasKeys f j keys

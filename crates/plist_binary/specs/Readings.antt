@@ -1,4 +1,4 @@
--- What a file spells within a budget, and what it cannot.
+-- What a file encodes within a budget, and what it cannot encode.
 use Rattle.std.specs.Prelude.{ℕ, ◌*◌, ◌≤◌, List, [], ◌∷◌, length}
 use Rattle.std.specs.List.{zip}
 use Rattle.std.specs.List.Sorted.{IsPermutation}
@@ -11,20 +11,21 @@ use Rattle.plist_value.specs.Budget.{Spends, Affords}
 use Rattle.plist_binary.specs.Budgets.{UnlessMemory}
 use Rattle.plist_binary.specs.Faults.{StandsWithin}
 
--- the object spells the value, of at most so many levels, which took what is gone from the budget
+-- the object encodes the value, which is at most `levels` deep and takes the difference of the
+-- budgets
 pub record Reads (f : List ℕ) (i levels : ℕ) (before : Budget) (v : Plist) (after : Budget) : Type 0 where
   pub spells : Spells f i v
   pub valid : IsPlist v
   pub deep : depth v ≤ levels
   pub spent : Spends before (nodes v) (payload v) after
 
--- the fault stands in the whole budget, and the object spells no value of at most so many levels
--- within the budget
+-- the fault is true for the whole budget, and the object encodes no value of at most `levels`
+-- levels within the budget left
 pub record Refuses (f : List ℕ) (whole : Budget) (i levels : ℕ) (left : Budget) (fault : BinaryFault) : Type 0 where
   pub stands : StandsWithin f whole.nodes whole.payload fault
   pub none : UnlessMemory fault ((v : Plist) → IsPlist v → Spells f i v → depth v ≤ levels → Affords left (nodes v) (payload v) → ⊥)
 
--- the references spell the items in turn
+-- the references are to the items, in order
 pub record ReadsItems (f refs : List ℕ) (levels : ℕ) (before : Budget) (vs : Items) (after : Budget) : Type 0 where
   pub spell : SpellItems f refs vs
   pub valid : AreItems vs
@@ -35,22 +36,22 @@ pub record RefusesItems (f : List ℕ) (whole : Budget) (refs : List ℕ) (level
   pub stands : StandsWithin f whole.nodes whole.payload fault
   pub none : UnlessMemory fault ((vs : Items) → AreItems vs → SpellItems f refs vs → depth_of_items vs ≤ levels → Affords left (nodes_of_items vs) (payload_of_items vs) → ⊥)
 
--- texts, as items
+-- strings as items
 abbrev pub texts : List (List ℕ) → Items
 texts [] = no_items
 texts (units ∷ keys) = item (scalar (text units)) (texts keys)
 
--- the fault stands, and the object is no text within the budget
+-- the fault is true, and the object is not a string within the budget
 pub record RefusesKey (f : List ℕ) (whole : Budget) (i levels : ℕ) (left : Budget) (fault : BinaryFault) : Type 0 where
   pub stands : StandsWithin f whole.nodes whole.payload fault
   pub none : UnlessMemory fault ((units : List ℕ) → IsPlist (scalar (text units)) → Spells f i (scalar (text units)) → 1 ≤ levels → Affords left 1 (2 * length units) → ⊥)
 
--- the fault stands, and the references are to no texts within the budget
+-- the fault is true, and the references are not to strings within the budget
 pub record RefusesKeys (f : List ℕ) (whole : Budget) (refs : List ℕ) (levels : ℕ) (left : Budget) (fault : BinaryFault) : Type 0 where
   pub stands : StandsWithin f whole.nodes whole.payload fault
   pub none : UnlessMemory fault ((keys : List (List ℕ)) → AreItems (texts keys) → SpellItems f refs (texts keys) → depth_of_items (texts keys) ≤ levels → Affords left (nodes_of_items (texts keys)) (payload_of_items (texts keys)) → ⊥)
 
--- the references to keys and to values spell the pairs, in the order of the keys
+-- the references to keys and to values are to the pairs, which are in the order of the keys
 pub record ReadsPairs (f refs others : List ℕ) (levels : ℕ) (before : Budget) (ps : Pairs) (after : Budget) : Type 0 where
   pub rows : List (ℕ × ℕ)
   pub moved : IsPermutation (zip refs others) rows

@@ -1,5 +1,5 @@
--- What is known of keys that were read and sorted: those of the table judged last, and the order of
--- the longest table.
+-- What is known of keys that were read and sorted: those of the last dictionary, and the order of
+-- the longest dictionary.
 use Rattle.std.specs.Prelude.{◌≡◌, ℕ, List, Option, IfSome}
 use Rattle.std.specs.Ordering.{nat_cmp}
 use Rattle.std.specs.Cmp.Lexicographic.{slice_cmp}
@@ -17,13 +17,13 @@ use Rattle.plist_binary.specs.declared.known_keys.KnownKeys.{KnownKeys}
 use Rattle.plist_binary.specs.declared.known_keys.LastKeys.{LastKeys}
 use Rattle.plist_binary.specs.Readings.{ReadsItems, RefusesPairs, texts}
 
--- texts of which no two are equal: in their order each is below the next
+-- strings no two of which are equal: once sorted, each is below the next
 pub record AreApart (keys : List (List ℕ)) : Type 0 where
   pub sorted : List (List ℕ)
   pub moved : IsPermutation keys sorted
   pub ascend : IsStrictlySortedBy (slice_cmp nat_cmp) sorted
 
--- the references spell texts of just so much payload, of which no two are equal
+-- the references are to strings with exactly this payload, no two of which are equal
 pub record SpellApart (f refs : List ℕ) (payload : ℕ) : Type 0 where
   pub keys : List (List ℕ)
   pub spell : SpellItems f refs (texts keys)
@@ -31,23 +31,22 @@ pub record SpellApart (f refs : List ℕ) (payload : ℕ) : Type 0 where
   pub apart : AreApart keys
   pub payload_is : payload_of_items (texts keys) ≡ payload
 
--- what is known of the last keys, if anything is, is so
+-- what is known of the last keys is correct
 abbrev pub IsKnownLast : List ℕ → Option LastKeys → Type 0
 IsKnownLast f last = IfSome last (λ keys. SpellApart f (numbers_of keys.refs) keys.payload)
 
--- what is known of keys is so
+-- what is known of keys is correct
 pub record IsKnown (f : List ℕ) (known : KnownKeys) : Type 0 where
   pub last : IsKnownLast f known.last
   pub sorted : AreSortedIfAny f known.sorted
 
--- the references spell texts, of which no two are equal, and which took what is gone from the
--- budget
+-- the references are to strings, no two of which are equal, that take the difference of the budgets
 pub record ReadsApart (f refs : List ℕ) (levels : ℕ) (before after : Budget) : Type 0 where
   pub keys : List (List ℕ)
   pub reads : ReadsItems f refs levels before (texts keys) after
   pub apart : AreApart keys
 
--- With these references to keys the table, whatever its values are, spells no pairs, and the fault
--- stands.
+-- With these references to keys the dictionary encodes no pairs, whatever its values are, and the
+-- fault is true.
 pub record RefusesTable (f : List ℕ) (whole : Budget) (table : ℕ) (refs : List ℕ) (levels : ℕ) (left : Budget) (fault : BinaryFault) : Type 0 where
   pub each : (values : List ℕ) → Holds f table (holds_table refs values) → RefusesPairs f whole refs values levels left fault

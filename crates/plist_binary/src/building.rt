@@ -1,5 +1,4 @@
-//! The value of a binary property list that was judged: nothing but memory can keep it from being
-//! made.
+//! Building the value of a validated binary file. Only running out of memory can prevent it.
 ghost use Rattle.std.specs.Prelude.{◌≡◌, ◌<◌, ◌≤◌, length, map, IfOk};
 ghost use Rattle.plist_value.specs.View.{view, view_items, view_pairs};
 ghost use Rattle.plist_value.specs.Texts.{units_of};
@@ -29,7 +28,7 @@ pub(crate) struct Builder<'a> {
 }
 
 impl<'a> Builder<'a> {
-    // The value that the object spells, of at most so many levels.
+    // Returns the value of the object; `levels` is the depth allowed for it.
     #[cycle(build)]
     pub(crate) fn value(&self, object: u64, levels: u64) -> Result<Value, AllocError>
         requires { SpellsWithin (octets_of self.now.file) object levels }
@@ -44,7 +43,7 @@ impl<'a> Builder<'a> {
         }
     }
 
-    // The values that the references spell, in turn.
+    // Returns the values that the references are to, in order.
     #[cycle(build)]
     fn items(&self, refs: Refs, levels: u64) -> Result<Vec<Value>, AllocError>
         requires { AllSpellWithin (octets_of self.now.file) (numbers_of refs) levels }
@@ -58,7 +57,7 @@ impl<'a> Builder<'a> {
         Ok(items)
     }
 
-    // The pairs that the references to keys and to values spell.
+    // Returns the pairs that the references to keys and to values are to.
     #[cycle(build)]
     fn pairs(
         &self,
@@ -78,7 +77,7 @@ impl<'a> Builder<'a> {
         tables::table(self.alloc, keys, values)
     }
 
-    // The texts that the references spell, each at its place.
+    // Returns the strings that the references are to, each with its index as its place.
     fn keys(&self, refs: Refs) -> Result<Vec<Key<'a>>, AllocError>
         requires { AllSpellTexts (octets_of self.now.file) (numbers_of refs) }
         ensures texts { IfOk result (λ keys. AreTexts (octets_of self.now.file)
@@ -102,7 +101,6 @@ impl<'a> Builder<'a> {
         Ok(keys)
     }
 
-    // The text that the object spells.
     fn text(&self, object: u64) -> TextRef<'a>
         requires { SpellsText (octets_of self.now.file) object }
         ensures { SpellsUnits (octets_of self.now.file) object (units_of result) }
@@ -110,7 +108,6 @@ impl<'a> Builder<'a> {
         text_in(self.held(object)).unwrap()
     }
 
-    // What the object holds.
     fn held(&self, object: u64) -> Object<'a>
         requires { HoldsSome (octets_of self.now.file) object }
         ensures held { Holds (octets_of self.now.file) object (held_of result) }

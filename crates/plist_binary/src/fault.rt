@@ -1,4 +1,4 @@
-//! Why octets are no binary property list.
+//! The error type of the validator and the reader.
 ghost use Rattle.std.specs.Prelude.{◌≡◌};
 ghost use Rattle.plist_binary.specs.declared.fault.BinaryFault.TheVariants.{OutOfMemory};
 
@@ -8,17 +8,17 @@ use std::alloc::{AllocError, AllocFailed};
 use std::fmt;
 use thiserror::Error;
 
-/// Why octets are not read as a binary property list (CFBinaryPList.c; which faults there are, and
-/// their order, is our profile). A place is the number of an object.
+/// Why bytes are not a binary property list (format: CFBinaryPList.c; which faults there are, and
+/// their order, is this project's profile).
 #[derive(Clone, Copy, Debug, PartialEq, Eq, Error)]
 pub enum BinaryFault {
-    /// 1: there are fewer than 42 octets.
+    /// 1: fewer than 42 bytes.
     TooShort,
-    /// 2: the first eight octets are not `bplist00`.
+    /// 2: the first eight bytes are not `bplist00`.
     BadHeader,
     /// 3: the trailer does not fit the file.
     BadTrailer,
-    /// 4: the place of the object is in the header, or not before the offset table.
+    /// 4: the offset of the object is in the header, or not before the offset table.
     BadOffset {
         /// The object.
         object: u64,
@@ -33,37 +33,37 @@ pub enum BinaryFault {
         /// The object.
         object: u64,
     },
-    /// 7: the object's marker, or that of its count, is none of the format.
+    /// 7: the marker of the object, or of its count, is not one of the format.
     BadMarker {
         /// The object.
         object: u64,
     },
-    /// 8: the object is a null, which is no property list here.
+    /// 8: the object is a null, which is not accepted.
     NullObject {
         /// The object.
         object: u64,
     },
-    /// 9: the object is a UID, which is no property list here.
+    /// 9: the object is a UID, which is not accepted.
     UidObject {
         /// The object.
         object: u64,
     },
-    /// 10: the object is a set, which is no property list here.
+    /// 10: the object is a set, which is not accepted.
     SetObject {
         /// The object.
         object: u64,
     },
-    /// 11: the object is an ASCII string with an octet above 7f.
+    /// 11: the object is an ASCII string with a byte above 7f.
     NotAscii {
         /// The object.
         object: u64,
     },
-    /// 12: the object is a whole number of sixteen octets whose first eight are not all zero.
+    /// 12: the object is an integer of sixteen bytes, the first eight of which are not all zero.
     WideInteger {
         /// The object.
         object: u64,
     },
-    /// 13: a key is no string.
+    /// 13: a key is not a string.
     KeyNotText {
         /// The dictionary.
         object: u64,
@@ -93,21 +93,21 @@ pub enum BinaryFault {
         /// The object referred to.
         object: u64,
     },
-    /// 60: there is no memory for the value. May come in place of any other fault.
+    /// 60: out of memory. May come in place of any other fault.
     OutOfMemory,
 }
 
 impl BinaryFault {
     ghost use Rattle.plist_binary.specs.Codes.{fault_code, fault_report, of_object};
 
-    /// The number of the refusal: 1 to 18, or 60.
+    /// Returns the number of the refusal: 1 to 18, or 60.
     pub fn code(&self) -> u8
         ensures { result ≡ fault_code self.now }
     {
         self.report().0.number()
     }
 
-    /// The object does not read.
+    /// Returns the fault of an object that cannot be decoded.
     pub fn of_object(object: u64, fault: ObjectFault) -> BinaryFault
         ensures { result ≡ of_object object fault }
     {
@@ -123,7 +123,7 @@ impl BinaryFault {
         }
     }
 
-    /// Which refusal it is, and what it names.
+    /// Returns the refusal and the object that it names.
     pub fn report(&self) -> Report
         ensures { result ≡ fault_report self.now }
     {
@@ -165,7 +165,8 @@ impl BinaryFault {
     }
 }
 
-/// The number, the name and the object of the refusal, as `14 DuplicateKey at object 0`.
+/// Prints the number, the name and the object of the refusal, such as `14 DuplicateKey at object
+/// 0`.
 impl fmt::Display for BinaryFault {
     ghost use Rattle.std.specs.Prelude.{Some};
     ghost use Rattle.plist_binary.specs.Codes.{fault_text};

@@ -1,4 +1,4 @@
-//! The judge and the reader of binary property lists.
+//! Validates and reads binary property lists.
 #![tactic(auto)]
 
 mod building;

@@ -1,4 +1,4 @@
-//! What is known of the objects of a file while it is judged.
+//! What is known of the objects of a file while it is validated.
 ghost use Rattle.std.specs.Prelude.{◌≡◌, ◌+◌, ◌<◌, ◌≤◌, IfSome, OnOk};
 ghost use Rattle.plist_value.specs.declared.TheConstants.{MAX_NODES, MAX_DEPTH, MAX_PAYLOAD};
 ghost use Rattle.plist_value.specs.Budget.{Spends};
@@ -8,7 +8,7 @@ ghost use Rattle.plist_binary.specs.declared.memos.State.TheVariants.{Passed};
 use plist_value::Budget;
 use std::alloc::AllocError;
 
-// What the value takes of the limits that an object spells.
+// What the value of an object takes of the limits.
 #[derive(Clone, Copy)]
 pub(crate) struct Memo {
     pub(crate) depth: u16,
@@ -16,14 +16,15 @@ pub(crate) struct Memo {
     pub(crate) payload: u32,
 }
 
-// What is known of an object. The depth stands first, beside the tag: so a state has 12 octets.
+// What is known of an object. The depth is the first field, next to the tag, so that a state has 12
+// bytes.
 #[derive(Clone, Copy)]
 pub(crate) enum State {
-    // Nothing yet.
+    // Not visited yet.
     Unseen,
-    // It is a container on the path to what is judged now.
+    // A container on the path to the current object.
     Open,
-    // It was judged, and spells a value that takes this of the limits.
+    // Visited, and found to encode a value that takes this much of the limits.
     Passed {
         depth: u16,
         nodes: u32,
@@ -32,7 +33,7 @@ pub(crate) enum State {
 }
 
 impl Memo {
-    // What went from a budget within the limits, and the depth.
+    // Returns the difference between two budgets within the limits, with the depth.
     pub(crate) fn of(before: Budget, left: Budget, depth: u64) -> Memo
         requires nodes_left { left.nodes ≤ before.nodes }
         requires payload_left { left.payload ≤ before.payload }
@@ -50,7 +51,7 @@ impl Memo {
         }
     }
 
-    // That an object was judged whose value takes this.
+    // Returns the state of a visited object whose value takes this much.
     pub(crate) fn passed(self) -> State
         ensures { result ≡ Passed self.depth self.nodes self.payload }
     {
@@ -61,7 +62,7 @@ impl Memo {
         }
     }
 
-    // What is left of the budget after the value, where it is within it.
+    // Returns the budget left after the value, or `None` if it does not fit.
     pub(crate) fn take(&self, left: Budget) -> Option<Budget>
         ensures { IfSome result (Spends left self.now.nodes self.now.payload) }
     {
@@ -72,10 +73,10 @@ impl Memo {
     }
 }
 
-// As many states as most files need that are refused soon.
+// Enough states for most files that are refused early.
 const FIRST_STATES: u64 = 4096;
 
-// What is known of the object: nothing where there is no state of it yet.
+// Returns the state of the object, which is `Unseen` if the vector has none for it.
 pub(crate) fn state_at(states: &Vec<State>, object: u64) -> State
     ensures { result ≡ state_of states.now.items object }
 {
@@ -86,7 +87,7 @@ pub(crate) fn state_at(states: &Vec<State>, object: u64) -> State
     }
 }
 
-// Marks the object, which is one of so many.
+// Sets the state of the object, which is one of `count`.
 pub(crate) fn mark(
     states: &mut Vec<State>,
     count: u64,
@@ -105,7 +106,7 @@ pub(crate) fn mark(
     Ok(())
 }
 
-// How many states there are to be where there is one of the object.
+// Returns the number of states to allocate so that there is one for the object.
 fn states_for(count: u64, object: u64) -> usize
     requires { object < count }
     ensures { object < result }

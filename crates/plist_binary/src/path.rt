@@ -1,10 +1,10 @@
-//! The way from the top of a file to an object.
+//! The path from the top of a file to an object.
 
-// The containers that lead from the top to an object, the last first.
+// The containers on the path from the top to an object, the last first.
 #[derive(Clone, Copy)]
 pub(crate) enum Path<'a> {
-    // No container leads to the top.
+    // No container.
     Above,
-    // The container, to which the others lead.
+    // A container, and the path to it.
     In(u64, &'a Path<'a>),
 }

@@ -1,4 +1,4 @@
-//! How far a walk has come.
+//! The progress of a walk.
 ghost use Rattle.std.specs.Prelude.{◌≡◌, ℕ, List, [], IfSome};
 ghost use Rattle.plist_binary.specs.Memos.{AreStates};
 ghost use Rattle.plist_binary.specs.Passing.{IsWithinLimits, Passes};
@@ -9,7 +9,7 @@ use crate::memos::{Memo, State, state_at};
 use plist_value::Budget;
 use std::alloc::Global;
 
-// What is known so far of the objects and of keys, and what is left of the whole budget.
+// What is known of objects and of keys, and what is left of the budget.
 #[derive(Drop)]
 pub(crate) struct Progress<'a> {
     pub(crate) states: Vec<State>,
@@ -18,7 +18,7 @@ pub(crate) struct Progress<'a> {
 }
 
 impl<'a> Progress<'a> {
-    // None: nothing is known, and the whole budget is left.
+    // Creates the state before the walk: nothing is known, and the whole budget is left.
     pub(crate) fn none(alloc: Global, whole: Budget) -> Progress<'a>
         requires { IsWithinLimits whole }
         ensures left { result.left ≡ whole }
@@ -31,7 +31,8 @@ impl<'a> Progress<'a> {
         }
     }
 
-    // The depth of an object that was passed before, and what is left after it, where it fits.
+    // Returns the depth of an object visited before and the budget left after it, or `None` if it
+    // is not known or does not fit.
     pub(crate) fn recall(&self, object: u64, levels: u64) -> Option<(u64, Budget)>
         ensures { IfSome result (λ known. (f path : List ℕ) → AreStates f path self.now.states.items
             → Passes f object levels self.now.left known.0 known.1) }

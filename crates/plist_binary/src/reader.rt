@@ -1,4 +1,4 @@
-//! The reader of binary property lists: the judge, and then the making of the value.
+//! The reader of binary property lists, which validates a file and then builds its value.
 ghost use Rattle.std.specs.Prelude.{◌≡◌, ◌≢◌, IfOk, IfErr};
 ghost use Rattle.plist_value.specs.Plist.{Plist};
 ghost use Rattle.plist_value.specs.View.{view};
@@ -12,15 +12,16 @@ use plist_object::BinFile;
 use plist_value::{MAX_DEPTH, Value};
 use std::alloc::Global;
 
-/// The value that the octets spell at their top. The octets are judged first, so memory is taken
-/// for a value only where there is one.
+/// Returns the value of the top object. Validates the bytes first, so that memory is allocated for
+/// a value only if there is one.
 ///
 /// # Errors
 ///
-/// The first fault in this order: the layout; then, for each reference in preorder from the top, a
-/// reference to no object, one to a container on the path to it, a node too many, a node too deep,
-/// the object's own fault, a key that is no text, too much payload. Of a table all keys come first,
-/// then two equal keys, then the values. Want of memory may come before any of them.
+/// Fails with the first fault in this order: the layout; then for each reference in preorder from
+/// the top a reference to no object, one to a container on the path to it, a node too many, a node
+/// too deep, the object's own fault, a key that is not a string, too much payload. All keys of a
+/// dictionary come first, then duplicate keys, then its values. Out of memory may come before any
+/// of them.
 pub fn read(alloc: Global, octets: &[u8]) -> Result<Value, BinaryFault>
     ensures read { IfOk result (λ value. IsBinary octets.now (view value)) }
     ensures refused { IfErr result (λ fault. fault ≢ BinaryFault.OutOfMemory → (v : Plist) →

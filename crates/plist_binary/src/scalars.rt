@@ -1,4 +1,4 @@
-//! Scalars and texts, in memory of their own.
+//! Copies of scalars and strings.
 ghost use Rattle.std.specs.Prelude.{◌≡◌, IfOk};
 ghost use Rattle.plist_value.specs.Plist.{scalar as scalar_value};
 ghost use Rattle.plist_value.specs.Scalars.{content_of};
@@ -8,7 +8,7 @@ ghost use Rattle.plist_value.specs.View.{view};
 use plist_value::{ScalarRef, TextRef, Utf16, Value};
 use std::alloc::{AllocError, Global};
 
-// The value that the scalar is, in memory of its own.
+// Returns the scalar as a value with memory of its own.
 pub(crate) fn value(alloc: Global, scalar: ScalarRef) -> Result<Value, AllocError>
     ensures { IfOk result (λ v. view v ≡ scalar_value (content_of scalar.entry)) }
 {
@@ -23,7 +23,7 @@ pub(crate) fn value(alloc: Global, scalar: ScalarRef) -> Result<Value, AllocErro
     })
 }
 
-// The text, in memory of its own.
+// Returns a copy of the string.
 pub(crate) fn utf16(alloc: Global, text: TextRef) -> Result<Utf16, AllocError>
     ensures { IfOk result (λ copy. copy ≡ units_of text.entry) }
 {

@@ -1,4 +1,4 @@
-//! What the walk reads of one object: a node of the value, or a key.
+//! What the walk does at one object: a node of the value, or a key.
 ghost use Rattle.std.specs.Prelude.{◌≡◌, ◌+◌, ◌<◌, ◌≤◌, ◌∷◌, length, IfOk, IfErr, OnOk, IfSome};
 ghost use Rattle.std.specs.Prelude.{IfNone};
 ghost use Rattle.std.specs.List.{Contains};
@@ -28,7 +28,7 @@ use crate::progress::Progress;
 use plist_object::{BinFile, Object, ObjectFault, Ranks};
 use plist_value::{Budget, ScalarRef, TextRef};
 
-// Visits the objects of a file: each is a node of the value, and may be a key.
+// Visits the objects of a file, each as a node of the value, and perhaps as a key.
 #[derive(Clone, Copy)]
 pub(crate) struct Visitor<'a, 'r> {
     pub(crate) file: BinFile<'a>,
@@ -40,7 +40,7 @@ pub(crate) struct Visitor<'a, 'r> {
 }
 
 impl<'a, 'r> Visitor<'a, 'r> {
-    // The text that the object spells, a key of the table.
+    // Visits a key of the dictionary and returns its string.
     pub(crate) fn key(
         &self,
         progress: &mut Progress<'a>,
@@ -71,7 +71,7 @@ impl<'a, 'r> Visitor<'a, 'r> {
         Ok(key)
     }
 
-    // The reference of the container, if it is one to an object.
+    // Returns the reference, or fails if it is not one to an object.
     pub(crate) fn referred(&self, container: u64, reference: u64) -> Result<u64, BinaryFault>
         ensures same { IfOk result (λ object. object ≡ reference) }
         ensures below { IfOk result (λ object. object < (trailer_of
@@ -86,7 +86,7 @@ impl<'a, 'r> Visitor<'a, 'r> {
         }
     }
 
-    // What the object holds, to which the path leads: a node of the value.
+    // Visits the object at the end of the path as a node of the value, and returns its content.
     pub(crate) fn enter(
         &self,
         progress: &mut Progress<'a>,
@@ -122,7 +122,7 @@ impl<'a, 'r> Visitor<'a, 'r> {
         }
     }
 
-    // Refuses an object that is one of the containers that lead to it.
+    // Fails if the object is a container on its own path.
     #[inline(always)]
     fn refuse_cycle(
         &self,
@@ -149,7 +149,8 @@ impl<'a, 'r> Visitor<'a, 'r> {
         }
     }
 
-    // What the object holds: the text of its rank where it has one, which is not read again.
+    // Returns the content of the object. A string with a sort position was decoded before and is
+    // not decoded again.
     fn object(&self, object: u64) -> Result<Object<'a>, ObjectFault>
         requires listed { object < (trailer_of (octets_of self.now.file)).count }
         ensures read { Gives held_of result (what_holds (octets_of self.now.file) object) }
@@ -165,7 +166,7 @@ impl<'a, 'r> Visitor<'a, 'r> {
     }
 }
 
-// One node less: the object.
+// Takes one node from the budget.
 fn take_node(left: &mut Budget, object: u64) -> Result<(), BinaryFault>
     ensures ok { OnOk result (Spends left.old 1 0 left.new) }
     ensures over { IfErr result (λ fault. (fault ≡ BinaryFault.TooManyNodes object) ×
@@ -178,7 +179,7 @@ fn take_node(left: &mut Budget, object: u64) -> Result<(), BinaryFault>
     Ok(())
 }
 
-// The payload of the scalar less, which the object holds.
+// Takes the payload of the scalar from the budget.
 pub(crate) fn take_payload(
     left: &mut Budget,
     object: u64,
@@ -196,7 +197,7 @@ pub(crate) fn take_payload(
     Ok(())
 }
 
-// The text that an object holds.
+// Returns the string if the object is one.
 pub(crate) fn text_in(held: Object<'_>) -> Option<TextRef<'_>>
     ensures text { IfSome result (λ key. held_of held.entry ≡ holds_scalar (text (units_of key))) }
     ensures other { IfNone result (¬ IsText (held_of held.entry)) }

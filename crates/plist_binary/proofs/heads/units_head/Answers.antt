@@ -8,7 +8,7 @@ pub loop-read-preserved : goal.loop-read-preserved
 loop-read-preserved c =
     head_step (8 - c.loop-read.read) (8 - (c.loop-read.read + 1)) c.loop-read.head c.octet_at-octet.result.0 (head_of 8 (drop c.args.front (units_of c.args.text.now))) (drop c.loop-read.place (units_of c.args.text.now)) (drop c.octet_at-octet.result.1 (units_of c.args.text.now)) (omega arith) c.octet_at-octet.ensures.octet c.octet_at-octet.ensures.next c.loop-read.invariant
 
--- what was read, with an octet more, is below 2^64
+-- with one more byte, what was read is below 2^64
 fits : (c : goal.After-octet_at-octet) → 256 * c.loop-read.head + c.octet_at-octet.result.0 < 256 ^ 8
 fits c =
     let units = units_of c.args.text.now in

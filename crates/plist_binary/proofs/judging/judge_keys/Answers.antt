@@ -7,7 +7,7 @@ use Rattle.plist_binary.specs.Passing.{PassesTop}
 use Rattle.std.proofs.lemmas.Grind.{pieces}
 use Rattle.plist_binary.proofs.judging.judge_keys.Goals as goal
 
--- what a file spells that passes
+-- the value of a file that passes
 spelled : (f : List ℕ) → AreOctets f → IsLaid f → PassesTop f → (v : Plist) × IsBinary f v
 spelled f octets laid passed =
     let reads = passed.passes.reads in (

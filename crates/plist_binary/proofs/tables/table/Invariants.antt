@@ -6,7 +6,7 @@ use Rattle.plist_binary.proofs.tables.table.Given as goal
 abbrev pub decreases-loop-key : goal.decreases-loop-key
 decreases-loop-key l = vec_len l.keys
 
--- the pairs that are left, and those that the map has, are all of them
+-- the pairs that are left, and those of the map, are all pairs
 abbrev pub invariant-loop-key : goal.invariant-loop-key
 invariant-loop-key l =
     record {

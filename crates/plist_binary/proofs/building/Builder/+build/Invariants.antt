@@ -4,7 +4,7 @@ use Rattle.plist_object.specs.Views.{octets_of, numbers_of}
 use Rattle.plist_binary.specs.Building.{AreSpelled}
 use Rattle.plist_binary.proofs.building.Builder.+build.Given as goal
 
--- by the levels, with what calls before what is called
+-- by the levels, with callers before what they call
 abbrev pub decreases-value : goal.decreases-value
 decreases-value l = 3 * l.levels
 

@@ -5,7 +5,7 @@ use Rattle.plist_binary.specs.Paths.{containers_of}
 use Rattle.plist_binary.specs.Progress.{IsProgress}
 use Rattle.plist_binary.proofs.walking.Walker.+walk.Given as goal
 
--- by the levels, with what calls before what is called
+-- by the levels, with callers before what they call
 abbrev pub decreases-content : goal.decreases-content
 decreases-content l = 4 * l.levels
 

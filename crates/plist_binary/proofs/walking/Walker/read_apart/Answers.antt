@@ -31,7 +31,7 @@ record AreReadKeys (f refs path : List ℕ) (levels : ℕ) (before : Budget) (pr
   placed : AreInPlace keys
   so_far : IsProgress f path progress
 
--- the keys of texts that were read
+-- the keys of strings that were read
 keys_of_texts : (f refs path : List ℕ) (levels : ℕ) (before : Budget) (progress : Progress) (us : List (List ℕ)) (keys : List Key) → ReadsItems f refs levels before (texts us) progress.left → IsProgress f path progress → map units_at keys ≡ us → AreInPlace keys → AreReadKeys f refs path levels before progress keys
 keys_of_texts f refs path levels before progress us keys reads so_far same placed = record {
   read = subst (λ (ts : List (List ℕ)). ReadsItems f refs levels before (texts ts) progress.left) (sym same) reads;
@@ -67,7 +67,7 @@ returns-in_err-keys-2-clause-refused c =
     } in
     search rules
 
--- the places that the heads told
+-- the places that the sort prefixes gave
 places_told : (texts seen : List TextRef) (told : Option (Vec ℕ Global)) (places : Vec ℕ Global) → seen ≡ texts → told ≡ Some places → IfSome told (λ places. AreOrdered (map units_of seen) places.items) → AreOrdered (map units_of texts) places.items
 places_told texts seen told places same is ordered =
     subst (λ (ts : List TextRef). AreOrdered (map units_of ts) places.items) same (subst (λ (o : Option (Vec ℕ Global)). IfSome o (λ ps. AreOrdered (map units_of seen) ps.items)) is ordered)
