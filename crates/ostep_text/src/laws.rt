@@ -16,8 +16,8 @@ pub fn faulty_is_no_text()
     ostep_lex::laws::faulty_has_none();
 }
 
-/// The text written for a value within the limits is a text of that value, does not begin with
-/// `bplist`, and has at most 1 byte plus three per byte of payload and five per node.
+/// The text written for a value within the limits is a text of that value and does not begin with
+/// `bplist`. It has at most 1 byte plus three per byte of payload and five per node.
 pub fn written_is_text()
     ensures { WrittenIsText }
 {}

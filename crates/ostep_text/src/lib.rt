@@ -1,7 +1,7 @@
 //! Reads and writes property lists as OpenStep texts.
 //!
-//! The format is that of Apple's guide "Old-Style ASCII Property Lists", with this project's
-//! choices: at the top level the braces of a dictionary may be missing, and a text without tokens
+//! The format is that of Apple's guide "Old-Style ASCII Property Lists", with two choices of this
+//! project. At the top level the braces of a dictionary may be missing, and a text without tokens
 //! is the empty dictionary.
 //!
 //! The definitions are in `specs/`: what a text of a value is, which refusal is true and where, and

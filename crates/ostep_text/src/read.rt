@@ -19,8 +19,8 @@ use std::collections::BTreeMap;
 ///
 /// Faults of [`tokens`](ostep_lex::tokens) come first, wherever they are. Otherwise fails with the
 /// leftmost of these: a token that cannot occur there, or an early end (`Expected`, `Junk`); a
-/// duplicate key (`DuplicateKey`); a node beyond the limits (`TooManyNodes`, `TooDeep`,
-/// `TooMuchPayload`, in this order for one node). Any step may fail with `OutOfMemory`.
+/// duplicate key (`DuplicateKey`); a node beyond the limits. For one node `TooManyNodes` comes
+/// before `TooDeep`, and that before `TooMuchPayload`. Any step may fail with `OutOfMemory`.
 pub fn read_text(alloc: Global, octets: &[u8]) -> Result<Value, TextFault>
     // The bytes are a text of the value, which is within the limits.
     ensures read { IfOk result (λ value. IsText octets.now (view value)) }

@@ -171,7 +171,7 @@ IsBegun-next f before j refs k i levels whole left after vs next levels_are with
       };
     }
 
--- the container holds each of them
+-- the container contains each of them
 pub Refers-next : (f before : List ℕ) (j i : ℕ) (refs : List ℕ) (whole left : Budget) → AreNext f before j refs whole left → Contains refs i → Refers f j i
 Refers-next f before j i refs whole left next among = record {
   held = next.held;

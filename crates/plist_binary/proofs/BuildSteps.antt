@@ -121,7 +121,7 @@ AreTexts-next f refs k i keys units within is are one = record {
   spell = subst (λ (vs : Items). SpellItems f (take (k + 1) refs) vs) (sym (texts-push keys units)) (subst (λ (xs : List ℕ). SpellItems f xs (push (texts keys) (scalar (text units)))) (next refs k i within is) (SpellItems-push f (take k refs) (texts keys) i (scalar (text units)) are.spell one));
 }
 
--- references are to strings in only one way
+-- references point to strings in only one way
 same_texts : (f keys : List ℕ) (us ws : List (List ℕ)) → SpellItems f keys (texts us) → SpellItems f keys (texts ws) → us ≡ ws
 same_texts f keys [] [] a b = refl
 same_texts f [] [] (w ∷ ws) a b = absurd b

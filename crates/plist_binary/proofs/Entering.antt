@@ -212,7 +212,7 @@ among_both i (x ∷ xs) ys among =
     ⊎_elim (λ (m : Among i xs). inl (inr m)) (λ (m : Among i ys). inr m) (among_both i xs ys later))
     among
 
--- an object that holds a reference to i encodes more than i does
+-- an object that refers to i encodes more than i does
 pub descends : (f : List ℕ) (j i : ℕ) (v : Plist) → IsPlist v → Spells f j v → Refers f j i → (most : ℕ) → nodes v ≤ suc most → SpellsBelow f i most
 descends f j i (scalar s) valid spells refers most few =
     let held = same_held f j refers.held (holds_scalar s) refers.holds spells in

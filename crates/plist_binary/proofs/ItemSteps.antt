@@ -1,4 +1,4 @@
--- Items and keys that references are to, and the first of them that is refused.
+-- The items and keys that references point to, and the first of them that is refused.
 use Rattle.std.proofs.Common.{ℕ, List, ◌≡◌, ◌+◌, ◌≤◌, [], ◌∷◌, ◌++◌, refl, arith, ◌<◌, subst, ◌*◌, length, Ok, sym, ap, ⊎_elim, inl, inr, suc, take, drop, drop-cons, slice_index, ◌∙◌}
 use Rattle.plist_value.specs.Plist.{Plist, scalar, list, table, Items, no_items, item, AreItems, IsPlist, text}
 use Rattle.plist_object.specs.Objects.{Held, holds_scalar, holds_list, holds_table}
@@ -25,7 +25,7 @@ Spells-held f i (scalar s) spells = (holds_scalar s, spells)
 Spells-held f i (list vs) spells = (holds_list spells.0, spells.1.0)
 Spells-held f i (table ps) spells = (holds_table spells.0 spells.1.0, spells.1.1.1.0)
 
--- Items that references are to: one more, and one list after another.
+-- The items that references point to: one more, and one list after another.
 
 pub SpellItems-push : (f xs : List ℕ) (vs : Items) (i : ℕ) (v : Plist) → SpellItems f xs vs → Spells f i v → SpellItems f (xs ++ i ∷ []) (push vs v)
 SpellItems-push f [] no_items i v spell one = (one, refl)
@@ -128,7 +128,7 @@ first_refused f i rest levels left (item w ws) none spell valid deep affords =
       payload_there = omega (arith, affords.payload_there);
     }
 
--- the references before i are to what was read, and i is to nothing that fits
+-- the references before i point to what was read, and i to nothing that fits
 refused_at : (f refs : List ℕ) (i : ℕ) (rest : List ℕ) (levels : ℕ) (before left : Budget) (vs ws : Items) → ReadsItems f refs levels before vs left → AreItems ws → SpellItems f (refs ++ i ∷ rest) ws → depth_of_items ws ≤ levels → Affords before (nodes_of_items ws) (payload_of_items ws) → ((v : Plist) → IsPlist v → Spells f i v → depth v ≤ levels → Affords left (nodes v) (payload v) → ⊥) → ⊥
 refused_at f refs i rest levels before left vs ws items valid spell deep affords none =
     let parts = take_apart f refs (i ∷ rest) ws spell valid in
@@ -141,7 +141,7 @@ refused_at f refs i rest levels before left vs ws items valid spell deep affords
       payload_there = omega (arith, affords.payload_there, items.spent.payload_left);
     }
 
--- if one reference is to nothing that fits, the items do not fit
+-- if one reference points to nothing that fits, the items do not fit
 pub RefusesItems-at : (f : List ℕ) (whole : Budget) (refs : List ℕ) (i : ℕ) (rest : List ℕ) (levels : ℕ) (before left : Budget) (vs : Items) (fault : BinaryFault) → i < (trailer_of f).count → ReadsItems f refs levels before vs left → Refuses f whole i levels left fault → RefusesItems f whole (refs ++ i ∷ rest) levels before fault
 RefusesItems-at f whole refs i rest levels before left vs fault listed items one =
     record {

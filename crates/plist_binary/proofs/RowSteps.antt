@@ -1,4 +1,4 @@
--- Rows sorted by their sort prefixes stand for strings in sorted order.
+-- Rows sorted by their sort prefixes are those of strings in sorted order.
 use Rattle.std.proofs.Common.{◌≡◌, ℕ, zero, suc, ◌+◌, ◌-◌, ◌<◌, ◌≤◌, List, [], ◌∷◌, ◌++◌, length, get_or, set, map, take, drop, refl, sym, ap, ◌∙◌, subst, ⊎_elim, arith}
 use Rattle.std.specs.Prelude.{All}
 use Rattle.std.specs.Ordering.{nat_cmp}

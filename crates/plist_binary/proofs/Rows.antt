@@ -58,7 +58,7 @@ pull g xs ys moved =
 abbrev pub Row : Type 0
 Row = (ℕ × ℕ) × (List ℕ × Plist)
 
--- the references are to the key and to the value, which is at most `levels` deep
+-- the references point to the key and to the value, which is at most `levels` deep
 pub record IsRow (f : List ℕ) (levels : ℕ) (r : Row) : Type 0 where
   pub key : Holds f r.0.0 (holds_scalar (text r.1.0))
   pub value : Spells f r.0.1 r.1.1
@@ -85,7 +85,7 @@ nodes_of_pair p = 1 + nodes p.1
 abbrev pub payload_of_pair : List ℕ × Plist → ℕ
 payload_of_pair p = 2 * length p.0 + payload p.1
 
--- from pairs that the rows are to
+-- from pairs that the rows point to
 
 pub length-listed : (f : List ℕ) (rows : List (ℕ × ℕ)) (ps : Pairs) → SpellPairs f rows ps → length rows ≡ length (listed ps)
 length-listed f [] no_pairs spell = refl

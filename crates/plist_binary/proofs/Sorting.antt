@@ -94,7 +94,7 @@ first_at : (n i : ℕ) (key : Key) (keys : List Key) (all refs : List ℕ) → S
 first_at n i key keys all refs placed behind =
     ap (λ p. get_or all p 0) (placed zero key (omega arith)) ∙ behind zero
 
--- the reference at the key's place is to its string
+-- the reference at the key's place points to its string
 abbrev HoldsKey : List ℕ → List ℕ → Key → Type 0
 HoldsKey f all key = what_holds f (slice_index all (place_of key)) ≡ Ok (holds_scalar (text (units_at key)))
 

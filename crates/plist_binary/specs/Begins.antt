@@ -21,7 +21,7 @@ payload_read (Ok (holds_list refs)) = 0
 payload_read (Ok (holds_table keys values)) = 0
 payload_read (Err e) = 0
 
--- object j holds a reference to i, after references to these values
+-- object j refers to i, after references to these values
 pub record Comes (f : List ℕ) (j i : ℕ) (vs : Items) : Type 0 where
   pub held : Held
   pub holds : Holds f j held
@@ -67,8 +67,8 @@ pub record IsEntered (f before : List ℕ) (j : ℕ) (whole left : Budget) : Typ
   pub shallow : length before < MAX_DEPTH
   pub spent : Spends whole (1 + nodes) payload left
 
--- what comes before these references, which the container j holds one after the other, is what was
--- taken from the whole budget
+-- what comes before these references, which the container j contains one after the other, is what
+-- was taken from the whole budget
 pub record AreNext (f before : List ℕ) (j : ℕ) (refs : List ℕ) (whole left : Budget) : Type 0 where
   pub nodes : ℕ
   pub payload : ℕ

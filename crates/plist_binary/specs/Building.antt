@@ -20,14 +20,14 @@ SpellsUnits f i units = Holds f i (holds_scalar (text units))
 abbrev pub SpellsText : List ℕ → ℕ → Type 0
 SpellsText f i = (units : List ℕ) × SpellsUnits f i units
 
--- each of the references is to such an object
+-- each of the references points to such an object
 abbrev pub AllSpellWithin : List ℕ → List ℕ → ℕ → Type 0
 AllSpellWithin f refs levels = (i : ℕ) → Contains refs i → SpellsWithin f i levels
 
 abbrev pub AllSpellTexts : List ℕ → List ℕ → Type 0
 AllSpellTexts f refs = (i : ℕ) → Contains refs i → SpellsText f i
 
--- the references to keys and to values are to pairs that are at most `levels` deep
+-- the references to keys and to values give pairs that are at most `levels` deep
 pub record SpellsPairsWithin (f keys values : List ℕ) (levels : ℕ) : Type 0 where
   pub rows : List (ℕ × ℕ)
   pub pairs : Pairs

@@ -20,7 +20,7 @@ pub record IsFaulty (f : List ℕ) (i : ℕ) (fault : ObjectFault) : Type 0 wher
   pub listed : i < (trailer_of f).count
   pub fails : what_holds f i ≡ Err fault
 
--- i ends a path, and holds a reference to no object
+-- i ends a path, and contains a reference to no object
 pub record RefersNowhere (f : List ℕ) (i : ℕ) : Type 0 where
   pub ends : EndsPath f i
   pub reference : ℕ

@@ -16,14 +16,14 @@ pub record Passes (f : List ℕ) (i levels : ℕ) (before : Budget) (deep : ℕ)
   pub depth_is : depth value ≤ deep
   pub within : deep ≤ levels
 
--- the references are to values, in order
+-- the references point to values, in order
 pub record PassesItems (f refs : List ℕ) (levels : ℕ) (before : Budget) (deep : ℕ) (after : Budget) : Type 0 where
   pub values : List Plist
   pub reads : ReadsItems f refs levels before (items_of values) after
   pub depth_is : depth_of_items (items_of values) ≤ deep
   pub within : deep ≤ levels
 
--- the references to keys and to values are to the pairs of a dictionary
+-- the references to keys and to values give the pairs of a dictionary
 pub record PassesPairs (f keys values : List ℕ) (levels : ℕ) (before : Budget) (deep : ℕ) (after : Budget) : Type 0 where
   pub pairs : Pairs
   pub reads : ReadsPairs f keys values levels before pairs after

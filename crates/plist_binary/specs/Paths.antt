@@ -7,7 +7,7 @@ use Rattle.plist_object.specs.Places.{Holds}
 use Rattle.plist_object.specs.References.{references_of}
 use Rattle.plist_binary.specs.declared.path.Path.{Path, Above, In'}
 
--- object j holds a reference to i
+-- object j refers to i
 pub record Refers (f : List ℕ) (j i : ℕ) : Type 0 where
   pub held : Held
   pub holds : Holds f j held

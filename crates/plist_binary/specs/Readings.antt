@@ -25,7 +25,7 @@ pub record Refuses (f : List ℕ) (whole : Budget) (i levels : ℕ) (left : Budg
   pub stands : StandsWithin f whole.nodes whole.payload fault
   pub none : UnlessMemory fault ((v : Plist) → IsPlist v → Spells f i v → depth v ≤ levels → Affords left (nodes v) (payload v) → ⊥)
 
--- the references are to the items, in order
+-- the references point to the items, in order
 pub record ReadsItems (f refs : List ℕ) (levels : ℕ) (before : Budget) (vs : Items) (after : Budget) : Type 0 where
   pub spell : SpellItems f refs vs
   pub valid : AreItems vs
@@ -46,12 +46,12 @@ pub record RefusesKey (f : List ℕ) (whole : Budget) (i levels : ℕ) (left : B
   pub stands : StandsWithin f whole.nodes whole.payload fault
   pub none : UnlessMemory fault ((units : List ℕ) → IsPlist (scalar (text units)) → Spells f i (scalar (text units)) → 1 ≤ levels → Affords left 1 (2 * length units) → ⊥)
 
--- the fault is true, and the references are not to strings within the budget
+-- the fault is true, and the references do not point to strings within the budget
 pub record RefusesKeys (f : List ℕ) (whole : Budget) (refs : List ℕ) (levels : ℕ) (left : Budget) (fault : BinaryFault) : Type 0 where
   pub stands : StandsWithin f whole.nodes whole.payload fault
   pub none : UnlessMemory fault ((keys : List (List ℕ)) → AreItems (texts keys) → SpellItems f refs (texts keys) → depth_of_items (texts keys) ≤ levels → Affords left (nodes_of_items (texts keys)) (payload_of_items (texts keys)) → ⊥)
 
--- the references to keys and to values are to the pairs, which are in the order of the keys
+-- the references to keys and to values give the pairs, which are in the order of the keys
 pub record ReadsPairs (f refs others : List ℕ) (levels : ℕ) (before : Budget) (ps : Pairs) (after : Budget) : Type 0 where
   pub rows : List (ℕ × ℕ)
   pub moved : IsPermutation (zip refs others) rows

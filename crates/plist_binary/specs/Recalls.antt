@@ -23,7 +23,7 @@ pub record AreApart (keys : List (List ℕ)) : Type 0 where
   pub moved : IsPermutation keys sorted
   pub ascend : IsStrictlySortedBy (slice_cmp nat_cmp) sorted
 
--- the references are to strings with exactly this payload, no two of which are equal
+-- the references point to strings with exactly this payload, no two of which are equal
 pub record SpellApart (f refs : List ℕ) (payload : ℕ) : Type 0 where
   pub keys : List (List ℕ)
   pub spell : SpellItems f refs (texts keys)
@@ -40,7 +40,8 @@ pub record IsKnown (f : List ℕ) (known : KnownKeys) : Type 0 where
   pub last : IsKnownLast f known.last
   pub sorted : AreSortedIfAny f known.sorted
 
--- the references are to strings, no two of which are equal, that take the difference of the budgets
+-- the references point to strings, no two of which are equal, that take the difference of the
+-- budgets
 pub record ReadsApart (f refs : List ℕ) (levels : ℕ) (before after : Budget) : Type 0 where
   pub keys : List (List ℕ)
   pub reads : ReadsItems f refs levels before (texts keys) after

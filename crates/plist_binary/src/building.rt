@@ -43,7 +43,7 @@ impl<'a> Builder<'a> {
         }
     }
 
-    // Returns the values that the references are to, in order.
+    // Returns the values that the references point to, in order.
     #[cycle(build)]
     fn items(&self, refs: Refs, levels: u64) -> Result<Vec<Value>, AllocError>
         requires { AllSpellWithin (octets_of self.now.file) (numbers_of refs) levels }
@@ -57,7 +57,7 @@ impl<'a> Builder<'a> {
         Ok(items)
     }
 
-    // Returns the pairs that the references to keys and to values are to.
+    // Returns the pairs that the references to keys and to values give.
     #[cycle(build)]
     fn pairs(
         &self,
@@ -77,7 +77,7 @@ impl<'a> Builder<'a> {
         tables::table(self.alloc, keys, values)
     }
 
-    // Returns the strings that the references are to, each with its index as its place.
+    // Returns the strings that the references point to, each with its index as its place.
     fn keys(&self, refs: Refs) -> Result<Vec<Key<'a>>, AllocError>
         requires { AllSpellTexts (octets_of self.now.file) (numbers_of refs) }
         ensures texts { IfOk result (λ keys. AreTexts (octets_of self.now.file)

@@ -25,7 +25,7 @@ pub enum BinaryFault {
     },
     /// 5: a reference is not below the number of objects.
     BadReference {
-        /// The object that holds the reference.
+        /// The object that contains the reference.
         object: u64,
     },
     /// 6: the object's count or content reaches into the offset table.
@@ -75,7 +75,7 @@ pub enum BinaryFault {
     },
     /// 15: a reference leads back to a container on the path to it.
     Cycle {
-        /// The object that holds the reference.
+        /// The object that contains the reference.
         object: u64,
     },
     /// 16: the value is deeper than `MAX_DEPTH`.

@@ -17,11 +17,17 @@ use std::alloc::Global;
 ///
 /// # Errors
 ///
-/// Fails with the first fault in this order: the layout; then for each reference in preorder from
-/// the top a reference to no object, one to a container on the path to it, a node too many, a node
-/// too deep, the object's own fault, a key that is not a string, too much payload. All keys of a
-/// dictionary come first, then duplicate keys, then its values. Out of memory may come before any
-/// of them.
+/// Fails with the first fault: that of the layout, or that of the first bad reference in preorder
+/// from the top. All keys of a dictionary come first, then duplicate keys, then its values. For one
+/// reference the faults come in this order:
+///
+/// - it refers to no object, or to a container on the path to it;
+/// - it is a node too many, or too deep;
+/// - the object cannot be decoded;
+/// - it is a key but not a string;
+/// - it has too much payload.
+///
+/// Out of memory may come before any of them.
 pub fn read(alloc: Global, octets: &[u8]) -> Result<Value, BinaryFault>
     ensures read { IfOk result (λ value. IsBinary octets.now (view value)) }
     ensures refused { IfErr result (λ fault. fault ≢ BinaryFault.OutOfMemory → (v : Plist) →

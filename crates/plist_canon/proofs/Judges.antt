@@ -69,7 +69,7 @@ pub span-starts : (f : List ℕ) (i : ℕ) → IsOk (object_at f i) → (end : �
 unfolding span_of
 span-starts f i ok = started (place_of f i) (trailer_of f).table (object_at f i) ok
 
--- the strings that the references are to
+-- the strings that the references point to
 pub texts_of : (f keys : List ℕ) → AllByRecursion (HoldsText f) keys → (texts : List (List ℕ)) × HoldTexts f keys texts
 texts_of f [] all = ([], refl)
 texts_of f (i ∷ keys) all =
@@ -117,7 +117,7 @@ turns_from_sorted f (i ∷ j ∷ keys) (units ∷ next ∷ texts) hold sorted ze
 turns_from_sorted f (i ∷ j ∷ keys) (units ∷ next ∷ texts) hold sorted (suc k) below =
     turns_from_sorted f (j ∷ keys) (next ∷ texts) hold.1 sorted.1 k (omega arith)
 
--- the keys of a dictionary ascend if the strings that its references are to do
+-- the keys of a dictionary ascend if the strings that its references point to do
 pub HasAscendingKeys-turns : (f : List ℕ) (i : ℕ) (keys values : List ℕ) → Holds f i (holds_table keys values) → AscendInTurn f keys → HasAscendingKeys f i
 HasAscendingKeys-turns f i keys values holds ascend others more texts reads hold =
     let e : holds_table keys values ≡ holds_table others more = (let a = holds.reads in cc) in

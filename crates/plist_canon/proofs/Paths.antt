@@ -80,7 +80,7 @@ module _ (frames : List Frame) (count : ℕ) (frame : Frame) (counted : length f
         owed = λ octets ascending. Owes-parted f frame.owner frame.levels i rest outer left (stands.owed octets ascending);
       })
 
-  -- the next reference is to the next object
+  -- the next reference points to the next object
   pub Awaits-here : (f : List ℕ) (turns : ℕ) (left : Option Budget) → frame ≡ slice_index_or frames (count - 1) frame → frame.done < length (numbers_of frame.refs) → slice_index (numbers_of frame.refs) frame.done ≡ turns → StandsAfter f turns left (path_groups frames) → Awaits f turns frame.levels left (path_groups (slice_set frames (count - 1) (record frame { done = frame.done + 1 })))
   Awaits-here f turns left is below next stands =
       let outer = path_groups (take (count - 1) frames) in
@@ -190,7 +190,7 @@ module _ (f : List ℕ) (walk : Walk) (all : WalkedAll f walk) (met : MetInTurn 
   stands : Stands f (length walk.weights.items) walk.left (path_groups walk.path.items)
   stands = let counted = met.counted in let some = all.some in Stands-after f _ walk.left _ (omega arith) met.stands
 
-  -- a reference is left that is not to a visited scalar
+  -- a reference is left that does not point to a visited scalar
   pub breaks-at : (owner levels i : ℕ) (after : Option Budget) (groups : List Group) → GoesOn walk.weights.items (path_groups walk.path.items) walk.left (grouped owner levels (i ∷ []) ∷ groups) after → IsNoneMet walk.weights.items i → IsBroken f 7 owner
   breaks-at owner levels i after groups goes none =
       let left = goes f met.weighed stands in

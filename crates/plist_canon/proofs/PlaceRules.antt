@@ -110,7 +110,7 @@ module _ (f : List ℕ) (all : List Plist) (has : HasObjects f all) where
       let made = is_made all i (rw has.counted at h) in
       subst (IsWellRead f) made.number_is (well_read_at (value_at all made.place) made.place (has.stands made.place made.below))
 
-  -- the strings that references to keys are to are the keys
+  -- the strings that references to keys point to are the keys
   texts_named : (ps : Pairs) (k : ℕ) (texts : List (List ℕ)) → Stands all k (key_texts ps) → HoldTexts f (map (number_in all) (key_places k ps)) texts → texts ≡ key_units ps
   texts_named no_pairs k [] h named = refl
   texts_named no_pairs k (units ∷ texts) h named = absurd named

@@ -155,7 +155,7 @@ next f i refs met can =
       order = subst (λ (es : List ℕ). MeetsInOrder f met es (trailer_of f).count) is can.order;
     }
 
--- the next reference is to the next object, whose references then come first
+-- the next reference points to the next object, whose references then come first
 pub CanFinish-new : (f : List ℕ) (refs : List ℕ) (met : ℕ) (held : Held) → Holds f met held → CanFinish f (met ∷ refs) met ↔ CanFinish f (references_of held ++ refs) (suc met)
 CanFinish-new f refs met held holds = (
   λ can.
@@ -179,7 +179,7 @@ CanFinish-new f refs met held holds = (
       },
 )
 
--- the next reference is to a visited scalar
+-- the next reference points to a visited scalar
 pub CanFinish-known : (f : List ℕ) (i : ℕ) (refs : List ℕ) (met : ℕ) → i < met → HoldsScalar f i → CanFinish f (i ∷ refs) met ↔ CanFinish f refs met
 CanFinish-known f i refs met below scalar = (
   λ can.

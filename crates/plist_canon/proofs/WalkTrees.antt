@@ -31,7 +31,7 @@ pub record WalkedTree (f : List ℕ) (i : ℕ) (entries : List ℕ) : Type 0 whe
   pub reads : (number : ℕ → ℕ) (k : ℕ) → AreNumbers number k entries → PlacesHold f number k (preorder value)
   pub same_scalar : (s : Scalar) → Holds f i (holds_scalar s) → value ≡ scalar s
 
--- if a reference is to a scalar, the item in its place is that scalar
+-- if a reference points to a scalar, the item in its place is that scalar
 abbrev SameScalars : List ℕ → List ℕ → Items → Type 0
 SameScalars f refs no_items = refs ≡ []
 SameScalars f [] (item v vs) = ⊥

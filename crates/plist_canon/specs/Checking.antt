@@ -51,7 +51,7 @@ AllRead f = (i : ℕ) → i < (trailer_of f).count → IsWellRead f i
 abbrev pub AllAscend : List ℕ → Type 0
 AllAscend f = (i : ℕ) → i < (trailer_of f).count → HasAscendingKeys f i
 
--- the references are numbers of objects, and those to keys are to strings
+-- the references are numbers of objects, and those to keys point to strings
 pub record RefersWell (f : List ℕ) (held : Held) : Type 0 where
   pub numbers : AllByRecursion (λ reference. reference < (trailer_of f).count) (references_of held)
   pub texts : AllByRecursion (HoldsText f) (keys_of held)
@@ -69,7 +69,7 @@ pub record AreInOrder (f : List ℕ) (i j : ℕ) : Type 0 where
   pub holds_second : Holds f j (holds_scalar (text second))
   pub below : slice_cmp nat_cmp first second ≡ Less
 
--- each reference is to a string that is below the next
+-- each reference points to a string that is below the next
 abbrev pub AscendInTurn : List ℕ → List ℕ → Type 0
 AscendInTurn f keys = (k : ℕ) → suc k < length keys → AreInOrder f (slice_index keys k) (slice_index keys (suc k))
 

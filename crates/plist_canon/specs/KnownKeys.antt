@@ -5,7 +5,7 @@ use Rattle.plist_object.specs.Views.{numbers_of}
 use Rattle.plist_canon.specs.Checking.{AscendInTurn, NameTexts}
 use Rattle.plist_canon.specs.declared.known_keys.KnownKeys.{KnownKeys}
 
--- each reference is to a string that is below the next
+-- each reference points to a string that is below the next
 pub record NamesInOrder (f keys : List ℕ) : Type 0 where
   pub named : NameTexts f keys
   pub ascend : AscendInTurn f keys

@@ -21,14 +21,14 @@ keys_of (holds_scalar s) = []
 keys_of (holds_list refs) = []
 keys_of (holds_table keys values) = keys
 
--- the references are to these strings, in this order
+-- the references point to these strings, in this order
 abbrev pub HoldTexts : List ℕ → List ℕ → List (List ℕ) → Type 0
 HoldTexts f refs [] = refs ≡ []
 HoldTexts f [] (units ∷ texts) = ⊥
 HoldTexts f (i ∷ refs) (units ∷ texts) = Holds f i (holds_scalar (text units)) × HoldTexts f refs texts
 
--- Object i can be decoded, each of its references is the number of an object, and those to keys are
--- to strings.
+-- Object i can be decoded, each of its references is the number of an object, and those to keys
+-- point to strings.
 pub record IsWellRead (f : List ℕ) (i : ℕ) : Type 0 where
   pub held : Held
   pub holds : Holds f i held
@@ -108,12 +108,12 @@ pub record FollowsRules (f : List ℕ) : Type 0 where
   pub no_repeat : (i : ℕ) → i < (trailer_of f).count → IsNoRepeat f i
   pub numbered_in_preorder : IsNumberedInPreorder f
 
--- A reference that the walk has still to follow, with the object that holds it.
+-- A reference that the walk has still to follow, with the object that contains it.
 pub record Reference : Type 0 where
   pub holder : ℕ
   pub number : ℕ
 
--- the references that an object holds
+-- the references that an object contains
 abbrev pub held_by : ℕ → List ℕ → List Reference
 held_by holder [] = []
 held_by holder (i ∷ refs) = record { holder = holder; number = i } ∷ held_by holder refs

@@ -24,7 +24,7 @@ pub record Stands (f : List ℕ) (met : ℕ) (left : Option Budget) (groups : Li
   pub walking : IsWalking f met (references_left groups)
   pub owed : AreOctets f → AllAscend f → Owes f groups left
 
--- the reference is to a visited scalar, if these are the weights of the visited objects
+-- the reference points to a visited scalar, if these are the weights of the visited objects
 pub record Passes (weights : List Weight) (levels i : ℕ) (before after : Option Budget) : Type 0 where
   pub listed : i < length weights
   pub is_scalar : is_scalar_weight (slice_index_or weights i container) ≡ true

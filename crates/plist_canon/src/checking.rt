@@ -90,8 +90,8 @@ pub enum Verdict {
 /// It is if and only if eight rules hold, each stated in terms of the file alone (this project's
 /// profile):
 ///
-/// - 0: every object can be decoded, its references are numbers of objects, references to keys are
-///   to strings, and the value is within the limits;
+/// - 0: every object can be decoded, its references are numbers of objects, references to keys
+///   point to strings, and the value is within the limits;
 /// - 1: the first six bytes of the trailer are zero, and the top object is 0;
 /// - 2: offsets and references have the least widths;
 /// - 3: the objects follow one another without gaps, from the header to the offset table;
@@ -101,10 +101,10 @@ pub enum Verdict {
 /// - 7: the walk from object 0 in preorder visits the objects in the order of their numbers, and
 ///   only scalars more than once.
 ///
-/// The rules are tested in this order: 1 and 2; object by object 0, 3, 4, 5 and 6; 3 at the last
-/// object, for the place of the offset table; 7; and last 0 at object 0, for the limits. Rule 6 is
-/// broken at the later of two equal objects. Rule 7 is broken at the container with the first bad
-/// reference of the walk, or at 0 if an object is never visited.
+/// The rules are tested in this order. First come 1 and 2, then 0, 3, 4, 5 and 6 object by object.
+/// Then follow 3 at the last object, for the place of the offset table, 7, and 0 at object 0, for
+/// the limits. Rule 6 is broken at the later of two equal objects. Rule 7 is broken at the
+/// container with the first bad reference of the walk, or at 0 if an object is never visited.
 ///
 /// No value is built. Time is linear in the size of the file, except for sorting the keys once.
 /// Memory is needed for each object, for scalars that may occur twice, for keys and for the path of

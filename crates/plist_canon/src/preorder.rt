@@ -27,7 +27,7 @@ struct Frame<'a> {
     done: u64,
 }
 
-// A reference, the depth allowed for its value, and the container that holds it.
+// A reference, the depth allowed for its value, and the container that contains it.
 #[derive(Clone, Copy)]
 struct Visit {
     owner: u64,
@@ -139,7 +139,7 @@ fn next_levels(
     }
 }
 
-// Like [`next_levels`] if the next reference is to object `number`, which is the common case.
+// Like [`next_levels`] if the next reference points to object `number`, which is the common case.
 // Otherwise returns `None` and changes nothing.
 #[inline(always)]
 fn levels_at(path: &mut Vec<Frame>, number: u64) -> Option<u64>
@@ -219,7 +219,7 @@ fn push_part<'a>(
     Ok(())
 }
 
-// Returns the next reference on the path that is not to a visited scalar.
+// Returns the next reference on the path that does not point to a visited scalar.
 #[inline(always)]
 fn next_visit(path: &mut Vec<Frame>, left: &mut Option<Budget>, weights: &[Weight]) -> Option<Visit>
     ensures goes { PathGoesOn weights.now path.old.items left.old result path.new.items left.new }
@@ -239,7 +239,8 @@ fn next_visit(path: &mut Vec<Frame>, left: &mut Option<Budget>, weights: &[Weigh
     None
 }
 
-// Returns the next reference of the frame that is not to a visited scalar, and the index after it.
+// Returns the next reference of the frame that does not point to a visited scalar, and the index
+// after it.
 #[inline(always)]
 fn first_other(frame: &Frame, left: &mut Option<Budget>, weights: &[Weight]) -> Option<(u64, u64)>
     ensures goes { FrameGoesOn weights.now frame.now left.old result left.new }

@@ -121,7 +121,7 @@ fn canonicalise_binary<S: BuildHasher + Copy>(
     Ok(canonical_of(alloc, hasher, &file, sorted)?)
 }
 
-// Goes by the binary file that the text is read into.
+// Makes the file from the draft of the text.
 fn canonicalise_text<S: BuildHasher + Copy>(
     alloc: Global,
     hasher: S,

@@ -41,8 +41,8 @@ pub(crate) fn draft_of(alloc: Global, text: &[u8]) -> Result<Vec<u8>, Fault>
     }
 }
 
-// Returns the canonical file of the text's value, for a text without a draft. Almost always this
-// fails with the text's own refusal. If there is a value, its canonical file serves as the draft.
+// Returns the canonical file of the text's value, for a text without a draft. This normally fails
+// with the text's own refusal. If there is a value, its canonical file serves as the draft.
 fn file_of_value(alloc: Global, text: &[u8]) -> Result<Vec<u8>, Fault>
     ensures drafted { IfOk result (λ file. (v : Plist) → IsBinary file.items v
         → IsAccepted text.now v) }

@@ -1,7 +1,7 @@
 //! The tests that no row of `rows` can express: generated files, failing devices, each prefix of
-//! small files and texts, deep texts, refused memory, and the program over the files of the host
-//! and over a disk in memory. They are in one crate, because a crate with tests loads the proofs of
-//! everything below it.
+//! small files and texts, deep texts and refused memory. Also the program over the files of the
+//! host and over a disk in memory. They are in one crate, because a crate with tests loads the
+//! proofs of everything below it.
 #![tactic(auto)]
 
 #[cfg(test)]

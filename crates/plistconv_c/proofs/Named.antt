@@ -65,7 +65,7 @@ named (WriteFailed sent) = itself _ refl
 named InputTooLarge = itself _ refl
 named (OutOfMemory sent) = itself _ refl
 
--- the fault for a refusal has the same refusal and the same line as the fault that it stands for
+-- the fault for a refusal has the same refusal and the same line as the fault that it describes
 pub record IsNamedBy (fault : Fault) (told : Refusal) : Type 0 where
   pub one : Fault
   pub found : fault_at told.unit told.number told.place ≡ Some one

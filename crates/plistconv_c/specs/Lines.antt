@@ -1,4 +1,4 @@
--- The fault that a refusal stands for, and the line printed for it.
+-- The fault that a refusal describes, and the line printed for it.
 use Rattle.std.specs.Prelude.{◌≡◌, ◌⊎◌, ◌==◌, ℕ, List, Option, Some, None, if◌then◌else◌}
 use Rattle.plist_binary.specs.declared.fault.BinaryFault.TheVariants as binary
 use Rattle.ostep_text.specs.declared.fault.TextFault.TheVariants as text
@@ -9,22 +9,22 @@ use Rattle.plistconv_c.specs.Given.{IsGiven}
 use Rattle.plistconv_c.specs.Refusals.{refusal_of}
 use Rattle.plistconv_c.specs.declared.refusals.Refusal.{Refusal}
 
--- the refusal stands for some fault
+-- the refusal describes some fault
 abbrev pub IsTold : Refusal → Type 0
 IsTold told = (fault : Fault) × ((input : ℕ) × (told ≡ refusal_of fault input))
 
--- The buffer has the line of the fault that the refusal stands for. There is such a fault, and if
+-- The buffer has the line of the fault that the refusal describes. There is such a fault, and if
 -- there are several, they have the same line.
 pub record IsLineGiven (path before after : List ℕ) (count : ℕ) (told : Refusal) : Type 0 where
   pub known : IsTold told
   pub given : (fault : Fault) → (input : ℕ) → told ≡ refusal_of fault input
       → IsGiven (line_of path fault) before after count
 
--- the refusal stands for no fault
+-- the refusal describes no fault
 abbrev pub IsUntold : Refusal → Type 0
 IsUntold told = (fault : Fault) → (input : ℕ) → told ≡ refusal_of fault input → ⊥
 
--- memory ran out for the line, or the refusal stands for no fault; the buffer is unchanged
+-- memory ran out for the line, or the refusal describes no fault; the buffer is unchanged
 pub record IsNoLine (before after : List ℕ) (count : ℕ) (told : Refusal) (number : ℕ) : Type 0 where
   pub reason : ((number ≡ 60) × IsTold told) ⊎ ((number ≡ 255) × IsUntold told)
   pub kept : after ≡ before

@@ -1,4 +1,4 @@
-//! The fault that a refusal stands for.
+//! The fault that a refusal describes.
 ghost use Rattle.std.specs.Prelude.{◌≡◌, None, IfSome};
 ghost use Rattle.plistconv_c.specs.Lines.{IsUntold, fault_after, fault_at, fault_at_object};
 ghost use Rattle.plistconv_c.specs.Lines.{fault_at_octet, fault_nowhere};
@@ -9,7 +9,7 @@ use ostep_text::TextFault;
 use plist_binary::BinaryFault;
 use plist_forms::Fault;
 
-// Returns the fault that the refusal stands for, if there is one. Several faults may look the same
+// Returns the fault that the refusal describes, if there is one. Several faults may look the same
 // as a refusal; returns one of them.
 pub(crate) fn fault_of(refusal: &Refusal) -> Option<Fault>
     ensures found { IfSome result (λ fault. refusal.now ≡ refusal_of fault refusal.now.input) }
