@@ -14,8 +14,8 @@
  * - 1 MiB of stack is free. A value may be 512 levels deep, and the deepest take about 620 KiB; with less the program
  *   crashes. Threads have 8 MiB with glibc, but 128 KiB with musl: create them with pthread_attr_setstacksize.
  * - The call is made neither from a signal handler, nor in the child of a fork of a program with threads.
- * Callers without this header (dlsym, another language) also have to: pass a valid pointer beside a count of 0, pass 16
- * zero bytes for no hash key, and initialise the structures and numbers that a call writes.
+ * Callers without this header (dlsym, another language) also have to pass a valid pointer if a count is 0, to pass 16
+ * zero bytes for no key, and to initialise what a call writes.
  *
  * Threads: calls share no state, so any number may run at once, each on its own output. They may share input and key,
  * which are only read. Memory comes from malloc, realloc and free; after a call returns it keeps none.
@@ -119,7 +119,7 @@ typedef struct {
 /* Writes the canonical file of the value of octets[0 .. count). Input that begins with `bplist` is read as a binary
  * property list, any other as OpenStep text.
  * Returns 0 with the size of the file in *length. If that is at most `room`, the file is in into[0 .. *length) and the
- * rest of the buffer is unchanged; if it is more, the whole buffer is unchanged, and *length is the room needed.
+ * rest of the buffer is unchanged. If it is more, the whole buffer is unchanged, and *length is the room needed.
  * Otherwise returns the number of the refusal, with *refusal set and *length 0; the buffer is unchanged. */
 uint8_t plistconv_canonical(const uint8_t *octets, size_t count, const uint8_t *key, uint8_t *into,
                             size_t room, size_t *length, plistconv_refusal *refusal);

@@ -1,26 +1,28 @@
 #!/usr/bin/env python3
-"""scripts/docs.py: holds the pages against the repository, and says what no longer stands.
+"""scripts/docs.py: checks the pages against the repository, and the language of pages and comments.
 
-What stands in backticks in a page is checked where its form tells what it is:
-- a path (`fuzz/rows.py`, `plist_value/specs/Limits.antt`, `crates/rows`): there is such a file or folder. That of a
-  crate may begin with the crate's name; a link is looked up from the page's folder, and its heading in that page;
-- a file of definitions or lemmas by itself (`Begins.antt`): some crate has it;
-- `make TARGET`: there is such a target;
-- `plist_*` and `ostep_*` by itself: a crate, or a function or file of that name;
-- a name with `::` and clauses behind a colon (`laws::{headline, one_value}`, `fits: limits`): a crate that the name
-  begins with, or else any, has functions or types of these names, and clauses;
+A span in backticks is checked if its form tells what it is:
+- a path (`fuzz/rows.py`, `plist_value/specs/Limits.antt`, `crates/rows`): the file or folder exists. The path of a
+  crate may begin with its name. A link is resolved from the page's folder, and its heading has to be in that page;
+- the name of a file of definitions or lemmas (`Begins.antt`): some crate has it;
+- `make TARGET`: the target exists;
+- a name `plist_*` or `ostep_*`: a crate, or a function or file of that name;
+- a name with `::` or with clauses after a colon (`laws::{headline, one_value}`, `fits: limits`): the crate that it
+  begins with, or else any crate, has such functions or types, and such clauses;
 - in docs/PROOFS.md, ARCHITECTURE.md and DECISIONS.md a name with `_` (`put_scalar`): some crate has it.
-Words in capitals stand for others (`crates/NAME/src`), and what has them is passed over.
+Words in capitals are placeholders (`crates/NAME/src`); spans with them are skipped.
 Besides:
-- the README's graph (lines `plist_convert → plist_forms → plist_canon`) is that of crates.txt: what a crate reaches by
-  its arrows is what it reaches by crates.txt. The crates of tests are left out;
-- docs/ARCHITECTURE.md has a row for each crate, and its layers have each crate once, none above what it stands on;
-- docs/FORMATS.md has each refusal with its number and its name, and the limits as the code has them, SECURITY.md too;
-- CHANGELOG.md has the version of the program, which is that of the man page, the header and the packages;
+- the README's graph (lines `plist_convert → plist_forms → plist_canon`) agrees with crates.txt: along its arrows each
+  crate reaches exactly what it reaches by crates.txt. The crates of tests are left out;
+- docs/ARCHITECTURE.md has a row for each crate, and its layers have each crate once, none above one that it uses;
+- docs/FORMATS.md has each refusal with its number and its name, and the limits of the code, and so does SECURITY.md;
+- CHANGELOG.md has the version of the program, which is also that of the man page, the header and the packages;
 - docs/RECIPES.md and the man page plistconv-tools.1 name each command in tools/;
-- CONTRIBUTING.md, Makefile and build.mk state one cost of the first `make`;
+- CONTRIBUTING.md, Makefile and build.mk state the same cost of the first `make`;
 - docs/BENCHMARKS.md names the commit that was measured;
-- the pages have at most 10,500 words together, and no page more than 3,500, as `wc -w` counts them.
+- the pages have at most 10,500 words together, and no page more than 3,500, as counted by `wc -w`;
+- neither the pages nor the comments of the crates in PLAIN have a word of UNPLAIN outside of backticks, and these
+  comments have no sentence of more than 35 words.
 Fails if anything is stale.
 """
 import re
@@ -38,10 +40,17 @@ LINK = re.compile(r"\]\(([^)#:]*)(?:#([\w-]+))?\)")
 PATH = re.compile(r"[\w.-]+(/[\w.-]*)+")
 STAND_IN = re.compile(r"\b[A-Z]{2,}\b(?!\.)")
 NAMED = re.compile(r"((?:\w+::)*)(\{[\w, ]+\}|\w+)(?:: (\w+(?:, \w+)*))?")
+# The crates whose comments are checked for plain English, and their files that are not. Extend what is checked.
+PLAIN = ("plist_devices", "plist_canon", "ostep_text", "plist_forms", "plistconv_c", "rows", "test_files", "plist_tests",
+         "plist_binary")
+NOT_YET = {CRATES / "plist_binary/src" / name for name in
+           ("heads.rt", "judging.rt", "known_keys.rt", "row_order.rt", "tables.rt", "walking.rt")}
+UNPLAIN = re.compile(r"\b([Ss]o many|[Bb]ehind|[Ss]tands?|[Oo]f late|[Ww]ant of memory|[Ww]hite|The same|As of|Those of)\b")
+MOST_OF_A_SENTENCE = 35
 
 
 def declared():
-    """The crates, with the crates that each uses."""
+    """Returns the crates, with the crates that each uses."""
     crates = {}
     for line in (TOP / "crates.txt").read_text(encoding="utf-8").splitlines():
         name, _, uses = line.partition("#")[0].partition(":")
@@ -54,7 +63,7 @@ USES = declared()
 
 
 class Sources:
-    """The names in the code of a crate, or of all."""
+    """The names in the code of some crates."""
 
     def __init__(self, crates):
         files = [file for crate in crates for file in (CRATES / crate / "src").rglob("*.rt")]
@@ -76,14 +85,14 @@ ANTT = {file.name for file in CRATES.rglob("*.antt") if "out" not in file.parts}
 
 
 def stands(path, page):
-    """Whether there is such a file or folder."""
+    """Returns whether the file or folder exists."""
     return any((base / path).exists() for base in (TOP, CRATES, page.parent)) or any(
         (CRATES / crate / path).exists() for crate in USES
     )
 
 
 def wrong_name(span, is_exact):
-    """What of a name and its clauses does not stand, or None."""
+    """Returns the part of a name and its clauses that does not exist, or None."""
     match = NAMED.fullmatch(span)
     if match is None:
         return None
@@ -102,7 +111,7 @@ def wrong_name(span, is_exact):
 
 
 def stale(span, page):
-    """Why the span is stale, or None."""
+    """Returns why the span is stale, or None."""
     if STAND_IN.search(span) or "*" in span or ".." in span:
         return None
     if match := re.match(r"make ([a-z][\w-]*)", span):
@@ -121,13 +130,13 @@ def stale(span, page):
 
 
 def headings(page):
-    """The headings of a page, as links name them."""
+    """Returns the headings of a page in the form of links."""
     lines = re.findall(r"(?m)^#+ (.*)$", page.read_text(encoding="utf-8"))
     return {re.sub(r"[^\w -]", "", line).lower().replace(" ", "-") for line in lines}
 
 
 def page_faults(page, text):
-    """What is stale in a page, each with its line."""
+    """Yields what is stale in a page, with the line."""
     for number, line in enumerate(text.splitlines(), 1):
         for span in SPAN.findall(line):
             if why := stale(span, page):
@@ -145,12 +154,12 @@ def read(name):
 
 
 def blocks(text):
-    """The blocks of lines that are indented by four blanks."""
+    """Returns the blocks of lines indented by four spaces."""
     return [re.findall(r"(?m)^    (.*)", block) for block in re.findall(r"(?m)(?:^    .*\n)+", text)]
 
 
 def reached(edges):
-    """What each crate reaches in one step or more."""
+    """Returns what each crate reaches in one or more steps."""
     found = {}
 
     def of(crate):
@@ -166,7 +175,7 @@ def reached(edges):
 
 
 def graph_faults(text):
-    """The crates from which the graph of the README reaches others than crates.txt says."""
+    """Yields the crates that reach others in the graph of the README than in crates.txt."""
     drawn = {}
     for line in (line for block in blocks(text) for line in block if "→" in line):
         groups = [group.split(", ") for group in line.strip().split(" → ")]
@@ -178,13 +187,13 @@ def graph_faults(text):
     drawn = reached(drawn)
     differ = {crate: stated[crate] ^ drawn.get(crate, set()) for crate in crates}
     for crate in crates:
-        # (what differs from a crate below is told there)
+        # A difference at a crate below is reported there.
         if own := differ[crate].difference(*(differ[low] for low in stated[crate] if low in differ)):
             yield f"README.md: the graph is not that of crates.txt: {crate} and {', '.join(sorted(own))}"
 
 
 def layer_faults(text):
-    """The crates that have no row in ARCHITECTURE.md, are not in its layers once, or stand above what they use."""
+    """Yields the crates without a row in ARCHITECTURE.md, or without a layer, or with a layer above one they use."""
     rows = [re.split(r"\s*\|\s*", line.strip("| ")) for line in text.splitlines() if "|" in line]
     named = {name for row in rows for name in re.findall(r"`(\w+)`", row[0])}
     yield from (f"ARCHITECTURE.md: no row of `{crate}`" for crate in USES if crate not in named)
@@ -203,7 +212,7 @@ def layer_faults(text):
 
 
 def number_faults():
-    """The refusals and limits that a page has otherwise than the code."""
+    """Yields the refusals and limits that differ between a page and the code."""
     formats = read("docs/FORMATS.md")
     table = {}
     for line in formats.partition("\n## Refusals\n")[2].partition("\n## ")[0].splitlines():
@@ -223,7 +232,7 @@ def number_faults():
 
 
 def version_faults():
-    """The places where another version stands than in the program."""
+    """Yields the files whose version is not that of the program."""
     version = re.search(r'\.version\("([^"]+)"\)', read("crates/plist_convert/src/commands.rt"))[1]
     if f"\n## {version}\n" not in read("CHANGELOG.md"):
         yield f"CHANGELOG.md: nothing of version {version}"
@@ -241,29 +250,76 @@ def version_faults():
 
 
 def cost_faults():
-    """The places that state another cost of the first `make` than CONTRIBUTING.md."""
+    """Yields the files whose cost of the first `make` is not that of CONTRIBUTING.md."""
     costs = {file: re.findall(r"(\d+) processor minutes", read(file))[:1] for file in ("CONTRIBUTING.md", "Makefile", "build.mk")}
     yield from (f"{file}: its cost of the first make is not that of CONTRIBUTING.md" for file in costs
                 if not costs[file] or costs[file] != costs["CONTRIBUTING.md"])
 
 
 def tool_faults():
-    """The commands in tools/ that a page does not name."""
+    """Yields the commands in tools/ that a page does not name."""
     pages = {"RECIPES.md": read("docs/RECIPES.md"), "plistconv-tools.1": read("man/plistconv-tools.1").replace("\\-", "-")}
     for tool in sorted(TOP.glob("tools/plistconv-*")):
         yield from (f"{name}: no command {tool.name}" for name, page in pages.items() if tool.name not in page)
 
 
 def word_faults():
-    """The pages that are too long, or all together."""
+    """Yields the pages that are too long, alone or together."""
     words = {page.name: len(page.read_text(encoding="utf-8").split()) for page in PAGES}
     yield from (f"{name}: {many} words, at most {MOST_OF_A_PAGE}" for name, many in words.items() if many > MOST_OF_A_PAGE)
     if sum(words.values()) > MOST_WORDS:
         yield f"the pages have {sum(words.values())} words, at most {MOST_WORDS}"
 
 
+def comments(file, text):
+    """Returns the comments of a file, each with its line and its text. Consecutive lines are one comment."""
+    if file.suffix == ".h":
+        found = ((text.count("\n", 0, match.start()) + 1, match[1]) for match in re.finditer(r"(?s)/\*(.*?)\*/", text))
+        return [(number, re.sub(r"(?m)^ \* ?", "", comment)) for number, comment in found]
+    mark = re.compile(r"(\s*)(--)(?: (.*))?" if file.suffix == ".antt" else r"(\s*)(//[/!]?)(?: (.*))?")
+    found, before = [], None
+    for number, line in enumerate(text.splitlines(), 1):
+        match = mark.fullmatch(line)
+        kind = match and (match[1], match[2])
+        if match and kind == before:
+            found[-1][1].append(match[3] or "")
+        elif match:
+            found.append((number, [match[3] or ""]))
+        before = kind
+    return [(number, "\n".join(lines)) for number, lines in found]
+
+
+def sentences(text):
+    """Yields the sentences of a comment. Items, paragraphs and rows of tables end sentences too."""
+    for part in re.split(r"\n(?=- |#|.*\S {3,}\S)|\n\n", re.sub(r"`[^`]*`", "x", text)):
+        yield from re.split(r"(?<=[.!?])\s+(?=[A-Z0-9x\[])", part)
+
+
+def comment_faults(file, text):
+    """Yields what is not plain English in the comments of a file."""
+    name = file.relative_to(TOP)
+    for number, comment in comments(file, text):
+        for word in UNPLAIN.findall(re.sub(r"`[^`]*`|\n", " ", comment)):
+            yield f"{name}:{number}: the words `{word}`"
+        for sentence in sentences(comment):
+            if (many := len(sentence.split())) > MOST_OF_A_SENTENCE:
+                yield f"{name}:{number}: a sentence of {many} words, at most {MOST_OF_A_SENTENCE}"
+
+
+def plain_faults():
+    """Yields what is not plain English in the pages, and in the comments of the crates in PLAIN."""
+    for page in PAGES + BINDINGS:
+        for number, line in enumerate(page.read_text(encoding="utf-8").splitlines(), 1):
+            for word in () if line.startswith("    ") else UNPLAIN.findall(re.sub(r"`[^`]*`", "", line)):
+                yield f"{page.name}:{number}: the words `{word}`"
+    files = [file for crate in PLAIN for kind in ("rt", "antt") for file in (CRATES / crate).rglob(f"*.{kind}")
+             if "out" not in file.relative_to(CRATES).parts and file not in NOT_YET]
+    for file in [*sorted(files), TOP / "include/plistconv.h"]:
+        yield from comment_faults(file, file.read_text(encoding="utf-8"))
+
+
 def tried():
-    """Whether the checks find what is stale in pages that are made up, and nothing else."""
+    """Returns whether the checks find what is wrong in made-up pages and comments, and nothing else."""
     page = TOP / "docs" / "PROOFS.md"
     right = "`plist_value` `make test` `fuzz/rows.py` `laws::headline` `crates/NAME/gone` `fits: limits` `a/b`"
     wrong = "`plist_gone` `make gone` `fuzz/gone.py` `laws::gone` `fits: gone` `Gone.antt` `put_gone` [it](gone.md) [it](#gone)"
@@ -276,6 +332,10 @@ def tried():
         and not list(graph_faults(whole))
         and list(graph_faults(whole.partition("\n")[2])) != []
         and len(list(layer_faults("    top    plistconv, plist_value\n"))) >= len(crates)
+        and not list(comment_faults(CRATES / "a.rt", "/// Returns `behind`. It stood.\nlet behind = white;\n"))
+        and len(list(comment_faults(CRATES / "a.rt", "// So many\n// stand behind it.\nx\n//! The same.\n"))) == 4
+        and len(list(comment_faults(CRATES / "a.antt", "  -- It has" + " words" * 34 + ".\n  -- And these.\n"))) == 1
+        and len(list(comment_faults(CRATES / "a.h", "/* Want of\n * memory. */\n#define A white /* white */\n"))) == 2
     )
 
 
@@ -284,7 +344,7 @@ def main():
     for page in PAGES + BINDINGS:
         faults += page_faults(page, page.read_text(encoding="utf-8"))
     faults += [*graph_faults(read("README.md")), *layer_faults(read("docs/ARCHITECTURE.md"))]
-    faults += [*number_faults(), *version_faults(), *tool_faults(), *cost_faults(), *word_faults()]
+    faults += [*number_faults(), *version_faults(), *tool_faults(), *cost_faults(), *word_faults(), *plain_faults()]
     if not re.search(r"commit [0-9a-f]{7,}", read("docs/BENCHMARKS.md")):
         faults.append("BENCHMARKS.md: it does not name the commit that was measured")
     print("\n".join([*faults, f"{len(PAGES + BINDINGS)} pages, {len(faults)} faults"]))
