@@ -17,7 +17,6 @@ use Rattle.ostep_text.proofs.PhraseSteps.{push_row, items-last, rows-more}
 use Rattle.plist_value.proofs.Items.{push}
 use Rattle.ostep_text.proofs.SortingSteps.{reordered-more, put-stands, put-ascends, reordered-has, pairs-ascend}
 
--- arrays
 pub list-due : {whole : Front} {b : Before} {a : Around} → ValueDue whole b a paren_open → ListDue (λ rest. whole (paren_open ∷ rest)) b a
 list-due d = record {
   at = λ rest. d.at (paren_open ∷ rest);
@@ -57,7 +56,6 @@ item-open {a = a} {vs = vs} {w = w} inside more d s p = record {
   unfinished = ap accepts (item-leads inside more d s p []);
 }
 
--- dictionaries
 pub table-due : {whole : Front} {b : Before} {a : Around} → ValueDue whole b a brace_open → TableDue (λ rest. whole (brace_open ∷ rest)) b a
 table-due d = record {
   at = λ rest. d.at (brace_open ∷ rest);
@@ -131,7 +129,6 @@ row-more {key = key} {v = v} more d n p = record {
   leads = λ rest. d.leads (more rest) ∙ row-runs d.table (p rest);
 }
 
--- the value of a row
 pub row_value-first : {whole : Front} {b : Before} {t : Around} (l : Lexeme) → RowValueDue whole b t → ValueDue whole b t l
 row_value-first l d = record {
   at = d.at;

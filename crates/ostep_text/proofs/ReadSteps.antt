@@ -34,7 +34,6 @@ reads-then {inside = inside} r s = record {
   follow = λ whole b. s.follow (λ rest. whole (inside rest)) (r.follow whole b);
 }
 
--- values
 pub string-read : {known : Known} (tokens : List Placed) (first : Placed) (units : List ℕ) → first.lexeme ≡ string units → known (tokens ++ first ∷ [])
     → ReadsValue known tokens first.lexeme (scalar (text units))
 string-read tokens first units e h = record {
@@ -76,7 +75,6 @@ table-read {ps = ps} tokens first e r s = record {
   reads = behind-first tokens first r.reads;
 }
 
--- items
 pub no-items-read : {known : Known} {tokens : List Placed} → known tokens → ReadsItems known tokens [] no_items
 no-items-read h = record { inside = λ rest. rest; spells = λ rest. items_end; reads = reads-none h }
 
@@ -105,7 +103,6 @@ items-read i token e h = record {
   reads = reads-then i.reads (reads-token i.reads.all token paren_close e h);
 }
 
--- a row
 pub ended-read : {mid known : Known} {v : Plist} (tokens : List Placed) (first : Placed) (r : ReadsValue mid tokens first.lexeme v) (token : Placed)
     → token.lexeme ≡ semicolon → known (r.reads.all ++ token ∷ []) → ReadsEnded known tokens v
 ended-read tokens first r token e h = record {
@@ -133,7 +130,6 @@ alone-read {known} tokens at token key l e h = record {
       (behind-first tokens at (reads-token (tokens ++ at ∷ []) token semicolon e h));
 }
 
--- rows
 pub no-rows-read : {known : Known} {tokens : List Placed} → known tokens → ReadsRows known tokens [] no_pairs
 no-rows-read h = record { inside = λ rest. rest; spells = λ rest. rows_end; reads = reads-none h }
 
@@ -173,7 +169,6 @@ pub pairs-table : {octets : List ℕ} {ps : Pairs} {after : Tokens} (tokens : Li
     → Reading.ReadsRows octets (tokens ++ first ∷ []) (brace_close ∷ []) ps after → ArePairs ps → Reading.ReadsValue octets tokens first.lexeme (table ps) after
 pairs-table {ps = ps} tokens first e r a = table-read tokens first e r.read (record { same = r.same; ascending = pairs-ascend ps a })
 
--- whole texts
 pub whole-phrase : {known : Known} {first : Lexeme} {v : Plist} (r : ReadsValue known [] first v) → TopPhrase (lexemes r.reads.all) v
 whole-phrase {first = first} {v = v} r =
     subst (λ ls. TopPhrase ls v) (sym (before-are r.reads.all (λ rest. first ∷ r.inside rest) (r.reads.follow (λ rest. rest) (λ rest. refl)))) (a_value (r.spells []))

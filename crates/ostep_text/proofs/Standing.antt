@@ -27,7 +27,6 @@ use Rattle.ostep_text.proofs.MachineLemmas.{not-accepted, phrase-accepted, value
 use Rattle.ostep_text.proofs.DueSteps.{key-node, alone-node}
 use Rattle.ostep_text.proofs.SortingSteps.{reordered-has}
 
--- a fault of the tokens
 pub tokens-stand : (octets : List ℕ) (fault : LexFault) → StandsInTokens octets fault → Stands octets (of_tokens fault)
 tokens-stand octets lexer.OutOfMemory s = tt
 tokens-stand octets (lexer.BadUtf8 at) s = s
@@ -41,7 +40,6 @@ tokens-stand octets (lexer.OddData at) s = s
 tokens-stand octets (lexer.BadData at) s = s
 tokens-stand octets (lexer.BadUtf16 at) s = s
 
--- adding one more token before
 pub before-more : (tokens : List Placed) (token : Placed) (whole : Front) → AreBefore tokens whole → AreBefore (tokens ++ token ∷ []) (λ rest. whole (token.lexeme ∷ rest))
 before-more tokens token whole b rest =
     ap (λ ls. ls ++ rest) (map-append (λ (t : Placed). t.lexeme) tokens (token ∷ [])) ∙ (append_assoc (lexemes tokens) (token.lexeme ∷ []) rest ∙ b (token.lexeme ∷ rest))
@@ -159,7 +157,6 @@ node-refuses {octets} {b = b} tokens more token whole levels load left f h n m i
       record { before = b; from = token.lexeme ∷ lexemes (more ++ g.0); begins = g.1; within = omega (arith, i.payload_left); past = omega (arith, i.payload_left, load_is) };
 }
 
--- the same tokens were read
 pub same-read : {octets : List ℕ} {tokens : List Placed} {old new : Tokens} → HasRead octets tokens old → new ≡ old → HasRead octets tokens new
 same-read {octets} {tokens} h e = subst (λ x. HasRead octets tokens x) (sym e) h
 

@@ -41,7 +41,6 @@ plain-ascii units e = alphanumerics-ascii units (both _ _ (both _ _ e).0).1
 ascii-one : (unit : ℕ) → unit < 128 → are_ascii (unit ∷ []) ≡ true
 ascii-one unit h = grind (arith, nat_tests)
 
--- one more unit
 pub ascii-more : (units : List ℕ) (i : ℕ) → i < length units → are_ascii (take i units) ≡ true → get_or units i 0 < 128 → are_ascii (take (i + 1) units) ≡ true
 ascii-more units i h e k =
     subst (λ (us : List ℕ). are_ascii us ≡ true) (sym (take_more units i 0 h)) (append-ascii (take i units) (get_or units i 0 ∷ []) e (ascii-one (get_or units i 0) k))

@@ -60,7 +60,6 @@ no_more : (xs : List ℕ) → xs ≡ xs ++ []
 no_more [] = refl
 no_more (x ∷ xs) = ap (λ l. x ∷ l) (no_more xs)
 
--- the items of an array
 pub AreNext-items : (f before : List ℕ) (j : ℕ) (refs : List ℕ) (whole left : Budget) → IsEntered f before j whole left → Holds f j (holds_list refs) → AreNext f before j refs whole left
 AreNext-items f before j refs whole left entered holds = record {
   nodes = entered.nodes;
@@ -82,7 +81,6 @@ AreNext-items f before j refs whole left entered holds = record {
   };
 }
 
--- the keys of a dictionary
 pub AreNext-keys : (f before : List ℕ) (j : ℕ) (keys : List ℕ) (whole left : Budget) → IsEntered f before j whole left → HasKeys f j keys → AreNext f before j keys whole left
 AreNext-keys f before j keys whole left entered table = record {
   nodes = entered.nodes;

@@ -108,14 +108,12 @@ IsSpelled-table f keys values i ps holds are = record {
   valid = are.valid;
 }
 
--- one more value
 pub AreSpelled-next : (f refs : List ℕ) (k i : ℕ) (vs : Items) (v : Plist) → k < length refs → i ≡ slice_index refs k → AreSpelled f (take k refs) vs → IsSpelled f i v → AreSpelled f (take (k + 1) refs) (push vs v)
 AreSpelled-next f refs k i vs v within is are one = record {
   spell = subst (λ (xs : List ℕ). SpellItems f xs (push vs v)) (next refs k i within is) (SpellItems-push f (take k refs) vs i v are.spell one.spells);
   valid = AreItems-push vs v are.valid one.valid;
 }
 
--- one more string
 pub AreTexts-next : (f refs : List ℕ) (k i : ℕ) (keys : List (List ℕ)) (units : List ℕ) → k < length refs → i ≡ slice_index refs k → AreTexts f (take k refs) keys → Holds f i (holds_scalar (text units)) → AreTexts f (take (k + 1) refs) (keys ++ units ∷ [])
 AreTexts-next f refs k i keys units within is are one = record {
   spell = subst (λ (vs : Items). SpellItems f (take (k + 1) refs) vs) (sym (texts-push keys units)) (subst (λ (xs : List ℕ). SpellItems f xs (push (texts keys) (scalar (text units)))) (next refs k i within is) (SpellItems-push f (take k refs) (texts keys) i (scalar (text units)) are.spell one));

@@ -322,14 +322,12 @@ Refuses-depth f whole before i levels left laid leads depth_left none_left =
       none = λ _ v valid spells deep affords. omega (arith, some_level v);
     }
 
--- an object with a fault encodes nothing
 faulty_spells_none : (f : List ℕ) (i : ℕ) (e : ObjectFault) (v : Plist) → what_holds f i ≡ Err e → Spells f i v → ⊥
 faulty_spells_none f i e v fails spells =
     let held = Spells-held f i v spells in
     let reads = held.1.reads in
     cc
 
--- the fault of an object is true at that object
 stands-of_object : (f : List ℕ) (i nodes payload : ℕ) (e : ObjectFault) → IsFaulty f i e → StandsWithin f nodes payload (of_object i e)
 stands-of_object f i nodes payload object.BadOffset faulty = faulty
 stands-of_object f i nodes payload object.CutObject faulty = faulty

@@ -246,7 +246,6 @@ headed_moved front first before after shared moved = record {
   each = All-permutation (IsHeaded front first) (map (with_head front) before) after moved (are_headed front first before shared);
 }
 
--- two of the keys
 pub headed_two : (keys : List Key) (i j : ℕ) (x y : Key) → i < length keys → j < length keys → x ≡ get_or keys i x → y ≡ get_or keys j y → AreHeaded keys → AreHeaded (x ∷ y ∷ [])
 headed_two keys i j x y first second x_is y_is are = record {
   front = are.front;

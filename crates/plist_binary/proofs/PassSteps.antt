@@ -77,7 +77,6 @@ Passes-table f keys values i levels below before left after deep levels_is liste
   within = omega (arith, passed.within);
 }
 
--- one more item
 pub PassesItems-next : (f refs : List ℕ) (k i levels : ℕ) (before left after : Budget) (deepest deep : ℕ) → k < length refs → i ≡ slice_index refs k → i < (trailer_of f).count → PassesItems f (take k refs) levels before deepest left → Passes f i levels left deep after → PassesItems f (take (k + 1) refs) levels before (max deepest deep) after
 PassesItems-next f refs k i levels before left after deepest deep within is listed items one =
     let pushed = items_of-push items.values one.value in

@@ -24,7 +24,6 @@ two P a b first second zero d within = first
 two P a b first second (suc zero) d within = second
 two P a b first second (suc (suc n)) d within = absurd (omega arith)
 
--- two of the keys
 pub alike : (keys : List Key) (i j : ℕ) (x y : Key) → i < length keys → j < length keys → x ≡ get_or keys i x → y ≡ get_or keys j y → AreRanked keys → AreRankedAlike x y
 alike keys i j x y first second x_is y_is are = record {
   texts = are.texts;

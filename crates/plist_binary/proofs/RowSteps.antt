@@ -160,7 +160,6 @@ sorted_again n places rows marked read written sorted seen moved same again long
     let after : IsPermutation read seen = subst (λ (rs : List Row). IsPermutation rs seen) is (subst (λ (rs : List Row). IsPermutation written rs) (sym now) order) in
     IsPermutation-trans places (map place_in read) (map place_in seen) before (IsPermutation-map place_in read seen after)
 
--- the string that is read at a row's place
 read_text : (texts : List TextRef) (row : Row) (text : TextRef) → row.place < length texts → text ≡ get_or texts row.place text → text_at (map units_of texts) row.place ≡ units_of text
 read_text texts row text within is =
     get_or-map units_of texts row.place text [] within ∙ ap units_of (sym is)

@@ -74,7 +74,6 @@ pub AreRows-moved : (f : List ℕ) (levels : ℕ) (rs ss : List Row) → IsPermu
 AreRows-moved f levels rs ss moved rows =
     recursion_from_All (IsRow f levels) ss (All-permutation (IsRow f levels) rs ss moved (All-from_recursion (IsRow f levels) rs rows))
 
--- the pairs as a list
 abbrev pub listed : Pairs → List (List ℕ × Plist)
 listed no_pairs = []
 listed (pair key v ps) = (key, v) ∷ listed ps

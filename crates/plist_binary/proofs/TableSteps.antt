@@ -72,7 +72,6 @@ unsort f keys values levels rows ps long moved spell valid deep =
       distinct = distinct_moved (λ (p : List ℕ × Plist). p.0) (listed ps) (map shown rs) pairs_moved (keys_distinct ps valid);
     }
 
--- the keys are refused
 pub RefusesPairs-keys : (f : List ℕ) (whole : Budget) (keys values : List ℕ) (levels : ℕ) (left : Budget) (fault : BinaryFault) → length keys ≡ length values → RefusesKeys f whole keys levels left fault → RefusesPairs f whole keys values levels left fault
 RefusesPairs-keys f whole keys values levels left fault long refused = record {
   stands = refused.stands;

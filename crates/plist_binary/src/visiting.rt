@@ -197,7 +197,6 @@ pub(crate) fn take_payload(
     Ok(())
 }
 
-// Returns the string if the object is one.
 pub(crate) fn text_in(held: Object<'_>) -> Option<TextRef<'_>>
     ensures text { IfSome result (λ key. held_of held.entry ≡ holds_scalar (text (units_of key))) }
     ensures other { IfNone result (¬ IsText (held_of held.entry)) }

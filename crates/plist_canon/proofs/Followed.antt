@@ -120,7 +120,6 @@ canonical-rules f x =
 pub canonicity-local : CanonicityIsLocal
 canonicity-local f octets = (λ h. rules-canonical f octets h.0 h.1, canonical-rules f)
 
--- no rule is broken by a file that follows all
 none-broken : (f : List ℕ) (rule object : ℕ) → IsBroken f rule object → FollowsRules f → ⊥
 none-broken f _ _ (breaks_c0 i below fails) rules = fails (rules.reads_within_limits.read i below)
 none-broken f _ _ (breaks_limits v valid spells fails) rules = fails (rules.reads_within_limits.fits v valid spells)

@@ -90,7 +90,6 @@ module _ (frames : List Frame) (count : ℕ) (frame : Frame) (counted : length f
       Awaits-next f turns frame.owner frame.levels left _ (Stands-parted f turns (frame.done + 1) turns left here)
 
 module _ (weights : List Weight) (owner levels i : ℕ) (refs : List ℕ) (outer : List Group) (before after : Option Budget) where
-  -- a scalar is skipped
   pub Stands-passed : Passes weights levels i before after → GoesOn weights (grouped owner levels (i ∷ refs) ∷ outer) before (grouped owner levels refs ∷ outer) after
   Stands-passed passes f weighed stands =
       let weighs = weighed i passes.listed in

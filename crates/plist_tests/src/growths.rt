@@ -28,7 +28,6 @@ const TEXTS: [(&[u8], u8); 8] = [
     (b" ", 0),
 ];
 
-// Reads a text.
 fn value_of(alloc: Global, octets: &[u8]) -> Result<Value, Fail> {
     Ok(read_text(alloc, octets)?)
 }

@@ -140,7 +140,6 @@ const LONG_ROWS: [&str; 3] = [
     "same long.txt long|0 equal\n",
 ];
 
-// Returns the text of an array of 50,000 strings.
 fn long_text(alloc: Global) -> Result<Vec<u8>, Fail> {
     let mut text = Vec::from_slice(alloc, b"(")?;
     for number in 0..50_000_u32 {

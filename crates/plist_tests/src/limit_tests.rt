@@ -201,7 +201,6 @@ const ROWS: [Row; 24] = [
     (Shape::HeavyKeys(1), 1_050_689, HEAVY, Some((5, 0))),
 ];
 
-// Returns the verdict if this rule is broken at this object.
 fn verdict(broken: Option<(u8, u64)>) -> Verdict {
     match broken {
         Some((rule, object)) => Verdict::Broken { rule, object },

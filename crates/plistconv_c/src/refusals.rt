@@ -32,7 +32,6 @@ impl Refusal {
         }
     }
 
-    // Returns the refusal of the input for a fault.
     pub(crate) fn of(fault: &Fault, input: u8) -> Refusal
         ensures { result ≡ refusal_of fault.now input }
     {

@@ -11,7 +11,6 @@ use Rattle.plist_binary.proofs.Ranking.{IsRanked-none, AreRanked-none}
 use Rattle.plist_binary.proofs.Placed.{AreInPlace-push}
 use Rattle.plist_binary.proofs.tables.keys_in_place.Goals as goal
 
--- one more string
 texts_more : (texts : List TextRef) (i : ℕ) (text : TextRef) → i < length texts → text ≡ get_or texts i text → map units_of (take (i + 1) texts) ≡ map units_of (take i texts) ++ units_of text ∷ []
 texts_more texts i text within is =
     ap (map units_of) (take_more texts i text within)

@@ -31,7 +31,6 @@ record AreReadKeys (f refs path : List ℕ) (levels : ℕ) (before : Budget) (pr
   placed : AreInPlace keys
   so_far : IsProgress f path progress
 
--- the keys of strings that were read
 keys_of_texts : (f refs path : List ℕ) (levels : ℕ) (before : Budget) (progress : Progress) (us : List (List ℕ)) (keys : List Key) → ReadsItems f refs levels before (texts us) progress.left → IsProgress f path progress → map units_at keys ≡ us → AreInPlace keys → AreReadKeys f refs path levels before progress keys
 keys_of_texts f refs path levels before progress us keys reads so_far same placed = record {
   read = subst (λ (ts : List (List ℕ)). ReadsItems f refs levels before (texts ts) progress.left) (sym same) reads;
