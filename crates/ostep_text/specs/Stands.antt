@@ -84,7 +84,7 @@ abbrev pub BeginsPhrase : List Lexeme → Type 0
 BeginsPhrase tokens = (others : List Lexeme) × IsPhrase (tokens ++ others)
 
 -- Expected: no phrase continues with the token at this byte, or the text ends there, and the tokens
--- before it are not a complete phrase
+-- before it are an unfinished phrase, or none
 pub data IsUnfinished (octets : List ℕ) (at : ℕ) : Type 0 where
   at_token : {before others : List Lexeme} {token : Lexeme} → Splits octets at before (token ∷ others) → BeginsPhrase before
       → ¬ IsPhrase before → ¬ BeginsPhrase (before ++ token ∷ []) → IsUnfinished octets at
@@ -92,7 +92,8 @@ pub data IsUnfinished (octets : List ℕ) (at : ℕ) : Type 0 where
   at_front : {others : List Lexeme} {token : Lexeme} → Splits octets at [] (token ∷ others) → ¬ BeginsPhrase (token ∷ [])
       → IsUnfinished octets at
 
--- Junk: the tokens before this byte are a phrase, which no phrase continues with the token there
+-- Junk: the tokens before this byte, at least one, are a phrase, and no phrase continues them with
+-- the token there
 pub data HasJunk (octets : List ℕ) (at : ℕ) : Type 0 where
   behind_phrase : {first token : Lexeme} {more others : List Lexeme} → Splits octets at (first ∷ more) (token ∷ others)
       → IsPhrase (first ∷ more) → ¬ BeginsPhrase (first ∷ (more ++ token ∷ [])) → HasJunk octets at

@@ -44,10 +44,11 @@ pub enum TextFault {
     TooManyNodes { octet: usize },
     /// With the string or data that begins at this byte the payload exceeds `MAX_PAYLOAD`.
     TooMuchPayload { octet: usize },
-    /// The token at this byte, or the end, cannot continue the text, and the tokens before it are
-    /// not a complete text.
+    /// The token at this byte, or the end, cannot continue the text. The tokens before it are not a
+    /// complete text, or there are none.
     Expected { octet: usize },
-    /// The tokens before this byte are a complete text, which the token there cannot continue.
+    /// The tokens before this byte, at least one, are a complete text, which the token there cannot
+    /// continue.
     Junk { octet: usize },
     /// Out of memory. May come before any other fault.
     OutOfMemory,

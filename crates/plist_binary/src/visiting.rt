@@ -33,7 +33,7 @@ use plist_value::{Budget, ScalarRef, TextRef};
 pub(crate) struct Visitor<'a, 'r> {
     pub(crate) file: BinFile<'a>,
     pub(crate) ranks: &'r Ranks<'a>,
-    // What a value may take in all.
+    // What a value may take in total.
     pub(crate) whole: Budget,
     ghost laid: { IsLaid (octets_of file) },
     ghost ranked: { AreRanks (octets_of file) ranks.now } by { Prim.hlevel props },

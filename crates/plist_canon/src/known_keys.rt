@@ -15,7 +15,8 @@ use plist_object::{BinFile, Ranks, Refs};
 use std::alloc::Global;
 
 /// The keys of the last dictionary, if they are in order, because the next one often has the same
-/// keys. Also the sort positions of all keys, once the keys that were compared are too long in all.
+/// keys. Also the sort positions of all keys, once the keys that were compared are too long in
+/// total.
 #[derive(Drop)]
 pub(crate) struct KnownKeys<'a> {
     pub(crate) last: Option<Refs<'a>>,

@@ -1,4 +1,4 @@
-//! Comparing keys by their strings, as long as these are short in all.
+//! Comparing keys by their strings, as long as these are short in total.
 ghost use Rattle.std.specs.Prelude.{◌<◌, ◌↔◌, IsTrue, EachIndex, IfSome};
 ghost use Rattle.std.specs.Prelude.{slice_index};
 ghost use Rattle.plist_value.specs.Plist.{text};
@@ -14,9 +14,9 @@ use plist_value::TextRef;
 
 /// A budget of units for keys that are compared by their strings.
 ///
-/// While the compared keys have no more units in all than there are bytes before the offset table,
-/// comparing them costs no more than reading the file, and sort positions would not pay. The budget
-/// affects only speed.
+/// While the compared keys have no more units in total than there are bytes before the offset
+/// table, comparing them costs no more than reading the file, and sort positions would not pay. The
+/// budget affects only speed.
 #[derive(Clone, Copy)]
 pub(crate) struct Named {
     left: u64,

@@ -6,7 +6,7 @@ use Rattle.plist_devices.specs.declared.list_sink.ListSink.{ListSink}
 abbrev pub octets_taken : ListSink → List ℕ
 octets_taken sink = sink.octets.items
 
--- the number of bytes that it takes in all
+-- the number of bytes that it takes in total
 abbrev pub room_of : ListSink → ℕ
 room_of sink = sink.room
 

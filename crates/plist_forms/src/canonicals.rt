@@ -21,8 +21,8 @@ use std::hash::BuildHasher;
 ///
 /// # Errors
 ///
-/// Fails like [`plist_binary::read`] or [`ostep_text::read_text`]; out of memory is `OutOfMemory {
-/// sent: 0 }`.
+/// Fails like [`plist_binary::read`] or [`ostep_text::read_text`]; out of memory is
+/// `OutOfMemory { sent: 0 }`.
 pub fn read_any(alloc: Global, octets: &[u8]) -> Result<Value, Fault>
     ensures read { IfOk result (λ value. IsAccepted octets.now (view value)) }
     ensures fits { IfOk result (λ value. Fits (view value)) }
@@ -55,8 +55,8 @@ pub fn judge_any(alloc: Global, octets: &[u8]) -> Result<(), Fault>
 }
 
 /// Returns why the bytes are refused, for callers that only know that they are: a draft may be
-/// refused for another reason than its text. For bytes that encode a value returns `OutOfMemory {
-/// sent: 0 }`.
+/// refused for another reason than its text. For bytes that encode a value returns
+/// `OutOfMemory { sent: 0 }`.
 pub fn refusal(alloc: Global, octets: &[u8]) -> Fault
     ensures { IsRefused octets.now result }
 {

@@ -7,8 +7,8 @@ use std::alloc::{AllocError, Global};
 
 /// Returns the line of a refusal, without a line end: `PATH: refused 11 NotAscii at object 0`.
 ///
-/// A fault of an object ends in `at object N`, a failed write and out of memory in `after N
-/// octets`.
+/// A fault of an object ends in `at object N`, a failed write and out of memory in
+/// `after N octets`.
 pub fn line(alloc: Global, path: &str, fault: &Fault) -> Result<String, AllocError>
     ensures { IfOk result (λ text. string_bytes text ≡ line_of path.now fault.now) }
 {
