@@ -42,7 +42,7 @@ STAND_IN = re.compile(r"\b[A-Z]{2,}\b(?!\.)")
 NAMED = re.compile(r"((?:\w+::)*)(\{[\w, ]+\}|\w+)(?:: (\w+(?:, \w+)*))?")
 # The crates whose comments are checked for plain English, and their files that are not. Extend what is checked.
 PLAIN = ("plist_devices", "plist_canon", "ostep_text", "plist_forms", "plistconv_c", "rows", "test_files", "plist_tests",
-         "plist_binary")
+         "plist_binary", "plistconv")
 NOT_YET = {CRATES / "plist_binary/src" / name for name in
            ("heads.rt", "judging.rt", "known_keys.rt", "row_order.rt", "tables.rt", "walking.rt")}
 UNPLAIN = re.compile(r"\b([Ss]o many|[Bb]ehind|[Ss]tands?|[Oo]f late|[Ww]ant of memory|[Ww]hite|The same|As of|Those of)\b")

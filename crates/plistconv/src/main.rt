@@ -1,5 +1,5 @@
-//! The program `plistconv`: `plist_convert::run_to_end` over the words of the command line,
-//! standard input and standard output.
+//! The program `plistconv`: `plist_convert::run_to_end` over the arguments, standard input and
+//! standard output.
 #![tactic(auto)]
 
 use plist_convert::{Status, run_to_end};
@@ -18,7 +18,7 @@ fn main(rt: HostRuntime) -> ExitCode {
     ExitCode::from(status)
 }
 
-/// The status of the whole program, or why its words cannot be read.
+/// Runs the program and returns its exit status. Fails if the arguments cannot be read.
 fn answer(rt: &HostRuntime) -> io::Result<u8> {
     let alloc = rt.alloc();
     let owned: Vec<String> = env::args(rt)?.collect(alloc)?;
@@ -33,7 +33,7 @@ fn answer(rt: &HostRuntime) -> io::Result<u8> {
     Ok(status)
 }
 
-/// Prints the line, and answers the status.
+/// Prints the line and returns the exit status.
 fn refuse(rt: &HostRuntime, line: &str, status: Status) -> u8 {
     let printed = match rt.println(line) {
         Ok(()) => status,
