@@ -6,7 +6,7 @@ use Rattle.std.specs.declared.cmp.Ordering.TheVariants.{Less, Equal}
 use Rattle.std.specs.Ordering.{nat_cmp, ordering_then, on, is_lt}
 use Rattle.std.specs.Cmp.{nat_cmp_is}
 use Rattle.std.specs.Cmp.Lexicographic.{slice_cmp}
-use Rattle.std.specs.List.{range_with_len}
+use Rattle.std.specs.List.{AllByRecursion, range_with_len}
 use Rattle.std.specs.List.Sorted.{IsPermutation, IsSorted}
 use Rattle.std.proofs.lemmas.Bool.{cases_lt, true≢false, false_from_ne_true}
 use Rattle.std.proofs.lemmas.Cmp.{nat_list_cmp_total}
@@ -17,9 +17,9 @@ use Rattle.std.proofs.lemmas.List.Sorted.{All-permutation, IsPermutation-map, Is
 use Rattle.plist_object.specs.declared.order.Row.{Row}
 use Rattle.plist_object.specs.declared.ranks.Ranks.{Ranks}
 use Rattle.plist_object.specs.KeyOrder.{AreRows, HoldsRow, IsRankedRow, TellsOrder, place_of, units_at}
-use Rattle.plist_object.specs.Order.{IsInOrder}
+use Rattle.plist_object.specs.Order.{IsInOrder, strings_at, units_in}
+use Rattle.plist_object.specs.Places.{what_holds}
 use Rattle.plist_object.specs.Ranks.{AreRanks, texts_of}
-use Rattle.plist_object.proofs.Orders.{held_rows}
 use Rattle.plist_object.proofs.Ranked.{below_from_ranks, irreflexive, less_from_lt}
 
 ranks_tell : (f : List ℕ) (ranks : Ranks) (row other : Row) → AreRanks f ranks → IsRankedRow ranks row → IsRankedRow ranks other → TellsOrder row other
@@ -57,7 +57,7 @@ places-push rows pushed row k is at so_far =
     ap (map place_of) is ∙ map-append place_of rows (row ∷ []) ∙ ap (λ ps. ps ++ place_of row ∷ []) so_far ∙ ap (λ p. range_with_len 0 k ++ p ∷ []) at ∙ sym (range-more k)
 
 -- rows in another order
-moved_rows : (f keys : List ℕ) (rows sorted : List Row) → IsPermutation rows sorted → AreRows f keys rows → AreRows f keys sorted
+pub moved_rows : (f keys : List ℕ) (rows sorted : List Row) → IsPermutation rows sorted → AreRows f keys rows → AreRows f keys sorted
 moved_rows f keys rows sorted moved are =
     let to_each : All (λ row. All (TellsOrder row) sorted) rows = λ k d h. All-permutation (TellsOrder (get_or rows k d)) rows sorted moved (are.tell k d h) in
     record {
@@ -102,13 +102,22 @@ texts_in_order f keys (first ∷ rows) are sorted k d low high =
     let upper = get_or-map units_at all (k + 1) first d within in
     ap (λ us. is_lt (slice_cmp nat_cmp us (get_or (map units_at all) k d))) upper ∙ ap (λ us. is_lt (slice_cmp nat_cmp (units_at (get_or all (k + 1) first)) us)) lower ∙ in_order f keys all are sorted k first within
 
+-- the strings of rows
+strings_of : (f keys : List ℕ) (rows : List Row) → AllByRecursion (HoldsRow f keys) rows → strings_at f keys (map place_of rows) ≡ map units_at rows
+strings_of f keys [] held = refl
+strings_of f keys (row ∷ rows) held =
+    let one : units_in (what_holds f (slice_index keys row.place)) ≡ units_at row = ap units_in held.0.reads in
+    let others = strings_of f keys rows held.1 in
+    ap (λ us. us ∷ strings_at f keys (map place_of rows)) one ∙ ap (λ ts. units_at row ∷ ts) others
+
+pub strings-rows : (f keys : List ℕ) (rows : List Row) → All (HoldsRow f keys) rows → strings_at f keys (map place_of rows) ≡ map units_at rows
+strings-rows f keys rows held = strings_of f keys rows (recursion_from_All (HoldsRow f keys) rows held)
+
 -- the positions of rows that are sorted by their numbers
 pub IsInOrder-rows : (f keys : List ℕ) (rows sorted : List Row) → AreRows f keys rows → IsPermutation rows sorted → IsSorted by_number sorted → IsInOrder f keys (map place_of sorted)
 IsInOrder-rows f keys rows sorted are moved order =
     let now = moved_rows f keys rows sorted moved are in
     record {
-      texts = map units_at sorted;
       moved = now.moved;
-      held = held_rows place_of units_at f keys sorted (recursion_from_All _ sorted (λ k d h. (now.held k d h).reads));
-      sorted = texts_in_order f keys sorted now order;
+      sorted = subst (λ (ts : List (List ℕ)). IsSorted (slice_cmp nat_cmp) ts) (sym (strings-rows f keys sorted now.held)) (texts_in_order f keys sorted now order);
     }

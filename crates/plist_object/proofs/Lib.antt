@@ -17,3 +17,4 @@ pub mod SameOctets
 pub mod Ranked
 pub mod Orders
 pub mod KeyOrders
+pub mod Ascents

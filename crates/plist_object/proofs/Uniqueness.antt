@@ -11,6 +11,7 @@ use Rattle.std.proofs.lemmas.Cmp.{nat_list_cmp_total, on_total}
 use Rattle.plist_value.specs.Plist.{text, Plist, scalar, list, table, Items, no_items, item, Pairs, no_pairs, pair, IsPlist, AreItems, ArePairs, IsKeyBelow}
 use Rattle.plist_object.specs.declared.object.ObjectFault.{ObjectFault}
 use Rattle.plist_object.specs.Objects.{Held, holds_scalar, holds_list, holds_table}
+use Rattle.plist_object.specs.Order.{units_in}
 use Rattle.plist_object.specs.Places.{Holds, what_holds}
 use Rattle.plist_object.specs.Spelled.{Spells, SpellItems, SpellPairs}
 use Rattle.plist_object.proofs.Ascending.{same_order}
@@ -19,14 +20,6 @@ use Rattle.plist_value.proofs.Keys.{below_next}
 -- an object holds one thing
 pub same_held : (f : List ℕ) (i : ℕ) (a b : Held) → Holds f i a → Holds f i b → a ≡ b
 same_held f i a b holds_a holds_b = cc (holds_a.reads, holds_b.reads)
-
--- the units of the text that the object i holds, and none where it holds no text
-abbrev pub units_in : Result Held ObjectFault → List ℕ
-units_in (Ok (holds_scalar (text units))) = units
-units_in (Ok (holds_scalar s)) = []
-units_in (Ok (holds_list refs)) = []
-units_in (Ok (holds_table keys values)) = []
-units_in (Err e) = []
 
 -- the units of the key that a row refers to
 unfoldable pub key_of : List ℕ → (ℕ × ℕ) → List ℕ

@@ -1,5 +1,5 @@
 -- What is kept of the keys of dictionaries, and the rows by which keys are sorted.
-use Rattle.std.specs.Prelude.{◌≡◌, ℕ, ◌<◌, List, [], All, IfSome, length, map, slice_index, slice_index_or}
+use Rattle.std.specs.Prelude.{◌≡◌, ◌↔◌, ℕ, ◌<◌, Bool, IsTrue, List, [], All, IfSome, length, map, slice_index, slice_index_or}
 use Rattle.std.specs.declared.cmp.Ordering.TheVariants.{Less}
 use Rattle.std.specs.Ordering.{nat_cmp}
 use Rattle.std.specs.Cmp.Lexicographic.{slice_cmp}
@@ -10,7 +10,7 @@ use Rattle.plist_value.specs.Texts.{units_of}
 use Rattle.plist_object.specs.Objects.{holds_scalar}
 use Rattle.plist_object.specs.Places.{Holds}
 use Rattle.plist_object.specs.Views.{numbers_of}
-use Rattle.plist_object.specs.Order.{IsInOrder}
+use Rattle.plist_object.specs.Order.{Ascend, IsInOrder}
 use Rattle.plist_object.specs.Ranks.{AreRanks, texts_of}
 use Rattle.plist_object.specs.declared.ranks.Ranks.{Ranks}
 use Rattle.plist_object.specs.declared.order.Row.{Row}
@@ -40,8 +40,13 @@ pub record AreRows (f keys : List ℕ) (rows : List Row) : Type 0 where
   pub held : All (HoldsRow f keys) rows
   pub tell : All (λ row. All (TellsOrder row) rows) rows
 
--- the positions that are kept are those of the last dictionary's keys, in order, and the ranks are
--- of this file
+-- the positions that are kept order the last dictionary's keys, and it is known whether these are
+-- distinct
+pub record IsLast (f keys places : List ℕ) (distinct : Bool) : Type 0 where
+  pub order : IsInOrder f keys places
+  pub tells : IsTrue distinct ↔ Ascend f keys places
+
+-- what is kept of the last dictionary is right, and the ranks are of this file
 pub record IsReady (f : List ℕ) (order : KeyOrder) : Type 0 where
-  pub last : IfSome order.last (λ keys. IsInOrder f (numbers_of keys) order.places.items)
+  pub last : IfSome order.last (λ keys. IsLast f (numbers_of keys) order.places.items order.distinct)
   pub ranks : AreRanks f order.ranks

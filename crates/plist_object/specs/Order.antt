@@ -1,11 +1,12 @@
 -- The keys of a table in the order of their texts.
-use Rattle.std.specs.Prelude.{◌≡◌, ℕ, ◌<◌, List, Option, All, EachIndex, IfSome, Ok, length, map, slice_index}
+use Rattle.std.specs.Prelude.{◌≡◌, ℕ, ◌<◌, List, Option, All, EachIndex, IfSome, Result, Ok, Err, [], length, map, slice_index}
 use Rattle.std.specs.Ordering.{nat_cmp}
 use Rattle.std.specs.Cmp.Lexicographic.{slice_cmp}
 use Rattle.std.specs.List.{range_with_len, zip}
 use Rattle.std.specs.List.Sorted.{IsPermutation, IsSorted, IsStrictlySortedBy}
 use Rattle.plist_value.specs.Plist.{text}
-use Rattle.plist_object.specs.Objects.{holds_scalar}
+use Rattle.plist_object.specs.Objects.{Held, holds_scalar, holds_list, holds_table}
+use Rattle.plist_object.specs.declared.object.ObjectFault.{ObjectFault}
 use Rattle.plist_object.specs.Places.{what_holds, HoldsText}
 use Rattle.plist_object.specs.Views.{numbers_of}
 use Rattle.plist_object.specs.declared.sorted.SortedKeys.{SortedKeys}
@@ -14,12 +15,26 @@ use Rattle.plist_object.specs.declared.sorted.SortedKeys.{SortedKeys}
 abbrev pub NameTexts : List ℕ → List ℕ → Type 0
 NameTexts f keys = EachIndex keys (λ k. HoldsText f (slice_index keys k))
 
--- the positions of the keys, in the order of their strings, of which none is below the one before
+-- the units of a string, and none of anything else
+abbrev pub units_in : Result Held ObjectFault → List ℕ
+units_in (Ok (holds_scalar (text units))) = units
+units_in (Ok (holds_scalar s)) = []
+units_in (Ok (holds_list refs)) = []
+units_in (Ok (holds_table keys values)) = []
+units_in (Err e) = []
+
+-- the strings of the keys at these positions
+abbrev pub strings_at : List ℕ → List ℕ → List ℕ → List (List ℕ)
+strings_at f keys places = map (λ place. units_in (what_holds f (slice_index keys place))) places
+
+-- the positions of the keys, in the order of their strings
 pub record IsInOrder (f keys places : List ℕ) : Type 0 where
-  pub texts : List (List ℕ)
   pub moved : IsPermutation (range_with_len 0 (length keys)) places
-  pub held : map (λ place. what_holds f (slice_index keys place)) places ≡ map (λ units. Ok (holds_scalar (text units))) texts
-  pub sorted : IsSorted (slice_cmp nat_cmp) texts
+  pub sorted : IsSorted (slice_cmp nat_cmp) (strings_at f keys places)
+
+-- at these positions each string is below the next
+abbrev pub Ascend : List ℕ → List ℕ → List ℕ → Type 0
+Ascend f keys places = IsStrictlySortedBy (slice_cmp nat_cmp) (strings_at f keys places)
 
 -- what stands at a place of two lists
 abbrev pub pair_of : List ℕ → List ℕ → ℕ → ℕ × ℕ

@@ -1,12 +1,16 @@
 //! The order of the keys of dictionaries.
-ghost use Rattle.std.specs.Prelude.{◌≡◌, ◌<◌, ℕ, List, All, IfOk, OnOk, IfSome, map, length};
+ghost use Rattle.std.specs.Ordering.{nat_cmp};
+ghost use Rattle.std.specs.Cmp.Lexicographic.{slice_cmp};
+ghost use Rattle.std.specs.List.Sorted.{IsStrictlySortedBy};
+ghost use Rattle.std.specs.Prelude.{◌≡◌, ◌↔◌, IsTrue, ℕ, List, All, IfOk, OnOk, IfSome, map, length};
 ghost use Rattle.plist_value.specs.Plist.{text};
 ghost use Rattle.plist_value.specs.Texts.{units_of};
 ghost use Rattle.plist_object.specs.Objects.{holds_scalar};
 ghost use Rattle.plist_object.specs.Places.{Holds, HoldsText};
 ghost use Rattle.plist_object.specs.Views.{numbers_of, octets_of};
-ghost use Rattle.plist_object.specs.Order.{IsInOrder, NameTexts};
-ghost use Rattle.plist_object.specs.KeyOrder.{AreRows, IsRankedRow, IsReady, place_of, units_at};
+ghost use Rattle.plist_object.specs.Order.{Ascend, IsInOrder, NameTexts};
+ghost use Rattle.plist_object.specs.KeyOrder.{AreRows, IsRankedRow, IsReady, TellsOrder};
+ghost use Rattle.plist_object.specs.KeyOrder.{place_of, units_at};
 ghost use Rattle.plist_object.specs.Ranks.{AreRanks};
 
 use crate::keys::Keys;
@@ -15,6 +19,7 @@ use crate::ranks::Ranks;
 use crate::refs::Refs;
 use plist_value::TextRef;
 use std::alloc::{AllocError, Global};
+use std::cmp::Ordering;
 
 // A key of a dictionary and its position among the keys. Where two numbers differ, the key with
 // the lower one has the lower string.
@@ -34,6 +39,8 @@ pub(crate) struct Row<'a> {
 pub struct KeyOrder<'a> {
     last: Option<Refs<'a>>,
     places: Vec<u64>,
+    // Whether no two of these keys are equal.
+    distinct: bool,
     // How many UTF-16 units may still be compared; none once the keys are ranked.
     left: Option<u64>,
     ranks: Ranks<'a>,
@@ -47,6 +54,7 @@ impl<'a> KeyOrder<'a> {
         KeyOrder {
             last: None,
             places: Vec::new(alloc),
+            distinct: true,
             left: Some(file.table()),
             ranks: Ranks::none(alloc),
         }
@@ -60,7 +68,8 @@ impl<'a> KeyOrder<'a> {
         &self.places
     }
 
-    /// Sorts the keys of a dictionary. [`places`](KeyOrder::places) then gives their order.
+    /// Sorts the keys of a dictionary and returns whether no two are equal.
+    /// [`places`](KeyOrder::places) then gives their order.
     ///
     /// # Errors
     ///
@@ -70,23 +79,26 @@ impl<'a> KeyOrder<'a> {
         alloc: Global,
         file: &BinFile<'a>,
         keys: &Refs<'a>,
-    ) -> Result<(), AllocError>
+    ) -> Result<bool, AllocError>
         requires names { NameTexts (octets_of file.now) (numbers_of keys.now) }
         requires ready { IsReady (octets_of file.now) self.old }
         ensures order { OnOk result (IsInOrder (octets_of file.now) (numbers_of keys.now)
             self.new.places.items) }
+        ensures distinct { IfOk result (λ distinct. IsTrue distinct
+            ↔ Ascend (octets_of file.now) (numbers_of keys.now) self.new.places.items) }
         ensures ready { OnOk result (IsReady (octets_of file.now) self.new) }
     {
         if let Some(last) = self.last
             && last.is_same(keys)
         {
-            return Ok(());
+            return Ok(self.distinct);
         }
         let mut rows = self.rows(alloc, file, keys)?;
         rows.sort_unstable_by_key(|row| (row.number, row.text));
+        self.distinct = ascend(&rows);
         self.places = places_in_turn(alloc, &rows)?;
         self.last = Some(*keys);
-        Ok(())
+        Ok(self.distinct)
     }
 
     // The keys as they stand in the file, with numbers that tell their order.
@@ -166,6 +178,27 @@ fn text_rows<'a>(alloc: Global, file: &BinFile<'a>, keys: &Refs) -> Result<Vec<R
         })?;
     }
     Ok(rows)
+}
+
+// Whether each string is below the next.
+fn ascend(rows: &[Row]) -> bool
+    requires { All (λ row. All (TellsOrder row) rows.now) rows.now }
+    ensures { IsTrue result ↔ IsStrictlySortedBy (slice_cmp nat_cmp) (map units_at rows.now) }
+{
+    for i in 1..rows.len() {
+        if !is_below(&rows[i - 1], &rows[i]) {
+            return false;
+        }
+    }
+    true
+}
+
+fn is_below(row: &Row, next: &Row) -> bool
+    requires { TellsOrder row.now next.now }
+    ensures { IsTrue result
+        ↔ (slice_cmp nat_cmp (units_at row.now) (units_at next.now) ≡ Ordering.Less) }
+{
+    row.number < next.number || row.text < next.text
 }
 
 // How many units the strings have in all.

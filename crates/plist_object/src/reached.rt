@@ -16,19 +16,25 @@ use std::alloc::{AllocError, Global};
 pub(crate) struct Reached {
     pub(crate) marks: Vec<bool>,
     containers: Vec<u64>,
+    // How many references may still be read, if not too many were.
+    left: Option<u64>,
 }
 
-/// The strings that reachable dictionaries name as keys.
+/// The strings that reachable dictionaries name as keys: some of them, if more strings or references
+/// were read than the file has bytes, which takes objects that overlap.
 pub(crate) fn reached_keys<'a>(alloc: Global, file: &BinFile<'a>) -> Result<Keys<'a>, AllocError>
     ensures { IfOk result (λ keys. AreKeys (octets_of file.now) keys) }
 {
-    let mut keys = Keys::none(alloc, file, u64::MAX)?;
+    let mut keys = Keys::none(alloc, file, file.table())?;
     let mut reached = Reached::none(alloc, file)?;
     reached.meet(file, file.top())?;
     for i in 0..file.count() {
         let Some(container) = reached.containers.get(i as usize).copied() else {
             return Ok(keys);
         };
+        if keys.overlap() || reached.left.is_none() {
+            return Ok(keys);
+        }
         visit(file, &mut keys, &mut reached, container)?;
     }
     Ok(keys)
@@ -68,6 +74,7 @@ impl Reached {
         Ok(Reached {
             marks,
             containers: Vec::new(alloc),
+            left: Some(file.table()),
         })
     }
 
@@ -75,6 +82,13 @@ impl Reached {
         requires { AreMarked (octets_of file.now) self.old }
         ensures { OnOk result (AreMarked (octets_of file.now) self.new) }
     {
+        self.left = match self.left {
+            Some(left) => left.checked_sub(refs.len()),
+            None => None,
+        };
+        if self.left.is_none() {
+            return Ok(());
+        }
         for i in 0..refs.len() {
             self.meet(file, refs.get(i))?;
         }
