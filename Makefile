@@ -7,6 +7,7 @@
 ## make around                the gate without the proofs, over what is built
 ## make mutants [CRATE=NAME]  tries the mutants that the gate leaves out
 ## make plant [CRATE=NAME]    lists wrong bodies that contracts let through
+## make claims              writes each promise with its contract, and all definitions below it, to out/claims.html
 ## make fuzz [SECONDS=60] [SEED=1]   compares the program with a second reading of the formats
 ## make tools, examples, words, new-user   try the commands in tools/ and the README, the bindings, arguments that are not
 ##                            UTF-8, and what a new user does on a clean checkout
@@ -18,7 +19,7 @@ SECONDS ?= 60
 SEED ?= 1
 VERSION := $(shell sed -n 's/.*\.version("\(.*\)").*/\1/p' crates/plist_convert/src/commands.rt)
 
-.PHONY: all help test around mutants plant fuzz tools new-user words bench hostile growths install uninstall clean
+.PHONY: all help test around mutants plant claims fuzz tools new-user words bench hostile growths install uninstall clean
 all: plistconv
 
 include build.mk
@@ -41,6 +42,9 @@ mutants:
 
 plant:
 	scripts/plant.sh $(CRATE)
+
+claims:
+	scripts/claims.py
 
 fuzz: plistconv
 	python3 fuzz/rows.py
