@@ -8,7 +8,8 @@ is `fits`, `Whole::new`, `plist_forms::laws::headline` or `laws::{one_value, lim
 or `Fault as Display`, the ghost members of an implementation. N/M are the definitions and lines that it rests on;
 --counts writes them there. Sections without a table end the page: `Premises` and `Only tested` have to be among them.
 
-Fails if a name stands for nothing, a function or clause is missing, or a number in PROOFS.md is not the script's.
+Fails if a name stands for nothing, a function or clause is missing, the premises leave out a crate of the library that
+is cited, or a number in PROOFS.md is not the script's.
 """
 from __future__ import annotations
 

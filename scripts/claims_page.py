@@ -31,6 +31,9 @@ class Page:
         missing = [name for name in NEEDED if name not in self.ends]
         if missing:
             raise Fault(f"PROOFS.md has no section {missing[0]}")
+        for crate in (module.split(".")[1] for module in self.library() if module.startswith("Rattle.")):
+            if crate != "std" and f"`{crate}`" not in self.ends["Premises"]:
+                raise Fault(f"the premises in PROOFS.md do not name `{crate}`, which contracts cite")
 
     def news(self) -> list[list[str]]:
         """Returns for each promise the definitions that are printed below it."""

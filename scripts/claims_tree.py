@@ -248,5 +248,5 @@ def ghost_members(item: rust.Item) -> str:
     for word, name, start, end in rust.clauses(text):
         first = text.rfind("\n", 0, start) + 1
         if word == "ghost" and name not in PROOFS and text[first:].startswith("    ghost"):
-            lines.append(text[first:end + 1])
+            lines.append(text[first:end + 1] + ";")
     return "\n".join([item.head + " {", *lines, "}"])

@@ -217,6 +217,7 @@ class Claims(unittest.TestCase):
             ("crates/high/src/lib.rt", "M.measure it.now ≤ MOST", "it.weight ≤ MOST", "no type has a field weight"),
             ("crates/high/src/lib.rt", "ensures measure", "ensures other", "high::measured has no clause measure"),
             ("docs/PROOFS.md", "`law`", "`laws`", "0 functions are laws"),
+            (TREES, "Rattle.std.specs", "Rattle.other.specs", "do not name `other`"),
             ("docs/PROOFS.md", "## Premises", "## Other", "PROOFS.md has no section Premises"),
         ):
             with self.subTest(new):
