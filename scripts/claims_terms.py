@@ -183,16 +183,18 @@ class Terms:
             # (`{E = e}` gives an implicit argument by its name)
             if depth > 0 and NAME.fullmatch(token.text) and tokens[at + 1:at + 2] and tokens[at + 1].text == "=":
                 continue
-            self.matched(token, scope)
+            self.matched(token, scope, at == 0 or tokens[at - 1].text == "(" and is_applied(tokens[at + 1].text))
         raise Fault(f"{self.where}: neither a signature nor a clause")
 
-    def matched(self, token: Token, scope: set[str]) -> None:
-        """Reads a name in a pattern: a constructor, else a variable."""
+    def matched(self, token: Token, scope: set[str], is_head: bool) -> None:
+        """Reads a name in a pattern: a constructor, else a variable. That of a clause or of parts is no variable."""
         target = self.known(token.text.split(".")[0])
         is_variable = target is None or target.kind in ("definition", "library") and target.name not in CONSTRUCTORS
         if not is_variable or target and target.key == self.into.key:
             self.name(token, set())
         elif NAME.fullmatch(token.text) and token.text not in KEYWORDS:
+            if is_head:
+                raise Fault(f"{self.where}: nothing says what {token.text} is")
             scope.add(token.text)
 
     def known(self, text: str) -> Target | None:
@@ -228,6 +230,11 @@ def entries(definition: Definition) -> Iterator[tuple[list[Token], int]]:
         tokens, base = tokens[1 if tokens[0].text == "mutual" else 2:], base + 2
     for entry in split(tokens, base):
         yield entry, base
+
+
+def is_applied(following: str) -> bool:
+    """Whether a name in a pattern has parts, by the token after it."""
+    return following == "(" or bool(NAME.fullmatch(following))
 
 
 def read_definition(into: Definition, resolve: Resolve) -> None:

@@ -217,6 +217,8 @@ class Claims(unittest.TestCase):
             ("crates/high/src/lib.rt", "M.measure it.now ≤ MOST", "it.weight ≤ MOST", "no type has a field weight"),
             ("crates/high/src/lib.rt", "ensures measure", "ensures other", "high::measured has no clause measure"),
             ("docs/PROOFS.md", "`law`", "`laws`", "0 functions are laws"),
+            (TREES, "sizes none = 0", "lengths none = 0", "nothing says what lengths is"),
+            (TREES, "sizes (more t ts)", "sizes (many t ts)", "nothing says what many is"),
             (TREES, "Rattle.std.specs", "Rattle.other.specs", "do not name `other`"),
             ("docs/PROOFS.md", "## Premises", "## Other", "PROOFS.md has no section Premises"),
         ):
