@@ -19,9 +19,9 @@ use Rattle.plist_object.proofs.Ascending.{same_order}
 use Rattle.plist_object.specs.Objects.{holds_scalar}
 use Rattle.plist_object.specs.Places.{what_holds, HoldsText}
 use Rattle.plist_object.specs.Spelled.{SpellPairs}
-use Rattle.plist_object.specs.Order.{IsInOrder, NameTexts, pair_of}
+use Rattle.plist_object.specs.Order.{IsInOrder, NameTexts, pair_of, strings_at, units_in}
 use Rattle.plist_engine.specs.Spelling.{IsTable, SpellTable, in_turn}
-use Rattle.plist_object.proofs.Uniqueness.{units_in, key_of, by_key, by_key_total, rows_ascend}
+use Rattle.plist_object.proofs.Uniqueness.{key_of, by_key, by_key_total, rows_ascend}
 use Rattle.plist_value.proofs.Keys.{turned}
 
 -- the pairs at all positions
@@ -54,15 +54,11 @@ strictly f pairs sorted distinct =
     let order : is_lt (by_key f q p) ≡ false = sym (ap (λ us. is_lt (slice_cmp nat_cmp us (get_or (map (key_of f) pairs) k []))) upper ∙ ap (λ us. is_lt (slice_cmp nat_cmp (key_of f q) us)) lower) ∙ sorted k [] (omega arith) (omega (arith, long)) in
     turned (by_key f p q) (by_key f q p) ((by_key_total f).antisymm p q) order (apart_from_distinct (eq_by_cmp (by_key f)) pairs k (k + 1) d distinct (omega arith) h))
 
-keys_read : (f keys values places : List ℕ) → map (key_of f) (map (pair_of keys values) places) ≡ map units_in (map (λ place. what_holds f (slice_index keys place)) places)
+keys_read : (f keys values places : List ℕ) → map (key_of f) (map (pair_of keys values) places) ≡ strings_at f keys places
 unfolding key_of
 keys_read f keys values [] = refl
 keys_read f keys values (place ∷ places) =
     ap (λ ts. units_in (what_holds f (slice_index keys place)) ∷ ts) (keys_read f keys values places)
-
-texts_read : (texts : List (List ℕ)) → map units_in (map (λ units. Ok (holds_scalar (text units))) texts) ≡ texts
-texts_read [] = refl
-texts_read (units ∷ texts) = ap (λ ts. units ∷ ts) (texts_read texts)
 
 -- pairs in the order of their keys are those that spell the pairs of the dictionary
 rows_are : (f keys values places : List ℕ) (rows : List (ℕ × ℕ)) (ps : Pairs) → length keys ≡ length values → IsInOrder f keys places → SpellTable f keys values rows ps → map (pair_of keys values) places ≡ rows
@@ -72,8 +68,7 @@ rows_are f keys values places rows ps as_many order table =
     let ascend = rows_ascend f rows ps table.spell table.valid in
     let between = IsPermutation-trans rows (zip keys values) pairs (IsPermutation-sym (zip keys values) rows table.moved) moved in
     let distinct = IsDistinct-IsPermutation (eq_by_cmp (by_key f)) (eq_by_cmp_equiv (by_key_total f)).symm rows pairs between (IsDistinct-from_sorted (by_key f) rows ascend) in
-    let texts_are : map (key_of f) pairs ≡ order.texts = keys_read f keys values places ∙ ap (map units_in) order.held ∙ texts_read order.texts in
-    let sorted = subst (λ (ts : List (List ℕ)). IsSorted (slice_cmp nat_cmp) ts) (sym texts_are) order.sorted in
+    let sorted = subst (λ (ts : List (List ℕ)). IsSorted (slice_cmp nat_cmp) ts) (sym (keys_read f keys values places)) order.sorted in
     same_order (by_key_total f) (zip keys values) pairs rows moved table.moved (strictly f pairs sorted distinct) ascend
 
 all_texts : (f : List ℕ) (rows : List (ℕ × ℕ)) (ps : Pairs) → SpellPairs f rows ps → AllByRecursion (λ row. HoldsText f row.0) rows
