@@ -23,7 +23,6 @@ use Rattle.plist_binary.specs.declared.tables.Key.{Key}
 use Rattle.plist_binary.specs.Keys.{units_at, place_of, pair_at}
 use Rattle.plist_value.proofs.Keys.{turned}
 
-
 pub zip-firsts : {A B : Type 0} (xs : List A) (ys : List B) → length xs ≡ length ys → map (λ (p : A × B). p.0) (zip xs ys) ≡ xs
 zip-firsts [] ys long = refl
 zip-firsts (x ∷ xs) [] long = absurd (omega arith)

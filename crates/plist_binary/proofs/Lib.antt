@@ -10,6 +10,3 @@ mod Worked
 pub mod PassSteps
 pub mod Sorting
 pub mod BuildSteps
-pub mod Ranking
-pub mod HeadSteps
-pub mod RowSteps

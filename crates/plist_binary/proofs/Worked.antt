@@ -15,7 +15,6 @@ use Rattle.plist_object.proofs.Uniqueness.{same_held}
 use Rattle.plist_binary.specs.declared.fault.BinaryFault.TheVariants.{TooShort, BadTrailer, NullObject, BadReference, KeyNotText, DuplicateKey, Cycle, TooManyNodes, TooMuchPayload}
 use Rattle.plist_binary.specs.Begins.{Begins}
 use Rattle.plist_binary.specs.Faults.{Stands, StandsWithin}
-use Rattle.plist_binary.specs.Heads.{head_of}
 use Rattle.plist_binary.specs.Paths.{Refers}
 use Rattle.plist_binary.proofs.Beginning.{Comes-refers}
 
@@ -307,15 +306,3 @@ shared-top stands = top stands.before stands.payload stands.begins where
   top : (before : List ℕ) (payload : ℕ) → Begins shared before 0 2 payload → ⊥
   top [] payload begins = omega (arith, begins.1)
   top (j ∷ before) payload begins = omega (arith, (shared-refers j 0 (Comes-refers shared j 0 begins.values begins.comes)).1)
-
--- the bytes 30 30 31 32 33 34 20 6f of a string
-digits-head : head_of 8 (48 ∷ 48 ∷ 49 ∷ 50 ∷ 51 ∷ 52 ∷ 32 ∷ 111 ∷ 102 ∷ 32 ∷ []) ≡ 3472329404379832431
-digits-head = refl
-
--- from a unit of 256 or more on: fc and seven times ff, whatever follows
-cut-head : head_of 8 (252 ∷ 256 ∷ 5 ∷ []) ≡ 18230571291595767807
-cut-head = refl
-
--- a unit of 255 is kept: ff, 07 and six times 00
-highest-head : head_of 8 (255 ∷ 7 ∷ []) ≡ 18376656804508598272
-highest-head = refl

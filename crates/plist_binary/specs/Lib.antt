@@ -8,8 +8,6 @@ pub mod Begins
 pub mod Faults
 pub mod Budgets
 pub mod Keys
-pub mod Heads
-pub mod RowOrder
 pub mod Readings
 pub mod Memos
 pub mod Passing

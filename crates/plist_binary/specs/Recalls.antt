@@ -12,8 +12,6 @@ use Rattle.plist_object.specs.Places.{Holds}
 use Rattle.plist_object.specs.Spelled.{SpellItems}
 use Rattle.plist_object.specs.Views.{numbers_of}
 use Rattle.plist_binary.specs.declared.fault.BinaryFault.{BinaryFault}
-use Rattle.plist_object.specs.Order.{AreSortedIfAny}
-use Rattle.plist_binary.specs.declared.known_keys.KnownKeys.{KnownKeys}
 use Rattle.plist_binary.specs.declared.known_keys.LastKeys.{LastKeys}
 use Rattle.plist_binary.specs.Readings.{ReadsItems, RefusesPairs, texts}
 
@@ -34,11 +32,6 @@ pub record SpellApart (f refs : List ℕ) (payload : ℕ) : Type 0 where
 -- what is known of the last keys is correct
 abbrev pub IsKnownLast : List ℕ → Option LastKeys → Type 0
 IsKnownLast f last = IfSome last (λ keys. SpellApart f (numbers_of keys.refs) keys.payload)
-
--- what is known of keys is correct
-pub record IsKnown (f : List ℕ) (known : KnownKeys) : Type 0 where
-  pub last : IsKnownLast f known.last
-  pub sorted : AreSortedIfAny f known.sorted
 
 -- the references point to strings, no two of which are equal, that take the difference of the
 -- budgets

@@ -5,8 +5,7 @@ ghost use Rattle.plist_value.specs.Texts.{units_of};
 ghost use Rattle.plist_object.specs.Objects.{IsHeld};
 ghost use Rattle.plist_object.specs.Places.{Holds};
 ghost use Rattle.plist_object.specs.Views.{held_of, numbers_of, octets_of};
-ghost use Rattle.plist_binary.specs.Keys.{units_at, AreInPlace, AreRanked};
-ghost use Rattle.plist_binary.specs.Heads.{AreHeadless};
+ghost use Rattle.plist_binary.specs.Keys.{units_at, AreInPlace};
 ghost use Rattle.plist_binary.specs.Building.{SpellsText, AllSpellWithin};
 ghost use Rattle.plist_object.specs.Spelled.{SpellsWithin};
 ghost use Rattle.plist_binary.specs.Building.{AllSpellTexts, SpellsPairsWithin, HoldsSome};
@@ -83,20 +82,12 @@ impl<'a> Builder<'a> {
         ensures texts { IfOk result (λ keys. AreTexts (octets_of self.now.file)
             (numbers_of refs.entry) (map units_at keys.items)) }
         ensures placed { IfOk result (λ keys. AreInPlace keys.items) }
-        ensures ranked { IfOk result (λ keys. AreRanked keys.items) }
-        ensures headless { IfOk result (λ keys. AreHeadless keys.items) }
     {
         let mut keys = Vec::with_capacity(self.alloc, refs.len() as usize)?;
         for i in 0..refs.len() {
             let text = self.text(refs.get(i));
             let place = keys.len();
-            let rank = None;
-            keys.push(Key {
-                text,
-                rank,
-                place,
-                head: 0,
-            })?;
+            keys.push(Key { text, place })?;
         }
         Ok(keys)
     }

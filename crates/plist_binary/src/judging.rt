@@ -4,7 +4,6 @@ ghost use Rattle.plist_value.specs.Plist.{Plist};
 ghost use Rattle.plist_object.specs.Layout.{IsLaid, trailer_of};
 ghost use Rattle.plist_object.specs.Spelled.{IsBinary};
 ghost use Rattle.plist_object.specs.Views.{octets_of};
-ghost use Rattle.plist_object.specs.Order.{AreSortedIfAny};
 ghost use Rattle.plist_object.specs.Ranks.{AreRanks};
 ghost use Rattle.plist_binary.specs.Faults.{Stands};
 ghost use Rattle.plist_binary.specs.Passing.{IsWithinLimits, PassesTop, limits};
@@ -13,7 +12,7 @@ ghost use Rattle.plist_binary.specs.Readings.{Refuses};
 use crate::BinaryFault;
 use crate::visiting::Visitor;
 use crate::walking::Walker;
-use plist_object::{BinFile, Keys, Ranks, SortedKeys};
+use plist_object::{BinFile, Keys, Ranks};
 use plist_value::{Budget, MAX_DEPTH};
 use std::alloc::Global;
 
@@ -34,59 +33,42 @@ pub fn judge(alloc: Global, octets: &[u8]) -> Result<(), BinaryFault>
         IsBinary octets.now v → ⊥) }
     ensures stands { IfErr result (Stands octets.now) }
 {
-    match judge_keys(alloc, octets) {
+    match judge_file(alloc, octets) {
         Ok(_) => Ok(()),
         Err(fault) => Err(fault),
     }
 }
 
-/// A binary file that was judged, and the keys of its longest dictionary in order.
-#[derive(Drop)]
-pub struct JudgedFile<'a> {
-    /// The file, whose top object spells a value within the limits.
-    pub file: BinFile<'a>,
-    /// Of the longest table of more than 64 keys, if there is one, the keys in the order of their
-    /// texts.
-    pub sorted: Option<SortedKeys<'a>>,
-}
-
-/// Judges as [`judge`] does, and answers the file and, of its longest table of more than 64 keys,
-/// if there is one, the keys in the order of their texts: whoever needs them need neither read the
-/// layout nor sort the keys again.
+/// Validates as [`judge`] does, and returns the file, so that its layout need not be read again.
 ///
 /// # Errors
 ///
 /// Those of [`judge`].
-pub fn judge_keys(alloc: Global, octets: &[u8]) -> Result<JudgedFile<'_>, BinaryFault>
-    ensures file { IfOk result (λ judged. octets_of judged.file ≡ octets.entry.now) }
+pub fn judge_file(alloc: Global, octets: &[u8]) -> Result<BinFile<'_>, BinaryFault>
+    ensures file { IfOk result (λ file. octets_of file ≡ octets.entry.now) }
     ensures ok { OnOk result ((v : Plist) × IsBinary octets.entry.now v) }
-    ensures sorted { IfOk result (λ judged. AreSortedIfAny octets.entry.now judged.sorted) }
     ensures refused { IfErr result (λ fault. fault ≢ BinaryFault.OutOfMemory → (v : Plist) →
         IsBinary octets.entry.now v → ⊥) }
     ensures stands { IfErr result (Stands octets.entry.now) }
 {
     let file = BinFile::of(octets)?;
-    let sorted = judge_file(alloc, file)?;
-    Ok(JudgedFile { file, sorted })
+    judge_top(alloc, file)?;
+    Ok(file)
 }
 
 // Whether the top object of the file spells a value within the limits. Where the value is far
 // longer than the file, the file shares texts, and its keys are ranked, so that no key is read
 // again at each table.
-pub(crate) fn judge_file<'a>(
-    alloc: Global,
-    file: BinFile<'a>,
-) -> Result<Option<SortedKeys<'a>>, BinaryFault>
+pub(crate) fn judge_top(alloc: Global, file: BinFile) -> Result<(), BinaryFault>
     requires { IsLaid (octets_of file) }
     ensures passed { OnOk result (PassesTop (octets_of file.entry)) }
-    ensures sorted { IfOk result (AreSortedIfAny (octets_of file.entry)) }
     ensures refused { IfErr result (Refuses (octets_of file.entry) limits
         (trailer_of (octets_of file.entry)).top MAX_DEPTH limits) }
 {
     let none = Ranks::none(alloc);
     let whole = Budget::whole();
     match judge_within(alloc, file, &none, short_budget(&file)) {
-        Ok(sorted) => Ok(sorted),
+        Ok(()) => Ok(()),
         Err(BinaryFault::OutOfMemory) => Err(BinaryFault::OutOfMemory),
         Err(BinaryFault::TooMuchPayload { .. }) => {
             let ranks = Keys::of_file(alloc, &file)?.ranks(alloc, &file)?;
@@ -113,12 +95,11 @@ fn judge_within<'a>(
     file: BinFile<'a>,
     ranks: &Ranks<'a>,
     whole: Budget,
-) -> Result<Option<SortedKeys<'a>>, BinaryFault>
+) -> Result<(), BinaryFault>
     requires laid { IsLaid (octets_of file) }
     requires ranked { AreRanks (octets_of file) ranks.now }
     requires limits { IsWithinLimits whole }
     ensures passed { OnOk result (PassesTop (octets_of file.entry)) }
-    ensures sorted { IfOk result (AreSortedIfAny (octets_of file.entry)) }
     ensures refused { IfErr result (Refuses (octets_of file.entry) whole
         (trailer_of (octets_of file.entry)).top MAX_DEPTH whole) }
 {

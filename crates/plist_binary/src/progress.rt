@@ -4,8 +4,9 @@ ghost use Rattle.plist_binary.specs.Memos.{AreStates};
 ghost use Rattle.plist_binary.specs.Passing.{IsWithinLimits, Passes};
 ghost use Rattle.plist_binary.specs.Progress.{IsProgress};
 
-use crate::known_keys::KnownKeys;
+use crate::known_keys::LastKeys;
 use crate::memos::{Memo, State, state_at};
+use plist_object::{BinFile, KeyOrder};
 use plist_value::Budget;
 use std::alloc::Global;
 
@@ -13,20 +14,22 @@ use std::alloc::Global;
 #[derive(Drop)]
 pub(crate) struct Progress<'a> {
     pub(crate) states: Vec<State>,
-    pub(crate) known: KnownKeys<'a>,
+    pub(crate) last: Option<LastKeys<'a>>,
+    pub(crate) order: KeyOrder<'a>,
     pub(crate) left: Budget,
 }
 
 impl<'a> Progress<'a> {
     // Creates the state before the walk: nothing is known, and the whole budget is left.
-    pub(crate) fn none(alloc: Global, whole: Budget) -> Progress<'a>
+    pub(crate) fn none(alloc: Global, file: &BinFile<'a>, whole: Budget) -> Progress<'a>
         requires { IsWithinLimits whole }
         ensures left { result.left ≡ whole }
         ensures progress { (f : List ℕ) → IsProgress f [] result }
     {
         Progress {
             states: Vec::new(alloc),
-            known: KnownKeys::none(),
+            last: None,
+            order: KeyOrder::new(alloc, file),
             left: whole,
         }
     }

@@ -7,7 +7,7 @@ ghost use Rattle.plist_binary.specs.Faults.{Stands};
 
 use crate::BinaryFault;
 use crate::building::Builder;
-use crate::judging::judge_file;
+use crate::judging::judge_top;
 use plist_object::BinFile;
 use plist_value::{MAX_DEPTH, Value};
 use std::alloc::Global;
@@ -35,6 +35,6 @@ pub fn read(alloc: Global, octets: &[u8]) -> Result<Value, BinaryFault>
     ensures stands { IfErr result (Stands octets.now) }
 {
     let file = BinFile::of(octets)?;
-    drop(judge_file(alloc, file)?);
+    judge_top(alloc, file)?;
     Ok(Builder { alloc, file }.value(file.top(), MAX_DEPTH)?)
 }

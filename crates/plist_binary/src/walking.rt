@@ -1,10 +1,9 @@
 //! The walk through the objects of a file.
-ghost use Rattle.std.specs.Prelude.{◌≡◌, ◌+◌, ◌<◌, ◌∷◌, length, map, max, IfOk, IfErr, OnOk};
+ghost use Rattle.std.specs.Prelude.{◌≡◌, ◌+◌, ◌<◌, ◌∷◌, ℕ, List, length, max, IfOk, IfErr, OnOk};
 ghost use Rattle.std.specs.List.{Contains};
 ghost use Rattle.plist_value.specs.Texts.{units_of};
 ghost use Rattle.plist_object.specs.Layout.{trailer_of};
 ghost use Rattle.plist_object.specs.Views.{numbers_of, octets_of};
-ghost use Rattle.plist_object.specs.Order.{AreSortedIfAny};
 ghost use Rattle.plist_binary.specs.Begins.{AreNext, IsBegun, IsEntered};
 ghost use Rattle.plist_binary.specs.Progress.{IsProgress, IsProgressBut};
 ghost use Rattle.plist_binary.specs.Passing.{IsWithinLimits, Passes, PassesItems, PassesTop};
@@ -12,22 +11,16 @@ ghost use Rattle.plist_binary.specs.Paths.{containers_of, HasKeys};
 ghost use Rattle.plist_binary.specs.Readings.{Refuses, RefusesItems};
 ghost use Rattle.plist_binary.specs.Readings.{ReadsItems, texts, RefusesKeys};
 ghost use Rattle.plist_binary.specs.Recalls.{ReadsApart, RefusesTable};
-ghost use Rattle.plist_binary.specs.Keys.{units_at, AreInPlace, AreRanked};
-ghost use Rattle.plist_binary.specs.Heads.{AreHeadless};
 
+use crate::BinaryFault;
 use crate::known_keys::{LastKeys, recall_keys};
 use crate::memos::{Memo, State, mark};
 use crate::path::Path;
 use crate::progress::Progress;
-use crate::tables::Key;
 use crate::visiting::{Visitor, take_payload};
-use crate::{BinaryFault, row_order, tables};
-use plist_object::{Object, Refs, SortedKeys};
-use plist_value::{MAX_DEPTH, TextRef};
+use plist_object::{Object, Refs};
+use plist_value::MAX_DEPTH;
 use std::alloc::Global;
-
-// The keys of a table of up to so many are sorted themselves.
-const FEW: u64 = 64;
 
 // Walks through the objects of a file, each of which the visitor reads.
 #[derive(Clone, Copy)]
@@ -37,20 +30,18 @@ pub(crate) struct Walker<'a, 'r> {
 }
 
 impl<'a, 'r> Walker<'a, 'r> {
-    // Whether the top object spells a value within the whole budget, and then the keys of the
-    // longest of its long tables in order.
-    pub(crate) fn top(&self) -> Result<Option<SortedKeys<'a>>, BinaryFault>
+    // Whether the top object spells a value within the whole budget.
+    pub(crate) fn top(&self) -> Result<(), BinaryFault>
         requires { IsWithinLimits self.now.visitor.whole }
         ensures passed { OnOk result (PassesTop (octets_of self.now.visitor.file)) }
         ensures refused { IfErr result (Refuses (octets_of self.now.visitor.file)
             self.now.visitor.whole (trailer_of (octets_of self.now.visitor.file)).top MAX_DEPTH
             self.now.visitor.whole) }
-        ensures sorted { IfOk result (AreSortedIfAny (octets_of self.now.visitor.file)) }
     {
-        let mut progress = Progress::none(self.alloc, self.visitor.whole);
+        let mut progress = Progress::none(self.alloc, &self.visitor.file, self.visitor.whole);
         let top = self.visitor.file.top();
         self.pass(&mut progress, &Path::Above, top, MAX_DEPTH)?;
-        Ok(progress.known.sorted)
+        Ok(())
     }
 
     // The depth of the value that the object spells, to which the path leads, of at most so many
@@ -213,7 +204,7 @@ impl<'a, 'r> Walker<'a, 'r> {
         ensures progress { OnOk result (IsProgress (octets_of self.now.visitor.file)
             (table ∷ containers_of before.now) progress.new) }
     {
-        if let Some(rest) = recall_keys(&progress.known.last, &refs, levels, progress.left) {
+        if let Some(rest) = recall_keys(&progress.last, &refs, levels, progress.left) {
             progress.left = rest;
             return Ok(());
         }
@@ -245,70 +236,16 @@ impl<'a, 'r> Walker<'a, 'r> {
             (table ∷ containers_of before.now) progress.new) }
     {
         let whole = progress.left.payload;
-        let mut keys = if self.are_many_unranked(&refs) {
-            let texts = self.key_texts(progress, table, before, refs, levels)?;
-            if let Some(places) = row_order::places_by_heads(self.alloc, texts.as_slice())? {
-                let payload = whole - progress.left.payload;
-                progress.known.last = Some(LastKeys { refs, payload });
-                progress.known.keep_places(refs, places);
-                return Ok(());
-            }
-            tables::keys_in_place(self.alloc, texts.as_slice())?
-        } else {
-            self.keys(progress, table, before, refs, levels)?
-        };
+        self.keys(&mut *progress, table, before, refs, levels)?;
         let payload = whole - progress.left.payload;
-        if !tables::sort(keys.as_mut_slice()) {
+        if !progress.order.sort(self.alloc, &self.visitor.file, &refs)? {
             return Err(BinaryFault::DuplicateKey { object: table });
         }
-        progress.known.last = Some(LastKeys { refs, payload });
-        progress
-            .known
-            .keep_order(self.alloc, refs, keys.as_slice())?;
+        progress.last = Some(LastKeys { refs, payload });
         Ok(())
     }
 
-    // Whether the references are to many keys, which have no ranks: their texts are enough to tell
-    // their order.
-    fn are_many_unranked(&self, refs: &Refs) -> bool {
-        refs.len() > FEW && self.visitor.ranks.get(refs.get(0)).is_none()
-    }
-
-    // The texts that the references of the table spell.
-    fn key_texts(
-        &self,
-        progress: &mut Progress<'a>,
-        table: u64,
-        before: &Path,
-        refs: Refs,
-        levels: u64,
-    ) -> Result<Vec<TextRef<'a>>, BinaryFault>
-        requires entered { IsEntered (octets_of self.now.visitor.file) (containers_of before.now)
-            table self.now.visitor.whole progress.old.left }
-        requires keys { HasKeys (octets_of self.now.visitor.file) table (numbers_of refs) }
-        requires depth { length (containers_of before.now) + 1 + levels ≡ MAX_DEPTH }
-        requires progress { IsProgress (octets_of self.now.visitor.file)
-            (table ∷ containers_of before.now) progress.old }
-        ensures read { IfOk result (λ keys. ReadsItems (octets_of self.now.visitor.file)
-            (numbers_of refs.entry) levels progress.old.left (texts (map units_of keys.items))
-            progress.new.left) }
-        ensures refused { IfErr result (RefusesKeys (octets_of self.now.visitor.file)
-            self.now.visitor.whole (numbers_of refs.entry) levels progress.old.left) }
-        ensures progress { OnOk result (IsProgress (octets_of self.now.visitor.file)
-            (table ∷ containers_of before.now) progress.new) }
-    {
-        let mut keys = Vec::with_capacity(self.alloc, refs.len() as usize)?;
-        for i in 0..refs.len() {
-            let object = self.visitor.referred(table, refs.get(i))?;
-            let text = self
-                .visitor
-                .key(&mut *progress, table, before, object, levels)?;
-            keys.push(text)?;
-        }
-        Ok(keys)
-    }
-
-    // The keys that the references of the table spell, each at its place.
+    // Reads the keys of the table, which are texts.
     fn keys(
         &self,
         progress: &mut Progress<'a>,
@@ -316,40 +253,27 @@ impl<'a, 'r> Walker<'a, 'r> {
         before: &Path,
         refs: Refs,
         levels: u64,
-    ) -> Result<Vec<Key<'a>>, BinaryFault>
+    ) -> Result<(), BinaryFault>
         requires entered { IsEntered (octets_of self.now.visitor.file) (containers_of before.now)
             table self.now.visitor.whole progress.old.left }
         requires keys { HasKeys (octets_of self.now.visitor.file) table (numbers_of refs) }
         requires depth { length (containers_of before.now) + 1 + levels ≡ MAX_DEPTH }
         requires progress { IsProgress (octets_of self.now.visitor.file)
             (table ∷ containers_of before.now) progress.old }
-        ensures read { IfOk result (λ keys. ReadsItems (octets_of self.now.visitor.file)
-            (numbers_of refs.entry) levels progress.old.left (texts (map units_at keys.items))
-            progress.new.left) }
-        ensures placed { IfOk result (λ keys. AreInPlace keys.items) }
-        ensures ranked { IfOk result (λ keys. AreRanked keys.items) }
-        ensures headless { IfOk result (λ keys. AreHeadless keys.items) }
+        ensures read { OnOk result ((keys : List (List ℕ)) × ReadsItems
+            (octets_of self.now.visitor.file) (numbers_of refs.entry) levels progress.old.left
+            (texts keys) progress.new.left) }
         ensures refused { IfErr result (RefusesKeys (octets_of self.now.visitor.file)
             self.now.visitor.whole (numbers_of refs.entry) levels progress.old.left) }
         ensures progress { OnOk result (IsProgress (octets_of self.now.visitor.file)
             (table ∷ containers_of before.now) progress.new) }
     {
-        let mut keys = Vec::with_capacity(self.alloc, refs.len() as usize)?;
         for i in 0..refs.len() {
             let object = self.visitor.referred(table, refs.get(i))?;
-            let text = self
-                .visitor
+            self.visitor
                 .key(&mut *progress, table, before, object, levels)?;
-            let rank = self.visitor.ranks.get(object);
-            let place = keys.len();
-            keys.push(Key {
-                text,
-                rank,
-                place,
-                head: 0,
-            })?;
         }
-        Ok(keys)
+        Ok(())
     }
 }
 

@@ -10,7 +10,6 @@ ghost use Rattle.plist_forms.specs.Refusals.{IsRefused};
 use crate::judged::{draft_of, judge_binary, judge_draft};
 use crate::{Fault, PairFault};
 use ostep_text::read_text;
-use plist_binary::JudgedFile;
 use plist_engine::canonical_of;
 use plist_value::{FixedHasher, Value};
 use std::alloc::Global;
@@ -117,8 +116,8 @@ fn canonicalise_binary<S: BuildHasher + Copy>(
     ensures canonical { IfOk result (λ file. IsCanonicalOf octets.now file.items) }
     ensures refused { IfErr result (IsRefused octets.now) }
 {
-    let JudgedFile { file, sorted } = judge_binary(alloc, octets)?;
-    Ok(canonical_of(alloc, hasher, &file, sorted)?)
+    let file = judge_binary(alloc, octets)?;
+    Ok(canonical_of(alloc, hasher, &file)?)
 }
 
 // Makes the file from the draft of the text.
@@ -132,8 +131,8 @@ fn canonicalise_text<S: BuildHasher + Copy>(
     ensures refused { IfErr result (IsRefused octets.now) }
 {
     let draft = draft_of(alloc, octets)?;
-    let JudgedFile { file, sorted } = judge_draft(alloc, &draft, octets)?;
-    Ok(canonical_of(alloc, hasher, &file, sorted)?)
+    let file = judge_draft(alloc, &draft, octets)?;
+    Ok(canonical_of(alloc, hasher, &file)?)
 }
 
 /// Returns whether two inputs encode equal values, that is, whether their canonical files are

@@ -13,7 +13,6 @@ use crate::judged::{draft_of, judge_binary, judge_draft};
 use crate::loading::{MAX_INPUT, load};
 use crate::sending::send;
 use crate::texts::text_of;
-use plist_binary::JudgedFile;
 use plist_devices::{Sink, Source};
 use plist_engine::write_canonical_of;
 use plist_value::FixedHasher;
@@ -144,9 +143,9 @@ fn write_binary1<H: BuildHasher + Copy, W: Sink>(
         return write_file(alloc, hasher, octets.as_slice(), to);
     }
     let draft = draft_of(alloc, octets.as_slice())?;
-    let JudgedFile { file, sorted } = judge_draft(alloc, &draft, octets.as_slice())?;
+    let file = judge_draft(alloc, &draft, octets.as_slice())?;
     drop(octets);
-    Ok(write_canonical_of(alloc, hasher, &file, sorted, to)?)
+    Ok(write_canonical_of(alloc, hasher, &file, to)?)
 }
 
 fn write_file<H: BuildHasher + Copy, W: Sink>(
@@ -161,8 +160,8 @@ fn write_file<H: BuildHasher + Copy, W: Sink>(
     ensures untouched { IfErr result (λ fault. IsBeforePut fault → to.new ≡ to.old) }
     ensures same { W.device to.new ≡ W.device to.old }
 {
-    let JudgedFile { file, sorted } = judge_binary(alloc, octets)?;
-    Ok(write_canonical_of(alloc, hasher, &file, sorted, to)?)
+    let file = judge_binary(alloc, octets)?;
+    Ok(write_canonical_of(alloc, hasher, &file, to)?)
 }
 
 fn write_openstep<W: Sink>(alloc: Global, octets: Vec<u8>, to: &mut W) -> Result<u64, Fault>

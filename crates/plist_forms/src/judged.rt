@@ -1,7 +1,6 @@
 //! Validating binary files: the input itself, or the draft of a text.
 ghost use Rattle.std.specs.Prelude.{◌≡◌, true, false, IfOk, IfErr, OnOk};
 ghost use Rattle.plist_value.specs.Plist.{Plist};
-ghost use Rattle.plist_object.specs.Order.{AreSortedIfAny};
 ghost use Rattle.plist_object.specs.Spelled.{IsBinary};
 ghost use Rattle.plist_object.specs.Views.{octets_of};
 ghost use Rattle.plist_forms.specs.Accepted.{IsAccepted, begins_as_binary as begins};
@@ -11,19 +10,19 @@ use crate::Fault;
 use crate::canonicals::{read_any, refusal};
 use crate::laws::{canonical_is_accepted, one_value};
 use ostep_draft::{NoDraft, draft_text};
-use plist_binary::{JudgedFile, judge_keys};
+use plist_binary::judge_file;
+use plist_object::BinFile;
 use plist_canon::canonical;
 use std::alloc::Global;
 
 /// Validates the bytes as a binary file of a value within the limits.
-pub(crate) fn judge_binary(alloc: Global, octets: &[u8]) -> Result<JudgedFile<'_>, Fault>
+pub(crate) fn judge_binary(alloc: Global, octets: &[u8]) -> Result<BinFile<'_>, Fault>
     requires { begins octets.now ≡ true }
-    ensures file { IfOk result (λ judged. octets_of judged.file ≡ octets.entry.now) }
+    ensures file { IfOk result (λ file. octets_of file ≡ octets.entry.now) }
     ensures binary { OnOk result ((v : Plist) × IsBinary octets.entry.now v) }
-    ensures sorted { IfOk result (λ judged. AreSortedIfAny octets.entry.now judged.sorted) }
     ensures refused { IfErr result (IsRefused octets.entry.now) }
 {
-    Ok(judge_keys(alloc, octets)?)
+    Ok(judge_file(alloc, octets)?)
 }
 
 /// Reads a text into a binary file, its draft. The draft has to be validated: if it encodes a value
@@ -60,14 +59,13 @@ pub(crate) fn judge_draft<'a>(
     alloc: Global,
     draft: &'a [u8],
     text: &[u8],
-) -> Result<JudgedFile<'a>, Fault>
-    ensures file { IfOk result (λ judged. octets_of judged.file ≡ draft.entry.now) }
+) -> Result<BinFile<'a>, Fault>
+    ensures file { IfOk result (λ file. octets_of file ≡ draft.entry.now) }
     ensures binary { OnOk result ((v : Plist) × IsBinary draft.entry.now v) }
-    ensures sorted { IfOk result (λ judged. AreSortedIfAny draft.entry.now judged.sorted) }
     ensures refused { IfErr result (IsRefused text.now) }
 {
-    match judge_keys(alloc, draft) {
-        Ok(judged) => Ok(judged),
+    match judge_file(alloc, draft) {
+        Ok(file) => Ok(file),
         Err(_) => Err(refusal(alloc, text)),
     }
 }

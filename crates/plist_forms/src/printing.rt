@@ -30,10 +30,10 @@ pub fn print<W: Sink>(alloc: Global, octets: &[u8], to: &mut W) -> Result<u64, F
     ensures same { W.device to.new ≡ W.device to.old }
 {
     if begins_as_binary(octets) {
-        let judged = judge_binary(alloc, octets)?;
-        return Ok(print_of(alloc, &judged.file, to)?);
+        let file = judge_binary(alloc, octets)?;
+        return Ok(print_of(alloc, &file, to)?);
     }
     let draft = draft_of(alloc, octets)?;
-    let judged = judge_draft(alloc, &draft, octets)?;
-    Ok(print_of(alloc, &judged.file, to)?)
+    let file = judge_draft(alloc, &draft, octets)?;
+    Ok(print_of(alloc, &file, to)?)
 }

@@ -80,3 +80,8 @@ distinct_from_ascent keys sorted = IsDistinct-from_sorted (slice_cmp nat_cmp) ke
 pub distinct_moved : {A : Type 0} (g : A → List ℕ) (xs ys : List A) → IsPermutation xs ys → IsDistinct same_key (map g xs) → IsDistinct same_key (map g ys)
 distinct_moved g xs ys moved distinct =
     IsDistinct-IsPermutation same_key (eq_by_cmp_equiv nat_list_cmp_total).symm (map g xs) (map g ys) (IsPermutation-map g xs ys moved) distinct
+
+-- strings in order, of which no two are equal, ascend
+pub strict_from_distinct : (keys : List (List ℕ)) → IsSorted (slice_cmp nat_cmp) keys → IsDistinct same_key keys → IsStrictlySortedBy (slice_cmp nat_cmp) keys
+strict_from_distinct keys order distinct =
+    sorted_from_ascent keys (λ k h. less_from (get_or keys k []) (get_or keys (k + 1) []) (order k [] (omega arith) h) (apart_from_distinct same_key keys k (k + 1) [] distinct (omega arith) h))

@@ -4,7 +4,7 @@ use Rattle.plist_value.specs.Plist.{text}
 use Rattle.plist_value.specs.Texts.{units_of}
 use Rattle.plist_object.specs.Objects.{holds_scalar}
 use Rattle.plist_object.specs.Places.{Holds}
-use Rattle.plist_engine.specs.Order.{IsOrdered}
+use Rattle.plist_object.specs.KeyOrder.{IsReady}
 use Rattle.plist_print.specs.declared.known.KnownKey.{KnownKey}
 use Rattle.plist_print.specs.declared.known.KnownKeys.{KnownKeys}
 use Rattle.plist_print.specs.declared.known.Seen.{Seen}
@@ -19,5 +19,5 @@ AreKnown f known = All (λ place. IfSome place (IsKnown f)) known.places
 
 -- the order and the keys are those of tables of this file
 pub record IsSeen (f : List ℕ) (seen : Seen) : Type 0 where
-  pub ordered : IsOrdered f seen.order
+  pub ready : IsReady f seen.order
   pub known : AreKnown f seen.keys

@@ -7,8 +7,7 @@ ghost use Rattle.plist_object.specs.Places.{Holds, HoldsText};
 ghost use Rattle.plist_object.specs.Views.{octets_of};
 
 use plist_engine::objects::text_of;
-use plist_engine::order::KeyOrder;
-use plist_object::BinFile;
+use plist_object::{BinFile, KeyOrder};
 use plist_value::TextRef;
 use std::alloc::Global;
 
@@ -66,11 +65,11 @@ impl<'a> Seen<'a> {
     ghost use Rattle.plist_print.specs.Known.{IsSeen};
 
     /// Nothing yet.
-    pub(crate) fn new(alloc: Global) -> Seen<'a>
+    pub(crate) fn new(alloc: Global, file: &BinFile<'a>) -> Seen<'a>
         ensures { (f : List ℕ) → IsSeen f result }
     {
         Seen {
-            order: KeyOrder::new(alloc, None),
+            order: KeyOrder::new(alloc, file),
             keys: KnownKeys::new(),
         }
     }

@@ -63,7 +63,7 @@ fn print_file<W: Sink>(
     ensures stays { Stays (state_of W.Sink out.old) (state_of W.Sink out.new) }
 {
     let printer = Printer { alloc, file: *file };
-    let mut seen = Seen::new(alloc);
+    let mut seen = Seen::new(alloc, file);
     printer.value(&mut seen, file.top(), 0, out)?;
     send_all(out)?;
     Ok(out.sent)
@@ -228,8 +228,14 @@ impl<'a> Printer<'a> {
     {
         let count = keys.len().saturating_mul(2);
         let mut references = Vec::with_capacity(self.alloc, count as usize)?;
-        seen.order
-            .push_sorted(self.alloc, &self.file, keys, values, &mut references)?;
+        push_sorted(
+            self.alloc,
+            &self.file,
+            &mut seen.order,
+            keys,
+            values,
+            &mut references,
+        )?;
         Ok(references)
     }
 

@@ -16,8 +16,7 @@ use Rattle.plist_object.specs.Spelled.{SpellItems}
 use Rattle.plist_object.specs.Views.{octets_of, numbers_of}
 use Rattle.plist_binary.specs.Building.{AreSpelled, IsSpelled, PairsSpelled}
 use Rattle.plist_binary.specs.declared.tables.Key.{Key}
-use Rattle.plist_binary.specs.Heads.{AreHeadless}
-use Rattle.plist_binary.specs.Keys.{units_at, pair_at, AreRanked}
+use Rattle.plist_binary.specs.Keys.{units_at, pair_at}
 use Rattle.plist_binary.specs.Readings.{texts}
 use Rattle.plist_binary.proofs.BuildSteps.{HoldsSome-within, AllSpellWithin-list, SpellsPairsWithin-table, AllSpellTexts-keys, AllSpellWithin-values, IsSpelled-table, AreSpelled-next, distinct_texts, valid_texts}
 use Rattle.plist_binary.proofs.Entering.{some_level}
@@ -49,13 +48,6 @@ items-loop-i-preserved t c =
     let more = AreSpelled-next f refs c.loop-i.i c.get.result (view_items c.loop-i.items.items) (view c.in_ok-value.field-0) (omega arith) c.get.ensures c.loop-i.invariant c.in_ok-value.ensures in
     let pushed : view_items c.push.new.self.items ≡ push (view_items c.loop-i.items.items) (view c.in_ok-value.field-0) = ap view_items c.in_ok-push.ensures.items ∙ view_items-push c.loop-i.items.items c.in_ok-value.field-0 in
     subst (λ (vs : Items). AreSpelled f (take (c.loop-i.i + 1) refs) vs) (sym pushed) more
-
-pub pairs-sort-distinct-requires : goal.pairs-sort-distinct-requires
-pairs-sort-distinct-requires t c =
-    record {
-      ranked = subst AreRanked (sym c.as_mut_slice.ensures.value) c.in_ok-keys.ensures.ranked;
-      headless = subst AreHeadless (sym c.as_mut_slice.ensures.value) c.in_ok-keys.ensures.headless;
-    }
 
 pub pairs-keys-requires : goal.pairs-keys-requires
 pairs-keys-requires t c =

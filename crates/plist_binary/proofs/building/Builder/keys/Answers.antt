@@ -1,14 +1,9 @@
-use Rattle.std.proofs.Common.{◌≡◌, ◌∷◌, ◌++◌, ◌+◌, [], ℕ, List, map, take, subst, sym, ap, ◌∙◌, arith, refl, None}
-use Rattle.std.specs.Prelude.{All}
+use Rattle.std.proofs.Common.{◌≡◌, ◌∷◌, ◌++◌, ◌+◌, [], ℕ, List, map, take, subst, sym, ap, ◌∙◌, arith}
 use Rattle.std.proofs.lemmas.List.{map-append}
-use Rattle.std.proofs.lemmas.List.Elements.{All-push}
 use Rattle.plist_value.specs.Texts.{units_of}
 use Rattle.plist_object.specs.Views.{octets_of, numbers_of}
 use Rattle.plist_binary.specs.Building.{AreTexts}
-use Rattle.plist_binary.specs.Heads.{AreHeadless}
-use Rattle.plist_binary.specs.Keys.{units_at, AreInPlace, IsRanked}
-use Rattle.plist_binary.specs.declared.tables.Key.{Key}
-use Rattle.plist_binary.proofs.Ranking.{IsRanked-none, AreRanked-none}
+use Rattle.plist_binary.specs.Keys.{units_at, AreInPlace}
 use Rattle.plist_binary.proofs.BuildSteps.{AreTexts-next}
 use Rattle.plist_binary.proofs.Placed.{AreInPlace-push}
 use Rattle.plist_binary.proofs.building.Builder.keys.Goals as goal
@@ -17,15 +12,9 @@ pub loop-i-preserved : goal.loop-i-preserved
 loop-i-preserved c =
     let f = octets_of c.args.self.now.file in
     let refs = numbers_of c.args.refs in
-    let key : Key = record { text = c.text-text.result; rank = None; place = c.len-place.result; head = 0 } in
     let texts = AreTexts-next f refs c.loop-i.i c.get.result (map units_at c.loop-i.keys.items) (units_of c.text-text.result) (omega arith) c.get.ensures c.loop-i.invariant.texts c.text-text.ensures in
     let pushed : map units_at c.push.new.self.items ≡ map units_at c.loop-i.keys.items ++ units_of c.text-text.result ∷ [] = ap (map units_at) c.in_ok-push.ensures.items ∙ map-append units_at c.loop-i.keys.items _ in
     record {
       texts = subst (λ (keys : List (List ℕ)). AreTexts f (take (c.loop-i.i + 1) refs) keys) (sym pushed) texts;
       placed = subst AreInPlace (sym c.in_ok-push.ensures.items) (AreInPlace-push c.loop-i.keys.items _ (omega (arith, c.len-place.ensures, c.loop-i.keys.ok.0)) c.loop-i.invariant.placed);
-      unranked = subst (λ (keys : List Key). All (IsRanked []) keys) (sym c.in_ok-push.ensures.items) (All-push (IsRanked []) c.loop-i.keys.items key c.loop-i.invariant.unranked (IsRanked-none key refl));
-      headless = subst AreHeadless (sym c.in_ok-push.ensures.items) (All-push (λ (k : Key). k.head ≡ 0) c.loop-i.keys.items key c.loop-i.invariant.headless refl);
     }
-
-pub returns-clause-ranked : goal.returns-clause-ranked
-returns-clause-ranked c = AreRanked-none c.loop-i.keys.items c.loop-i.invariant.unranked

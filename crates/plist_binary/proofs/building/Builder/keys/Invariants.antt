@@ -1,9 +1,7 @@
-use Rattle.std.proofs.Common.{take, map, []}
-use Rattle.std.specs.Prelude.{All}
+use Rattle.std.proofs.Common.{take, map}
 use Rattle.plist_object.specs.Views.{octets_of, numbers_of}
 use Rattle.plist_binary.specs.Building.{AreTexts}
-use Rattle.plist_binary.specs.Heads.{AreHeadless}
-use Rattle.plist_binary.specs.Keys.{units_at, AreInPlace, IsRanked}
+use Rattle.plist_binary.specs.Keys.{units_at, AreInPlace}
 use Rattle.plist_binary.proofs.building.Builder.keys.Given as goal
 
 abbrev pub invariant-loop-i : goal.invariant-loop-i
@@ -11,6 +9,4 @@ invariant-loop-i l =
     record {
       texts : AreTexts (octets_of l.self.file) (take l.i (numbers_of l.refs)) (map units_at l.keys.items);
       placed : AreInPlace l.keys.items;
-      unranked : All (IsRanked []) l.keys.items;
-      headless : AreHeadless l.keys.items;
     }

@@ -44,7 +44,8 @@ content-returns-in_ok-take_payload-in-Scalar-clause-progress t c =
     let spent = c.in_ok-take_payload-in-Scalar.ensures.ok in
     record {
       states = AreStates-but (octets_of c.args.self.now.visitor.file) (containers_of c.args.path.now) c.enter.new.progress.states.items c.args.object so_far.states;
-      known = so_far.known;
+      last = so_far.last;
+      ready = so_far.ready;
       within = record {
         nodes_most = omega (arith, so_far.within.nodes_most, spent.nodes_left);
         payload_most = omega (arith, so_far.within.payload_most, spent.payload_left);
@@ -62,7 +63,7 @@ content-items-requires t c =
     let next = AreNext-items f path c.args.object refs c.args.self.now.visitor.whole c.enter.new.progress.left entered record { listed = c.requires.listed; reads = reads } in
     let so_far = c.in_ok-scalar.ensures.progress in
     let open_now = AreStates-open f path c.enter.new.progress.states.items c.mark.new.states.items c.args.object c.in_ok-mark-in-List.ensures so_far.states in
-    (search rules, (next, (omega arith, record { states = open_now; known = so_far.known; within = so_far.within })))
+    (search rules, (next, (omega arith, record { states = open_now; last = so_far.last; ready = so_far.ready; within = so_far.within })))
 
 pub content-returns-in_err-deep-in-List-clause-refused : goal.content-returns-in_err-deep-in-List-clause-refused
 content-returns-in_err-deep-in-List-clause-refused t c =
@@ -84,7 +85,8 @@ content-keys_apart-requires-clause-progress t c =
     let so_far = c.in_ok-scalar.ensures.progress in
     record {
       states = AreStates-open (octets_of c.args.self.now.visitor.file) (containers_of c.args.path.now) c.enter.new.progress.states.items c.mark-in-Table.new.states.items c.args.object c.in_ok-mark-in-Table.ensures so_far.states;
-      known = so_far.known;
+      last = so_far.last;
+      ready = so_far.ready;
       within = so_far.within;
     }
 
@@ -179,7 +181,8 @@ walk-returns-clause-progress t c =
     let so_far = c.in_ok-deep.ensures.progress in
     record {
       states = AreStates-passed f (containers_of c.args.path.now) c.content.new.progress.states.items c.mark.new.states.items c.args.object c.of-memo.result (subst (λ (state : State). IsMarked c.content.new.progress.states.items c.args.object state c.mark.new.states.items) c.passed.ensures c.in_ok-mark.ensures) known c.in_ok-deep.ensures.new so_far.states;
-      known = so_far.known;
+      last = so_far.last;
+      ready = so_far.ready;
       within = so_far.within;
     }
 
@@ -197,7 +200,8 @@ content-returns-in_ok-deep-in-List-clause-progress t c =
     let so_far = c.in_ok-deep-in-List.ensures.progress in
     record {
       states = AreStates-last (octets_of c.args.self.now.visitor.file) (containers_of c.args.path.now) c.items.new.progress.states.items c.args.object so_far.states;
-      known = so_far.known;
+      last = so_far.last;
+      ready = so_far.ready;
       within = so_far.within;
     }
 
@@ -206,6 +210,7 @@ content-returns-in_ok-deep-in-Table-clause-progress t c =
     let so_far = c.in_ok-deep-in-Table.ensures.progress in
     record {
       states = AreStates-last (octets_of c.args.self.now.visitor.file) (containers_of c.args.path.now) c.items-in-Table.new.progress.states.items c.args.object so_far.states;
-      known = so_far.known;
+      last = so_far.last;
+      ready = so_far.ready;
       within = so_far.within;
     }

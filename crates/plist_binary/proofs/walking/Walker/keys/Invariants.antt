@@ -1,20 +1,13 @@
-use Rattle.std.proofs.Common.{◌∷◌, take, map}
-use Rattle.std.specs.Prelude.{All}
+use Rattle.std.proofs.Common.{◌∷◌, ℕ, List, take}
 use Rattle.plist_object.specs.Views.{octets_of, numbers_of}
-use Rattle.plist_object.specs.Ranks.{texts_of}
-use Rattle.plist_binary.specs.Heads.{AreHeadless}
-use Rattle.plist_binary.specs.Keys.{units_at, AreInPlace, IsRanked}
 use Rattle.plist_binary.specs.Paths.{containers_of}
 use Rattle.plist_binary.specs.Progress.{IsProgress}
 use Rattle.plist_binary.specs.Readings.{ReadsItems, texts}
 use Rattle.plist_binary.proofs.walking.Walker.keys.Given as goal
 
 abbrev pub invariant-loop-i : goal.invariant-loop-i
-invariant-loop-i l =
-    record {
-      read : ReadsItems (octets_of l.self.visitor.file) (take l.i (numbers_of l.refs)) l.levels l.initial.progress.left (texts (map units_at l.keys.items)) l.progress.left;
-      progress : IsProgress (octets_of l.self.visitor.file) (l.table ∷ containers_of l.before) l.progress;
-      placed : AreInPlace l.keys.items;
-      ranked : All (IsRanked (texts_of l.self.visitor.ranks.now)) l.keys.items;
-      headless : AreHeadless l.keys.items;
-    }
+invariant-loop-i l = record {
+  keys : List (List ℕ);
+  read : ReadsItems (octets_of l.self.visitor.file) (take l.i (numbers_of l.refs)) l.levels l.initial.progress.left (texts keys) l.progress.left;
+  progress : IsProgress (octets_of l.self.visitor.file) (l.table ∷ containers_of l.before) l.progress;
+}

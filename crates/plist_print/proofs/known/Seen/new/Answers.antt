@@ -1,4 +1,4 @@
 use Rattle.plist_print.proofs.known.Seen.new.Goals as goal
 
 pub returns : goal.returns
-returns c = λ f. record { ordered = c.new.ensures f tt; known = c.new-2.ensures f }
+returns c = λ f. record { ready = c.new.ensures f; known = c.new-2.ensures f }
