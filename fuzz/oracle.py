@@ -611,12 +611,12 @@ def printed_lines(value, level):
     kind, content = value
     if kind in ('list', 'table'):
         if kind == 'list':
-            brackets, heads = '[]', [(str(n), item) for n, item in enumerate(content)]
+            brackets, heads = '[]', [('', item) for item in content]
         else:
-            brackets, heads = '{}', [(printed_text(key), content[key]) for key in sorted(content)]
+            brackets, heads = '{}', [(printed_text(key) + ' => ', content[key]) for key in sorted(content)]
         if not heads:
             return brackets + '\n'
-        inside = ['  ' * (level + 1) + head + ' => ' + printed_lines(item, level + 1) for head, item in heads]
+        inside = ['  ' * (level + 1) + head + printed_lines(item, level + 1) for head, item in heads]
         return brackets[0] + '\n' + ''.join(inside) + '  ' * level + brackets[1] + '\n'
     return {
         'text': printed_text,

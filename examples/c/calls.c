@@ -11,8 +11,8 @@ static plistconv_refusal refusal;
 
 static const uint8_t key[PLISTCONV_HASH_KEY_OCTETS] = "sixteen octets!";
 static const uint8_t value[] = "{ b = (x, \"y z\", (deep, (er, { k = <00ff>; }))); c = \"h\\U00e9\"; }";
-static const uint8_t printed[] = "{\n  \"b\" => [\n    0 => \"x\"\n    1 => \"y z\"\n    2 => [\n      0 => \"deep\"\n"
-                                 "      1 => [\n        0 => \"er\"\n        1 => {\n          \"k\" => <00ff>\n        }\n"
+static const uint8_t printed[] = "{\n  \"b\" => [\n    \"x\"\n    \"y z\"\n    [\n      \"deep\"\n      [\n"
+                                 "        \"er\"\n        {\n          \"k\" => <00ff>\n        }\n"
                                  "      ]\n    ]\n  ]\n  \"c\" => \"h\303\251\"\n}\n";
 static const uint8_t twice[] = "{ a = b; c = (d); a = c; }";
 

@@ -9,8 +9,8 @@ the refusal and the place in the input; if there is no memory left they raise `M
     >>> print(plistconv.printed(b"{ a = (x, y); }"), end="")
     {
       "a" => [
-        0 => "x"
-        1 => "y"
+        "x"
+        "y"
       ]
     }
     >>> try:

@@ -40,14 +40,14 @@ list_empty f [] level no_items h spell = refl
 list_empty f [] level (item v vs) h spell = absurd spell
 list_empty f (i ∷ refs) level vs h spell = absurd (omega arith)
 
-list_filled : (f refs : List ℕ) (level : ℕ) (vs : Items) → 0 < length refs → SpellItems f refs vs → bracketed level 91 93 (printed_items (suc level) 0 vs) ≡ printed_at level (list vs)
+list_filled : (f refs : List ℕ) (level : ℕ) (vs : Items) → 0 < length refs → SpellItems f refs vs → bracketed level 91 93 (printed_items (suc level) vs) ≡ printed_at level (list vs)
 list_filled f [] level vs h spell = absurd (omega arith)
 list_filled f (i ∷ refs) level no_items h spell = absurd (let none : i ∷ refs ≡ [] = spell in cc)
 list_filled f (i ∷ refs) level (item v vs) h spell = refl
 
-pub list_brackets : (f refs : List ℕ) (level : ℕ) (vs : Items) → 0 < length refs → SpellItems f refs vs → bracketed level 91 93 (printed_items (level + 1) 0 vs) ≡ printed_at level (list vs)
+pub list_brackets : (f refs : List ℕ) (level : ℕ) (vs : Items) → 0 < length refs → SpellItems f refs vs → bracketed level 91 93 (printed_items (level + 1) vs) ≡ printed_at level (list vs)
 list_brackets f refs level vs h spell =
-    ap (λ n. bracketed level 91 93 (printed_items n 0 vs)) (add-one level) ∙ list_filled f refs level vs h spell
+    ap (λ n. bracketed level 91 93 (printed_items n vs)) (add-one level) ∙ list_filled f refs level vs h spell
 
 -- a table that is empty, and one that is not
 rows_long : (f keys values : List ℕ) (rows : List (ℕ × ℕ)) (ps : Pairs) → length keys ≡ length values → SpellTable f keys values rows ps → length rows ≡ length keys

@@ -1,6 +1,6 @@
 -- Items and pairs that are printed one after another.
 use Rattle.std.proofs.Common.{◌≡◌, ℕ, zero, suc, ◌+◌, ◌<◌, ◌≤◌, List, [], ◌∷◌, ◌++◌, length, map, get_or, refl, sym, ap, ◌∙◌, arith, append_assoc}
-use Rattle.std.specs.Prelude.{codes, decimal}
+use Rattle.std.specs.Prelude.{codes}
 use Rattle.std.proofs.lemmas.List.{append-nil}
 use Rattle.plist_value.specs.Plist.{text, Plist, Items, no_items, item, Pairs, no_pairs, pair, IsPlist, AreItems, ArePairs}
 use Rattle.plist_object.specs.Objects.{holds_scalar}
@@ -10,11 +10,11 @@ use Rattle.plist_print.specs.Units.{printed_text}
 use Rattle.plist_print.specs.Printed.{indent, printed_at, printed_items, printed_pairs}
 use Rattle.plist_print.specs.Printing.{item_lines, pair_lines}
 
--- the lines of so many items, whose numbers begin with this one
-abbrev pub items_before : ℕ → ℕ → ℕ → Items → List ℕ
-items_before level n zero vs = []
-items_before level n (suc k) no_items = []
-items_before level n (suc k) (item v vs) = item_lines level n v ++ items_before level (suc n) k vs
+-- the lines of so many items
+abbrev pub items_before : ℕ → ℕ → Items → List ℕ
+items_before level zero vs = []
+items_before level (suc k) no_items = []
+items_before level (suc k) (item v vs) = item_lines level v ++ items_before level k vs
 
 -- the lines of so many pairs
 abbrev pub pairs_before : ℕ → ℕ → Pairs → List ℕ
@@ -26,8 +26,8 @@ regrouped : (a b c p q : List ℕ) → a ++ (b ++ (c ++ (p ++ q))) ≡ ((a ++ (b
 regrouped a b c p q =
     sym (append_assoc (a ++ (b ++ c)) p q ∙ append_assoc a (b ++ c) (p ++ q) ∙ ap (λ t. a ++ t) (append_assoc b c (p ++ q)))
 
-items_first : (level n : ℕ) (v : Plist) (vs : Items) → printed_items level n (item v vs) ≡ item_lines level n v ++ printed_items level (suc n) vs
-items_first level n v vs = regrouped (indent level) (decimal n) (codes " => ") (printed_at level v) (printed_items level (suc n) vs)
+items_first : (level : ℕ) (v : Plist) (vs : Items) → printed_items level (item v vs) ≡ item_lines level v ++ printed_items level vs
+items_first level v vs = sym (append_assoc (indent level) (printed_at level v) (printed_items level vs))
 
 pairs_first : (level : ℕ) (key : List ℕ) (v : Plist) (ps : Pairs) → printed_pairs level (pair key v ps) ≡ pair_lines level key v ++ printed_pairs level ps
 pairs_first level key v ps = regrouped (indent level) (printed_text key) (codes " => ") (printed_at level v) (printed_pairs level ps)
@@ -40,50 +40,49 @@ more_split : (first before one rest part all : List ℕ) → all ≡ first ++ pa
 more_split first before one rest part all begins split =
     begins ∙ more_lines first (before ++ one) rest part split ∙ ap (λ t. t ++ rest) (sym (append_assoc first before one))
 
--- the item of this number, and what is printed with it
-pub record ItemAt (f : List ℕ) (object level n m k : ℕ) (vs : Items) : Type 0 where
+-- the item at this place, and what is printed with it
+pub record ItemAt (f : List ℕ) (object level k : ℕ) (vs : Items) : Type 0 where
   pub value : Plist
   pub valid : IsPlist value
   pub spells : Spells f object value
-  pub more : items_before level n (suc k) vs ≡ items_before level n k vs ++ item_lines level m value
+  pub more : items_before level (suc k) vs ≡ items_before level k vs ++ item_lines level value
   pub rest : List ℕ
-  pub split : printed_items level n vs ≡ (items_before level n k vs ++ item_lines level m value) ++ rest
+  pub split : printed_items level vs ≡ (items_before level k vs ++ item_lines level value) ++ rest
 
-pub item_at : (f refs : List ℕ) (level n m k : ℕ) (vs : Items) → m ≡ n + k → k < length refs → AreItems vs → SpellItems f refs vs → ItemAt f (get_or refs k 0) level n m k vs
-item_at f [] level n m k vs e h valid spell = absurd (omega arith)
-item_at f (i ∷ refs) level n m k no_items e h valid spell = absurd (let none : i ∷ refs ≡ [] = spell in cc)
-item_at f (i ∷ refs) level n m zero (item v vs) e h valid spell =
-    let is : m ≡ n = omega arith in
-    rw is (record {
-      value = v;
-      valid = valid.0;
-      spells = spell.0;
-      more = append-nil (item_lines level n v);
-      rest = printed_items level (suc n) vs;
-      split = items_first level n v vs;
-    })
-item_at f (i ∷ refs) level n m (suc k) (item v vs) e h valid spell =
-    let next = item_at f refs level (suc n) m k vs (omega arith) (omega arith) valid.1 spell.1 in
-    let before = items_before level (suc n) k vs in
-    let one = item_lines level m next.value in
+pub item_at : (f refs : List ℕ) (level k : ℕ) (vs : Items) → k < length refs → AreItems vs → SpellItems f refs vs → ItemAt f (get_or refs k 0) level k vs
+item_at f [] level k vs h valid spell = absurd (omega arith)
+item_at f (i ∷ refs) level k no_items h valid spell = absurd (let none : i ∷ refs ≡ [] = spell in cc)
+item_at f (i ∷ refs) level zero (item v vs) h valid spell = record {
+  value = v;
+  valid = valid.0;
+  spells = spell.0;
+  more = append-nil (item_lines level v);
+  rest = printed_items level vs;
+  split = items_first level v vs;
+}
+item_at f (i ∷ refs) level (suc k) (item v vs) h valid spell =
+    let next = item_at f refs level k vs (omega arith) valid.1 spell.1 in
+    let first = item_lines level v in
+    let before = items_before level k vs in
+    let one = item_lines level next.value in
     record {
       value = next.value;
       valid = next.valid;
       spells = next.spells;
-      more = more_lines (item_lines level n v) before one (items_before level (suc n) (suc k) vs) next.more;
+      more = more_lines first before one (items_before level (suc k) vs) next.more;
       rest = next.rest;
-      split = more_split (item_lines level n v) before one next.rest (printed_items level (suc n) vs) (printed_items level n (item v vs)) (items_first level n v vs) next.split;
+      split = more_split first before one next.rest (printed_items level vs) (printed_items level (item v vs)) (items_first level v vs) next.split;
     }
 
 -- all items were printed
-pub items_all : (f refs : List ℕ) (level n k : ℕ) (vs : Items) → length refs ≤ k → SpellItems f refs vs → items_before level n k vs ≡ printed_items level n vs
-items_all f [] level n zero no_items h spell = refl
-items_all f [] level n (suc k) no_items h spell = refl
-items_all f (i ∷ refs) level n k no_items h spell = absurd (let none : i ∷ refs ≡ [] = spell in cc)
-items_all f [] level n k (item v vs) h spell = absurd spell
-items_all f (i ∷ refs) level n zero (item v vs) h spell = absurd (omega arith)
-items_all f (i ∷ refs) level n (suc k) (item v vs) h spell =
-    ap (λ t. item_lines level n v ++ t) (items_all f refs level (suc n) k vs (omega arith) spell.1) ∙ sym (items_first level n v vs)
+pub items_all : (f refs : List ℕ) (level k : ℕ) (vs : Items) → length refs ≤ k → SpellItems f refs vs → items_before level k vs ≡ printed_items level vs
+items_all f [] level zero no_items h spell = refl
+items_all f [] level (suc k) no_items h spell = refl
+items_all f (i ∷ refs) level k no_items h spell = absurd (let none : i ∷ refs ≡ [] = spell in cc)
+items_all f [] level k (item v vs) h spell = absurd spell
+items_all f (i ∷ refs) level zero (item v vs) h spell = absurd (omega arith)
+items_all f (i ∷ refs) level (suc k) (item v vs) h spell =
+    ap (λ t. item_lines level v ++ t) (items_all f refs level k vs (omega arith) spell.1) ∙ sym (items_first level v vs)
 
 -- the pair at this place, and what is printed with it
 pub record PairAt (f : List ℕ) (name object level k : ℕ) (ps : Pairs) : Type 0 where

@@ -74,6 +74,6 @@ pub printed_wide : printed (scalar (text (0xe9 ∷ 0xd83d ∷ 0xde00 ∷ 0xde00 
 unfolding printed_unit encode_utf8
 printed_wide = refl
 
-pub printed_nested : printed (table (pair (codes "a") (list (item (scalar (whole (negsuc 4))) (item (list no_items) no_items))) (pair (codes "b") (table no_pairs) (pair (codes "c") (scalar (flag true)) (pair (codes "d") (scalar (bytes (10 ∷ 11 ∷ []))) no_pairs))))) ≡ codes "{\n  \"a\" => [\n    0 => -5\n    1 => []\n  ]\n  \"b\" => {}\n  \"c\" => true\n  \"d\" => <0a0b>\n}\n"
+pub printed_nested : printed (table (pair (codes "a") (list (item (scalar (whole (negsuc 4))) (item (list no_items) no_items))) (pair (codes "b") (table no_pairs) (pair (codes "c") (scalar (flag true)) (pair (codes "d") (scalar (bytes (10 ∷ 11 ∷ []))) no_pairs))))) ≡ codes "{\n  \"a\" => [\n    -5\n    []\n  ]\n  \"b\" => {}\n  \"c\" => true\n  \"d\" => <0a0b>\n}\n"
 unfolding printed_unit encode_utf8 digits
 printed_nested = refl

@@ -135,6 +135,9 @@ deeper : (level c : ℕ) (x y : List ℕ) → indent level ++ (c ∷ x) ≡ inde
 deeper zero c x y same = heads c 32 x (32 ∷ y) same
 deeper (suc level) c x y same = deeper level c x y (ap (λ l. tail_of (tail_of l)) same)
 
+regrouped : (a p q r : List ℕ) → (a ++ (p ++ q)) ++ r ≡ a ++ (p ++ (q ++ r))
+regrouped a p q r = append_assoc a (p ++ q) r ∙ ap (λ t. a ++ t) (append_assoc p q r)
+
 unrolled : (a b c p q r : List ℕ) → (a ++ (b ++ (c ++ (p ++ q)))) ++ r ≡ a ++ (b ++ (c ++ (p ++ (q ++ r))))
 unrolled a b c p q r =
     append_assoc a (b ++ (c ++ (p ++ q))) r ∙ ap (λ t. a ++ t) (append_assoc b (c ++ (p ++ q)) r ∙ ap (λ t. b ++ t) (append_assoc c (p ++ q) r ∙ ap (λ t. c ++ t) (append_assoc p q r)))
@@ -153,18 +156,16 @@ ending-no_row level close r b s h same =
     h (deeper level close (10 ∷ r) (b ++ s) (sym (append_assoc (indent level) (close ∷ 10 ∷ []) r) ∙ same ∙ append_assoc (indent (suc level)) b s))
 
 -- an item of a list, and those behind it
-item-front : (level n : ℕ) (v w : Plist) (vs ws : Items) (r s : List ℕ)
+item-front : (level : ℕ) (v w : Plist) (vs ws : Items) (r s : List ℕ)
     → ((x y : List ℕ) → printed_at level v ++ x ≡ printed_at level w ++ y → (v ≡ w) × (x ≡ y))
-    → (printed_items level (suc n) vs ++ r ≡ printed_items level (suc n) ws ++ s → (vs ≡ ws) × (r ≡ s))
-    → printed_items level n (item v vs) ++ r ≡ printed_items level n (item w ws) ++ s → (item v vs ≡ item w ws) × (r ≡ s)
-item-front level n v w vs ws r s value items same =
-    let p = printed_items level (suc n) vs in
-    let q = printed_items level (suc n) ws in
-    let long = sym (unrolled (indent level) (decimal n) (codes " => ") (printed_at level v) p r) ∙ same ∙ unrolled (indent level) (decimal n) (codes " => ") (printed_at level w) q s in
-    let e = append_cancel_left (indent level) (decimal n ++ (codes " => " ++ (printed_at level v ++ (p ++ r)))) (decimal n ++ (codes " => " ++ (printed_at level w ++ (q ++ s)))) long in
-    let f = append_cancel_left (decimal n) (codes " => " ++ (printed_at level v ++ (p ++ r))) (codes " => " ++ (printed_at level w ++ (q ++ s))) e in
-    let g = append_cancel_left (codes " => ") (printed_at level v ++ (p ++ r)) (printed_at level w ++ (q ++ s)) f in
-    let one = value (p ++ r) (q ++ s) g in
+    → (printed_items level vs ++ r ≡ printed_items level ws ++ s → (vs ≡ ws) × (r ≡ s))
+    → printed_items level (item v vs) ++ r ≡ printed_items level (item w ws) ++ s → (item v vs ≡ item w ws) × (r ≡ s)
+item-front level v w vs ws r s value items same =
+    let p = printed_items level vs in
+    let q = printed_items level ws in
+    let long = sym (regrouped (indent level) (printed_at level v) p r) ∙ same ∙ regrouped (indent level) (printed_at level w) q s in
+    let e = append_cancel_left (indent level) (printed_at level v ++ (p ++ r)) (printed_at level w ++ (q ++ s)) long in
+    let one = value (p ++ r) (q ++ s) e in
     let rest = items one.1 in
     (ap (λ x. item x vs) one.0 ∙ ap (item w) rest.0, rest.1)
 
@@ -223,20 +224,20 @@ mutual
   list-front level no_items (item w ws) r s h k same = absurd (let e : 93 ≡ 10 = ap (λ l. head_of (tail_of l)) same in omega arith)
   list-front level (item v vs) no_items r s h k same = absurd (let e : 10 ≡ 93 = ap (λ l. head_of (tail_of l)) same in omega arith)
   list-front level (item v vs) (item w ws) r s h k same =
-      let left = printed_items (suc level) 0 (item v vs) in
-      let right = printed_items (suc level) 0 (item w ws) in
+      let left = printed_items (suc level) (item v vs) in
+      let right = printed_items (suc level) (item w ws) in
       let inner : (left ++ (indent level ++ (93 ∷ 10 ∷ []))) ++ r ≡ (right ++ (indent level ++ (93 ∷ 10 ∷ []))) ++ s = ap (λ l. tail_of (tail_of l)) same in
-      let rows = item-front (suc level) 0 v w vs ws (ending level 93 r) (ending level 93 s) (λ x y. value-front (suc level) v w x y h.0 k.0) (λ e. items-front level 1 vs ws r s h.1 k.1 e) (sym (append_assoc left (indent level ++ (93 ∷ 10 ∷ [])) r) ∙ inner ∙ append_assoc right (indent level ++ (93 ∷ 10 ∷ [])) s) in
+      let rows = item-front (suc level) v w vs ws (ending level 93 r) (ending level 93 s) (λ x y. value-front (suc level) v w x y h.0 k.0) (λ e. items-front level vs ws r s h.1 k.1 e) (sym (append_assoc left (indent level ++ (93 ∷ 10 ∷ [])) r) ∙ inner ∙ append_assoc right (indent level ++ (93 ∷ 10 ∷ [])) s) in
       (rows.0, endings-front level 93 r s rows.1)
 
-  items-front : (level n : ℕ) (vs ws : Items) (r s : List ℕ) → AreItems vs → AreItems ws → printed_items (suc level) n vs ++ ending level 93 r ≡ printed_items (suc level) n ws ++ ending level 93 s → (vs ≡ ws) × (ending level 93 r ≡ ending level 93 s)
-  items-front level n no_items no_items r s h k same = (refl, same)
-  items-front level n no_items (item w ws) r s h k same =
+  items-front : (level : ℕ) (vs ws : Items) (r s : List ℕ) → AreItems vs → AreItems ws → printed_items (suc level) vs ++ ending level 93 r ≡ printed_items (suc level) ws ++ ending level 93 s → (vs ≡ ws) × (ending level 93 r ≡ ending level 93 s)
+  items-front level no_items no_items r s h k same = (refl, same)
+  items-front level no_items (item w ws) r s h k same =
       absurd (ending-no_row level 93 r _ (ending level 93 s) (λ e. omega arith) same)
-  items-front level n (item v vs) no_items r s h k same =
+  items-front level (item v vs) no_items r s h k same =
       absurd (ending-no_row level 93 s _ (ending level 93 r) (λ e. omega arith) (sym same))
-  items-front level n (item v vs) (item w ws) r s h k same =
-      item-front (suc level) n v w vs ws (ending level 93 r) (ending level 93 s) (λ x y. value-front (suc level) v w x y h.0 k.0) (λ e. items-front level (suc n) vs ws r s h.1 k.1 e) same
+  items-front level (item v vs) (item w ws) r s h k same =
+      item-front (suc level) v w vs ws (ending level 93 r) (ending level 93 s) (λ x y. value-front (suc level) v w x y h.0 k.0) (λ e. items-front level vs ws r s h.1 k.1 e) same
 
   table-front : (level : ℕ) (ps qs : Pairs) (r s : List ℕ) → ArePairs ps → ArePairs qs → printed_at level (table ps) ++ r ≡ printed_at level (table qs) ++ s → (ps ≡ qs) × (r ≡ s)
   table-front level no_pairs no_pairs r s h k same = (refl, append_cancel_left (codes "{}\n") r s same)

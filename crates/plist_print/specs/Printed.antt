@@ -1,5 +1,5 @@
 -- The printed text of a value.
-use Rattle.std.specs.Prelude.{ℕ, zero, suc, Bool, true, false, List, [], ◌∷◌, ◌++◌, codes, decimal}
+use Rattle.std.specs.Prelude.{ℕ, zero, suc, Bool, true, false, List, [], ◌∷◌, ◌++◌, codes}
 use Rattle.std.specs.Fmt.{signed_decimal}
 use Rattle.plist_value.specs.Plist.{Scalar, text, whole, flag, real4, real8, moment, bytes, Plist, scalar, list, table, Items, no_items, item, Pairs, no_pairs, pair}
 use Rattle.plist_print.specs.Units.{printed_data, printed_text}
@@ -31,19 +31,17 @@ closed level close [] = close ∷ 10 ∷ []
 closed level close (c ∷ lines) = 10 ∷ (c ∷ lines) ++ (indent level ++ (close ∷ 10 ∷ []))
 
 -- A value up to the end of its last line, whose first line is indented by so many levels and has
--- begun: a list is `[`, a line for each item with its number before it, `]`; a table is `{`, a line
--- for each key and value, `}`.
+-- begun: a list is `[`, a line for each item, `]`; a table is `{`, a line for each key and value,
+-- `}`.
 abbrev mutual
   pub printed_at : ℕ → Plist → List ℕ
   printed_at level (scalar s) = printed_scalar s ++ codes "\n"
-  printed_at level (list vs) = 91 ∷ closed level 93 (printed_items (suc level) 0 vs)
+  printed_at level (list vs) = 91 ∷ closed level 93 (printed_items (suc level) vs)
   printed_at level (table ps) = 123 ∷ closed level 125 (printed_pairs (suc level) ps)
 
-  -- the items from the one of this number on
-  pub printed_items : ℕ → ℕ → Items → List ℕ
-  printed_items level n no_items = []
-  printed_items level n (item v vs) =
-      indent level ++ (decimal n ++ (codes " => " ++ (printed_at level v ++ printed_items level (suc n) vs)))
+  pub printed_items : ℕ → Items → List ℕ
+  printed_items level no_items = []
+  printed_items level (item v vs) = indent level ++ (printed_at level v ++ printed_items level vs)
 
   pub printed_pairs : ℕ → Pairs → List ℕ
   printed_pairs level no_pairs = []

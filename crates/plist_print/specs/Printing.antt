@@ -1,5 +1,5 @@
 -- What is printed of objects of a file, line after line.
-use Rattle.std.specs.Prelude.{◌≡◌, ℕ, ◌≤◌, List, ◌++◌, length, codes, decimal}
+use Rattle.std.specs.Prelude.{◌≡◌, ℕ, ◌≤◌, List, ◌++◌, length, codes}
 use Rattle.plist_value.specs.Plist.{Plist, Pairs, ArePairs}
 use Rattle.plist_value.specs.Limits.{depth_of_pairs}
 use Rattle.plist_object.specs.Spelled.{SpellPairs}
@@ -7,17 +7,13 @@ use Rattle.plist_engine.specs.Spelling.{SpellTable, in_turn}
 use Rattle.plist_print.specs.Units.{printed_text}
 use Rattle.plist_print.specs.Printed.{indent, printed_at}
 
--- what stands before the item of this number
-abbrev pub item_head : ℕ → ℕ → List ℕ
-item_head level n = indent level ++ (decimal n ++ codes " => ")
-
 -- what stands before the value of this key
 abbrev pub pair_head : ℕ → List ℕ → List ℕ
 pair_head level key = indent level ++ (printed_text key ++ codes " => ")
 
 -- the lines of an item, and those of a pair
-abbrev pub item_lines : ℕ → ℕ → Plist → List ℕ
-item_lines level n v = item_head level n ++ printed_at level v
+abbrev pub item_lines : ℕ → Plist → List ℕ
+item_lines level v = indent level ++ printed_at level v
 
 abbrev pub pair_lines : ℕ → List ℕ → Plist → List ℕ
 pair_lines level key v = pair_head level key ++ printed_at level v

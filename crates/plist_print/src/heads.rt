@@ -5,11 +5,10 @@ ghost use Rattle.plist_value.specs.Texts.{units_of};
 ghost use Rattle.plist_engine.specs.Output.{Goes, state_of};
 ghost use Rattle.plist_print.specs.Units.{printed_text};
 ghost use Rattle.plist_print.specs.Printed.{indent, printed_scalar};
-ghost use Rattle.plist_print.specs.Printing.{item_head, pair_head};
+ghost use Rattle.plist_print.specs.Printing.{pair_head};
 
 use crate::lines::{SHORT, is_long, print_scalar, print_text, put, put_scalar, settle};
 use crate::texts::put_text;
-use itoa::Buffer;
 use plist_engine::{Output, Sink, WriteFault};
 use plist_value::{ScalarRef, TextRef};
 use std::alloc::AllocError;
@@ -44,21 +43,6 @@ fn put_line(out: &mut Vec<u8>, scalar: &ScalarRef) -> Result<(), AllocError>
 {
     put_scalar(out, scalar)?;
     Ok(out.push(b'\n')?)
-}
-
-/// Sends what stands before an item, or has it wait.
-pub(crate) fn begin_item<W: Sink>(
-    level: u64,
-    index: u64,
-    out: &mut Output<W>,
-) -> Result<(), WriteFault>
-    ensures goes { Goes (item_head level index)
-        (state_of W.Sink out.old) (state_of W.Sink out.new) result }
-{
-    let Ok(()) = put_item_head(out.waiting, level, index) else {
-        return Err(WriteFault::OutOfMemory { sent: out.sent });
-    };
-    Ok(())
 }
 
 /// Sends what stands before a value of a table, or has it wait.
@@ -126,8 +110,8 @@ fn put_end(out: &mut Vec<u8>, level: u64, close: u8) -> Result<(), AllocError>
     out.extend_from_slice(&[close, b'\n'])
 }
 
-// Sends the blanks of a line, or has them wait.
-fn begin_line<W: Sink>(level: u64, out: &mut Output<W>) -> Result<(), WriteFault>
+/// Sends the blanks of a line, or has them wait.
+pub(crate) fn begin_line<W: Sink>(level: u64, out: &mut Output<W>) -> Result<(), WriteFault>
     ensures goes { Goes (indent level)
         (state_of W.Sink out.old) (state_of W.Sink out.new) result }
 {
@@ -144,16 +128,6 @@ fn print_key<W: Sink>(key: &TextRef, out: &mut Output<W>) -> Result<(), WriteFau
 {
     print_text(key, out)?;
     put(b" => ", out)
-}
-
-// The blanks, the number of the item, and what stands behind it.
-fn put_item_head(out: &mut Vec<u8>, level: u64, index: u64) -> Result<(), AllocError>
-    ensures { OnOk result (out.new.items ≡ out.old.items ++ item_head level index) }
-{
-    put_indent(out, level)?;
-    let mut buffer = Buffer::new();
-    out.extend_from_slice(buffer.format(index).as_bytes())?;
-    out.extend_from_slice(b" => ")
 }
 
 // Two blanks for each level.

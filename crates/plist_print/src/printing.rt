@@ -15,7 +15,7 @@ ghost use Rattle.plist_print.specs.Known.{IsSeen};
 ghost use Rattle.plist_print.specs.Printed.{printed, printed_at, printed_items, printed_pairs};
 ghost use Rattle.plist_print.specs.Printing.{PairsWithin, TableWithin, item_lines, pair_lines};
 
-use crate::heads::{begin_item, begin_pair, end_lines, print_line};
+use crate::heads::{begin_line, begin_pair, end_lines, print_line};
 use crate::known::Seen;
 use crate::lines::{put, send_all};
 use plist_engine::objects::object_of;
@@ -143,36 +143,35 @@ impl<'a> Printer<'a> {
         requires seen { IsSeen (octets_of self.now.file) seen.old }
         ensures goes { (vs : Items) → AreItems vs
             → SpellItems (octets_of self.now.file) (numbers_of items.now) vs
-            → Goes (printed_items level 0 vs)
+            → Goes (printed_items level vs)
             (state_of W.Sink out.old) (state_of W.Sink out.new) result }
         ensures stays { Stays (state_of W.Sink out.old) (state_of W.Sink out.new) }
         ensures seen { OnOk result (IsSeen (octets_of self.now.file) seen.new) }
     {
         for i in 0..items.len() {
-            self.item(seen, items.get(i), i, level, out)?;
+            self.item(seen, items.get(i), level, out)?;
         }
         Ok(())
     }
 
-    // Sends the lines of the item of this number, or has them wait.
+    // Sends the lines of an item, or has them wait.
     #[cycle(print)]
     fn item<W: Sink>(
         &self,
         seen: &mut Seen<'a>,
         object: u64,
-        index: u64,
         level: u64,
         out: &mut Output<W>,
     ) -> Result<(), WriteFault>
         requires spells { SpellsWithin (octets_of self.now.file) object (MAX_DEPTH - level) }
         requires seen { IsSeen (octets_of self.now.file) seen.old }
         ensures goes { (v : Plist) → IsPlist v → Spells (octets_of self.now.file) object v
-            → Goes (item_lines level index v)
+            → Goes (item_lines level v)
             (state_of W.Sink out.old) (state_of W.Sink out.new) result }
         ensures stays { Stays (state_of W.Sink out.old) (state_of W.Sink out.new) }
         ensures seen { OnOk result (IsSeen (octets_of self.now.file) seen.new) }
     {
-        begin_item(level, index, out)?;
+        begin_line(level, out)?;
         self.value(seen, object, level, out)
     }
 

@@ -9,8 +9,7 @@ use test_files::file;
 
 const TABLE: &[u8] = b"{b=(a,<0f>);a=b;}";
 
-const PRINTED: &[u8] =
-    b"{\n  \"a\" => \"b\"\n  \"b\" => [\n    0 => \"a\"\n    1 => <0f>\n  ]\n}\n";
+const PRINTED: &[u8] = b"{\n  \"a\" => \"b\"\n  \"b\" => [\n    \"a\"\n    <0f>\n  ]\n}\n";
 
 // Prints to a sink for `room` bytes, and returns the result and the sink.
 fn printing(

@@ -97,7 +97,7 @@ pub fn to_openstep(input: &[u8]) -> Result<String, Refused> {
 /// Returns a property list as text for people. Two print the same if and only if they are equal.
 ///
 /// ```
-/// assert_eq!(plistconv::print(b"(a, b)")?, "[\n  0 => \"a\"\n  1 => \"b\"\n]\n");
+/// assert_eq!(plistconv::print(b"(a, b)")?, "[\n  \"a\"\n  \"b\"\n]\n");
 /// # Ok::<(), plistconv::Refused>(())
 /// ```
 ///

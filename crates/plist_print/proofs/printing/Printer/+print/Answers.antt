@@ -14,8 +14,8 @@ use Rattle.plist_engine.specs.Output.{state_of}
 use Rattle.plist_engine.proofs.Going.{Goes_put, Goes_then, Goes_rest, Goes_stop, Goes_same, Stays-trans}
 use Rattle.plist_engine.specs.Spelling.{SpellWithin}
 use Rattle.plist_engine.proofs.Within.{read_within, levels_within, items_within, table_within, value_within}
-use Rattle.plist_print.specs.Printed.{printed_at, printed_items, printed_pairs}
-use Rattle.plist_print.specs.Printing.{item_head, item_lines, pair_head, pair_lines}
+use Rattle.plist_print.specs.Printed.{indent, printed_at, printed_items, printed_pairs}
+use Rattle.plist_print.specs.Printing.{item_lines, pair_head, pair_lines}
 use Rattle.plist_print.proofs.PrintSteps.{items_before, item_at, items_all, pairs_before, pair_at, pairs_all}
 use Rattle.plist_print.proofs.Enclosing.{brackets_unopened, brackets_unfilled, brackets_closed, list_empty, list_brackets, table_empty, table_brackets, scalar_seen, list_seen, table_seen, text_seen}
 use Rattle.plist_print.proofs.Turns.{turn_count, turn_key, turn_value, turn_within}
@@ -89,7 +89,7 @@ list-returns-in_err-put-clause-goes g t c = λ vs valid spell.
     let refs = numbers_of c.args.items.now in
     let some : 0 < length refs = first_of (search rules, grind (arith, nat_tests)) in
     let is = list_brackets (octets_of c.args.self.now.file) refs c.args.level vs some spell in
-    rw (e.1, e.2) (brackets_unopened c.args.level 91 93 (printed_items (c.args.level + 1) 0 vs) (printed_at c.args.level (list vs)) is (state_of g.W.Sink c.args.out.now) (state_of g.W.Sink c.put-2.new.out) _ c.in_err-put.ensures.goes)
+    rw (e.1, e.2) (brackets_unopened c.args.level 91 93 (printed_items (c.args.level + 1) vs) (printed_at c.args.level (list vs)) is (state_of g.W.Sink c.args.out.now) (state_of g.W.Sink c.put-2.new.out) _ c.in_err-put.ensures.goes)
 
 pub list-returns-in_err-items-clause-goes : goal.list-returns-in_err-items-clause-goes
 list-returns-in_err-items-clause-goes g t c = λ vs valid spell.
@@ -97,14 +97,14 @@ list-returns-in_err-items-clause-goes g t c = λ vs valid spell.
     let refs = numbers_of c.args.items.now in
     let some : 0 < length refs = first_of (search rules, grind (arith, nat_tests)) in
     let is = list_brackets (octets_of c.args.self.now.file) refs c.args.level vs some spell in
-    rw (e.1, e.2) (brackets_unfilled c.args.level 91 93 (printed_items (c.args.level + 1) 0 vs) (printed_at c.args.level (list vs)) is (state_of g.W.Sink c.args.out.now) (state_of g.W.Sink c.put-2.new.out) (state_of g.W.Sink c.items.new.out) _ _ c.in_ok-put.ensures.goes (c.in_err-items.ensures.goes vs valid spell))
+    rw (e.1, e.2) (brackets_unfilled c.args.level 91 93 (printed_items (c.args.level + 1) vs) (printed_at c.args.level (list vs)) is (state_of g.W.Sink c.args.out.now) (state_of g.W.Sink c.put-2.new.out) (state_of g.W.Sink c.items.new.out) _ _ c.in_ok-put.ensures.goes (c.in_err-items.ensures.goes vs valid spell))
 
 pub list-returns-clause-goes : goal.list-returns-clause-goes
 list-returns-clause-goes g t c = λ vs valid spell.
     let refs = numbers_of c.args.items.now in
     let some : 0 < length refs = first_of (search rules, grind (arith, nat_tests)) in
     let is = list_brackets (octets_of c.args.self.now.file) refs c.args.level vs some spell in
-    brackets_closed c.args.level 91 93 (printed_items (c.args.level + 1) 0 vs) (printed_at c.args.level (list vs)) is (state_of g.W.Sink c.args.out.now) (state_of g.W.Sink c.put-2.new.out) (state_of g.W.Sink c.items.new.out) (state_of g.W.Sink c.end_lines.new.out) _ _ c.end_lines.result c.in_ok-put.ensures.goes (c.in_ok-items.ensures.goes vs valid spell) c.end_lines.ensures.goes
+    brackets_closed c.args.level 91 93 (printed_items (c.args.level + 1) vs) (printed_at c.args.level (list vs)) is (state_of g.W.Sink c.args.out.now) (state_of g.W.Sink c.put-2.new.out) (state_of g.W.Sink c.items.new.out) (state_of g.W.Sink c.end_lines.new.out) _ _ c.end_lines.result c.in_ok-put.ensures.goes (c.in_ok-items.ensures.goes vs valid spell) c.end_lines.ensures.goes
 
 pub items-item-requires : goal.items-item-requires
 items-item-requires g t c κs within =
@@ -122,14 +122,14 @@ items-returns-in_err-item-clause-goes g t c = λ vs valid spell.
     let refs = numbers_of c.args.items.now in
     let i = c.loop-i.i in
     let below : i < length refs = omega (arith, c.loop-i-test.true, c.len-i-end.ensures) in
-    let at = item_at f refs c.args.level 0 i i vs (omega arith) below valid spell in
+    let at = item_at f refs c.args.level i vs below valid spell in
     let spells = subst (λ (n : ℕ). Spells f n at.value) (sym c.get.ensures) at.spells in
-    let before = items_before c.args.level 0 i vs in
-    let one = item_lines c.args.level i at.value in
+    let before = items_before c.args.level i vs in
+    let one = item_lines c.args.level at.value in
     let p = state_of g.W.Sink c.args.out.now in
     let r = state_of g.W.Sink c.item.new.out in
     let stop = Goes_then before one p (state_of g.W.Sink c.loop-i.out) r tt _ (c.loop-i.invariant.goes vs valid spell) (c.in_err-item.ensures.goes at.value at.valid spells) in
-    rw (e.1, e.2) (Goes_same ((before ++ one) ++ at.rest) (printed_items c.args.level 0 vs) p r _ (sym at.split) (Goes_stop (before ++ one) at.rest p r _ stop))
+    rw (e.1, e.2) (Goes_same ((before ++ one) ++ at.rest) (printed_items c.args.level vs) p r _ (sym at.split) (Goes_stop (before ++ one) at.rest p r _ stop))
 
 pub items-loop-i-preserved : goal.items-loop-i-preserved
 items-loop-i-preserved g t c = record {
@@ -138,10 +138,10 @@ items-loop-i-preserved g t c = record {
       let refs = numbers_of c.args.items.now in
       let i = c.loop-i.i in
       let below : i < length refs = omega (arith, c.loop-i-test.true, c.len-i-end.ensures) in
-      let at = item_at f refs c.args.level 0 i i vs (omega arith) below valid spell in
+      let at = item_at f refs c.args.level i vs below valid spell in
       let spells = subst (λ (n : ℕ). Spells f n at.value) (sym c.get.ensures) at.spells in
-      let more : items_before c.args.level 0 i vs ++ item_lines c.args.level i at.value ≡ items_before c.args.level 0 (i + 1) vs = sym at.more ∙ ap (λ k. items_before c.args.level 0 k vs) (sym (add-one i)) in
-      Goes_rest (items_before c.args.level 0 i vs) (item_lines c.args.level i at.value) (items_before c.args.level 0 (i + 1) vs) (state_of g.W.Sink c.args.out.now) (state_of g.W.Sink c.loop-i.out) (state_of g.W.Sink c.item.new.out) tt _ more (c.loop-i.invariant.goes vs valid spell) (c.in_ok-item.ensures.goes at.value at.valid spells);
+      let more : items_before c.args.level i vs ++ item_lines c.args.level at.value ≡ items_before c.args.level (i + 1) vs = sym at.more ∙ ap (λ k. items_before c.args.level k vs) (sym (add-one i)) in
+      Goes_rest (items_before c.args.level i vs) (item_lines c.args.level at.value) (items_before c.args.level (i + 1) vs) (state_of g.W.Sink c.args.out.now) (state_of g.W.Sink c.loop-i.out) (state_of g.W.Sink c.item.new.out) tt _ more (c.loop-i.invariant.goes vs valid spell) (c.in_ok-item.ensures.goes at.value at.valid spells);
   stays = Stays-trans (state_of g.W.Sink c.args.out.now) (state_of g.W.Sink c.loop-i.out) (state_of g.W.Sink c.item.new.out) c.loop-i.invariant.stays c.in_ok-item.ensures.stays;
   seen = c.in_ok-item.ensures.seen;
 }
@@ -151,17 +151,17 @@ items-returns-clause-goes g t c = λ vs valid spell.
     let refs = numbers_of c.args.items.now in
     let i = c.loop-i.i in
     let past : length refs ≤ i = omega (arith, c.loop-i-test.false, c.len-i-end.ensures) in
-    let all = items_all (octets_of c.args.self.now.file) refs c.args.level 0 i vs past spell in
-    Goes_same (items_before c.args.level 0 i vs) (printed_items c.args.level 0 vs) (state_of g.W.Sink c.args.out.now) (state_of g.W.Sink c.loop-i.out) _ all (c.loop-i.invariant.goes vs valid spell)
+    let all = items_all (octets_of c.args.self.now.file) refs c.args.level i vs past spell in
+    Goes_same (items_before c.args.level i vs) (printed_items c.args.level vs) (state_of g.W.Sink c.args.out.now) (state_of g.W.Sink c.loop-i.out) _ all (c.loop-i.invariant.goes vs valid spell)
 
-pub item-returns-in_err-begin_item-clause-goes : goal.item-returns-in_err-begin_item-clause-goes
-item-returns-in_err-begin_item-clause-goes g t c = λ v valid spells.
+pub item-returns-in_err-begin_line-clause-goes : goal.item-returns-in_err-begin_line-clause-goes
+item-returns-in_err-begin_line-clause-goes g t c = λ v valid spells.
     let e = err_from_is_err_and c.from_residual.result c.from_residual.ensures.1 in
-    rw (e.1, e.2) (Goes_stop (item_head c.args.level c.args.index) (printed_at c.args.level v) (state_of g.W.Sink c.args.out.now) (state_of g.W.Sink c.begin_item.new.out) _ c.in_err-begin_item.ensures.goes)
+    rw (e.1, e.2) (Goes_stop (indent c.args.level) (printed_at c.args.level v) (state_of g.W.Sink c.args.out.now) (state_of g.W.Sink c.begin_line.new.out) _ c.in_err-begin_line.ensures.goes)
 
 pub item-returns-clause-goes : goal.item-returns-clause-goes
 item-returns-clause-goes g t c = λ v valid spells.
-    Goes_then (item_head c.args.level c.args.index) (printed_at c.args.level v) (state_of g.W.Sink c.args.out.now) (state_of g.W.Sink c.begin_item.new.out) (state_of g.W.Sink c.value.new.out) _ c.value.result c.in_ok-begin_item.ensures.goes (c.value.ensures.goes v valid spells)
+    Goes_then (indent c.args.level) (printed_at c.args.level v) (state_of g.W.Sink c.args.out.now) (state_of g.W.Sink c.begin_line.new.out) (state_of g.W.Sink c.value.new.out) _ c.value.result c.in_ok-begin_line.ensures.goes (c.value.ensures.goes v valid spells)
 
 pub table-returns-then-is_empty-clause-goes : goal.table-returns-then-is_empty-clause-goes
 table-returns-then-is_empty-clause-goes g t c = λ rows ps spell.

@@ -34,7 +34,7 @@ decreases-table g l = 4 * (MAX_DEPTH - l.level) - 1
 -- the lines of the items before this one went
 abbrev pub invariant-items-loop-i : goal.invariant-items-loop-i
 invariant-items-loop-i g l = record {
-  goes : (vs : Items) → AreItems vs → SpellItems (octets_of l.self.file) (numbers_of l.items) vs → Goes {T = Unit {0}} (items_before l.level 0 l.i vs) (state_of g.W.Sink l.fn.out) (state_of g.W.Sink l.out) (Ok tt);
+  goes : (vs : Items) → AreItems vs → SpellItems (octets_of l.self.file) (numbers_of l.items) vs → Goes {T = Unit {0}} (items_before l.level l.i vs) (state_of g.W.Sink l.fn.out) (state_of g.W.Sink l.out) (Ok tt);
   stays : Stays (state_of g.W.Sink l.fn.out) (state_of g.W.Sink l.out);
   seen : IsSeen (octets_of l.self.file) l.seen;
 }
