@@ -7,6 +7,7 @@ A value is a pair (kind, content): ('text', units), ('whole', n), ('flag', b), (
 with units as a tuple of numbers."""
 import datetime
 import sys
+import unicodedata
 from fractions import Fraction
 
 sys.setrecursionlimit(20_000)
@@ -541,7 +542,18 @@ def openstep(value):
 
 # The printed text
 
-UNSEEN = [(0, 0x1f), (0x7f, 0x9f), (0xd800, 0xdfff), (0x200e, 0x200f), (0x2028, 0x202e), (0x2066, 0x2069), (0xfeff, 0xfeff)]
+# Default_Ignorable_Code_Point, as DerivedCoreProperties.txt of Unicode 18.0 has it.
+IGNORED = [(0xad, 0xad), (0x34f, 0x34f), (0x61c, 0x61c), (0x115f, 0x1160), (0x17b4, 0x17b5), (0x180b, 0x180f),
+           (0x200b, 0x200f), (0x202a, 0x202e), (0x2060, 0x206f), (0x3164, 0x3164), (0xfe00, 0xfe0f), (0xfeff, 0xfeff),
+           (0xffa0, 0xffa0), (0xfff0, 0xfff8), (0x1bca0, 0x1bca3), (0x1d173, 0x1d17a), (0xe0000, 0xe0fff)]
+# Format characters of Unicode 18.0 that the oldest Python we know of does not have: they came with Unicode 15.
+FORMATS = [(0x13439, 0x1343f)]
+
+
+def is_unseen(character):
+    if unicodedata.category(character) in ('Cc', 'Cf', 'Cs', 'Zl', 'Zp', 'Zs'):
+        return character != ' '
+    return any(first <= ord(character) <= last for first, last in IGNORED + FORMATS)
 
 
 def printed_text(units):
@@ -549,15 +561,16 @@ def printed_text(units):
     shown, at = [], 0
     while at < len(units):
         unit, behind = units[at], units[at + 1] if at + 1 < len(units) else 0
+        character, taken = chr(unit), units[at:at + 1]
         if 0xd800 <= unit < 0xdc00 <= behind < 0xe000:
-            shown.append(chr(0x10000 + (unit - 0xd800) * 0x400 + behind - 0xdc00))
-            at += 1
-        elif unit in names:
+            character, taken = chr(0x10000 + (unit - 0xd800) * 0x400 + behind - 0xdc00), units[at:at + 2]
+        if unit in names:
             shown.append(names[unit])
+        elif is_unseen(character):
+            shown.extend('\\U%04x' % one for one in taken)
         else:
-            unseen = any(first <= unit <= last for first, last in UNSEEN)
-            shown.append('\\U%04x' % unit if unseen else chr(unit))
-        at += 1
+            shown.append(character)
+        at += len(taken)
     return '"%s"' % ''.join(shown)
 
 

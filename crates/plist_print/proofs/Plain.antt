@@ -1,9 +1,15 @@
 -- Units that are printed as they are.
-use Rattle.std.proofs.Common.{◌≡◌, ℕ, ◌<◌, ◌≤◌, Bool, true, false, ◌&&◌, List, [], ◌∷◌, ◌++◌, refl, ap, ◌∙◌, arith}
+use Rattle.std.proofs.Common.{◌≡◌, ℕ, zero, suc, ◌+◌, ◌-◌, ◌<◌, ◌≤◌, Bool, true, false, not, ◌&&◌, T, List, [], ◌∷◌, ◌++◌, refl, ap, ◌∙◌, arith, inl, inr, eq-zero-or-pos}
 use Rattle.std.specs.Prelude.{◌==◌, if◌then◌else◌}
 use Rattle.std.specs.Char.Utf16.{is_high_surrogate}
 use Rattle.std.proofs.lemmas.Bool.Decides.{nat_tests}
 use Rattle.std.proofs.lemmas.Str.{encode_ascii}
+use lib.Ieee.Fits.{and_l, and_r}
+use Rattle.ucd_category.specs.GeneralCategory.{general_category}
+use Rattle.ucd_category.specs.GeneralCategoryRows.{general_category_rows}
+use Rattle.ucd_derived.specs.Binary.{is_default_ignorable_code_point}
+use Rattle.ucd_derived.specs.DefaultIgnorableCodePointRanges.{default_ignorable_code_point_ranges}
+use Rattle.ucd_table.specs.Rows.{value_in, in_ranges}
 use Rattle.plist_print.specs.Units.{is_unseen, printed_unit, printed_units}
 use Rattle.plist_print.proofs.Compared.{is-denied}
 
@@ -18,8 +24,28 @@ pub record IsPlain (u : ℕ) : Type 0 where
   pub quote : u ≡ 34 → ⊥
   pub backslash : u ≡ 92 → ⊥
 
+-- the first so many characters from the blank on are seen
+abbrev are_seen : ℕ → Bool
+are_seen zero = true
+are_seen (suc n) = not (is_unseen (32 + n)) && are_seen n
+
+ascii_seen : T (are_seen 95)
+unfolding is_unseen general_category general_category_rows is_default_ignorable_code_point default_ignorable_code_point_ranges value_in in_ranges
+ascii_seen = tt
+
+not-true : (b : Bool) → T (not b) → b ≡ false
+not-true true t = absurd t
+not-true false t = refl
+
+one_seen : (n k : ℕ) → T (are_seen n) → k < n → is_unseen (32 + k) ≡ false
+one_seen zero k t h = absurd (omega arith)
+one_seen (suc n) k t h = elim (eq-zero-or-pos (n - k)) [
+  | inl z ↦ let e : k ≡ n = omega arith in rw e (not-true (is_unseen (32 + n)) (and_l _ (are_seen n) t))
+  | inr g ↦ one_seen n k (and_r _ (are_seen n) t) (omega arith)
+]
+
 seen : (u : ℕ) → 32 ≤ u → u < 127 → is_unseen u ≡ false
-seen u low high = grind (arith, nat_tests)
+seen u low high = let e : u ≡ 32 + (u - 32) = omega arith in rw e (one_seen 95 (u - 32) ascii_seen (omega arith))
 
 no-high : (u : ℕ) → u < 127 → is_high_surrogate u ≡ false
 no-high u high = grind (arith, nat_tests)

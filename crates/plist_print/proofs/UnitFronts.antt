@@ -8,7 +8,7 @@ use Rattle.std.proofs.lemmas.Bool.Decides.{nat_tests}
 use Rattle.std.proofs.lemmas.List.{append-nil}
 use Rattle.std.proofs.lemmas.Str.{digit_value-digit_char, encode_same, encode_ascii}
 use Rattle.plist_value.specs.Plist.{AreUnits, AreOctets}
-use Rattle.plist_print.specs.Units.{is_unseen, printed_unit, printed_units}
+use Rattle.plist_print.specs.Units.{is_unseen, is_seen_pair, printed_unit, printed_units}
 use Rattle.plist_value.specs.Digits.{two_digits}
 use Rattle.plist_print.proofs.Fronts.{heads, tails}
 use Rattle.plist_print.proofs.Compared.{equal, unlike}
@@ -102,8 +102,11 @@ first : (us : List ℕ) → First us
 first [] = none
 first (u ∷ []) = single u [] (sym (append-nil (printed_unit u)))
 first (u ∷ v ∷ us) =
-    elim (cases_Bool (is_high_surrogate u && is_low_surrogate v)) [
-      | inl is ↦ (let both = and_parts (is_high_surrogate u) (is_low_surrogate v) is in double u v us both.0 both.1 (rw is refl))
+    elim (cases_Bool (is_seen_pair u v)) [
+      | inl is ↦ (
+          let both = and_parts (is_high_surrogate u) _ is in
+          double u v us both.0 (and_parts (is_low_surrogate v) _ both.1).0 (rw is refl)
+          )
       | inr not ↦ single u (v ∷ us) (rw not refl)
     ]
 

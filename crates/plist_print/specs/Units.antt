@@ -1,21 +1,33 @@
 -- Texts as they are printed.
-use Rattle.std.specs.Prelude.{ℕ, ◌/◌, ◌%◌, Bool, ◌&&◌, ◌||◌, ◌==◌, List, [], ◌∷◌, ◌++◌, codes, flat_map, if◌then◌else◌}
-use Rattle.std.specs.Char.{encode_utf8, is_control}
+use Rattle.std.specs.Prelude.{ℕ, ◌/◌, ◌%◌, Bool, true, false, not, ◌&&◌, ◌||◌, ◌==◌, List, [], ◌∷◌, ◌++◌, codes, flat_map, if◌then◌else◌}
+use Rattle.std.specs.Char.{encode_utf8}
 use Rattle.std.specs.Char.Utf16.{is_high_surrogate, is_low_surrogate, surrogate_pair_char}
 use Rattle.std.specs.Int.{is_in_range}
+use Rattle.ucd_category.specs.declared.GeneralCategory.{GeneralCategory}
+use Rattle.ucd_category.specs.declared.GeneralCategory.TheVariants.{SpaceSeparator, LineSeparator, ParagraphSeparator, Control, Format}
+use Rattle.ucd_category.specs.GeneralCategory.{general_category}
+use Rattle.ucd_derived.specs.Binary.{is_default_ignorable_code_point}
 use Rattle.plist_value.specs.Digits.{two_digits}
 
 -- `<`, the octets, `>`
 abbrev pub printed_data : List ℕ → List ℕ
 printed_data xs = 60 ∷ (flat_map two_digits xs ++ codes ">")
 
--- A unit that is not seen, or that changes how others are seen: control characters, surrogates,
--- direction marks, line and paragraph separators, the byte order mark.
-abbrev pub is_unseen : ℕ → Bool
-is_unseen unit =
-    is_control unit || (is_in_range 0xd800 0xdfff unit
-    || (is_in_range 0x200e 0x200f unit || (is_in_range 0x2028 0x202e unit
-    || (is_in_range 0x2066 0x2069 unit || unit == 0xfeff))))
+-- the general categories Zs, Zl, Zp, Cc and Cf
+abbrev pub is_blank : GeneralCategory → Bool
+is_blank SpaceSeparator = true
+is_blank LineSeparator = true
+is_blank ParagraphSeparator = true
+is_blank Control = true
+is_blank Format = true
+is_blank _ = false
+
+-- A character that shows nothing, or changes how others are shown: a lone surrogate, one of the
+-- categories above other than U+0020, or one with the property Default_Ignorable_Code_Point.
+unfoldable pub is_unseen : ℕ → Bool
+is_unseen c =
+    is_in_range 0xd800 0xdfff c
+    || (not (c == 32) && (is_blank (general_category c) || is_default_ignorable_code_point c))
 
 -- A unit that is in no pair: as an escape, as `\U` and four lower-case hexadecimal digits where it
 -- is not seen, else as itself in UTF-8.
@@ -29,12 +41,17 @@ printed_unit unit =
     else (if is_unseen unit then codes "\\U" ++ (two_digits (unit / 256) ++ two_digits (unit % 256))
     else encode_utf8 unit)))))
 
--- each pair of surrogates as its character in UTF-8, and each other unit by itself
+-- two units that are a pair of surrogates whose character is seen
+abbrev pub is_seen_pair : ℕ → ℕ → Bool
+is_seen_pair unit next =
+    is_high_surrogate unit && (is_low_surrogate next && not (is_unseen (surrogate_pair_char unit next)))
+
+-- each such pair as its character in UTF-8, and each other unit by itself
 abbrev pub printed_units : List ℕ → List ℕ
 printed_units [] = []
 printed_units (unit ∷ []) = printed_unit unit
 printed_units (unit ∷ next ∷ units) =
-    if is_high_surrogate unit && is_low_surrogate next
+    if is_seen_pair unit next
     then encode_utf8 (surrogate_pair_char unit next) ++ printed_units units
     else printed_unit unit ++ printed_units (next ∷ units)
 

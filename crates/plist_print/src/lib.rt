@@ -13,5 +13,6 @@ pub mod lines;
 pub mod printing;
 mod reals;
 mod texts;
+mod unseen;
 
 pub use printing::print_of;

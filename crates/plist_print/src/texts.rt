@@ -1,14 +1,14 @@
 //! Texts and data as they are printed.
-ghost use Rattle.std.specs.Prelude.{◌≡◌, ◌+◌, ◌*◌, ◌<◌, ◌≤◌, ◌∷◌, ◌++◌, ◌==◌, ℕ, List};
-ghost use Rattle.std.specs.Prelude.{true, false, IsTrue, IfOk, OnOk, length, take, drop, flat_map};
+ghost use Rattle.std.specs.Prelude.{◌≡◌, ◌+◌, ◌*◌, ◌<◌, ◌≤◌, ◌∷◌, ◌++◌, ◌/◌, ◌%◌, ◌==◌, ℕ, List, codes};
+ghost use Rattle.std.specs.Prelude.{false, IsTrue, IfOk, OnOk, length, take, drop, flat_map};
 ghost use Rattle.std.specs.Char.{encode_utf8};
-ghost use Rattle.std.specs.Char.Utf16.{is_high_surrogate, is_low_surrogate, surrogate_pair_char};
 ghost use Rattle.plist_value.specs.Texts.{units_of};
 ghost use Rattle.plist_value.specs.Digits.{two_digits};
 ghost use Rattle.plist_print.specs.Shown.{Puts};
-ghost use Rattle.plist_print.specs.Units.{is_unseen, printed_data, printed_text, printed_unit};
+ghost use Rattle.plist_print.specs.Units.{printed_data, printed_text, printed_unit};
 ghost use Rattle.plist_print.specs.Units.{printed_units};
 
+use crate::unseen::{seen_pair, seen_unit};
 use plist_value::{TextRef, digits_of, put_digits};
 use std::alloc::AllocError;
 
@@ -106,9 +106,6 @@ fn plain_length(octets: &[u8]) -> usize
         ≡ take result octets.now ++ printed_units (drop result octets.now) }
 {
     let most = octets.len().min(RUN);
-    if are_plain(&octets[..most]) {
-        return most;
-    }
     let mut length = 0;
     while length < most && is_plain(octets[length]) {
         length += 1;
@@ -142,8 +139,8 @@ fn is_plain(octet: u8) -> bool
     true
 }
 
-// The unit at the place, with the one behind it if the two are a pair, behind what `out` has. It
-// answers the place behind them.
+// The unit at the place, with the one behind it if the two are a pair that is seen, behind what
+// `out` has. It answers the place behind them.
 fn put_unit(out: &mut Vec<u8>, text: &TextRef, place: usize) -> Result<usize, AllocError>
     requires { place < length (units_of text.now) }
     ensures octets { IfOk result (λ next. Puts out.old.items out.new.items
@@ -156,38 +153,13 @@ fn put_unit(out: &mut Vec<u8>, text: &TextRef, place: usize) -> Result<usize, Al
     let unit = text.unit(place);
     if place + 1 < length {
         let next = text.unit(place + 1);
-        if is_high(unit) && is_low(next) {
-            put_pair(out, unit, next)?;
+        if let Some(character) = seen_pair(unit, next) {
+            put_character(out, character)?;
             return Ok(place + 2);
         }
     }
     put_single(out, unit)?;
     Ok(place + 1)
-}
-
-fn is_high(unit: u16) -> bool
-    ensures { result ≡ is_high_surrogate unit }
-{
-    unit >= 0xd800 && unit < 0xdc00
-}
-
-fn is_low(unit: u16) -> bool
-    ensures { result ≡ is_low_surrogate unit }
-{
-    unit >= 0xdc00 && unit < 0xe000
-}
-
-// The character of a pair of surrogates.
-fn put_pair(out: &mut Vec<u8>, high: u16, low: u16) -> Result<(), AllocError>
-    requires high { is_high_surrogate high ≡ true }
-    requires low { is_low_surrogate low ≡ true }
-    ensures { OnOk result (out.new.items
-        ≡ out.old.items ++ encode_utf8 (surrogate_pair_char high low)) }
-{
-    prove!(high >= 0xd800 && high < 0xdc00);
-    prove!(low >= 0xdc00 && low < 0xe000);
-    let code = 0x1_0000 + (u32::from(high) - 0xd800) * 0x400 + (u32::from(low) - 0xdc00);
-    put_character(out, char::from_u32(code).unwrap())
 }
 
 // A unit that is in no pair.
@@ -215,28 +187,20 @@ fn put_plain(out: &mut Vec<u8>, unit: u16) -> Result<(), AllocError>
     requires back { (unit == 13) ≡ false }
     ensures { OnOk result (out.new.items ≡ out.old.items ++ printed_unit unit) }
 {
-    if is_unseen(unit) {
-        out.extend_from_slice(b"\\U")?;
-        out.extend_from_slice(&digits_of((unit / 256) as u8))?;
-        return out.extend_from_slice(&digits_of((unit % 256) as u8));
+    match seen_unit(unit) {
+        Some(character) => put_character(out, character),
+        None => put_number(out, unit),
     }
-    put_character(out, char::from_u32(u32::from(unit)).unwrap())
 }
 
-// Whether the unit is not seen, or changes how others are seen.
-fn is_unseen(unit: u16) -> bool
-    ensures { result ≡ is_unseen unit }
+// A unit as `\U` and four digits.
+fn put_number(out: &mut Vec<u8>, unit: u16) -> Result<(), AllocError>
+    ensures { OnOk result (out.new.items ≡ out.old.items
+        ++ (codes "\\U" ++ (two_digits (unit / 256) ++ two_digits (unit % 256)))) }
 {
-    matches!(
-        unit,
-        0..=0x1f
-            | 0x7f..=0x9f
-            | 0xd800..=0xdfff
-            | 0x200e..=0x200f
-            | 0x2028..=0x202e
-            | 0x2066..=0x2069
-            | 0xfeff
-    )
+    out.extend_from_slice(b"\\U")?;
+    out.extend_from_slice(&digits_of((unit / 256) as u8))?;
+    out.extend_from_slice(&digits_of((unit % 256) as u8))
 }
 
 // A character in UTF-8.
