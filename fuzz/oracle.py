@@ -619,6 +619,10 @@ def printed_date(content):
     return 'date ' + shown
 
 
+def blanks(level):
+    return '  ' * min(level, 32)
+
+
 def printed_lines(value, level):
     """The value up to the end of its last line; its first line has begun."""
     kind, content = value
@@ -629,8 +633,8 @@ def printed_lines(value, level):
             brackets, heads = '{}', [(printed_text(key) + ' => ', content[key]) for key in sorted(content)]
         if not heads:
             return brackets + '\n'
-        inside = ['  ' * (level + 1) + head + printed_lines(item, level + 1) for head, item in heads]
-        return brackets[0] + '\n' + ''.join(inside) + '  ' * level + brackets[1] + '\n'
+        inside = [blanks(level + 1) + head + printed_lines(item, level + 1) for head, item in heads]
+        return brackets[0] + '\n' + ''.join(inside) + blanks(level) + brackets[1] + '\n'
     return {
         'text': printed_text,
         'whole': str,

@@ -13,26 +13,22 @@ use Rattle.plist_engine.specs.Output.{State, Goes}
 use Rattle.plist_engine.proofs.Going.{Goes_then, Goes_stop, Goes_same}
 use Rattle.plist_engine.specs.Spelling.{SpellTable}
 use Rattle.plist_engine.proofs.Flat.{length-rows, length-keys}
-use Rattle.plist_print.specs.Printed.{indent, printed_scalar, printed_at, printed_items, printed_pairs}
+use Rattle.plist_print.specs.Printed.{indent, enclosed, printed_scalar, printed_at, printed_items, printed_pairs}
 
--- an opening bracket, lines, and the closing bracket on a line of its own
-abbrev pub bracketed : ℕ → ℕ → ℕ → List ℕ → List ℕ
-bracketed level left right lines = (left ∷ 10 ∷ []) ++ (lines ++ (indent level ++ (right ∷ 10 ∷ [])))
-
-module _ (level left right : ℕ) (lines all : List ℕ) (is : bracketed level left right lines ≡ all) where
+module _ (level left right : ℕ) (lines all : List ℕ) (is : enclosed level left right lines ≡ all) where
   -- it was refused at the opening bracket
   pub brackets_unopened : {T U : Type 0} (p r : State) (fault : WriteFault) → Goes {T = T} (left ∷ 10 ∷ []) p r (Err fault) → Goes {T = U} all p r (Err fault)
   brackets_unopened {T} {U} p r fault goes =
-      Goes_same (bracketed level left right lines) all p r (Err fault) is (Goes_stop {T = T} {U = U} (left ∷ 10 ∷ []) (lines ++ (indent level ++ (right ∷ 10 ∷ []))) p r fault goes)
+      Goes_same (enclosed level left right lines) all p r (Err fault) is (Goes_stop {T = T} {U = U} (left ∷ 10 ∷ []) (lines ++ (indent level ++ (right ∷ 10 ∷ []))) p r fault goes)
 
   -- it was refused at the lines
   pub brackets_unfilled : {T U V : Type 0} (p q r : State) (value : T) (fault : WriteFault) → Goes (left ∷ 10 ∷ []) p q (Ok value) → Goes {T = U} lines q r (Err fault) → Goes {T = V} all p r (Err fault)
   brackets_unfilled {T} {U} {V} p q r value fault opened goes =
-      Goes_same (bracketed level left right lines) all p r (Err fault) is (Goes_then (left ∷ 10 ∷ []) (lines ++ (indent level ++ (right ∷ 10 ∷ []))) p q r value (Err fault) opened (Goes_stop {T = U} {U = V} lines (indent level ++ (right ∷ 10 ∷ [])) q r fault goes))
+      Goes_same (enclosed level left right lines) all p r (Err fault) is (Goes_then (left ∷ 10 ∷ []) (lines ++ (indent level ++ (right ∷ 10 ∷ []))) p q r value (Err fault) opened (Goes_stop {T = U} {U = V} lines (indent level ++ (right ∷ 10 ∷ [])) q r fault goes))
 
   pub brackets_closed : {T U V : Type 0} (p q r s : State) (value : T) (done : U) (result : Result V WriteFault) → Goes (left ∷ 10 ∷ []) p q (Ok value) → Goes lines q r (Ok done) → Goes (indent level ++ (right ∷ 10 ∷ [])) r s result → Goes all p s result
   brackets_closed p q r s value done result opened filled goes =
-      Goes_same (bracketed level left right lines) all p s result is (Goes_then (left ∷ 10 ∷ []) (lines ++ (indent level ++ (right ∷ 10 ∷ []))) p q s value result opened (Goes_then lines (indent level ++ (right ∷ 10 ∷ [])) q r s done result filled goes))
+      Goes_same (enclosed level left right lines) all p s result is (Goes_then (left ∷ 10 ∷ []) (lines ++ (indent level ++ (right ∷ 10 ∷ []))) p q s value result opened (Goes_then lines (indent level ++ (right ∷ 10 ∷ [])) q r s done result filled goes))
 
 -- a list that is empty, and one that is not
 pub list_empty : (f refs : List ℕ) (level : ℕ) (vs : Items) → length refs ≡ 0 → SpellItems f refs vs → 91 ∷ 93 ∷ 10 ∷ [] ≡ printed_at level (list vs)
@@ -40,14 +36,14 @@ list_empty f [] level no_items h spell = refl
 list_empty f [] level (item v vs) h spell = absurd spell
 list_empty f (i ∷ refs) level vs h spell = absurd (omega arith)
 
-list_filled : (f refs : List ℕ) (level : ℕ) (vs : Items) → 0 < length refs → SpellItems f refs vs → bracketed level 91 93 (printed_items (suc level) vs) ≡ printed_at level (list vs)
+list_filled : (f refs : List ℕ) (level : ℕ) (vs : Items) → 0 < length refs → SpellItems f refs vs → enclosed level 91 93 (printed_items (suc level) vs) ≡ printed_at level (list vs)
 list_filled f [] level vs h spell = absurd (omega arith)
 list_filled f (i ∷ refs) level no_items h spell = absurd (let none : i ∷ refs ≡ [] = spell in cc)
 list_filled f (i ∷ refs) level (item v vs) h spell = refl
 
-pub list_brackets : (f refs : List ℕ) (level : ℕ) (vs : Items) → 0 < length refs → SpellItems f refs vs → bracketed level 91 93 (printed_items (level + 1) vs) ≡ printed_at level (list vs)
+pub list_brackets : (f refs : List ℕ) (level : ℕ) (vs : Items) → 0 < length refs → SpellItems f refs vs → enclosed level 91 93 (printed_items (level + 1) vs) ≡ printed_at level (list vs)
 list_brackets f refs level vs h spell =
-    ap (λ n. bracketed level 91 93 (printed_items n vs)) (add-one level) ∙ list_filled f refs level vs h spell
+    ap (λ n. enclosed level 91 93 (printed_items n vs)) (add-one level) ∙ list_filled f refs level vs h spell
 
 -- a table that is empty, and one that is not
 rows_long : (f keys values : List ℕ) (rows : List (ℕ × ℕ)) (ps : Pairs) → length keys ≡ length values → SpellTable f keys values rows ps → length rows ≡ length keys
@@ -63,15 +59,15 @@ pub table_empty : (f keys values : List ℕ) (rows : List (ℕ × ℕ)) (level :
 table_empty f keys values rows level ps as_many h spell =
     no_rows f rows level ps (rows_long f keys values rows ps as_many spell ∙ h) spell.spell
 
-table_filled : (f : List ℕ) (rows : List (ℕ × ℕ)) (level : ℕ) (ps : Pairs) → 0 < length rows → SpellPairs f rows ps → bracketed level 123 125 (printed_pairs (suc level) ps) ≡ printed_at level (table ps)
+table_filled : (f : List ℕ) (rows : List (ℕ × ℕ)) (level : ℕ) (ps : Pairs) → 0 < length rows → SpellPairs f rows ps → enclosed level 123 125 (printed_pairs (suc level) ps) ≡ printed_at level (table ps)
 table_filled f [] level ps h spell = absurd (omega arith)
 table_filled f (row ∷ rows) level no_pairs h spell = absurd (let none : row ∷ rows ≡ [] = spell in cc)
 table_filled f (row ∷ rows) level (pair key v ps) h spell = refl
 
-pub table_brackets : (f keys values : List ℕ) (rows : List (ℕ × ℕ)) (level : ℕ) (ps : Pairs) → length keys ≡ length values → 0 < length keys → SpellTable f keys values rows ps → bracketed level 123 125 (printed_pairs (level + 1) ps) ≡ printed_at level (table ps)
+pub table_brackets : (f keys values : List ℕ) (rows : List (ℕ × ℕ)) (level : ℕ) (ps : Pairs) → length keys ≡ length values → 0 < length keys → SpellTable f keys values rows ps → enclosed level 123 125 (printed_pairs (level + 1) ps) ≡ printed_at level (table ps)
 table_brackets f keys values rows level ps as_many h spell =
     let long = rows_long f keys values rows ps as_many spell in
-    ap (λ n. bracketed level 123 125 (printed_pairs n ps)) (add-one level) ∙ table_filled f rows level ps (omega arith) spell.spell
+    ap (λ n. enclosed level 123 125 (printed_pairs n ps)) (add-one level) ∙ table_filled f rows level ps (omega arith) spell.spell
 
 -- what is spelled where a scalar, a list or a table is held
 pub scalar_seen : (f : List ℕ) (i level : ℕ) (s : Scalar) (v : Plist) → Holds f i (holds_scalar s) → Spells f i v → printed_scalar s ++ codes "\n" ≡ printed_at level v

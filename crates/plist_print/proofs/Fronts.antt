@@ -1,5 +1,5 @@
 -- What two equal lists begin with.
-use Rattle.std.proofs.Common.{◌≡◌, ℕ, ◌<◌, ◌≤◌, false, cond, ◌||◌, List, [], ◌∷◌, ◌++◌, refl, sym, ap, subst, arith, inl, inr}
+use Rattle.std.proofs.Common.{◌≡◌, ℕ, ◌<◌, ◌≤◌, false, cond, ◌||◌, List, [], ◌∷◌, ◌++◌, refl, sym, ap, subst, arith}
 use Rattle.std.specs.Prelude.{◌==◌}
 use Rattle.std.specs.Char.{digit_value}
 use Rattle.std.specs.Str.Parse.{AllDigits}
@@ -37,17 +37,17 @@ digits-front (x ∷ ds) (y ∷ es) c d r s p q h k e =
     let rest = digits-front ds es c d r s p.1 q.1 h k (tails x y (ds ++ (c ∷ r)) (es ++ (d ∷ s)) e) in
     (rw (first, rest.0) refl, rest.1)
 
--- what kind of value the octet begins, where it is none of a number
+-- what kind of value the octet begins; 1 is a number, 7 none
 abbrev pub kind_of_head : ℕ → ℕ
 kind_of_head h =
-    cond (h == 34) 0 (cond (h == 116 || h == 102) 2 (cond (h == 100) 3 (cond (h == 60) 4 (cond (h == 91) 5 (cond (h == 123) 6 1)))))
+    cond (h == 93) 7 (cond (h == 34) 0 (cond (h == 116 || h == 102) 2 (cond (h == 100) 3 (cond (h == 60) 4 (cond (h == 91) 5 (cond (h == 123) 6 1))))))
 
 no-digit : (d c : ℕ) → digit_value d < 10 → EndsDigits c → (d == c) ≡ false
 no-digit d c h ends = is-denied d c (λ same. unlike c d ends h (sym same))
 
 digit-kind : (d : ℕ) → digit_value d < 10 → kind_of_head d ≡ 1
 digit-kind d h =
-    rw (no-digit d 34 h (omega arith), no-digit d 116 h (omega arith), no-digit d 102 h (omega arith), no-digit d 100 h (omega arith), no-digit d 60 h (omega arith), no-digit d 91 h (omega arith), no-digit d 123 h (omega arith)) refl
+    rw (no-digit d 93 h (omega arith), no-digit d 34 h (omega arith), no-digit d 116 h (omega arith), no-digit d 102 h (omega arith), no-digit d 100 h (omega arith), no-digit d 60 h (omega arith), no-digit d 91 h (omega arith), no-digit d 123 h (omega arith)) refl
 
 -- digits, and what ends them, begin a number
 pub digits-kind : (ds : List ℕ) (c : ℕ) (x : List ℕ) → AllDigits 10 ds → kind_of_head c ≡ 1 → kind_of_head (head_of (ds ++ (c ∷ x))) ≡ 1

@@ -1,10 +1,11 @@
 -- A value that is printed is known by its front.
-use Rattle.std.proofs.Common.{◌≡◌, ℕ, zero, suc, ◌^◌, ◌<◌, ◌≤◌, Bool, true, false, List, [], ◌∷◌, ◌++◌, refl, sym, ap, ◌∙◌, arith, append_assoc}
+use Rattle.std.proofs.Common.{◌≡◌, ℕ, suc, ◌+◌, ◌*◌, ◌^◌, ◌<◌, min, Bool, true, false, List, [], ◌∷◌, ◌++◌, replicate, ◌⊎◌, inl, inr, refl, sym, ap, ◌∙◌, arith, append_assoc}
 use Rattle.std.specs.Prelude.{codes, decimal, ℤ, pos, negsuc, flat_map}
 use Rattle.std.specs.Str.Parse.{digits_value, AllDigits}
 use Rattle.std.specs.Fmt.{signed_decimal}
 use Rattle.std.proofs.lemmas.Fmt.{decimal_is_IsNumeral_wide}
-use Rattle.std.proofs.lemmas.List.{append_cancel_left}
+use Rattle.std.proofs.lemmas.Bool.{cases_lt}
+use Rattle.std.proofs.lemmas.List.{append_cancel_left, replicate-append-replicate}
 use Rattle.std.proofs.lemmas.Int.{ints}
 use Rattle.plist_value.specs.Plist.{Scalar, text, whole, flag, real4, real8, moment, bytes, Plist, scalar, list, table, Items, no_items, item, Pairs, no_pairs, pair, AreOctets, IsScalar, IsWhole, IsPlist, AreItems, ArePairs}
 use Rattle.plist_print.specs.Units.{printed_units, printed_text}
@@ -130,10 +131,22 @@ scalar-front (bytes xs) (bytes ys) r s h k same =
     let both = bytes-front xs ys (10 ∷ r) (10 ∷ s) h k same in (ap bytes both.0, tails 10 10 r s both.1)
 scalar-front v w r s h k same = apart v w r s h k same (λ e. omega arith)
 
--- a bracket is deeper than another where two blanks stand in its place
-deeper : (level c : ℕ) (x y : List ℕ) → indent level ++ (c ∷ x) ≡ indent (suc level) ++ y → c ≡ 32
-deeper zero c x y same = heads c 32 x (32 ∷ y) same
-deeper (suc level) c x y same = deeper level c x y (ap (λ l. tail_of (tail_of l)) same)
+-- What follows the blanks of a line is a blank more where a line one level deeper begins, or what
+-- follows the blanks of that.
+deeper : (level c : ℕ) (x y : List ℕ) → indent level ++ (c ∷ x) ≡ indent (suc level) ++ y → (c ≡ 32) ⊎ (c ∷ x ≡ y)
+deeper level c x y same = elim (cases_lt level 32) [
+  | inl below ↦ (
+      let less : 2 * min level 32 ≡ 2 * level = omega arith in
+      let more : 2 * min (suc level) 32 ≡ 2 * level + 2 = omega arith in
+      let wide : indent (suc level) ++ y ≡ indent level ++ (32 ∷ 32 ∷ y) =
+      ap (λ n. replicate n 32 ++ y) more ∙ ap (λ b. b ++ y) (sym (replicate-append-replicate (2 * level) 2 32)) ∙ append_assoc (replicate (2 * level) 32) (32 ∷ 32 ∷ []) y ∙ ap (λ n. replicate n 32 ++ (32 ∷ 32 ∷ y)) (sym less) in
+      inl (heads c 32 x (32 ∷ y) (append_cancel_left (indent level) (c ∷ x) (32 ∷ 32 ∷ y) (same ∙ wide)))
+      )
+  | inr past ↦ (
+      let equal : 2 * min (suc level) 32 ≡ 2 * min level 32 = omega arith in
+      inr (append_cancel_left (indent level) (c ∷ x) y (same ∙ ap (λ n. replicate n 32 ++ y) equal))
+      )
+]
 
 regrouped : (a p q r : List ℕ) → (a ++ (p ++ q)) ++ r ≡ a ++ (p ++ (q ++ r))
 regrouped a p q r = append_assoc a (p ++ q) r ∙ ap (λ t. a ++ t) (append_assoc p q r)
@@ -151,9 +164,12 @@ endings-front level close r s same =
     let e = append_cancel_left (indent level) (close ∷ 10 ∷ r) (close ∷ 10 ∷ s) (sym (append_assoc (indent level) (close ∷ 10 ∷ []) r) ∙ same ∙ append_assoc (indent level) (close ∷ 10 ∷ []) s) in
     ap (λ l. tail_of (tail_of l)) e
 
-ending-no_row : (level close : ℕ) (r : List ℕ) (b s : List ℕ) → (close ≡ 32 → ⊥) → ending level close r ≡ (indent (suc level) ++ b) ++ s → ⊥
-ending-no_row level close r b s h same =
-    h (deeper level close (10 ∷ r) (b ++ s) (sym (append_assoc (indent level) (close ∷ 10 ∷ []) r) ∙ same ∙ append_assoc (indent (suc level)) b s))
+ending-no_row : (level close : ℕ) (r : List ℕ) (b s : List ℕ) → (close ≡ 32 → ⊥) → (close ≡ head_of (b ++ s) → ⊥) → ending level close r ≡ (indent (suc level) ++ b) ++ s → ⊥
+ending-no_row level close r b s h k same =
+    elim (deeper level close (10 ∷ r) (b ++ s) (sym (append_assoc (indent level) (close ∷ 10 ∷ []) r) ∙ same ∙ append_assoc (indent (suc level)) b s)) [
+      | inl blank ↦ h blank
+      | inr row ↦ k (ap head_of row)
+    ]
 
 -- an item of a list, and those behind it
 item-front : (level : ℕ) (v w : Plist) (vs ws : Items) (r s : List ℕ)
@@ -202,20 +218,43 @@ small-kind (bytes xs) = omega arith
 line : (s : Scalar) (r : List ℕ) → (printed_scalar s ++ codes "\n") ++ r ≡ printed_scalar s ++ (10 ∷ r)
 line s r = append_assoc (printed_scalar s) (codes "\n") r
 
-no-container : {A : Type 0} (a : Scalar) (r : List ℕ) (y : List ℕ) → IsScalar a → (printed_scalar a ++ codes "\n") ++ r ≡ y → 5 ≤ kind_of_head (head_of y) → A
-no-container a r y h same large =
-    absurd (let e : kind_of a ≡ kind_of_head (head_of y) = sym (scalar-kind a r h) ∙ ap (λ l. kind_of_head (head_of l)) (sym (line a r) ∙ same) in let small = small-kind a in omega arith)
+-- the first octet of a value tells its kind, and is no closing bracket
+value-kind : (level : ℕ) (v : Plist) (r : List ℕ) → IsPlist v → kind_of_head (head_of (printed_at level v ++ r)) ≡ kind_of_value v
+value-kind level (scalar s) r h = ap (λ l. kind_of_head (head_of l)) (line s r) ∙ scalar-kind s r h
+value-kind level (list no_items) r h = refl
+value-kind level (list (item v vs)) r h = refl
+value-kind level (table no_pairs) r h = refl
+value-kind level (table (pair key v ps)) r h = refl
+
+values-kind : (level : ℕ) (v w : Plist) (r s : List ℕ) → IsPlist v → IsPlist w → printed_at level v ++ r ≡ printed_at level w ++ s → kind_of_value v ≡ kind_of_value w
+values-kind level v w r s h k same =
+    sym (value-kind level v r h) ∙ ap (λ l. kind_of_head (head_of l)) same ∙ value-kind level w s k
+
+kind-no_bracket : (v : Plist) → kind_of_value v ≡ 7 → ⊥
+kind-no_bracket (scalar s) e = let small = small-kind s in omega arith
+kind-no_bracket (list vs) e = omega arith
+kind-no_bracket (table ps) e = omega arith
+
+no-bracket : (level : ℕ) (v : Plist) (b s : List ℕ) → IsPlist v → 93 ≡ head_of ((printed_at level v ++ b) ++ s) → ⊥
+no-bracket level v b s h e =
+    kind-no_bracket v (sym (value-kind level v (b ++ s) h) ∙ ap (λ l. kind_of_head (head_of l)) (sym (append_assoc (printed_at level v) b s)) ∙ ap kind_of_head (sym e))
 
 mutual
   pub value-front : (level : ℕ) (v w : Plist) (r s : List ℕ) → IsPlist v → IsPlist w → printed_at level v ++ r ≡ printed_at level w ++ s → (v ≡ w) × (r ≡ s)
   value-front level (scalar a) (scalar b) r s h k same =
       let both = scalar-front a b r s h k (sym (line a r) ∙ same ∙ line b s) in (ap scalar both.0, both.1)
-  value-front level (scalar a) (list ws) r s h k same = no-container a r _ h same (omega arith)
-  value-front level (scalar a) (table qs) r s h k same = no-container a r _ h same (omega arith)
-  value-front level (list vs) (scalar b) r s h k same = no-container b s _ k (sym same) (omega arith)
-  value-front level (table ps) (scalar b) r s h k same = no-container b s _ k (sym same) (omega arith)
-  value-front level (list vs) (table qs) r s h k same = absurd (let e : 91 ≡ 123 = ap head_of same in omega arith)
-  value-front level (table ps) (list ws) r s h k same = absurd (let e : 123 ≡ 91 = ap head_of same in omega arith)
+  value-front level (scalar a) (list ws) r s h k same =
+      absurd (let small = small-kind a in let e = values-kind level (scalar a) (list ws) r s h k same in omega arith)
+  value-front level (scalar a) (table qs) r s h k same =
+      absurd (let small = small-kind a in let e = values-kind level (scalar a) (table qs) r s h k same in omega arith)
+  value-front level (list vs) (scalar b) r s h k same =
+      absurd (let small = small-kind b in let e = values-kind level (list vs) (scalar b) r s h k same in omega arith)
+  value-front level (table ps) (scalar b) r s h k same =
+      absurd (let small = small-kind b in let e = values-kind level (table ps) (scalar b) r s h k same in omega arith)
+  value-front level (list vs) (table qs) r s h k same =
+      absurd (let e = values-kind level (list vs) (table qs) r s h k same in omega arith)
+  value-front level (table ps) (list ws) r s h k same =
+      absurd (let e = values-kind level (table ps) (list ws) r s h k same in omega arith)
   value-front level (list vs) (list ws) r s h k same = let both = list-front level vs ws r s h k same in (ap list both.0, both.1)
   value-front level (table ps) (table qs) r s h k same = let both = table-front level ps qs r s h k same in (ap table both.0, both.1)
 
@@ -233,9 +272,9 @@ mutual
   items-front : (level : ℕ) (vs ws : Items) (r s : List ℕ) → AreItems vs → AreItems ws → printed_items (suc level) vs ++ ending level 93 r ≡ printed_items (suc level) ws ++ ending level 93 s → (vs ≡ ws) × (ending level 93 r ≡ ending level 93 s)
   items-front level no_items no_items r s h k same = (refl, same)
   items-front level no_items (item w ws) r s h k same =
-      absurd (ending-no_row level 93 r _ (ending level 93 s) (λ e. omega arith) same)
+      absurd (ending-no_row level 93 r _ (ending level 93 s) (λ e. omega arith) (no-bracket (suc level) w (printed_items (suc level) ws) (ending level 93 s) k.0) same)
   items-front level (item v vs) no_items r s h k same =
-      absurd (ending-no_row level 93 s _ (ending level 93 r) (λ e. omega arith) (sym same))
+      absurd (ending-no_row level 93 s _ (ending level 93 r) (λ e. omega arith) (no-bracket (suc level) v (printed_items (suc level) vs) (ending level 93 r) h.0) (sym same))
   items-front level (item v vs) (item w ws) r s h k same =
       item-front (suc level) v w vs ws (ending level 93 r) (ending level 93 s) (λ x y. value-front (suc level) v w x y h.0 k.0) (λ e. items-front level vs ws r s h.1 k.1 e) same
 
@@ -253,8 +292,8 @@ mutual
   pairs-front : (level : ℕ) (ps qs : Pairs) (r s : List ℕ) → ArePairs ps → ArePairs qs → printed_pairs (suc level) ps ++ ending level 125 r ≡ printed_pairs (suc level) qs ++ ending level 125 s → (ps ≡ qs) × (ending level 125 r ≡ ending level 125 s)
   pairs-front level no_pairs no_pairs r s h k same = (refl, same)
   pairs-front level no_pairs (pair next w qs) r s h k same =
-      absurd (ending-no_row level 125 r _ (ending level 125 s) (λ e. omega arith) same)
+      absurd (ending-no_row level 125 r _ (ending level 125 s) (λ e. omega arith) (λ e. omega arith) same)
   pairs-front level (pair key v ps) no_pairs r s h k same =
-      absurd (ending-no_row level 125 s _ (ending level 125 r) (λ e. omega arith) (sym same))
+      absurd (ending-no_row level 125 s _ (ending level 125 r) (λ e. omega arith) (λ e. omega arith) (sym same))
   pairs-front level (pair key v ps) (pair next w qs) r s h k same =
       pair-front (suc level) key next v w ps qs (ending level 125 r) (ending level 125 s) h.0 k.0 (λ x y. value-front (suc level) v w x y h.1 k.1) (λ e. pairs-front level ps qs r s h.3 k.3 e) same

@@ -1,5 +1,5 @@
 -- The printed text of a value.
-use Rattle.std.specs.Prelude.{ℕ, zero, suc, Bool, true, false, List, [], ◌∷◌, ◌++◌, codes}
+use Rattle.std.specs.Prelude.{ℕ, suc, ◌*◌, min, Bool, true, false, List, [], ◌∷◌, ◌++◌, replicate, codes}
 use Rattle.std.specs.Fmt.{signed_decimal}
 use Rattle.plist_value.specs.Plist.{Scalar, text, whole, flag, real4, real8, moment, bytes, Plist, scalar, list, table, Items, no_items, item, Pairs, no_pairs, pair}
 use Rattle.plist_print.specs.Units.{printed_data, printed_text}
@@ -19,16 +19,14 @@ printed_scalar (real8 xs) = printed_real double xs
 printed_scalar (moment xs) = codes "date " ++ printed_date xs
 printed_scalar (bytes xs) = printed_data xs
 
--- two blanks for each level
+-- two blanks for each level, up to 32 levels
 abbrev pub indent : ℕ → List ℕ
-indent zero = []
-indent (suc level) = 32 ∷ 32 ∷ indent level
+indent level = replicate (2 * min level 32) 32
 
--- What stands behind an opening bracket: the closing one, or the lines between them and then the
--- closing one on a line of its own, indented as the line of the opening one.
-abbrev pub closed : ℕ → ℕ → List ℕ → List ℕ
-closed level close [] = close ∷ 10 ∷ []
-closed level close (c ∷ lines) = 10 ∷ (c ∷ lines) ++ (indent level ++ (close ∷ 10 ∷ []))
+-- an opening bracket, lines, and the closing bracket on a line of its own, indented as the line of
+-- the opening one
+abbrev pub enclosed : ℕ → ℕ → ℕ → List ℕ → List ℕ
+enclosed level open_with close_with lines = open_with ∷ 10 ∷ (lines ++ (indent level ++ (close_with ∷ 10 ∷ [])))
 
 -- A value up to the end of its last line, whose first line is indented by so many levels and has
 -- begun: a list is `[`, a line for each item, `]`; a table is `{`, a line for each key and value,
@@ -36,8 +34,10 @@ closed level close (c ∷ lines) = 10 ∷ (c ∷ lines) ++ (indent level ++ (clo
 abbrev mutual
   pub printed_at : ℕ → Plist → List ℕ
   printed_at level (scalar s) = printed_scalar s ++ codes "\n"
-  printed_at level (list vs) = 91 ∷ closed level 93 (printed_items (suc level) vs)
-  printed_at level (table ps) = 123 ∷ closed level 125 (printed_pairs (suc level) ps)
+  printed_at level (list no_items) = codes "[]\n"
+  printed_at level (list vs) = enclosed level 91 93 (printed_items (suc level) vs)
+  printed_at level (table no_pairs) = codes "{}\n"
+  printed_at level (table ps) = enclosed level 123 125 (printed_pairs (suc level) ps)
 
   pub printed_items : ℕ → Items → List ℕ
   printed_items level no_items = []

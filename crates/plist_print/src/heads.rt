@@ -13,6 +13,9 @@ use plist_engine::{Output, Sink, WriteFault};
 use plist_value::{ScalarRef, TextRef};
 use std::alloc::AllocError;
 
+// Two blanks for each of 32 levels.
+static BLANKS: [u8; 64] = [b' '; 64];
+
 /// Sends the line of a scalar, or has it wait.
 pub(crate) fn print_line<W: Sink>(scalar: &ScalarRef, out: &mut Output<W>) -> Result<(), WriteFault>
     ensures goes { Goes (printed_scalar (content_of scalar.now) ++ codes "\n")
@@ -130,14 +133,9 @@ fn print_key<W: Sink>(key: &TextRef, out: &mut Output<W>) -> Result<(), WriteFau
     put(b" => ", out)
 }
 
-// Two blanks for each level.
+// The blanks before a line of this level.
 fn put_indent(out: &mut Vec<u8>, level: u64) -> Result<(), AllocError>
     ensures { OnOk result (out.new.items ≡ out.old.items ++ indent level) }
 {
-    let mut left = level;
-    while left > 0 {
-        out.extend_from_slice(b"  ")?;
-        left -= 1;
-    }
-    Ok(())
+    out.extend_from_slice(&BLANKS[..2 * level.min(32) as usize])
 }

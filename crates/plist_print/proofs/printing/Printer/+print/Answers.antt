@@ -11,7 +11,7 @@ use Rattle.plist_object.specs.Places.{Holds, HoldsText}
 use Rattle.plist_object.specs.Spelled.{Spells, SpellsWithin}
 use Rattle.plist_object.specs.Views.{octets_of, numbers_of}
 use Rattle.plist_engine.specs.Output.{state_of}
-use Rattle.plist_engine.proofs.Going.{Goes_put, Goes_then, Goes_rest, Goes_stop, Goes_same, Stays-trans}
+use Rattle.plist_engine.proofs.Going.{Goes_put, Goes_then, Goes_rest, Goes_stop, Goes_same, Goes_out, Stays-trans}
 use Rattle.plist_engine.specs.Spelling.{SpellWithin}
 use Rattle.plist_engine.proofs.Within.{read_within, levels_within, items_within, table_within, value_within}
 use Rattle.plist_print.specs.Printed.{indent, printed_at, printed_items, printed_pairs}
@@ -176,6 +176,11 @@ table-returns-in_err-put-clause-goes g t c = λ rows ps spell.
     let some : 0 < length keys = first_of (search rules, grind (arith, nat_tests)) in
     let is = table_brackets (octets_of c.args.self.now.file) keys (numbers_of c.args.values.now) rows c.args.level ps c.requires.spell.as_many some spell in
     rw (e.1, e.2) (brackets_unopened c.args.level 123 125 (printed_pairs (c.args.level + 1) ps) (printed_at c.args.level (table ps)) is (state_of g.W.Sink c.args.out.now) (state_of g.W.Sink c.put-2.new.out) _ c.in_err-put.ensures.goes)
+
+pub table-returns-in_default-clause-goes : goal.table-returns-in_default-clause-goes
+table-returns-in_default-clause-goes g t c = λ rows ps spell.
+    let p = state_of g.W.Sink c.args.out.now in
+    Goes_out (printed_at c.args.level (table ps)) p.waiting p
 
 pub table-pairs-requires : goal.table-pairs-requires
 table-pairs-requires g t c κs within =
