@@ -10,6 +10,7 @@ ghost use Rattle.plist_binary.specs.Keys.{units_at, place_of, pair_at};
 use crate::scalars;
 use plist_value::{TextRef, Utf16, Value};
 use std::alloc::{AllocError, Global};
+use std::cmp::Ordering;
 use std::collections::BTreeMap;
 use std::mem;
 
@@ -37,11 +38,18 @@ fn ascend(keys: &[Key]) -> bool
     ensures { IsTrue result ↔ IsStrictlySortedBy (slice_cmp nat_cmp) (map units_at keys.now) }
 {
     for i in 1..keys.len() {
-        if keys[i - 1].text >= keys[i].text {
+        if !is_below(&keys[i - 1], &keys[i]) {
             return false;
         }
     }
     true
+}
+
+fn is_below(key: &Key, next: &Key) -> bool
+    ensures { IsTrue result
+        ↔ (slice_cmp nat_cmp (units_at key.now) (units_at next.now) ≡ Ordering.Less) }
+{
+    key.text < next.text
 }
 
 // Makes the map of the keys, which ascend, each with the value at its position. The last key is

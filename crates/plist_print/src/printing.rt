@@ -19,6 +19,7 @@ use crate::heads::{begin_line, begin_pair, end_lines, print_line};
 use crate::known::Seen;
 use crate::lines::{put, send_all};
 use plist_engine::objects::object_of;
+use plist_engine::order::push_sorted;
 use plist_engine::{Output, Sink, WriteFault};
 use plist_object::{BinFile, Object, Refs};
 use std::alloc::{AllocError, Global};

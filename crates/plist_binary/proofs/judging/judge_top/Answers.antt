@@ -13,9 +13,6 @@ judge_within-requires-in-Err c = record {
   limits = record { nodes_most = omega arith; payload_most = omega arith };
 }
 
-pub returns-in_err-of_file-in-Err-TooMuchPayload-clause-sorted : goal.returns-in_err-of_file-in-Err-TooMuchPayload-clause-sorted
-returns-in_err-of_file-in-Err-TooMuchPayload-clause-sorted c = search (pieces, arith)
-
 pub returns-in_err-of_file-in-Err-TooMuchPayload-clause-refused : goal.returns-in_err-of_file-in-Err-TooMuchPayload-clause-refused
 returns-in_err-of_file-in-Err-TooMuchPayload-clause-refused c = search (pieces, arith)
 

@@ -2,7 +2,6 @@ use Rattle.std.proofs.Common.{◌-◌, map, refl, arith}
 use Rattle.std.proofs.lemmas.List.{length-map}
 use Rattle.plist_binary.specs.Keys.{units_at}
 use Rattle.plist_binary.proofs.Ascents.{ascend_more, not_ascending, sorted_from_ascent}
-use Rattle.plist_binary.proofs.Ranking.{alike}
 use Rattle.plist_binary.proofs.tables.ascend.Goals as goal
 
 pub returns-then-not-is_below : goal.returns-then-not-is_below
@@ -17,7 +16,3 @@ pub returns : goal.returns
 returns c =
     let keys = map units_at c.args.keys.now in
     (λ _. sorted_from_ascent keys (λ k h. c.loop-i.invariant k (omega (arith, length-map c.args.keys.now units_at))), λ _. refl)
-
-pub is_below-requires : goal.is_below-requires
-is_below-requires c =
-    alike c.args.keys.now (c.loop-i.i - 1) c.loop-i.i _ _ (omega arith) (omega arith) c.index-keys-i.is c.index-keys-i-in-loop-i.is c.requires
