@@ -1,5 +1,5 @@
 #!/usr/bin/env python3
-"""Measures `plistconv check` and `plistconv lint` on files made to be slow, at three sizes of which each is twice the one before.
+"""Measures plistconv on files made to be slow, at three sizes of which each is twice the one before.
 
 usage: bench/hostile.py [PLISTCONV]   (the program to measure, ./plistconv if not given)
 
@@ -7,6 +7,8 @@ Time is that of the processor, the least of three runs. Where work is linear in 
 stays as it is.
 """
 import os
+import random
+import subprocess
 import sys
 import tempfile
 
@@ -95,18 +97,98 @@ def one_key(size):
     return joined([first, head(0x50, length) + b"a" * length, b"\x09", *[table] * tables], 3)
 
 
+def wide(length, number_of_key):
+    """A string of UTF-16 that differs from others in its last unit."""
+    units = b"\x00a" * (length - 1) + number(0x100 + number_of_key, 2)
+    return head(0x60, length) + units
+
+
+def tables_of(lists, keys, size):
+    """Dictionaries up to this size whose keys are these lists of objects, in turn, with one value."""
+    width = 3
+    value, first = len(keys) + 1, len(keys) + 2
+    long = [head(0xD0, len(one)) + b"".join(number(n, width) for n in one) + number(value, width) * len(one)
+            for one in lists]
+    tables, total = [], 0
+    while total < size:
+        tables.append(long[len(tables) % len(long)])
+        total += len(tables[-1])
+    top = head(0xA0, len(tables)) + b"".join(number(n, width) for n in range(first, first + len(tables)))
+    return joined([top, *keys, b"\x09", *tables], width)
+
+
+def reordered(count, size):
+    """Dictionaries of the same long keys, each in another order."""
+    pick = random.Random(count)
+    keys = [wide(size // 4 // count, n) for n in range(count)]
+    lists = [pick.sample(range(1, count + 1), count) for _ in range(size // 2 // (6 * count) + 1)]
+    return tables_of(lists, keys, size // 2)
+
+
+def reordered_16(size):
+    return reordered(16, size)
+
+
+def reordered_256(size):
+    return reordered(256, size)
+
+
+def lists_in_turn(size):
+    """Two long lists of keys, in turn."""
+    count = 4100
+    keys = [head(0x50, 40) + b"%040d" % n for n in range(2 * count)]
+    pick = random.Random(0)
+    lists = [pick.sample(range(1 + part, 1 + part + count), count) for part in (0, count)]
+    return tables_of(lists, keys, max(size - 400_000, 1))
+
+
+def three_in_turn(size):
+    """Three lists of long keys, in turn."""
+    keys = [wide(size // 4 // 48, n) for n in range(48)]
+    lists = [range(1 + part, 17 + part) for part in (0, 16, 32)]
+    return tables_of([[*reversed(one)] for one in lists], keys, size // 2)
+
+
+def quotes(size):
+    """A string of quotes."""
+    return joined([head(0x50, size) + b'"' * size], 1)
+
+
+def backslashes_wide(size):
+    """A string of UTF-16 that no print shows as it is."""
+    return joined([head(0x60, size // 2) + b"\x20\x0e" * (size // 2)], 1)
+
+
+COMMANDS = {
+    "check": ["check", "IN"],
+    "lint": ["lint", "IN"],
+    "print": ["print", "IN"],
+    "binary1": ["convert", "binary1", "IN", "/dev/null"],
+    "openstep": ["convert", "openstep", "IN", "/dev/null"],
+}
+
+ROWS = [
+    ("check", shared_keys), ("check", overlapping_keys), ("check", unordered_keys), ("check", one_table_often),
+    ("check", one_text_often), ("lint", shared_keys), ("lint", one_key),
+    *((word, make) for make in (reordered_16, reordered_256, lists_in_turn, three_in_turn)
+      for word in ("lint", "binary1", "print")),
+    ("print", quotes), ("print", backslashes_wide),
+]
+
+
 def main():
     program = os.path.abspath(sys.argv[1] if len(sys.argv) > 1 else "./plistconv")
-    print("| word | file | octets | answer | seconds | seconds for each MB |")
+    print("| command | file | bytes | answer | seconds | seconds for each MB |")
     print("|---|---|---|---|---|---|")
     with tempfile.TemporaryDirectory() as folder:
         path, measure = os.path.join(folder, "file"), Measure(folder)
-        for word, make in (("check", shared_keys), ("check", overlapping_keys), ("check", unordered_keys),
-                           ("check", one_table_often), ("check", one_text_often), ("lint", shared_keys), ("lint", one_key)):
+        for word, make in ROWS:
+            words = [path if part == "IN" else part for part in COMMANDS[word]]
+            into = subprocess.DEVNULL if word == "print" else subprocess.PIPE
             for size in (250_000, 500_000, 1_000_000):
                 with open(path, "wb") as target:
                     target.write(make(size))
-                runs = [measure.run([program, word, path]) for _ in range(3)]
+                runs = [measure.run([program, *words], into=into) for _ in range(3)]
                 least = min(run.processor for run in runs)
                 octets = os.path.getsize(path)
                 answer = runs[0].printed.replace(path, "IN")
