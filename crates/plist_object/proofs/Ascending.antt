@@ -1,4 +1,4 @@
--- Two strictly ascending lists with the same members are one list.
+-- Two strictly ascending lists with the same members are equal.
 use Rattle.std.proofs.Common.{◌≡◌, ℕ, zero, suc, ◌<◌, List, [], ◌∷◌, length, get_or, inl, inr, ⊎_elim, refl, sym, subst, arith}
 use Rattle.std.specs.Prelude.{◌⊎◌}
 use Rattle.std.specs.declared.cmp.Ordering.{Ordering}
@@ -9,7 +9,7 @@ use Rattle.std.specs.List.Sorted.{IsStrictlySortedBy, IsPermutation}
 use Rattle.std.proofs.lemmas.Cmp.{tied_itself}
 use Rattle.std.proofs.lemmas.List.Sorted.{Contains-permutation, IsPermutation-sym}
 
--- x is one of the list
+-- x is a member of the list
 abbrev pub Among : {X : Type 0} → X → List X → Type 0
 Among x [] = ⊥
 Among x (y ∷ ys) = (x ≡ y) ⊎ Among x ys
@@ -73,7 +73,7 @@ same_ascending {R = R} o (x ∷ xs) (y ∷ ys) a b to from =
     (from z (inr among))) in
     cc
 
--- one list in two strictly ascending orders
+-- two strictly ascending permutations of one list are equal
 pub same_order : {K : Type 0} {R : K → K → Ordering} → IsTotalOrder R → (zs xs ys : List K) → IsPermutation zs xs → IsPermutation zs ys → IsStrictlySortedBy R xs → IsStrictlySortedBy R ys → xs ≡ ys
 same_order o zs xs ys to_xs to_ys a b =
     same_ascending o xs ys a b

@@ -1,4 +1,4 @@
--- An object that begins as the canonical spelling of what it holds stands in that spelling.
+-- An object that begins like its canonical encoding has that encoding.
 use Rattle.std.proofs.Common.{◌≡◌, ℕ, ◌+◌, ◌*◌, ◌^◌, ◌<◌, ◌≤◌, Bool, true, false, cond, ltb, ℤ, List, [], ◌∷◌, ◌++◌, length, take, drop, Result, Ok, Err, refl, sym, ap, ◌∙◌, arith, append_assoc, ltb-false}
 use Rattle.std.proofs.lemmas.List.{take_at, take-append-drop, length-take-le, take_all, length-drop}
 use Rattle.std.specs.List.{list_all}
@@ -16,7 +16,7 @@ use Rattle.plist_object.proofs.ReadBack.{is_head, object_in-head}
 use Rattle.plist_object.proofs.ReadScalars.{object_in-scalar}
 use Rattle.plist_object.proofs.SameOctets.{AreOctets-take, AreOctets-drop, references-numbers, references-wide_units}
 
--- octets that begin with some are these and others
+-- bytes split after a prefix
 pub split_head : (first octets : List ℕ) → Begins first octets → octets ≡ first ++ drop (length first) octets
 split_head first octets begins =
     sym (take-append-drop (length first) octets) ∙ ap (λ (xs : List ℕ). xs ++ drop (length first) octets) begins
@@ -24,7 +24,7 @@ split_head first octets begins =
 Begins-append : (first rest : List ℕ) → Begins first (first ++ rest)
 Begins-append first rest = take_at first rest (length first) refl
 
--- what so many octets were cut off for went on with them and those behind them
+-- a decoder that succeeded after a cut of n bytes continued with those bytes and the rest
 pub record WasCut {B : Type 0} (n : ℕ) (octets : List ℕ) (next : List ℕ × List ℕ → Result B ObjectFault) (y : B) : Type 0 where
   pub enough : n ≤ length octets
   pub goes_on : next (take n octets, drop n octets) ≡ Ok y
@@ -36,7 +36,7 @@ cut_by_test n octets next y false is e = record { enough = ltb-false (length oct
 pub was_cut : {B : Type 0} (n : ℕ) (octets : List ℕ) (next : List ℕ × List ℕ → Result B ObjectFault) (y : B) → (cut n octets >>= next) ≡ Ok y → WasCut n octets next y
 was_cut n octets next y e = cut_by_test n octets next y (ltb (length octets) n) refl e
 
--- the same for content whose count is known
+-- like `WasCut`, for content whose count is known
 pub record WasContent {B : Type 0} (unit n : ℕ) (octets : List ℕ) (next : ℕ × List ℕ × List ℕ → Result B ObjectFault) (y : B) : Type 0 where
   pub enough : n * unit ≤ length octets
   pub goes_on : next (n, take (n * unit) octets, drop (n * unit) octets) ≡ Ok y
@@ -50,7 +50,7 @@ unfolding content
 was_content unit low n b tail next y counts e =
     content_by_test unit n tail next y (ltb (length tail) (n * unit)) refl (rw counts at e)
 
--- octets that begin with a head are read by its kind
+-- bytes that begin with a marker and count are decoded by kind
 pub record Headed (width kind n : ℕ) (octets : List ℕ) (y : Held × List ℕ) : Type 0 where
   pub tail : List ℕ
   pub low : ℕ
@@ -75,7 +75,7 @@ headed width kind n octets y small are_octets begins read =
       reads = sym (ap (object_in width) parts ∙ object_in-head width kind n tail small) ∙ read;
     }
 
--- the content and the octets behind it, where both are known
+-- bytes whose content and remaining bytes are known
 joined : (m : ℕ) (octets first tail content behind : List ℕ) → octets ≡ first ++ tail → take m tail ≡ content → drop m tail ≡ behind → octets ≡ (first ++ content) ++ behind
 joined m octets first tail content behind parts front back =
     parts ∙ rw (append_assoc, ← front, ← back, take-append-drop m tail) refl
@@ -109,7 +109,6 @@ data_spelled width xs behind octets small are_octets begins read =
     let same = same_read _ _ _ _ w.goes_on in
     joined (length xs * 1) octets (head 4 (length xs)) h.tail xs behind h.parts (same_bytes _ _ same.0) same.1
 
--- an ASCII text
 ascii_part : (part us rest behind : List ℕ) (ascii : Bool) → list_all (λ u. ltb u 128) part ≡ ascii → cond {A = Result (Held × List ℕ) ObjectFault} ascii (Ok (holds_scalar (text part), rest)) (Err NotAscii) ≡ Ok (holds_scalar (text us), behind) → (part ≡ us) × (rest ≡ behind)
 ascii_part part us rest behind true is e = (same_text _ _ (same_read _ _ _ _ e).0, (same_read _ _ _ _ e).1)
 ascii_part part us rest behind false is e = absurd cc
@@ -183,7 +182,7 @@ flag_spelled width b behind octets begins read =
     let again = sym (object_in-scalar width (flag b) tail tt tt) ∙ sym (ap (object_in width) parts) ∙ read in
     parts ∙ ap (λ (xs : List ℕ). scalar_spelling (flag b) ++ xs) (same_read _ _ _ _ again).1
 
--- a marker and so many octets behind it
+-- a marker with n bytes after it
 fixed_spelled : (marker n : ℕ) (shows : List ℕ → Scalar) (xs behind octets : List ℕ) → ((a c : List ℕ) → holds_scalar (shows a) ≡ holds_scalar (shows c) → a ≡ c) → Begins (marker ∷ []) octets → ((tail : List ℕ) → octets ≡ marker ∷ tail → (cut n tail >>= λ parts. read_of (holds_scalar (shows parts.0)) parts.1) ≡ Ok (holds_scalar (shows xs), behind)) → octets ≡ (marker ∷ xs) ++ behind
 fixed_spelled marker n shows xs behind octets apart begins reads =
     let tail = drop 1 octets in
@@ -224,7 +223,7 @@ scalar_spelled width (moment xs) behind octets valid small are_octets begins rea
 scalar_spelled width (bytes xs) behind octets valid small are_octets begins read =
     data_spelled width xs behind octets small are_octets begins read
 
--- what begins canonically is spelled canonically
+-- an object that begins canonically has its canonical encoding
 pub canonically_spelled : (width : ℕ) (held : Held) (behind octets : List ℕ) → IsHeld held → IsCounted held → AreOctets octets → BeginsCanonically held octets → object_in width octets ≡ Ok (held, behind) → octets ≡ spelling_of width held ++ behind
 canonically_spelled width (holds_scalar s) behind octets valid small are_octets begins read =
     scalar_spelled width s behind octets valid small are_octets begins read
@@ -250,7 +249,7 @@ begins_scalar (real8 xs) behind octets is = begins_more (35 ∷ []) xs behind oc
 begins_scalar (moment xs) behind octets is = begins_more (51 ∷ []) xs behind octets is
 begins_scalar (bytes xs) behind octets is = begins_more (head 4 (length xs)) xs behind octets is
 
--- and what is spelled canonically begins so
+-- an object in its canonical encoding begins canonically
 pub canonically_begun : (width : ℕ) (held : Held) (behind octets : List ℕ) → octets ≡ spelling_of width held ++ behind → BeginsCanonically held octets
 canonically_begun width (holds_scalar s) behind octets is = begins_scalar s behind octets is
 canonically_begun width (holds_list refs) behind octets is =
@@ -258,7 +257,7 @@ canonically_begun width (holds_list refs) behind octets is =
 canonically_begun width (holds_table keys values) behind octets is =
     begins_more (head 13 (length keys)) (references width keys ++ references width values) behind octets is
 
--- so an object is in its shortest spelling exactly if it begins canonically
+-- an object has its shortest encoding if and only if it begins canonically
 pub shortest_iff : (f : List ℕ) (i : ℕ) (octets : List ℕ) (held : Held) (behind : List ℕ) → octets_at f i ≡ Ok octets → object_in (trailer_of f).reference_width octets ≡ Ok (held, behind) → IsHeld held → IsCounted held → AreOctets octets → (BeginsCanonically held octets → IsShortest f i) × (IsShortest f i → BeginsCanonically held octets)
 shortest_iff f i octets held behind stands reads valid small are_octets =
     let width = (trailer_of f).reference_width in (

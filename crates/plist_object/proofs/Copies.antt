@@ -1,4 +1,4 @@
--- Scalars that stand in a file in their canonical spelling, told by their first octets.
+-- Scalars in their canonical encoding, recognised by their first bytes.
 use Rattle.std.proofs.Common.{◌≡◌, ℕ, ◌+◌, ◌*◌, ◌^◌, ◌<◌, ◌≤◌, Bool, true, false, cond, ltb, List, ◌++◌, length, take, drop, Result, Ok, Err, refl, sym, ap, ◌∙◌, arith, length-append, ⊎_elim}
 use Rattle.std.specs.Prelude.{IsOk}
 use Rattle.std.specs.List.{list_all}
@@ -22,7 +22,7 @@ use Rattle.plist_object.proofs.Counts.{length-head}
 use Rattle.plist_object.proofs.ReadScalars.{length-pairs}
 use Rattle.plist_object.proofs.SameOctets.{AreOctets-take, references-wide_units}
 
--- the head and the content behind it, of m octets
+-- marker and count with m bytes of content after them
 copied : (kind n m : ℕ) (octets tail : List ℕ) → octets ≡ head kind n ++ tail → take (head_size n + m) octets ≡ head kind n ++ take m tail
 copied kind n m octets tail parts =
     rw (parts, ← length-head kind n) (take-append-add (head kind n) tail m)
@@ -32,7 +32,7 @@ inside kind n m octets tail parts enough =
     let long = ap length parts ∙ length-append (head kind n) tail in
     omega (arith, long, enough, length-head kind n)
 
--- and what stands behind the head
+-- the bytes after marker and count
 behind_head : (kind n : ℕ) (octets tail : List ℕ) → octets ≡ head kind n ++ tail → drop (head_size n) octets ≡ tail
 behind_head kind n octets tail parts =
     rw (parts, ← length-head kind n) (drop-append_seam (head kind n) tail)
@@ -53,7 +53,7 @@ data_leads width n octets y small are begins read =
       spelled = copied 4 n n octets h.tail h.parts ∙ rw (long, all) refl;
     }
 
--- of an ASCII text that was read
+-- the ASCII string was decoded
 record WasAscii (part rest : List ℕ) (y : Held × List ℕ) : Type 0 where
   ascii : list_all (λ u. ltb u 128) part ≡ true
   goes_on : read_of (holds_scalar (text part)) rest ≡ Ok y
@@ -84,7 +84,7 @@ pub read_at : (width : ℕ) (octets : List ℕ) (read : Result (Held × List ℕ
 read_at width octets (Ok y) is reads = (y, is)
 read_at width octets (Err e) is reads = absurd (true≢false (sym reads))
 
--- data or an ASCII text that begins so is in its canonical spelling, if it reads
+-- data or an ASCII string that begins canonically and can be decoded has its canonical encoding
 pub plain-leads : (kind n : ℕ) (octets : List ℕ) → AreOctets octets → BeginsShort kind n octets → 4 ≤ kind → kind ≤ 5 → (width : ℕ) → IsOk (object_in width octets) → LeadsScalar width (head_size n + n) octets
 plain-leads kind n octets are short least most width reads =
     let small : n < 2 ^ 64 = (let few = short.few in omega arith) in
@@ -100,7 +100,7 @@ plain-leads kind n octets are short least most width reads =
     ascii_leads width n octets read.0 small are begins read.1)
     (cases_lt kind 5)
 
--- a UTF-16 text with a unit that is not ASCII
+-- a UTF-16 string with a unit that is not ASCII
 wide_leads : (width n : ℕ) (octets : List ℕ) (y : Held × List ℕ) → n < 2 ^ 64 → AreOctets octets → Begins (head 6 n) octets → HasWideUnit n octets → object_in width octets ≡ Ok y → LeadsScalar width (head_size n + 2 * n) octets
 unfolding marked_object wide_object
 wide_leads width n octets y small are begins has_wide read =
@@ -133,7 +133,7 @@ held_first : (read : Result (Held × List ℕ) ObjectFault) → (read >>= λ p. 
 held_first (Ok p) = refl
 held_first (Err e) = refl
 
--- the same of an object of a file
+-- like the lemmas above, for an object of a file
 pub spelled-at : (f : List ℕ) (i n : ℕ) (octets : List ℕ) → octets_at f i ≡ Ok octets → IsOk (object_at f i) → ((width : ℕ) → IsOk (object_in width octets) → LeadsScalar width n octets) → IsSpelledScalar f i (take n octets)
 unfolding object_at what_holds
 spelled-at f i n octets stands reads leads =

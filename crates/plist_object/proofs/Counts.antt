@@ -1,4 +1,4 @@
--- How many octets spelled numbers have.
+-- The number of bytes of encoded numbers.
 use Rattle.std.proofs.Common.{◌≡◌, ℕ, ◌+◌, ◌*◌, ◌<◌, ◌≤◌, true, false, cond, ltb, List, [], ◌∷◌, length, drop, get_or, refl, ap, ◌∙◌, arith, length-append}
 use Rattle.std.proofs.lemmas.List.{drop_more}
 use Rattle.std.specs.List.{list_all}
@@ -20,7 +20,7 @@ length-head kind n =
       | false ↦ (let digits = length-bytes_high_first (least_width n) n in omega (arith, digits))
     ]
 
--- a text with a unit above 7f
+-- a string with a unit above 7f
 pub length-wide_text : (units : List ℕ) → list_all (λ u. ltb u 128) units ≡ false → length (text_spelling units) ≡ head_size (length units) + 2 * length units
 length-wide_text units wide =
     rw (wide, length-append) (omega (arith, length-head 6 (length units), length-references 2 units))
@@ -33,11 +33,11 @@ pub length-table : (width : ℕ) (keys values : List ℕ) → length (table_spel
 length-table width keys values =
     rw (length-append, length-append) (omega (arith, length-head 13 (length keys), length-references width keys, length-references width values))
 
--- the octets of a table are those of its parts
+-- a dictionary has the bytes of its parts
 pub length-table_parts : (width : ℕ) (keys values : List ℕ) → length (table_spelling width keys values) ≡ length (head 13 (length keys)) + (length (references width keys) + length (references width values))
 length-table_parts width keys values = rw (length-append, length-append) refl
 
--- the octets of a list are those of its parts
+-- an array has the bytes of its parts
 pub length-list_parts : (width count : ℕ) (refs : List ℕ) → length refs ≡ count → length (list_spelling width refs) ≡ length (head 10 count) + length (references width refs)
 length-list_parts width count refs e =
     length-append (head 10 (length refs)) (references width refs) ∙ ap (λ n. length (head 10 n) + length (references width refs)) e
@@ -46,7 +46,7 @@ pub length-table_counted : (width count : ℕ) (keys values : List ℕ) → leng
 length-table_counted width count keys values e =
     length-table_parts width keys values ∙ ap (λ n. length (head 13 n) + (length (references width keys) + length (references width values))) e
 
--- there are the octets of one reference, where one is left
+-- the bytes of one reference remain if one reference remains
 pub references-first : (width : ℕ) (refs : List ℕ) (i : ℕ) → i < length refs → width ≤ length (references width (drop i refs))
 references-first width refs i h =
     rw (drop_more refs i 0 h, length-append) (omega (arith, length-bytes_high_first width (get_or refs i 0)))

@@ -1,4 +1,4 @@
--- What stands where in the file of some objects, whatever its widths and its top.
+-- Where the parts of the file of given objects are, for any widths and top object.
 use Rattle.std.proofs.Common.{◌≡◌, ℕ, zero, suc, ◌+◌, ◌-◌, ◌*◌, ◌^◌, ◌<◌, ◌≤◌, List, [], ◌∷◌, ◌++◌, length, take, drop, get_or, slice_index, replicate, refl, sym, ap, ◌∙◌, arith, length-append, append_assoc, lt-ltb, le-leb}
 use Rattle.std.specs.List.{concat}
 use Rattle.std.proofs.lemmas.List.{take_at, drop_at, drop-drop, get_or-drop, append-nil}
@@ -16,7 +16,7 @@ pub length-starts : (k : ℕ) (objects : List (List ℕ)) → length (starts k o
 length-starts k [] = refl
 length-starts k (o ∷ os) = ap suc (length-starts (k + length o) os)
 
--- The object i stands in the body from its start on, which is counted from k.
+-- The bytes of object i are in the body at the offset that `starts k objects` gives.
 pub record IsPiece (k : ℕ) (objects : List (List ℕ)) (i : ℕ) : Type 0 where
   pub before : ℕ
   pub behind : List ℕ
@@ -38,7 +38,7 @@ is_piece k (o ∷ os) (suc i) h =
       stands = sym (drop-drop x.before (length o) (o ++ concat os)) ∙ ap (drop x.before) (drop_at o (concat os) (length o) refl) ∙ x.stands;
     }
 
--- a number among numbers of one width is read at its place
+-- a number among numbers of one width is decoded from its offset
 pub references-read : (w : ℕ) (xs rest : List ℕ) (i : ℕ) → i < length xs → get_or xs i 0 < 256 ^ w → big_number w (drop (i * w) (references w xs ++ rest)) ≡ get_or xs i 0
 references-read w [] rest i h fits = absurd (omega arith)
 references-read w (x ∷ xs) rest zero h fits =
@@ -50,7 +50,7 @@ references-read w (x ∷ xs) rest (suc i) h fits =
     let others = references-read w xs rest i (omega arith) fits in
     rw (next, append_assoc, sym (drop-drop (i * w) w (big_bytes w x ++ (references w xs ++ rest))), past) others
 
--- what stands so many octets before the end
+-- the last `back` bytes
 pub drop-end : (front tail : List ℕ) (back : ℕ) → length tail ≡ back → drop (length (front ++ tail) - back) (front ++ tail) ≡ tail
 drop-end front tail back long =
     let at : length front ≡ length (front ++ tail) - back = rw length-append (omega arith) in
@@ -117,7 +117,7 @@ trailer_of-ended front w r n top t n_fits top_fits t_fits =
     let e = read_back t [] _ t_fits (places front zeros w r (big_bytes 8 n) (big_bytes 8 top) (big_bytes 8 t) refl refl refl refl ∙ sym (append-nil (big_bytes 8 t))) in
     same_trailer _ (trailer_for w r n top t) a b c d e
 
--- the object that a place of the offset table leads to
+-- the object at an entry of the offset table
 pub object_at-is : (f : List ℕ) (i p t r : ℕ) (octets : List ℕ) → (trailer_of f).table ≡ t → (trailer_of f).reference_width ≡ r → place_of f i ≡ p → 8 ≤ p → p < t → drop p (take t f) ≡ octets → object_at f i ≡ object_in r octets
 unfolding object_at octets_at
 object_at-is f i p t r octets at_table at_width at_place behind before stands =
@@ -137,8 +137,8 @@ length-file_with w r top objects =
     let parts = ap (λ n. w * n) count in
     simp length-append (omega (arith, entries, parts))
 
--- The numbers of a file are in their ranges: widths from 1 to 8 octets, a top that is one of the
--- objects, objects of an octet or more, offsets that their width holds.
+-- The numbers of a file are in range: widths from 1 to 8 bytes, a top that is one of the objects,
+-- objects of at least one byte, offsets that fit their width.
 pub record CanStand (w r top : ℕ) (objects : List (List ℕ)) : Type 0 where
   pub offset_width_least : 1 ≤ w
   pub offset_width_most : w ≤ 8
@@ -206,7 +206,7 @@ module _ (w r top : ℕ) (objects : List (List ℕ)) (can : CanStand w r top obj
       let read = references-read w (starts 8 objects) tail i (omega arith) (can.starts_fit i h) in
       fields ∙ ap (big_number w) (sym (drop-drop (i * w) t f) ∙ ap (drop (i * w)) behind) ∙ read
 
-  -- an object is read from its octets, whatever stands behind them
+  -- an object is decoded from its bytes, whatever follows them
   pub object_at-file : (i : ℕ) → i < length objects → (behind : List ℕ) × (object_at (file_with w r top objects) i ≡ object_in r (get_or objects i [] ++ behind))
   object_at-file i h =
       let t = 8 + length (concat objects) in

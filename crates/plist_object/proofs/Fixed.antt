@@ -1,4 +1,4 @@
--- Scalars whose marker tells how long they are, and of which no other spelling is theirs.
+-- Scalars whose marker determines their size and shows that their encoding is canonical.
 use Rattle.std.proofs.Common.{◌≡◌, ℕ, suc, ◌%◌, ◌<◌, ◌≤◌, true, false, pos, List, [], ◌∷◌, ◌++◌, length, take, drop, Ok, refl, sym, ap, ◌∙◌, arith, length-append, lt-ltb}
 use Rattle.std.specs.Prelude.{IsOk}
 use Rattle.std.proofs.lemmas.List.{take_at, take-append-drop, length-take-le}
@@ -14,7 +14,7 @@ use Rattle.plist_object.proofs.Copies.{read_at}
 use Rattle.plist_object.proofs.ReadScalars.{object_in-scalar}
 use Rattle.plist_object.proofs.SameOctets.{AreOctets-take, AreOctets-drop}
 
--- the spelling of a scalar and others behind it
+-- the encoding of a scalar with other bytes after it
 pub leads : (width n : ℕ) (s : Scalar) (octets tail : List ℕ) → IsScalar s → IsSmall s → octets ≡ scalar_spelling s ++ tail → length (scalar_spelling s) ≡ n → LeadsScalar width n octets
 leads width n s octets tail valid small parts size = record {
   scalar = s;
@@ -23,14 +23,14 @@ leads width n s octets tail valid small parts size = record {
   spelled = ap (take n) parts ∙ take_at (scalar_spelling s) tail n size;
 }
 
--- the octets that a scalar of so many shows
+-- the first n bytes are the content of a scalar of n bytes
 part_of : (n : ℕ) (tail : List ℕ) → AreOctets tail → n ≤ length tail → IsOctetsOf n (take n tail)
 part_of n tail are enough = record { long = length-take-le n tail enough; octets = AreOctets-take n tail are }
 
 parted : (marker n : ℕ) (octets tail : List ℕ) → octets ≡ marker ∷ tail → octets ≡ (marker ∷ take n tail) ++ drop n tail
 parted marker n octets tail parts = parts ∙ ap (λ (xs : List ℕ). marker ∷ xs) (sym (take-append-drop n tail))
 
--- a whole number in one octet
+-- an integer of one byte
 one_leads : (width d : ℕ) (octets rest : List ℕ) → d < 256 → octets ≡ 16 ∷ d ∷ rest → LeadsScalar width 2 octets
 one_leads width d octets rest small parts =
     let low : d % 256 ≡ d = omega arith in
@@ -43,7 +43,7 @@ unfolding marked_object whole_object
 whole_leads width octets [] y are parts read = absurd cc
 whole_leads width octets (d ∷ rest) y are parts read = one_leads width d octets rest (are 0) parts
 
--- a marker and so many octets behind it
+-- a marker with n bytes after it
 shown_leads : (width marker n : ℕ) (shows : List ℕ → Scalar) (octets tail : List ℕ) (y : Held × List ℕ) → AreOctets tail → octets ≡ marker ∷ tail → ((xs : List ℕ) → IsOctetsOf n xs → IsScalar (shows xs)) → ((xs : List ℕ) → IsSmall (shows xs)) → ((xs : List ℕ) → scalar_spelling (shows xs) ≡ marker ∷ xs) → (cut n tail >>= λ parts. read_of (holds_scalar (shows parts.0)) parts.1) ≡ Ok y → LeadsScalar width (suc n) octets
 shown_leads width marker n shows octets tail y are parts valid small spelled reads =
     let w = was_cut n tail (λ parts. read_of (holds_scalar (shows parts.0)) parts.1) y reads in
@@ -61,7 +61,7 @@ marked_leads width marker n octets tail y short are parts read = shown_leads wid
 marked_leads width marker n octets tail y long are parts read = shown_leads width 35 8 real8 octets tail y are parts (λ xs is. is) (λ xs. tt) (λ xs. refl) read
 marked_leads width marker n octets tail y date are parts read = shown_leads width 51 8 moment octets tail y are parts (λ xs is. is) (λ xs. tt) (λ xs. refl) read
 
--- what begins with such a marker is a scalar in its canonical spelling, if it reads
+-- an object with such a marker is a scalar in its canonical encoding, if it can be decoded
 pub fixed-leads : (n : ℕ) (octets : List ℕ) → AreOctets octets → BeginsFixed n octets → (width : ℕ) → IsOk (object_in width octets) → LeadsScalar width n octets
 fixed-leads n octets are begins width reads =
     let tail = drop 1 octets in

@@ -1,4 +1,4 @@
--- What an object of octets holds has its numbers in their ranges.
+-- The content of an object has its numbers in their ranges.
 use Rattle.std.proofs.Common.{◌≡◌, ◌≢◌, ℕ, suc, ◌+◌, ◌-◌, ◌*◌, ◌/◌, ◌%◌, ◌^◌, ◌<◌, ◌≤◌, eqb, ltb, cond, Bool, pos, negsuc, List, [], ◌∷◌, length, take, drop, Result, Ok, Err, IfOk, nat_le, nat_lt, ◌&&◌, refl, sym, subst, ◌∙◌, arith, length-take-le}
 use Rattle.std.specs.Int.{w64, cast_signed}
 use Rattle.std.specs.List.{list_all}
@@ -16,12 +16,12 @@ use Rattle.plist_object.specs.Places.{Holds, place_of, octets_at, object_at, wha
 use Rattle.plist_object.proofs.Listed.{length-numbers}
 use Rattle.plist_object.proofs.SameOctets.{AreOctets-take, AreOctets-drop}
 
--- what is so of each result of the first step is handed to the next
+-- what holds of the result of the first step is passed to the next
 IfOk-then : {A B : Type 0} (m : Result A ObjectFault) (next : A → Result B ObjectFault) (P : A → Type 0) (Q : B → Type 0) → IfOk m P → ((a : A) → P a → IfOk (next a) Q) → IfOk (m >>= next) Q
 IfOk-then (Ok a) next P Q h each = each a h
 IfOk-then (Err e) next P Q h each = tt
 
--- octets are cut in two
+-- bytes cut in two
 record IsCut (n : ℕ) (parts : List ℕ × List ℕ) : Type 0 where
   long : length parts.0 ≡ n
   front : AreOctets parts.0
@@ -32,7 +32,7 @@ cut-octets n octets h =
     cond_both (ltb (length octets) n) _ _ (λ r. IfOk r (IsCut n)) (λ _. tt)
     (λ e. let enough = ltb-false (length octets) n e in record { long = length-take-le n octets enough; front = AreOctets-take n octets h; back = AreOctets-drop n octets h })
 
--- the octets of an integer are sixteen, or at most eight
+-- an integer has sixteen bytes, or at most eight
 integer_length-small : (marker : ℕ) → IfOk (integer_length marker) (λ n. n ≢ 16 → n ≤ 8)
 integer_length-small marker =
     cond_both (eqb marker 16) _ _ (λ r. IfOk r (λ n. n ≢ 16 → n ≤ 8)) (λ _ _. omega arith)
@@ -41,7 +41,7 @@ integer_length-small marker =
     (λ _. cond_both (eqb marker 19) _ _ (λ r. IfOk r (λ n. n ≢ 16 → n ≤ 8)) (λ _ _. omega arith)
     (λ _. cond_both (eqb marker 20) _ _ (λ r. IfOk r (λ n. n ≢ 16 → n ≤ 8)) (λ _ apart. absurd (apart refl)) (λ _. tt)))))
 
--- octets stand behind the count
+-- what follows the count consists of bytes
 abbrev CountsOctets : Result (ℕ × List ℕ) ObjectFault → Type 0
 CountsOctets r = IfOk r (λ c. AreOctets c.1)
 
@@ -53,7 +53,7 @@ count-octets low (marker ∷ octets) h =
     (λ _. IfOk-then (integer_length marker) _ (λ n. n ≢ 16 → n ≤ 8) _ (integer_length-small marker)
     (λ n small. IfOk-then (cut n octets) _ (IsCut n) _ (cut-octets n octets (λ i. h (suc i))) (λ parts is. is.back)))
 
--- the content consists of octets
+-- the content consists of bytes
 abbrev HasContent : Result (ℕ × List ℕ × List ℕ) ObjectFault → Type 0
 HasContent r = IfOk r (λ c. AreOctets c.1)
 
@@ -86,7 +86,7 @@ whole_in-range n octets small h =
     (λ _. whole-signed _ (number-small 8 octets (omega arith) h))
     (λ _. whole-unsigned _ (number-small n octets (small (eqb-false n 16 e)) h)))
 
--- what is read is in its ranges
+-- the decoded content is in its ranges
 abbrev ReadsHeld : Result (Held × List ℕ) ObjectFault → Type 0
 ReadsHeld r = IfOk r (λ read. IsHeld read.0)
 
@@ -103,7 +103,7 @@ module _ (octets : List ℕ) (h : AreOctets octets) where
       (λ n small. IfOk-then (cut n octets) _ (IsCut n) _ (cut-octets n octets h)
       (λ parts is. IfOk-then (whole_in n parts.0) _ IsWhole _ (whole_in-range n parts.0 small is.front) (λ z whole. whole)))
 
-  -- so many octets are what a scalar of that length holds
+  -- n bytes are the content of a scalar of n bytes
   exact : (n : ℕ) (kind : List ℕ → Scalar) → ((xs : List ℕ) → IsOctetsOf n xs → IsScalar (kind xs)) → ReadsHeld (cut n octets >>= λ parts. Ok (holds_scalar (kind parts.0), parts.1))
   exact n kind valid =
       IfOk-then (cut n octets) _ (IsCut n) _ (cut-octets n octets h) (λ parts is. valid parts.0 (record { long = is.long; octets = is.front }))
@@ -185,6 +185,6 @@ what_holds-held : (f : List ℕ) (i : ℕ) → AreOctets f → IfOk (what_holds 
 unfolding what_holds
 what_holds-held f i h = IfOk-then (object_at f i) _ (λ read. IsHeld read.0) _ (object_at-held f i h) (λ read is. is)
 
--- what an object of octets holds is in its ranges
+-- the content of an object is in its ranges
 pub Holds-held : (f : List ℕ) (i : ℕ) (held : Held) → AreOctets f → Holds f i held → IsHeld held
 Holds-held f i held h holds = subst (λ r. IfOk r IsHeld) holds.reads (what_holds-held f i h)

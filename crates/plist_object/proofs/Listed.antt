@@ -1,4 +1,4 @@
--- Numbers of one width that stand one after another.
+-- Contiguous numbers of one width.
 use Rattle.std.proofs.Common.{◌≡◌, ℕ, zero, suc, ◌+◌, ◌-◌, ◌*◌, ◌<◌, ◌≤◌, List, length, take, drop, slice_index, refl, ap, subst, ◌∙◌, arith}
 use Rattle.std.proofs.Math.Nat.{mul-le-mul_right}
 use Rattle.std.proofs.lemmas.List.{drop-drop, drop-take}
@@ -10,7 +10,7 @@ pub length-numbers : (width n : ℕ) (xs : List ℕ) → length (numbers width n
 length-numbers width zero xs = refl
 length-numbers width (suc n) xs = ap suc (length-numbers width n (drop width xs))
 
--- the number at a place stands behind those before it
+-- number i is after the i numbers before it
 pub numbers-at : (width n i : ℕ) (xs : List ℕ) → i < n → slice_index (numbers width n xs) i ≡ big_number width (drop (i * width) xs)
 numbers-at width zero i xs h = absurd (omega arith)
 numbers-at width (suc n) zero xs h = let none : 0 * width ≡ 0 = omega arith in rw none refl
@@ -18,14 +18,14 @@ numbers-at width (suc n) (suc i) xs h =
     let behind : width + i * width ≡ suc i * width = omega arith in
     numbers-at width n i (drop width xs) (omega arith) ∙ ap (big_number width) (drop-drop (i * width) width xs ∙ ap (λ (k : ℕ). drop k xs) behind)
 
--- the octets of a number among n are there
+-- the bytes of number i are within those of n numbers
 pub number_within : (width n i : ℕ) → i < n → i * width + width ≤ n * width
 number_within width n i h =
     let below = mul-le-mul_right width h in
     let next : suc i * width ≡ i * width + width = omega arith in
     omega arith
 
--- the numbers stand in the first octets
+-- further bytes do not change the first numbers
 pub numbers-take : (width n m : ℕ) (xs : List ℕ) → n * width ≤ m → numbers width n (take m xs) ≡ numbers width n xs
 numbers-take width zero m xs h = refl
 numbers-take width (suc n) m xs h =

@@ -1,4 +1,4 @@
--- Rows of a table in the order of their texts, whatever else stands in a row.
+-- Rows of a dictionary in the order of their keys, whatever else a row contains.
 use Rattle.std.proofs.Common.{◌≡◌, ℕ, ◌<◌, List, [], ◌∷◌, Ok, length, map, slice_index, refl, ap, sym, subst}
 use Rattle.std.specs.Prelude.{All}
 use Rattle.std.specs.Ordering.{nat_cmp}
@@ -23,7 +23,7 @@ module _ {X : Type 0} (place_of : X → ℕ) (units_at : X → List ℕ) (f keys
   held_rows [] held = refl
   held_rows (x ∷ xs) held = let one = held.0 in let others = held_rows xs held.1 in cc
 
-  -- the places of rows that ascend
+  -- the places of ascending rows are an order of the keys
   pub IsOrder-rows : (xs : List X) → All (λ x. place_of x < length keys) xs → ((values : List ℕ) → length keys ≡ length values → IsPermutation (zip keys values) (map (λ x. pair_of keys values (place_of x)) xs)) → All HoldsRow xs → IsStrictlySortedBy (slice_cmp nat_cmp) (map units_at xs) → IsOrder f keys (map place_of xs)
   IsOrder-rows xs within moved held ascend = record {
     texts = map units_at xs;

@@ -1,4 +1,4 @@
--- The ranks of texts.
+-- The sort positions of strings.
 use Rattle.std.proofs.Common.{◌≡◌, ℕ, zero, suc, ◌+◌, ◌-◌, add-one, ◌<◌, List, [], ◌∷◌, ◌++◌, length, get_or, sym, ap, subst, ◌∙◌, arith, inl, inr, refl, Some, None}
 use Rattle.std.specs.Prelude.{Option, slice_set, map, All, replicate, take, ◌==◌, Bool, true, false}
 use Rattle.std.specs.declared.cmp.Ordering.{Ordering}
@@ -22,7 +22,7 @@ use Rattle.plist_object.specs.Ranks.{HoldsUnits, HoldsKey, AreRanks, in_order, r
 pub irreflexive : (units : List ℕ) → slice_cmp nat_cmp units units ≡ Less → ⊥
 irreflexive units below = absurd (let tied = tied_itself nat_list_cmp_total units in let e : Less ≡ Equal = sym below ∙ tied in cc)
 
--- of texts that ascend the lower has the lower rank
+-- of ascending strings the lower has the lower position
 pub below_from_ranks : (texts : List (List ℕ)) (first second : ℕ) → IsStrictlySortedBy (slice_cmp nat_cmp) texts → second < length texts → first < second → slice_cmp nat_cmp (get_or texts first []) (get_or texts second []) ≡ Less
 below_from_ranks texts first second ascending within below =
     Less-from_sorted (slice_cmp nat_cmp) texts first second [] ascending below within
@@ -44,7 +44,7 @@ ranks_from_below texts first second ascending within less =
       ]
     ]
 
--- an object with a rank holds the text of the rank
+-- an object with a sort position contains the string at that position
 pub ranked_holds : (f : List ℕ) (ranks : Ranks) (i rank : ℕ) (t : TextRef) → AreRanks f ranks → rank_of ranks i ≡ Some rank → text_of_rank ranks rank ≡ Some t → HoldsUnits f i (units_of t)
 ranked_holds f ranks i rank t sound is found =
     let items = ranks.texts.items in
@@ -52,7 +52,7 @@ ranked_holds f ranks i rank t sound is found =
     let at : get_or (texts_of ranks) rank [] ≡ units_of t = get_or-map units_of items rank t [] within ∙ ap units_of (get_or_from_slice_get items rank t t found) in
     subst (λ (units : List ℕ). HoldsUnits f i units) at (sound.held i rank is)
 
--- the ranks of the texts so far, of which the last has the greatest
+-- the sort positions of the strings so far, of which the last has the greatest
 pub record RankedTo (f : List ℕ) (numbers : List (Option ℕ)) (texts : List (List ℕ)) (rank : ℕ) (last : List ℕ) : Type 0 where
   pub ascending : IsStrictlySortedBy (slice_cmp nat_cmp) texts
   pub long : length texts ≡ rank + 1
@@ -76,7 +76,7 @@ sorted_push texts next rank sorted long below =
           rw (here, there) (subst (λ (n : ℕ). slice_cmp nat_cmp (get_or texts n []) next ≡ Less) is below))
     ])
 
--- one number more was given, and the others are as they were
+-- one more number is set, and the others are unchanged
 numbered : (P : ℕ → ℕ → Type 0) (numbers : List (Option ℕ)) (object rank i r : ℕ) → object < length numbers → (get_or numbers i None ≡ Some r → P i r) → P object rank → get_or (slice_set numbers object (Some rank)) i None ≡ Some r → P i r
 numbered P numbers object rank i r within old new is =
     elim (cases_eq i object) [
@@ -122,7 +122,7 @@ first_order Less p order = order
 first_order Equal p order = refl
 first_order Greater p order = refl
 
--- texts in order of which the first is not below the second are equal
+-- sorted strings are equal if the first is not below the second
 pub equal_texts : (last next : List ℕ) (rest : Ordering) → is_lt (ordering_then (slice_cmp nat_cmp next last) rest) ≡ false → (slice_cmp nat_cmp last next ≡ Less → ⊥) → last ≡ next
 equal_texts last next rest order apart =
     exact_bytes last next (not_above (slice_cmp nat_cmp last next) (slice_cmp nat_cmp next last) (nat_list_cmp_total.antisymm last next) (first_order (slice_cmp nat_cmp next last) rest order) apart)
@@ -132,7 +132,7 @@ less_from_lt Less is = refl
 less_from_lt Equal is = absurd (true≢false (sym is))
 less_from_lt Greater is = absurd (true≢false (sym is))
 
--- the key at i is not below the text before it
+-- the key at i is not below the string before it
 pub not_below : (keys : List Key) (i : ℕ) (before : TextRef) (d : Key) → IsSorted in_order keys → i < length keys → ((e : Key) → before ≡ (get_or keys (i - 1) e).text) → (slice_cmp nat_cmp (units_of before) (units_of (get_or keys i d).text) ≡ Less → ⊥) → units_of before ≡ units_of (get_or keys i d).text
 not_below keys zero before d sorted within at apart = ap units_of (at d)
 not_below keys (suc i) before d sorted within at apart =
@@ -145,7 +145,7 @@ not_below keys (suc i) before d sorted within at apart =
     let other : slice_cmp nat_cmp (units_of last.text) (units_of next.text) ≡ Less → ⊥ = subst (λ (t : TextRef). slice_cmp nat_cmp (units_of t) (units_of next.text) ≡ Less → ⊥) is apart in
     ap units_of is ∙ equal_texts (units_of last.text) (units_of next.text) (nat_cmp next.object last.object) here other
 
--- the object of a key has a place among the numbers
+-- the object of a key has an entry among the numbers
 pub object_within : (f : List ℕ) (numbers : List (Option ℕ)) (long : ℕ) (keys : List Key) (i : ℕ) (key : Key) → key ≡ get_or keys i key → long ≡ length numbers → length numbers ≡ (trailer_of f).count → All (HoldsKey f) keys → i < length keys → key.object < long
 object_within f numbers long keys i key same all counted held within =
     let holds = subst (HoldsKey f) (sym same) (held i key within) in
@@ -180,7 +180,7 @@ at_last keys i key e same within =
 abbrev pub no_rank : Option ℕ
 no_rank = None
 
--- no object has a rank yet
+-- no object has a sort position yet
 none_made : (n i : ℕ) → get_or (replicate n no_rank) i no_rank ≡ no_rank
 none_made n i =
     elim (cases_lt i n) [
@@ -217,7 +217,7 @@ ranked_first f numbers before texts first pushed empty none =
     let is : texts ≡ first ∷ [] = pushed ∙ ap (λ (ts : List TextRef). ts ++ first ∷ []) empty in
     subst (λ (ts : List TextRef). RankedTo f numbers (map units_of ts) 0 (units_of first)) (sym is) (ranked_one f numbers (units_of first) none)
 
--- there is no rank at all
+-- there are no sort positions at all
 pub no_ranks : (f : List ℕ) (ranks : Ranks) → ranks.of_objects.items ≡ [] → ranks.texts.items ≡ [] → AreRanks f ranks
 unfolding IsStrictlySortedBy
 no_ranks f ranks none no_texts = record {

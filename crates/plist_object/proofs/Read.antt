@@ -1,4 +1,4 @@
--- What objects with content hold, once their content was cut off.
+-- The content of objects, once its bytes are cut off.
 use Rattle.std.proofs.Common.{◌≡◌, ℕ, ◌*◌, ◌<◌, ltb, lt-ltb, true, List, [], ◌∷◌, take, drop, Ok, refl, arith}
 use Rattle.std.specs.List.{All, AllByRecursion, list_all}
 use Rattle.std.proofs.lemmas.List.Elements.{recursion_from_All}

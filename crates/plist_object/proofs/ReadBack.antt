@@ -1,4 +1,4 @@
--- What was spelled is read back, whatever follows it.
+-- Decoding inverts encoding, whatever follows the encoded bytes.
 use Rattle.std.proofs.Common.{◌≡◌, ℕ, ◌+◌, ◌*◌, ◌/◌, ◌%◌, ◌^◌, ◌<◌, ◌≤◌, false, ltb, List, [], ◌∷◌, ◌++◌, length, Ok, refl, sym, ap, ◌∙◌, arith, length-append, ⊎_elim, lt-ltb, le-ltb}
 use Rattle.std.proofs.lemmas.List.{take_at, drop_at, append-nil}
 use Rattle.std.proofs.lemmas.Bool.{cases_lt}
@@ -8,7 +8,7 @@ use Rattle.byteorder.specs.Numbers.{big_number-reads_back, length-bytes_high_fir
 use Rattle.plist_object.specs.Objects.{cut, integer_length, count_spelled, count_of_content, content, object_in, marked_object}
 use Rattle.plist_object.specs.Spelling.{least_width, integer_marker, least_integer, head}
 
--- so many octets are cut off from what follows them
+-- n bytes are cut off from those that follow
 pub cut-append : (n : ℕ) (xs rest : List ℕ) → length xs ≡ n → cut n (xs ++ rest) ≡ Ok (xs, rest)
 cut-append n xs rest long =
     let enough : ltb (length (xs ++ rest)) n ≡ false = rw length-append (grind (arith, nat_tests)) in
@@ -18,13 +18,13 @@ pub big_number-big_bytes : (w n : ℕ) → n < 256 ^ w → big_number w (big_byt
 big_number-big_bytes w n h =
     ap (big_number w) (sym (append-nil (big_bytes w n))) ∙ big_number-reads_back w n [] h
 
--- an integer behind its marker
+-- an integer after its marker
 pub count_spelled-integer : (marker w n : ℕ) (rest : List ℕ) → integer_length marker ≡ Ok w → n < 256 ^ w → count_spelled (marker ∷ (big_bytes w n ++ rest)) ≡ Ok (n, rest)
 unfolding count_spelled
 count_spelled-integer marker w n rest marked fits =
     rw (marked, cut-append w (big_bytes w n) rest (length-bytes_high_first w n), big_number-big_bytes w n fits) refl
 
--- the least width holds the number, and has its marker
+-- a number fits its least width, which has the number's marker
 pub record IsLeast (n : ℕ) : Type 0 where
   pub marked : integer_length (integer_marker n) ≡ Ok (least_width n)
   pub fits : n < 256 ^ least_width n
@@ -44,13 +44,13 @@ is_least n h =
     (cases_lt n 65536))
     (cases_lt n 256)
 
--- a least integer is read as a count
+-- a least integer is decoded as a count
 pub count_spelled-least_integer : (n : ℕ) (rest : List ℕ) → n < 18446744073709551616 → count_spelled (least_integer n ++ rest) ≡ Ok (n, rest)
 count_spelled-least_integer n rest h =
     let least = is_least n h in
     count_spelled-integer (integer_marker n) (least_width n) n rest least.marked least.fits
 
--- A head is a marker, with the kind in its high half, and octets in which the count is read.
+-- A marker with its kind in the high half, and bytes from which the count is decoded.
 pub record IsHead (kind n : ℕ) (octets rest : List ℕ) : Type 0 where
   pub low : ℕ
   pub behind : List ℕ
@@ -85,13 +85,13 @@ object_in-marked width kind low octets h =
     let half : (16 * kind + low) % 16 ≡ low = omega arith in
     rw (high, half) refl
 
--- an object with a head is read by its kind and count
+-- an object with a count is decoded by its kind and count
 pub object_in-head : (width kind n : ℕ) (rest : List ℕ) (h : n < 18446744073709551616) → object_in width (head kind n ++ rest) ≡ marked_object width kind (is_head kind n rest h).low (is_head kind n rest h).behind
 object_in-head width kind n rest h =
     let x = is_head kind n rest h in
     ap (object_in width) x.is ∙ object_in-marked width kind x.low x.behind x.half
 
--- the content behind a count
+-- the content after a count
 pub content-counted : (unit low n : ℕ) (behind xs rest : List ℕ) → count_of_content low behind ≡ Ok (n, xs ++ rest) → length xs ≡ n * unit → content unit low behind ≡ Ok (n, xs, rest)
 unfolding content
 content-counted unit low n behind xs rest counts long =

@@ -1,4 +1,4 @@
--- A spelled list or table is read back, whatever follows it.
+-- Decoding inverts the encoding of arrays and dictionaries, whatever follows.
 use Rattle.std.proofs.Common.{◌≡◌, ℕ, suc, ◌*◌, ◌^◌, ◌<◌, List, [], ◌∷◌, ◌++◌, length, drop, Ok, refl, sym, ap, ◌∙◌, arith, length-append, append_assoc}
 use Rattle.std.proofs.lemmas.List.{drop_at, append-nil}
 use Rattle.std.specs.List.{AllByRecursion}
@@ -9,11 +9,11 @@ use Rattle.plist_object.specs.Spelling.{references, list_spelling, table_spellin
 use Rattle.plist_object.proofs.Counts.{length-references}
 use Rattle.plist_object.proofs.ReadBack.{is_head, object_in-head, content-counted}
 
--- each number fits so many octets
+-- each number fits `width` bytes
 abbrev pub AllFit : ℕ → List ℕ → Type 0
 AllFit width refs = AllByRecursion (λ r. r < 256 ^ width) refs
 
--- spelled references are read back, whatever follows them
+-- encoded references are decoded, whatever follows them
 pub numbers-references : (width : ℕ) (refs rest : List ℕ) → AllFit width refs → numbers width (length refs) (references width refs ++ rest) ≡ refs
 numbers-references width [] rest fit = refl
 numbers-references width (r ∷ refs) rest fit =

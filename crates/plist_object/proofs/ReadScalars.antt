@@ -1,4 +1,4 @@
--- A spelled scalar is read back, whatever follows it.
+-- Decoding inverts the encoding of scalars, whatever follows.
 use Rattle.std.proofs.Common.{◌≡◌, ℕ, suc, ◌+◌, ◌-◌, ◌*◌, ◌/◌, ◌%◌, ◌^◌, ◌<◌, ◌≤◌, Bool, true, false, cond, ltb, eqb, ℤ, pos, negsuc, List, [], ◌∷◌, ◌++◌, length, replicate, Result, Ok, refl, ap, ◌∙◌, arith, append_assoc, ⊎_elim, lt-ltb, le-ltb}
 use Rattle.std.specs.List.{list_all}
 use Rattle.std.specs.Int.{w64, cast_signed}
@@ -61,7 +61,7 @@ unfolding marked_object whole_object
 object_in-digits width w low digits z rest half long exact reads =
     rw (object_in-marked width 1 low (digits ++ rest) half, long, cut-append w digits rest exact, reads) refl
 
--- eight octets, as two's complement
+-- eight bytes, as two's complement
 whole_in-signed : (n : ℕ) (z : ℤ) → n < 18446744073709551616 → cast_signed w64 n ≡ z → whole_in 8 (big_bytes 8 n) ≡ Ok z
 whole_in-signed n z h signed =
     let read : big_number 8 (big_bytes 8 n) ≡ n = big_number-big_bytes 8 n h in
@@ -86,7 +86,7 @@ object_in-least width n rest h =
     (cases_lt n 65536))
     (cases_lt n 256)
 
--- sixteen octets, of which eight are zero
+-- sixteen bytes, of which eight are zero
 whole_in-long : (n : ℕ) → n < 18446744073709551616 → whole_in 16 (replicate 8 0 ++ big_bytes 8 n) ≡ Ok (pos n)
 whole_in-long n h =
     let number : ℕ → Result ℤ ObjectFault = λ m. Ok (pos m) in
@@ -111,7 +111,7 @@ object_in-whole width (negsuc n) rest h =
     let signed : cast_signed w64 (18446744073709551615 - n) ≡ negsuc n = rw high (ap negsuc back) in
     object_in-digits width 8 3 (big_bytes 8 (18446744073709551615 - n)) (negsuc n) rest (omega arith) refl refl (whole_in-signed (18446744073709551615 - n) (negsuc n) unsigned signed)
 
--- a spelled scalar is read back, whatever follows it
+-- an encoded scalar is decoded, whatever follows it
 pub object_in-scalar : (width : ℕ) (s : Scalar) (rest : List ℕ) → IsScalar s → IsSmall s → object_in width (scalar_spelling s ++ rest) ≡ Ok (holds_scalar s, rest)
 unfolding marked_object simple_object real_object moment_object
 object_in-scalar width (text us) rest valid small = object_in-text width us rest small valid

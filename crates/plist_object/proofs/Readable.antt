@@ -1,4 +1,4 @@
--- An object that holds something reads, and one that reads holds something.
+-- An object with content can be decoded, and that is what is decoded.
 use Rattle.std.proofs.Common.{◌≡◌, ℕ, List, Result, Ok, Err, refl}
 use Rattle.std.specs.Prelude.{IsOk}
 use Rattle.plist_object.specs.declared.object.ObjectFault.{ObjectFault}

@@ -1,4 +1,4 @@
--- Octets are those of the number that they spell.
+-- Bytes are determined by the number that they encode.
 use Rattle.std.proofs.Common.{◌≡◌, ℕ, zero, suc, ◌+◌, ◌*◌, ◌/◌, ◌%◌, ◌^◌, ◌<◌, ◌≤◌, List, [], ◌∷◌, length, take, drop, refl, sym, ap, ◌∙◌, arith, length-drop}
 use Rattle.std.proofs.Math.Arith.{digits_div, digits_mod}
 use Rattle.std.proofs.Math.Nat.{mod-lt}
@@ -12,7 +12,7 @@ use Rattle.plist_object.specs.Objects.{numbers}
 use Rattle.plist_object.specs.Spelling.{references}
 use Rattle.plist_object.proofs.ReadBack.{big_number-big_bytes}
 
--- as many octets that spell one number are the same
+-- equally many bytes that encode the same number are equal
 same_octets : (w : ℕ) (xs ys : List ℕ) → length xs ≡ w → length ys ≡ w → AreOctets xs → AreOctets ys → big_number w xs ≡ big_number w ys → xs ≡ ys
 same_octets zero [] [] long_xs long_ys octets_xs octets_ys same = refl
 same_octets zero [] (y ∷ ys) long_xs long_ys octets_xs octets_ys same = absurd (omega arith)
@@ -45,14 +45,14 @@ AreOctets-take (suc n) (x ∷ xs) octets (suc i) = AreOctets-take n xs (λ j. oc
 pub AreOctets-drop : (n : ℕ) (xs : List ℕ) → AreOctets xs → AreOctets (drop n xs)
 AreOctets-drop n xs octets i = rw (get_or-drop n xs i 0) (octets (n + i))
 
--- the octets of the number that the first octets spell are those octets
+-- encoding the number that the first bytes encode gives those bytes
 pub big_bytes-big_number : (w : ℕ) (xs : List ℕ) → AreOctets xs → w ≤ length xs → big_bytes w (big_number w xs) ≡ take w xs
 big_bytes-big_number w xs octets long =
     let first : big_number w (take w xs) ≡ big_number w xs = big_from-take 0 w w xs (omega arith) in
     let back : big_number w (big_bytes w (big_number w xs)) ≡ big_number w xs = big_number-big_bytes w (big_number w xs) (big_from-lt 0 w xs octets) in
     same_octets w (big_bytes w (big_number w xs)) (take w xs) (length-bytes_high_first w (big_number w xs)) (length-take-le w xs long) (AreOctets-big_bytes w (big_number w xs)) (AreOctets-take w xs octets) (back ∙ sym first)
 
--- so it is for numbers one after another
+-- encoding decoded numbers gives their bytes
 pub references-numbers : (w n : ℕ) (xs : List ℕ) → AreOctets xs → n * w ≤ length xs → references w (numbers w n xs) ≡ take (n * w) xs
 references-numbers w zero xs octets long = let none : 0 * w ≡ 0 = omega arith in rw none refl
 references-numbers w (suc n) xs octets long =
@@ -61,7 +61,7 @@ references-numbers w (suc n) xs octets long =
     let others = references-numbers w n (drop w xs) (AreOctets-drop w xs octets) (omega (arith, length-drop w xs)) in
     rw (first, others, all) (sym (take-add w (n * w) xs))
 
--- and for the units in pairs of octets
+-- encoding decoded units gives their bytes
 pub references-wide_units : (n : ℕ) (xs : List ℕ) → AreOctets xs → length xs ≡ n * 2 → references 2 (wide_units xs) ≡ xs
 references-wide_units n [] octets long = refl
 references-wide_units n (x ∷ []) octets long = absurd (omega arith)

@@ -1,4 +1,4 @@
--- An object spells one value at most.
+-- An object encodes at most one value.
 use Rattle.std.proofs.Common.{◌≡◌, ℕ, List, [], ◌∷◌, Ok, Err, Result, refl, sym, ap, subst}
 use Rattle.std.specs.declared.cmp.Ordering.{Ordering}
 use Rattle.std.specs.declared.cmp.Ordering.TheVariants.{Less}
@@ -17,7 +17,7 @@ use Rattle.plist_object.specs.Spelled.{Spells, SpellItems, SpellPairs}
 use Rattle.plist_object.proofs.Ascending.{same_order}
 use Rattle.plist_value.proofs.Keys.{below_next}
 
--- an object holds one thing
+-- an object has one content
 pub same_held : (f : List ℕ) (i : ℕ) (a b : Held) → Holds f i a → Holds f i b → a ≡ b
 same_held f i a b holds_a holds_b = cc (holds_a.reads, holds_b.reads)
 
@@ -29,7 +29,6 @@ pub key_of-held : (f : List ℕ) (row : ℕ × ℕ) (key : List ℕ) → Holds f
 unfolding key_of what_holds
 key_of-held f row key holds = rw holds.reads refl
 
--- by their keys
 unfoldable pub by_key : List ℕ → (ℕ × ℕ) → (ℕ × ℕ) → Ordering
 by_key f = on (key_of f) (slice_cmp nat_cmp)
 
@@ -47,7 +46,7 @@ rows_above f key (row ∷ rows) (pair next v ps) spells valid below = (
   rows_above f key rows ps spells.2 valid.3 (below_next key next ps below valid.2),
 )
 
--- rows that spell the pairs of a table ascend
+-- rows that encode the pairs of a dictionary ascend
 pub rows_ascend : (f : List ℕ) (rows : List (ℕ × ℕ)) (ps : Pairs) → SpellPairs f rows ps → ArePairs ps → IsStrictlySortedBy (by_key f) rows
 unfolding IsStrictlySortedBy by_key
 rows_ascend f [] ps spells valid = tt
@@ -57,12 +56,12 @@ rows_ascend f (row ∷ rows) (pair key v ps) spells valid = (
   rows_ascend f rows ps spells.2 valid.3,
 )
 
--- two orders of a table's rows in which they spell the pairs of tables are one
+-- two orders of a dictionary's rows that encode pairs of dictionaries are equal
 pub same_rows : (f : List ℕ) (held rows others : List (ℕ × ℕ)) (ps qs : Pairs) → IsPermutation held rows → IsPermutation held others → SpellPairs f rows ps → SpellPairs f others qs → ArePairs ps → ArePairs qs → rows ≡ others
 same_rows f held rows others ps qs to_rows to_others spells_ps spells_qs valid_ps valid_qs =
     same_order (by_key_total f) held rows others to_rows to_others (rows_ascend f rows ps spells_ps valid_ps) (rows_ascend f others qs spells_qs valid_qs)
 
--- an object spells one value at most
+-- an object encodes at most one value
 mutual
   pub same_value : (f : List ℕ) (i : ℕ) (v w : Plist) → IsPlist v → IsPlist w → Spells f i v → Spells f i w → v ≡ w
   same_value f i (scalar s) (scalar t) valid_v valid_w a b =

@@ -1,4 +1,4 @@
--- Whole numbers that stand in a file in their canonical spelling, told by their octets.
+-- Integers in their canonical encoding, recognised by their bytes.
 use Rattle.std.proofs.Common.{◌≡◌, ℕ, suc, ◌+◌, ◌-◌, ◌^◌, ◌<◌, ◌≤◌, ℤ, pos, negsuc, List, ◌∷◌, length, take, drop, refl, sym, ◌∙◌, arith, ⊎_elim, lt-ltb, le-ltb}
 use Rattle.std.specs.Prelude.{IsOk}
 use Rattle.std.proofs.lemmas.Bool.{cases_lt}
@@ -14,7 +14,7 @@ use Rattle.plist_object.proofs.CanonicalHeads.{split_head}
 use Rattle.plist_object.proofs.Fixed.{leads}
 use Rattle.plist_object.proofs.SameOctets.{big_bytes-big_number}
 
--- a number that is spelled by the marker and so many octets behind it
+-- an integer encoded by the marker and w bytes after it
 begins_whole : (marker w : ℕ) (z : ℤ) (octets tail : List ℕ) → octets ≡ marker ∷ tail → w ≤ length tail → IsWhole z → whole_spelling z ≡ marker ∷ take w tail → BeginsWhole (1 + w) octets
 begins_whole marker w z octets tail parts enough valid spelled =
     let long : length (take w tail) ≡ w = length-take-le w tail enough in
@@ -25,7 +25,7 @@ begins_whole marker w z octets tail parts enough valid spelled =
       size = rw (spelled, long) (omega arith);
     }
 
--- from 2^63 a number takes eight octets
+-- a number from 2^63 takes eight bytes
 large-width : (n : ℕ) → 9223372036854775808 ≤ n → least_width n ≡ 8
 large-width n long =
     rw (le-ltb n 256 (omega arith), le-ltb n 65536 (omega arith), le-ltb n 4294967296 (omega arith)) refl
@@ -34,7 +34,7 @@ large-marker : (n : ℕ) → 9223372036854775808 ≤ n → integer_marker n ≡ 
 large-marker n long =
     rw (le-ltb n 256 (omega arith), le-ltb n 65536 (omega arith), le-ltb n 4294967296 (omega arith)) refl
 
--- eight octets that spell such a number are those of a negative one
+-- an integer of w bytes, which from 2^63 on is a negative one
 number_begins : (marker w n : ℕ) (octets tail : List ℕ) → octets ≡ marker ∷ tail → w ≤ length tail → n < 256 ^ w → integer_marker n ≡ marker → least_width n ≡ w → big_bytes w n ≡ take w tail → BeginsWhole (1 + w) octets
 number_begins marker w n octets tail parts enough under marked least digits =
     ⊎_elim
@@ -61,7 +61,7 @@ whole-begins marker w octets tail parts are enough marks least =
     let behind : AreOctets tail = λ i. all (suc i) in
     number_begins marker w n octets tail parts enough (big_from-lt 0 w tail behind) (marks n least) least (big_bytes-big_number w tail behind enough)
 
--- what begins so is a whole number in its canonical spelling
+-- bytes that begin so are an integer in its canonical encoding
 pub whole-leads : (n : ℕ) (octets : List ℕ) → BeginsWhole n octets → (width : ℕ) → IsOk (object_in width octets) → LeadsScalar width n octets
 whole-leads n octets begins width reads =
     let z = begins.number in

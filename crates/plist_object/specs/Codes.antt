@@ -1,4 +1,4 @@
--- Which refusal each fault is, its number, and what is printed of it.
+-- The report of each error: its number, its name, and what is printed.
 use Rattle.std.specs.Prelude.{ℕ, List}
 use Rattle.plist_value.specs.Refusals.{number_of, reports, report_text}
 use Rattle.plist_value.specs.declared.refusals.Place.TheVariants.{Nowhere}

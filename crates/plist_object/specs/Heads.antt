@@ -1,11 +1,11 @@
--- How the canonical spelling of what is held begins.
+-- How the canonical encoding of an object begins.
 use Rattle.std.specs.Prelude.{◌≡◌, ℕ, nat_lt, if◌then◌else◌, List, [], ◌∷◌, length, take, ⊤, ◌<◌, ◌^◌}
 use Rattle.std.specs.List.{list_all}
 use Rattle.plist_value.specs.Plist.{Scalar, text, whole, flag, real4, real8, moment, bytes}
 use Rattle.plist_object.specs.Objects.{Held, holds_scalar, holds_list, holds_table}
 use Rattle.plist_object.specs.Spelling.{head, whole_spelling}
 
--- the octets begin with these
+-- `first` is a prefix of the bytes
 abbrev pub Begins : List ℕ → List ℕ → Type 0
 Begins first octets = take (length first) octets ≡ first
 
@@ -22,14 +22,14 @@ BeginsScalar (real8 xs) octets = Begins (35 ∷ []) octets
 BeginsScalar (moment xs) octets = Begins (51 ∷ []) octets
 BeginsScalar (bytes xs) octets = Begins (head 4 (length xs)) octets
 
--- the octets begin as the canonical spelling of what they hold: with the marker, and the count or
--- the whole number
+-- the bytes begin like the canonical encoding of their content: with the marker, and with the count
+-- or the integer
 abbrev pub BeginsCanonically : Held → List ℕ → Type 0
 BeginsCanonically (holds_scalar s) octets = BeginsScalar s octets
 BeginsCanonically (holds_list refs) octets = Begins (head 10 (length refs)) octets
 BeginsCanonically (holds_table keys values) octets = Begins (head 13 (length keys)) octets
 
--- what is held has below 2^64 units, octets, items or keys
+-- the content has fewer than 2^64 units, bytes, items or keys
 abbrev pub IsCounted : Held → Type 0
 IsCounted (holds_scalar (text units)) = length units < 2 ^ 64
 IsCounted (holds_scalar (bytes xs)) = length xs < 2 ^ 64

@@ -1,5 +1,5 @@
 -- The layout of a binary property list: the header, objects, the offset table, and a trailer of 32
--- octets (CFBinaryPList.c; the bounds of the numbers are our profile).
+-- bytes (CFBinaryPList.c; the bounds of the numbers are our profile).
 use Rattle.std.specs.Prelude.{◌≡◌, ◌≢◌, ℕ, ◌+◌, ◌-◌, ◌*◌, ◌<◌, ◌≤◌, List, [], ◌∷◌, length, take, drop, slice_index}
 use Rattle.byteorder.specs.Endian.{big_number}
 use Rattle.plist_object.specs.declared.layout.LayoutFault.{LayoutFault}
@@ -9,7 +9,7 @@ use Rattle.plist_object.specs.declared.layout.LayoutFault.TheVariants.{TooShort,
 abbrev pub header : List ℕ
 header = 98 ∷ 112 ∷ 108 ∷ 105 ∷ 115 ∷ 116 ∷ 48 ∷ 48 ∷ []
 
--- the number in the eight octets that begin so many octets before the end of the file
+-- the number in the eight bytes that begin `back` bytes before the end of the file
 abbrev pub number_before_end : ℕ → List ℕ → ℕ
 number_before_end back f = big_number 8 (drop (length f - back) f)
 
@@ -30,11 +30,11 @@ trailer_of f = record {
   table = number_before_end 8 f;
 }
 
--- the trailer's first six octets, which say nothing
+-- the first six bytes of the trailer, which have no meaning
 abbrev pub slack_of : List ℕ → List ℕ
 slack_of f = take 6 (drop (length f - 32) f)
 
--- the numbers fit one another, and a file of so many octets
+-- the numbers are consistent with one another and with a file of `size` bytes
 pub record IsTrailer (size : ℕ) (x : Trailer) : Type 0 where
   pub offset_width_least : 1 ≤ x.offset_width
   pub offset_width_most : x.offset_width ≤ 8
@@ -45,13 +45,13 @@ pub record IsTrailer (size : ℕ) (x : Trailer) : Type 0 where
   pub table_behind : 9 ≤ x.table
   pub ends : x.table + x.count * x.offset_width + 32 ≡ size
 
--- the octets have the layout
+-- the bytes have the layout
 pub record IsLaid (f : List ℕ) : Type 0 where
   pub long : 42 ≤ length f
   pub headed : take 8 f ≡ header
   pub trailed : IsTrailer (length f) (trailer_of f)
 
--- the first thing that keeps the octets from having the layout
+-- the first reason why the bytes do not have the layout
 abbrev pub IsLayoutFault : LayoutFault → List ℕ → Type 0
 IsLayoutFault TooShort f = length f < 42
 IsLayoutFault BadHeader f = (42 ≤ length f) × (take 8 f ≢ header)

@@ -1,4 +1,4 @@
--- What one object holds (CFBinaryPList.c; which faults there are, and their order, is our profile).
+-- The content of one object (CFBinaryPList.c; the errors and their order are our profile).
 use Rattle.std.specs.Prelude.{◌≡◌, ℕ, zero, suc, ◌+◌, ◌*◌, ◌/◌, ◌%◌, ◌==◌, nat_lt, if◌then◌else◌, ℤ, pos, true, false, List, [], ◌∷◌, length, take, drop, Result, Ok, Err, ⊤}
 use Rattle.std.specs.List.{list_all}
 use Rattle.std.specs.Int.{w64, cast_signed}
@@ -8,13 +8,14 @@ use Rattle.plist_value.specs.Texts.{wide_units}
 use Rattle.plist_object.specs.declared.object.ObjectFault.{ObjectFault}
 use Rattle.plist_object.specs.declared.object.ObjectFault.TheVariants.{CutObject, BadMarker, NullObject, UidObject, SetObject, NotAscii, WideInteger}
 
--- a scalar, the references of a list, or the references of a table to its keys and to their values
+-- a scalar, the references of an array, or the references of a dictionary to its keys and to its
+-- values
 pub data Held : Type 0 where
   holds_scalar : Scalar → Held
   holds_list : List ℕ → Held
   holds_table : List ℕ → List ℕ → Held
 
--- a scalar that is held has its numbers in their ranges, and a table has as many keys as values
+-- the numbers of a scalar are in their ranges, and a dictionary has equally many keys and values
 abbrev pub IsHeld : Held → Type 0
 IsHeld (holds_scalar s) = IsScalar s
 IsHeld (holds_list refs) = ⊤
@@ -25,11 +26,11 @@ abbrev pub ◌>>=◌ : {A B : Type 0} → Result A ObjectFault → (A → Result
 (Ok x) >>= f = f x
 (Err e) >>= f = Err e
 
--- the first n octets, and those behind them
+-- the first n bytes, and those after them
 abbrev pub cut : ℕ → List ℕ → Result (List ℕ × List ℕ) ObjectFault
 cut n octets = if nat_lt (length octets) n then Err CutObject else Ok (take n octets, drop n octets)
 
--- how many octets the integer behind a marker has, from 10 to 14
+-- the number of bytes of the integer after a marker, from 10 to 14
 abbrev pub integer_length : ℕ → Result ℕ ObjectFault
 integer_length marker =
     if marker == 16 then Ok 1
@@ -39,7 +40,7 @@ integer_length marker =
     else (if marker == 20 then Ok 16
     else Err BadMarker))))
 
--- a count, unsigned in all widths, and the octets behind it
+-- a count, unsigned in all widths, and the bytes after it
 unfoldable pub count_spelled : List ℕ → Result (ℕ × List ℕ) ObjectFault
 count_spelled [] = Err CutObject
 count_spelled (marker ∷ octets) = do
@@ -47,26 +48,26 @@ count_spelled (marker ∷ octets) = do
   parts ← cut n octets
   Ok (big_number n parts.0, parts.1)
 
--- the count that the low half of a marker gives, which at 15 follows it
+-- the count in the low half of a marker, or in the bytes after the marker if the half is 15
 unfoldable pub count_of_content : ℕ → List ℕ → Result (ℕ × List ℕ) ObjectFault
 count_of_content low octets = if nat_lt low 15 then Ok (low, octets) else count_spelled octets
 
--- as many items as the count says, each of so many octets, and the count
+-- the count, the bytes of that many items of `unit` bytes each, and the bytes after them
 unfoldable pub content : ℕ → ℕ → List ℕ → Result (ℕ × List ℕ × List ℕ) ObjectFault
 content unit low octets = do
   counted ← count_of_content low octets
   parts ← cut (counted.0 * unit) counted.1
   Ok (counted.0, parts.0, parts.1)
 
--- The number in all of the octets: two's complement in eight, else unsigned. Of sixteen octets the
--- first eight are zero.
+-- The number that all the bytes encode: two's complement in eight, else unsigned. Of sixteen bytes
+-- the first eight are zero.
 abbrev pub whole_in : ℕ → List ℕ → Result ℤ ObjectFault
 whole_in n octets =
     if n == 16 then (if big_number 8 octets == 0 then Ok (pos (big_number 8 (drop 8 octets))) else Err WideInteger)
     else (if n == 8 then Ok (cast_signed w64 (big_number 8 octets))
     else Ok (pos (big_number n octets)))
 
--- so many numbers of so many octets each
+-- n numbers of `width` bytes each
 abbrev pub numbers : ℕ → ℕ → List ℕ → List ℕ
 numbers width zero octets = []
 numbers width (suc n) octets = big_number width octets ∷ numbers width n (drop width octets)
@@ -137,8 +138,8 @@ marked_object width high low octets =
     else (if high == 13 then table_object width low octets
     else Err BadMarker))))))))))
 
--- What the object that begins with these octets holds, and the octets behind it, or its first
--- fault. The octets reach up to the offset table, and references have so many octets.
+-- The content of the object that begins with these bytes, and the bytes after it, or its first
+-- error. The bytes reach up to the offset table, and references have `width` bytes.
 abbrev pub object_in : ℕ → List ℕ → Result (Held × List ℕ) ObjectFault
 object_in width [] = Err CutObject
 object_in width (marker ∷ octets) = marked_object width (marker / 16) (marker % 16) octets

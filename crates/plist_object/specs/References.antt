@@ -1,8 +1,9 @@
--- Which objects an object refers to.
+-- The references of an object.
 use Rattle.std.specs.Prelude.{ℕ, List, [], ◌++◌}
 use Rattle.plist_object.specs.Objects.{Held, holds_scalar, holds_list, holds_table}
 
--- their numbers in order: the items of a list, or the keys of a table and then its values
+-- the object numbers in order: of the items of an array, or of the keys and then the values of a
+-- dictionary
 abbrev pub references_of : Held → List ℕ
 references_of (holds_scalar s) = []
 references_of (holds_list refs) = refs

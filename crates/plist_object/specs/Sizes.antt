@@ -1,9 +1,9 @@
--- How large what is spelled may be, and how long its head is.
+-- Bounds on the size of encoded objects, and the size of a marker with its count.
 use Rattle.std.specs.Prelude.{ℕ, ◌+◌, ◌<◌, ◌^◌, nat_lt, if◌then◌else◌, length, ⊤, IsTrue, ◌==◌, ◌||◌}
 use Rattle.plist_value.specs.Plist.{Scalar, text, whole, flag, real4, real8, moment, bytes}
 use Rattle.plist_object.specs.Spelling.{least_width}
 
--- below 2^32 units or octets
+-- fewer than 2^32 units or bytes
 abbrev pub IsSmall : Scalar → Type 0
 IsSmall (text units) = length units < 2 ^ 32
 IsSmall (whole z) = ⊤
@@ -13,10 +13,10 @@ IsSmall (real8 xs) = ⊤
 IsSmall (moment xs) = ⊤
 IsSmall (bytes xs) = length xs < 2 ^ 32
 
--- the octets of a marker with its count
+-- the number of bytes of a marker with its count
 abbrev pub head_size : ℕ → ℕ
 head_size n = if nat_lt n 15 then 1 else 2 + least_width n
 
--- a width of references: 1, 2, 4 or 8 octets
+-- a width of references: 1, 2, 4 or 8 bytes
 abbrev pub IsWidth : ℕ → Type 0
 IsWidth width = IsTrue (width == 1 || width == 2 || width == 4 || width == 8)

@@ -1,4 +1,4 @@
--- Which property lists a file spells.
+-- Which property lists a file encodes.
 use Rattle.std.specs.Prelude.{◌≡◌, ℕ, ◌≤◌, List, [], ◌∷◌}
 use Rattle.std.specs.List.{zip}
 use Rattle.std.specs.List.Sorted.{IsPermutation}
@@ -8,7 +8,7 @@ use Rattle.plist_object.specs.Layout.{trailer_of, IsLaid}
 use Rattle.plist_object.specs.Objects.{holds_scalar, holds_list, holds_table}
 use Rattle.plist_object.specs.Places.{Holds}
 
--- The object i spells the value. Of a table it holds the pairs in any order.
+-- Object i encodes the value. A dictionary may contain the pairs in any order.
 abbrev mutual
   pub Spells : List ℕ → ℕ → Plist → Type 0
   Spells f i (scalar s) = Holds f i (holds_scalar s)
@@ -16,26 +16,26 @@ abbrev mutual
   Spells f i (table ps) =
       (keys : List ℕ) × ((values : List ℕ) × ((rows : List (ℕ × ℕ)) × (Holds f i (holds_table keys values) × (IsPermutation (zip keys values) rows × SpellPairs f rows ps))))
 
-  -- the references spell the items in turn
+  -- the references encode the items in order
   pub SpellItems : List ℕ → List ℕ → Items → Type 0
   SpellItems f refs no_items = refs ≡ []
   SpellItems f [] (item v vs) = ⊥
   SpellItems f (i ∷ refs) (item v vs) = Spells f i v × SpellItems f refs vs
 
-  -- each row's references spell a key and its value, in turn
+  -- the references of each row encode a key and its value, in order
   pub SpellPairs : List ℕ → List (ℕ × ℕ) → Pairs → Type 0
   SpellPairs f rows no_pairs = rows ≡ []
   SpellPairs f [] (pair key v ps) = ⊥
   SpellPairs f (row ∷ rows) (pair key v ps) = Holds f row.0 (holds_scalar (text key)) × Spells f row.1 v × SpellPairs f rows ps
 
--- the object spells a value of at most so many levels
+-- the object encodes a value of at most `levels` levels
 pub record SpellsWithin (f : List ℕ) (i levels : ℕ) : Type 0 where
   pub value : Plist
   pub valid : IsPlist value
   pub spells : Spells f i value
   pub deep : depth value ≤ levels
 
--- the octets are a binary property list that spells the value
+-- the bytes are a binary property list that encodes the value
 pub record IsBinary (f : List ℕ) (v : Plist) : Type 0 where
   pub octets : AreOctets f
   pub laid : IsLaid f

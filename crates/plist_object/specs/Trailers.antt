@@ -1,4 +1,4 @@
--- The numbers in the trailer, as they were read.
+-- The trailer as the code reads it, as the definitions have it.
 use Rattle.plist_object.specs.Layout.{Trailer}
 use Rattle.plist_object.specs.declared.layout.Trailer as read
 

@@ -1,4 +1,4 @@
--- What a contract sees of a file, of references and of an object.
+-- How contracts view a file, references and an object.
 use Rattle.std.specs.Prelude.{◌≡◌, ℕ, List, Result, Ok, Err}
 use Rattle.plist_value.specs.Scalars.{content_of}
 use Rattle.plist_object.specs.Objects.{Held, holds_scalar, holds_list, holds_table, numbers}
@@ -18,12 +18,12 @@ held_of (Scalar s) = holds_scalar (content_of s)
 held_of (ListOf items) = holds_list (numbers_of items)
 held_of (Table keys values) = holds_table (numbers_of keys) (numbers_of values)
 
--- what a function returned, seen by the view, is what reading gives: the value, or the fault
+-- the function returned what `read` is: the value, seen through `view`, or the error
 abbrev pub Gives : {X Y E : Type 0} → (X → Y) → Result X E → Result Y E → Type 0
 Gives view (Ok x) read = read ≡ Ok (view x)
 Gives view (Err e) read = read ≡ Err e
 
--- what was read, without what stands behind it
+-- the decoded part, without the bytes after it
 abbrev pub first_of : {X Y E : Type 0} → Result (X × Y) E → Result X E
 first_of (Ok p) = Ok p.0
 first_of (Err e) = Err e

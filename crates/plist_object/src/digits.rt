@@ -1,11 +1,10 @@
-//! Octets and numbers, put where there is room for them.
+//! Appends bytes and numbers to vectors whose capacity is already reserved.
 ghost use Rattle.std.specs.Prelude.{◌<◌, ◌≤◌, ◌^◌, [], ◌∷◌, length};
 ghost use Rattle.byteorder.specs.Endian.{big_bytes};
 ghost use Rattle.plist_object.specs.Appending.{Appends, HasRoom};
 
 use byteorder::{BigEndian, ByteOrder};
 
-/// One octet.
 pub(crate) fn push_octet(out: &mut Vec<u8>, octet: u8)
     requires { HasRoom out.old 1 }
     ensures { Appends out.old out.new (octet ∷ []) }
@@ -13,7 +12,6 @@ pub(crate) fn push_octet(out: &mut Vec<u8>, octet: u8)
     out.push_reserved(octet);
 }
 
-/// All of the octets.
 pub(crate) fn push_octets(out: &mut Vec<u8>, octets: &[u8])
     requires { HasRoom out.old (length octets.now) }
     ensures { Appends out.old out.new octets.now }
@@ -21,7 +19,7 @@ pub(crate) fn push_octets(out: &mut Vec<u8>, octets: &[u8])
     out.extend_from_slice(octets).unwrap();
 }
 
-/// The number in so many octets.
+/// Appends the number in `width` bytes.
 pub(crate) fn push_number(out: &mut Vec<u8>, n: u64, width: u8)
     requires width_least { 1 ≤ width }
     requires width_most { width ≤ 8 }
@@ -36,8 +34,8 @@ pub(crate) fn push_number(out: &mut Vec<u8>, n: u64, width: u8)
     }
 }
 
-// The same as `push_number`. A function of its own: to choose among all widths in each caller takes
-// longer.
+// Like `push_number`, for the other widths. It is a separate function because inlining the choice
+// among all widths in each caller is slower.
 #[inline(never)]
 fn push_uncommon_number(out: &mut Vec<u8>, n: u64, width: u8)
     requires width_least { 1 ≤ width }
@@ -53,7 +51,6 @@ fn push_uncommon_number(out: &mut Vec<u8>, n: u64, width: u8)
     }
 }
 
-/// The number in two octets.
 pub(crate) fn push_two(out: &mut Vec<u8>, n: u16)
     requires { HasRoom out.old 2 }
     ensures { Appends out.old out.new (big_bytes 2 n) }
@@ -63,7 +60,6 @@ pub(crate) fn push_two(out: &mut Vec<u8>, n: u16)
     push_octets(out, &digits);
 }
 
-/// The number in four octets.
 pub(crate) fn push_four(out: &mut Vec<u8>, n: u32)
     requires { HasRoom out.old 4 }
     ensures { Appends out.old out.new (big_bytes 4 n) }

@@ -1,7 +1,7 @@
-//! What holds of all files, whatever reads or writes them.
+//! Laws that hold of all files.
 ghost use Rattle.plist_object.specs.Laws.{OneValueAtTop};
 
-/// No file spells two values at its top.
+/// No file encodes two values at its top object.
 pub fn one_value_at_top()
     ensures { OneValueAtTop }
 {}

@@ -14,30 +14,29 @@ use plist_value::{Place, Refusal, Report, ScalarRef, TextRef};
 use std::fmt;
 use thiserror::Error;
 
-/// Why octets do not have the layout of a binary property list (CFBinaryPList.c; the bounds and the
+/// Why bytes do not have the layout of a binary property list (CFBinaryPList.c; the bounds and the
 /// order of the tests are our profile).
 #[derive(Clone, Copy, Debug, PartialEq, Eq, Error)]
 pub enum LayoutFault {
-    /// 1: there are fewer than 42 octets.
+    /// 1: there are fewer than 42 bytes.
     TooShort,
-    /// 2: the first eight octets are not `bplist00`.
+    /// 2: the first 8 bytes are not `bplist00`.
     BadHeader,
-    /// 3: a width is not 1 to 8, or there is no object, or the top object is none of them, or the
-    /// offset table does not lie between the objects and the trailer, as long as it has to be.
+    /// 3: a width is not 1 to 8, there is no object, the top object is not one of them, or the
+    /// offset table does not fill the bytes between the objects and the trailer.
     BadTrailer,
 }
 
 impl LayoutFault {
     ghost use Rattle.plist_object.specs.Codes.{layout_code, layout_report};
 
-    /// The number of the refusal: 1, 2 or 3.
+    /// Returns the error number: 1, 2 or 3.
     pub fn code(&self) -> u8
         ensures { result ≡ layout_code self.now }
     {
         self.report().0.number()
     }
 
-    // What is printed of it.
     fn report(&self) -> Report
         ensures { result ≡ layout_report self.now }
     {
@@ -49,7 +48,7 @@ impl LayoutFault {
     }
 }
 
-/// The number and the name of the refusal, as `1 TooShort`.
+/// Prints the number and the name of the error, as in `1 TooShort`.
 impl fmt::Display for LayoutFault {
     ghost use Rattle.std.specs.Prelude.{Some};
     ghost use Rattle.plist_object.specs.Codes.{layout_text};
@@ -62,7 +61,7 @@ impl fmt::Display for LayoutFault {
     }
 }
 
-/// A binary property list, borrowed: octets that have the layout.
+/// A binary property list: borrowed bytes that have the layout.
 #[derive(Clone, Copy, Debug)]
 pub struct BinFile<'a> {
     octets: &'a [u8],
@@ -76,18 +75,17 @@ pub struct BinFile<'a> {
     ghost table_read: { trailer.table ≡ (trailer_of octets.now).table },
 }
 
-/// What an object holds, and where it stands.
+/// The content of an object, and where its bytes are.
 #[derive(Clone, Copy, Debug)]
 pub struct Spanned<'a> {
-    /// What it holds.
+    /// The content.
     pub object: Object<'a>,
-    /// The place of its first octet, in octets from the file's first.
+    /// The offset in the file of the object's first byte.
     pub start: u64,
-    /// The place of the octet behind its last.
+    /// The offset in the file of the first byte after the object.
     pub end: u64,
 }
 
-// The numbers in the trailer.
 #[derive(Clone, Copy, Debug)]
 struct Trailer {
     offset_width: u8,
@@ -114,7 +112,7 @@ impl Trailer {
         }
     }
 
-    // The length of a file with this trailer, where it is a number of 64 bits.
+    // Returns the size of a file with this trailer, or `None` if it is not below 2^64.
     fn size(&self) -> Option<u64>
         ensures { SomeIff result
             (self.now.table + self.now.count * self.now.offset_width + 32 < 2 ^ 64)
@@ -134,7 +132,7 @@ impl<'a> BinFile<'a> {
     ghost use Rattle.plist_object.specs.Shortest.{IsShortest, IsSpelledScalar};
     ghost use Rattle.plist_object.specs.Views.{Gives, held_of, octets_of};
 
-    /// The file in these octets.
+    /// Reads the layout of a file, without decoding any object. Fails if the bytes do not have it.
     pub fn of(octets: &'a [u8]) -> Result<BinFile<'a>, LayoutFault>
         ensures laid { MatchResult result (λ file. octets_of file ≡ octets.entry.now)
             (λ fault. IsLayoutFault fault octets.entry.now) }
@@ -154,14 +152,14 @@ impl<'a> BinFile<'a> {
         Ok(BinFile { octets, trailer })
     }
 
-    /// The number of objects, at least 1.
+    /// Returns the number of objects, which is at least 1.
     pub fn count(&self) -> u64
         ensures { result ≡ (trailer_of (octets_of self.now)).count }
     {
         self.trailer.count
     }
 
-    /// The number of the top object, below `count`.
+    /// Returns the number of the top object, which is below `count`.
     pub fn top(&self) -> u64
         ensures value { result ≡ (trailer_of (octets_of self.now)).top }
         ensures below { result < (trailer_of (octets_of self.now)).count }
@@ -169,7 +167,7 @@ impl<'a> BinFile<'a> {
         self.trailer.top
     }
 
-    /// How many octets an entry of the offset table has, from 1 to 8.
+    /// Returns the number of bytes of an entry of the offset table, from 1 to 8.
     pub fn offset_width(&self) -> u8
         ensures value { result ≡ (trailer_of (octets_of self.now)).offset_width }
         ensures least { 1 ≤ result }
@@ -178,7 +176,7 @@ impl<'a> BinFile<'a> {
         self.trailer.offset_width
     }
 
-    /// How many octets a reference has, from 1 to 8.
+    /// Returns the number of bytes of a reference, from 1 to 8.
     pub fn reference_width(&self) -> u8
         ensures value { result ≡ (trailer_of (octets_of self.now)).reference_width }
         ensures least { 1 ≤ result }
@@ -187,7 +185,7 @@ impl<'a> BinFile<'a> {
         self.trailer.reference_width
     }
 
-    /// The place of the offset table, in octets from the file's first.
+    /// Returns the offset in the file of the offset table.
     pub fn table(&self) -> u64
         ensures value { result ≡ (trailer_of (octets_of self.now)).table }
         ensures within { result ≤ length (octets_of self.now) }
@@ -195,7 +193,7 @@ impl<'a> BinFile<'a> {
         self.trailer.table
     }
 
-    /// The first six octets of the trailer, which say nothing.
+    /// Returns the first 6 bytes of the trailer, which have no meaning.
     pub fn slack(&self) -> [u8; 6]
         ensures { result ≡ slack_of (octets_of self.now) }
     {
@@ -205,8 +203,8 @@ impl<'a> BinFile<'a> {
         slack
     }
 
-    /// The place of the object `n`, which is below `count`, in octets from the file's first: the
-    /// entry of the offset table.
+    /// Returns entry `n` of the offset table, which is the offset in the file of object `n`. `n` is
+    /// below `count`.
     pub fn place(&self, n: u64) -> u64
         requires { n < (trailer_of (octets_of self.now)).count }
         ensures { result ≡ place_of (octets_of self.now) n }
@@ -215,8 +213,8 @@ impl<'a> BinFile<'a> {
         number_at(table, usize::from(self.trailer.offset_width), n as usize)
     }
 
-    /// The octet at the place of the object `n`, which is below `count`; or 0 where that is behind
-    /// the objects. Of an object that reads it is the marker.
+    /// Returns the byte at the offset of object `n`, or 0 if the offset is not before the offset
+    /// table. If the object can be decoded, the byte is its marker. `n` is below `count`.
     pub fn marker(&self, n: u64) -> u8
         requires { n < (trailer_of (octets_of self.now)).count }
         ensures { result ≡ marker_at (octets_of self.now) n }
@@ -229,7 +227,7 @@ impl<'a> BinFile<'a> {
         }
     }
 
-    /// What the object `n`, which is below `count`, holds, or its first fault.
+    /// Decodes object `n`, which is below `count`.
     #[tactic(auto, unfolding(crate::specs::Places::what_holds, crate::specs::Places::object_at))]
     pub fn object(&self, n: u64) -> Result<Object<'a>, ObjectFault>
         requires { n < (trailer_of (octets_of self.now)).count }
@@ -240,8 +238,8 @@ impl<'a> BinFile<'a> {
         reading::held(octets, self.trailer.reference_width)
     }
 
-    /// The text of the object `n`, which is below `count`: `None` of one that holds something else,
-    /// or does not read.
+    /// Returns the string that object `n` contains, or `None` if it contains something else or
+    /// cannot be decoded. `n` is below `count`.
     #[tactic(auto, unfolding(crate::specs::Places::what_holds, crate::specs::Places::object_at))]
     pub fn text(&self, n: u64) -> Option<TextRef<'a>>
         requires { n < (trailer_of (octets_of self.now)).count }
@@ -260,7 +258,7 @@ impl<'a> BinFile<'a> {
         }
     }
 
-    // The same, of a text that stands in ASCII: most do.
+    // Returns the string of object `n` if it is an ASCII string, as most are.
     #[inline(always)]
     #[tactic(auto, unfolding(crate::specs::Places::what_holds, crate::specs::Places::object_at))]
     fn ascii_text(&self, n: u64) -> Option<TextRef<'a>>
@@ -275,7 +273,8 @@ impl<'a> BinFile<'a> {
         reading::ascii_text(octets)
     }
 
-    /// What the object `n`, which is below `count`, holds, and where it stands; or its first fault.
+    /// Decodes object `n`, which is below `count`, and returns its content with the offsets of its
+    /// bytes.
     pub fn spanned(&self, n: u64) -> Result<Spanned<'a>, ObjectFault>
         requires { n < (trailer_of (octets_of self.now)).count }
         ensures read { Gives (λ s. held_of s.object) result (what_holds (octets_of self.now) n) }
@@ -292,8 +291,8 @@ impl<'a> BinFile<'a> {
         })
     }
 
-    /// The place of the first octet of the object `n`, which is below `count`, and that of the
-    /// octet behind its last; or its first fault.
+    /// Returns the offset of object `n`, and the offset of the first byte after it. Fails if the
+    /// object cannot be decoded. `n` is below `count`.
     pub fn span(&self, n: u64) -> Result<(u64, u64), ObjectFault>
         requires { n < (trailer_of (octets_of self.now)).count }
         ensures { result ≡ span_of (octets_of self.now) n }
@@ -302,8 +301,8 @@ impl<'a> BinFile<'a> {
         Ok((spanned.start, spanned.end))
     }
 
-    /// Whether the octets of the object `n`, which is below `count`, are the canonical spelling of
-    /// what it holds, with the file's width of a reference; or its first fault.
+    /// Returns whether the bytes of object `n` are the canonical encoding of its content, for the
+    /// file's width of a reference. Fails if the object cannot be decoded. `n` is below `count`.
     #[tactic(auto, unfolding(crate::specs::Places::object_at))]
     pub fn is_shortest(&self, n: u64) -> Result<bool, ObjectFault>
         requires { n < (trailer_of (octets_of self.now)).count }
@@ -317,11 +316,13 @@ impl<'a> BinFile<'a> {
         Ok(begins_canonically(octets, &object))
     }
 
-    /// The octets of the object `n`, which is below `count` and reads, where its first ones tell
-    /// that it holds a scalar in the canonical spelling: a flag, a whole number of at most eight
-    /// octets, a real or a date, a string of ASCII or data of below 256 octets, or a UTF-16 string
-    /// of below 256 units that are not all ASCII. `None` says nothing. The content of an ASCII
-    /// string or of data is not read, and of a UTF-16 string the units are read up to the first
+    /// Returns the bytes of object `n`, which is below `count` and can be decoded, if its first
+    /// bytes show that it is a scalar in its canonical encoding.
+    ///
+    /// The scalars that can be recognised are booleans, reals, dates, integers of at most 8 bytes,
+    /// ASCII strings and data below 256 bytes, and UTF-16 strings below 256 units that are not all
+    /// ASCII. `None` is only a hint: the object may still have its canonical encoding. The content
+    /// of an ASCII string or of data is not read, and a UTF-16 string only up to its first unit
     /// that is not ASCII.
     #[tactic(auto, unfolding(crate::specs::Places::object_at))]
     pub fn spelled(&self, n: u64) -> Option<&'a [u8]>
@@ -345,7 +346,7 @@ impl<'a> BinFile<'a> {
         self.octets_from(self.place(n))
     }
 
-    // The octets from the place up to the offset table.
+    // Returns the bytes from `place` up to the offset table.
     #[inline(always)]
     fn octets_from(&self, place: u64) -> Result<&'a [u8], ObjectFault>
         ensures { Gives (λ octets. octets.now) result (octets_from (octets_of self.now) place) }
@@ -362,7 +363,7 @@ impl<'a> BinFile<'a> {
 ghost use Rattle.plist_object.specs.Layout.{IsTrailer};
 ghost use Rattle.plist_object.specs.Trailers.{trailer_in};
 
-// Whether the numbers fit one another, and a file of so many octets.
+// Returns whether the numbers are consistent with one another and with a file of `size` bytes.
 fn fits(trailer: &Trailer, size: usize) -> bool
     ensures { IsTrue result ↔ IsTrailer size (trailer_in trailer.now) }
 {

@@ -1,4 +1,4 @@
-//! How many octets a number, or an object in its canonical spelling, has.
+//! The number of bytes of the canonical encoding of a number or an object.
 ghost use Rattle.std.specs.Prelude.{◌≡◌, ◌+◌, ◌*◌, ◌<◌, ◌^◌, ◌↔◌, length, List, ℕ, IfOk, IsOk};
 ghost use Rattle.plist_value.specs.Plist.{IsWhole};
 ghost use Rattle.plist_value.specs.Texts.{units_of};
@@ -10,7 +10,7 @@ ghost use Rattle.plist_object.specs.Sizes.{IsSmall, IsWidth, head_size};
 use plist_value::{ScalarRef, TextRef};
 use std::alloc::AllocError;
 
-/// The least of 1, 2, 4 and 8 octets that holds `n`.
+/// Returns the least of 1, 2, 4 and 8 bytes that `n` fits in.
 pub fn width_of(n: u64) -> u8
     ensures value { result ≡ least_width n }
     ensures holds { n < 256 ^ result }
@@ -26,12 +26,12 @@ pub fn width_of(n: u64) -> u8
     }
 }
 
-/// The number in 32 bits. No number of a value within the limits passes them, nor that of an object
-/// of a file that is within the limit of input.
+/// Converts a number to 32 bits. Object numbers always fit: those of a value within the limits are
+/// below 2^32, and so are those of a file within the limit of input.
 ///
 /// # Errors
 ///
-/// Where the number is 2^32 or above: there is no memory for so many objects.
+/// Fails if the number is 2^32 or above: no memory could contain that many objects.
 pub fn short(number: u64) -> Result<u32, AllocError>
     ensures value { IfOk result (λ short. short ≡ number) }
     ensures fits { IsOk result ↔ number < 2 ^ 32 }
@@ -39,8 +39,8 @@ pub fn short(number: u64) -> Result<u32, AllocError>
     u32::try_from(number).map_err(|_| AllocError)
 }
 
-/// How many octets the canonical spelling of a scalar has. A text or data has below 2^32 units or
-/// octets.
+/// Returns the number of bytes of the canonical encoding of a scalar. Strings have fewer than 2^32
+/// units, and data fewer than 2^32 bytes.
 pub fn scalar_length(scalar: &ScalarRef) -> u64
     requires { IsSmall (content_of scalar.now) }
     ensures { result ≡ length (scalar_spelling (content_of scalar.now)) }
@@ -55,15 +55,15 @@ pub fn scalar_length(scalar: &ScalarRef) -> u64
     }
 }
 
-// A marker, and so many octets behind it.
+// Counts the marker and the bytes after it.
 fn fixed_length(octets: &[u8]) -> u64
     ensures { result ≡ 1 + length octets.now }
 {
     1 + octets.len() as u64
 }
 
-/// How many octets a list of so many references, each of so many octets, has. The width is 1, 2, 4
-/// or 8, and the count below 2^32.
+/// Returns the number of bytes of an array of `count` references, each of `width` bytes. `width` is
+/// 1, 2, 4 or 8, and `count` is below 2^32.
 pub fn list_length(count: u64, width: u8) -> u64
     requires width { IsWidth width }
     requires count { count < 2 ^ 32 }
@@ -72,8 +72,8 @@ pub fn list_length(count: u64, width: u8) -> u64
     head_length(count) + count * u64::from(width)
 }
 
-/// How many octets a table of so many pairs, with references of so many octets, has. The width is
-/// 1, 2, 4 or 8, and the count below 2^32.
+/// Returns the number of bytes of a dictionary of `count` pairs, with references of `width` bytes.
+/// `width` is 1, 2, 4 or 8, and `count` is below 2^32.
 pub fn table_length(count: u64, width: u8) -> u64
     requires width { IsWidth width }
     requires count { count < 2 ^ 32 }
@@ -108,7 +108,7 @@ fn whole_length(number: i128) -> u64
     }
 }
 
-/// How many octets a marker with a count has.
+/// Returns the number of bytes of a marker together with its count.
 pub(crate) fn head_length(count: u64) -> u64
     ensures size { result ≡ head_size count }
     ensures small { result < 11 }

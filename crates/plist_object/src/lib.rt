@@ -1,5 +1,5 @@
-//! Binary property lists on borrowed octets: the layout of a file, what stands at a place, the one
-//! canonical spelling of an object, and the order of the texts that tables name as keys.
+//! Binary property lists borrowed from a byte slice: the layout of a file, its objects, their
+//! canonical encoding, and the order of dictionary keys.
 #![tactic(auto)]
 
 mod digits;

@@ -1,9 +1,9 @@
-//! The octets that a file begins with, and the markers that objects begin with (CFBinaryPList.c).
+//! The header of a file, and the markers of objects (CFBinaryPList.c).
 
-/// The first eight octets of a file.
+/// The first 8 bytes of a file.
 pub const HEADER: [u8; 8] = *b"bplist00";
 
-// The kind of an object, in the high four bits of its marker.
+// The kinds of objects: the high 4 bits of a marker.
 pub(crate) const SIMPLE: u8 = 0x0;
 
 pub(crate) const WHOLE: u8 = 0x1;
@@ -26,8 +26,8 @@ pub(crate) const SET: u8 = 0xc;
 
 pub(crate) const TABLE: u8 = 0xd;
 
-// Markers that say all but the content: null, false and true, whole numbers of so many octets,
-// reals of four and of eight octets, and dates.
+// Complete markers: null, false and true, integers of `n` bytes (`WHOLE_n`), reals of 4 and of 8
+// bytes, and dates.
 pub(crate) const NULL: u8 = 0x00;
 
 pub(crate) const FALSE: u8 = 0x08;
@@ -50,7 +50,7 @@ pub(crate) const REAL_8: u8 = 0x23;
 
 pub(crate) const MOMENT_8: u8 = 0x33;
 
-// The low four bits of a marker with content of four and of eight octets: of a real or a date.
+// The low 4 bits of the marker of a real or a date of 4 and of 8 bytes.
 pub(crate) const FOUR_OCTETS: u8 = 0x2;
 
 pub(crate) const EIGHT_OCTETS: u8 = 0x3;

@@ -1,4 +1,4 @@
-//! What an object holds, and why one does not read.
+//! The content of an object, and the errors of decoding it.
 ghost use Rattle.std.specs.Prelude.{◌≡◌};
 
 use crate::Refs;
@@ -6,50 +6,51 @@ use plist_value::{Place, Refusal, Report, ScalarRef};
 use std::fmt;
 use thiserror::Error;
 
-/// What an object holds.
+/// The content of an object.
 #[derive(Clone, Copy, Debug)]
 pub enum Object<'a> {
-    /// A value that holds no other.
+    /// A scalar.
     Scalar(ScalarRef<'a>),
-    /// References to the items of a list.
+    /// An array: the references to its items.
     List(Refs<'a>),
-    /// References to the keys of a table, then as many to its values: key k goes with value k.
+    /// A dictionary: the references to its keys, and equally many to its values. Key `k` goes with
+    /// value `k`.
     Table(Refs<'a>, Refs<'a>),
 }
 
-/// Why an object does not read (CFBinaryPList.c). Of several faults the first is given in this
-/// order: the place, the marker, a count behind it, that it is cut, its content (our profile).
+/// Why an object cannot be decoded (CFBinaryPList.c). Of several faults the first in this order is
+/// returned: the offset, the marker, the count after it, the length, the content (our profile).
 #[derive(Clone, Copy, Debug, PartialEq, Eq, Error)]
 pub enum ObjectFault {
-    /// 4: its place is in the header, or not before the offset table.
+    /// 4: its offset is in the header, or not before the offset table.
     BadOffset,
     /// 6: its count or its content reaches into the offset table.
     CutObject,
-    /// 7: its marker, or that of its count, is none of the format.
+    /// 7: its marker, or the marker of its count, is not one of the format.
     BadMarker,
-    /// 8: it is a null, which is no property list here.
+    /// 8: it is a null, which no property list contains here.
     NullObject,
-    /// 9: it is a UID, which is no property list here.
+    /// 9: it is a UID, which no property list contains here.
     UidObject,
-    /// 10: it is a set, which is no property list here.
+    /// 10: it is a set, which no property list contains here.
     SetObject,
-    /// 11: it is an ASCII text with an octet above 7f.
+    /// 11: it is an ASCII string with a byte above 7f.
     NotAscii,
-    /// 12: it is a whole number of sixteen octets whose first eight are not all zero.
+    /// 12: it is an integer of 16 bytes whose first 8 are not all zero.
     WideInteger,
 }
 
 impl ObjectFault {
     ghost use Rattle.plist_object.specs.Codes.{object_code, object_report};
 
-    /// The number of the refusal: 4 or 6 to 12.
+    /// Returns the error number: 4 or 6 to 12.
     pub fn code(&self) -> u8
         ensures { result ≡ object_code self.now }
     {
         self.report().0.number()
     }
 
-    // What is printed of it; the object is not known here.
+    // The number of the object is not known here, so no position is reported.
     fn report(&self) -> Report
         ensures { result ≡ object_report self.now }
     {
@@ -66,7 +67,7 @@ impl ObjectFault {
     }
 }
 
-/// The number and the name of the refusal, as `11 NotAscii`.
+/// Prints the number and the name of the error, as in `11 NotAscii`.
 impl fmt::Display for ObjectFault {
     ghost use Rattle.std.specs.Prelude.{Some};
     ghost use Rattle.plist_object.specs.Codes.{object_text};

@@ -1,4 +1,4 @@
-//! Objects in their canonical spelling.
+//! Appends objects in their canonical encoding.
 ghost use Rattle.std.specs.Prelude.{◌≡◌, ◌+◌, ◌*◌, ◌<◌, ◌≤◌, ◌^◌, [], ◌∷◌, ◌++◌};
 ghost use Rattle.std.specs.Prelude.{ℕ, List, length, All, OnOk, OnErr, replicate};
 ghost use Rattle.byteorder.specs.Endian.{big_bytes};
@@ -22,8 +22,8 @@ use crate::texts::{push_ascii, push_wide};
 use plist_value::{ScalarRef, TextRef};
 use std::alloc::AllocError;
 
-/// Puts the canonical spelling of a scalar behind the octets of `out`, which stay as they are where
-/// there is no memory. A text or data has below 2^32 units or octets.
+/// Appends the canonical encoding of a scalar to `out`. Strings have fewer than 2^32 units, and
+/// data fewer than 2^32 bytes. Leaves `out` unchanged if out of memory.
 pub fn put_scalar(out: &mut Vec<u8>, scalar: &ScalarRef) -> Result<(), AllocError>
     requires { IsSmall (content_of scalar.now) }
     ensures ok { OnOk result
@@ -41,7 +41,7 @@ pub fn put_scalar(out: &mut Vec<u8>, scalar: &ScalarRef) -> Result<(), AllocErro
     }
 }
 
-// The units are tested once, and room is taken for what they turn out to be.
+// The units are tested once, before the space for either encoding is reserved.
 fn put_text(out: &mut Vec<u8>, text: &TextRef) -> Result<(), AllocError>
     requires { length (units_of text.now) < 2 ^ 32 }
     ensures ok { OnOk result
@@ -61,7 +61,7 @@ fn put_text(out: &mut Vec<u8>, text: &TextRef) -> Result<(), AllocError>
     Ok(())
 }
 
-// At most 17 octets.
+// Reserves 17 bytes, the most that an integer takes.
 fn put_whole(out: &mut Vec<u8>, number: i128) -> Result<(), AllocError>
     requires range { IsWhole number }
     ensures ok { OnOk result (out.new.items ≡ out.old.items ++ whole_spelling number) }
@@ -95,9 +95,8 @@ fn put_data(out: &mut Vec<u8>, octets: &[u8]) -> Result<(), AllocError>
     Ok(())
 }
 
-/// Puts a list, its references in so many octets each, behind the octets of `out`, which stay as
-/// they are where there is no memory. The width is 1, 2, 4 or 8; there are below 2^32 references,
-/// and each is below 256^width.
+/// Appends an array with references of `width` bytes each to `out`. `width` is 1, 2, 4 or 8. There
+/// are fewer than 2^32 references, each below 256^width. Leaves `out` unchanged if out of memory.
 pub fn put_list(out: &mut Vec<u8>, width: u8, refs: &[u64]) -> Result<(), AllocError>
     requires width { IsWidth width }
     requires count { length refs.now < 2 ^ 32 }
@@ -110,9 +109,9 @@ pub fn put_list(out: &mut Vec<u8>, width: u8, refs: &[u64]) -> Result<(), AllocE
     Ok(())
 }
 
-/// Puts a table, its references to keys and then those to values in so many octets each, behind the
-/// octets of `out`, which stay as they are where there is no memory. The width is 1, 2, 4 or 8;
-/// there are below 2^32 keys and as many values, and each reference is below 256^width.
+/// Appends a dictionary to `out`: the references to its keys and then those to its values, of
+/// `width` bytes each. `width` is 1, 2, 4 or 8. There are fewer than 2^32 keys and equally many
+/// values, and each reference is below 256^width. Leaves `out` unchanged if out of memory.
 pub fn put_table(
     out: &mut Vec<u8>,
     width: u8,
@@ -134,7 +133,7 @@ pub fn put_table(
     Ok(())
 }
 
-/// The same as [`put_list`], of references in 32 bits.
+/// Like [`put_list`], for references of 32 bits.
 pub fn put_short_list(out: &mut Vec<u8>, width: u8, refs: &[u32]) -> Result<(), AllocError>
     requires width { IsWidth width }
     requires count { length refs.now < 2 ^ 32 }
@@ -147,7 +146,7 @@ pub fn put_short_list(out: &mut Vec<u8>, width: u8, refs: &[u32]) -> Result<(), 
     Ok(())
 }
 
-/// The same as [`put_table`], of references in 32 bits.
+/// Like [`put_table`], for references of 32 bits.
 pub fn put_short_table(
     out: &mut Vec<u8>,
     width: u8,
@@ -169,8 +168,8 @@ pub fn put_short_table(
     Ok(())
 }
 
-/// Puts how data of so many octets begins, which is all that stands before these octets, behind the
-/// octets of `out`, which stay as they are where there is no memory.
+/// Appends the marker and the count of data of `count` bytes to `out`. The bytes of the data have
+/// to follow. Leaves `out` unchanged if out of memory.
 pub fn put_data_head(out: &mut Vec<u8>, count: u64) -> Result<(), AllocError>
     ensures ok { OnOk result (out.new.items ≡ out.old.items ++ head 4 count) }
     ensures err { OnErr result (out.new.items ≡ out.old.items) }
@@ -180,8 +179,8 @@ pub fn put_data_head(out: &mut Vec<u8>, count: u64) -> Result<(), AllocError>
     Ok(())
 }
 
-/// Puts the number in so many octets behind the octets of `out`, which stay as they are where there
-/// is no memory. The width is 1, 2, 4 or 8, and the number is below 256^width.
+/// Appends the number in `width` bytes to `out`. `width` is 1, 2, 4 or 8, and the number is below
+/// 256^width. Leaves `out` unchanged if out of memory.
 pub fn put_number(out: &mut Vec<u8>, width: u8, n: u64) -> Result<(), AllocError>
     requires width { IsWidth width }
     requires fits { n < 256 ^ width }
@@ -193,9 +192,9 @@ pub fn put_number(out: &mut Vec<u8>, width: u8, n: u64) -> Result<(), AllocError
     Ok(())
 }
 
-/// Puts the last 32 octets of a file behind the octets of `out`, which stay as they are where there
-/// is no memory: the widths of an offset and of a reference, how many objects there are, the number
-/// of the top object, and the place of the offset table.
+/// Appends the trailer to `out`, the last 32 bytes of a file: the widths of an offset and of a
+/// reference, the number of objects, the number of the top object, and the offset of the offset
+/// table. Leaves `out` unchanged if out of memory.
 pub fn put_trailer(
     out: &mut Vec<u8>,
     offset_width: u8,
@@ -216,7 +215,7 @@ pub fn put_trailer(
     Ok(())
 }
 
-// Room for a list of so many references, and what stands before these.
+// Reserves space for an array of `count` references, and appends its marker and count.
 fn begin_list(out: &mut Vec<u8>, width: u8, count: u64) -> Result<(), AllocError>
     requires width { IsWidth width }
     requires count { count < 2 ^ 32 }
@@ -230,7 +229,7 @@ fn begin_list(out: &mut Vec<u8>, width: u8, count: u64) -> Result<(), AllocError
     Ok(())
 }
 
-// Room for a table of so many pairs, and what stands before its references.
+// Reserves space for a dictionary of `count` pairs, and appends its marker and count.
 fn begin_table(out: &mut Vec<u8>, width: u8, count: u64) -> Result<(), AllocError>
     requires width { IsWidth width }
     requires count { count < 2 ^ 32 }
@@ -272,7 +271,7 @@ fn push_short_references(out: &mut Vec<u8>, width: u8, refs: &[u32])
     }
 }
 
-// The references in four octets each, as most files have them that take long.
+// Has a loop of its own because most large files use references of 4 bytes.
 fn push_fours(out: &mut Vec<u8>, refs: &[u32])
     requires { HasRoom out.old (length (references 4 refs.now)) }
     ensures { Appends out.old out.new (references 4 refs.now) }
@@ -305,7 +304,7 @@ fn push_integer(out: &mut Vec<u8>, n: u64)
     push_number(out, n, width);
 }
 
-// A marker whose low half is the count, or 15 and the count behind it.
+// Appends a marker with the count in its low half, or with 15 there and the count after it.
 fn push_head(out: &mut Vec<u8>, kind: u8, count: u64)
     requires kind { kind < 16 }
     requires room { HasRoom out.old (length (head kind count)) }
@@ -334,7 +333,7 @@ fn push_whole(out: &mut Vec<u8>, number: i128)
     }
 }
 
-// The number in sixteen octets.
+// Appends the number in 16 bytes.
 fn push_long_whole(out: &mut Vec<u8>, n: u64)
     requires { HasRoom out.old 17 }
     ensures { Appends out.old out.new (20 ∷ (replicate 8 0 ++ big_bytes 8 n)) }

@@ -1,5 +1,5 @@
-//! What an object that begins with some octets holds, and the octets behind it. The octets reach up
-//! to the offset table.
+//! Decodes the object at the start of a byte slice, which reaches up to the offset table, and
+//! returns the remaining bytes.
 ghost use Rattle.std.specs.Prelude.{◌≡◌, ◌≢◌, ◌+◌, ◌*◌, ◌<◌, ◌≤◌, ◌/◌, ◌%◌, ◌^◌, ◌∷◌, length};
 ghost use Rattle.std.specs.Prelude.{IfOk, IfSome, Ok, ℕ};
 ghost use Rattle.byteorder.specs.Endian.{big_number};
@@ -62,7 +62,7 @@ fn count_spelled(octets: &[u8]) -> Read<'_, u128>
     Ok((count_in(digits, n), rest))
 }
 
-// The number in all of the octets, of which there are 1, 2, 4, 8 or 16.
+// Returns the number that all the bytes encode. There are 1, 2, 4, 8 or 16 of them.
 fn count_in(octets: &[u8], n: usize) -> u128
     requires whole { length octets.now ≡ n }
     requires some { 1 ≤ n }
@@ -76,7 +76,7 @@ fn count_in(octets: &[u8], n: usize) -> u128
     }
 }
 
-// A count in one octet, as most are that stand behind a marker, and the octets behind it.
+// Reads a count of 1 byte, the most frequent one, and returns it with the bytes after it.
 #[inline(always)]
 fn short_count(octets: &[u8]) -> Option<(u8, &[u8])>
     ensures { IfSome result (λ found. octets.now ≡ 16 ∷ found.0 ∷ found.1.now) }
@@ -87,7 +87,7 @@ fn short_count(octets: &[u8]) -> Option<(u8, &[u8])>
     }
 }
 
-// So many items of so many octets each.
+// The bytes of `count` items of equal size.
 #[derive(Clone, Copy)]
 struct Counted<'a> {
     count: u64,
@@ -117,7 +117,7 @@ fn content(octets: &[u8], low: u8, unit: usize) -> Read<'_, Counted<'_>>
     items(octets, count as usize, unit)
 }
 
-// So many items, of so many octets each, at the front of the octets.
+// Splits off `count` items of `unit` bytes each.
 #[inline(always)]
 fn items(octets: &[u8], count: usize, unit: usize) -> Read<'_, Counted<'_>>
     requires { count * unit < 2 ^ 64 }
@@ -151,7 +151,7 @@ fn simple(octets: &[u8], low: u8) -> Read<'_, Object<'_>>
     }
 }
 
-// The number in all of the octets, of which there are 1, 2, 4, 8 or 16.
+// Returns the integer that all the bytes encode. There are 1, 2, 4, 8 or 16 of them.
 fn whole_in(octets: &[u8], n: usize) -> Result<Whole, ObjectFault>
     requires whole { length octets.now ≡ n }
     requires some { 1 ≤ n }
@@ -295,7 +295,7 @@ fn wide(octets: &[u8], low: u8) -> Read<'_, Object<'_>>
     Ok((Object::Scalar(ScalarRef::Text(text)), rest))
 }
 
-/// The text that the object holds which begins with these octets, if it stands there in ASCII.
+/// Returns the string of the object at the start of the bytes, if it is an ASCII string.
 #[inline(always)]
 #[tactic(auto, unfolding(crate::specs::Objects::marked_object))]
 pub(crate) fn ascii_text(octets: &[u8]) -> Option<TextRef<'_>>
@@ -313,8 +313,8 @@ pub(crate) fn ascii_text(octets: &[u8]) -> Option<TextRef<'_>>
     }
 }
 
-/// What the object that begins with these octets holds, its references of so many octets each, and
-/// the octets behind it.
+/// Decodes the object at the start of the bytes, with references of `width` bytes each. Returns its
+/// content, and the bytes after the object.
 #[tactic(auto, unfolding(crate::specs::Objects::marked_object))]
 pub(crate) fn object(octets: &[u8], width: u8) -> Read<'_, Object<'_>>
     requires width_least { 1 ≤ width }
@@ -342,8 +342,8 @@ pub(crate) fn object(octets: &[u8], width: u8) -> Read<'_, Object<'_>>
     }
 }
 
-/// What the object that begins with these octets holds, its references of so many octets each. Each
-/// kind is answered where it is read, which is faster than to take it from `object`.
+/// Decodes like `object`, but returns only the content. Each kind returns directly, which is faster
+/// than discarding the remaining bytes afterwards.
 #[tactic(auto, unfolding(crate::specs::Objects::marked_object))]
 pub(crate) fn held(octets: &[u8], width: u8) -> Result<Object<'_>, ObjectFault>
     requires width_least { 1 ≤ width }
@@ -371,7 +371,7 @@ pub(crate) fn held(octets: &[u8], width: u8) -> Result<Object<'_>, ObjectFault>
     }
 }
 
-// What was read, without what stands behind it.
+// Drops the remaining bytes.
 #[inline(always)]
 fn first<'a>(read: Read<'a, Object<'a>>) -> Result<Object<'a>, ObjectFault>
     ensures { result ≡ first_of read.entry }

@@ -5,7 +5,7 @@ ghost use Rattle.byteorder.specs.Endian.{big_number};
 
 use byteorder::{BigEndian, ByteOrder};
 
-/// The references of a list or a table, borrowed from a file: numbers of objects, in order.
+/// The references of an array or a dictionary, borrowed from a file: object numbers, in order.
 #[derive(Clone, Copy, Debug)]
 pub struct Refs<'a> {
     octets: &'a [u8],
@@ -20,7 +20,7 @@ impl<'a> Refs<'a> {
     ghost use Rattle.plist_object.specs.Objects.{numbers};
     ghost use Rattle.plist_object.specs.Views.{numbers_of};
 
-    /// So many numbers of so many octets each.
+    /// Wraps `count` numbers of `width` bytes each.
     pub(crate) fn of(octets: &'a [u8], width: u8, count: u64) -> Refs<'a>
         requires width_least { 1 ≤ width }
         requires width_most { width ≤ 8 }
@@ -34,21 +34,21 @@ impl<'a> Refs<'a> {
         }
     }
 
-    /// How many references there are.
+    /// Returns the number of references.
     pub fn len(&self) -> u64
         ensures { result ≡ length (numbers_of self.now) }
     {
         self.count
     }
 
-    /// Whether there is none.
+    /// Returns whether there are no references.
     pub fn is_empty(&self) -> bool
         ensures { result ≡ (length (numbers_of self.now) == 0) }
     {
         self.len() == 0
     }
 
-    /// Whether they are the same numbers in the same order.
+    /// Returns whether both contain the same numbers in the same order.
     pub fn is_same(&self, other: &Refs) -> bool
         ensures { IsTrue result ↔ (numbers_of self.now ≡ numbers_of other.now) }
     {
@@ -66,7 +66,7 @@ impl<'a> Refs<'a> {
         true
     }
 
-    /// The reference at the place `i`, which is below `len`.
+    /// Returns reference `i`, which is below `len`.
     pub fn get(&self, i: u64) -> u64
         requires { i < length (numbers_of self.now) }
         ensures { result ≡ slice_index (numbers_of self.now) i }
@@ -75,7 +75,7 @@ impl<'a> Refs<'a> {
     }
 }
 
-/// The number at the place `i` among numbers of so many octets each.
+/// Returns number `i` of the numbers of `width` bytes each.
 #[inline(always)]
 pub(crate) fn number_at(octets: &[u8], width: usize, i: usize) -> u64
     requires width_least { 1 ≤ width }
@@ -86,7 +86,7 @@ pub(crate) fn number_at(octets: &[u8], width: usize, i: usize) -> u64
     number_in(&octets[i * width..], width)
 }
 
-/// The number in the first octets, of which there are so many.
+/// Returns the number in the first `width` bytes.
 #[inline(always)]
 pub(crate) fn number_in(octets: &[u8], width: usize) -> u64
     requires width_least { 1 ≤ width }
@@ -101,8 +101,8 @@ pub(crate) fn number_in(octets: &[u8], width: usize) -> u64
     }
 }
 
-// The same as `number_in`. A function of its own: to choose among all widths in each caller takes
-// longer than to read.
+// Like `number_in`, for the other widths. It is a separate function because inlining the choice
+// among all widths in each caller costs more than the read itself.
 #[inline(never)]
 fn uncommon_number_in(octets: &[u8], width: usize) -> u64
     requires width_least { 1 ≤ width }

@@ -1,5 +1,5 @@
-//! Whether an object begins as the canonical spelling of what it holds: with the marker, and the
-//! count or the whole number, in the least width.
+//! Recognises objects that begin like their canonical encoding: with the canonical marker, and with
+//! the count or the integer in the least width.
 ghost use Rattle.std.specs.Prelude.{◌≡◌, ◌<◌, ◌≤◌, ◌^◌, ◌↔◌, ◌+◌, ◌*◌, ◌++◌, false};
 ghost use Rattle.std.specs.Prelude.{ℕ, IsOk, IsTrue, IfSome, length, nat_lt, replicate, take};
 ghost use Rattle.std.specs.List.{list_all};
@@ -27,9 +27,9 @@ use crate::refs::number_in;
 use byteorder::{BigEndian, ByteOrder};
 use plist_value::{ScalarRef, TextRef};
 
-/// Whether the octets, which the object was read from, begin as its canonical spelling: with the
-/// marker, and the count or the whole number, in the least width. No content is read but that of a
-/// UTF-16 string, up to the first unit that is not ASCII.
+/// Returns whether the bytes begin like the canonical encoding of `object`, which was decoded from
+/// them: with the canonical marker, and with the count or the integer in the least width. Of the
+/// content only UTF-16 units are read, up to the first that is not ASCII.
 #[inline(always)]
 pub fn begins_canonically(octets: &[u8], object: &Object) -> bool
     ensures begins { IsTrue result ↔ BeginsCanonically (held_of object.now) octets.now }
@@ -124,7 +124,7 @@ fn begins_with_number(octets: &[u8], n: u64, width: u8) -> bool
     octets.len() >= width && number_in(octets, width) == n
 }
 
-// Eight zero octets, and the number in eight.
+// Compares with 8 zero bytes followed by the number in 8 bytes.
 fn begins_with_long(octets: &[u8], n: u64) -> bool
     ensures { IsTrue result ↔ Begins (replicate 8 0 ++ big_bytes 8 n) octets.now }
 {
@@ -139,11 +139,13 @@ fn begins(octets: &[u8], first: &[u8]) -> bool
     octets.starts_with(first)
 }
 
-/// How many octets the canonical spelling has of the scalar that stands at the front of these,
-/// where their first ones tell that it stands there in that spelling: a flag, a real or a date,
-/// which have one spelling each, a whole number of at most eight octets, a string of ASCII or data
-/// of below 256 octets, or a UTF-16 string of below 256 units that are not all ASCII. Of that one
-/// the units are read up to the first that is not.
+/// Returns the number of bytes of the scalar at the start of `octets` if its first bytes show that
+/// it has its canonical encoding.
+///
+/// The scalars that can be recognised are booleans, reals and dates, which have only one encoding,
+/// integers of at most 8 bytes, ASCII strings and data below 256 bytes, and UTF-16 strings below
+/// 256 units that are not all ASCII. Of a UTF-16 string the units are read up to the first that is
+/// not ASCII.
 pub(crate) fn spelled_size(octets: &[u8]) -> Option<usize>
     ensures { IfSome result (λ size. (width : ℕ) → IsOk (object_in width octets.now)
         → LeadsScalar width size octets.now) }
@@ -160,8 +162,8 @@ pub(crate) fn spelled_size(octets: &[u8]) -> Option<usize>
     }
 }
 
-// How many octets there are of a scalar that begins with these, where its marker tells that number
-// and that they are its canonical spelling.
+// Returns the number of bytes of a scalar if its marker alone determines that number and shows that
+// the encoding is canonical.
 fn fixed_size(octets: &[u8]) -> Option<usize>
     ensures size { IfSome result (λ size. BeginsFixed size octets.now) }
     ensures octets { AreOctets octets.now }
@@ -178,8 +180,8 @@ fn fixed_size(octets: &[u8]) -> Option<usize>
     }
 }
 
-// How many octets a whole number has, with its marker, that begins with these, if it stands behind
-// the marker in 2, 4 or 8 octets and would not fit in fewer.
+// Returns the number of bytes, with the marker, of an integer of 2, 4 or 8 bytes that would not fit
+// in fewer.
 fn whole_size(octets: &[u8]) -> Option<usize>
     ensures { IfSome result (λ size. BeginsWhole size octets.now) }
 {
@@ -196,7 +198,7 @@ fn whole_size(octets: &[u8]) -> Option<usize>
     }
 }
 
-// How many octets, of 2, 4 or 8, stand behind the marker of a whole number.
+// Returns the number of bytes, 2, 4 or 8, after the marker of an integer.
 fn whole_width(marker: u8) -> Option<usize>
     ensures least { IfSome result (λ width. 1 ≤ width) }
     ensures most { IfSome result (λ width. width ≤ 8) }
@@ -211,8 +213,8 @@ fn whole_width(marker: u8) -> Option<usize>
     }
 }
 
-// The kind of the object that begins with these octets, and its count, where it is below 256 and
-// stands there in its least width. Of what is not counted it is the low half of the marker.
+// Returns the kind of the object and its count, if the count is below 256 and in its least width.
+// For kinds without a count it is the low half of the marker.
 fn short_head(octets: &[u8]) -> Option<(u8, u64)>
     ensures head { IfSome result (λ head. BeginsShort head.0 head.1 octets.now) }
     ensures octets { AreOctets octets.now }
@@ -229,8 +231,7 @@ fn short_head(octets: &[u8]) -> Option<(u8, u64)>
     }
 }
 
-// How many octets a UTF-16 string of so many units has that begins with these, if one of the units
-// is not ASCII.
+// Returns the number of bytes of a UTF-16 string of `count` units if one of the units is not ASCII.
 fn wide_size(octets: &[u8], count: u64) -> Option<usize>
     requires { count < 256 }
     ensures size { IfSome result (λ size. size ≡ head_size count + 2 * count) }
@@ -246,7 +247,7 @@ fn wide_size(octets: &[u8], count: u64) -> Option<usize>
     }
 }
 
-// Whether one of the units that stand in the octets two by two is not ASCII.
+// Returns whether one of the big-endian units is not ASCII.
 fn has_wide_unit(octets: &[u8]) -> bool
     ensures { IsTrue result ↔ (list_all (λ unit. nat_lt unit 128) (wide_units octets.now) ≡ false) }
 {

@@ -1,9 +1,9 @@
-//! The keys of a table in the order of their texts.
+//! The keys of a dictionary in order.
 
 use crate::refs::Refs;
 
-/// The references to the keys of a table, and their places among these references, counted from 0,
-/// in the order of the texts that they name. Contracts say of which file.
+/// The references to the keys of a dictionary, and their indices among these references in
+/// ascending order of the keys. The contracts that use it name the file.
 #[derive(Drop)]
 pub struct SortedKeys<'a> {
     pub refs: Refs<'a>,

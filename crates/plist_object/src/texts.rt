@@ -1,4 +1,4 @@
-//! The units of a text, behind its head.
+//! Appends the units of strings, without marker and count.
 ghost use Rattle.std.specs.Prelude.{◌≡◌, ◌/◌, ◌%◌, [], ◌∷◌, length, IfSome, nat_lt, true};
 ghost use Rattle.std.specs.List.{list_all};
 ghost use Rattle.plist_object.specs.Appending.{Appends, HasRoom};
@@ -8,7 +8,7 @@ ghost use Rattle.plist_value.specs.Texts.{units_of, wide_units};
 use crate::digits::{push_octet, push_octets, push_two};
 use plist_value::TextRef;
 
-/// Each unit in one octet.
+/// Appends each unit as one byte.
 pub fn push_ascii(out: &mut Vec<u8>, text: &TextRef)
     requires ascii { list_all (λ unit. nat_lt unit 128) (units_of text.now) ≡ true }
     requires room { HasRoom out.old (length (units_of text.now)) }
@@ -23,7 +23,7 @@ pub fn push_ascii(out: &mut Vec<u8>, text: &TextRef)
     }
 }
 
-// Each unit in one octet, four at a time.
+// Appends four units per step, which is faster.
 fn push_low_octets(out: &mut Vec<u8>, units: &[u16])
     requires ascii { list_all (λ unit. nat_lt unit 128) units.now ≡ true }
     requires room { HasRoom out.old (length units.now) }
@@ -47,7 +47,7 @@ fn push_few_low_octets(out: &mut Vec<u8>, units: &[u16])
     }
 }
 
-// However the text is kept.
+// Works for strings in every form, unit by unit.
 fn push_each_low_octet(out: &mut Vec<u8>, text: &TextRef)
     requires ascii { list_all (λ unit. nat_lt unit 128) (units_of text.now) ≡ true }
     requires room { HasRoom out.old (length (units_of text.now)) }
@@ -59,7 +59,7 @@ fn push_each_low_octet(out: &mut Vec<u8>, text: &TextRef)
     }
 }
 
-/// Each unit in two octets. What is kept so is copied.
+/// Appends each unit as two bytes. A string that is borrowed in that form is copied unchanged.
 pub fn push_wide(out: &mut Vec<u8>, text: &TextRef)
     requires { HasRoom out.old (length (references 2 (units_of text.now))) }
     ensures { Appends out.old out.new (references 2 (units_of text.now)) }
@@ -73,14 +73,14 @@ pub fn push_wide(out: &mut Vec<u8>, text: &TextRef)
     }
 }
 
-// The octets of a text that is kept in two octets a unit.
+// Returns the bytes of a string that is borrowed as two bytes per unit.
 fn wide_spelling<'a>(text: &TextRef<'a>) -> Option<&'a [u8]>
     ensures { IfSome result (λ octets. octets.now ≡ references 2 (units_of text.now)) }
 {
     pairs(text.wide_octets()?)
 }
 
-// The octets, if they spell the units that stand in them two by two: none is left over.
+// Returns the bytes, unless a single byte remains after the last unit.
 fn pairs(octets: &[u8]) -> Option<&[u8]>
     ensures { IfSome result (λ pairs. pairs.now ≡ references 2 (wide_units octets.now)) }
 {
@@ -91,7 +91,7 @@ fn pairs(octets: &[u8]) -> Option<&[u8]>
     }
 }
 
-// Each unit in two octets, four units at a time.
+// Appends four units per step, which is faster.
 fn push_units(out: &mut Vec<u8>, units: &[u16])
     requires { HasRoom out.old (length (references 2 units.now)) }
     ensures { Appends out.old out.new (references 2 units.now) }
@@ -146,7 +146,7 @@ fn push_few_units(out: &mut Vec<u8>, units: &[u16])
     }
 }
 
-// However the text is kept.
+// Works for strings in every form, unit by unit.
 fn push_each(out: &mut Vec<u8>, text: &TextRef)
     requires { HasRoom out.old (length (references 2 (units_of text.now))) }
     ensures { Appends out.old out.new (references 2 (units_of text.now)) }

@@ -4,7 +4,7 @@ use Rattle.std.proofs.lemmas.Nat.{le-div}
 use Rattle.plist_object.specs.Objects.{content, count_of_content, count_spelled}
 use Rattle.plist_object.proofs.reading.content.Goals as goal
 
--- more items than there are octets for
+-- the count exceeds the remaining bytes
 pub returns-then-count-octets-clause-read : goal.returns-then-count-octets-clause-read
 unfolding content count_of_content
 returns-then-count-octets-clause-read c =
@@ -19,7 +19,7 @@ returns-then-count-octets-clause-read c =
     let cut : nat_lt (length octets) (count * unit) ≡ true = lt-ltb (length octets) (count * unit) over in
     rw (long, c.in_ok-count.ensures.read, cut) refl
 
--- a count in one octet
+-- a count of one byte
 pub returns-in-Some-clause-read : goal.returns-in-Some-clause-read
 unfolding content count_of_content count_spelled
 returns-in-Some-clause-read c =

@@ -3,7 +3,7 @@ use Rattle.std.specs.List.{list_all}
 use Rattle.plist_value.specs.Texts.{wide_units}
 use Rattle.plist_object.proofs.shortest.has_wide_unit.Given as goal
 
--- so far each unit is ASCII
+-- all units so far are ASCII
 abbrev pub invariant-loop-rest : goal.invariant-loop-rest
 invariant-loop-rest l =
     list_all (λ unit. nat_lt unit 128) (wide_units l.octets) ≡ list_all (λ unit. nat_lt unit 128) (wide_units l.rest)
