@@ -1,4 +1,4 @@
--- The canonical file is a binary file of its value, and not long.
+-- The canonical file is a binary file of its value, and is short.
 use Rattle.std.proofs.Common.{◌≡◌, ℕ, ◌+◌, ◌*◌, ◌^◌, ◌<◌, ◌≤◌, List, [], ◌++◌, length, get_or, Ok, refl, sym, ap, subst, ◌∙◌, arith}
 use Rattle.std.specs.List.{concat}
 use Rattle.std.proofs.Math.Nat.{mul-le-mul_right}
@@ -82,7 +82,7 @@ module _ (all : List Plist) (some : 1 ≤ length all) (few : length all ≤ 1677
     pub trailer : trailer_of (file_of (objects_of all)) ≡ trailer_for (length (objects_of all)) (8 + length (concat (objects_of all)))
     trailer = trailer_of-file (objects_of all) some-objects objects-some count-fits table-fits
 
-    -- the object of a place holds what stands there
+    -- the object of a place contains what is there
     pub place-holds : (k : ℕ) (v : Plist) → value_at all k ≡ v → k < length all → Holds (file_of (objects_of all)) (number k) (held_at number k v)
     place-holds k v at h =
         let first = first_place all k v in
@@ -154,7 +154,7 @@ canon-binary v valid fits =
 pub canon-length : (v : Plist) → IsPlist v → Fits v → length (canon v) ≤ 40 + payload v + 25 * nodes v
 canon-length v valid fits = canon-size v (sound_from_Fits v valid fits)
 
--- values with one canonical file are equal, since a file spells one value at its top
+-- values with the same canonical file are equal, since a file encodes one value at its top
 pub canon-injective : (v w : Plist) → IsPlist v → Fits v → IsPlist w → Fits w → canon v ≡ canon w → v ≡ w
 canon-injective v w v_valid v_fits w_valid w_fits same =
     let first = canon-spells v (sound_from_Fits v v_valid v_fits) in

@@ -1,4 +1,4 @@
--- The walk does a container when it does its children, which give way to their numbers.
+-- The walk does a container when it does its children, whose references are replaced by numbers.
 use Rattle.std.proofs.Common.{◌≡◌, ℕ, suc, ◌+◌, ◌<◌, false, List, [], ◌∷◌, ◌++◌, length, drop, map, refl, sym, ap, subst, ◌∙◌, arith, add-one, length-append, append_assoc}
 use Rattle.std.proofs.lemmas.Bool.{eq-eqb}
 use Rattle.std.proofs.lemmas.List.{length-map, map-append, drop_all, drop_at}
@@ -16,12 +16,12 @@ use Rattle.plist_engine.proofs.Meeting.{met-beside, list-apart, table-apart}
 use Rattle.plist_engine.specs.Plan.{is_held, IsLike, IsReady, Grows, Adds, WalksTree, WalksItems, Begins}
 use Rattle.plist_engine.proofs.Flat.{flat, preorder-flat, places-flat}
 
--- what the references became, and those behind them
+-- the numbers that replaced the references, and the references after them
 pub record Filled {S H : Type 0} (objects numbers behind : List ℕ) (old done : Plan S H) : Type 0 where
   pub as_many : length numbers ≡ length objects
   pub filled : done.references.items ≡ old.references.items ++ (numbers ++ behind)
 
--- a container has an object of its own
+-- a container has its own object
 container-first : (all : List Plist) (k : ℕ) (v : Plist) → IsContainer v → first_place all k v ≡ k
 container-first all k (scalar s) h = absurd h
 container-first all k (list vs) h = refl

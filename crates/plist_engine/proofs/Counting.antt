@@ -1,4 +1,4 @@
--- How the count of objects and the known scalars grow from one place to the next.
+-- How the number of objects and the known scalars grow from one place to the next.
 use Rattle.std.proofs.Common.{◌≡◌, ℕ, zero, suc, ◌+◌, ◌<◌, eqb, cond, true, false, List, [], ◌∷◌, length, Some, refl, ◌∙◌, inl, inr, arith, lt-ltb}
 use Rattle.std.proofs.lemmas.Bool.{le-ltb, eq-eqb, ne_eqb, cond_both, cases_order}
 use Rattle.plist_value.specs.Plist.{Scalar, Plist, scalar}
@@ -23,7 +23,7 @@ count-from all (v ∷ rest) j (suc i) n h at =
       | false ↦ others
     ]
 
--- a place with an object of its own counts one more, and any other none
+-- a place with its own object adds one, and any other adds none
 pub count-next : (all : List Plist) (k : ℕ) (v : Plist) → value_at all k ≡ v → k < length all → count_below (suc k) (kept_places all) ≡ cond (eqb (first_place all k v) k) (suc (count_below k (kept_places all))) (count_below k (kept_places all))
 count-next all k v at h = let step = count-from all all 0 k k h (omega arith) in rw at at step
 
@@ -35,13 +35,13 @@ count-shared all k v at h before =
     let apart : first_place all k v ≡ k → ⊥ = λ (e : first_place all k v ≡ k). omega arith in
     count-next all k v at h ∙ rw (ne_eqb _ _ (apart)) refl
 
--- the least place of a scalar, if it has one, holds it
+-- the least place of a scalar contains it, if it has a place
 pub least_place-at : (s : Scalar) (all : List Plist) → least_place s all < length all → value_at all (least_place s all) ≡ scalar s
 least_place-at s [] h = absurd (omega arith)
 least_place-at s (v ∷ vs) h =
     cond_both (is_scalar s v) 0 (suc (least_place s vs)) (λ n. n < suc (length vs) → value_at (v ∷ vs) n ≡ scalar s) (λ e _. is_scalar-true s v e) (λ _ below. least_place-at s vs (omega arith)) h
 
--- a place that is not the first of the scalar makes it no better known
+-- a place that is not the first of a scalar does not change whether it is known
 pub known-still : (all : List Plist) (k : ℕ) (q : Scalar) → (least_place q all ≡ k → ⊥) → number_known all (suc k) q ≡ number_known all k q
 known-still all k q apart =
     let first = least_place q all in

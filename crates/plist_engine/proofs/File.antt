@@ -1,4 +1,4 @@
--- The file of some objects whose widths are least and whose top is its first object.
+-- The file of given objects with least widths, whose top is the first object.
 use Rattle.std.proofs.Common.{◌≡◌, ℕ, ◌+◌, ◌*◌, ◌^◌, ◌<◌, ◌≤◌, List, [], ◌++◌, length, get_or, refl, arith}
 use Rattle.std.specs.List.{concat}
 use Rattle.plist_object.specs.Layout.{Trailer, trailer_of, IsLaid}
@@ -60,6 +60,6 @@ module _ (objects : List (List ℕ)) (some : 1 ≤ length objects)
   pub place_of-file : (i : ℕ) → i < length objects → place_of (file_of objects) i ≡ get_or (starts 8 objects) i 0
   place_of-file = files.place_of-file offset_width reference_width 0 objects can_stand
 
-  -- an object is read from its octets, whatever stands behind them
+  -- an object is decoded from its bytes, whatever follows them
   pub object_at-file : (i : ℕ) → i < length objects → (behind : List ℕ) × (object_at (file_of objects) i ≡ object_in reference_width (get_or objects i [] ++ behind))
   object_at-file = files.object_at-file offset_width reference_width 0 objects can_stand

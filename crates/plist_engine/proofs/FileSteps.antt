@@ -27,7 +27,7 @@ starts-under bound p (o ∷ objects) h =
     let size = length-append o (concat objects) in
     (omega arith, starts-under bound (p + length o) objects (omega arith))
 
--- no place is after the end
+-- no offset is after the end of the objects
 pub starts-before : (bound p : ℕ) (objects : List (List ℕ)) → p + length (concat objects) ≤ bound → All (λ q. q ≤ bound) (starts p objects)
 starts-before bound p objects h = All-from_recursion (λ q. q ≤ bound) (starts p objects) (starts-under bound p objects h)
 
@@ -37,7 +37,7 @@ file-parts objects =
     let place = 8 + length (concat objects) in
     ap (λ n. header ++ (concat objects ++ (references (least_width place) (starts 8 objects) ++ trailer_octets n place))) (length-starts 8 objects)
 
--- the header waits, and then the other octets go
+-- the header is in the buffer, and then the other bytes are written
 after-header : {T : Type 0} (octets : List ℕ) (p r : State) (result : Result T WriteFault) → p.waiting ≡ header → Goes octets p r result → Goes (header ++ octets) (record p { waiting = [] }) r result
 after-header octets p r result begun goes =
     Goes_then header octets (record p { waiting = [] }) p r tt result (Goes_put header p.waiting (record p { waiting = [] }) begun) goes
@@ -50,13 +50,13 @@ module _ (objects : List (List ℕ)) (p : State) (begun : p.waiting ≡ header) 
   whole r result goes =
       Goes_same (header ++ (concat objects ++ ending)) (file_of objects) (record p { waiting = [] }) r result (file-parts objects) (after-header (concat objects ++ ending) p r result begun goes)
 
-  -- the objects were refused
+  -- writing the objects failed
   pub file-stops : {T : Type 0} (r : State) (fault : WriteFault) → Goes {T = T} (concat objects) p r (Err fault) → IsWritten (file_of objects) p.taken r.taken p.failures r.failures (Err fault)
   file-stops {T} r fault goes =
       is_refused {T = T} (file_of objects) (record p { waiting = [] }) r fault refl first (whole r (Err fault) (Goes_stop {T = T} {U = T} (concat objects) ending p r fault goes))
 
   module _ {T : Type 0} (q : State) (places : List ℕ) (value : T) (are : places ≡ starts 8 objects) (goes : Goes (concat objects) p q (Ok value)) where
-    -- the end is written at the place that its trailer tells
+    -- the end is written at the offset that its trailer gives
     pub place-is : q.sent + length q.waiting ≡ 8 + length (concat objects)
     place-is = let n = count_then (concat objects) p q value goes in let m = ap length begun in omega (arith, n, m, first)
 
@@ -67,7 +67,7 @@ module _ (objects : List (List ℕ)) (p : State) (begun : p.waiting ≡ header) 
     both r result last =
         whole r result (Goes_then (concat objects) ending p q r value result goes (Goes_same (end_of places (q.sent + length q.waiting)) ending q r result ending-is last))
 
-    -- the end was refused
+    -- writing the end failed
     pub file-ends : {U : Type 0} (r : State) (fault : WriteFault) → Goes {T = U} (end_of places (q.sent + length q.waiting)) q r (Err fault) → IsWritten (file_of objects) p.taken r.taken p.failures r.failures (Err fault)
     file-ends {U} r fault last = is_refused {T = U} (file_of objects) (record p { waiting = [] }) r fault refl first (both r (Err fault) last)
 

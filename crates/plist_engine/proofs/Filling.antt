@@ -1,9 +1,9 @@
--- References that give way to numbers, one after another.
+-- Replacing references by numbers, one after another.
 use Rattle.std.proofs.Common.{◌≡◌, ℕ, ◌+◌, ◌<◌, ◌≤◌, List, [], ◌∷◌, ◌++◌, length, get_or, drop, take, set, sym, ap, ◌∙◌, arith, length-append, append_assoc}
 use Rattle.std.proofs.lemmas.List.{drop_more, set_at, get_or_at, take-append-drop, length-take-le, drop_all, append-nil, length-drop, drop-set-lt}
 
--- From the first place on up to i there are these numbers, then what stood there at the start, and
--- then other references.
+-- The indices from `first` to i have these numbers. Then come the references that were there at the
+-- start, and then others.
 pub record IsFilling (first i : ℕ) (start now done : List ℕ) : Type 0 where
   pub behind : List ℕ
   pub as_many : first + length done ≡ i
@@ -24,7 +24,7 @@ module _ (first i : ℕ) (start now done : List ℕ) (h : first ≤ length start
       let c = length-append (take first start) done in
       omega arith
 
-  -- no reference went away
+  -- no reference was removed
   pub filling-long : length start ≤ length now
   filling-long =
       let e = ap length filling.now_is ∙ length-append (take first start ++ done) (drop i start ++ filling.behind) in
@@ -37,7 +37,7 @@ module _ (first i : ℕ) (start now done : List ℕ) (h : first ≤ length start
   split d below =
       filling.now_is ∙ ap (λ xs. (take first start ++ done) ++ (xs ++ filling.behind)) (drop_more start i d below)
 
-  -- what stands at i still stands as at the start
+  -- the reference at i is that of the start
   pub filling-object : (d : ℕ) → i < length start → get_or now i d ≡ get_or start i 0
   filling-object d below =
       ap (λ xs. get_or xs i d) (split 0 below) ∙ get_or_at (take first start ++ done) (get_or start i 0) (drop (i + 1) start ++ filling.behind) d i front_long
@@ -54,11 +54,11 @@ module _ (first i : ℕ) (start now done : List ℕ) (h : first ≤ length start
         ap (λ xs. set xs i n) joined ∙ set_at front x ((left ++ filling.behind) ++ more) n i front_long ∙ ap (λ xs. front ++ (n ∷ xs)) (append_assoc left filling.behind more) ∙ sym (append_assoc front (n ∷ []) (left ++ (filling.behind ++ more))) ∙ ap (λ xs. xs ++ (left ++ (filling.behind ++ more))) (append_assoc (take first start) done (n ∷ []));
   }
 
-  -- behind the start nothing of it is left
+  -- at the end no reference of the start remains
   pub filling-end : length start ≤ i → now ≡ take first start ++ (done ++ filling.behind)
   filling-end past =
       filling.now_is ∙ ap (λ xs. (take first start ++ done) ++ (xs ++ filling.behind)) (drop_all i start past) ∙ append_assoc (take first start) done filling.behind
 
--- a reference in front is not among those behind
+-- setting an earlier reference does not change the later ones
 pub kept-behind : (i end : ℕ) (grown : List ℕ) (n : ℕ) → i < end → drop end (set grown i n) ≡ drop end grown
 kept-behind i end grown n h = drop-set-lt end grown i n h

@@ -1,4 +1,4 @@
--- The objects that the walk finds are those of the canonical file, and can be sent.
+-- The objects that the walk plans are those of the canonical file, and can be sent.
 use Rattle.std.proofs.Common.{◌≡◌, ℕ, ◌^◌, ◌<◌, ◌≤◌, List, length, sym, ap, ◌∙◌, arith}
 use Rattle.std.proofs.lemmas.List.{length-map}
 use Rattle.plist_value.specs.Plist.{Plist}

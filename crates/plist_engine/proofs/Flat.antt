@@ -1,4 +1,4 @@
--- The keys of a table and then its values, as items.
+-- The keys of a dictionary, followed by its values, as items.
 use Rattle.std.proofs.Common.{◌≡◌, ℕ, suc, ◌+◌, ◌≤◌, List, [], ◌∷◌, ◌++◌, length, map, refl, sym, ap, ◌∙◌, arith, add-one, add-zero}
 use Rattle.std.specs.List.{zip}
 use Rattle.std.specs.List.Sorted.{IsPermutation}
@@ -9,12 +9,11 @@ use Rattle.plist_object.specs.Spelled.{SpellItems, SpellPairs}
 use Rattle.plist_engine.specs.Tree.{key_texts, preorder, preorder_items, preorder_values, item_places, key_places, value_places}
 use Rattle.plist_engine.specs.Spelling.{in_turn}
 
--- the values
 abbrev pub values_of : Pairs → Items
 values_of no_pairs = no_items
 values_of (pair key v ps) = item v (values_of ps)
 
--- the keys, and then the items
+-- the keys as items before other items
 abbrev pub keys_then : Pairs → Items → Items
 keys_then no_pairs vs = vs
 keys_then (pair key v ps) vs = item (scalar (text key)) (keys_then ps vs)
@@ -97,7 +96,7 @@ length-zipped [] values h = refl
 length-zipped (x ∷ keys) [] h = absurd (omega arith)
 length-zipped (x ∷ keys) (y ∷ values) h = ap suc (length-zipped keys values (omega arith))
 
--- a table has as many keys as it holds
+-- a dictionary has as many keys as its object
 pub length-keys : (f keys values : List ℕ) (rows : List (ℕ × ℕ)) (ps : Pairs) → length keys ≡ length values → IsPermutation (zip keys values) rows → SpellPairs f rows ps → length (key_texts ps) ≡ length keys
 length-keys f keys values rows ps pairs moved spell =
     sym (length-rows f rows ps spell) ∙ length_permutation (zip keys values) rows moved ∙ length-zipped keys values pairs

@@ -1,4 +1,4 @@
--- What is found at the places of a tree can be spelled, and its octets are those of the canonical
+-- The content of the places of a tree can be encoded, and its bytes are those of the canonical
 -- file's objects.
 use Rattle.std.proofs.Common.{◌≡◌, ℕ, suc, ◌+◌, ◌^◌, ◌<◌, eqb, cond, true, false, List, [], ◌∷◌, length, map, refl, arith}
 use Rattle.std.proofs.lemmas.List.{length-map}

@@ -1,4 +1,4 @@
--- Calls that write, one after another.
+-- Sequences of calls that write.
 use Rattle.std.proofs.Common.{◌≡◌, ℕ, ◌+◌, ◌<◌, ◌≤◌, List, [], ◌++◌, length, take, Option, Result, Ok, Err, refl, sym, ap, subst, ◌∙◌, arith, length-append, append_assoc}
 use Rattle.std.proofs.KnownBytes.{Appends-nil, Appends-trans}
 use Rattle.std.proofs.Math.Seq.{take-append-add}
@@ -10,12 +10,12 @@ use Rattle.plist_engine.specs.declared.faults.WriteFault.TheVariants.{OutOfMemor
 use Rattle.plist_engine.specs.Sending.{sent_of, Allows, IsBlamed, IsShort, IsWritten}
 use Rattle.plist_engine.specs.Output.{State, Stays, Gathers, Stops, Goes, AreWithin, KeepsShort}
 
--- a front is no longer than the whole
+-- a prefix is no longer than the whole
 pub IsShort-within : (e : WriteFault) (out all : ℕ) → IsShort e out all → out ≤ all
 IsShort-within (WriteFailed sent) out all h = omega arith
 IsShort-within (OutOfMemory sent) out all h = h
 
--- with `first` more before the front, and with `last` more after the whole
+-- with `first` more bytes before the prefix, and with `last` more after the whole
 IsShort-after : (e : WriteFault) (first out all : ℕ) → IsShort e out all → IsShort e (first + out) (first + all)
 IsShort-after (WriteFailed sent) first out all h = omega arith
 IsShort-after (OutOfMemory sent) first out all h = omega arith
@@ -69,7 +69,7 @@ Stops_front a b p q fault stops =
       blamed = stops.blamed;
     }
 
--- what was done, and then what goes
+-- a call that succeeded, and then another one
 pub Goes_then : {T U : Type 0} (a b : List ℕ) (p q r : State) (value : T) (result : Result U WriteFault) → Goes a p q (Ok value) → Goes b q r result → Goes (a ++ b) p r result
 Goes_then a b p q r value (Ok x) first goes =
     record { stays = Stays-trans p q r first.stays goes.stays; done = Gathers-then a b p q r first.done goes.done; stopped = tt }
@@ -79,24 +79,24 @@ Goes_then a b p q r value (Err fault) first goes = record {
   stopped = Stops-then a b p q r fault first.done goes.stopped;
 }
 
--- what was refused at its front
+-- a call that failed within the first part
 pub Goes_stop : {T U : Type 0} (a b : List ℕ) (p r : State) (fault : WriteFault) → Goes {T = T} a p r (Err fault) → Goes {T = U} (a ++ b) p r (Err fault)
 Goes_stop a b p r fault goes = record { stays = goes.stays; done = tt; stopped = Stops_front a b p r fault goes.stopped }
 
 pub Goes_same : {T : Type 0} (a b : List ℕ) (p r : State) (result : Result T WriteFault) → a ≡ b → Goes a p r result → Goes b p r result
 Goes_same a b p r result same goes = subst (λ (l : List ℕ). Goes l p r result) same goes
 
--- what was done, and then what goes without more octets
+-- a call that succeeded, and then one without more bytes
 pub Goes_last : {T U : Type 0} (a : List ℕ) (p q r : State) (value : T) (result : Result U WriteFault) → Goes a p q (Ok value) → Goes [] q r result → Goes a p r result
 Goes_last a p q r value result first goes =
     Goes_same (a ++ []) a p r result (append-nil a) (Goes_then a [] p q r value result first goes)
 
--- some of the octets were done, and then the rest
+-- some of the bytes were written, and then the rest
 pub Goes_rest : {T U : Type 0} (done rest all : List ℕ) (p q r : State) (value : T) (result : Result U WriteFault) → done ++ rest ≡ all → Goes done p q (Ok value) → Goes rest q r result → Goes all p r result
 Goes_rest done rest all p q r value result split first goes =
     Goes_same (done ++ rest) all p r result split (Goes_then done rest p q r value result first goes)
 
--- they only wait
+-- the bytes are only buffered
 pub Goes_put : (octets items : List ℕ) (p : State) → items ≡ p.waiting ++ octets → Goes {T = Unit {0}} octets p (record p { waiting = items }) (Ok tt)
 Goes_put octets items p put = record {
   stays = record { sink = refl; device = refl };
@@ -104,7 +104,7 @@ Goes_put octets items p put = record {
   stopped = tt;
 }
 
--- there is no memory for them
+-- out of memory for the bytes
 pub Goes_out : {T : Type 0} (octets items : List ℕ) (p : State) → Goes {T = T} octets p (record p { waiting = items }) (Err (OutOfMemory p.sent))
 Goes_out octets items p = record {
   stays = record { sink = refl; device = refl };
@@ -112,7 +112,7 @@ Goes_out octets items p = record {
   stopped = record { more = 0; sent = omega arith; within = omega arith; taken = Appends-nil p.taken; blamed = refl };
 }
 
--- what is left after what was done fits where all did
+-- the remaining bytes fit if all did
 pub room_then : {T : Type 0} (a b : List ℕ) (p q : State) (value : T) (bound : ℕ) → Goes a p q (Ok value) → p.sent + (length p.waiting + length (a ++ b)) < bound → q.sent + (length q.waiting + length b) < bound
 room_then a b p q value bound first room =
     let n = ap length first.done.whole ∙ length-append first.done.gone q.waiting in
@@ -121,7 +121,7 @@ room_then a b p q value bound first room =
     let s = first.done.sent in
     omega (arith, n, m, l, s, room)
 
--- how many octets were written
+-- the number of bytes written
 pub count_then : {T : Type 0} (a : List ℕ) (p q : State) (value : T) → Goes a p q (Ok value) → q.sent + length q.waiting ≡ p.sent + (length p.waiting + length a)
 count_then a p q value first =
     let n = ap length first.done.whole ∙ length-append first.done.gone q.waiting in
@@ -129,32 +129,32 @@ count_then a p q value first =
     let s = first.done.sent in
     omega (arith, n, m, s)
 
--- pieces of 4,096 octets are allowed, whatever objects are
+-- pieces of 4,096 bytes are always allowed
 pub allows_none : (most : ℕ) (objects : List (List ℕ)) → Allows most objects → Allows most []
 allows_none most objects allows = record { least = allows.least; each = tt }
 
 pub put-length : (before after octets : List ℕ) → after ≡ before ++ octets → length after ≡ length before + length octets
 put-length before after octets is = ap length is ∙ length-append before octets
 
--- none is too long, and then none
+-- no piece is too long in two calls if none is in each
 pub short_then : {T U : Type 0} (objects : List (List ℕ)) (more : ℕ) (p q r : State) (value : T) (result : Result U WriteFault) → KeepsShort [] 0 p q (Ok value) → KeepsShort objects more q r result → KeepsShort objects more p r result
 short_then objects more p q r value result first next most allows fits before =
     let kept = first most (allows_none most objects allows) (omega arith) before in
     next most allows fits (record { waits = omega (arith, kept.waits); pieces = kept.pieces })
 
--- none is too long where it is refused
+-- no piece is too long in a call that failed
 pub short_stop : {T U : Type 0} (objects : List (List ℕ)) (more less : ℕ) (p q r : State) (first : Result T WriteFault) (fault : WriteFault) → less ≤ 4096 → r.longest ≡ q.longest → KeepsShort [] less p q first → KeepsShort {T = U} objects more p r (Err fault)
 short_stop objects more less p q r first fault small same keeps most allows fits before =
     let kept = keeps most (allows_none most objects allows) (omega (arith, small, allows.least)) before in
     record { waits = tt; pieces = omega (arith, kept.pieces, same) }
 
--- none is too long if there was room for the octets
+-- no piece is too long if the buffer had space for the bytes
 pub short_put : {T : Type 0} (more : ℕ) (octets items : List ℕ) (p q : State) (value : T) → more ≤ 4096 → length octets ≤ more → items ≡ q.waiting ++ octets → KeepsShort [] more p q (Ok value) → KeepsShort {T = Unit {0}} [] 0 p (record q { waiting = items }) (Ok tt)
 short_put more octets items p q value small fit put keeps most allows fits before =
     let kept = keeps most allows (omega (arith, small, allows.least)) before in
     record { waits = omega (arith, kept.waits, fit, put-length q.waiting items octets put); pieces = kept.pieces }
 
--- a file that was written from its first octet on, or refused
+-- a file that was written from its first byte on, or not completely
 pub is_written : {T : Type 0} (file : List ℕ) (p r : State) (value : T) → p.waiting ≡ [] → p.sent ≡ 0 → r.waiting ≡ [] → Goes file p r (Ok value) → IsWritten file p.taken r.taken p.failures r.failures (Ok r.sent)
 is_written file p r value none begins none_left goes =
     let whole : file ≡ goes.done.gone = ap (λ l. l ++ file) (sym none) ∙ goes.done.whole ∙ ap (λ l. goes.done.gone ++ l) none_left ∙ append-nil goes.done.gone in

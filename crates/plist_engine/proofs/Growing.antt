@@ -1,4 +1,4 @@
--- How what was planned grows.
+-- How a plan grows.
 use Rattle.std.proofs.Common.{◌≡◌, ℕ, ◌≤◌, List, [], ◌∷◌, ◌++◌, length, drop, refl, sym, ap, ◌∙◌, append_assoc}
 use Rattle.std.proofs.lemmas.List.{append-nil, drop-append-le}
 use Rattle.plist_value.specs.Plist.{Scalar}
@@ -34,7 +34,7 @@ Grows-append f front old mid new hs gs x y = record {
   stand_for = StandFor-append f x.originals y.originals x.references y.references hs gs x.stand_for y.stand_for;
 }
 
--- of fewer references less is looked at
+-- what was added is the same if fewer references are considered
 pub Grows-lift : {S H : Type 0} → (f : List ℕ) (front : ℕ) (old mid new : Plan S H) (hs : List Held) → Grows f 0 old mid hs → front ≤ length old.references.items → new.originals ≡ mid.originals → drop front new.references.items ≡ drop front mid.references.items → Grows f front old new hs
 Grows-lift f front old mid new hs x within same_originals same_references = record {
   originals = x.originals;
@@ -44,7 +44,7 @@ Grows-lift f front old mid new hs x within same_originals same_references = reco
   stand_for = x.stand_for;
 }
 
--- one scalar more
+-- one more scalar
 pub Grows-scalar : {S H : Type 0} → (f : List ℕ) (front i : ℕ) (old new : Plan S H) (s : Scalar) → Holds f i (holds_scalar s) → new.originals.items ≡ old.originals.items ++ (i ∷ []) → new.references.items ≡ old.references.items → Grows f front old new (holds_scalar s ∷ [])
 Grows-scalar f front i old new s holds added kept = record {
   originals = i ∷ [];

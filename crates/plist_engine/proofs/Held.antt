@@ -1,4 +1,4 @@
--- The numbers of keys, which stand at their indexes in a set.
+-- Numbers of keys, at the keys' indices in a set.
 use Rattle.std.proofs.Common.{◌≡◌, ℕ, suc, ◌+◌, Bool, Option, cond, true, false, not, List, [], ◌∷◌, ◌++◌, length, slice_get, Some, None, refl, sym, ◌∙◌, inl, inr, arith, length-append}
 use Rattle.std.specs.List.{list_any, position_or_len}
 use Rattle.std.specs.Bool.{Decides}
@@ -10,7 +10,7 @@ use Rattle.plist_value.specs.EqualityLaws.{scalar_eq-Decides}
 use Rattle.plist_value.specs.Scalars.{content_of}
 use Rattle.plist_value.specs.declared.scalar_ref.ScalarRef.{ScalarRef}
 
--- keys that are the same where their contents are
+-- keys that are equal if their contents are
 module _ (K C : Type 0) (content : K → C) (same : K → K → Bool) (decides : (r q : K) → Decides (same r q) (content r ≡ content q)) where
   abbrev number_at : List K → List ℕ → K → Option ℕ
   number_at ks ns r = slice_get ns (position_or_len (same r) ks)
@@ -29,7 +29,7 @@ module _ (K C : Type 0) (content : K → C) (same : K → K → Bool) (decides :
         | inr not_is ↦ rw not_is (found-any ks ns r n (omega arith) (rw (not_is, second-on) at e))
       ]
 
-  -- and one without is not
+  -- a key without a number is not in the set
   missed-any : (ks : List K) (ns : List ℕ) (r : K) → length ns ≡ length ks → number_at ks ns r ≡ None → list_any (same r) ks ≡ false
   missed-any [] ns r long e = refl
   missed-any (k ∷ ks) [] r long e = absurd (omega arith)
@@ -69,7 +69,7 @@ module _ (K C : Type 0) (content : K → C) (same : K → K → Bool) (decides :
         | inr other ↦ other
       ]
 
-  -- a new key and its number go last
+  -- a new key and its number are last
   last-number : (ks : List K) (ns : List ℕ) (r : K) (n : ℕ) (q : K) → length ns ≡ length ks → list_any (same r) ks ≡ false → number_at (ks ++ (r ∷ [])) (ns ++ (n ∷ [])) q ≡ cond (same r q) (Some n) (number_at ks ns q)
   last-number [] [] r n q long new = rw (same-sym q r) (elim (same r q) as (λ t. slice_get (n ∷ []) (cond (not t) 1 0) ≡ cond t (Some n) None) [ true ↦ refl | false ↦ refl ])
   last-number [] (m ∷ ns) r n q long new = absurd (omega arith)
@@ -86,6 +86,6 @@ module _ (K C : Type 0) (content : K → C) (same : K → K → Bool) (decides :
   pub number-pushed : (ks : List K) (ns : List ℕ) (r : K) (n : ℕ) (q : K) → length ns ≡ length ks → number_at ks ns r ≡ None → number_at (insert_key same ks r) (ns ++ (n ∷ [])) q ≡ cond (same r q) (Some n) (number_at ks ns q)
   number-pushed ks ns r n q long e = rw (insert_key-unknown ks ns r long e) (last-number ks ns r n q long (missed-any ks ns r long e))
 
--- scalars are the same where their contents are
+-- scalars are equal if and only if their contents are
 pub scalars-decide : (r q : ScalarRef) → Decides (on content_of scalar_eq r q) (content_of r ≡ content_of q)
 scalars-decide r q = scalar_eq-Decides (content_of r) (content_of q)

@@ -1,4 +1,4 @@
--- The numbers of keys after one was entered.
+-- The numbers of keys after a lookup.
 use Rattle.std.proofs.Common.{◌≡◌, ℕ, Bool, Option, cond, List, [], ◌∷◌, length, slice_get, Some, None, refl, sym, ap, ◌∙◌, inl, inr}
 use Rattle.std.specs.Bool.{Decides}
 use Rattle.std.specs.List.{position_or_len}
@@ -16,7 +16,7 @@ pub or_or : (o p q : Option ℕ) → option_or o (option_or p q) ≡ option_or (
 or_or None p q = refl
 or_or (Some n) p q = refl
 
--- keys that are the same where their contents are
+-- keys that are equal if their contents are
 module _ (K C : Type 0) (content : K → C) (same : K → K → Bool) (decides : (r q : K) → Decides (same r q) (content r ≡ content q)) where
   alike-same : (r q k : K) → content r ≡ content q → same r k ≡ same q k
   alike-same r q k e = elim (cases_Bool (same r k)) [
@@ -34,7 +34,7 @@ module _ (K C : Type 0) (content : K → C) (same : K → K → Bool) (decides :
   alike-number : {S H : Type 0} (known : Hashed K S H) (r q : K) → content r ≡ content q → number_of_key same known r ≡ number_of_key same known q
   alike-number known r q e = ap (slice_get known.numbers.items) (alike-place known.keys.keys r q e)
 
-  -- the next number, where the key is this one
+  -- the next number, if q is the key
   abbrev next_of : K → ℕ → K → Option ℕ
   next_of k next q = cond (same k q) (Some next) None
 
@@ -46,8 +46,8 @@ module _ (K C : Type 0) (content : K → C) (same : K → K → Bool) (decides :
     counted-after None enters =
         ap length enters.numbers_now ∙ length-pushed K C content same decides old.keys.keys old.numbers.items k next counted (sym enters.had_is) ∙ sym (ap length enters.keys_now)
 
-    -- the key is found under the number that it had, or under the next one, and all others as
-    -- before
+    -- the key has the number that it had, or the next one if it had none, and all others are
+    -- unchanged
     pub number-after : (had : Option ℕ) → EntersKey same k next old new had → (q : K) → number_of_key same new q ≡ option_or (number_of_key same old q) (next_of k next q)
     number-after (Some n) enters q =
         let same_keys = enters.keys_now ∙ insert_key-known K C content same decides old.keys.keys old.numbers.items k n counted (sym enters.had_is) in

@@ -1,4 +1,4 @@
--- The numbers of scalars among the objects that were found.
+-- The numbers of scalars among the planned objects.
 use Rattle.std.proofs.Common.{◌≡◌, ◌⊎◌, ℕ, suc, ◌+◌, List, [], ◌∷◌, ◌++◌, length, Option, Some, None, true, false, cond, refl, sym, ap, ◌∙◌, inl, inr, arith, add-zero}
 use Rattle.std.specs.Option.{option_or}
 use Rattle.std.proofs.lemmas.Bool.{cases_Bool}
@@ -15,7 +15,7 @@ pub cases_Option : (o : Option ℕ) → (o ≡ None) ⊎ ((n : ℕ) × (o ≡ So
 cases_Option None = inl refl
 cases_Option (Some n) = inr (n, refl)
 
--- one object more
+-- one more object
 number_from-more : (f : List ℕ) (n : ℕ) (originals : List ℕ) (i : ℕ) (s : Scalar) → number_from f n (originals ++ (i ∷ [])) s ≡ option_or (number_from f n originals s) (cond (is_held s (what_holds f i)) (Some (n + length originals)) None)
 number_from-more f n [] i s = rw add-zero refl
 number_from-more f n (x ∷ originals) i s =
@@ -33,15 +33,15 @@ module _ {S H : Type 0} (f : List ℕ) (i : ℕ) (old new : Plan S H) (added : n
       let from : 0 + n ≡ n = omega arith in
       ap (λ originals. number_from f 0 originals s) added ∙ number_from-more f 0 old.originals.items i s ∙ ap (λ m. option_or (number_met f old s) (cond (is_held s (what_holds f i)) (Some m) None)) from
 
-  -- an object that does not hold the scalar
+  -- an object that does not contain the scalar
   pub met-beside : (s : Scalar) → is_held s (what_holds f i) ≡ false → number_met f new s ≡ number_met f old s
   met-beside s apart = met-more s ∙ rw apart (or_none (number_met f old s))
 
-  -- what had a number has it still
+  -- what had a number still has it
   pub met-still : (s : Scalar) (n : ℕ) → number_met f old s ≡ Some n → number_met f new s ≡ Some n
   met-still s n had = met-more s ∙ rw had refl
 
-  -- an object that holds a scalar which had none
+  -- an object with a scalar that had no number
   module _ (s : Scalar) (holds : Holds f i (holds_scalar s)) (unknown : number_met f old s ≡ None) where
     held_is : (q : Scalar) → is_held q (what_holds f i) ≡ scalar_eq s q
     held_is q = ap (is_held q) holds.reads
@@ -55,7 +55,7 @@ module _ {S H : Type 0} (f : List ℕ) (i : ℕ) (old new : Plan S H) (added : n
     pub met-now : number_met f new s ≡ Some (length old.originals.items)
     met-now = met-added s ∙ rw ((scalar_eq-Decides s s).1 refl) refl
 
--- a container holds no scalar
+-- a container contains no scalar
 pub list-apart : (f : List ℕ) (i : ℕ) (refs : List ℕ) → Holds f i (holds_list refs) → (s : Scalar) → is_held s (what_holds f i) ≡ false
 list-apart f i refs holds s = ap (is_held s) holds.reads
 

@@ -1,4 +1,4 @@
--- One object more is noted.
+-- One more object is noted.
 use Rattle.std.proofs.Common.{◌≡◌, ◌≢◌, ℕ, suc, ◌<◌, ◌≤◌, List, [], ◌∷◌, ◌++◌, length, get_or, refl, sym, ap, subst, ◌∙◌, arith, add-one, length-append, inl, inr}
 use Rattle.std.proofs.lemmas.Bool.{cases_lt}
 use Rattle.std.proofs.lemmas.List.{get_or_append_left}
@@ -38,7 +38,7 @@ module _ (f : List ℕ) (i bit : ℕ) (old new : Notes) (was : AreNoted f i old)
   alike : (s : Scalar) → bit_of old.mask old.seed s ≡ bit_of new.mask new.seed s
   alike s = rw (same_mask, same_seed) refl
 
-  -- one that holds no scalar
+  -- an object that contains no scalar
   pub noted-none : bit ≡ no_bit → ((s : Scalar) → HoldsIt f i s → ⊥) → AreNoted f (suc i) new
   noted-none is_none none = record {
     noted = long;
@@ -52,7 +52,7 @@ module _ (f : List ℕ) (i bit : ℕ) (old new : Notes) (was : AreNoted f i old)
     ];
   }
 
-  -- one that holds a scalar
+  -- an object that contains a scalar
   module _ (r : ScalarRef) (holds : HoldsIt f i (content_of r)) (is_bit : bit ≡ bit_of old.mask old.seed (content_of r)) where
     abbrev s : Scalar
     s = content_of r
@@ -77,7 +77,7 @@ module _ (f : List ℕ) (i bit : ℕ) (old new : Notes) (was : AreNoted f i old)
       ];
     }
 
--- what the bits of the objects tell that were noted
+-- what the bits show about the noted objects
 pub noted-sieve : (f : List ℕ) (i : ℕ) (notes : Notes) (again : Bits) → AreNoted f i notes → AreMetAgain (length notes.bits.items) notes.bits.items again → HasNoted f i (record { bits = notes.bits; again = again })
 noted-sieve f i notes again notes_are met = record {
   noted = notes_are.noted;
@@ -95,7 +95,7 @@ noted-sieve f i notes again notes_are met = record {
   told = notes_are.told;
 }
 
--- a container holds no scalar
+-- a container contains no scalar
 pub not-held : (f : List ℕ) (i : ℕ) (object : Object) → ((r : ScalarRef) → object ≡ shown.Scalar r → ⊥) → Holds f i (held_of object) → (s : Scalar) → HoldsIt f i s → ⊥
 not-held f i (shown.Scalar r) apart holds s reads = apart r refl
 not-held f i (shown.List refs) apart holds s reads = (let e : holds_list (numbers_of refs) ≡ holds_scalar s = cc in absurd (cc))

@@ -1,4 +1,4 @@
--- The number of a place is where its object stands among the objects.
+-- The number of a place is the index of its object among the objects.
 use Rattle.std.proofs.Common.{◌≡◌, ℕ, zero, suc, ◌+◌, ◌<◌, ◌≤◌, eqb, cond, true, false, List, [], ◌∷◌, length, get_or, refl, sym, ap, arith}
 use Rattle.std.proofs.lemmas.Bool.{false≢true, le-ltb, lt-ltb, eq-eqb, cond_both}
 use Rattle.plist_value.specs.Plist.{Scalar, Plist, scalar, list, table}
@@ -14,7 +14,7 @@ is_scalar-true s (table ps) h = absurd (false≢true h)
 pub is_scalar-same : (s : Scalar) → scalar_eq s s ≡ true
 is_scalar-same s = (scalar_eq-Decides s s).1 refl
 
--- the least place of a scalar is at or before each of its places, and holds it
+-- the least place of a scalar is at or before each of its places, and contains it
 pub least_place-le : (s : Scalar) (all : List Plist) (k : ℕ) → value_at all k ≡ scalar s → least_place s all ≤ k
 least_place-le s [] k h = absurd (cc)
 least_place-le s (v ∷ vs) zero h = rw (h, is_scalar-same s) (omega arith)
@@ -54,7 +54,7 @@ count_below-none all (v ∷ rest) k n h =
       | false ↦ others
     ]
 
--- the places with an object of their own have n as the entry at that number
+-- the entry of the kept places at the number of n is n
 abbrev pub IsEntry : ℕ → Plist → List (ℕ × Plist) → Type 0
 IsEntry n v kept = (count_below n kept < length kept) × ((d : ℕ × Plist) → get_or kept (count_below n kept) d ≡ (n, v))
 
@@ -75,7 +75,7 @@ kept_from-entry all (v ∷ rest) k (suc j) n h at first =
       | false ↦ others
     ]
 
--- the object of a place is the entry at its number: made at its first place, of the same value
+-- the entry at the number of a place is its first place, with the same value
 pub number-entry : (all : List Plist) (k : ℕ) (v : Plist) → value_at all k ≡ v → k < length all → IsEntry (first_place all k v) v (kept_places all)
 number-entry all k v is h =
     let first = first_place all k v in

@@ -15,18 +15,18 @@ use Rattle.plist_engine.specs.Hashed.{EntersKey}
 use Rattle.plist_engine.specs.Numbered.{is_long, number_listed, number_hashed, number_held, IsLong, IsShort, HasRoom, IsNumbered, IsUnlisted, Enters}
 use Rattle.plist_engine.proofs.Keys.{or_none, or_or, counted-after, number-after}
 
--- the next number, where the scalar is this one
+-- the next number, if r is the scalar
 abbrev next_of : ScalarRef → ℕ → ScalarRef → Option ℕ
 next_of shown next r = cond (scalar_eq (content_of shown) (content_of r)) (Some next) None
 
 pub is_same : (r q : ScalarRef) → scalar_eq (content_of r) (content_of q) ≡ true → content_of r ≡ content_of q
 is_same r q e = (scalar_eq-Decides (content_of r) (content_of q)).0 e
 
--- equal scalars are found under one number
+-- equal scalars have the same number
 pub same-number : {S H : Type 0} → (known : Numbered S H) (r q : ScalarRef) → content_of r ≡ content_of q → number_held known q ≡ number_held known r
 same-number known r q same = rw same refl
 
--- nothing changes where the scalar has a number
+-- nothing changes if the scalar has a number
 pub enters-again : {S H : Type 0} → (shown : ScalarRef) (next n : ℕ) (known : Numbered S H) → IsNumbered known → number_held known shown ≡ Some n → Enters shown next known known (Some n)
 enters-again shown next n known numbered had = record {
   numbered = numbered;
@@ -37,7 +37,7 @@ enters-again shown next n known numbered had = record {
   ];
 }
 
--- a list with one more
+-- a list with one more entry
 listed-pushed : (ls : List Listed) (one : Listed) (s : Scalar) → number_listed (ls ++ (one ∷ [])) s ≡ option_or (number_listed ls s) (cond (scalar_eq (content_of one.scalar) s) (Some one.number) None)
 listed-pushed [] one s = refl
 listed-pushed (l ∷ ls) one s = elim (cases_Bool (scalar_eq (content_of l.scalar) s)) [
@@ -45,7 +45,7 @@ listed-pushed (l ∷ ls) one s = elim (cases_Bool (scalar_eq (content_of l.scala
   | inr apart ↦ rw apart (listed-pushed ls one s)
 ]
 
--- long data equal nothing that is not
+-- long data equals no scalar that is not
 differ : (r q : ScalarRef) → (is_long (content_of r) ≡ is_long (content_of q) → ⊥) → scalar_eq (content_of r) (content_of q) ≡ false
 differ r q other = elim (cases_Bool (scalar_eq (content_of r) (content_of q))) [
   | inl same ↦ absurd (other (ap is_long (is_same r q same)))
@@ -58,7 +58,7 @@ short_long r q short long = differ r q (λ e. true≢false (sym long ∙ sym e �
 long_short : (r q : ScalarRef) → IsLong r → IsShort q → scalar_eq (content_of r) (content_of q) ≡ false
 long_short r q long short = differ r q (λ e. true≢false (sym long ∙ e ∙ short))
 
--- long data are listed now
+-- long data that was added to the list
 module _ {S H : Type 0} (shown : ScalarRef) (next : ℕ) (old new : Numbered S H) (numbered : IsNumbered old) (long : IsLong shown) (missed : number_listed old.listed.items (content_of shown) ≡ None) (room : HasRoom old) (same_hashed : new.hashed ≡ old.hashed) (pushed : new.listed.items ≡ old.listed.items ++ (record { scalar = shown; number = next } ∷ [])) where
   listed_now : (r : ScalarRef) → number_listed new.listed.items (content_of r) ≡ option_or (number_listed old.listed.items (content_of r)) (next_of shown next r)
   listed_now r = rw pushed (listed-pushed old.listed.items (record { scalar = shown; number = next }) (content_of r))
@@ -86,7 +86,7 @@ module _ {S H : Type 0} (shown : ScalarRef) (next : ℕ) (old new : Numbered S H
     ];
   }
 
--- the set is asked for one that is not listed
+-- a scalar that is not in the list is looked up in the set
 module _ {S H : Type 0} (shown : ScalarRef) (next : ℕ) (old new : Numbered S H) (had : Option ℕ) (unlisted : IsUnlisted old shown) (same_listed : new.listed ≡ old.listed) (enters : EntersKey (on content_of scalar_eq) shown next old.hashed new.hashed had) where
   hashed_now : (r : ScalarRef) → number_hashed new r ≡ option_or (number_hashed old r) (next_of shown next r)
   hashed_now = number-after ScalarRef Scalar content_of (on content_of scalar_eq) scalars-decide shown next old.hashed new.hashed unlisted.numbered.counted had enters

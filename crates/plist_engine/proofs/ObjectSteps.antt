@@ -8,7 +8,7 @@ use Rattle.plist_engine.specs.Spelling.{IsRead}
 use Rattle.plist_engine.specs.Pieces.{CanSpell, CanSpellAll}
 use Rattle.plist_engine.specs.Parts.{held_in, reference_count, renumbered, helds_of, AreSound, octets_for}
 
--- what the object i wants of the file and of the numbers
+-- what object i requires of the file and of the numbers
 pub record Sound (f : List ℕ) (x : ℕ) (numbers : List ℕ) : Type 0 where
   pub read : IsRead f x
   pub enough : reference_count (held_in f x) ≤ length numbers
@@ -19,14 +19,14 @@ sound-next f start i x numbers h is sound =
     let both = subst (λ (os : List ℕ). AreSound f os numbers) split sound in
     record { read = both.0; enough = both.1.0 }
 
--- the object i can be spelled
+-- object i can be encoded
 pub spellable-next : (width : ℕ) (f start : List ℕ) (i x : ℕ) (numbers : List ℕ) → i < length start → x ≡ get_or start i x → CanSpellAll width (helds_of f (drop i start) numbers) → CanSpell width (renumbered (held_in f x) numbers)
 spellable-next width f start i x numbers h is spellable =
     let split : drop i start ≡ x ∷ drop (i + 1) start = drop_more start i x h ∙ ap (λ y. y ∷ drop (i + 1) start) (sym is) in
     let can = subst (λ (os : List ℕ). CanSpellAll width (helds_of f os numbers)) split spellable in
     can.0
 
--- what is left behind the object i
+-- what remains after object i
 pub record Step (width : ℕ) (f start : List ℕ) (i : ℕ) (numbers behind octets : List ℕ) : Type 0 where
   pub sound : AreSound f (drop (i + 1) start) behind
   pub spellable : CanSpellAll width (helds_of f (drop (i + 1) start) behind)

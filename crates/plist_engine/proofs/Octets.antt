@@ -1,4 +1,4 @@
--- What is spelled consists of octets.
+-- Encodings consist of bytes.
 use Rattle.std.proofs.Common.{◌≡◌, ℕ, zero, suc, ◌+◌, ◌-◌, ◌*◌, ◌<◌, ltb, true, false, ℤ, pos, negsuc, List, [], ◌∷◌, ◌++◌, length, map, replicate, arith}
 use Rattle.std.specs.List.{concat, list_all}
 use Rattle.std.specs.Int.{byte_at}
@@ -108,7 +108,7 @@ octets-trailer n t =
     under-append 256 (replicate 6 0) (least_width t ∷ least_width n ∷ numbers) (octets-big_bytes 6 0)
     (under-cons 256 (least_width t) (least_width n ∷ numbers) (omega arith) (under-cons 256 (least_width n) numbers (omega arith) octets))
 
--- the header is the octets of one number
+-- the header is the bytes of one number
 octets-header : AreOctets header
 octets-header = octets-big_bytes 8 7093288613272891440
 

@@ -1,4 +1,4 @@
--- What objects hold, told by the objects of another file.
+-- The content of objects, given by the objects of another file.
 use Rattle.std.proofs.Common.{◌≡◌, ℕ, suc, ◌+◌, ◌≤◌, List, [], ◌∷◌, ◌++◌, length, take, drop, refl, sym, ap, subst, ◌∙◌, arith, length-append, append_assoc}
 use Rattle.std.proofs.lemmas.List.{take_at, drop_at}
 use Rattle.plist_object.specs.Objects.{Held, holds_scalar, holds_list, holds_table}
@@ -11,7 +11,7 @@ use Rattle.plist_engine.specs.Spelling.{IsRead}
 pub held-is : (f : List ℕ) (i : ℕ) (held : Held) → Holds f i held → held_in f i ≡ held
 held-is f i held holds = ap held_or_none holds.reads
 
--- what stands for an object, with its references in front of others
+-- the object of the input, with its references before others
 record Renumbers (f : List ℕ) (i : ℕ) (h : Held) (behind : List ℕ) : Type 0 where
   read : IsRead f i
   same : renumbered (held_in f i) (references_of h ++ behind) ≡ h

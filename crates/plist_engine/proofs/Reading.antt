@@ -1,4 +1,4 @@
--- The objects of a canonical file are read back.
+-- The objects of a canonical file are decoded to their content.
 use Rattle.std.proofs.Common.{◌≡◌, ℕ, suc, ◌+◌, ◌^◌, ◌<◌, ◌≤◌, ltb, List, [], ◌∷◌, ◌++◌, length, map, replicate, pos, negsuc, Ok, refl, sym, ◌∙◌, arith, length-append}
 use Rattle.std.specs.List.{list_all}
 use Rattle.std.proofs.lemmas.List.{length-map}
@@ -40,7 +40,7 @@ object_in-octets number width k (table ps) rest fit h =
     let value_count : length values ≡ length (key_texts ps) = length-map (value_places first ps) number ∙ length-value_places first ps in
     object_in-table width keys values rest (omega arith) (key_count ∙ sym value_count) (AllFit-map width number (key_places (suc k) ps) fit) (AllFit-map width number (value_places first ps) fit)
 
--- what is held at the first place that shares an object is what is held at each
+-- places that share an object have the same content
 pub held_at-first : (all : List Plist) (number : ℕ → ℕ) (k : ℕ) (v : Plist) → held_at number (first_place all k v) v ≡ held_at number k v
 held_at-first all number k (scalar s) = refl
 held_at-first all number k (list vs) = refl

@@ -1,4 +1,4 @@
--- What a plan knows of the scalars that were met.
+-- What a plan knows of the visited scalars.
 use Rattle.std.proofs.Common.{◌≡◌, ◌⊎◌, ℕ, ◌≤◌, false, List, [], ◌∷◌, ◌++◌, length, Some, None, refl, sym, ap, subst, ◌∙◌, inl, inr, arith}
 use Rattle.std.proofs.lemmas.Bool.{cases_eq, cases_Bool}
 use Rattle.std.proofs.lemmas.List.{append-nil}
@@ -32,7 +32,7 @@ valid_at f i s (list vs) valid spells holds =
 valid_at f i s (table ps) valid spells holds =
     absurd (let held = same_held f i (holds_table spells.0 spells.1.0) (holds_scalar s) spells.1.1.1.0 holds in cc)
 
--- an object that is remembered is walked
+-- an object whose number is known is walked
 pub walked-again : {S H : Type 0} → (f : List ℕ) (i levels : ℕ) (plan : Plan S H) (n : ℕ) → SpellsWithin f i levels → IsRemembered f plan i n → IsWalked f i plan plan n
 walked-again f i levels plan n within one =
     let s = one.shown in
@@ -45,7 +45,7 @@ walked-again f i levels plan n within one =
       references_added = sym (append-nil _);
     }
 
--- a number that the memo has
+-- a number in the memo
 pub number-remembered : {S H : Type 0} → (f : List ℕ) (plan : Plan S H) (i x : ℕ) → kept plan.memo i ≡ x → IsNumber x → KnowsScalars f plan → IsRemembered f plan i x
 number-remembered f plan i x same some knows =
     subst (λ (n : ℕ). IsRemembered f plan i n) same (knows.each i (subst IsNumber (sym same) some))
@@ -61,7 +61,7 @@ knows-none f plan none new listed unmet = record {
   met = λ s n has. absurd (let e : None ≡ Some n = sym (ap (λ originals. number_from f 0 originals s) none) ∙ has in cc);
 }
 
--- a plan of which neither the scalars nor what is kept of them changed
+-- a plan whose scalars, with their numbers, did not change
 knows-as : {S H : Type 0} → (f : List ℕ) (old new : Plan S H) → ((s : Scalar) → number_met f new s ≡ number_met f old s) → new.scalars ≡ old.scalars → new.memo ≡ old.memo → KnowsScalars f old → KnowsScalars f new
 knows-as {S} {H} f old new same same_scalars same_memo was =
     let memo : (i : ℕ) → kept new.memo i ≡ kept old.memo i = λ i. ap (λ m. kept m i) same_memo in
@@ -88,17 +88,17 @@ knows-as {S} {H} f old new same same_scalars same_memo was =
           };
     }
 
--- one of which references alone changed
+-- a plan of which only references changed
 pub knows-same : {S H : Type 0} → (f : List ℕ) (old new : Plan S H) → new.originals ≡ old.originals → new.scalars ≡ old.scalars → new.memo ≡ old.memo → KnowsScalars f old → KnowsScalars f new
 knows-same f old new same_originals same_scalars same_memo was =
     knows-as f old new (λ s. ap (λ originals. number_from f 0 originals.items s) same_originals) same_scalars same_memo was
 
--- one with a container more
+-- a plan with one more container
 pub knows-begun : {S H : Type 0} → (f : List ℕ) (i : ℕ) (refs : List ℕ) (old new : Plan S H) (n : ℕ) → ((s : Scalar) → is_held s (what_holds f i) ≡ false) → Begins i refs old new n → KnowsScalars f old → KnowsScalars f new
 knows-begun f i refs old new n apart begins was =
     knows-as f old new (λ s. met-beside f i old new begins.original_added s (apart s)) begins.scalars_kept begins.memo_kept was
 
--- one in which single objects were looked for
+-- a plan after the search for single objects
 pub unmet-sifted : {S H : Type 0} → (f : List ℕ) (i : ℕ) (s : Scalar) (old new : Plan S H) → new.originals ≡ old.originals → new.scalars ≡ old.scalars → Sifts f old.memo new.memo → IsUnmet f i s old → IsUnmet f i s new
 unmet-sifted {S} {H} f i s old new same_originals same_scalars sifts unmet =
     let was = unmet.knows in
@@ -143,7 +143,7 @@ unmet-sifted {S} {H} f i s old new same_originals same_scalars sifts unmet =
       };
     }
 
--- the scalar of an object that was not met
+-- the scalar of an object that was not visited
 module _ {S H : Type 0} (f : List ℕ) (i : ℕ) (r : ScalarRef) (old : Plan S H) (unmet : IsUnmet f i (content_of r) old) where
   abbrev s : Scalar
   s = content_of r
@@ -159,7 +159,7 @@ module _ {S H : Type 0} (f : List ℕ) (i : ℕ) (r : ScalarRef) (old : Plan S H
   had-met next n scalars enters =
       unmet.knows.stored r n (entered-had r next n old.scalars scalars enters)
 
-  -- it was not met, where it is that of one object, or not in the set
+  -- a scalar was not visited if only one object contains it, or if it is not in the set
   unmet-single : IsAlone f i → number_met f old s ≡ None
   unmet-single single = elim (cases_Option (number_met f old s)) [
     | inl none ↦ none
@@ -184,7 +184,7 @@ module _ {S H : Type 0} (f : List ℕ) (i : ℕ) (r : ScalarRef) (old : Plan S H
     | inr alone ↦ unmet-single alone.1
   ]
 
-  -- what was entered, where the scalar was met, and where it was not
+  -- what was entered, for a scalar that was visited and for one that was not
   pub had-entered : (next n : ℕ) (scalars : Scalars S H) → MeetsScalar old.memo i r next old.scalars scalars (Some n) → EntersScalar r next old.scalars scalars (Some n)
   had-entered next n scalars meets = elim meets [
     | inl enters ↦ enters unmet.knows.numbered
@@ -224,7 +224,7 @@ module _ {S H : Type 0} (f : List ℕ) (i : ℕ) (r : ScalarRef) (old : Plan S H
       | inr apart ↦ unmet.knows.singles j (sym (keeps.others j apart) ∙ e)
     ]
 
-    -- an equal one was met
+    -- an equal scalar was visited
     pub knows-again : (next : ℕ) → EntersScalar r next old.scalars new.scalars (Some n) → new.originals ≡ old.originals → KnowsScalars f new
     knows-again next enters same_originals =
         let same : (q : Scalar) → number_met f new q ≡ number_met f old q = λ q. ap (λ originals. number_from f 0 originals.items q) same_originals in
@@ -249,7 +249,7 @@ module _ {S H : Type 0} (f : List ℕ) (i : ℕ) (r : ScalarRef) (old : Plan S H
               };
         }
 
-    -- none was
+    -- no equal scalar was visited
     module _ (last : n ≡ length old.originals.items) (added : new.originals.items ≡ old.originals.items ++ (i ∷ [])) (entered : Entered n new.scalars) where
       unknown : number_met f old s ≡ None
       unknown = new-met n new.scalars entered

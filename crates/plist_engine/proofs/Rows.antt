@@ -4,7 +4,7 @@ use Rattle.plist_object.specs.Layout.{header}
 use Rattle.plist_value.specs.Plist.{text, whole, bytes, Plist, scalar, list, table, Items, no_items, item, no_pairs, pair}
 use Rattle.plist_engine.specs.Canonical.{canon}
 
--- the end of a file of fewer than 256 octets: so many objects, and the place of the offset table
+-- the end of a file of fewer than 256 bytes, with `count` objects and the offset table at `place`
 end_of : ℕ → ℕ → List ℕ
 end_of count place = replicate 6 0 ++ (1 ∷ 1 ∷ (replicate 7 0 ++ (count ∷ (replicate 15 0 ++ (place ∷ [])))))
 
@@ -23,7 +23,7 @@ two-pairs : canon (table (pair (97 ∷ []) b (pair (98 ∷ []) a no_pairs))) ≡
 unfolding canon a b end_of
 two-pairs = refl
 
--- equal octets of two kinds are two objects
+-- equal bytes of two kinds are two objects
 text-and-data : canon (list (item a (item (scalar (bytes (97 ∷ []))) no_items))) ≡ header ++ (162 ∷ 1 ∷ 2 ∷ 81 ∷ 97 ∷ 65 ∷ 97 ∷ 8 ∷ 11 ∷ 13 ∷ end_of 3 15)
 unfolding canon a end_of
 text-and-data = refl
@@ -42,22 +42,22 @@ wide-keys : canon (table (pair (55296 ∷ 56320 ∷ []) b (pair (65377 ∷ []) a
 unfolding canon a b end_of
 wide-keys = refl
 
--- so many texts of three digits, of which the first is the number k
+-- n strings of three digits, counted from k
 three_digits : ℕ → ℕ → Items
 three_digits zero k = no_items
 three_digits (suc n) k = item (scalar (text ((48 + k / 100) ∷ (48 + k / 10 % 10) ∷ (48 + k % 10) ∷ []))) (three_digits n (suc k))
 
--- 255 objects, with references of one octet
+-- 255 objects, with references of one byte
 least-references : length (canon (list (three_digits 254 0))) ≡ 1823
 unfolding canon three_digits
 least-references = refl
 
--- 256 objects: the width of a reference holds how many there are, not the greatest number
+-- 256 objects: the width of a reference depends on their number, not on the greatest reference
 wider-references : length (canon (list (three_digits 255 0))) ≡ 2085
 unfolding canon three_digits
 wider-references = refl
 
--- offsets of one octet, and of two
+-- offsets of one byte, and of two
 least-offsets : length (canon (scalar (bytes (replicate 244 0)))) ≡ 288
 unfolding canon
 least-offsets = refl

@@ -1,4 +1,4 @@
--- Bits of words, of which one is set.
+-- Setting one bit in a list of words.
 use Rattle.std.proofs.Common.{◌≡◌, ◌⊎◌, ℕ, ◌*◌, ◌/◌, ◌%◌, ◌^◌, ◌<◌, ◌≤◌, ◌∙◌, List, length, get_or, set, replicate, sym, ap, true, inl, inr, arith, w64, eqb, eq-eqb, eqb-true}
 use Rattle.std.specs.Prelude.{◌↔◌, bit_and, bit_or}
 use Rattle.std.specs.Int.{bit_at}
@@ -19,7 +19,7 @@ bit_in_word words n within =
     let word = get_or words (n / 64) 0 in
     rw (get_or_default_zero words (n / 64) ones within, shr_and_one word (n % 64)) (eqb-true (bit_at word (n % 64)) 1, eq-eqb (bit_at word (n % 64)) 1)
 
--- a bit behind the end
+-- a bit past the end
 pub bit_behind : (words : List ℕ) (n : ℕ) → length words ≤ n / 64 → IsSet words n
 unfolding IsSet
 bit_behind words n past =
@@ -67,7 +67,7 @@ module _ (words : List ℕ) (n : ℕ) (within : n / 64 < length words) where
     | inr apart ↦ other_word m apart has
   ]
 
-  -- the word as it is
+  -- the word without a change
   pub words_kept : (m : ℕ) → IsSet words m → IsSet (set words (n / 64) word) m
   unfolding IsSet
   words_kept m has = elim (cases_eq (m / 64) (n / 64)) [
@@ -79,7 +79,7 @@ module _ (words : List ℕ) (n : ℕ) (within : n / 64 < length words) where
     | inr apart ↦ rw (get_or-set_other words (n / 64) (m / 64) word ones apart) has
   ]
 
-  -- a bit is set or not, as the factor is 1 or 0
+  -- the bit is set if the factor is 1, and not if it is 0
   abbrev joined_if : ℕ → ℕ
   joined_if k = bit_or word (k * 2 ^ (n % 64) % 2 ^ 64)
 
@@ -92,7 +92,7 @@ module _ (words : List ℕ) (n : ℕ) (within : n / 64 < length words) where
         )
   ]
 
--- words of zeros have no bit
+-- words of zeros have no bit set
 pub no_bit : (n count : ℕ) → n / 64 < count → IsSet (replicate count 0) n → ⊥
 unfolding IsSet
 no_bit n count within is =

@@ -1,4 +1,4 @@
--- What bits tell of the scalars of a file.
+-- What the bits show about the scalars of a file.
 use Rattle.std.proofs.Common.{◌≡◌, ◌⊎◌, ℕ, ◌<◌, List, length, set, refl, sym, ap, subst, ◌∙◌, arith, inl, inr}
 use Rattle.std.proofs.lemmas.Bool.{cases_eq, cases_lt}
 use Rattle.std.proofs.lemmas.List.{length-set, get_or-set_same, get_or-set_other}
@@ -11,14 +11,14 @@ use Rattle.plist_engine.specs.Sieve.{HasNoted, HoldsIt, IsUnlike, MayRepeat}
 use Rattle.plist_engine.specs.declared.sieve.Sieve.{Sieve}
 
 module _ (f : List ℕ) (n : ℕ) (sieve : Sieve) (noted : HasNoted f n sieve) where
-  -- of two equal scalars both may repeat another
+  -- of two equal scalars each may repeat another
   pub later_may : (j k : ℕ) (s : Scalar) → j < k → k < n → HoldsIt f j s → HoldsIt f k s → MayRepeat sieve k
   later_may j k s apart below first second = (noted.again j k s apart below first second).1
 
   pub earlier_may : (j k : ℕ) (s : Scalar) → j < k → k < n → HoldsIt f j s → HoldsIt f k s → MayRepeat sieve j
   earlier_may j k s apart below first second = (noted.again j k s apart below first second).0
 
--- a scalar that shares no bit is that of one object
+-- a scalar that shares no bit is in one object only
 pub alone-apart : (f : List ℕ) (sieve : Sieve) → HasNoted f (trailer_of f).count sieve → (i : ℕ) → (MayRepeat sieve i → ⊥) → IsAlone f i
 alone-apart f sieve noted i apart s j here there =
     let n = (trailer_of f).count in
@@ -30,14 +30,14 @@ alone-apart f sieve noted i apart s j here there =
       ]
     ]
 
--- one that has such a bit
+-- an object whose bit no other has
 single-unlike : (f : List ℕ) (sieve : Sieve) → HasNoted f (trailer_of f).count sieve → (i : ℕ) → i < length sieve.bits.items → IsUnlike sieve i → IsSingle f i
 single-unlike f sieve noted i below unlike =
     let listed : i < (trailer_of f).count = subst (λ (n : ℕ). i < n) noted.noted below in
     let told = noted.told i listed unlike.0 in
     ((told.0, record { listed = listed; reads = told.1 }), alone-apart f sieve noted i unlike.1)
 
--- what was marked by bits is single
+-- objects that are marked because of their bits are single
 pub marked-sifts : (f : List ℕ) (sieve : Sieve) → HasNoted f (trailer_of f).count sieve → (old new : Memo) → Marks sieve old.numbers.items new.numbers.items → Sifts f old new
 marked-sifts f sieve noted old new marks = record {
   as_many = marks.as_many;
@@ -57,7 +57,7 @@ sifts-none f old new same = record {
   each = λ i. inl (ap (λ numbers. kept_at numbers.items i) same);
 }
 
--- one object more is
+-- one more object is marked
 pub marks-more : (sieve : Sieve) (start now : List ℕ) (i : ℕ) → Marks sieve start now → i < length now → i < length sieve.bits.items → kept_at now i ≡ no_number → IsUnlike sieve i → Marks sieve start (set now i single)
 marks-more sieve start now i marks within below none unlike = record {
   as_many = length-set now i single ∙ marks.as_many;

@@ -1,4 +1,4 @@
--- How many octets the objects of a value have.
+-- The number of bytes of the objects of a value.
 use Rattle.std.proofs.Common.{◌≡◌, ℕ, suc, ◌+◌, ◌*◌, ◌<◌, ◌≤◌, eqb, ltb, cond, true, false, ℤ, pos, negsuc, List, [], ◌∷◌, ◌++◌, length, map, replicate, refl, ap, arith, length-append, lt-ltb}
 use Rattle.std.specs.List.{concat, list_all}
 use Rattle.std.proofs.lemmas.List.{length-map}
@@ -50,7 +50,6 @@ length-text units h =
     cond_both (list_all (λ u. ltb u 128) units) (head 5 (length units) ++ units) (head 6 (length units) ++ references 2 units) (λ octets. length octets ≤ 6 + 2 * length units)
     (λ _. rw length-append (omega arith)) (λ _. rw length-append (omega arith))
 
--- how many items there are
 abbrev pub item_count : Items → ℕ
 item_count no_items = 0
 item_count (item v vs) = suc (item_count vs)
@@ -69,7 +68,7 @@ pub key_count-nodes : (ps : Pairs) → length (key_texts ps) ≤ nodes_of_pairs 
 key_count-nodes no_pairs = omega arith
 key_count-nodes (pair key v ps) = let others = key_count-nodes ps in omega arith
 
--- the octets that the object of a place may have
+-- a bound on the bytes of the object of a place
 abbrev pub weight : Plist → ℕ
 weight (scalar s) = 17 + payload_of_scalar s
 weight (list vs) = 17 + 4 * item_count vs
@@ -89,7 +88,7 @@ length-scalar (bytes xs) valid h =
 product-le : (w n : ℕ) → w ≤ 4 → w * n ≤ 4 * n
 product-le w n h = mul-le-mul_right n h
 
--- no object is heavier than its place
+-- no object exceeds the bound of its place
 pub length-object : (number : ℕ → ℕ) (width k : ℕ) (v : Plist) → width ≤ 4 → IsSound v → length (object_octets number width k v) ≤ weight v
 length-object number width k (scalar s) narrow h = length-scalar s h.valid h.payload_fits
 length-object number width k (list vs) narrow h =
@@ -115,7 +114,7 @@ pub total-append : (xs ys : List Plist) → total (xs ++ ys) ≡ total xs + tota
 total-append [] ys = omega arith
 total-append (x ∷ xs) ys = let others = total-append xs ys in omega arith
 
--- all places together; a reference to each, of 4 octets, is already counted at its container
+-- all places together; a reference to each, of 4 bytes, is counted at its container
 mutual
   pub total-tree : (v : Plist) → total (preorder v) + 4 ≤ payload v + 21 * nodes v
   total-tree (scalar s) = omega arith
@@ -141,7 +140,7 @@ mutual
       let both = total-append (preorder v) (preorder_values ps) in
       omega arith
 
--- the objects of the kept places have at most that many octets
+-- the objects of the kept places have at most that many bytes
 pub length-objects : (all : List Plist) (number : ℕ → ℕ) (width : ℕ) → width ≤ 4 → (k : ℕ) (rest : List Plist) → EachSound rest → length (concat (map (λ p. object_octets number width p.0 p.1) (kept_from all k rest))) ≤ total rest
 length-objects all number width narrow k [] each = omega arith
 length-objects all number width narrow k (v ∷ rest) each =
@@ -161,7 +160,7 @@ length-kept all k (v ∷ rest) =
       | false ↦ omega arith
     ]
 
--- a head has at most ten octets
+-- marker and count have at most ten bytes
 head_size-most : (n : ℕ) → head_size n ≤ 10
 head_size-most n =
     elim (ltb n 15) as (λ short. cond short 1 (2 + least_width n) ≤ 10) [

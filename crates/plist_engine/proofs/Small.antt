@@ -1,4 +1,4 @@
--- Natural numbers that are entered, below the limit and from it on.
+-- Non-negative integers that are entered, below the limit and from the limit on.
 use Rattle.std.proofs.Common.{◌≡◌, ◌≢◌, ℕ, ◌<◌, ◌≤◌, Option, cond, false, Some, None, sym, inl, inr, nat_eq, nat_le, arith}
 use Rattle.std.specs.Option.{option_or}
 use Rattle.std.specs.Cmp.{unsigned_Decides}
@@ -15,7 +15,7 @@ apart n m other = elim (cases_Bool (nat_eq n m)) [
 ]
 
 module _ {S H : Type 0} (n next : ℕ) (old new : Naturals S H) (had : Option ℕ) (same_limit : new.limit ≡ old.limit) where
-  -- one from the limit on goes into the set
+  -- an integer from the limit on is entered in the set
   module _ (far : old.limit ≤ n) (same_small : new.small ≡ old.small) (counted : AreCounted old) (enters : EntersKey nat_eq n next old.large new.large had) where
     large_now : (m : ℕ) → number_of_key nat_eq new.large m ≡ option_or (number_of_key nat_eq old.large m) (cond (nat_eq n m) (Some next) None)
     large_now = number-after ℕ ℕ (λ m. m) nat_eq unsigned_Decides n next old.large new.large counted.counted had enters
@@ -30,7 +30,7 @@ module _ {S H : Type 0} (n next : ℕ) (old new : Naturals S H) (had : Option �
       ];
     }
 
-  -- one below it has its number at its place
+  -- an integer below the limit has its number at its index
   module _ (near : n < old.limit) (same_large : new.large ≡ old.large) (counted : AreCounted old) (had_is : had ≡ number_at old.small.items n) (each : (m : ℕ) → number_at new.small.items m ≡ option_or (number_at old.small.items m) (cond (nat_eq n m) (Some next) None)) where
     pub enters-small : EntersNatural n next old new had
     enters-small = record {

@@ -1,4 +1,4 @@
--- A file in which each place's object holds what stands at the place spells the value.
+-- A file encodes the value if the object of each place contains what is there.
 use Rattle.std.proofs.Common.{◌≡◌, ℕ, suc, ◌+◌, ◌<◌, List, ◌++◌, length, map, refl}
 use Rattle.std.specs.List.{zip}
 use Rattle.std.proofs.lemmas.List.Sorted.{IsPermutation-refl}

@@ -1,4 +1,4 @@
--- The numbers of scalars, in the set of natural numbers and among all others.
+-- The numbers of scalars, in the map of non-negative integers and in that of all others.
 use Rattle.std.proofs.Common.{◌≡◌, ◌⊎◌, ℕ, pos, negsuc, Option, cond, false, Some, None, refl, sym, ap, ◌∙◌, inl, inr, nat_eq}
 use Rattle.std.specs.Cmp.{unsigned_Decides}
 use Rattle.std.proofs.lemmas.Bool.{cases_Bool, true≢false}
@@ -14,7 +14,7 @@ use Rattle.plist_engine.specs.Scalars.{natural_in, number_by, number_stored, Are
 use Rattle.plist_engine.proofs.Keys.{or_none}
 use Rattle.plist_engine.proofs.Numbers.{is_same, same-number}
 
--- equal scalars are found under one number
+-- equal scalars have the same number
 same-by : {S H : Type 0} → (known : Scalars S H) (r q : ScalarRef) (natural : Option ℕ) → content_of r ≡ content_of q → number_by known q natural ≡ number_by known r natural
 same-by known r q (Some n) same = refl
 same-by known r q None same = same-number known.others r q same
@@ -34,7 +34,7 @@ module _ {S H : Type 0} (shown : ScalarRef) (next n : ℕ) (old new : Scalars S 
     | inr apart ↦ enters.each r ∙ rw apart (or_none (number_stored old r))
   ]
 
--- one that has none
+-- a scalar that has no number
 module _ {S H : Type 0} (shown : ScalarRef) (next : ℕ) (old new : Scalars S H) (enters : EntersScalar shown next old new None) where
   pub entered-unknown : number_stored old shown ≡ None
   entered-unknown = sym enters.had_is
@@ -45,7 +45,7 @@ module _ {S H : Type 0} (shown : ScalarRef) (next : ℕ) (old new : Scalars S H)
     | inr apart ↦ enters.each r ∙ rw apart (or_none (number_stored old r))
   ]
 
--- nothing changes where the scalar has a number
+-- nothing changes if the scalar has a number
 pub enters-again : {S H : Type 0} → (shown : ScalarRef) (next n : ℕ) (known : Scalars S H) → AreNumbered known → number_stored known shown ≡ Some n → EntersScalar shown next known known (Some n)
 enters-again shown next n known numbered had = record {
   numbered = numbered;
@@ -56,7 +56,7 @@ enters-again shown next n known numbered had = record {
   ];
 }
 
--- the natural number in a scalar tells it
+-- a scalar is determined by its integer
 natural-is : (s : Scalar) (n : ℕ) → natural_in s ≡ Some n → s ≡ whole (pos n)
 natural-is (whole (pos m)) n e = let same : m ≡ n = cc in ap (λ k. whole (pos k)) same
 natural-is (whole (negsuc m)) n e = absurd (cc)
@@ -67,21 +67,21 @@ natural-is (real8 xs) n e = absurd (cc)
 natural-is (moment xs) n e = absurd (cc)
 natural-is (bytes xs) n e = absurd (cc)
 
--- a scalar and another of another kind
+-- scalars of different kinds
 differ : (r q : ScalarRef) → (natural_in (content_of r) ≡ natural_in (content_of q) → ⊥) → scalar_eq (content_of r) (content_of q) ≡ false
 differ r q other = elim (cases_Bool (scalar_eq (content_of r) (content_of q))) [
   | inl same ↦ absurd (other (ap natural_in (is_same r q same)))
   | inr apart ↦ apart
 ]
 
--- two natural numbers in scalars are the same where the scalars are
+-- two integers are equal if and only if their scalars are
 naturals-same : (r q : ScalarRef) (m n : ℕ) → natural_in (content_of r) ≡ Some m → natural_in (content_of q) ≡ Some n → scalar_eq (content_of r) (content_of q) ≡ nat_eq m n
 naturals-same r q m n first second = elim (cases_Bool (nat_eq m n)) [
   | inl is ↦ (let e : m ≡ n = (unsigned_Decides m n).0 is in (scalar_eq-Decides (content_of r) (content_of q)).1 (natural-is (content_of r) m first ∙ ap (λ k. whole (pos k)) e ∙ sym (natural-is (content_of q) n second)) ∙ sym is)
   | inr apart ↦ differ r q (λ e. let same : m ≡ n = let t : Some m ≡ Some n = sym first ∙ e ∙ second in cc in true≢false (sym ((unsigned_Decides m n).1 same) ∙ apart)) ∙ sym apart
 ]
 
--- what stands for a scalar whose natural number is known to be this, or to be none
+-- the number of a scalar that is known to be this integer, or no such integer
 by-natural : {S H : Type 0} → (known : Scalars S H) (r : ScalarRef) (n : ℕ) → natural_in (content_of r) ≡ Some n → number_stored known r ≡ number_of_natural known.naturals n
 by-natural known r n e = ap (number_by known r) e
 
@@ -92,7 +92,7 @@ cases-natural : (o : Option ℕ) → (o ≡ None) ⊎ ((n : ℕ) × (o ≡ Some 
 cases-natural None = inl refl
 cases-natural (Some n) = inr (n, refl)
 
--- a natural number was entered
+-- an integer was entered
 pub enters-natural : {S H : Type 0} → (shown : ScalarRef) (n next : ℕ) (old new : Scalars S H) (had : Option ℕ) → natural_in (content_of shown) ≡ Some n → AreNumbered old → new.others ≡ old.others → EntersNatural n next old.naturals new.naturals had → EntersScalar shown next old new had
 enters-natural shown n next old new had natural numbered same_others enters = record {
   numbered = record {

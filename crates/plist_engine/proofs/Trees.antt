@@ -1,4 +1,4 @@
--- The places of a tree, and what stands at them.
+-- The places of a tree, and the values there.
 use Rattle.std.proofs.Common.{◌≡◌, ℕ, suc, ◌+◌, ◌<◌, List, [], ◌∷◌, ◌++◌, length, refl, sym, ap, ◌∙◌, arith, length-append, append_assoc}
 use Rattle.std.proofs.lemmas.List.{get_or_at, append-nil}
 use Rattle.plist_value.specs.Plist.{Plist, scalar, list, table, Items, no_items, item, Pairs, no_pairs, pair}
@@ -32,7 +32,7 @@ pub length-value_places : (k : ℕ) (ps : Pairs) → length (value_places k ps) 
 length-value_places k no_pairs = refl
 length-value_places k (pair key v ps) = let others = length-value_places (k + nodes v) ps in omega arith
 
--- so does its front, and what is behind that
+-- a prefix of a list is at the same place, and the rest after it
 pub Stands-front : {X : Type 0} {all : List X} {k : ℕ} (xs ys : List X) → Stands all k (xs ++ ys) → Stands all k xs
 Stands-front xs ys h =
     record { before = h.before; after = ys ++ h.after; whole = h.whole ∙ ap (λ zs. h.before ++ zs) (append_assoc xs ys h.after); place = h.place }
@@ -58,7 +58,7 @@ Stands-tail x xs h =
 pub Stands-all : {X : Type 0} (xs : List X) → Stands xs 0 xs
 Stands-all xs = record { before = []; after = []; whole = sym (append-nil xs); place = refl }
 
--- what a list has at the place of its head
+-- the value at the place of a list is its first element
 pub Stands-head : {all : List Plist} {k : ℕ} (v : Plist) (vs : List Plist) → Stands all k (v ∷ vs) → (value_at all k ≡ v) × (k < length all)
 Stands-head v vs h = rw (h.whole, length-append) (get_or_at h.before v (vs ++ h.after) (list no_items) _ h.place, omega arith)
 

@@ -1,4 +1,4 @@
--- What was walked when the parts were.
+-- The whole is walked when its parts are.
 use Rattle.std.proofs.Common.{◌≡◌, ℕ, ◌+◌, ◌<◌, ◌≤◌, List, [], ◌∷◌, ◌++◌, length, get_or, drop, take, sym, ap, subst, ◌∙◌}
 use Rattle.std.proofs.lemmas.List.{drop_more, drop_all, drop_at, take_at, append-nil}
 use Rattle.plist_value.specs.Plist.{Scalar, scalar, list, table, Items, no_items, item, Pairs, IsScalar}
@@ -63,7 +63,7 @@ walked-table f i keys values rows ps old mid done number first as_many spell at_
       references_added = fill.filled;
     }
 
--- one value more is walked
+-- one more value is walked
 pub walked-next : {S H : Type 0} → (f start : List ℕ) (i x : ℕ) (plan mid next new : Plan S H) (n : ℕ) (numbers : List ℕ) → i < length start → x ≡ get_or start i 0 → length start ≤ length plan.references.items → IsWalked f x plan mid n → next.originals ≡ mid.originals → drop (length start) next.references.items ≡ drop (length start) mid.references.items → ItemsWalked f (length start) (drop (i + 1) start) next new numbers → ItemsWalked f (length start) (drop i start) plan new (n ∷ numbers)
 walked-next f start i x plan mid next new n numbers h is within one same_originals same_references rest =
     let v = one.value in
@@ -75,7 +75,7 @@ walked-next f start i x plan mid next new n numbers h is within one same_origina
       walks = Walks-item f (length start) v rest.items plan next new n numbers (Walks-lift f (length start) (preorder v) (λ k. k ∷ []) plan mid next (n ∷ []) one.walks within same_originals same_references) rest.walks;
     }
 
--- none is left
+-- no value remains
 pub walked-none : {S H : Type 0} → (f start : List ℕ) (i : ℕ) (plan : Plan S H) → length start ≤ i → ItemsWalked f (length start) (drop i start) plan plan []
 walked-none f start i plan past = record {
   items = no_items;

@@ -18,7 +18,7 @@ use Rattle.plist_engine.proofs.Counting.{count-kept, count-shared, least_place-a
 use Rattle.plist_engine.proofs.Meeting.{met-added}
 use Rattle.plist_engine.proofs.Growing.{Grows-none, Grows-append, Grows-lift, Grows-scalar}
 
--- what is found in one part, and then in another
+-- the kept places of one part, and then those of another
 kept_from-append : (all : List Plist) (k : ℕ) (xs ys : List Plist) → kept_from all k (xs ++ ys) ≡ kept_from all k xs ++ kept_from all (k + length xs) ys
 kept_from-append all k [] ys = rw add-zero refl
 kept_from-append all k (x ∷ xs) ys =
@@ -61,7 +61,7 @@ Walks-append f front xs ys p q r old mid new ms ns joined x y = record {
       Adds-append f front all k old mid new xs ys done (y.adds all (k + length xs) (Stands-rest xs ys (length xs) refl stands) done.ready);
 }
 
--- a plan with other references in front
+-- a plan with other references before those considered
 pub Walks-lift : {S H : Type 0} → (f : List ℕ) (front : ℕ) (part : List Plist) (places : ℕ → List ℕ) (old mid new : Plan S H) (ns : List ℕ) → Walks f 0 part places old mid ns → front ≤ length old.references.items → new.originals ≡ mid.originals → drop front new.references.items ≡ drop front mid.references.items → Walks f front part places old new ns
 Walks-lift f front part places old mid new ns x within same_originals same_references = record {
   numbered = x.numbered;
@@ -76,7 +76,7 @@ Walks-lift f front part places old mid new ns x within same_originals same_refer
       };
 }
 
--- a scalar at its place: it was met before, or it is the first
+-- a scalar at its place: it was visited before, or this is its first place
 module _ (s : Scalar) (all : List Plist) (k : ℕ) (stands : Stands all k (scalar s ∷ [])) where
   here : (value_at all k ≡ scalar s) × (k < length all)
   here = Stands-head (scalar s) [] stands
@@ -139,7 +139,7 @@ Walks-known f s old new n met same_originals same_references = record {
       };
 }
 
--- one that is new, which is put last
+-- a new scalar, which is added last
 pub Walks-new : {S H : Type 0} → (f : List ℕ) (s : Scalar) (i : ℕ) (old new : Plan S H) (n : ℕ) → Holds f i (holds_scalar s) → number_met f old s ≡ None → n ≡ length old.originals.items → new.originals.items ≡ old.originals.items ++ (i ∷ []) → new.references ≡ old.references → WalksScalar f 0 s old new n
 Walks-new f s i old new n holds unknown last added same_references =
     let long : length new.originals.items ≡ suc (length old.originals.items) = ap length added ∙ length-append old.originals.items (i ∷ []) ∙ add-one _ in
@@ -172,7 +172,7 @@ pub Walks-item : {S H : Type 0} → (f : List ℕ) (front : ℕ) (v : Plist) (vs
 Walks-item f front v vs old mid new n ns x y =
     Walks-append f front (preorder v) (preorder_items vs) (λ k. k ∷ []) (λ k. item_places k vs) (λ k. item_places k (item v vs)) old mid new (n ∷ []) ns (λ k. ap (λ m. k ∷ item_places (k + m) vs) (sym (length-preorder v))) x y
 
--- a walk that begins with nothing finds the objects of the whole tree
+-- a walk from the empty plan adds the objects of the whole tree
 pub Walks-whole : {S H : Type 0} → (f : List ℕ) (v : Plist) (empty done : Plan S H) (n : ℕ) → IsEmptyPlan empty → WalksTree f 0 v empty done n → StandFor f done.originals.items done.references.items (found_in (preorder v) 0 (preorder v))
 Walks-whole f v empty done n nothing walks =
     let all = preorder v in

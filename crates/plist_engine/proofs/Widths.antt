@@ -1,4 +1,4 @@
--- The least width holds the number.
+-- A number fits its least width.
 use Rattle.std.proofs.Common.{ℕ, ◌^◌, ◌<◌, ◌≤◌, ltb, arith}
 use Rattle.std.proofs.lemmas.Bool.{cond_both, ltb-true}
 use Rattle.plist_object.specs.Spelling.{least_width}

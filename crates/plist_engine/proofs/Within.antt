@@ -1,4 +1,4 @@
--- What stands in a container whose value is known to be there.
+-- The children of a container that is known to encode a value.
 use Rattle.std.proofs.Common.{◌≡◌, ℕ, zero, suc, ◌-◌, ◌<◌, ◌≤◌, List, [], ◌∷◌, length, get_or, subst, arith}
 use Rattle.std.specs.List.{zip}
 use Rattle.std.specs.List.Sorted.{IsPermutation}
@@ -41,7 +41,7 @@ items_at f i levels objects (table ps) valid spells deep holds =
 pub items_within : (f : List ℕ) (i levels : ℕ) (objects : List ℕ) → SpellsWithin f i levels → Holds f i (holds_list objects) → SpellWithin f objects (levels - 1)
 items_within f i levels objects h holds = items_at f i levels objects h.value h.valid h.spells h.deep holds
 
--- a table of at most so many levels
+-- a dictionary of at most `levels` levels
 pub record TableWithin (f keys values : List ℕ) (levels : ℕ) : Type 0 where
   pub rows : List (ℕ × ℕ)
   pub pairs : Pairs

@@ -1,4 +1,4 @@
--- The canonical file of a value (our profile): one octet list for each value.
+-- The canonical file of a value (our profile): one list of bytes for each value.
 use Rattle.std.specs.Prelude.{ℕ, suc, ◌+◌, List, length, map}
 use Rattle.std.specs.List.{concat}
 use Rattle.plist_value.specs.Plist.{Plist, scalar, list, table}
@@ -7,27 +7,27 @@ use Rattle.plist_object.specs.Spelling.{least_width, references, scalar_spelling
 use Rattle.plist_engine.specs.Tree.{preorder, key_texts, item_places, key_places, value_places}
 use Rattle.plist_engine.specs.Sharing.{kept_places, number_among}
 
--- The octets of the object of the place k, which holds this value. A container refers to its
--- children by their numbers, each in so many octets.
+-- The bytes of the object of place k, where v is. A container refers to its children by their
+-- numbers, of `width` bytes each.
 abbrev pub object_octets : (ℕ → ℕ) → ℕ → ℕ → Plist → List ℕ
 object_octets number width k (scalar s) = scalar_spelling s
 object_octets number width k (list vs) = list_spelling width (map number (item_places (suc k) vs))
 object_octets number width k (table ps) =
     table_spelling width (map number (key_places (suc k) ps)) (map number (value_places (suc k + length (key_texts ps)) ps))
 
--- the objects of a tree in the order of their numbers; references have the least width that holds
--- how many there are
+-- the objects of a tree in the order of their numbers; references have the least width that the
+-- number of objects fits in
 abbrev pub objects_of : List Plist → List (List ℕ)
 objects_of all =
     let kept = kept_places all in
     let width = least_width (length kept) in
     map (λ p. object_octets (number_among all kept) width p.0 p.1) kept
 
--- the last 32 octets of a file whose widths are least and whose top object is the first
+-- the trailer of a file with least widths whose top object is the first
 abbrev pub trailer_octets : ℕ → ℕ → List ℕ
 trailer_octets count place = trailer_with (least_width place) (least_width count) count 0 place
 
--- the file of objects, with the first at its top and the least widths
+-- the file of objects, with least widths and the first object as its top
 abbrev pub file_of : List (List ℕ) → List ℕ
 file_of objects = file_with (least_width (8 + length (concat objects))) (least_width (length objects)) 0 objects
 

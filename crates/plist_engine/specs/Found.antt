@@ -1,18 +1,18 @@
--- What the objects hold that are found at the places of a tree, and their numbers.
+-- The content of the objects of the places of a tree, and their numbers.
 use Rattle.std.specs.Prelude.{◌≡◌, ℕ, suc, ◌+◌, nat_lt, if◌then◌else◌, List, ◌++◌, length, map, Option, Some, None}
 use Rattle.plist_value.specs.Plist.{Scalar, Plist, scalar, list, table}
 use Rattle.plist_object.specs.Objects.{Held, holds_scalar, holds_list, holds_table}
 use Rattle.plist_engine.specs.Tree.{key_texts, item_places, key_places, value_places}
 use Rattle.plist_engine.specs.Sharing.{least_place, kept_from, kept_places, count_below, number_among}
 
--- The list `part` stands in `all` from the place k on.
+-- The list `part` is in `all` from place k on.
 pub record Stands {X : Type 0} (all : List X) (k : ℕ) (part : List X) : Type 0 where
   pub before : List X
   pub after : List X
   pub whole : all ≡ before ++ (part ++ after)
   pub place : length before ≡ k
 
--- what the object of the place k holds, where the value stands there
+-- the content of the object of place k, where the value is
 abbrev pub held_at : (ℕ → ℕ) → ℕ → Plist → Held
 held_at number k (scalar s) = holds_scalar s
 held_at number k (list vs) = holds_list (map number (item_places (suc k) vs))
@@ -23,11 +23,11 @@ held_at number k (table ps) =
 abbrev pub number_in : List Plist → ℕ → ℕ
 number_in all k = number_among all (kept_places all) k
 
--- what the objects hold that are found where `part` stands, from the place k on
+-- the content of the objects of the places of `part`, which is in `all` from place k on
 abbrev pub found_in : List Plist → ℕ → List Plist → List Held
 found_in all k part = map (λ p. held_at (number_in all) p.0 p.1) (kept_from all k part)
 
--- the number of a scalar that stands below the place k
+-- the number of a scalar that occurs before place k
 abbrev pub number_known : List Plist → ℕ → Scalar → Option ℕ
 number_known all k s =
     let first = least_place s all in if nat_lt first k then Some (count_below first (kept_places all)) else None

@@ -1,9 +1,9 @@
--- Keys that have numbers, each at the index of its key in a set.
+-- A map from keys to numbers, in which the number of a key is at the key's index in the set.
 use Rattle.std.specs.Prelude.{◌≡◌, ℕ, Bool, List, [], ◌∷◌, ◌++◌, slice_get, Option, Some, None}
 use Rattle.indexmap.specs.IndexSet.{insert_index, insert_key}
 use Rattle.plist_engine.specs.declared.hashed.Hashed.{Hashed}
 
--- the numbers where a key had one, or none and has the next one now
+-- the numbers after a lookup: the next number is added if the key had none
 abbrev pub with_next : ℕ → List ℕ → Option ℕ → List ℕ
 with_next next numbers (Some n) = numbers
 with_next next numbers None = numbers ++ (next ∷ [])

@@ -1,15 +1,15 @@
--- What holds of all canonical files.
+-- Laws that hold of all canonical files.
 use Rattle.std.specs.Prelude.{◌≡◌, ◌↔◌, ◌+◌, ◌*◌, ◌≤◌, length}
 use Rattle.plist_value.specs.Plist.{Plist, IsPlist}
 use Rattle.plist_value.specs.Limits.{nodes, payload, Fits}
 use Rattle.plist_object.specs.Spelled.{IsBinary}
 use Rattle.plist_engine.specs.Canonical.{canon}
 
--- the canonical file of a fitting value is a binary file of that value
+-- the canonical file of a value within the limits is a binary file of the value
 abbrev pub CanonSpellsItsValue : Type 0
 CanonSpellsItsValue = (v : Plist) → IsPlist v → Fits v → IsBinary (canon v) v
 
--- two fitting values have one canonical file exactly if they are equal
+-- two values within the limits are equal if and only if their canonical files are
 abbrev pub CanonTellsValuesApart : Type 0
 CanonTellsValuesApart = (v w : Plist) → IsPlist v → Fits v → IsPlist w → Fits w → (canon v ≡ canon w) ↔ (v ≡ w)
 

@@ -1,5 +1,5 @@
--- What a plan keeps of each object of the file: the number of its scalar, or that no other object
--- holds the scalar.
+-- What a plan knows of each object of the file: the number of its scalar, or that no other object
+-- contains the scalar.
 use Rattle.std.specs.Prelude.{◌≡◌, ◌≢◌, ◌⊎◌, ℕ, ◌-◌, ◌^◌, ◌<◌, List, length, slice_index_or}
 use Rattle.plist_value.specs.Plist.{Scalar}
 use Rattle.plist_value.specs.Scalars.{content_of}
@@ -11,43 +11,44 @@ use Rattle.plist_engine.specs.Sieve.{IsUnlike}
 use Rattle.plist_engine.specs.declared.memo.Memo.{Memo}
 use Rattle.plist_engine.specs.declared.sieve.Sieve.{Sieve}
 
--- stands for the number of an object that has none, and holds a scalar that no other object holds
+-- marks an object that has no number, and whose scalar no other object contains
 abbrev pub single : ℕ
 single = 2 ^ 32 - 2
 
--- all below are numbers
+-- all smaller values are numbers
 abbrev pub IsNumber : ℕ → Type 0
 IsNumber n = n < single
 
 abbrev pub kept_at : List ℕ → ℕ → ℕ
 kept_at numbers i = slice_index_or numbers i no_number
 
--- what is kept of the object i
+-- what is known of object i
 abbrev pub kept : Memo → ℕ → ℕ
 kept memo i = kept_at memo.numbers.items i
 
--- no other object of the file holds a scalar that the object holds
+-- no other object of the file contains the scalar of object i
 abbrev pub IsAlone : List ℕ → ℕ → Type 0
 IsAlone f i =
     (s : Scalar) (j : ℕ) → Holds f i (holds_scalar s) → Holds f j (holds_scalar s) → j ≡ i
 
--- the object holds a scalar, and no other object of the file holds it
+-- the object contains a scalar, and no other object of the file contains it
 abbrev pub IsSingle : List ℕ → ℕ → Type 0
 IsSingle f i = ((r : ScalarRef) × Holds f i (holds_scalar (content_of r))) × IsAlone f i
 
--- The object has this number now, if it is one of those that are listed. All others are as before.
+-- The object has this number now, if it is in range. All others are unchanged.
 pub record KeepsNumber (i number : ℕ) (old new : Memo) : Type 0 where
   pub here : i < length old.numbers.items → kept new i ≡ number
   pub others : (j : ℕ) → j ≢ i → kept new j ≡ kept old j
   pub as_many : length new.numbers.items ≡ length old.numbers.items
 
--- Objects that had no number may be single now, where their scalars come to bits to which no other
--- comes. All others are as before.
+-- Objects without a number may be marked as single if the sieve shows that they are. All others are
+-- unchanged.
 pub record Marks (sieve : Sieve) (old new : List ℕ) : Type 0 where
   pub as_many : length new ≡ length old
   pub each : (i : ℕ) → (kept_at new i ≡ kept_at old i) ⊎ ((kept_at old i ≡ no_number) × ((kept_at new i ≡ single) × ((i < length sieve.bits.items) × IsUnlike sieve i)))
 
--- Objects of the file that had no number may be single now. All others are as before.
+-- Objects of the file without a number may be marked as single if they are. All others are
+-- unchanged.
 pub record Sifts (f : List ℕ) (old new : Memo) : Type 0 where
   pub as_many : length new.numbers.items ≡ length old.numbers.items
   pub each : (i : ℕ) → (kept new i ≡ kept old i) ⊎ ((kept old i ≡ no_number) × ((kept new i ≡ single) × IsSingle f i))

@@ -1,4 +1,4 @@
--- What goes to a sink through a buffer.
+-- Writing to a sink through a buffer.
 use Rattle.std.specs.Prelude.{◌≡◌, ℕ, ◌+◌, ◌<◌, ◌≤◌, ◌^◌, List, ◌++◌, length, take, Option, Result, OnOk, IfErr}
 use Rattle.std.specs.Borrow.{GName}
 use Rattle.std.specs.Io.KnownBytes.{Appends}
@@ -9,9 +9,9 @@ use Rattle.plist_engine.specs.declared.faults.WriteFault.{WriteFault}
 use Rattle.plist_engine.specs.declared.outputs.Output.{Output}
 use Rattle.plist_engine.specs.Sending.{sent_of, IsBlamed, IsShort, Allows}
 
--- What an output is: the name of the sink that it borrows and the sink's device; the octets that the
--- sink took, if it tells them, those that wait, and how many were sent; the failures and the longest
--- piece of the sink.
+-- The state of an output: the name of the sink that it borrows and the sink's device, the bytes
+-- that the sink took, if it records them, the buffered bytes, the number of bytes sent, and the
+-- sink's failures and longest piece.
 pub record State : Type 0 where
   pub sink : GName
   pub device : Option GName
@@ -32,16 +32,17 @@ state_of sink out = record {
   longest = sink.longest out.sink.now;
 }
 
--- with these octets, fewer than 2^64 will have been sent
+-- after these bytes, fewer than 2^64 bytes will have been sent
 abbrev pub CanTake : List ℕ → State → Type 0
 CanTake octets state = state.sent + (length state.waiting + length octets) < 2 ^ 64
 
--- the sink stays the same, and its device
+-- the sink and its device are unchanged
 pub record Stays (old new : State) : Type 0 where
   pub sink : new.sink ≡ old.sink
   pub device : new.device ≡ old.device
 
--- The octets went after those that wait: the sink took `gone`, and the others wait.
+-- The bytes were written after those in the buffer: the sink took `gone`, and the others are in the
+-- buffer.
 pub record Gathers (octets : List ℕ) (old new : State) : Type 0 where
   pub gone : List ℕ
   pub whole : old.waiting ++ octets ≡ gone ++ new.waiting
@@ -49,8 +50,7 @@ pub record Gathers (octets : List ℕ) (old new : State) : Type 0 where
   pub sent : new.sent ≡ old.sent + length gone
   pub failures : new.failures ≡ old.failures
 
--- The call was refused when the sink had taken `more` of what waited and the octets, from the front
--- on.
+-- The call failed after the sink had taken the first `more` of the buffered bytes and these bytes.
 pub record Stops (octets : List ℕ) (old new : State) (fault : WriteFault) : Type 0 where
   pub more : ℕ
   pub sent : sent_of fault ≡ old.sent + more
@@ -63,21 +63,22 @@ pub record Goes {T : Type 0} (octets : List ℕ) (old new : State) (result : Res
   pub done : OnOk result (Gathers octets old new)
   pub stopped : IfErr result (Stops octets old new)
 
--- no piece was longer than this, and what waits is not
+-- no piece and no buffer is longer than `most`
 pub record AreWithin (most : ℕ) (state : State) : Type 0 where
   pub waits : length state.waiting ≤ most
   pub pieces : state.longest ≤ most
 
--- no piece was longer, and after what waits there is room in a piece for `more` octets
+-- no piece is longer than `most`, and the buffer has space for `more` bytes within such a piece
 pub record LeavesRoom {T : Type 0} (most more : ℕ) (state : State) (result : Result T WriteFault) : Type 0 where
   pub waits : OnOk result (length state.waiting + more ≤ most)
   pub pieces : state.longest ≤ most
 
--- If pieces may be as long as these objects, and as `more` octets: none was longer, and none is now.
+-- If pieces may be as long as each of these objects, and as `more` bytes, then none is longer, as
+-- long as none was before.
 abbrev pub KeepsShort : {T : Type 0} → List (List ℕ) → ℕ → State → State → Result T WriteFault → Type 0
 KeepsShort objects more old new result =
     (most : ℕ) → Allows most objects → more ≤ most → AreWithin most old → LeavesRoom most more new result
 
--- the end of a file: the offset table, which has these places, and the trailer, which has its own
+-- the end of a file: the offset table with these offsets, and the trailer, which has its own
 abbrev pub end_of : List ℕ → ℕ → List ℕ
 end_of places place = references (least_width place) places ++ trailer_octets (length places) place

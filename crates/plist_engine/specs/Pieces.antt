@@ -1,4 +1,4 @@
--- The octets of objects that are sent, and what these need to be spelled.
+-- The bytes of the objects that are sent, and the conditions for encoding them.
 use Rattle.std.specs.Prelude.{◌≡◌, ℕ, ◌<◌, ◌^◌, List, length, All, ⊤}
 use Rattle.std.specs.List.{AllByRecursion}
 use Rattle.plist_value.specs.Scalars.{content_of}
@@ -8,14 +8,14 @@ use Rattle.plist_object.specs.Spelling.{scalar_spelling, list_spelling, table_sp
 use Rattle.plist_engine.specs.declared.putting.Part.{Part}
 use Rattle.plist_engine.specs.declared.putting.Part.TheVariants as part
 
--- the octets of an object whose references have so many octets each
+-- the bytes of an object with references of `width` bytes
 abbrev pub octets_in_part : ℕ → Part → List ℕ
 octets_in_part width (part.Spelled octets) = octets.now
 octets_in_part width (part.Scalar s) = scalar_spelling (content_of s)
 octets_in_part width (part.List refs) = list_spelling width refs.now
 octets_in_part width (part.Table keys values) = table_spelling width keys.now values.now
 
--- there are below 2^32 references, and each fits the width
+-- there are fewer than 2^32 references, and each fits the width
 pub record AreSpellable (width : ℕ) (refs : List ℕ) : Type 0 where
   pub few : length refs < 2 ^ 32
   pub fit : All (λ reference. reference < 256 ^ width) refs
@@ -28,7 +28,7 @@ CanSpell width (holds_table keys values) = (length keys ≡ length values) × Ar
 abbrev pub CanSpellAll : ℕ → List Held → Type 0
 CanSpellAll width helds = AllByRecursion (CanSpell width) helds
 
--- what is spelled already needs nothing
+-- bytes that are already encoded have no condition
 abbrev pub CanSpellPart : ℕ → Part → Type 0
 CanSpellPart width (part.Spelled octets) = ⊤
 CanSpellPart width (part.Scalar s) = CanSpell width (holds_scalar (content_of s))

@@ -1,4 +1,4 @@
--- The walk that plans a canonical file over the objects of another file.
+-- The walk over the objects of a file that plans the canonical file.
 use Rattle.std.specs.Prelude.{◌≡◌, ◌⊎◌, ℕ, suc, ◌+◌, ◌≤◌, Bool, false, if◌then◌else◌, List, [], ◌∷◌, ◌++◌, length, map, drop, take, Option, Some, None, Result, Ok, Err}
 use Rattle.plist_value.specs.Plist.{Scalar, Plist, scalar, Items, IsPlist, AreItems}
 use Rattle.plist_value.specs.Equality.{scalar_eq}
@@ -20,16 +20,16 @@ use Rattle.plist_engine.specs.declared.memo.Memo.{Memo}
 use Rattle.plist_engine.specs.declared.plan.Objects.{Objects}
 use Rattle.plist_engine.specs.declared.plan.Plan.{Plan}
 
--- The object i of the file holds the same scalar, a list of as many items, or a table of as many
--- pairs.
+-- Object i of the file contains the same scalar, an array of equally many items, or a dictionary of
+-- equally many pairs.
 abbrev pub IsLike : List ℕ → ℕ → Held → Type 0
 IsLike f i (holds_scalar s) = Holds f i (holds_scalar s)
 IsLike f i (holds_list refs) = (items : List ℕ) × (Holds f i (holds_list items) × (length refs ≡ length items))
 IsLike f i (holds_table keys values) =
     (held_keys : List ℕ) × ((held_values : List ℕ) × (Holds f i (holds_table held_keys held_values) × ((length keys ≡ length held_keys) × (length values ≡ length held_keys))))
 
--- These objects of the file, with these as their references in turn, are what the objects of
--- another file hold.
+-- These objects of the file, with these references, which they take in order, have the content of
+-- the objects of another file.
 abbrev pub StandFor : List ℕ → List ℕ → List ℕ → List Held → Type 0
 StandFor f [] refs [] = refs ≡ []
 StandFor f [] refs (h ∷ hs) = ⊥
@@ -37,36 +37,36 @@ StandFor f (i ∷ originals) refs [] = ⊥
 StandFor f (i ∷ originals) refs (h ∷ hs) =
     IsLike f i h × ((behind : List ℕ) × ((refs ≡ references_of h ++ behind) × StandFor f originals behind hs))
 
--- whether this is what an object holds
+-- whether the decoded content is this scalar
 abbrev pub is_held : Scalar → Result Held ObjectFault → Bool
 is_held s (Ok (holds_scalar t)) = scalar_eq t s
 is_held s (Ok (holds_list refs)) = false
 is_held s (Ok (holds_table keys values)) = false
 is_held s (Err fault) = false
 
--- the number of the first object that holds the scalar, if one does, where the first has the
--- number n
+-- the number of the first of these objects that contains the scalar, if one does; the first object
+-- has the number n
 abbrev pub number_from : List ℕ → ℕ → List ℕ → Scalar → Option ℕ
 number_from f n [] s = None
 number_from f n (i ∷ originals) s =
     if is_held s (what_holds f i) then Some n else number_from f (suc n) originals s
 
--- the number of the scalar among the objects so far, if it was found
+-- the number of the scalar among the objects so far, if it was visited
 abbrev pub number_met : {S H : Type 0} → List ℕ → Plan S H → Scalar → Option ℕ
 number_met f plan s = number_from f 0 plan.originals.items s
 
--- nothing was found
+-- nothing is planned
 pub record IsEmptyPlan {S H : Type 0} (plan : Plan S H) : Type 0 where
   pub none : plan.originals.items ≡ []
   pub no_references : plan.references.items ≡ []
 
--- the places below k are done: each scalar there is known by its number, and so many objects were
--- found
+-- the places below k are done: each scalar there is known with its number, and the plan has one
+-- object for each of them that has its own
 pub record IsReady {S H : Type 0} (f : List ℕ) (all : List Plist) (k : ℕ) (plan : Plan S H) : Type 0 where
   pub known : (s : Scalar) → number_met f plan s ≡ number_known all k s
   pub counted : length plan.originals.items ≡ count_below k (kept_places all)
 
--- What these objects hold was added. Of the references only those behind the front are looked at.
+-- Objects with this content were added. Only the references from index `front` on are considered.
 pub record Grows {S H : Type 0} (f : List ℕ) (front : ℕ) (old new : Plan S H) (helds : List Held) : Type 0 where
   pub originals : List ℕ
   pub references : List ℕ
@@ -74,13 +74,13 @@ pub record Grows {S H : Type 0} (f : List ℕ) (front : ℕ) (old new : Plan S H
   pub references_added : drop front new.references.items ≡ drop front old.references.items ++ references
   pub stand_for : StandFor f originals references helds
 
--- the list `part`, which stands at the place k, was done
+-- the list `part`, which is at place k, was done
 pub record Adds {S H : Type 0} (f : List ℕ) (front : ℕ) (all : List Plist) (k : ℕ) (part : List Plist) (old new : Plan S H) : Type 0 where
   pub ready : IsReady f all (k + length part) new
   pub grows : Grows f front old new (found_in all k part)
 
--- The list `part` was done, wherever it stands, and these are the numbers of the places, which are
--- counted from its own.
+-- The list `part` was done, wherever it is. If it is at place k, the numbers are those of the places
+-- `places k`.
 pub record Walks {S H : Type 0} (f : List ℕ) (front : ℕ) (part : List Plist) (places : ℕ → List ℕ) (old new : Plan S H) (numbers : List ℕ) : Type 0 where
   pub numbered : (all : List Plist) (k : ℕ) → Stands all k part → IsReady f all k old → numbers ≡ map (number_in all) (places k)
   pub adds : (all : List Plist) (k : ℕ) → Stands all k part → IsReady f all k old → Adds f front all k part old new
@@ -97,7 +97,8 @@ WalksScalar f front s = WalksOne f front (scalar s ∷ [])
 abbrev pub WalksItems : {S H : Type 0} → List ℕ → ℕ → Items → Plan S H → Plan S H → List ℕ → Type 0
 WalksItems f front vs = Walks f front (preorder_items vs) (λ k. item_places k vs)
 
--- One more object, of the number, and its references. What they become comes later.
+-- One object was added, with this number and these references, which are still those of the input
+-- file.
 pub record Begins {S H : Type 0} (i : ℕ) (refs : List ℕ) (old new : Plan S H) (number : ℕ) : Type 0 where
   pub number_is : number ≡ length old.originals.items
   pub scalars_kept : new.scalars ≡ old.scalars
@@ -105,14 +106,14 @@ pub record Begins {S H : Type 0} (i : ℕ) (refs : List ℕ) (old new : Plan S H
   pub memo_kept : new.memo ≡ old.memo
   pub references_added : new.references.items ≡ old.references.items ++ refs
 
--- the object holds a scalar that has the number
+-- the object contains a scalar that has the number
 pub record IsRemembered {S H : Type 0} (f : List ℕ) (plan : Plan S H) (i number : ℕ) : Type 0 where
   pub shown : Scalar
   pub holds : Holds f i (holds_scalar shown)
   pub met : number_met f plan shown ≡ Some number
 
--- The scalar was met as that of an object, of which the number is kept. The set has it, or no other
--- object holds it.
+-- The scalar was visited in an object whose number is kept. The set contains it, or no other object
+-- does.
 pub record IsMet {S H : Type 0} (f : List ℕ) (plan : Plan S H) (s : Scalar) (number : ℕ) : Type 0 where
   pub object : ℕ
   pub holds : Holds f object (holds_scalar s)
@@ -120,8 +121,8 @@ pub record IsMet {S H : Type 0} (f : List ℕ) (plan : Plan S H) (s : Scalar) (n
   pub some : IsNumber number
   pub found : ((r : ScalarRef) → content_of r ≡ s → number_stored plan.scalars r ≡ Some number) ⊎ IsAlone f object
 
--- The memo and the set have numbers of the objects so far alone, and each scalar among these was
--- met.
+-- The memo and the set contain only numbers of the objects so far, and each scalar among these
+-- objects was visited.
 pub record KnowsScalars {S H : Type 0} (f : List ℕ) (plan : Plan S H) : Type 0 where
   pub listed : length plan.memo.numbers.items ≡ (trailer_of f).count
   pub numbered : AreNumbered plan.scalars
@@ -130,24 +131,24 @@ pub record KnowsScalars {S H : Type 0} (f : List ℕ) (plan : Plan S H) : Type 0
   pub stored : (r : ScalarRef) (n : ℕ) → number_stored plan.scalars r ≡ Some n → number_met f plan (content_of r) ≡ Some n
   pub met : (s : Scalar) (n : ℕ) → number_met f plan s ≡ Some n → IsMet f plan s n
 
--- the object, which holds the scalar, was not met
+-- the object contains the scalar, and was not visited
 pub record IsUnmet {S H : Type 0} (f : List ℕ) (i : ℕ) (s : Scalar) (plan : Plan S H) : Type 0 where
   pub knows : KnowsScalars f plan
   pub holds : Holds f i (holds_scalar s)
   pub unmet : single ≤ kept plan.memo i
 
--- The scalar that the object holds was entered in the set, or nothing was, since no other object
--- holds it.
+-- The scalar of the object was entered in the set, or nothing was, since no other object contains
+-- it.
 abbrev pub MeetsScalar : {S H : Type 0} → Memo → ℕ → ScalarRef → ℕ → Scalars S H → Scalars S H → Option ℕ → Type 0
 MeetsScalar memo i r next old new had =
     (AreNumbered old → EntersScalar r next old new had) ⊎ ((had ≡ None) × ((new ≡ old) × (kept memo i ≡ single)))
 
--- The scalar was numbered, which the object holds.
+-- The scalar of the object got a number.
 pub record NumbersScalar {S H : Type 0} (f : List ℕ) (i : ℕ) (s : Scalar) (old new : Plan S H) (number : ℕ) : Type 0 where
   pub walks : IsUnmet f i s old → WalksScalar f 0 s old new number
   pub references_kept : new.references.items ≡ old.references.items
 
--- the value that the object spells was walked, and references were only added
+-- the value that the object encodes was walked, and references were only appended
 pub record IsWalked {S H : Type 0} (f : List ℕ) (i : ℕ) (old new : Plan S H) (number : ℕ) : Type 0 where
   pub value : Plist
   pub valid : IsPlist value
@@ -156,15 +157,15 @@ pub record IsWalked {S H : Type 0} (f : List ℕ) (i : ℕ) (old new : Plan S H)
   pub references : List ℕ
   pub references_added : new.references.items ≡ old.references.items ++ references
 
--- the items that the objects spell were walked, in turn, and these are their numbers
+-- the items that the objects encode were walked in order, and these are their numbers
 pub record ItemsWalked {S H : Type 0} (f : List ℕ) (front : ℕ) (refs : List ℕ) (old new : Plan S H) (numbers : List ℕ) : Type 0 where
   pub items : Items
   pub valid : AreItems items
   pub spell : SpellItems f refs items
   pub walks : WalksItems f front items old new numbers
 
--- The objects from the first place on were walked: they gave way to their numbers, and references
--- were added behind.
+-- The objects from index `first` on were walked: their references were replaced by their numbers,
+-- and others were appended.
 pub record AreWalked {S H : Type 0} (f : List ℕ) (first : ℕ) (old new : Plan S H) : Type 0 where
   pub numbers : List ℕ
   pub behind : List ℕ

@@ -1,4 +1,4 @@
--- Which objects of a file may hold a scalar that another object holds, told by bits.
+-- Which objects of a file may contain a scalar that another object contains, as shown by bits.
 use Rattle.std.specs.Prelude.{◌≡◌, ◌≢◌, ℕ, ◌<◌, List, length, slice_index, Ok}
 use Rattle.plist_value.specs.Plist.{Scalar}
 use Rattle.plist_value.specs.Scalars.{content_of}
@@ -10,36 +10,37 @@ use Rattle.plist_engine.specs.declared.bits.Bits.{Bits}
 use Rattle.plist_engine.specs.declared.sieve.Notes.{Notes}
 use Rattle.plist_engine.specs.declared.sieve.Sieve.{Sieve}
 
--- stands for the bit of an object that holds a container; no scalar has it
+-- marks an object that is a container; no scalar has this bit
 abbrev pub no_bit : ℕ
 no_bit = 0
 
 abbrev pub HoldsIt : List ℕ → ℕ → Scalar → Type 0
 HoldsIt f i s = what_holds f i ≡ Ok (holds_scalar s)
 
--- what has another bit than that of containers holds a scalar
+-- an object with another bit than that of containers contains a scalar
 abbrev pub AreScalars : List ℕ → ℕ → List ℕ → Type 0
 AreScalars f i bits = (k : ℕ) → k < i → slice_index bits k ≢ no_bit → (r : ScalarRef) × HoldsIt f k (content_of r)
 
--- the objects before i were noted: the bit of each that holds a scalar is kept
+-- the objects before i were noted: the bit of each that contains a scalar is kept
 pub record AreNoted (f : List ℕ) (i : ℕ) (notes : Notes) : Type 0 where
   pub noted : length notes.bits.items ≡ i
   pub kept : (k : ℕ) (s : Scalar) → k < i → HoldsIt f k s → slice_index notes.bits.items k ≡ bit_of notes.mask notes.seed s
   pub told : AreScalars f i notes.bits.items
 
--- each bit that stands more than once among the first n is set
+-- each bit that occurs more than once among the first n is set
 abbrev pub AreMetAgain : ℕ → List ℕ → Bits → Type 0
 AreMetAgain n bits again = (j k : ℕ) → j < k → k < n → slice_index bits j ≡ slice_index bits k → HasBit again (slice_index bits k)
 
--- the object i holds a scalar, and another may hold it
+-- object i contains a scalar, and another may contain it
 abbrev pub MayRepeat : Sieve → ℕ → Type 0
 MayRepeat sieve i = (slice_index sieve.bits.items i ≢ no_bit) × HasBit sieve.again (slice_index sieve.bits.items i)
 
--- the bits tell that the object i holds a scalar, and that no other holds it
+-- the bits show that object i contains a scalar, and that no other contains it
 abbrev pub IsUnlike : Sieve → ℕ → Type 0
 IsUnlike sieve i = (slice_index sieve.bits.items i ≢ no_bit) × (MayRepeat sieve i → ⊥)
 
--- what is told of the objects before i: where two of them hold one scalar, both may repeat another
+-- what is known of the objects before i: if two of them contain the same scalar, both may repeat
+-- another
 pub record HasNoted (f : List ℕ) (i : ℕ) (sieve : Sieve) : Type 0 where
   pub noted : length sieve.bits.items ≡ i
   pub again : (j k : ℕ) (s : Scalar) → j < k → k < i → HoldsIt f j s → HoldsIt f k s → MayRepeat sieve j × MayRepeat sieve k

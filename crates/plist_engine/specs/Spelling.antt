@@ -1,4 +1,4 @@
--- What objects of a file spell that is walked with so many levels left.
+-- What the objects of a file encode.
 use Rattle.std.specs.Prelude.{◌≡◌, ℕ, ◌≤◌, List, length, map, ◌++◌}
 use Rattle.std.specs.List.{zip}
 use Rattle.std.specs.List.Sorted.{IsPermutation}
@@ -8,25 +8,26 @@ use Rattle.plist_object.specs.Objects.{Held}
 use Rattle.plist_object.specs.Places.{Holds}
 use Rattle.plist_object.specs.Spelled.{SpellItems, SpellPairs}
 
--- the object reads
+-- the object can be decoded
 pub record IsRead (f : List ℕ) (i : ℕ) : Type 0 where
   pub held : Held
   pub holds : Holds f i held
 
--- the objects spell items, in turn, of at most so many levels
+-- the objects encode items, in order, of at most `levels` levels
 pub record SpellWithin (f refs : List ℕ) (levels : ℕ) : Type 0 where
   pub items : Items
   pub valid : AreItems items
   pub spell : SpellItems f refs items
   pub deep : depth_of_items items ≤ levels
 
--- the references to keys and to their values spell the pairs of a table, in the order of the rows
+-- the references to keys and to their values encode the pairs of a dictionary, in the order of the
+-- rows
 pub record SpellTable (f keys values : List ℕ) (rows : List (ℕ × ℕ)) (ps : Pairs) : Type 0 where
   pub moved : IsPermutation (zip keys values) rows
   pub spell : SpellPairs f rows ps
   pub valid : ArePairs ps
 
--- the references spell the pairs of a table
+-- the references encode the pairs of a dictionary
 pub record IsTable (f keys values : List ℕ) : Type 0 where
   pub rows : List (ℕ × ℕ)
   pub pairs : Pairs

@@ -1,9 +1,9 @@
--- The sorted tree of a value, and where the children of its containers stand in it.
+-- The sorted tree of a value, and where the children of its containers are in it.
 use Rattle.std.specs.Prelude.{ℕ, suc, ◌+◌, List, [], ◌∷◌, ◌++◌}
 use Rattle.plist_value.specs.Plist.{text, Plist, scalar, list, table, Items, no_items, item, Pairs, no_pairs, pair}
 use Rattle.plist_value.specs.Limits.{nodes}
 
--- the keys of a table as texts, in their order
+-- the keys of a dictionary as strings, in order
 abbrev pub key_texts : Pairs → List Plist
 key_texts no_pairs = []
 key_texts (pair key v ps) = scalar (text key) ∷ key_texts ps
@@ -24,18 +24,17 @@ abbrev mutual
   preorder_values no_pairs = []
   preorder_values (pair key v ps) = preorder v ++ preorder_values ps
 
--- The places of items of which the first stands at k: each next one stands behind the tree of the
--- one before.
+-- The places of items of which the first is at k: each item comes after the tree of the one before.
 abbrev pub item_places : ℕ → Items → List ℕ
 item_places k no_items = []
 item_places k (item v vs) = k ∷ item_places (k + nodes v) vs
 
--- the places of keys of which the first stands at k
+-- the places of keys of which the first is at k
 abbrev pub key_places : ℕ → Pairs → List ℕ
 key_places k no_pairs = []
 key_places k (pair key v ps) = k ∷ key_places (suc k) ps
 
--- the places of values of which the first stands at k
+-- the places of values of which the first is at k
 abbrev pub value_places : ℕ → Pairs → List ℕ
 value_places k no_pairs = []
 value_places k (pair key v ps) = k ∷ value_places (k + nodes v) ps

@@ -1,48 +1,48 @@
-//! Objects that are read soon, touched before.
+//! Prefetches objects that will be read soon.
 //!
-//! Keys are walked in their order, which need not be that of the file. An object is found through
-//! the offset table, so its marker waits for two places in memory, and all that is done with it
-//! waits for the marker. Where the markers of many objects are read and nothing else, the processor
-//! waits for all of them together.
+//! Keys are walked in ascending order, which may differ from their order in the file. An object is
+//! found through the offset table, so reading its marker takes two cache misses, and all other work
+//! on the object waits for the marker. In a loop that only reads the markers of many objects these
+//! cache misses overlap.
 
 use crate::memo::Memo;
 use plist_object::BinFile;
 
-// So many objects are touched at once.
+// The number of objects that are prefetched at once.
 const AHEAD: usize = 16;
 
-// Objects whose numbers are no further apart stand close to one another in most files, and are not
-// touched.
+// Objects whose numbers are at most this far apart are close to one another in most files, and are
+// not prefetched.
 const FAR: u32 = 64;
 
-/// The markers of objects that were touched, added up: what is kept is read.
+/// The sum of the markers that were read, which is kept so that the reads are not optimised away.
 #[derive(Drop)]
 pub(crate) struct Ahead {
     markers: u64,
 }
 
 impl Ahead {
-    /// No object was touched.
     pub(crate) fn new() -> Ahead {
         Ahead { markers: 0 }
     }
 
-    /// Touches the objects from the place on, if they are scattered and none of them was touched so
-    /// before.
+    /// Prefetches the next objects from index `from` on, if they are scattered. Does so only if
+    /// `from` is a multiple of `AHEAD`, so that no object is prefetched twice.
     pub(crate) fn look(&mut self, file: &BinFile, objects: &[u32], from: usize) {
         if let Some(next) = scattered(objects, from) {
             self.touch(file, next);
         }
     }
 
-    /// The same of the objects that will be read: those of which the memo keeps nothing.
+    /// Like `look`, but skips the objects of which the memo knows something, since they will not be
+    /// read.
     pub(crate) fn look_unmet(&mut self, file: &BinFile, memo: &Memo, objects: &[u32], from: usize) {
         if let Some(next) = scattered(objects, from) {
             self.touch_unmet(file, memo, next);
         }
     }
 
-    // A function of its own: where it is part of another, reading what nobody asks for is left out.
+    // Not inlined: in its caller, reads whose results nobody uses would be optimised away.
     #[inline(never)]
     fn touch(&mut self, file: &BinFile, objects: &[u32]) {
         for object in objects {
@@ -69,8 +69,8 @@ impl Ahead {
     }
 }
 
-// The objects that are touched at once from the place on, if there are so many and they are
-// scattered.
+// Returns the next `AHEAD` objects from index `from` on, if `from` is a multiple of `AHEAD`, that
+// many are left, and they are scattered.
 fn scattered(objects: &[u32], from: usize) -> Option<&[u32]> {
     if !from.is_multiple_of(AHEAD) {
         return None;
@@ -83,7 +83,7 @@ fn scattered(objects: &[u32], from: usize) -> Option<&[u32]> {
     }
 }
 
-// Whether the first of the objects is far from the last that is touched with it.
+// Returns whether the numbers of the first and the last object are far apart.
 fn are_scattered(objects: &[u32]) -> bool {
     match (objects.first(), objects.get(AHEAD - 1)) {
         (Some(first), Some(last)) => first.abs_diff(*last) > FAR,

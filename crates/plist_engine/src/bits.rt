@@ -1,4 +1,5 @@
-//! A bit for each scalar, which some share: where it is not set, no equal scalar set it.
+//! Maps each scalar to a bit, like a Bloom filter with one hash function. Several scalars may share
+//! a bit; if a bit is not set, no equal scalar has set it.
 ghost use Rattle.std.specs.Prelude.{◌≡◌, ◌≤◌, ◌↔◌, ℕ, IsTrue, IfOk, bit_and};
 ghost use Rattle.plist_value.specs.Scalars.{content_of};
 ghost use Rattle.plist_engine.specs.Bits.{HasBit, IsClear, IsSet, KeepsBits};
@@ -15,14 +16,14 @@ const LEAST: u64 = 64;
 
 const MOST: u64 = 1 << 31;
 
-/// Bits in words, 64 in each.
+/// A bit vector, with 64 bits in each word.
 #[derive(Drop)]
 pub(crate) struct Bits {
     pub(crate) words: Vec<u64>,
 }
 
 impl Bits {
-    /// No bit is set up to the greatest one.
+    /// Returns a vector whose bits up to `mask` are all clear.
     pub(crate) fn new(alloc: Global, mask: u32) -> Result<Bits, AllocError>
         ensures { IfOk result (IsClear mask) }
     {
@@ -31,7 +32,7 @@ impl Bits {
         Ok(Bits { words })
     }
 
-    /// Whether the bit is set. Each bit behind the words is.
+    /// Returns whether the bit is set. Bits past the end count as set.
     #[inline(always)]
     pub(crate) fn has(&self, bit: u32) -> bool
         ensures { IsTrue result ↔ HasBit self.now bit }
@@ -39,7 +40,6 @@ impl Bits {
         is_set(&self.words, bit)
     }
 
-    /// Sets the bit.
     #[inline(always)]
     pub(crate) fn set(&mut self, bit: u32)
         ensures set { HasBit self.new bit }
@@ -48,7 +48,7 @@ impl Bits {
         set_bit(&mut self.words, bit);
     }
 
-    /// Sets the bit if that is wanted, by the same steps as if not: the processor need not guess.
+    /// Sets the bit if `wanted`, without a branch that the processor could mispredict.
     #[inline(always)]
     pub(crate) fn set_if(&mut self, bit: u32, wanted: bool)
         ensures set { IsTrue wanted → HasBit self.new bit }
@@ -91,14 +91,15 @@ fn set_bit_if(words: &mut [u64], bit: u32, wanted: bool)
     }
 }
 
-/// A mask of about so many bits: the greatest of them, in which all below is set.
+/// Returns the greatest bit of a vector with about `bits` bits. All lower bits of it are set, so
+/// that it is a mask too.
 pub(crate) fn mask_for(bits: u64) -> u32 {
     let bits = bits.clamp(LEAST, MOST) as u32;
     u32::MAX.checked_shr(bits.leading_zeros()).unwrap_or(0)
 }
 
-/// The bit of the scalar, from 1 up to the mask. Whole numbers up to the mask have one each, but
-/// for 0 and 1, and all others by a hash.
+/// Returns the bit of the scalar, from 1 to `mask`. Non-negative integers up to `mask` have their
+/// own value as their bit, except 0, which has bit 1. All other scalars are hashed.
 #[inline(always)]
 pub(crate) fn bit_of(mask: u32, seed: u64, scalar: &ScalarRef) -> u32
     ensures { result ≡ bit_of mask seed (content_of scalar.now) }
@@ -106,7 +107,7 @@ pub(crate) fn bit_of(mask: u32, seed: u64, scalar: &ScalarRef) -> u32
     any_bit_of(mask, seed, scalar).max(1)
 }
 
-// The same, from 0 on.
+// Like `bit_of`, but may return 0.
 #[inline(always)]
 #[tactic(auto, using(std::proofs::lemmas::Nat::and_le_r))]
 fn any_bit_of(mask: u32, seed: u64, scalar: &ScalarRef) -> u32
@@ -118,7 +119,8 @@ fn any_bit_of(mask: u32, seed: u64, scalar: &ScalarRef) -> u32
     }
 }
 
-// A fast hash, but for data: some of these share one whatever the seed. Long data are not hashed.
+// Uses a fast hash, except for data: with the fast hash some data collides for every seed. Long
+// data is not hashed.
 fn hash_of(seed: u64, scalar: &ScalarRef) -> u64
     ensures { result ≡ hash_of seed (content_of scalar.now) }
 {

@@ -9,11 +9,11 @@ use crate::putting::put_trailer;
 use crate::{Output, Sink, WriteFault};
 use plist_object::{put_number, width_of};
 
-/// The length of a trailer.
+/// The size of a trailer.
 const TRAILER: u64 = 32;
 
-/// Sends the end of a file whose objects begin at these places, and all that waits. All before it
-/// was written.
+/// Sends the offset table and the trailer of a file whose objects begin at these offsets, and
+/// flushes the buffer. All bytes before them were already written.
 ///
 /// # Errors
 ///
@@ -34,7 +34,7 @@ pub(crate) fn send_end<W: Sink>(places: &[u64], out: &mut Output<W>) -> Result<(
     send_trailer(places.len() as u64, place, out)
 }
 
-// The offset table, in which an entry has `width` bytes.
+// Sends the offset table, with entries of `width` bytes.
 fn send_places<W: Sink>(width: u8, places: &[u64], out: &mut Output<W>) -> Result<(), WriteFault>
     requires width { IsWidth width }
     requires fit { All (λ place. place < 256 ^ width) places.now }
@@ -52,7 +52,7 @@ fn send_places<W: Sink>(width: u8, places: &[u64], out: &mut Output<W>) -> Resul
     Ok(())
 }
 
-// The trailer, and all that waits.
+// Sends the trailer, and flushes the buffer.
 fn send_trailer<W: Sink>(count: u64, place: u64, out: &mut Output<W>) -> Result<(), WriteFault>
     requires { CanTake (trailer_octets count place) (state_of W.Sink out.old) }
     ensures goes { Goes (trailer_octets count place)

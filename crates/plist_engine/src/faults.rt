@@ -1,4 +1,4 @@
-//! Why a file was not sent whole.
+//! Errors of writing a file.
 ghost use Rattle.std.specs.Prelude.{◌≡◌};
 ghost use Rattle.plist_engine.specs.Sending.{write_code, write_report};
 
@@ -6,24 +6,23 @@ use plist_value::{Place, Refusal, Report};
 use std::fmt;
 use thiserror::Error;
 
-/// Why a file was not sent whole. Exactly its first `sent` octets went out.
+/// Why a file was not written completely. Exactly its first `sent` bytes were written.
 #[derive(Clone, Copy, Debug, PartialEq, Eq, Error)]
 pub enum WriteFault {
     /// 51: the sink failed.
     WriteFailed { sent: u64 },
-    /// 60: no memory was left.
+    /// 60: out of memory.
     OutOfMemory { sent: u64 },
 }
 
 impl WriteFault {
-    /// The number of the refusal: 51 or 60.
+    /// Returns the error number: 51 or 60.
     pub fn code(&self) -> u8
         ensures { result ≡ write_code self.now }
     {
         self.report().0.number()
     }
 
-    // Which refusal it is, and what it names.
     fn report(&self) -> Report
         ensures { result ≡ write_report self.now }
     {
@@ -34,8 +33,8 @@ impl WriteFault {
     }
 }
 
-/// The number and the name of the refusal, and how much was sent, as `51 WriteFailed after 10
-/// octets`.
+/// Prints the number and the name of the error, and how much was written, as in
+/// `51 WriteFailed after 10 octets`.
 impl fmt::Display for WriteFault {
     ghost use Rattle.std.specs.Prelude.{Some};
     ghost use Rattle.plist_engine.specs.Sending.{write_text};

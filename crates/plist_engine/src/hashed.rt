@@ -1,4 +1,4 @@
-//! Keys that have numbers.
+//! A map from keys to object numbers.
 ghost use Rattle.std.specs.Prelude.{IfOk};
 ghost use Rattle.plist_engine.specs.Hashed.{EntersKey, IsEmptyHashed};
 
@@ -6,10 +6,11 @@ use indexmap::IndexSet;
 use std::alloc::{AllocError, Global};
 use std::hash::{BuildHasher, Hash};
 
-// A set of so many keys is given the room that it is likely to need. One of fewer grows by itself.
+// A set grows by itself up to this number of keys. Then space is reserved for all keys that are
+// likely to come.
 const MANY: usize = 8_192;
 
-/// Keys that have numbers: these stand in a list, each at the index of its key.
+/// A map from keys to object numbers. A key at index `i` of the set has the number `numbers[i]`.
 #[derive(Drop)]
 pub(crate) struct Hashed<K: Eq + Hash, S: BuildHasher> {
     pub(crate) keys: IndexSet<K, S>,
@@ -17,7 +18,6 @@ pub(crate) struct Hashed<K: Eq + Hash, S: BuildHasher> {
 }
 
 impl<K: Eq + Hash + Drop, S: BuildHasher> Hashed<K, S> {
-    /// No key has a number. Keys will be hashed by what the builder makes.
     pub(crate) fn new(alloc: Global, hasher: S) -> Hashed<K, S>
         ensures { IsEmptyHashed result }
     {
@@ -27,8 +27,8 @@ impl<K: Eq + Hash + Drop, S: BuildHasher> Hashed<K, S> {
         }
     }
 
-    /// The number that the key has, if it has one. Else it has the next number from now on. There
-    /// are at most `most` keys.
+    /// Returns the number of the key. If it has none, gives it the number `next` and returns
+    /// `None`. The map will have at most `most` keys.
     pub(crate) fn enter(
         &mut self,
         key: K,
@@ -49,9 +49,9 @@ impl<K: Eq + Hash + Drop, S: BuildHasher> Hashed<K, S> {
     }
 }
 
-// How many keys there are likely to be: `MANY` stand among the first so many numbers, of which
-// there will be at most `most`. More room than that is slower to search, and a set for which it
-// does not suffice grows.
+// Estimates how many keys there will be: there are `MANY` among the first `so_far` objects, and
+// there will be at most `most` objects. To reserve more would make lookups slower, and a set that
+// is too small still grows.
 fn likely(so_far: u32, most: usize) -> usize {
     most.saturating_mul(MANY) / (so_far as usize).max(MANY)
 }

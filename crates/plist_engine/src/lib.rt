@@ -1,5 +1,5 @@
-//! The canonical binary file of each property list, as octets or piece by piece to a sink. It is
-//! made from any binary file that spells the list, without the list.
+//! Writes the canonical binary file of a property list, into memory or piece by piece to a sink.
+//! The input is any binary file that encodes the list; the list itself is not built.
 #![tactic(auto)]
 
 mod ahead;

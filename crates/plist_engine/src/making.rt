@@ -1,4 +1,4 @@
-//! The canonical file of the value that a file spells, as octets.
+//! The canonical file, in memory.
 ghost use Rattle.std.specs.Prelude.{◌≡◌, None, Some, IfOk};
 ghost use Rattle.plist_value.specs.Plist.{Plist};
 ghost use Rattle.plist_object.specs.Spelled.{IsBinary};
@@ -11,7 +11,7 @@ use plist_object::BinFile;
 use std::alloc::{AllocError, Global};
 use std::hash::BuildHasher;
 
-/// A sink into memory that grows.
+/// A sink that appends to a vector.
 #[derive(Drop)]
 struct GrowingSink {
     octets: Vec<u8>,
@@ -41,17 +41,18 @@ impl Sink for GrowingSink {
     }
 }
 
-/// The canonical file of the value that the file spells, as one list. It goes over the objects that
-/// the value names, makes no value, and goes over the objects of the canonical file once more.
-/// So one file is made for each value: it is a binary file of it (the layout of CFBinaryPList.c;
-/// which of those files it is, is our profile).
+/// Returns the canonical file of the value that `file` encodes.
 ///
-/// Keys that were sorted are not sorted again where they are met first. The hasher is as in
+/// Visits the objects that the value uses, without building the value, and then the objects of the
+/// canonical file. Each value has exactly one canonical file, which is a binary file of it. The
+/// layout is that of CFBinaryPList.c; the choice among the files of one value is our profile.
+///
+/// A dictionary with the same keys as the one before reuses its order. For `hasher` see
 /// [`write_canonical_of`].
 ///
 /// # Errors
 ///
-/// Where there is no memory for the file, or for the plan of its objects.
+/// Fails if there is no memory for the file, or for the plan of its objects.
 pub fn canonical_of<'a, S: BuildHasher + Copy>(
     alloc: Global,
     hasher: S,

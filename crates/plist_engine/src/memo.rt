@@ -1,4 +1,4 @@
-//! The numbers of the objects of a file that were met as scalars.
+//! The object numbers of the objects that were visited as scalars.
 ghost use Rattle.std.specs.Prelude.{◌≡◌, ◌≤◌, ℕ, length, true, IfOk, IfSome, IfNone, OnOk};
 ghost use Rattle.plist_object.specs.Views.{octets_of};
 ghost use Rattle.plist_engine.specs.Memo.{IsNumber, KeepsNumber, Marks, Sifts, kept};
@@ -10,23 +10,23 @@ use plist_object::BinFile;
 use std::alloc::{AllocError, Global};
 use std::hash::BuildHasher;
 
-/// Stands for the number of an object that has none, and holds a scalar that no other object holds.
-/// All below are numbers.
+/// Marks an object that has no number, and whose scalar no other object contains. All smaller
+/// values are numbers.
 pub(crate) const SINGLE: u32 = NO_NUMBER - 1;
 
-// From so many scalars in a set on it pays to look for single objects.
+// With fewer scalars than this in the sets, looking for single objects does not pay.
 const MANY: usize = 4_096;
 
-/// The number of each object of the file that was met as a scalar.
+/// The number of each object of the file that was visited as a scalar.
 #[derive(Drop)]
 pub(crate) struct Memo {
     pub(crate) numbers: Vec<u32>,
-    // Whether single objects were looked for.
+    // Whether single objects were already looked for.
     pub(crate) is_sifted: bool,
 }
 
 impl Memo {
-    /// None of so many objects was met.
+    /// Returns the memo of `count` objects, none of which was visited.
     pub(crate) fn new(alloc: Global, count: u64) -> Result<Memo, AllocError>
         ensures listed { IfOk result (λ memo. length memo.numbers.items ≡ count) }
         ensures none { IfOk result (λ memo. (i : ℕ) → kept memo i ≡ NO_NUMBER) }
@@ -39,7 +39,7 @@ impl Memo {
         })
     }
 
-    /// The number of the object, if it was met.
+    /// Returns the number of the object, if it was visited.
     #[inline(always)]
     pub(crate) fn number_of(&self, object: u64) -> Option<u32>
         ensures is { IfSome result (λ number. kept self.now object ≡ number) }
@@ -52,8 +52,8 @@ impl Memo {
         }
     }
 
-    /// Whether it is known that the object holds a scalar that no other object holds, and that it
-    /// was not met.
+    /// Returns whether the object is known to contain a scalar that no other object contains, and
+    /// was not visited.
     #[inline(always)]
     pub(crate) fn is_single(&self, object: u64) -> bool
         ensures { result ≡ true → kept self.now object ≡ SINGLE }
@@ -61,7 +61,7 @@ impl Memo {
         self.numbers.get(object as usize) == Some(&SINGLE)
     }
 
-    /// Whether anything is kept of the object: it was met, or is single.
+    /// Returns whether the object was visited or is known to be single.
     #[inline(always)]
     pub(crate) fn is_met(&self, object: u64) -> bool {
         self.numbers
@@ -69,7 +69,6 @@ impl Memo {
             .is_some_and(|number| *number != NO_NUMBER)
     }
 
-    /// Keeps the number of the object.
     #[inline(always)]
     pub(crate) fn keep(&mut self, object: u64, number: u32)
         ensures { KeepsNumber object number self.old self.new }
@@ -80,7 +79,8 @@ impl Memo {
         }
     }
 
-    /// Looks for single objects, once there are so many scalars in a set that it pays.
+    /// Looks for single objects, unless that was already done or there are too few scalars in the
+    /// sets for it to pay.
     #[inline(always)]
     pub(crate) fn sift<S: BuildHasher>(
         &mut self,
@@ -97,7 +97,6 @@ impl Memo {
         self.mark(alloc, hasher, file)
     }
 
-    // Looks for single objects.
     #[inline(never)]
     fn mark<S: BuildHasher>(
         &mut self,
@@ -115,7 +114,7 @@ impl Memo {
     }
 }
 
-// Marks the objects that have no number and hold a scalar that no other holds.
+// Marks the objects that have no number and contain a scalar that no other object contains.
 fn mark_single(numbers: &mut Vec<u32>, sieve: &Sieve)
     ensures { Marks sieve.now numbers.old.items numbers.new.items }
 {

@@ -1,4 +1,4 @@
-//! Whole numbers from 0 that have numbers, the small ones without a set.
+//! A map from non-negative integers to object numbers, without hashing for the small ones.
 ghost use Rattle.std.specs.Prelude.{◌≡◌, ◌≢◌, ◌<◌, ℕ, IfOk, OnOk, length, slice_index_or, nat_eq};
 ghost use Rattle.std.specs.Prelude.{if◌then◌else◌, Some, None};
 ghost use Rattle.std.specs.Option.{option_or};
@@ -9,14 +9,15 @@ use crate::hashed::Hashed;
 use std::alloc::{AllocError, Global};
 use std::hash::BuildHasher;
 
-/// Stands for the number of what has none.
+/// Marks what has no number.
 pub(crate) const NO_NUMBER: u32 = u32::MAX;
 
-// There is room for so many numbers as soon as there is one.
+// The number of entries that a list grows by at least.
 const LEAST_ROOM: usize = 64;
 
-/// The whole numbers from 0 that have numbers. The number of each below the limit stands at its own
-/// place in a list, which no choice of numbers slows down; all others are in a set.
+/// The non-negative integers that already have an object number, with their numbers. Those below
+/// the limit are indices into a list, which no choice of integers can make slow. All others are in
+/// a hash set.
 #[derive(Drop)]
 pub(crate) struct Naturals<S: BuildHasher> {
     pub(crate) small: Vec<u32>,
@@ -25,7 +26,7 @@ pub(crate) struct Naturals<S: BuildHasher> {
 }
 
 impl<S: BuildHasher> Naturals<S> {
-    /// None has a number. The list will have at most so many places.
+    /// Returns an empty map. Its list will have at most `limit` entries.
     pub(crate) fn new(alloc: Global, hasher: S, limit: usize) -> Naturals<S>
         ensures { AreNoNaturals result }
     {
@@ -36,8 +37,8 @@ impl<S: BuildHasher> Naturals<S> {
         }
     }
 
-    /// The number that the natural number has, if it has one. Else it has the next number from now
-    /// on.
+    /// Returns the number of the integer. If it has none, gives it the number `next` and returns
+    /// `None`.
     pub(crate) fn enter(&mut self, natural: u64, next: u32) -> Result<Option<u32>, AllocError>
         ensures { IfOk result (λ had. AreCounted self.old
             → EntersNatural natural next self.old self.new had) }
@@ -54,7 +55,7 @@ impl<S: BuildHasher> Naturals<S> {
     }
 }
 
-// Makes the list longer, if the place is not within it, but not longer than the limit.
+// Grows the list so that `place` is in range, up to `limit`.
 fn make_room(numbers: &mut Vec<u32>, place: usize, limit: usize) -> Result<(), AllocError>
     requires { place < limit }
     ensures within { OnOk result (place < length numbers.new.items) }
@@ -68,7 +69,7 @@ fn make_room(numbers: &mut Vec<u32>, place: usize, limit: usize) -> Result<(), A
     numbers.resize(room.min(limit), NO_NUMBER)
 }
 
-// The number at the place, if there is one. Else the next number is put there.
+// Returns the number at `place`. If there is none, sets it to `next` and returns `None`.
 fn enter_at(numbers: &mut Vec<u32>, place: usize, next: u32) -> Option<u32>
     requires within { place < length numbers.old.items }
     requires some { next ≢ no_number }

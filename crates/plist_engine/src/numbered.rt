@@ -1,4 +1,4 @@
-//! Scalars that have numbers, a few of them in a list.
+//! A map from scalars to object numbers, which keeps some long data in a list.
 ghost use Rattle.std.specs.Prelude.{◌≡◌, IfOk};
 ghost use Rattle.plist_value.specs.Scalars.{content_of};
 ghost use Rattle.plist_engine.specs.Numbered.{IsNew, IsUnlisted, IsNumbered, Enters};
@@ -9,23 +9,21 @@ use plist_value::ScalarRef;
 use std::alloc::{AllocError, Global};
 use std::hash::BuildHasher;
 
-// Data of so many octets are long.
+// Data of at least this many bytes is long.
 const LONG: usize = 65_536;
 
-// So many long data are listed. Each that comes later is compared with all of them, so they are
-// few.
+// The most long data in the list. It is small because later long data is compared with each entry.
 const MOST_LISTED: usize = 8;
 
-// Long data and their number.
 #[derive(Clone, Copy)]
 struct Listed<'a> {
     scalar: ScalarRef<'a>,
     number: u32,
 }
 
-/// The scalars that have numbers, and these. The first long data are listed, and are told by
-/// comparison, which ends at the first difference: a hash would read each of them whole. All others
-/// stand in a set.
+/// Scalars that already have an object number, with their numbers. The first long data is in a list
+/// and is found by comparison, which ends at the first difference, while a hash would read all of
+/// its bytes. All other scalars are in a hash set.
 #[derive(Drop)]
 pub(crate) struct Numbered<'a, S: BuildHasher> {
     listed: Vec<Listed<'a>>,
@@ -33,7 +31,6 @@ pub(crate) struct Numbered<'a, S: BuildHasher> {
 }
 
 impl<'a, S: BuildHasher> Numbered<'a, S> {
-    /// No scalar has a number.
     pub(crate) fn new(alloc: Global, hasher: S) -> Numbered<'a, S>
         ensures { IsNew result }
     {
@@ -43,8 +40,8 @@ impl<'a, S: BuildHasher> Numbered<'a, S> {
         }
     }
 
-    /// The number that the scalar has, if it has one. Else it has the next number from now on.
-    /// There are at most `most` scalars.
+    /// Returns the number of the scalar. If it has none, gives it the number `next` and returns
+    /// `None`. There will be at most `most` scalars.
     pub(crate) fn enter(
         &mut self,
         scalar: ScalarRef<'a>,
@@ -70,7 +67,7 @@ impl<'a, S: BuildHasher> Numbered<'a, S> {
         Ok(None)
     }
 
-    // The number of the scalar among those that are listed.
+    // Looks up the scalar in the list only.
     fn number_of_listed(&self, scalar: ScalarRef) -> Option<u32>
         ensures { result ≡ number_listed self.now.listed.items (content_of scalar.entry) }
     {
@@ -82,7 +79,7 @@ impl<'a, S: BuildHasher> Numbered<'a, S> {
         None
     }
 
-    // The same as `enter`, for a scalar that the list neither has nor takes.
+    // Like `enter`, for a scalar that is not in the list and will not be added to it.
     fn enter_hashed(
         &mut self,
         scalar: ScalarRef<'a>,
@@ -96,7 +93,7 @@ impl<'a, S: BuildHasher> Numbered<'a, S> {
     }
 }
 
-/// Whether the scalar is data that take long to hash.
+/// Returns whether the scalar is data that takes long to hash.
 pub(crate) fn is_long_data(scalar: ScalarRef) -> bool
     ensures { result ≡ is_long (content_of scalar.entry) }
 {

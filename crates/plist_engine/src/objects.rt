@@ -1,4 +1,4 @@
-//! What objects of a file hold.
+//! Decodes objects whose content is known to be valid.
 ghost use Rattle.plist_value.specs.Plist.{text};
 ghost use Rattle.plist_value.specs.Texts.{units_of};
 ghost use Rattle.plist_object.specs.Objects.{IsHeld, holds_scalar};
@@ -9,7 +9,7 @@ ghost use Rattle.plist_engine.specs.Spelling.{IsRead};
 use plist_object::{BinFile, Object};
 use plist_value::{ScalarRef, TextRef};
 
-/// What an object that reads holds.
+/// Decodes an object that is known to be valid.
 pub fn object_of<'a>(file: &BinFile<'a>, n: u64) -> Object<'a>
     requires { IsRead (octets_of file.now) n }
     ensures holds { Holds (octets_of file.now) n (held_of result) }
@@ -18,7 +18,7 @@ pub fn object_of<'a>(file: &BinFile<'a>, n: u64) -> Object<'a>
     file.object(n).unwrap()
 }
 
-/// The text that an object holds.
+/// Returns the string of an object that is known to contain one.
 pub fn text_of<'a>(file: &BinFile<'a>, n: u64) -> TextRef<'a>
     requires { HoldsText (octets_of file.now) n }
     ensures { Holds (octets_of file.now) n (holds_scalar (text (units_of result))) }

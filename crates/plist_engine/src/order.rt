@@ -1,4 +1,4 @@
-//! The references of a container, put behind others.
+//! Appends the references of containers.
 ghost use Rattle.std.specs.Prelude.{◌≡◌, ◌++◌, ◌<◌, ℕ, List, All, OnOk, length, map};
 ghost use Rattle.std.specs.Prelude.{slice_index};
 ghost use Rattle.plist_value.specs.Plist.{Pairs};
@@ -9,12 +9,12 @@ ghost use Rattle.plist_engine.specs.Spelling.{IsTable, SpellTable, in_turn};
 use plist_object::{BinFile, KeyOrder, Refs, short};
 use std::alloc::{AllocError, Global};
 
-/// Puts the references to a dictionary's keys behind the others, in ascending order of the keys,
-/// and then those to its values in the same order.
+/// Appends the references to a dictionary's keys, in ascending order of the keys, and then those to
+/// its values in the same order.
 ///
 /// # Errors
 ///
-/// [`AllocError`] if memory runs out.
+/// [`AllocError`] if out of memory.
 pub fn push_sorted<'a>(
     alloc: Global,
     file: &BinFile<'a>,
@@ -36,7 +36,7 @@ pub fn push_sorted<'a>(
     Ok(())
 }
 
-/// Puts the references of an array behind the others.
+/// Appends the references of an array.
 pub(crate) fn push_all(items: &Refs, references: &mut Vec<u32>) -> Result<(), AllocError>
     ensures { OnOk result (references.new.items ≡ references.old.items ++ numbers_of items.now) }
 {
@@ -46,7 +46,7 @@ pub(crate) fn push_all(items: &Refs, references: &mut Vec<u32>) -> Result<(), Al
     Ok(())
 }
 
-// Puts the references at these positions behind the others.
+// Appends the references at these positions.
 fn push_at(refs: &Refs, places: &[u64], references: &mut Vec<u32>) -> Result<(), AllocError>
     requires { All (λ place. place < length (numbers_of refs.now)) places.now }
     ensures { OnOk result (references.new.items

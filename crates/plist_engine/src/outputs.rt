@@ -7,7 +7,7 @@ ghost use Rattle.plist_engine.specs.Output.{CanTake, Goes, KeepsShort, state_of}
 use crate::{Sink, WriteFault};
 use plist_devices::put_all;
 
-/// The most bytes that a piece has, if no object has more.
+/// The most bytes of a piece, unless a single object has more.
 pub(crate) const PIECE: u64 = 4096;
 
 /// A buffered writer over a sink. `sent` counts the bytes that the sink took.
@@ -19,7 +19,7 @@ pub struct Output<'a, W> {
 }
 
 impl<'a, W: Sink> Output<'a, W> {
-    /// Sends all that waits.
+    /// Sends the buffered bytes.
     ///
     /// # Errors
     ///
@@ -44,7 +44,7 @@ impl<'a, W: Sink> Output<'a, W> {
         }
     }
 
-    /// Sends all that waits, and then these octets without a copy.
+    /// Flushes the buffer, and then sends these bytes without a copy.
     ///
     /// # Errors
     ///
@@ -60,7 +60,7 @@ impl<'a, W: Sink> Output<'a, W> {
         self.send(octets)
     }
 
-    // Sends these octets. None wait.
+    // Sends these bytes directly; the buffer is empty.
     fn send(&mut self, octets: &[u8]) -> Result<(), WriteFault>
         requires none { self.old.waiting.now.items ≡ [] }
         requires room { CanTake octets.now (state_of W.Sink self.old) }
@@ -80,7 +80,7 @@ impl<'a, W: Sink> Output<'a, W> {
         }
     }
 
-    /// Sends what waits, if `more` octets would make it too long for one piece.
+    /// Flushes the buffer if `more` bytes would make it longer than a piece.
     ///
     /// # Errors
     ///

@@ -1,4 +1,5 @@
-//! The objects of the canonical file, taken from the file and the numbers of their children.
+//! Builds the objects of the canonical file from those of the input and the numbers of their
+//! children.
 ghost use Rattle.std.specs.Prelude.{◌≡◌, ◌≤◌, ℕ, length, drop};
 ghost use Rattle.plist_object.specs.Shortest.{spelling_of};
 ghost use Rattle.plist_object.specs.Views.{octets_of};
@@ -10,8 +11,9 @@ use crate::objects::object_of;
 use crate::putting::Part;
 use plist_object::{BinFile, Object};
 
-/// The object that stands for one of the file, with the first of the numbers as its references, and
-/// the numbers behind them. A scalar that is seen to stand in its canonical spelling is not read.
+/// Returns the canonical object of an object of the input, with the first of the numbers as its
+/// references, and the numbers that remain. A scalar whose bytes are recognised as canonical is not
+/// decoded.
 pub(crate) fn part_of<'a, 'b>(
     file: &BinFile<'a>,
     object: u64,

@@ -1,4 +1,4 @@
-//! The objects of the canonical file, in the order of their numbers, as they are found in a file.
+//! Maps each object of the canonical file to the input object that it is written from.
 ghost use Rattle.std.specs.Prelude.{◌≡◌, ◌↔◌, ◌<◌, ℕ, List, length, IsOk, IfOk, OnOk};
 ghost use Rattle.plist_value.specs.Scalars.{content_of};
 ghost use Rattle.plist_value.specs.Plist.{Pairs};
@@ -17,17 +17,16 @@ use plist_value::{MAX_NODES, ScalarRef};
 use std::alloc::{AllocError, Global};
 use std::hash::BuildHasher;
 
-/// The objects of a canonical file: for each number the object of the file that holds what stands
-/// there, and the references of all containers, container after container.
+/// The objects of a canonical file: for each number the input object that it is written from, and
+/// the references of all containers, one container after another.
 #[derive(Drop)]
 pub(crate) struct Objects {
     pub(crate) originals: Vec<u32>,
     pub(crate) references: Vec<u32>,
 }
 
-/// The objects so far, and a memo: the number of each object of the file that was met as a scalar.
-/// A set has the scalars among them, but for those of which the memo tells that no other object
-/// holds them.
+/// The objects so far, and a memo with the number of each input object that was visited as a
+/// scalar. A set contains these scalars, except those that are known to occur in one object only.
 #[derive(Drop)]
 pub(crate) struct Plan<'a, S: BuildHasher> {
     hasher: S,
@@ -38,8 +37,8 @@ pub(crate) struct Plan<'a, S: BuildHasher> {
 }
 
 impl<'a, S: BuildHasher + Copy> Plan<'a, S> {
-    /// Nothing was found of the file. There is room for what most files take, and for no more than
-    /// a value within the limits has; where it is not used it costs nothing.
+    /// Returns the empty plan. Capacity is reserved for what most files need, but for no more than
+    /// a value within the limits has. Reserved memory that is never used costs nothing.
     pub(crate) fn new(alloc: Global, hasher: S, file: &BinFile) -> Result<Plan<'a, S>, AllocError>
         ensures empty { IfOk result IsEmptyPlan }
         ensures knows { IfOk result (KnowsScalars (octets_of file.now)) }
@@ -58,8 +57,8 @@ impl<'a, S: BuildHasher + Copy> Plan<'a, S> {
         })
     }
 
-    /// The number of the scalar that the object holds, which was not met before: that of an equal
-    /// one, or a new one.
+    /// Returns the number of the scalar of an object that was not visited before: the number of an
+    /// equal scalar, or a new one.
     pub(crate) fn scalar(
         &mut self,
         alloc: Global,
@@ -86,8 +85,8 @@ impl<'a, S: BuildHasher + Copy> Plan<'a, S> {
         Ok(next)
     }
 
-    /// The number of the scalar that the object holds, which no other object holds: a new one. The
-    /// scalar is not read.
+    /// Returns a new number for the scalar of an object, which no other object contains. The scalar
+    /// is not read.
     #[inline(always)]
     pub(crate) fn single(&mut self, object: u64) -> Result<u32, AllocError>
         requires { kept self.old.memo object ≡ SINGLE }
@@ -103,7 +102,7 @@ impl<'a, S: BuildHasher + Copy> Plan<'a, S> {
         Ok(number)
     }
 
-    /// The objects alone; the scalars and the memo are given up.
+    /// Keeps only the objects, and frees the sets and the memo.
     pub(crate) fn into_objects(self) -> Objects
         ensures originals { result.originals ≡ self.entry.originals }
         ensures references { result.references ≡ self.entry.references }
@@ -114,7 +113,7 @@ impl<'a, S: BuildHasher + Copy> Plan<'a, S> {
         }
     }
 
-    // The number of the next object.
+    // Fails at `SINGLE` and above, which the memo does not use as numbers.
     fn next_number(&self) -> Result<u32, AllocError>
         ensures fits { IsOk result ↔ (length self.now.originals.items < SINGLE) }
         ensures is { IfOk result (λ number. number ≡ length self.now.originals.items) }
@@ -127,7 +126,7 @@ impl<'a, S: BuildHasher + Copy> Plan<'a, S> {
         Ok(number)
     }
 
-    /// The number of a list, whose references are put behind the references.
+    /// Adds an array and appends its references. Returns its number.
     pub(crate) fn begin_list(&mut self, object: u64, items: &Refs) -> Result<u32, AllocError>
         ensures { IfOk result (Begins object (numbers_of items.now) self.old self.new) }
     {
@@ -138,8 +137,8 @@ impl<'a, S: BuildHasher + Copy> Plan<'a, S> {
         Ok(number)
     }
 
-    /// The number of a table, whose references are put behind the references: those to keys in the
-    /// order of their texts, and then those to their values in the same order.
+    /// Adds a dictionary, and appends the references to its keys, in ascending order of the keys,
+    /// and then those to its values in the same order. Returns its number.
     pub(crate) fn begin_table(
         &mut self,
         alloc: Global,
@@ -165,8 +164,8 @@ impl<'a, S: BuildHasher + Copy> Plan<'a, S> {
     }
 }
 
-// The number of the scalar, where an equal one was met. Else it is met under the next number from
-// now on, unless no other object holds an equal one.
+// Returns the number of an equal scalar that was visited before. If there is none, gives the scalar
+// the number `next` in the set, unless no other object contains an equal one.
 fn meet<'a, S: BuildHasher + Copy>(
     memo: &Memo,
     scalars: &mut Scalars<'a, S>,

@@ -1,4 +1,4 @@
-//! The parts of a file, measured and put behind octets.
+//! The sizes of the parts of a file, and appending them.
 ghost use Rattle.std.specs.Prelude.{◌≡◌, ◌++◌, length, OnOk};
 ghost use Rattle.plist_object.specs.Sizes.{IsWidth};
 ghost use Rattle.plist_engine.specs.Canonical.{trailer_octets};
@@ -10,8 +10,8 @@ use plist_object::{
 use plist_value::ScalarRef;
 use std::alloc::AllocError;
 
-/// An object: the octets of a scalar in its canonical spelling, a scalar, the numbers of a list's
-/// items, or those of a table's keys and of its values.
+/// An object: the bytes of a scalar in its canonical encoding, a scalar, the numbers of an array's
+/// items, or the numbers of a dictionary's keys and values.
 #[derive(Clone, Copy)]
 pub(crate) enum Part<'a, 'b> {
     Spelled(&'a [u8]),
@@ -20,7 +20,7 @@ pub(crate) enum Part<'a, 'b> {
     Table(&'b [u32], &'b [u32]),
 }
 
-/// How many octets the object has, where its references have so many octets each.
+/// Returns the number of bytes of the object, with references of `width` bytes.
 #[inline(always)]
 pub(crate) fn part_length(width: u8, part: &Part) -> u64
     requires width { IsWidth width }
@@ -35,7 +35,7 @@ pub(crate) fn part_length(width: u8, part: &Part) -> u64
     }
 }
 
-/// The object, behind the octets of `out`.
+/// Appends the object to `out`.
 pub(crate) fn put_part(out: &mut Vec<u8>, width: u8, part: &Part) -> Result<(), AllocError>
     requires width { IsWidth width }
     requires spellable { CanSpellPart width part.now }
@@ -50,8 +50,7 @@ pub(crate) fn put_part(out: &mut Vec<u8>, width: u8, part: &Part) -> Result<(), 
     }
 }
 
-/// The trailer of a file with so many objects and its offset table at the place, behind the octets
-/// of `out`.
+/// Appends the trailer of a file of `count` objects whose offset table is at `place`.
 pub(crate) fn put_trailer(out: &mut Vec<u8>, count: u64, place: u64) -> Result<(), AllocError>
     ensures { OnOk result (out.new.items ≡ out.old.items ++ trailer_octets count place) }
 {

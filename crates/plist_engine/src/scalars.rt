@@ -1,4 +1,4 @@
-//! Scalars that have numbers.
+//! A map from scalars to object numbers.
 ghost use Rattle.std.specs.Prelude.{◌≡◌, IfOk};
 ghost use Rattle.plist_value.specs.Scalars.{content_of};
 ghost use Rattle.plist_engine.specs.Scalars.{AreNew, AreNumbered, EntersScalar, natural_in};
@@ -9,8 +9,8 @@ use plist_value::ScalarRef;
 use std::alloc::{AllocError, Global};
 use std::hash::BuildHasher;
 
-/// Scalars that have numbers, by which equal ones are found. Whole numbers that are not below 0
-/// are kept apart from the others, since they take less room and time.
+/// Scalars that already have an object number, with their numbers. Equal scalars are found by them.
+/// Non-negative integers are kept apart from the others, since they take less space and time.
 #[derive(Drop)]
 pub struct Scalars<'a, S: BuildHasher> {
     naturals: Naturals<S>,
@@ -19,8 +19,7 @@ pub struct Scalars<'a, S: BuildHasher> {
 }
 
 impl<'a, S: BuildHasher + Copy> Scalars<'a, S> {
-    /// No scalar has a number. There will be at most so many, and they will be hashed by what the
-    /// builder makes.
+    /// Returns an empty map. It will have at most `most` scalars, which are hashed by `hasher`.
     pub fn new(alloc: Global, hasher: S, most: usize) -> Scalars<'a, S>
         ensures { AreNew result }
     {
@@ -31,19 +30,19 @@ impl<'a, S: BuildHasher + Copy> Scalars<'a, S> {
         }
     }
 
-    /// How many stand in a set.
+    /// Returns the number of scalars in hash sets.
     pub(crate) fn len(&self) -> usize {
         let naturals = self.naturals.large.numbers.len();
         naturals.saturating_add(self.others.hashed.numbers.len())
     }
 
-    /// The number that the scalar has, if it has one. Else it has the next number from now on,
-    /// which is below 2^32 - 1.
+    /// Returns the number of the scalar. If it has none, gives it the number `next`, which is below
+    /// 2^32 - 1, and returns `None`.
     ///
     /// # Errors
     ///
-    /// Where there is no memory for the scalar, and maybe where the next number is 2^32 - 1.
-    /// Nothing is known of the numbers then.
+    /// Fails if out of memory, and may fail if `next` is 2^32 - 1. The numbers in the map are
+    /// unspecified then.
     pub fn enter(&mut self, scalar: ScalarRef<'a>, next: u32) -> Result<Option<u32>, AllocError>
         ensures { IfOk result (λ had. AreNumbered self.old
             → EntersScalar scalar.entry next self.old self.new had) }
@@ -55,7 +54,7 @@ impl<'a, S: BuildHasher + Copy> Scalars<'a, S> {
     }
 }
 
-/// The number in the scalar, exactly where it is a whole number that is not below 0.
+/// Returns the integer that the scalar contains, or `None` if it is negative or no integer.
 pub fn natural_in(scalar: ScalarRef) -> Option<u64>
     ensures { result ≡ natural_in (content_of scalar.entry) }
 {

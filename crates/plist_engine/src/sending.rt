@@ -1,4 +1,4 @@
-//! The canonical file of the value that a file spells, sent in pieces.
+//! The canonical file, sent in pieces.
 ghost use Rattle.std.specs.Prelude.{◌≡◌, ◌+◌, ◌<◌, ◌≤◌, ◌-◌, ◌^◌, ◌∷◌, [], ℕ, length, IfOk};
 ghost use Rattle.std.specs.List.{concat};
 ghost use Rattle.plist_value.specs.Plist.{Plist, bytes};
@@ -29,23 +29,23 @@ use plist_value::ScalarRef;
 use std::alloc::Global;
 use std::hash::BuildHasher;
 
-/// The most bytes of an object of data that come before its octets.
+/// The most bytes of a data object that precede its content.
 const MOST_HEAD: u64 = 10;
 
-/// Sends the canonical file of the value that the file spells, object after object, and answers how
-/// many octets it has. Neither that value nor its canonical file is in memory: no piece is longer
-/// than the longest object, or than 4,096 octets.
+/// Sends the canonical file of the value that `file` encodes, object after object, and returns its
+/// size. Neither the value nor its canonical file is built in memory. No piece is longer than 4,096
+/// bytes, or than the longest object if that is longer.
 ///
-/// Keys that were sorted are not sorted again where they are met first. Scalars are hashed by what
-/// the builder makes. Where somebody else picks the files, hand it a
-/// [`RandomState`](std::hash::RandomState): scalars that were picked to collide under a
-/// [`FixedHasher`](plist_value::FixedHasher) cost no more than others then.
+/// A dictionary with the same keys as the one before reuses its order. Scalars are hashed by
+/// `hasher`. If others choose the files, pass a [`RandomState`](std::hash::RandomState): scalars
+/// that were chosen to collide under a [`FixedHasher`](plist_value::FixedHasher) then cost no more
+/// than others.
 ///
 /// # Errors
 ///
-/// [`WriteFault::WriteFailed`] (51) where the sink fails, and [`WriteFault::OutOfMemory`] (60)
-/// where there is no memory for the plan of the objects or for one of them. Exactly the first
-/// `sent` octets of the file went out then.
+/// [`WriteFault::WriteFailed`] (51) if the sink fails, and [`WriteFault::OutOfMemory`] (60) if
+/// there is no memory for the plan of the objects or for one of them. Exactly the first `sent`
+/// bytes of the file were written then.
 pub fn write_canonical_of<'a, S: BuildHasher + Copy, W: Sink>(
     alloc: Global,
     hasher: S,
@@ -66,7 +66,7 @@ pub fn write_canonical_of<'a, S: BuildHasher + Copy, W: Sink>(
     send_file(alloc, file, objects, out)
 }
 
-// The file of the objects.
+// Sends the file of the planned objects.
 fn send_file<W: Sink>(
     alloc: Global,
     file: &BinFile,
@@ -99,7 +99,7 @@ fn send_file<W: Sink>(
     send_parts(alloc, file, objects, &mut out)
 }
 
-// The file of the objects, whose header waits.
+// Sends the file of the planned objects, whose header is already in the buffer.
 fn send_parts<W: Sink>(
     alloc: Global,
     file: &BinFile,
@@ -131,7 +131,7 @@ fn send_parts<W: Sink>(
     Ok(out.sent)
 }
 
-// The objects one after another, and their places in the file.
+// Sends the objects, and returns their offsets in the file.
 fn send_objects<W: Sink>(
     alloc: Global,
     file: &BinFile,
@@ -207,7 +207,7 @@ pub(crate) fn send_part<W: Sink>(
     }
 }
 
-// Data of at least 15 octets, which are not copied.
+// Sends data of at least 15 bytes without a copy.
 fn send_data<W: Sink>(octets: &[u8], out: &mut Output<W>) -> Result<(), WriteFault>
     requires long { 15 ≤ length octets.now }
     requires room { CanTake (scalar_spelling (bytes octets.now)) (state_of W.Sink out.old) }

@@ -1,9 +1,9 @@
-//! Objects of a file that may hold a scalar which another object holds, told by bits.
+//! Finds the objects of a file that may contain the same scalar as another object.
 //!
-//! Most scalars of a file are unlike all others, and to keep each in a set costs a wait for memory.
-//! So a hash gives each scalar one bit of many: only scalars that share a bit are compared. First
-//! the bits of all are noted, and then gone through in a loop that does nothing else: there the
-//! processor waits for many of them together.
+//! Most scalars of a file are unlike all others, and a lookup in a set costs a cache miss for each.
+//! So a hash maps each scalar to one of many bits, and only scalars that share a bit are compared.
+//! First the bits of all objects are collected. A loop that does nothing else then counts them, in
+//! which the cache misses overlap.
 ghost use Rattle.std.specs.Prelude.{◌≡◌, ◌<◌, ◌↔◌, ℕ, List, suc, [], IsTrue, IfOk, OnOk, length};
 ghost use Rattle.plist_object.specs.Places.{Holds};
 ghost use Rattle.plist_object.specs.Views.{held_of};
@@ -14,29 +14,29 @@ use plist_object::Object;
 use std::alloc::{AllocError, Global};
 use std::hash::BuildHasher;
 
-// So many bits for each object, or up to twice as many: of scalars that equal none, one of eight
-// shares its bit.
+// The least number of bits per object; at most twice as many are used. Of the scalars without an
+// equal one, about one in eight shares its bit.
 const BITS: u64 = 8;
 
-// Stands for the bit of an object that holds a container. No scalar has that bit.
+// Marks an object that is a container. No scalar has this bit.
 const NO_BIT: u32 = 0;
 
-// What a hasher makes of it is a seed: who does not know the builder does not know the seed.
+// What the hasher is given to make a seed. The seed is unknown to those who do not know the hasher.
 const SEED: u64 = 0;
 
-/// The bits of the objects that were noted, from the first on.
+/// The bits of the objects that were noted so far.
 #[derive(Drop)]
 pub struct Notes {
-    // The bit of each object's scalar, or NO_BIT of a container.
+    // The bit of each object's scalar, or `NO_BIT` for a container.
     pub(crate) bits: Vec<u32>,
-    // The greatest bit, and a seed: who knows it can pick scalars that share one.
+    // The greatest bit, and a seed. Whoever knows the seed can choose scalars that share a bit.
     pub(crate) mask: u32,
     pub(crate) seed: u64,
 }
 
 impl Notes {
-    /// No object was noted. There will be about so many. Which bit a scalar has depends on what the
-    /// builder makes.
+    /// Returns notes of no objects. About `objects` objects will be noted. The bits depend on
+    /// `hasher`.
     pub fn new<S: BuildHasher>(alloc: Global, hasher: &S, objects: u64) -> Notes
         ensures { result.bits.items ≡ [] }
     {
@@ -51,7 +51,7 @@ impl Notes {
     ///
     /// # Errors
     ///
-    /// Where there is no memory for what is kept of it.
+    /// Fails if out of memory.
     #[inline(always)]
     pub fn note(&mut self, object: &Object) -> Result<(), AllocError>
         ensures { OnOk result ((f : List ℕ) (i : ℕ) → Holds f i (held_of object.now)
@@ -65,11 +65,11 @@ impl Notes {
         Ok(())
     }
 
-    /// What the bits tell of the objects that were noted.
+    /// Returns what the bits show about the noted objects.
     ///
     /// # Errors
     ///
-    /// Where there is no memory for the bits.
+    /// Fails if out of memory.
     pub fn sieve(self, alloc: Global) -> Result<Sieve, AllocError>
         ensures { IfOk result (λ sieve. (f : List ℕ) (i : ℕ) → AreNoted f i self
             → HasNoted f i sieve) }
@@ -82,7 +82,7 @@ impl Notes {
     }
 }
 
-// Which of these bits, up to the mask, stand there more than once.
+// Returns the bits that occur more than once. All of them are at most `mask`.
 fn met_again(alloc: Global, mask: u32, bits: &[u32]) -> Result<Bits, AllocError>
     ensures { IfOk result (AreMetAgain (length bits.now) bits.now) }
 {
@@ -95,25 +95,24 @@ fn met_again(alloc: Global, mask: u32, bits: &[u32]) -> Result<Bits, AllocError>
     Ok(again)
 }
 
-/// What is known of the objects that were noted.
+/// What is known of the noted objects.
 #[derive(Drop)]
 pub struct Sieve {
-    // The bit of each object's scalar, or NO_BIT of a container.
+    // The bit of each object's scalar, or `NO_BIT` for a container.
     pub(crate) bits: Vec<u32>,
-    // The bits that several of them have.
+    // The bits that several objects have.
     pub(crate) again: Bits,
 }
 
 impl Sieve {
-    /// How many objects were noted.
+    /// Returns the number of noted objects.
     pub fn len(&self) -> usize
         ensures { result ≡ length self.now.bits.items }
     {
         self.bits.len()
     }
 
-    /// Whether the object, which was noted, holds a scalar that another one may hold which was
-    /// noted.
+    /// Returns whether the object contains a scalar that another noted object may also contain.
     pub fn may_repeat(&self, object: usize) -> bool
         requires { object < length self.now.bits.items }
         ensures { IsTrue result ↔ MayRepeat self.now object }
@@ -122,8 +121,8 @@ impl Sieve {
         bit != NO_BIT && self.again.has(bit)
     }
 
-    /// Whether the bits tell that the object, which was noted, holds a scalar that no other object
-    /// holds which was noted. `false` says nothing: the object may still be one.
+    /// Returns whether the object is known to contain a scalar that no other noted object contains.
+    /// `false` is only a hint: the scalar may still be unique.
     pub(crate) fn is_unlike(&self, object: usize) -> bool
         requires { object < length self.now.bits.items }
         ensures { IsTrue result ↔ IsUnlike self.now object }

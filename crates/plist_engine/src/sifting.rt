@@ -1,4 +1,4 @@
-//! What the sieve tells of a whole file.
+//! The sieve of a whole file.
 ghost use Rattle.std.specs.Prelude.{IfOk, IfSome};
 ghost use Rattle.plist_object.specs.Layout.{trailer_of};
 ghost use Rattle.plist_object.specs.Views.{octets_of};
@@ -10,9 +10,8 @@ use plist_value::ScalarRef;
 use std::alloc::{AllocError, Global};
 use std::hash::BuildHasher;
 
-/// What is known of all objects of the file, if that takes no more than reading as many octets as
-/// the file has. It takes more where scalars overlap. Nothing is known either where an object does
-/// not read.
+/// Returns the sieve of all objects of the file. Returns `None` if making it could read more bytes
+/// than the file has, which happens if scalars overlap, or if an object cannot be decoded.
 pub(crate) fn sift<S: BuildHasher>(
     alloc: Global,
     hasher: &S,
@@ -38,7 +37,8 @@ pub(crate) fn sift<S: BuildHasher>(
     Ok(Some(sieve))
 }
 
-// How many units or octets are read where the object is hashed, or fewer.
+// Returns the most units or bytes that are read to hash the object, except for scalars of fixed
+// size.
 fn length_of(object: &Object) -> u64 {
     match object {
         Object::Scalar(ScalarRef::Text(text)) => text.len() as u64,

@@ -1,4 +1,4 @@
-//! The walk from the top of a file over the sorted tree of its value, which numbers the objects.
+//! The walk that numbers the objects: from the top of a file over the sorted tree of its value.
 ghost use Rattle.std.specs.Prelude.{◌≡◌, ◌≤◌, length, drop, IfOk, OnOk};
 ghost use Rattle.plist_value.specs.Plist.{Plist};
 ghost use Rattle.plist_object.specs.Spelled.{IsBinary, SpellsWithin};
@@ -17,7 +17,7 @@ use plist_value::MAX_DEPTH;
 use std::alloc::{AllocError, Global};
 use std::hash::BuildHasher;
 
-/// The objects of the canonical file of the value that the file spells.
+/// Returns the objects of the canonical file of the value that the file encodes.
 pub(crate) fn objects_of<'a, S: BuildHasher + Copy>(
     alloc: Global,
     hasher: S,
@@ -42,8 +42,8 @@ pub(crate) fn objects_of<'a, S: BuildHasher + Copy>(
     Ok(plan.into_objects())
 }
 
-// The number of the value that the object spells: the one that is kept for it, or the next, with
-// its objects added.
+// Returns the number of the value that the object encodes: the one in the memo, or else the next
+// one. In the latter case the objects of the value are added.
 #[cycle(walk)]
 #[inline(always)]
 fn walk<'a, S: BuildHasher + Copy>(
@@ -71,8 +71,7 @@ fn walk<'a, S: BuildHasher + Copy>(
     walk_object(alloc, file, plan, order, ahead, object, levels)
 }
 
-// The number of the value that the object spells, which was not met as a scalar. Its objects are
-// added.
+// Like `walk`, for an object that was not visited as a scalar.
 #[cycle(walk)]
 fn walk_object<'a, S: BuildHasher + Copy>(
     alloc: Global,
@@ -108,8 +107,8 @@ fn walk_object<'a, S: BuildHasher + Copy>(
     }
 }
 
-// Walks the values of the objects among the references, from the first place on: each gives way to
-// its number.
+// Walks the objects that the references from index `first` on are to, and replaces each reference
+// by the number that it becomes.
 #[cycle(walk)]
 fn walk_children<'a, S: BuildHasher + Copy>(
     alloc: Global,

@@ -6,7 +6,7 @@ use Rattle.plist_engine.specs.Output.{end_of, state_of}
 use Rattle.plist_engine.proofs.Going.{Goes_rest, room_then, short_then, short_stop}
 use Rattle.plist_engine.proofs.ends.send_end.Goals as goal
 
--- the end under the names that the code gives its parts
+-- the end of the file, with the names of the code for its parts
 end-is : (places : List ℕ) (width place sent held waits : ℕ) → width ≡ least_width place → place ≡ sent + held → held ≡ waits → references width places ++ trailer_octets (length places) place ≡ end_of places (sent + waits)
 end-is places width place sent held waits is_width is_place is_held =
     ap (λ w. references w places ++ trailer_octets (length places) place) is_width ∙ ap (end_of places) (is_place ∙ ap (λ n. sent + n) is_held)

@@ -8,7 +8,7 @@ use Rattle.plist_engine.specs.Output.{State, state_of}
 use Rattle.plist_engine.proofs.Going.{Goes_then, Goes_last, Goes_rest, Goes_same, Goes_stop, Goes_put, Goes_out, room_then, short_then, short_stop, short_put}
 use Rattle.plist_engine.proofs.ends.send_places.Goals as goal
 
--- the offset table, entry after entry
+-- the offset table, entry by entry
 entries-more : (width : ℕ) (places : List ℕ) (i place : ℕ) → place ≡ get_or places i place → i < length places → references width (drop i places) ≡ big_bytes width place ++ references width (drop (i + 1) places)
 entries-more width places i place is h =
     ap (references width) (drop_more places i place h) ∙ ap (λ p. big_bytes width p ++ references width (drop (i + 1) places)) (sym is)

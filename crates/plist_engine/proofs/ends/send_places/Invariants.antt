@@ -3,7 +3,7 @@ use Rattle.plist_object.specs.Spelling.{references}
 use Rattle.plist_engine.specs.Output.{Goes, KeepsShort, state_of}
 use Rattle.plist_engine.proofs.ends.send_places.Given as goal
 
--- those that are done and those that are left are all
+-- the entries written and those that remain are all entries
 abbrev pub invariant-loop-place : goal.invariant-loop-place
 invariant-loop-place g l = record {
   done : List ℕ;

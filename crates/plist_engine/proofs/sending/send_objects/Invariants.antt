@@ -8,7 +8,7 @@ use Rattle.plist_engine.specs.Sending.{Allows}
 use Rattle.plist_engine.specs.Output.{Goes, AreWithin, state_of}
 use Rattle.plist_engine.proofs.sending.send_objects.Given as goal
 
--- those that are done and those that are left are all
+-- the objects sent and those that remain are all objects
 abbrev pub invariant-loop-original : goal.invariant-loop-original
 invariant-loop-original g l =
     let f = octets_of l.file in

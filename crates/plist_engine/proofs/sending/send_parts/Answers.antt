@@ -14,7 +14,7 @@ use Rattle.plist_engine.proofs.FileSteps.{file-length, file-stops, file-ends, fi
 use Rattle.plist_engine.proofs.Going.{allows_none, Stays-trans}
 use Rattle.plist_engine.proofs.sending.send_parts.Goals as goal
 
--- the objects under the width that the code gives them
+-- the objects, with the name of the code for their width
 same : (f : List ℕ) (objects : Objects) (width : ℕ) → width ≡ least_width (length objects.originals.items) → octets_planned width f objects ≡ octets_planned (least_width (length objects.originals.items)) f objects
 same f objects width is_width = ap (λ w. octets_planned w f objects) is_width
 

@@ -4,7 +4,7 @@ use Rattle.plist_engine.specs.Bits.{HasBit}
 use Rattle.plist_engine.specs.Sieve.{AreMetAgain}
 use Rattle.plist_engine.proofs.sieve.met_again.Given as goal
 
--- the bits so far came, and those that came before came again
+-- the bits so far are set in `once`, and those that were there before in `again` too
 abbrev pub invariant-loop-bit : goal.invariant-loop-bit
 invariant-loop-bit l = record {
   once : (k : ℕ) → k < l.bit-index → HasBit l.once (slice_index l.bits k);

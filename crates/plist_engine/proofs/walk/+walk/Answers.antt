@@ -18,7 +18,7 @@ use Rattle.plist_engine.proofs.Meeting.{list-apart, table-apart}
 use Rattle.plist_engine.proofs.Remembering.{knows-begun, knows-same, number-remembered, valid_at, walked-again}
 use Rattle.plist_engine.proofs.walk.+walk.Goals as goal
 
--- a bound on the references that a list was put behind
+-- a bound on the references to which others were appended
 behind_old : (old objects new : List ℕ) (first : ℕ) → first ≡ length old → new ≡ old ++ objects → first ≤ length new
 behind_old old objects new first at_end added =
     let e = ap length added in let size = length-append old objects in omega arith
@@ -31,7 +31,7 @@ walk-returns-in-Some-clause-walked g t c =
     let number = c.in-Some.number in
     walked-again f i c.args.levels plan number c.requires.spells (number-remembered f plan i number c.in-Some.ensures.is c.in-Some.ensures.some c.requires.knows)
 
--- the object holds the scalar, and was not met
+-- the object contains the scalar, and was not visited
 unmet : {S H : Type 0} (f : List ℕ) (i : ℕ) (r : ScalarRef) (plan : Plan S H) → KnowsScalars f plan → single ≤ kept plan.memo i → Holds f i (holds_scalar (content_of r)) → IsUnmet f i (content_of r) plan
 unmet f i r plan knows none holds = record { knows = knows; holds = holds; unmet = none }
 

@@ -15,7 +15,7 @@ decreases-walk_object g l = 3 * l.levels
 abbrev pub decreases-walk_children : goal.decreases-walk_children
 decreases-walk_children g l = 3 * l.levels + 2
 
--- once those that are left are walked, all are
+-- all references are walked once those that remain are
 abbrev pub invariant-walk_children-loop-i : goal.invariant-walk_children-loop-i
 invariant-walk_children-loop-i g l =
     let start = l.fn.plan.references.items in

@@ -11,7 +11,7 @@ none_kept count i = elim (cases_lt i count) [
   | inr past ↦ get_or_past (replicate count no_number) i no_number (omega (arith, past, length-replicate count no_number))
 ]
 
--- what an empty list is filled with
+-- the content of an empty list after it was resized
 filled : (count long : ℕ) (old new : List ℕ) → old ≡ [] → long ≡ 0 → new ≡ take count old ++ replicate (count - long) no_number → new ≡ replicate count no_number
 filled count long old new none zero is =
     let all : count - 0 ≡ count = omega arith in

@@ -3,7 +3,7 @@ use Rattle.plist_value.specs.Scalars.{content_of}
 use Rattle.plist_engine.specs.Numbered.{number_listed}
 use Rattle.plist_engine.proofs.numbered.Numbered.number_of_listed.Given as goal
 
--- those that are left have the number that all have
+-- a lookup in the entries that remain gives the same as one in all
 abbrev pub invariant-loop-one : goal.invariant-loop-one
 invariant-loop-one g l =
     number_listed (drop l.one-index l.self.listed.items) (content_of l.scalar) ≡ number_listed l.self.listed.items (content_of l.scalar)

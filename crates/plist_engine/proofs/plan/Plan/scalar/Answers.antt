@@ -7,7 +7,7 @@ use Rattle.plist_engine.proofs.Remembering.{had-entered, had-met, new-entered, n
 use Rattle.plist_engine.proofs.Walking.{Walks-known, Walks-new}
 use Rattle.plist_engine.proofs.plan.Plan.scalar.Goals as goal
 
--- the plan with what was sifted
+-- the plan with another memo
 abbrev with_memo : {S H : Type 0} → Plan S H → Memo → Plan S H
 with_memo plan memo = record {
   hasher = plan.hasher;
