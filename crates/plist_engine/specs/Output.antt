@@ -9,9 +9,9 @@ use Rattle.plist_engine.specs.declared.faults.WriteFault.{WriteFault}
 use Rattle.plist_engine.specs.declared.outputs.Output.{Output}
 use Rattle.plist_engine.specs.Sending.{sent_of, IsBlamed, IsShort, Allows}
 
--- The state of an output: the name of the sink that it borrows and the sink's device, the bytes
--- that the sink took, if it records them, the buffered bytes, the number of bytes sent, and the
--- sink's failures and longest piece.
+-- The state of an output: the name of the borrowed sink and its device, the bytes that the sink
+-- took, if it records them, the buffered bytes, and the number of bytes sent. The sink's failures
+-- and its longest piece are part of it too.
 pub record State : Type 0 where
   pub sink : GName
   pub device : Option GName

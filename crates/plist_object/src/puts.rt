@@ -192,9 +192,9 @@ pub fn put_number(out: &mut Vec<u8>, width: u8, n: u64) -> Result<(), AllocError
     Ok(())
 }
 
-/// Appends the trailer to `out`, the last 32 bytes of a file: the widths of an offset and of a
-/// reference, the number of objects, the number of the top object, and the offset of the offset
-/// table. Leaves `out` unchanged if out of memory.
+/// Appends the trailer to `out`, the last 32 bytes of a file. It contains the widths of an offset
+/// and of a reference, the number of objects, the number of the top object, and the offset of the
+/// offset table. Leaves `out` unchanged if out of memory.
 pub fn put_trailer(
     out: &mut Vec<u8>,
     offset_width: u8,

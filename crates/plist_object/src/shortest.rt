@@ -142,7 +142,7 @@ fn begins(octets: &[u8], first: &[u8]) -> bool
 /// Returns the number of bytes of the scalar at the start of `octets` if its first bytes show that
 /// it has its canonical encoding.
 ///
-/// The scalars that can be recognised are booleans, reals and dates, which have only one encoding,
+/// Booleans, reals and dates have only one encoding. The other scalars that can be recognised are
 /// integers of at most 8 bytes, ASCII strings and data below 256 bytes, and UTF-16 strings below
 /// 256 units that are not all ASCII. Of a UTF-16 string the units are read up to the first that is
 /// not ASCII.
