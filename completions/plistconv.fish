@@ -1,8 +1,8 @@
 # Completion of plistconv for fish.
 complete -c plistconv -n __fish_use_subcommand -f -a convert -d 'Write a property list to another file'
-complete -c plistconv -n __fish_use_subcommand -f -a same -d 'Tell whether two property lists say the same'
-complete -c plistconv -n __fish_use_subcommand -f -a lint -d 'Tell whether a property list is accepted'
-complete -c plistconv -n __fish_use_subcommand -f -a check -d 'Tell whether a file is canonical'
+complete -c plistconv -n __fish_use_subcommand -f -a same -d 'Compare the values of two property lists'
+complete -c plistconv -n __fish_use_subcommand -f -a lint -d 'Check whether a file is a property list'
+complete -c plistconv -n __fish_use_subcommand -f -a check -d 'Check whether a file is already canonical'
 complete -c plistconv -n __fish_use_subcommand -f -a print -d 'Print the value of a property list'
 complete -c plistconv -n __fish_use_subcommand -f -s h -l help -d 'Print help'
 complete -c plistconv -n __fish_use_subcommand -f -s V -l version -d 'Print name and version'
