@@ -3,17 +3,17 @@
 
 usage: bench/bench.py [PLISTCONV] [--runs N] [--only NAME,..] [--small] [--plot FILE] [--instructions]
 
-The programs take turns, N times (5 if not given), so that other work on the machine counts for all of them.
-Seconds are those of the processor, of the user and the system, the least of these runs; memory is the greatest
-resident size. A peer reads the file and writes it as a binary property list (GNUstep's pl: as a text); what is not
-installed is skipped, with a line that names its Debian package. What each wrote must say what the file says, by
-`plistconv same`, within 60 seconds; a peer of which that is not so is left out with a line. The status is 1 where it
-is not so of ours, or where a target at the end is missed.
+The programs run in turns, N times (default 5), so that other work on the machine affects all of them alike. Seconds
+are user and system time of the processor, the least of these runs. Memory is the greatest resident size. A peer reads
+the file and writes it as a binary property list (GNUstep's pl: as a text). Peers that are not installed are skipped,
+with a line that names the Debian package. Within 60 seconds each program has to write a file with the value of its
+input, which is checked by `plistconv same`; a peer that does not is left out with a line. The status is 1 if plistconv
+does not, or if a target at the end is missed.
 
-Each file is made at a sixteenth, a quarter and the whole of its size, so that growth shows; with --small the whole
-is left out. What is said of growth is measured by itself: in each turn the sixteenth is converted sixteen times and
-the whole once. --plot writes a picture of time and memory against size. --instructions counts ours by callgrind
-(Debian's valgrind) too, which other work on the machine does not change. Files are made by a process of their own.
+Each file is made at a sixteenth, at a quarter and at the whole of its size, to show growth; --small leaves out the
+whole. Growth itself is measured separately: in each turn the sixteenth is converted sixteen times and the whole once.
+--plot writes a plot of time and memory against size. --instructions also counts instructions of plistconv with
+callgrind (Debian's valgrind), which other work on the machine does not affect. Files are made in separate processes.
 """
 import argparse
 import os
@@ -33,7 +33,7 @@ COPY, CRATE, OPENSTEP = "read and write", "plist (Rust)", "openstep_plist"
 
 
 class Files:
-    """The files that are measured, each made when it is first asked for."""
+    """The files to measure, each made on first use."""
 
     def __init__(self, folder):
         self.folder = folder
@@ -47,18 +47,18 @@ class Files:
 
 
 def best(runs):
-    """The least seconds of the processor and the greatest size; None where a run did not end with 0."""
+    """Returns the least processor time and the greatest size, or None if a run failed."""
     if any(run.status != 0 for run in runs):
         return None
     return min(run.processor for run in runs), max(run.octets for run in runs)
 
 
 def measured(measure, programs, source, target, count):
-    """The seconds and octets of each program, which take turns."""
+    """Returns the seconds and bytes of each program. The programs run in turns."""
     runs = {name: [] for name in programs}
     for _ in range(count):
         for name, words in programs.items():
-            # What takes seconds needs no second run, and what was ended none either.
+            # A run that takes seconds is not repeated, nor is one that failed.
             if runs[name] and (runs[name][0].status != 0 or runs[name][0].processor > 5):
                 continue
             path = target(OURS) if name == BACK else source
@@ -67,7 +67,7 @@ def measured(measure, programs, source, target, count):
 
 
 def row(name, scale, octets, figures):
-    """Prints one row for each program."""
+    """Prints a row for each program."""
     ours = figures[OURS][0]
     for program, found in figures.items():
         if found is not None:
@@ -76,12 +76,12 @@ def row(name, scale, octets, figures):
 
 
 def says_the_same(measure, program, source, written):
-    """Whether what a program wrote says what the source says."""
+    """Returns whether the value that a program wrote is that of the source."""
     return measure.run([program, "same", source, written]).status == 0
 
 
 def one(measure, program, programs, made, name, scale, count):
-    """Measures one file; the figures, and what is wrong."""
+    """Measures one file, and returns its size, the figures and what is wrong."""
     source, wrong = made.path(name, scale), []
     octets = os.path.getsize(source)
     figures = measured(measure, programs, source, lambda of: made.path(name, scale, of), count)
@@ -101,7 +101,7 @@ def one(measure, program, programs, made, name, scale, count):
 
 
 class Targets:
-    """What the figures should be, said beside what they are."""
+    """Prints the figures beside their targets."""
 
     def __init__(self, figures, growths):
         self.figures, self.growths, self.missed = figures, growths, 0
@@ -126,9 +126,9 @@ class Targets:
 
 
 def growth(measure, words, made, name, turns):
-    """How many times as long 16 times the octets take, the median of the turns. In each turn a sixteenth of the file
-    is converted sixteen times and the whole once, so that other work on the machine counts for both alike. A file of
-    16 times as many items may have more than 16 times the octets, since its references and offsets are wider."""
+    """Returns how many times as long a file of 16 times the size takes, as the median of the turns. In each turn a
+    sixteenth of the file is converted sixteen times and the whole once, so that other work on the machine affects both
+    alike. A file with 16 times the items may have more than 16 times the bytes: references and offsets are wider."""
     small, whole = (made.path(name, scale) for scale in (1 / 16, 1))
 
     def seconds(path):
@@ -139,7 +139,7 @@ def growth(measure, words, made, name, turns):
 
 
 def targets(figures, growths):
-    """Prints each target; how many are missed."""
+    """Prints each target, and returns how many are missed."""
     said = Targets(figures, growths)
     for name, time, memory in (("mixed", .09, 3.5), ("keys", .3, 4), ("numbers", .2, 4)):
         said.time(name, CRATE, time)
@@ -200,7 +200,7 @@ def main():
 
 
 def counted(program, made, figures):
-    """Prints how many instructions ours takes."""
+    """Prints how many instructions plistconv takes."""
     print("\n| file | octets | instructions, millions | for each octet |\n|---|---|---|---|")
     for (name, scale), (octets, _) in figures.items():
         source = made.path(name, scale)

@@ -1,5 +1,5 @@
-// Calls plistconv_check on standard input, and prints what it finds. It takes no memory of its own, so each allocation
-// that a run makes is one of the call.
+// Calls plistconv_check on standard input, and prints the result. It allocates no memory itself, so that each
+// allocation of a run belongs to the call.
 #include <plistconv.h>
 #include <unistd.h>
 

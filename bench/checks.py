@@ -1,10 +1,11 @@
 #!/usr/bin/env python3
-"""Measures `plistconv check` of canonical files beside converting them, and `same` of a file and itself beside `lint`.
+"""Compares the time of `plistconv check` with that of a conversion, and that of `same` with that of `lint`.
 
 usage: bench/checks.py [PLISTCONV]   (the program to measure, ./plistconv if not given)
 
-The files are binary ones of bench.py. Time is that of the processor, the least of nine runs in turns. The status is 1
-where a check takes more than 0.6 of the time of the conversion, or `same` more than 1.3 of that of `lint`.
+Checks canonical files, and compares a file with itself. The files are binary ones of bench.py. Time is processor time,
+the least of nine runs in turns. The status is 1 if a check takes more than 0.6 of the time of the conversion, or `same`
+more than 1.3 of that of `lint`.
 """
 import os
 import sys
@@ -18,7 +19,7 @@ MOST_CHECK, MOST_SAME = 0.6, 1.3
 
 
 def least(measure, commands):
-    """The least seconds of each command, which take turns."""
+    """Returns the least seconds of each command. The commands run in turns."""
     turns = []
     for _ in range(9):
         runs = [measure.run(words) for words in commands]

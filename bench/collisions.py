@@ -1,26 +1,25 @@
 #!/usr/bin/env python3
-"""Measures `plistconv` on scalars that somebody picked to collide, at three counts of which each is four times the one
-before, and beside as many that do not collide.
+"""Measures `plistconv` on scalars chosen to collide, at three counts that grow by a factor of four, and compares it
+with scalars that do not collide.
 
 usage: bench/collisions.py [PLISTCONV]   (the program to measure, ./plistconv if not given)
 
-The hasher whose seed is fixed (`FoldHasher` of the toolchain's library) keeps a state of 64 bits. It multiplies it,
-xor the octets of a write, by a constant, and joins the halves of the product by xor. So what collides under it is made
-by arithmetic:
-- data: of 32 octets the first 16 are one product of two factors; where the second factor is 0 so is the state,
-  whatever the first eight octets are;
-- texts in UTF-16: of two words that they feed, the second undoes the state behind the first. A word is four units, or
-  eight where all units of a text are below 256;
-- whole numbers, reals and dates: factors whose product with the constant has 20 zeros at the end of either half are the
-  points of a lattice in a square, so the last 20 bits of the state are 0. A set joins both halves of the state by xor,
-  which spreads them again: they cost no more than others under any hasher, and stand here to show that.
-Texts in ASCII are left out: of the word that would undo a state one bit of every eight is not free, so they are found
-by some 256 tries for each, and would cost what those in UTF-16 do. Keys of a dictionary are sorted and not hashed: those
-that begin alike for 60 characters stand here too, since each comparison reads all that two have in common.
+The hasher with a fixed seed (`FoldHasher` of the toolchain's library) has a state of 64 bits. For each write it
+multiplies the state, xor the bytes, by a constant, and joins the halves of the product by xor. So collisions can be
+computed:
+- data: of 32 bytes the first 16 are one product of two factors. If the second factor is 0, so is the state, whatever
+  the first 8 bytes are;
+- UTF-16 strings: a string feeds two words, and the second one undoes the state after the first. A word is four units,
+  or eight if all units of the string are below 256;
+- integers, reals and dates: the factors whose product with the constant has 20 zeros at the end of either half are the
+  points of a lattice in a square, so that the last 20 bits of the state are 0. A set joins both halves of the state by
+  xor, which spreads them again: these scalars cost no more than others under any hasher, and are here to show it.
+ASCII strings are left out: in the word that undoes a state one bit of every eight is not free, so each takes about 256
+tries to find, and would cost as much as one in UTF-16. Keys of a dictionary are sorted, not hashed. Keys with a common
+prefix of 60 characters are here too, since each comparison reads that prefix.
 
-Time is that of the processor, the least of five runs. The status is 1 where four times as many take more than six
-times as long, or where 160,000 pieces of data take more than one and a half times as long as as many that do not
-collide.
+Time is processor time, the least of five runs. The status is 1 if four times as many scalars take more than six times
+as long, or if 160,000 colliding pieces of data take more than one and a half times as long as others.
 """
 import itertools
 import os
@@ -35,41 +34,41 @@ from measure import Measure
 WORD = (1 << 64) - 1
 SEED, FACTOR = 0x243F6A8885A308D3, 0x9E3779B97F4A7C15
 COUNTS = (10_000, 40_000, 160_000)
-# A run of less than so many seconds is counted as one of so many: what the program begins with takes as long.
+# Shorter runs count as this many seconds, since starting the program takes as long.
 LEAST = 0.01
 
 
 def folded(a, b):
-    """The halves of the product, by xor."""
+    """Returns the xor of the halves of the product."""
     product = a * b
     return product & WORD ^ product >> 64
 
 
 def behind(state, word):
-    """The state behind a write of eight octets."""
+    """Returns the state after a write of 8 bytes."""
     return folded(state ^ word, FACTOR ^ 16)
 
 
 def data(count):
-    """Data of 32 octets, behind whose first 16 octets the state is 0."""
+    """Returns data of 32 bytes, after whose first 16 bytes the state is 0."""
     zero = FACTOR.to_bytes(8, "little")
     return [n.to_bytes(8, "little") + zero + bytes(16) for n in range(count)]
 
 
 def plain_units(word):
-    """The four units of a word, or None where one is no plain character."""
+    """Returns the four units of a word, or None if one is no plain character."""
     units = struct.unpack("<4H", word.to_bytes(8, "little"))
     return units if all(0xA0 <= unit < 0xD800 for unit in units) else None
 
 
 def narrow_units(word):
-    """The eight units below 256 of a word, or None where one is no plain character."""
+    """Returns the eight units below 256 of a word, or None if one is 0."""
     units = tuple(word.to_bytes(8, "little"))
     return units if 0 not in units else None
 
 
 def undone(count, start, units_of):
-    """Texts of the units of two words, behind which the state is the same: it was `start` before them."""
+    """Returns strings of two words each that all lead from the state `start` to the same state."""
     made = []
     for n in itertools.count(1):
         first = n * FACTOR & WORD
@@ -82,17 +81,17 @@ def undone(count, start, units_of):
 
 
 def texts(count):
-    """Texts of eight units, which are fed behind their number."""
+    """Returns strings of eight units, which the hasher reads after their count."""
     return undone(count, behind(SEED, 8), plain_units)
 
 
 def narrow_texts(count):
-    """Texts of sixteen units below 256."""
+    """Returns strings of sixteen units below 256."""
     return undone(count, SEED, narrow_units)
 
 
 def shortest(first, second):
-    """Two short vectors that make all that the two make."""
+    """Returns a basis of short vectors for the lattice of these two."""
     while True:
         if sum(a * a for a in first) > sum(a * a for a in second):
             first, second = second, first
@@ -104,7 +103,7 @@ def shortest(first, second):
 
 
 def words(count):
-    """Words behind which the last 20 bits of the state are 0: those of either half of the product are."""
+    """Returns words after which the last 20 bits of the state are 0, since those of either half of the product are."""
     most = 1 << 64 - 20
     (a, b), (c, d) = shortest((1, FACTOR ^ 16), (0, 1 << 64))
     area, middle = a * d - b * c, most // 2
@@ -123,25 +122,25 @@ def text_object(units):
 
 
 def whole_object(word):
-    """A number from 2^63 on takes sixteen octets."""
+    """Returns an integer object, which from 2^63 on takes 16 bytes."""
     return b"\x13" + number(word, 8) if word < 1 << 63 else b"\x14" + number(word, 16)
 
 
 def list_of(objects):
-    """The file of a list of these objects."""
+    """Returns the file of an array of these objects."""
     count = len(objects)
     return joined([head(0xA0, count) + b"".join(number(n, 3) for n in range(1, count + 1)), *objects], 3)
 
 
 def keys(count):
-    """Keys that differ in their last characters alone, in no order."""
+    """Returns shuffled keys that differ only in their last characters."""
     made = [f"{'k' * 60}{n:06d}".encode("ascii") for n in range(count)]
     random.Random(4).shuffle(made)
     return made
 
 
 def table_of(names):
-    """The file of a dictionary with these keys and one value."""
+    """Returns the file of a dictionary with these keys, all with the same value."""
     count = len(names)
     references = b"".join(number(n, 3) for n in [*range(1, count + 1), *[count + 1] * count])
     spelled = [head(0x50, len(name)) + name for name in names]
@@ -165,17 +164,17 @@ def text_of(items):
 
 
 def finite(word):
-    """Whether the octets are those of a number."""
+    """Returns whether the bits are those of a finite number."""
     return word >> 52 & 0x7FF != 0x7FF
 
 
 def unlike(count):
-    """As many pieces of data that do not collide."""
+    """Returns pieces of data that do not collide."""
     chance = random.Random(3)
     return [chance.randbytes(32) for _ in range(count)]
 
 
-# The octets of the first so many of each kind, as a binary file and, where the form has them, as a text.
+# For each kind the first n scalars as a binary file, and as an OpenStep text if it can contain them.
 KINDS = {
     "data": lambda n: (list_of(map_list(data_object, data(n))), text_of(map(data_text, data(n)))),
     "texts": lambda n: (list_of(map_list(text_object, texts(n))), text_of(map(units_text, texts(n)))),
@@ -195,7 +194,7 @@ def map_list(make, items):
 
 
 class Tries:
-    """The runs of the program on files in a folder."""
+    """Runs the program on files in a folder."""
 
     def __init__(self, program, folder):
         self.program, self.folder, self.measure = program, folder, Measure(folder)
@@ -204,14 +203,14 @@ class Tries:
         return os.path.join(self.folder, name)
 
     def seconds(self, words):
-        """The least of five runs, each of which is to end with 0."""
+        """Returns the least time of five runs, each of which has to succeed."""
         runs = [self.measure.run([self.program, *words]) for _ in range(5)]
         if any(run.status != 0 for run in runs):
             sys.exit(f"plistconv {' '.join(words)}: {runs[0].status} {runs[0].printed}")
         return min(run.processor for run in runs)
 
     def all(self, binary, text):
-        """The seconds of each run for these octets."""
+        """Returns the seconds of each command for these files."""
         source, made = self.path("source"), self.path("made")
         with open(source, "wb") as target:
             target.write(binary)

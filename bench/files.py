@@ -1,6 +1,6 @@
-"""The binary files and texts that bench.py measures, each at any size.
+"""The binary files and texts that bench.py measures, at any size.
 
-usage: python3 bench/files.py NAME SCALE PATH   (makes one, in a process of its own)
+usage: python3 bench/files.py NAME SCALE PATH   (makes one file, in a separate process)
 """
 import datetime
 import plistlib
@@ -11,7 +11,7 @@ import texts
 
 
 def mixed(scale):
-    """Records as programs keep them: of size 1 about 460,000 objects in 13 MB."""
+    """Returns typical records of a program: at scale 1 about 460,000 objects in 13 MB."""
     chance = random.Random(7)
     return [{
         "name": f"record {number} of the catalogue of 2026",
@@ -25,19 +25,19 @@ def mixed(scale):
 
 
 def keys(scale):
-    """One table of 200,000 keys, in no order, as a hashed table gives them."""
+    """Returns a dictionary of 200,000 shuffled keys, as a hash table would list them."""
     names = [f"key {number:06d} of the table" for number in range(int(200_000 * scale))]
     random.Random(9).shuffle(names)
     return {name: number % 7 for number, name in enumerate(names)}
 
 
 def numbers(scale):
-    """A list of 1,000,000 numbers, none twice."""
+    """Returns an array of 1,000,000 distinct integers."""
     return list(range(int(1_000_000 * scale)))
 
 
 def data(scale):
-    """100 MB of data."""
+    """Returns 100 MB of data."""
     return random.Random(5).randbytes(int(100_000_000 * scale))
 
 

@@ -1,21 +1,20 @@
 #!/usr/bin/env python3
-"""Refuses each allocation in turn, from outside, in runs of `plistconv` with each of its words, and in the
-tests of the crates.
+"""Makes each allocation fail in turn, in runs of `plistconv` with each of its commands and in the tests of the crates.
 
 usage: bench/growths.py [PLISTCONV] [--short] [--library libplistconv.a] [--tests CRATE..]
        (./plistconv if not given; all crates with built tests)
 
-A run of the program with a refused allocation must end as with ample memory, or with status 5 and the line
-of 60, having sent as many octets as that line says. Where it is refused before any octet went out, the file
-that was to be written stands as it was. A test must pass, or end with an allocation error or with 60. Tests
-that make more than 2,000 allocations, or take longer than a second, are left out by name.
+A run of the program with a failed allocation must end as with ample memory, or with status 5 and the line of 60, after
+writing as many bytes as that line says. If it fails before the first byte was written, the output file must be
+unchanged. A test must pass, or end with an allocation error or with 60. Tests that make more than 2,000 allocations, or
+take longer than a second, are left out by name.
 
-With --library each allocation of plistconv_check is refused in turn, on the canonical file of the list of the texts 000
-to 254. It builds no value, so it makes fewer than 100, and with the 100th refused the answer is canonical; a checker that
-read and wrote the value made 318.
+With --library each allocation of plistconv_check fails in turn, on the canonical file of the array of the strings 000
+to 254. The function builds no value, so it makes fewer than 100 allocations. If the 100th is to fail, the answer is
+therefore canonical; a checker that read and wrote the value made 318.
 
 With --short only a few inputs are tried, and no tests, which takes seconds. `rt test` in a crate builds its tests. The
-library that refuses is bench/refuse.c, made with cc.
+library that makes allocations fail is bench/refuse.c, built with cc.
 """
 import collections
 import glob
@@ -47,8 +46,8 @@ INPUTS = {
     "cycle.bin": joined([b"\xa1\x00"], 1),
     "same-keys.bin": joined([b"\xd2\x01\x02\x03\x03", b"Qa", b"Qa", b"\x09"], 1),
     "short.bin": b"bplist00",
-    # More keys than are sorted by their texts alone, and of which the order is kept; more numbers than a set has
-    # without more room, of which some stand twice; long data.
+    # More keys than are sorted by their strings alone, whose order is reused; more numbers than fit a set before it
+    # reserves space, of which some occur twice; long data.
     "seventy.bin": joined([head(0xD0, 70) + bytes([*range(70, 0, -1)]) + bytes([71]) * 70,
                            *(b"\x54k%03d" % key for key in range(70)), b"\x09"], 1),
     "numbers.bin": joined([head(0xA0, 6_000) + b"".join(octets_of(1 + place % 5_000, 2) for place in range(6_000)),
@@ -56,7 +55,7 @@ INPUTS = {
     "long.bin": joined([b"\xa2\x01\x02", *[head(0x40, 80_000) + bytes(80_000)] * 2], 1),
 }
 
-# (those of --short: each word meets a file and a text that it takes, and one that it refuses)
+# The inputs of --short: each command gets a file and a text that it accepts, and one that it refuses.
 SHORT = ["table.txt", "twice.txt", "shared.bin", "same-keys.bin"]
 
 WORDS = [["convert", "binary1", "IN", "out"], ["convert", "openstep", "IN", "out"], ["lint", "IN"], ["check", "IN"],
@@ -66,7 +65,7 @@ OTHER_WORDS = [["--help"], ["convert", "--help"], ["--version"], ["turn", "table
 
 
 class Refusing:
-    """Runs of programs of which one allocation is refused."""
+    """Runs programs in which one allocation fails."""
 
     def __init__(self, folder):
         self.folder, self.out = folder, os.path.join(folder, "out")
@@ -75,7 +74,7 @@ class Refusing:
         subprocess.run(["cc", "-shared", "-fPIC", "-O1", "-o", self.library, source, "-ldl"], check=True)
 
     def run(self, words, octets, number):
-        """The status, the output, what stands in `out`, and how many allocations were made."""
+        """Returns the status, the output and the content of `out`, then standard error and the allocation count."""
         with open(self.out, "wb") as file:
             file.write(BEFORE)
         status, output, complaint, allocations = refused.run(words, octets, self.library, number, self.count)
@@ -84,10 +83,10 @@ class Refusing:
 
 
 def is_wanting(ending, ample, path):
-    """Whether the run ended out of memory, having sent as many octets of the ample output as it says; what goes to
-    standard output stands there before the line of this path."""
+    """Returns whether the run ended out of memory, after writing as many bytes of the ample output as it says. If the
+    output goes to standard output, it precedes the line of this path there."""
     status, output, written = ending
-    # (the octets that went out before the line need not end with a newline)
+    # The bytes before the line need not end with a newline.
     named = rb"[^\n]*" if path is None else re.escape(path)
     line = re.search(rb"(?:" + named + rb": )?refused 60 OutOfMemory(?: after (?P<sent>\d+) octets)?\n$", output)
     if status != 5 or line is None:
@@ -109,7 +108,7 @@ def program_runs(program, names):
 
 
 def texts_to_254():
-    """The canonical file of the list of the texts 000 to 254, 2,085 octets."""
+    """Returns the canonical file of the array of the strings 000 to 254, of 2,085 bytes."""
     texts = b"".join(b"\x53%03d" % text for text in range(255))
     objects = head(0xA0, 255) + b"".join(octets_of(place, 2) for place in range(1, 256)) + texts
     end = 8 + len(objects)
@@ -119,7 +118,7 @@ def texts_to_254():
 
 
 def refuse_in_check(library, refusing):
-    """How many runs of plistconv_check end otherwise than they must."""
+    """Returns how many runs of plistconv_check do not end as they must."""
     program, octets = os.path.join(refusing.folder, "check"), texts_to_254()
     source, include = os.path.join(refused.HERE, "check.c"), os.path.join(refused.HERE, "..", "include")
     subprocess.run(["cc", "-std=c99", "-D_POSIX_C_SOURCE=200809L", f"-I{include}", source, library, "-o", program], check=True)
@@ -159,7 +158,7 @@ def refuse_in_program(program, refusing, names):
 
 
 def tests_of(crate):
-    """The names of a crate's tests, module by module."""
+    """Returns the names of a crate's tests, module by module."""
     root = os.path.join(refused.HERE, "..", "crates", crate, "src")
     for path in sorted(glob.glob(os.path.join(root, "**", "*.rt"), recursive=True)):
         module = os.path.relpath(path, root)[:-len(".rt")].replace(os.sep, "::")

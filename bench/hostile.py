@@ -1,10 +1,10 @@
 #!/usr/bin/env python3
-"""Measures plistconv on files made to be slow, at three sizes of which each is twice the one before.
+"""Measures plistconv on files made to be slow, at three sizes, each twice the one before.
 
 usage: bench/hostile.py [PLISTCONV]   (the program to measure, ./plistconv if not given)
 
-Time is that of the processor, the least of three runs. Where work is linear in the file's size, the last column
-stays as it is.
+Time is processor time, the least of three runs. If the work is linear in the size of the file, the last column is
+constant.
 """
 import os
 import random
@@ -20,7 +20,7 @@ def number(value, width):
 
 
 def head(kind, count):
-    """A marker and its count."""
+    """Returns a marker with its count."""
     if count < 15:
         return bytes([kind | count])
     size = next(size for size in range(4) if count < 256 ** (1 << size))
@@ -28,7 +28,7 @@ def head(kind, count):
 
 
 def file(objects, places, width):
-    """The file of objects that begin at these places, its references of so many octets."""
+    """Returns the file of objects that begin at these offsets, with references of `width` bytes."""
     body = b"bplist00" + objects
     entries = b"".join(number(place, 4) for place in places)
     trailer = bytes([0] * 6 + [4, width]) + number(len(places), 8) + number(0, 8) + number(len(body), 8)
@@ -44,7 +44,7 @@ def joined(objects, width):
 
 
 def shared_keys(size):
-    """A list of tables, all with the same two long keys, which differ in their last octet."""
+    """Returns an array of dictionaries that all have the same two long keys, which differ only in the last byte."""
     tables, length = size // 40, size // 4
     first = head(0xA0, tables) + b"".join(number(n, 2) for n in [1, *range(5, tables + 4)])
     table = b"\xd2" + b"".join(number(n, 2) for n in (2, 3, 4, 4))
@@ -53,7 +53,7 @@ def shared_keys(size):
 
 
 def overlapping_keys(size):
-    """A table of keys whose texts all reach into one long run of octets."""
+    """Returns a dictionary whose keys all overlap in one long sequence of bytes."""
     keys = size // 40
     length = size // 2
     table = head(0xD0, keys) + b"".join(number(n, 2) for n in range(1, keys + 1)) + number(keys + 1, 2) * keys
@@ -63,7 +63,7 @@ def overlapping_keys(size):
 
 
 def unordered_keys(size):
-    """A table whose first two keys do not ascend, and of which all others reach into one long run of octets."""
+    """Returns a dictionary whose first two keys do not ascend, and whose other keys overlap in the same bytes."""
     keys = size // 40
     length = size // 2
     width = 2 if keys + 3 < 1 << 16 else 4
@@ -76,7 +76,7 @@ def unordered_keys(size):
 
 
 def one_table_often(size):
-    """Objects that are all one table, whose keys are all one text."""
+    """Returns objects that are all the same dictionary, whose keys are all the same string."""
     count = size // 10
     width = 2 if count + 1 < 1 << 16 else 4
     table = head(0xD0, count) + number(count, width) * (2 * count)
@@ -84,13 +84,13 @@ def one_table_often(size):
 
 
 def one_text_often(size):
-    """A list that names one long text again and again."""
+    """Returns an array with many references to one long string."""
     length = size // 2
     return joined([head(0xA0, size // 2) + b"\x01" * (size // 2), head(0x50, length) + b"a" * length], 1)
 
 
 def one_key(size):
-    """A list of tables, all with one long key."""
+    """Returns an array of dictionaries that all have the same long key."""
     tables, length = size // 12, 5000
     first = head(0xA0, tables) + b"".join(number(n, 3) for n in range(3, tables + 3))
     table = b"\xd1" + number(1, 3) + number(2, 3)

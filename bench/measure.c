@@ -1,8 +1,8 @@
-// measure FILE MOST PROGRAM WORD..: runs the program for at most so many seconds of processor time, and writes into
-// FILE its seconds, its seconds of processor time (user and system) and its greatest resident size in KiB. It ends
-// with the program's status, or with 255 where a signal ended it.
+// measure FILE MOST PROGRAM WORD..: runs the program for at most MOST seconds of processor time, and writes to FILE its
+// elapsed seconds, its processor seconds (user and system) and its greatest resident size in KiB. Exits with the status
+// of the program, or with 255 if a signal ended it.
 //
-// The system counts a started program's greatest size from that of the process that starts it: this one is small.
+// The greatest size of a child starts from the size of the process that starts it, so this process is kept small.
 #define _GNU_SOURCE
 #include <stdio.h>
 #include <stdlib.h>

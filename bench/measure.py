@@ -1,4 +1,4 @@
-"""Runs of programs, with their time and memory, for the scripts of this folder."""
+"""Runs programs and measures their time and memory, for the scripts of this folder."""
 import collections
 import os
 import re
@@ -7,22 +7,22 @@ import subprocess
 
 HERE = os.path.dirname(os.path.abspath(__file__))
 
-# The most seconds of processor time that a run takes; one that would take more is ended, with status 255.
+# The most seconds of processor time of a run. A run that takes longer is ended with status 255.
 MOST = 60
 
 Run = collections.namedtuple("Run", "status printed seconds processor octets")
 
 
 class Measure:
-    """Runs programs by bench/measure.c, which is made with cc."""
+    """Runs programs by bench/measure.c, which is built with cc."""
 
     def __init__(self, folder):
         self.program, self.file = os.path.join(folder, "measure"), os.path.join(folder, "measured")
         subprocess.run(["cc", "-O1", "-o", self.program, os.path.join(HERE, "measure.c")], check=True)
 
     def run(self, words, errors=None, into=subprocess.PIPE):
-        """The status, what is printed unless it goes into a file, the seconds, those of the processor, and the greatest
-        resident size."""
+        """Returns the status, the output unless it goes to a file, the elapsed and the processor seconds, and the
+        greatest resident size."""
         ran = subprocess.run([self.program, self.file, str(MOST), *words], stdout=into, stderr=errors, check=False)
         with open(self.file, encoding="ascii") as measured:
             seconds, processor, size = measured.read().split()
@@ -31,7 +31,7 @@ class Measure:
 
 
 def instructions(words):
-    """How many instructions a run takes, as callgrind counts them; None where that is not installed."""
+    """Returns how many instructions a run takes, as counted by callgrind, or None if valgrind is not installed."""
     if shutil.which("valgrind") is None:
         return None
     words = ["valgrind", "--tool=callgrind", "--callgrind-out-file=/dev/null", *words]

@@ -1,7 +1,7 @@
-"""The programs that bench.py measures ours beside. What is not installed is skipped, with a line that names it.
+"""The programs that bench.py compares plistconv with. Those that are not installed are skipped with a line.
 
-Each is a list of words before a source and a target. The drivers in bench/peers are ours; what is built of them
-stands in the folder that is given, and none of it in the repository.
+Each is a command that a source and a target are appended to. The drivers in bench/peers are built in the given folder,
+and not in the repository.
 """
 import glob
 import os
@@ -15,7 +15,7 @@ PYTHON = "/usr/bin/python3"
 
 
 def quiet(words, **more):
-    """Whether the words run and end with 0."""
+    """Returns whether the command exists and succeeds."""
     try:
         return subprocess.run(words, stdout=subprocess.DEVNULL, stderr=subprocess.DEVNULL, check=False,
                               **more).returncode == 0
@@ -24,19 +24,19 @@ def quiet(words, **more):
 
 
 def python():
-    """Debian's Python, which has Debian's modules, or whichever stands first."""
+    """Returns Debian's Python, which has Debian's modules, or the first one on the path."""
     return PYTHON if os.path.exists(PYTHON) else shutil.which("python3")
 
 
 def copy(folder):
-    """Reads the file whole and writes it: what any conversion that holds its input takes at least."""
+    """Reads the file and writes it, a lower bound for every conversion that keeps its input in memory."""
     program = os.path.join(folder, "copy")
     built = quiet(["cc", "-O2", "-o", program, os.path.join(DRIVERS, "copy.c")])
     return [program] if built else None
 
 
 def plist_crate(folder):
-    """The Rust crate plist, built by cargo from Debian's registry alone."""
+    """The Rust crate plist, built by cargo from Debian's registry only."""
     if not glob.glob(os.path.join(REGISTRY, "plist-*")):
         return None
     root = os.path.join(folder, "plist_crate")
@@ -63,7 +63,7 @@ def openstep_plist(folder):
 
 
 def pl(folder):
-    """GNUstep's pl, which writes a text: no binary property list."""
+    """GNUstep's pl, which writes a text and no binary property list."""
     found = shutil.which("pl")
     return ["/bin/sh", "-c", f"exec {found} <\"$1\" >\"$2\"", "pl"] if found else None
 
@@ -74,7 +74,7 @@ OF_TEXT = {"openstep_plist": (openstep_plist, "python3-openstep-plist"), "pl": (
 
 
 def found(kinds, folder):
-    """The peers that are there."""
+    """Returns the peers that are installed."""
     there = {}
     for name, (make, package) in kinds.items():
         words = make(folder)

@@ -1,6 +1,6 @@
-"""A picture (SVG) of time and memory against the size of the input, for each kind of file and each program.
+"""Plots time and memory against the size of the input, for each kind of file and each program, as SVG.
 
-Both axes are logarithmic, so a straight line at 45 degrees is linear growth. The picture is written as text, by no
+Both axes are logarithmic, so linear growth is a straight line at 45 degrees. The SVG is written as text, without a
 library.
 """
 import math
@@ -14,7 +14,7 @@ STYLE = ("text{font:11px sans-serif;fill:#222}.t{font-size:12px;font-weight:bold
 
 
 class Scale:
-    """A logarithmic scale from the decades that hold the numbers to so many pixels."""
+    """A logarithmic scale that maps the decades of the numbers to pixels."""
 
     def __init__(self, numbers, pixels, step=10):
         self.step, self.pixels = step, pixels
@@ -38,7 +38,7 @@ def line(x, y, to_x, to_y, kind="g"):
 
 
 def short(number, unit):
-    """A number in few letters, as 10 ms or 1 GB."""
+    """Returns a number in short form, such as 10 ms or 1 GB."""
     for size, prefix in ((1e9, "G"), (1e6, "M"), (1e3, "k"), (1, ""), (1e-3, "m")):
         if number >= size * 0.999:
             return f"{number / size:g} {prefix}{unit}"
@@ -46,7 +46,7 @@ def short(number, unit):
 
 
 def panel(x, y, title, curves, across, up, unit):
-    """One box: its grid, its marks, and a curve for each program."""
+    """Returns one panel: its grid, its marks, and a curve for each program."""
     parts = [text(x + WIDTH / 2, y - 7, title, "t")]
     for number in up.marks():
         height = y + HEIGHT - up.at(number)
@@ -67,7 +67,7 @@ def panel(x, y, title, curves, across, up, unit):
 
 
 def curves_of(figures, name, which):
-    """For each program its points: octets of the input, and the figure at `which`."""
+    """Returns the points of each program: the size of the input, and the figure at index `which`."""
     curves = {}
     for (file, _), (octets, found) in figures.items():
         for program, figure in found.items():
@@ -86,7 +86,7 @@ def legend(programs, y):
 
 
 def row_of(figures, names, which, y, across):
-    """One row of boxes, one for each file: their parts, and the programs in them."""
+    """Returns the parts of a row of panels, one for each file, and the programs in them."""
     label, unit = ROWS[which]
     curves = {name: curves_of(figures, name, which) for name in names}
     up = Scale([number for found in curves.values() for points in found.values() for _, number in points], HEIGHT)
@@ -97,7 +97,7 @@ def row_of(figures, names, which, y, across):
 
 
 def picture(figures):
-    """The whole picture: rows of at most four files, time above and memory below."""
+    """Returns the whole SVG: rows of at most four files, time above and memory below."""
     names = list(dict.fromkeys(name for name, _ in figures))
     across = Scale([octets for octets, _ in figures.values()], WIDTH)
     parts, programs, y = [], [], TOP

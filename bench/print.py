@@ -1,13 +1,13 @@
 #!/usr/bin/env python3
-"""Measures `plistconv print`: its time beside that of converting the same file and then writing as many octets as it
-prints, and its memory beside that of `lint`.
+"""Measures `plistconv print`. Its time is compared with that of converting the same file and then writing as many bytes
+as it prints, and its memory with that of `lint`.
 
 usage: bench/print.py [PLISTCONV]   (the program to measure, ./plistconv if not given)
 
-The files are the binary ones of bench.py, and two lists of references to one flag, whose printed text is far longer
-than they are. All is printed into a file. Time is that of the processor, the least of five runs in turns. The status is
-1 where `mixed` takes longer than converting it and writing as many octets, where a print takes over 1 MiB more than
-`lint` of the same file, or where the memory beside a file is not the same for both lists, within 1 MiB.
+The files are the binary ones of bench.py, and two arrays of references to one boolean, whose printed text is far longer
+than the files. The output goes to a file. Time is processor time, the least of five runs in turns. The status is 1 if
+`mixed` takes longer than converting it and writing as many bytes, if a print takes over 1 MiB more than `lint` of the
+same file, or if the memory beyond the size of the file differs by over 1 MiB between both arrays.
 """
 import collections
 import os
@@ -26,12 +26,12 @@ Figures = collections.namedtuple("Figures", "size printed print convert write li
 
 
 def flags(count):
-    """A list of so many references to one flag."""
+    """Returns an array of `count` references to one boolean."""
     return joined([head(0xA0, count) + b"\x01" * count, b"\x09"], 1)
 
 
 def measured(measure, program, path, folder):
-    """The figures of one file: seconds of the processor, and octets."""
+    """Returns the figures of one file: processor seconds and bytes."""
     out, again = os.path.join(folder, "out"), os.path.join(folder, "again")
     turns = []
     for _ in range(5):

@@ -1,16 +1,16 @@
 #!/usr/bin/env python3
-"""Measures what hostile input costs `plistconv`: files and texts that are refused, at three sizes of which
-each is twice the one before, and files that are accepted and spell far more than they hold.
+"""Measures what hostile input costs `plistconv`: files and texts that are refused, at three sizes that grow by a factor
+of two, and small files that are accepted and encode large values.
 
 usage: bench/refusals.py [PLISTCONV]   (the program to measure, ./plistconv if not given)
 
-Each answer must be the one that stands here, within 16 MiB, and what is refused in a few hundred octets in 10 ms;
-an accepted file takes at most 60 octets of memory for each node, beside the input and the output. Time is that of
-the processor, the least of three runs, memory the greatest resident size, for accepted files of one run. Where
-callgrind is installed (Debian's valgrind) the instructions of a refusal, beside those of an empty run, must not grow
-more than 1.2 times as much as its octets. A row that is not so ends with a cross, and the status is 1.
+Each answer must be the one listed here, with at most 16 MiB of memory, and input of a few hundred bytes must be refused
+within 10 ms. An accepted file may take at most 60 bytes of memory per node, not counting the input and the output. Time
+is processor time, the least of three runs, and memory is the greatest resident size; accepted files run once. If
+callgrind is installed (Debian's valgrind), the instructions of a refusal, less those of an empty run, must not grow
+more than 1.2 times as much as the bytes of its input. A row that fails ends with a cross, and the status is 1.
 
-Files are made by a process of their own (--make).
+Files are made in separate processes (--make).
 """
 import os
 import subprocess
@@ -23,34 +23,34 @@ from measure import Measure, instructions
 MIB = 1 << 20
 
 
-# Files and texts that are refused
+# Files and texts that are refused.
 
 
 def lists_named_twice(levels, last=b"\xa0"):
-    """Lists of which each names the next one twice, and an empty one."""
+    """Returns arrays that each contain the next one twice, down to an empty one."""
     return joined([b"\xa2" + bytes([n, n]) for n in range(1, levels)] + [last], 1)
 
 
 def tables_named_twice(levels):
-    """Tables whose two keys each name the next table."""
+    """Returns dictionaries that each have the next one for two keys, down to an empty one."""
     keys = bytes([levels, levels + 1])
     return joined([b"\xd2" + keys + bytes([n, n]) for n in range(1, levels)] + [b"\xd0", b"Qa", b"Qb"], 1)
 
 
 def chain(count):
-    """Lists that each hold the next one, and an empty one."""
+    """Returns arrays that each contain the next one, down to an empty one."""
     body = b"".join(b"\xa1" + number(n, 3) for n in range(1, count)) + b"\xa0"
     return file(body, range(8, 8 + 4 * count, 4), 3)
 
 
 def shared_list(count):
-    """A list that names a list again and again, which names a flag as often."""
+    """Returns an array that contains another one many times, which contains a boolean as often."""
     references = lambda place: head(0xA0, count) + bytes([place]) * count
     return joined([references(1), references(2), b"\x09"], 1)
 
 
 def counted(marker):
-    """An object that says that it has 2^62 parts."""
+    """Returns an object with a count of 2^62."""
     return lambda size: joined([marker + b"\x13" + number(1 << 62, 8) + bytes(size)], 1)
 
 
@@ -60,7 +60,7 @@ def too_many_objects(size):
 
 
 def heavy_data(size):
-    """Data, named so often that it is one time too much."""
+    """Returns an array that contains data once more than the limit allows."""
     return joined([head(0xA0, 2 ** 30 // size + 1) + b"\x01" * (2 ** 30 // size + 1), head(0x40, size) + bytes(size)], 1)
 
 
@@ -82,7 +82,7 @@ REFUSED = {
 }
 
 
-# Files that are accepted, and how many nodes their values have
+# Files that are accepted, with the number of nodes of their values.
 
 
 def fan(count, object):
@@ -108,7 +108,7 @@ def made(name, size, path):
 
 
 class Growth:
-    """How the instructions of a refusal grow with its octets, from the first size to each other."""
+    """Compares the instructions per byte of a refusal with those of the first size."""
 
     def __init__(self, program, source, target):
         self.words = [program, "convert", "binary1", source, target]
@@ -118,7 +118,7 @@ class Growth:
         self.first = None
 
     def of(self, octets):
-        """What an octet costs beside the first size's, or None where nothing is counted."""
+        """Returns the instructions per byte divided by those of the first size, or None if they are not counted."""
         count = instructions(self.words) if self.empty is not None else None
         if count is None:
             return None
@@ -128,7 +128,7 @@ class Growth:
 
 
 def refused(measure, program, source, target):
-    """Prints the rows of refused inputs; how many of them are not as they should be."""
+    """Prints the rows of refused inputs, and returns how many fail."""
     wrong, growth = 0, Growth(program, source, target)
     print("| refused | octets | answer | ms | MiB | instructions for each octet, beside the first size's |")
     print("|---|---|---|---|---|---|")
@@ -150,7 +150,7 @@ def refused(measure, program, source, target):
 
 
 def accepted(measure, program, source, target):
-    """Prints the rows of accepted files, of which each canonical file must be so; how many are not."""
+    """Prints the rows of accepted files, whose canonical files must be canonical, and returns how many fail."""
     wrong = 0
     print("| accepted | octets | nodes | canonical octets | seconds | MB | octets of memory for each node, beside both "
           "files | its check: seconds | MB |")

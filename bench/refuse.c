@@ -1,4 +1,4 @@
-// Refuses the allocation whose number FAIL_AT says, and counts all of them into the file FAIL_COUNT.
+// Makes allocation number FAIL_AT fail, and writes the number of allocations to the file FAIL_COUNT.
 #define _GNU_SOURCE
 #include <dlfcn.h>
 #include <errno.h>

@@ -1,12 +1,12 @@
 #!/usr/bin/env python3
-"""Refuses each allocation of a program in turn, from the first to the last that a run makes.
+"""Makes each allocation of a program fail in turn, from the first to the last of a run.
 
 usage: bench/refused.py PROGRAM [WORD..] [< INPUT]
 
-The program is run once with ample memory, and then once for each allocation, which is refused by a small
-library (bench/refuse.c, made with cc). Each run must end as the first did, with the same output, or say
-that memory was refused: status 5 for plistconv, AllocError for one of a crate's tests, as
-`crates/plist_tests/out/plist_tests_tests judge_tests::want_of_memory`. Printed is how many runs ended in which way.
+The program runs once with ample memory, and then once for each allocation, which a small library (bench/refuse.c, built
+with cc) makes fail. Each run must end like the first, with the same output, or report that it is out of memory: status
+5 for plistconv, AllocError for a test of a crate, such as
+`crates/plist_tests/out/plist_tests_tests judge_tests::want_of_memory`. Prints how many runs ended in which way.
 """
 import collections
 import os
@@ -22,7 +22,7 @@ def run(words, octets, library, number, count):
     if os.path.exists(count):
         os.remove(count)
     ended = subprocess.run(words, input=octets, capture_output=True, env=environment, timeout=60)
-    # A run that is aborted tells no count: it met the refused one.
+    # A run that is aborted writes no count. It got at least to the failed allocation.
     allocations = int(open(count).read()) if os.path.exists(count) else number
     return ended.returncode, ended.stdout, ended.stderr, allocations
 

@@ -1,4 +1,4 @@
-"""OpenStep texts of any size: project files as Xcode writes them, and strings files."""
+"""Makes OpenStep texts of any size: project files like those of Xcode, and strings files."""
 import random
 
 LANGUAGES = {"m": "sourcecode.c.objc", "swift": "sourcecode.swift", "h": "sourcecode.c.h"}
@@ -65,7 +65,7 @@ def identifier(chance):
 
 
 def module(number, chance):
-    """The objects of eight source files, each with its section: group, phases and settings too."""
+    """Returns the objects of eight source files in their sections, with group, phases and settings."""
     name = f"Module{number}"
     objects, files, builds = [], "", ""
 
@@ -91,7 +91,7 @@ def module(number, chance):
 
 
 def project(size):
-    """A project file of `size` octets or a few thousand more."""
+    """Returns a project file of `size` bytes, or a few thousand more."""
     chance = random.Random(11)
     sections = {name: [] for name in SECTIONS}
     number, length = 0, 0
@@ -117,7 +117,7 @@ VALUES = (
 
 
 def strings(size, form):
-    """A strings file of `size` octets or a few hundred more, UTF-16 behind its mark."""
+    """Returns a strings file of `size` bytes, or a few hundred more; UTF-16 has a byte order mark."""
     chance = random.Random(13)
     parts, length, number = [b"" if form == "utf-8" else "\ufeff".encode(form)], 0, 0
     while length < size:

@@ -3,14 +3,13 @@
 
     fuzz.py PROGRAM [--seconds N] [--seed N] [--words lint,check,binary1,openstep,print,same,none] [--binary]
 
-Each case is a random value, spelled as a binary file (any order, sharing and widths) or as an OpenStep
-text (any white, comments and quotes), and often damaged. The program's answers to `lint`, `check`,
-`same`, `print`, `convert binary1`, `convert openstep` and to no words must be those of the second reading; often
-the second file of `same` is another spelling of the same value. What a word writes must be read again as
-the same value, a canonical file must be its own canonical file, and Python's plistlib must read it as the
-same value. A run that does not end within a minute, or by a signal, is a difference. The first differences are printed and their inputs
-kept; the status is 1 where there is one. With --words only these are tried, and with --binary only inputs
-that begin as binary files."""
+Each case is a random value, encoded as a binary file (with any order, sharing and widths) or as an OpenStep text (with
+any whitespace, comments and quotes), and often damaged. The program must answer like the second reading to `lint`,
+`check`, `same`, `print`, `convert binary1`, `convert openstep` and to no command. Often the second file of `same` is
+another encoding of the same value. Written files must be read as the same value, a canonical file must be its own
+canonical file, and Python's plistlib must read it as the same value. A run that takes over a minute, or ends by a
+signal, is a difference. The first differences are printed, and their inputs are kept. The status is 1 if there are
+any. --words limits the commands that are tried, and --binary the inputs to those that begin like binary files."""
 import argparse
 import datetime
 import os
@@ -28,7 +27,7 @@ from oracle import Refused
 WORDS = ['a', 'b', 'key', 'k-1', 'a.b', 'bplist', 'bplist00', '', '0', 'x' * 14, 'y' * 15, 'z' * 300]
 
 
-# Random values
+# Random values.
 
 
 def random_text(rng):
@@ -46,7 +45,7 @@ def random_whole(rng):
 
 
 def random_real(rng, size):
-    """A decimal of chance, the real before or after it, or a power of two."""
+    """Returns a random decimal, the real before or after it, or a power of two."""
     plain = rng.choice([0.0, 0.1, 0.5, 1.0, 3.25, 1e-21, 1e21, float('inf'), rng.random()])
     number = rng.choice([plain, rng.randrange(10 ** 6) / 10 ** rng.randrange(1, 9), 2.0 ** rng.randrange(-80, 60)])
     form, unsigned = ('>f', '>I') if size == 4 else ('>d', '>Q')
@@ -56,7 +55,7 @@ def random_real(rng, size):
 
 
 def random_date(rng):
-    """Seconds since 2001: whole or not, now or far from now, the first and last of the years that have a name."""
+    """Returns seconds since 2001: whole or not, near or far, and at the first and last year that is printed."""
     edge = rng.choice([0, 10 ** 6, 785534062, -63113904000, 252423993600, 10 ** 11, -10 ** 11])
     return struct.pack('>d', edge + rng.choice([0, 1, -1, 0.5, rng.randrange(-10 ** 9, 10 ** 9)]))
 
@@ -87,11 +86,11 @@ def random_value(rng, depth, writable):
     return ('table', {random_text(rng): child() for _ in range(size)})
 
 
-# Random spellings in the binary form
+# Random encodings in binary form.
 
 
 def random_file(rng, value):
-    """A file of the value: objects in any order, shared or not, with any widths that are wide enough."""
+    """Returns a file of the value: objects in any order, shared or not, with any widths that are wide enough."""
     objects, known = [], {}
     share = rng.random()
 
@@ -161,7 +160,7 @@ def random_scalar_octets(rng, value):
     return oracle.spelled(value)
 
 
-# Random spellings in the text form
+# Random OpenStep texts.
 
 
 def random_gap(rng):
@@ -225,7 +224,7 @@ def random_text_octets(rng, value):
     return mark + text.encode(name, 'surrogatepass')
 
 
-# Damage
+# Damage.
 
 
 def damaged(rng, octets):
@@ -252,14 +251,14 @@ def damaged(rng, octets):
 
 
 def is_writable(value):
-    """Whether the value has a text."""
+    """Returns whether the value can be written as OpenStep text."""
     kind, content = value
     inside = content if kind == 'list' else content.values() if kind == 'table' else []
     return kind in ('text', 'bytes', 'list', 'table') and all(map(is_writable, inside))
 
 
 def spelling(rng, value, binary):
-    """The value in a form, an order, a sharing and widths of chance."""
+    """Returns the value in a random form, order, sharing and width."""
     if binary or not is_writable(value) or rng.random() < 0.5:
         return random_file(rng, value)
     return random_text_octets(rng, value)
@@ -277,7 +276,7 @@ def random_input(rng, binary):
     return octets if not binary or octets.startswith(b'bplist') else b'bplist' + octets[6:]
 
 
-# The program, and what it has to answer
+# The program, and the answers that it has to give.
 
 
 class Program:
@@ -302,7 +301,7 @@ class Program:
 
 
 def answer(call, path):
-    """The value of the call, or the status and the line of its refusal."""
+    """Returns the value of the call and `None`, or `None` with the status and the line of its refusal."""
     try:
         return call(), None
     except Refused as fault:
@@ -310,7 +309,7 @@ def answer(call, path):
 
 
 def differences(program, octets, other):
-    """What the program answers otherwise than the second reading, as pairs (word, what was answered)."""
+    """Returns a line for each answer of the program that is not that of the second reading."""
     program.file('in', octets)
     program.file('other', other)
     found = []
@@ -372,7 +371,7 @@ EPOCH = datetime.datetime(2001, 1, 1)
 
 
 def is_read(read, value):
-    """Whether what plistlib read is the value."""
+    """Returns whether what plistlib read is the value."""
     kind, content = value
     if kind == 'list':
         return isinstance(read, list) and len(read) == len(content) and all(map(is_read, read, content))
@@ -394,7 +393,7 @@ def units_as_string(units):
 
 
 def expect_plistlib(expect, value, file):
-    """plistlib reads the file as the value; it refuses lone surrogates, and dates far from now."""
+    """Expects plistlib to read the file as the value. It refuses lone surrogates, and dates far from now."""
     try:
         read = plistlib.loads(file)
     except (plistlib.InvalidFileException, OverflowError, UnicodeDecodeError, ValueError):

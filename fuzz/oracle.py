@@ -1,10 +1,10 @@
-"""A second reading of docs/FORMATS.md, for comparisons with the program: values, both readers, the
-canonical file, the text of a value, its printed text, and the rules of `check`. It is slow and plain, shares no code with
-the program, and nothing is proved of it.
+"""A second implementation of docs/FORMATS.md, for comparisons with the program: values, both readers, the canonical
+file, the OpenStep text of a value, its printed text, and the rules of `check`. It is slow and simple, shares no code
+with the program, and nothing about it is proved.
 
 A value is a pair (kind, content): ('text', units), ('whole', n), ('flag', b), ('real4', octets),
-('real8', octets), ('moment', octets), ('bytes', octets), ('list', values), ('table', {units: value}),
-with units as a tuple of numbers."""
+('real8', octets), ('moment', octets), ('bytes', octets), ('list', values), ('table', {units: value}).
+Units are a tuple of numbers."""
 import datetime
 import sys
 import unicodedata
@@ -27,7 +27,7 @@ NAMES = {
 
 
 class Refused(Exception):
-    """A refusal: its number, and its place as ('object', n), ('octet', n) or None."""
+    """A refusal: its number, and its position as ('object', n), ('octet', n) or None."""
 
     def __init__(self, code, place=None):
         super().__init__(code, place)
@@ -39,7 +39,7 @@ class Refused(Exception):
 
 
 class Spent:
-    """What a reader has met so far, refused at a place where it passes a limit."""
+    """Counts what a reader has read so far, and refuses it when it exceeds a limit."""
 
     def __init__(self):
         self.nodes = self.payload = 0
@@ -60,7 +60,7 @@ def payload_of(value):
     return 2 * len(content) if kind == 'text' else len(content) if kind == 'bytes' else 0
 
 
-# The binary form
+# The binary form.
 
 
 def number(octets):
@@ -68,7 +68,7 @@ def number(octets):
 
 
 class File:
-    """A file that has the layout."""
+    """A file with the layout."""
 
     def __init__(self, octets):
         if len(octets) < 42:
@@ -90,7 +90,7 @@ class File:
         return number(self.octets[at:at + self.offset_width])
 
     def object(self, n):
-        """('scalar', value), ('list', references) or ('table', keys, values), and the octet behind it."""
+        """Returns ('scalar', value), ('list', references) or ('table', keys, values), and the offset after it."""
         place, end = self.place(n), self.table
         if place < 8 or place >= end:
             raise Refused(4)
@@ -188,7 +188,7 @@ def read_binary(octets):
     return meet(file.top, 0, [], False)
 
 
-# The text form
+# The text form.
 
 WHITE = {9, 10, 11, 12, 13, 32, 0x2028, 0x2029}
 LINE_ENDS = {10, 13, 0x2028, 0x2029}
@@ -198,7 +198,7 @@ ESCAPES = {ord(c): unit for c, unit in zip('abfnrtv', (7, 8, 12, 10, 13, 9, 11))
 
 
 def characters(octets):
-    """The code points, and the octet at which each begins; behind the last, the length."""
+    """Returns the code points, and the offset of each, followed by the length."""
     if octets[:2] in (b'\xfe\xff', b'\xff\xfe'):
         order = 'big' if octets[:1] == b'\xfe' else 'little'
         codes, places, at = [], [], 2
@@ -242,7 +242,7 @@ def begins(codes, at, word):
 
 
 def tokens(octets):
-    """The tokens: kind, content, first octet, octet behind the last."""
+    """Returns the tokens: kind, content, offset, and the offset after the token."""
     codes, places = characters(octets)
     at = 0
     while at < len(codes) and codes[at] in WHITE:
@@ -344,7 +344,7 @@ def data(codes, places, start):
 
 
 class Phrase:
-    """The value of a list of tokens."""
+    """Parses a list of tokens."""
 
     def __init__(self, found, length):
         self.found, self.length, self.at, self.open = found, length, 0, 0
@@ -438,7 +438,7 @@ def read_any(octets):
     return read_binary(octets) if octets[:6] == b'bplist' else read_text(octets)
 
 
-# What is written
+# The canonical file and the OpenStep text.
 
 
 def least(n):
@@ -540,7 +540,7 @@ def openstep(value):
     return (written(value) + '\n').encode()
 
 
-# The printed text
+# The printed text.
 
 # Default_Ignorable_Code_Point, as DerivedCoreProperties.txt of Unicode 18.0 has it.
 IGNORED = [(0xad, 0xad), (0x34f, 0x34f), (0x61c, 0x61c), (0x115f, 0x1160), (0x17b4, 0x17b5), (0x180b, 0x180f),
@@ -575,7 +575,7 @@ def printed_text(units):
 
 
 def size_of_real(bits, octets):
-    """The size with these bits, of which none is the sign; None if it is infinite or no number."""
+    """Returns the magnitude with these bits, without a sign, or None if it is infinite or not a number."""
     width, bias = {4: (23, 127), 8: (52, 1023)}[octets]
     exponent, rest = bits >> width, bits & (1 << width) - 1
     if exponent == 2 * bias + 1:
@@ -585,7 +585,7 @@ def size_of_real(bits, octets):
 
 
 def decimal_of_real(bits, octets):
-    """The decimal of the fewest digits behind the point that reads back, if the size has one."""
+    """Returns the decimal with the fewest digits after the point that reads back, if there is one."""
     size = size_of_real(bits, octets)
     if size != 0 and not Fraction(2) ** -73 <= size < 2 ** {4: 25, 8: 54}[octets]:
         return None
@@ -624,7 +624,7 @@ def blanks(level):
 
 
 def printed_lines(value, level):
-    """The value up to the end of its last line; its first line has begun."""
+    """Returns the lines of the value, of which the indentation of the first is already printed."""
     kind, content = value
     if kind in ('list', 'table'):
         if kind == 'list':
@@ -650,11 +650,11 @@ def printed(value):
     return printed_lines(value, 0).encode()
 
 
-# The rules of a canonical file
+# The rules of a canonical file.
 
 
 def check(octets):
-    """'canonical', or the broken rule and its object in the words of the program."""
+    """Returns 'canonical', or the broken rule and its object as the program prints them."""
     broken = broken_rule(octets)
     return 'canonical' if broken is None else 'broken C%d at object %d' % broken
 

@@ -1,10 +1,10 @@
 #!/usr/bin/env python3
-"""Holds what crates/rows must print against a second reading of the formats (oracle.py).
+"""Compares what crates/rows must print with a second reading of the formats (oracle.py).
 
     fuzz/rows.py [--print]
 
-Each row of crates/rows/stdin is answered by the second reading, and the answers are compared with
-crates/rows/stdout; the status is 1 where one differs. With --print they are printed, as the lines of new rows."""
+Computes the answer to each row of crates/rows/stdin by the second reading, and compares it with crates/rows/stdout. The
+status is 1 if one differs. With --print the answers are printed, as lines for new rows."""
 import os
 import sys
 
@@ -41,8 +41,8 @@ def octets_of(form):
 
 
 def overlapping(octets):
-    """The first object that does not stand where the one before it ends, if the tables up to it have more keys, or
-    these have more units, than there are octets before the offset table: it is answered first."""
+    """Returns the answer for the first object that does not begin where the one before it ends, if the dictionaries up
+    to it have more keys, or their keys more units, than there are bytes before the offset table. It comes first then."""
     file, units, keys, end = oracle.File(octets), {}, 0, 8
     for n in range(file.count):
         try:

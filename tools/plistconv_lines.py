@@ -1,7 +1,7 @@
 """Compares long texts line by line, as a unified diff.
 
-difflib alone takes minutes for the prints of large property lists, which have many equal lines. So lines that occur
-once in each text are matched first, and difflib compares only what is between them.
+difflib alone takes minutes for the printed texts of large property lists, which have many equal lines. So lines that
+occur once in each text are matched first, and difflib compares only the lines between them.
 """
 from __future__ import annotations
 
@@ -10,7 +10,7 @@ import difflib
 from collections import Counter
 
 CONTEXT = 3  # lines around a change
-MOST = 250_000  # pairs of lines that are left to difflib; what is longer is replaced as a whole
+MOST = 250_000  # the most pairs of lines given to difflib; larger parts are replaced as a whole
 
 
 class Lines(difflib.SequenceMatcher):
@@ -31,7 +31,7 @@ class Lines(difflib.SequenceMatcher):
         return [*blocks, difflib.Match(len(self.old), len(self.new), 0)]
 
     def pairs(self) -> list[tuple[int, int]]:
-        """Returns the numbers of equal lines, in no order."""
+        """Returns the numbers of equal lines, unordered."""
         found = []
         parts = [(0, len(self.old), 0, len(self.new))]
         while parts:
@@ -55,12 +55,12 @@ class Lines(difflib.SequenceMatcher):
         return found
 
     def anchors(self, first: int, last: int, begin: int, end: int) -> list[tuple[int, int]]:
-        """Returns the longest ascending row of lines that occur once in each part."""
+        """Returns the longest ascending sequence of lines that occur once in each part."""
         old, new = Counter(self.old[first:last]), Counter(self.new[begin:end])
         places = {line: j for j, line in enumerate(self.new[begin:end], begin) if new[line] == 1}
-        tails: list[int] = []  # for each length of a row, its least end
-        rows: list[tuple[int, int, int]] = []  # the lines, each with that before it in its row
-        ends: list[int] = []  # for each length, the line at its end
+        tails: list[int] = []  # for each length of a sequence, its least end
+        rows: list[tuple[int, int, int]] = []  # the lines, each with its predecessor in the sequence
+        ends: list[int] = []  # for each length, the last line of the sequence
         for i in range(first, last):
             j = places.get(self.old[i], -1)
             if j < 0 or old[self.old[i]] != 1:
@@ -76,7 +76,7 @@ class Lines(difflib.SequenceMatcher):
 
 
 def span(first: int, last: int) -> str:
-    """Returns the lines of a hunk as diff writes them."""
+    """Returns the range of lines of a hunk in the format of diff."""
     count = last - first
     return f"{first + 1}" if count == 1 else f"{first + 1 if count else first},{count}"
 

@@ -1,7 +1,7 @@
 """What the plistconv commands share: files and their names, the program, messages and exit statuses.
 
-The commands read their files and give the bytes to the program on its standard input, so a name may be anything that
-the system allows. No command makes a temporary file but beside a file that it replaces.
+The commands read their files and pass the bytes to the program on its standard input, so names may be anything that
+the system allows. No command makes a temporary file, except beside a file that it replaces.
 """
 from __future__ import annotations
 
@@ -20,7 +20,7 @@ from functools import lru_cache
 from typing import IO, Callable, NoReturn
 
 COMMAND = os.path.basename(sys.argv[0])
-PRINT_LIMIT = 64_000_000  # bytes of a printed text, unless the environment has PLISTCONV_PRINT_LIMIT
+PRINT_LIMIT = 64_000_000  # the most bytes of a printed text, unless PLISTCONV_PRINT_LIMIT is set
 XML_HINT = (
     "XML is converted first, always by the same one of: plistconv-canonicalise --from-xml FILE; "
     "plutil -convert binary1 -o OUT IN; plistutil -i IN -f bin -o OUT"
@@ -28,7 +28,7 @@ XML_HINT = (
 
 
 class Refused(Exception):
-    """A file that has no answer; the message says why."""
+    """There is no answer for a file. The message says why."""
 
 
 class RefusedXml(Refused):
@@ -36,22 +36,22 @@ class RefusedXml(Refused):
 
 
 class Trouble(Exception):
-    """What ends a command with status 2; the message says why."""
+    """The command ends with status 2. The message says why."""
 
 
 def reason(fault: OSError) -> str:
-    """Returns what the system says of a failure, without the name of the file."""
+    """Returns the error message of the system, without the name of the file."""
     return fault.strerror or str(fault)
 
 
 def shown(name: str) -> str:
-    """Returns the name for a message: what could start a line or control a terminal is escaped."""
+    """Returns the name for a message, with line ends and control characters escaped."""
     text = os.fsencode(name).decode("utf-8", "backslashreplace")
     return "".join(c if c.isprintable() else c.encode("unicode_escape").decode() for c in text)
 
 
 def say(message: str) -> None:
-    """Writes a message to standard error, if that can be written."""
+    """Writes a message to standard error, and ignores failures."""
     encoding = getattr(sys.stderr, "encoding", None) or "utf-8"
     try:
         write_all(2, f"{COMMAND}: {message}\n".encode(encoding, "backslashreplace"))
@@ -60,7 +60,7 @@ def say(message: str) -> None:
 
 
 def parser(usage: str) -> argparse.ArgumentParser:
-    """Returns a parser of arguments whose help is the docstring of the command."""
+    """Returns an argument parser whose help is the docstring of the command."""
     shape = argparse.RawDescriptionHelpFormatter
     return argparse.ArgumentParser(prog=COMMAND, description=usage, formatter_class=shape, allow_abbrev=False)
 
@@ -86,7 +86,7 @@ def write(octets: bytes) -> None:
 
 
 def give_up_output(fault: OSError) -> NoReturn:
-    """Ends the command since standard output cannot be written: as by a signal if nobody reads the pipe."""
+    """Ends the command because standard output cannot be written: by SIGPIPE if nobody reads the pipe."""
     if isinstance(fault, BrokenPipeError):
         sys.exit(128 + signal.SIGPIPE)
     raise Trouble(f"standard output cannot be written: {reason(fault)}")
@@ -102,8 +102,9 @@ def write_all(file: int, octets: bytes) -> None:
 def replace(name: str, octets: bytes) -> None:
     """Replaces the content of a regular file in one step.
 
-    A new file beside it, with its mode, and with its owner if the system allows that, takes its place. A link is
-    followed: the file that it names is replaced. Raises `OSError` or `Refused`, and then the file is as it was.
+    Renames a new file over it, with the same mode, and the same owner if the system allows that. If the name is a
+    symbolic link, the file that it points to is replaced. Raises `OSError` or `Refused`, and then leaves the file
+    unchanged.
     """
     path = os.path.realpath(name)
     old = os.stat(name)
@@ -130,7 +131,7 @@ def replace(name: str, octets: bytes) -> None:
 
 @lru_cache(maxsize=None)
 def program() -> str:
-    """Returns the path of the program: what PLISTCONV names, else that beside the command, else that of the path."""
+    """Returns the path of the program: PLISTCONV, or that beside the command, of its installation, or on the path."""
     named = os.environ.get("PLISTCONV")
     beside = os.path.dirname(os.path.abspath(sys.argv[0]))
     installed = os.path.join(os.path.dirname(os.path.realpath(__file__)), "..", "..", "..", "bin")
@@ -143,8 +144,8 @@ def program() -> str:
 
 
 def ask(arguments: list[str], octets: bytes, limit: int = sys.maxsize) -> tuple[int, bytes]:
-    """Runs the program over the bytes and returns its status and what it printed. Raises `Refused` if it refuses, or
-    prints more bytes than the limit: then it is ended."""
+    """Runs the program with the bytes as input and returns its status and output. Raises `Refused` if the program
+    refuses the input, or if it prints more than `limit` bytes and is ended."""
     status, output = run_over([program(), *arguments], octets, limit)
     if len(output) > limit:
         raise Refused(f"prints more than {limit} bytes, the limit (PLISTCONV_PRINT_LIMIT)")
@@ -158,8 +159,8 @@ def ask(arguments: list[str], octets: bytes, limit: int = sys.maxsize) -> tuple[
 
 
 def run_over(command: list[str], octets: bytes, limit: int) -> tuple[int, bytes]:
-    """Runs a program over the bytes and returns its status and its output. A program whose output gets longer than
-    `limit` bytes is ended then."""
+    """Runs a program with the bytes as input and returns its status and output. Ends the program if its output exceeds
+    `limit` bytes."""
     try:
         process = subprocess.Popen(command, stdin=subprocess.PIPE, stdout=subprocess.PIPE)
     except OSError as fault:
@@ -181,7 +182,7 @@ def run_over(command: list[str], octets: bytes, limit: int) -> tuple[int, bytes]
 
 
 def feed(pipe: IO[bytes], octets: bytes) -> None:
-    """Writes all of the bytes to a pipe and closes it. Its reader may end earlier."""
+    """Writes the bytes to a pipe and closes it. The reader may end earlier."""
     try:
         with pipe:
             pipe.write(octets)
@@ -195,7 +196,7 @@ def canonical(octets: bytes) -> bytes:
 
 
 def print_limit() -> int:
-    """Returns how many bytes a printed text may have."""
+    """Returns the most bytes that a printed text may have."""
     given = os.environ.get("PLISTCONV_PRINT_LIMIT", str(PRINT_LIMIT))
     if not re.fullmatch("[0-9]{1,15}", given):
         raise Trouble(f"PLISTCONV_PRINT_LIMIT is no number of bytes: {shown(given)}")
@@ -212,8 +213,8 @@ def printed(octets: bytes) -> bytes:
 
 
 def is_xml(octets: bytes) -> bool:
-    """Returns whether the bytes begin like XML, in any encoding, after whitespace or a comment too."""
-    start = octets[:4096].replace(b"\0", b"")  # (UTF-16 and UTF-32 without their zeros)
+    """Returns whether the bytes begin like XML, in any encoding, possibly after whitespace or a comment."""
+    start = octets[:4096].replace(b"\0", b"")  # UTF-16 and UTF-32 without their zeros.
     for mark in (b"\xef\xbb\xbf", b"\xfe\xff", b"\xff\xfe"):
         start = start[len(mark):] if start.startswith(mark) else start
     return start.lstrip().startswith((b"<?", b"<!", b"<plist"))
@@ -230,12 +231,12 @@ def binary_of_xml(octets: bytes) -> bytes:
 
 
 def end(number: int, _frame: object) -> NoReturn:
-    """Ends the command at a signal, so that no new file is left beside an old one."""
+    """Ends the command at a signal, and lets it remove its new file."""
     sys.exit(128 + number)
 
 
 def prepare() -> None:
-    """Opens the standard files that are closed, so that no other file becomes one, and prepares for signals."""
+    """Opens standard files that are closed, so that no other file gets their numbers, and handles signals."""
     for number in (0, 1, 2):
         try:
             os.fstat(number)
@@ -247,7 +248,7 @@ def prepare() -> None:
 
 
 def close_output() -> None:
-    """Closes standard output, with all that was written, or raises `Trouble`."""
+    """Flushes and closes standard output, or raises `Trouble`."""
     output, sys.stdout = sys.stdout, None
     try:
         if output is not None:
@@ -258,15 +259,15 @@ def close_output() -> None:
 
 
 def run(main: Callable[[], int]) -> NoReturn:
-    """Calls the command and exits with the status that it returns, or with 2 at any trouble."""
+    """Runs the command and exits with the status that it returns, or with 2 on `Trouble`."""
     prepare()
     try:
         try:
             status = main()
-        except SystemExit as ended:  # (of the parser of arguments, or at a signal)
+        except SystemExit as ended:  # Raised by the argument parser, or at a signal.
             status = ended.code
             if status == 0:
-                write(b"")  # (if standard output is closed, the help went to standard error)
+                write(b"")  # If standard output is closed, the help went to standard error.
         close_output()
     except SystemExit as ended:
         status = ended.code

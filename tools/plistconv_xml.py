@@ -1,7 +1,7 @@
-"""Reads XML property lists by Python's plistlib, and refuses what that would read as something else.
+"""Reads XML property lists with Python's plistlib, and refuses documents that plistlib would read incorrectly.
 
-plistlib passes over elements that it does not know, text between values, faulty base64, entities without a
-declaration and every top value but the last. So the document is held against the definition of property lists first.
+plistlib ignores unknown elements, text between values, invalid base64, undeclared entities and every top value but the
+last. So the document is checked against the definition of property lists first.
 """
 from __future__ import annotations
 
@@ -30,7 +30,7 @@ class Fault(Exception):
 
 
 class Table(dict):
-    """A dictionary that takes no key twice."""
+    """A dictionary that refuses duplicate keys."""
 
     def __setitem__(self, key: object, value: object) -> None:
         if key in self:
@@ -39,14 +39,14 @@ class Table(dict):
 
 
 class Shape:
-    """The elements of a document that are open, each with the number of its children."""
+    """The open elements of a document, each with the number of its children."""
 
     def __init__(self) -> None:
         self.open: list[tuple[str, int]] = []
         self.text: list[str] = []
 
     def check_place(self, name: str) -> None:
-        """Refuses an element at the place where it begins."""
+        """Refuses an element that may not begin here."""
         parent, children = self.open[-1] if self.open else ("", 0)
         is_place_of_key = parent == "dict" and children % 2 == 0
         if name not in LEAVES and name not in ("plist", "dict", "array"):
@@ -70,7 +70,7 @@ class Shape:
         self.text = []
 
     def end(self, name: str) -> None:
-        """Closes the element that was opened last."""
+        """Closes the innermost element."""
         children = self.open.pop()[1]
         text = "".join(self.text)
         if name == "data":
@@ -85,7 +85,7 @@ class Shape:
             raise Fault("no value")
 
     def characters(self, text: str) -> None:
-        """Adds text to the value that is open."""
+        """Adds text to the open value."""
         if self.open and self.open[-1][0] in LEAVES:
             self.text.append(text)
         elif text.strip():
@@ -93,7 +93,7 @@ class Shape:
 
 
 def check(octets: bytes) -> None:
-    """Refuses what is no XML property list."""
+    """Raises `Fault` if the bytes are no XML property list."""
 
     def refuse_entity(name: str, *_rest: object) -> None:
         raise Fault(f"an entity: {name}")
@@ -113,7 +113,7 @@ def check(octets: bytes) -> None:
 
 
 def are_same(first: object, second: object) -> bool:
-    """Returns whether two values are the same, with the bits of their reals and the order of their keys."""
+    """Returns whether two values are identical, including the bits of reals and the order of keys."""
     rest = [(first, second)]
     while rest:
         one, other = rest.pop()
@@ -131,15 +131,15 @@ def are_same(first: object, second: object) -> bool:
 def binary(octets: bytes) -> bytes:
     """Returns a binary file with the value of an XML property list. Raises `Fault`."""
     check(octets)
-    sys.setrecursionlimit(max(sys.getrecursionlimit(), 8 * LEVELS))  # (plistlib calls itself for each level)
+    sys.setrecursionlimit(max(sys.getrecursionlimit(), 8 * LEVELS))  # plistlib recurses for each level.
     try:
         value = plistlib.loads(octets, fmt=plistlib.FMT_XML, dict_type=Table)
         made = plistlib.dumps(value, fmt=plistlib.FMT_BINARY, sort_keys=False)
-        # (it writes 0.0 and -0.0 as one object)
+        # plistlib writes 0.0 and -0.0 as one object.
         if not are_same(plistlib.loads(made, fmt=plistlib.FMT_BINARY, dict_type=Table), value):
             raise Fault("plistlib does not write what it has read")
     except Fault:
         raise
-    except Exception as fault:  # (plistlib raises errors of many types)
+    except Exception as fault:  # plistlib raises errors of many types.
         raise Fault(f"plistlib: {type(fault).__name__}: {fault}") from None
     return made

@@ -1,4 +1,4 @@
-"""Tries the commands with git: the pre-commit hook, git diff, and what the pages show."""
+"""Tests the commands with git: the pre-commit hook, git diff, and the examples of the pages."""
 from __future__ import annotations
 
 import os
@@ -38,14 +38,14 @@ REFUSED = (
 
 
 class Repository(Case):
-    """A test in a new repository, where the commands are on the path and the hook may be set up."""
+    """A test in a new repository, with the commands on the path, in which the hook may be installed."""
 
     def setUp(self):
         super().setUp()
         self.git("init", "-q", "-b", "main") if self.has_branches() else self.git("init", "-q")
         for path in TOOLS.glob("plistconv-*"):
             self.assertTrue(os.access(str(path), os.X_OK), path)
-        # (so that `#!/usr/bin/env python3` is the Python that runs the tests)
+        # So that `#!/usr/bin/env python3` is the Python that runs the tests.
         self.python = self.folder / ".git" / "bin"
         self.python.mkdir()
         (self.python / "python3").write_bytes(f'#!/bin/sh\nexec {shlex.quote(sys.executable)} "$@"\n'.encode())
@@ -53,19 +53,19 @@ class Repository(Case):
         self.environment["PATH"] = f"{self.python}{os.pathsep}{self.environment['PATH']}"
 
     def has_branches(self):
-        """Returns whether git names the first branch by an option."""
+        """Returns whether git has an option for the name of the first branch."""
         version = re.findall(rb"\d+", self.git("--version"))
         return [int(number) for number in version[:2]] >= [2, 28]
 
     def hook(self):
-        """Sets up the hook by the lines that its help shows."""
+        """Installs the hook with the lines of its help."""
         shown = self.tool("staged", "--help").stdout.decode()
         lines = re.search(r"(?m)^  printf .*\n  chmod .*$", shown)[0]
         os.makedirs(str(self.folder / ".git" / "hooks"), exist_ok=True)
         self.call(["sh", "-ec", lines])
 
     def commit(self, *words, status=0, env=None):
-        """Commits, and returns what is said."""
+        """Commits, and returns the messages."""
         options = {"env": env} if env else {}
         return self.call(["git", "commit", "-qm", "one", *words], status, **options).stderr.decode()
 
@@ -135,7 +135,7 @@ class Staged(Repository):
         self.assertIn("a.plist: an OpenStep", self.commit("--", "a.plist", status=1))
         self.git("add", "a.plist")
         self.assertIn("a.plist: an OpenStep", self.commit("--amend", status=1))
-        # (of a commit of b.plist alone a.plist is as it was)
+        # A commit of b.plist only leaves a.plist unchanged.
         self.put("b.plist", self.canonical(OTHER))
         self.commit("--", "b.plist")
         self.commit("--no-verify", "--", "a.plist")
@@ -237,7 +237,7 @@ class Textconv(Repository):
 
 
 class Tree(Repository):
-    """Property lists of a repository, as the page names them."""
+    """The property lists of a repository, found as the page says."""
 
     def test_line_of_the_page_makes_a_repository_canonical_and_nothing_else(self):
         page = (TOP / "docs" / "RECIPES.md").read_text(encoding="utf-8")
@@ -259,7 +259,7 @@ class Tree(Repository):
             self.assertEqual((self.folder / name).read_bytes(), octets)
         self.git("fsck", "--strict")
         self.git("rev-parse", "update-Info.plist")
-        # (a branch is a text of one word)
+        # A branch is a text of one word.
         self.refuses("one word or of none", "canonicalise", ".git/refs/heads/update-Info.plist")
         self.git("rev-parse", "update-Info.plist")
 

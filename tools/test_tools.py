@@ -1,7 +1,7 @@
 #!/usr/bin/env python3
-"""Tries the commands on files, pipes, names and full disks: PLISTCONV=./plistconv python3 tools/test_tools.py
+"""Tests the commands on files, pipes, names and full disks: PLISTCONV=./plistconv python3 tools/test_tools.py
 
-test_staged.py and test_xml.py have the cases of git and of XML; `main` runs these too.
+The tests with git and XML are in test_staged.py and test_xml.py; `main` runs them too.
 """
 from __future__ import annotations
 
@@ -100,7 +100,7 @@ class EveryCommand(Case):
             self.assertEqual(run.stderr, b"")
 
     def test_texts_that_are_too_long(self):
-        # Twenty-two lists, each with the one before it twice, print more than 64 MB.
+        # Twenty-two arrays that each contain the one before twice print more than 64 MB.
         halves = b"".join(b"\xa2" + bytes([at + 1, at + 1]) for at in range(22)) + b"Qx"
         places = bytes(8 + 3 * at for at in range(23))
         deep = b"bplist00" + halves + places + bytes(6) + b"\1\1" + bytes(7) + bytes([23]) + bytes(15) + bytes([8 + len(halves)])
@@ -177,7 +177,7 @@ class Digest(Case):
         for name in names:
             self.put(name, self.canonical(TEXT))
         wanted = self.call(["sha256sum", *names]).stdout
-        if b"\r" in wanted:  # (older ones leave it as it is)
+        if b"\r" in wanted:  # Older versions do not escape it.
             wanted, printed = (re.sub(rb"(?m)^.*r(\r|\\r)t\n", b"", lines) for lines in (wanted, printed))
         self.assertEqual(printed, wanted)
 
@@ -227,7 +227,7 @@ class Diff(Case):
         self.assertIn(b'+  "a" => "c"', self.call([bash, "-c", command], 1).stdout)
 
     def applied(self, diff: bytes, old: list) -> list:
-        """Returns the lines that a unified diff makes of the old ones."""
+        """Returns the old lines after a unified diff is applied."""
         made, at = [], 0
         for line in diff.splitlines(keepends=True)[2:]:
             hunk = re.match(rb"@@ -(\d+)(,0)?", line)
@@ -391,7 +391,7 @@ class Where(Case):
 
 
 def main() -> int:
-    """Runs all tests, and says which fail and what is skipped."""
+    """Runs all tests, and reports which fail and which are skipped."""
     import test_staged
     import test_xml
 

@@ -1,4 +1,4 @@
-"""Tries XML property lists: what plistlib reads is converted, and what it would read as something else is refused."""
+"""Tests that XML is converted if plistlib reads it correctly, and refused otherwise."""
 from __future__ import annotations
 
 import datetime
@@ -17,7 +17,7 @@ def document(value: str) -> bytes:
 
 
 class Xml(Case):
-    """Documents, each converted from standard input."""
+    """XML documents that are converted from standard input."""
 
     def converted(self, octets: bytes) -> bytes:
         """Returns the canonical file."""
@@ -26,7 +26,7 @@ class Xml(Case):
         return run.stdout
 
     def refused(self, octets: bytes, why: str) -> None:
-        """The document has to be refused, by all that read XML."""
+        """Expects every command that reads XML to refuse the document."""
         self.refuses(f"-: refused as XML: {why}", "canonicalise", "--from-xml", "-", input=octets)
         self.refuses(f"-: refused as XML: {why}", "diff", "-", "-", input=octets, status=2)
         self.assertIn(f"Binary file: refused as XML: {why}".encode(), self.tool("textconv", "-", input=octets).stdout)

@@ -1,4 +1,4 @@
-"""What the tests of the commands share: a folder for each test, and calls of the commands in it."""
+"""Shared code of the tests of the commands: a folder for each test, and calls of the commands in it."""
 from __future__ import annotations
 
 import os
@@ -18,13 +18,13 @@ PRINTED = b'{\n  "a" => "b"\n  "b" => "a"\n}\n'
 TWICE = b"{a;a=b;}\n"
 XML = b'<?xml version="1.0"?>\n<plist version="1.0"><dict><key>a</key><real>2.5</real></dict></plist>\n'
 XML_PRINTED = b'{\n  "a" => 2.5\n}\n'
-# (a binary file with a UID, as keyed archives have)
+# A binary file with a UID, as in keyed archives.
 TRAILER = bytes(6) + b"\x01\x01" + bytes(7) + b"\x03" + bytes(15) + b"\x0f"
 ARCHIVE = b"bplist00\xd1\x01\x02Qa\x80\x01\x08\x0b\x0d" + TRAILER
 
 
 def found_program() -> str:
-    """Returns the absolute path of the program that is tried."""
+    """Returns the absolute path of the program to test."""
     program = shutil.which(os.environ.get("PLISTCONV") or str(TOP / "plistconv")) or shutil.which("plistconv")
     if program is None:
         sys.exit("test_tools: there is no plistconv: set PLISTCONV")
@@ -48,7 +48,7 @@ ENVIRONMENT = {
 
 
 class Case(unittest.TestCase):
-    """A test in an empty folder of its own."""
+    """A test in a new, empty folder."""
 
     def setUp(self) -> None:
         self.folder = Path(tempfile.mkdtemp())
@@ -56,14 +56,14 @@ class Case(unittest.TestCase):
         self.environment = dict(ENVIRONMENT)
 
     def put(self, name, octets: bytes) -> Path:
-        """Makes a file, in folders that are made too."""
+        """Makes a file, and its folders if they do not exist."""
         path = Path(os.path.join(str(self.folder), os.fsdecode(name)))
         path.parent.mkdir(parents=True, exist_ok=True)
         path.write_bytes(octets)
         return path
 
     def call(self, words, status=0, **more) -> subprocess.CompletedProcess:
-        """Runs words in the folder, which must end with the status."""
+        """Runs a program in the folder, which must exit with the status."""
         options = {"input": b"", "stdout": subprocess.PIPE, "cwd": str(self.folder), "env": self.environment, **more}
         if "stdin" in options:
             del options["input"]
@@ -72,7 +72,7 @@ class Case(unittest.TestCase):
         return run
 
     def tool(self, name: str, *words, status=0, **more) -> subprocess.CompletedProcess:
-        """Runs a command, which must end with the status."""
+        """Runs a command, which must exit with the status."""
         return self.call([sys.executable, str(TOOLS / f"plistconv-{name}"), *words], status, **more)
 
     def prints(self, octets: bytes, name: str, *words, **more) -> None:
@@ -81,7 +81,7 @@ class Case(unittest.TestCase):
         self.assertEqual((run.stdout, run.stderr), (octets, b""), (name, words))
 
     def refuses(self, said: str, name: str, *words, status=1, printed=b"", **more) -> None:
-        """Runs a command, which must say this on standard error."""
+        """Runs a command, which must print this message on standard error."""
         run = self.tool(name, *words, status=status, **more)
         self.assertIn(said.encode(), run.stderr, (name, words))
         self.assertEqual(run.stdout, printed, (name, words))
@@ -91,7 +91,7 @@ class Case(unittest.TestCase):
         return self.call([PROGRAM], input=octets).stdout
 
     def left(self) -> list:
-        """Returns the names in the folder and below."""
+        """Returns the paths of everything below the folder."""
         return sorted(str(path.relative_to(self.folder)) for path in self.folder.rglob("*"))
 
     def git(self, *words, status=0, **more) -> bytes:
@@ -101,7 +101,7 @@ class Case(unittest.TestCase):
         return self.call(["git", *words], status, **more).stdout
 
     def node(self, name: str) -> Path:
-        """Makes a device like /dev/null, which a faulty command may destroy."""
+        """Makes a device like /dev/null, so that a faulty command does not destroy the real one."""
         path = self.folder / name
         try:
             os.mknod(str(path), 0o666 | stat.S_IFCHR, os.makedev(1, 3))

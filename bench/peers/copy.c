@@ -1,4 +1,4 @@
-// copy IN OUT: reads a file whole and writes it, which is the least that a conversion in memory can do.
+// copy IN OUT: reads a file into memory and writes it, the least that a conversion in memory can do.
 #include <fcntl.h>
 #include <stdlib.h>
 #include <sys/stat.h>

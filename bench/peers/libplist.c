@@ -1,4 +1,4 @@
-// libplist IN OUT: reads a binary property list by libplist, and writes it as one.
+// libplist IN OUT: reads and writes a binary property list with libplist.
 #include <plist/plist.h>
 #include <stdio.h>
 #include <stdlib.h>

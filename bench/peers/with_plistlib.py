@@ -1,4 +1,4 @@
-"""with_plistlib.py IN OUT: reads a binary property list by Python's plistlib, and writes it as one."""
+"""with_plistlib.py IN OUT: reads and writes a binary property list with Python's plistlib."""
 import plistlib
 import sys
 

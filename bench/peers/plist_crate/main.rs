@@ -1,4 +1,4 @@
-//! plist_crate IN OUT: reads a property list by the Rust crate `plist`, and writes it as a binary one.
+//! plist_crate IN OUT: reads a property list with the Rust crate `plist`, and writes a binary one.
 
 fn main() -> Result<(), plist::Error> {
     let words: Vec<String> = std::env::args().collect();

@@ -26,7 +26,7 @@ fn judge(alloc: Global, octets: &[u8]) -> Result<(), AllocError>
 pub(crate) fn canonical_file(alloc: Global, octets: &[u8]) -> Result<Vec<u8>, AllocError> {
     judge(alloc, octets)?;
     match BinFile::of(octets) {
-        Ok(file) => canonical_of(alloc, FixedHasher::new(), &file, None),
+        Ok(file) => canonical_of(alloc, FixedHasher::new(), &file),
         Err(_) => Err(AllocError),
     }
 }
