@@ -1,6 +1,6 @@
-# scripts/commit.sh, read by scripts that make packages: their time and maintainer, SOURCE_DATE_EPOCH and MAINTAINER,
-# are those of the commit that is checked out, so that whoever packs it gets the same bytes. Where the environment has
-# both, git is not asked.
+# scripts/commit.sh, sourced by the scripts that make packages: takes the time and the maintainer of packages,
+# SOURCE_DATE_EPOCH and MAINTAINER, from the commit that is checked out, so that packages are reproducible. If the
+# environment has both, git is not called.
 of_commit() { # FORMAT
     [ -z "$(git rev-parse --show-cdup)" ] && git log -1 --format="$1"
 }

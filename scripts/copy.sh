@@ -1,8 +1,8 @@
-# scripts/copy.sh, read by scripts that try other bodies: a copy of the tree, which they may change.
+# scripts/copy.sh, sourced by scripts that try other function bodies: makes a copy of the tree that they may change.
 #
-# copied            makes the copy; `copy` names it, and it goes when the script ends
-# proved_below NAME..   proves there what the crates stand on, one library after another: those that are worked on side
-#                   by side would build them at once. It names the one that fails
+# copied                makes the copy and sets `copy` to its path; it is removed when the script ends
+# proved_below NAME..   proves the libraries that the crates use in the copy, one after another, since crates that are
+#                       tried in parallel would build them at the same time. Names the library that fails
 
 copied() {
     copy=$(mktemp -d) || exit 2

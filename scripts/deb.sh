@@ -1,8 +1,8 @@
 #!/usr/bin/env bash
-# scripts/deb.sh MULTIARCH: makes Debian packages of what was built, in dist/: plistconv (program, commands, man pages,
+# scripts/deb.sh MULTIARCH: makes Debian packages in dist/ from what was built: plistconv (program, commands, man pages,
 # completions, pages), libplistconv1, libplistconv-dev, python3-plistconv, and the sources librust-plistconv-dev,
-# librust-plistconv-sys-dev and golang-plistconv-dev. Of one commit they have the same bytes whenever they are made.
-# VERSION is the environment's.
+# librust-plistconv-sys-dev and golang-plistconv-dev. They are reproducible: one commit always gives the same bytes. The
+# environment has VERSION.
 set -euo pipefail
 umask 022
 cd "$(dirname "$0")/.."
@@ -20,10 +20,10 @@ scripts/install.sh install program
 scripts/install.sh install library
 cd dist/deb
 
-# (the oldest libc that has all that the file calls)
+# Prints the oldest version of libc that has all the functions that the file calls.
 libc() { objdump -T "$1" | grep -o 'GLIBC_[0-9.]*' | cut -c7- | sort -V | tail -n 1; }
 
-take() { # PACKAGE PATH..: moves what was installed into the package
+take() { # PACKAGE PATH..: moves installed files into the package
     local package=$1 path
     shift
     for path; do
@@ -32,7 +32,7 @@ take() { # PACKAGE PATH..: moves what was installed into the package
     done
 }
 
-# What each package has beside its files.
+# Adds the documents that each package has.
 documents() { # PACKAGE
     local folder=$1/usr/share/doc/$1
     mkdir -p "$folder"
@@ -57,7 +57,7 @@ plistconv ($VERSION) unstable; urgency=medium
 END
 }
 
-pack() { # PACKAGE SECTION ARCHITECTURE DEPENDS TEXT [FIELD..]: the text is the package's description, whose first line is its title
+pack() { # PACKAGE SECTION ARCHITECTURE DEPENDS TEXT [FIELD..]: TEXT is the description, with the title in its first line
     local package=$1
     documents "$package"
     mkdir -p "$package/DEBIAN"
@@ -88,9 +88,9 @@ PYTHONPATH=../../bindings/python python3 -Bc 'import sys, wheel_of_plistconv as 
 echo dpkg > "$info/INSTALLER"
 rm -r all/usr/share/plistconv/python
 take plistconv usr/bin usr/share
-# (empty, so without use among the pages)
+# An empty file, which is of no use among the pages.
 rm plistconv/usr/share/doc/plistconv/bindings/python/plistconv/py.typed
-rmdir "all/$lib" all/usr/lib all/usr/include all/usr all # (nothing is left out)
+rmdir "all/$lib" all/usr/lib all/usr/include all/usr all # fails if a file was left out
 
 mkdir -p libplistconv1/DEBIAN
 echo "libplistconv 1 libplistconv1 (>= $VERSION)" > libplistconv1/DEBIAN/shlibs
@@ -100,7 +100,7 @@ echo 'activate-noawait ldconfig' > libplistconv1/DEBIAN/triggers
     objdump -T "libplistconv1/$lib/libplistconv.so.1" | sed -n "s/.* g .* \\(plistconv_[a-z_]*\\)$/ \\1@Base $VERSION/p" | LC_ALL=C sort
 } > libplistconv1/DEBIAN/symbols
 
-# The sources of the crates, as a folder of packages of cargo, where each depends on the other by its version.
+# The sources of the crates as a directory registry of cargo, in which crates depend on each other by version.
 for crate in plistconv plistconv-sys; do
     folder=librust-$crate-dev/usr/share/cargo/registry/$crate-$VERSION
     mkdir -p "$folder"

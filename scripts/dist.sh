@@ -1,7 +1,7 @@
 #!/usr/bin/env bash
-# scripts/dist.sh: makes dist/plistconv-VERSION-ARCH.tar.gz of what was built: all that is installed, INSTALL and
-# SHA256SUMS. Of one commit it has the same bytes whenever it is made: names are sorted, the owner is root, times are
-# the commit's. VERSION is the environment's.
+# scripts/dist.sh: makes dist/plistconv-VERSION-ARCH.tar.gz from what was built: all installed files, INSTALL and
+# SHA256SUMS. It is reproducible: names are sorted, the owner is root, and times are those of the commit. The environment
+# has VERSION.
 set -euo pipefail
 umask 022
 cd "$(dirname "$0")/.."
@@ -16,6 +16,6 @@ sed "s/VERSION/$VERSION/" scripts/INSTALL.in > "dist/$name/INSTALL"
 (cd "dist/$name" && find . -type f ! -name SHA256SUMS -printf '%P\0' | LC_ALL=C sort -z | xargs -0 sha256sum > SHA256SUMS)
 LC_ALL=C tar --sort=name --owner=0 --group=0 --numeric-owner --mode=u+rwX,go+rX,go-w --mtime="@$SOURCE_DATE_EPOCH" \
     -C dist -cf - "$name" | gzip -n9 > "dist/$name.tar.gz"
-rm -rf "dist/$name" # (the toolchain takes no tree that has links)
+rm -rf "dist/$name" # the toolchain refuses a tree with links
 cd dist
 sha256sum "$name.tar.gz" | tee "$name.tar.gz.sha256"

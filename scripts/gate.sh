@@ -1,15 +1,15 @@
 #!/usr/bin/env bash
-# The gate: `make test`, which `.ci/run` is. First `rt ci`, which proves every crate and tries the mutants that must be
-# refused, but for what passed on this machine before, and runs the tests and the programs; then what stands around the
-# proofs, over the program that `rt ci` built. Each step prints a line, and its log if it fails. What needs a tool that
-# is not here is skipped, and counted as skipped. The last line is `N passed, M failed`, those of `rt ci` included; the
-# status is 0 if M is 0.
+# The gate: `make test`, and the same as `.ci/run`. First runs `rt ci`, which proves every crate, tries the mutants that
+# must be refused, and runs the tests and the programs. `rt ci` skips what already passed on this machine. Then checks
+# everything around the proofs, with the program that `rt ci` built. Each step prints a line, and its log if it fails. A
+# step whose tool is missing is skipped, and counted as skipped. The last line is `N passed, M failed`, including those
+# of `rt ci`; the status is 0 if M is 0.
 #
-# gate.sh            all
-# gate.sh --around   without `rt ci`: over ./plistconv, libplistconv.a and libplistconv.so, or the program and the folder
-#                    that PLISTCONV and PLISTCONV_LIBDIR name
+# gate.sh            everything
+# gate.sh --around   without `rt ci`: uses ./plistconv, libplistconv.a and libplistconv.so, or the program PLISTCONV and
+#                    the folder PLISTCONV_LIBDIR
 #
-# SEED is that of the random inputs, FUZZ for how many seconds they are tried.
+# SEED is the seed of the random inputs, and FUZZ for how many seconds they are tried.
 set -u
 cd "$(dirname "$0")/.." || exit 2
 unset MAKEFLAGS MFLAGS MAKELEVEL CDPATH GIT_DIR GIT_INDEX_FILE GIT_WORK_TREE
@@ -35,16 +35,16 @@ limited() { # SECONDS COMMAND..
     fi
 }
 
-# Whether a tool is here, and runs.
+# Succeeds if a tool is installed and runs.
 works() { command -v "$1" > /dev/null && "$@" > /dev/null 2>&1; } # COMMAND WORD..
 
-told() { # STATUS LOG SECONDS NAME: counts a step that has ended
+told() { # STATUS LOG SECONDS NAME: counts and reports a step that has ended
     case $1 in
         0) passed=$((passed + 1)); echo "gate: $4: passed ($3 s)" ;;
         77) echo "gate: $4: skipped" ;;
         *) failed=$((failed + 1)); echo "gate: $4: FAILED with status $1 ($3 s)"; sed 's/^/    /' "$2" ;;
     esac
-    # (what a step left out for want of a tool)
+    # What a step skipped because a tool is missing.
     grep -a 'skipped' "$2" | sed 's/^/    /'
     local parts
     parts=$(grep -ac 'skipped' "$2")
@@ -58,7 +58,7 @@ step() { # NAME SECONDS COMMAND..: runs one step
     told $status "$work/log" $((SECONDS - begin)) "$name"
 }
 
-# Starts a step beside the others; `ended NAME` waits for it.
+# Starts a step in the background; `ended NAME` waits for it.
 begun() { # NAME SECONDS COMMAND..
     local name=$1
     (
@@ -78,7 +78,7 @@ ended() { # NAME
     return "$status"
 }
 
-needs() { # TOOL..: for `step`, a command that is skipped
+needs() { # TOOL..: makes a step end as skipped if a tool is missing
     local tool
     for tool; do
         works "$tool" --version || { echo "skipped: there is no $tool"; return 77; }
@@ -99,7 +99,7 @@ proofs() {
     fi
 }
 
-# The C library over what `rt ci` proved: it leaves the crates below as libraries, and no archive.
+# Builds the C library from what `rt ci` proved, which leaves the crates below as libraries but no archive.
 library() { # FOLDER
     needs python3 "${CC:-cc}" ld objcopy ar || return
     mkdir "$1" || return
@@ -113,7 +113,7 @@ library() { # FOLDER
 fuzzed() {
     needs python3 || return
     echo "seed $seed"
-    # (what differs is kept in the folder fuzz-differences)
+    # Inputs with differences are kept in the folder fuzz-differences.
     python3 fuzz/fuzz.py "$PLISTCONV" --seconds "$fuzz" --seed "$seed"
 }
 export -f library needs works fuzzed
@@ -148,7 +148,7 @@ if [ -x "$program" ]; then
     step 'words that are not UTF-8' 900 scripts/words.sh
     step completions 900 completions/test
     step 'limits of texts' 900 bash -c 'needs python3 && scripts/limits.py "$PLISTCONV"'
-    # (it prints its seed, so that a difference can be made again)
+    # Prints its seed, so that differences can be reproduced.
     ended fuzz
     echo "    seed $seed"
     is_built=yes

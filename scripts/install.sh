@@ -1,14 +1,14 @@
 #!/usr/bin/env bash
-# scripts/install.sh install program|library, scripts/install.sh uninstall: installs what was built, with all that
-# belongs to it, or removes exactly that. The environment has the folders, which may have blanks: DESTDIR, PREFIX,
-# SHARE, DOC, LIBDIR and INCLUDEDIR; ZSH, the folder of completions below SHARE; PC_PREFIX, the prefix that the file
-# for pkg-config names; and VERSION.
+# scripts/install.sh install program|library, scripts/install.sh uninstall: installs what was built, with the files that
+# belong to it, or removes exactly these files. The environment has the folders, whose names may contain spaces:
+# DESTDIR, PREFIX, SHARE, DOC, LIBDIR and INCLUDEDIR; ZSH, the folder of completions below SHARE; PC_PREFIX, the prefix
+# in the file for pkg-config; and VERSION.
 set -euo pipefail
 umask 022
 cd "$(dirname "$0")/.."
 verb=$1
 
-# Makes way for a file, or removes it, with the folders of our own that are then empty.
+# Makes the folder of a file, or removes the file and those of our folders that are then empty.
 place() { # PATH
     local folder
     if [ "$verb" = install ]; then
@@ -33,12 +33,12 @@ link() { # TARGET PATH
 print() { # PATH LINE..
     place "$1"
     [ "$verb" = install ] || return 0
-    rm -f "$DESTDIR$1" # (a link is not followed)
+    rm -f "$DESTDIR$1" # so that a link is not followed
     printf '%s\n' "${@:2}" > "$DESTDIR$1"
     chmod 644 "$DESTDIR$1"
 }
 
-# The pages, with the folders that they link to.
+# Installs the pages, with the files that they link to.
 pages() {
     local file
     for file in *.md docs/*.{md,svg} include/*.h bindings/{README.md,rows.txt} \
@@ -55,7 +55,7 @@ program() {
     put 755 plistconv "$PREFIX/bin/plistconv"
     for file in plistconv-{canonicalise,diff,digest,staged,textconv,where}; do
         put 755 "tools/$file" "$SHARE/plistconv/tools/$file"
-        # (a link, since a command finds its modules beside the file that it is)
+        # A link, since a command finds its modules beside its real file.
         case $SHARE in
             "$PREFIX"/*) link "../${SHARE#"$PREFIX"/}/plistconv/tools/$file" "$PREFIX/bin/$file" ;;
             *) link "$SHARE/plistconv/tools/$file" "$PREFIX/bin/$file" ;;

@@ -1,7 +1,7 @@
 #!/usr/bin/env python3
-"""limits.py PROGRAM [--large]: where a text passes the limit on nodes, and with --large that on payload too, as
-`lint` tells it. These texts are too long for tests: 50 MB, and 537 MB (2 GB of memory). What this machine has no
-room for is skipped."""
+"""limits.py PROGRAM [--large]: checks where `lint` refuses a text that exceeds the limit of nodes, and with --large also
+that of payload. These texts are too long for tests: 50 MB, and 537 MB (2 GB of memory). A text that does not fit on
+this machine is skipped."""
 import os
 import shutil
 import subprocess
@@ -13,12 +13,12 @@ UNITS = 1_073_741_824 // 2
 
 
 def lists(count):
-    """The list of so many empty lists: each is a node, and the list that holds them one more."""
+    """Returns an array of `count` empty arrays. Each of them is a node, and so is the array itself."""
     return b"(" + b"()," * count + b")"
 
 
 def strings(count):
-    """The list of a string of so many letters and of one more letter."""
+    """Returns an array of a string of `count` letters and a string of one letter."""
     return b"(" + b"a" * count + b",b)"
 
 

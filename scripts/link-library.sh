@@ -1,6 +1,6 @@
 #!/bin/sh
-# scripts/link-library.sh ARCHIVE LIBC LIBRARY: makes libplistconv.a or libplistconv.so, as LIBRARY is named, of the archive that
-# the toolchain built and of its C functions. It exports the functions of include/plistconv.h alone.
+# scripts/link-library.sh ARCHIVE LIBC LIBRARY: links libplistconv.a or libplistconv.so, depending on the name LIBRARY,
+# from the archive that the toolchain built and its C functions. Exports only the functions of include/plistconv.h.
 set -eu
 archive=$1 libc=$2 library=$3
 work=$(mktemp -d)

@@ -1,8 +1,8 @@
 #!/usr/bin/env bash
 # scripts/mutants.sh [NAME..]: tries the mutants crates/NAME/edits/*.edit, which the gate leaves out, on a copy of the
-# tree: the prover must refuse each. With no NAME, those of every crate that has some. As many crates run side by
-# side as there are processors (or JOBS). It prints one line a crate, and fails where one mutant is not refused, or
-# no longer applies: scripts/stale_mutants.py says which those are in a second, of the mutants of the gate too.
+# tree: the prover must refuse each one. Without NAME, tries those of every crate that has some. Runs as many crates in
+# parallel as there are processors (or JOBS). Prints one line per crate, and fails if a mutant is not refused or no
+# longer applies. scripts/stale_mutants.py finds the latter within a second, also among the mutants of the gate.
 set -u
 cd "$(dirname "$0")/.." || exit 2
 . scripts/copy.sh
@@ -29,14 +29,14 @@ done
 
 proved_below "${names[@]}" || exit 1
 
-# Tries the mutants of one crate, and prints how many were refused, with what was said of the others.
+# Tries the mutants of one crate, and prints how many were refused and the messages about the others.
 try() {
     local wanted refused
     wanted=$(find "$copy/crates/$1/must-fail" -name '*.edit' | wc -l)
     (cd "$copy" && rt must-fail "$1") > "$copy/$1.log" 2>&1
     refused=$(grep -c ': refused, as it must be' "$copy/$1.log")
     echo "$1: $refused of $wanted mutants refused"
-    # A mutant that takes away a name is refused for that, and not for what it means.
+    # A mutant that removes a name is refused because of that, and not because of its meaning.
     sed -n 's/^rt: must-fail \([^:]*\): refused.*only because a proof file names.*/    \1 takes away what a proof names/p' \
         "$copy/$1.log"
     [ "$refused" -eq "$wanted" ] && return 0

@@ -1,15 +1,15 @@
 #!/usr/bin/env bash
-# What a new user does, on a clean checkout of the last commit, in a folder with a blank: the README's commands, the
-# installation, the man pages, completions, commands and examples, the tar file and the Debian packages.
+# Does what a new user does, in a clean checkout of the last commit whose path contains a space: the commands of the
+# README, the installation, the man pages, completions, commands and examples, the tar file and the Debian packages.
 #
-# new-user.sh [PART..]           takes ./plistconv, libplistconv.a and libplistconv.so as they were built here
-# new-user.sh --build [PART..]   builds them in the checkout by `make` and `make lib` (long)
+# new-user.sh [PART..]           uses ./plistconv, libplistconv.a and libplistconv.so as they were built here
+# new-user.sh --build [PART..]   builds them in the checkout by `make` and `make lib`, which takes long
 #
-# The parts are readme, install, manual, completions, tools, examples, dist and deb; without words all are tried.
-# `make test` is left out. What needs a tool that is missing is skipped with a line; if all that was asked for is
-# skipped, the status is 77. PLISTCONV and PLISTCONV_LIBDIR name other places of what was built here.
+# The parts are readme, install, manual, completions, tools, examples, dist and deb; without PART all are tried.
+# `make test` is left out. A part whose tool is missing is skipped with a line; if all parts are skipped, the status is
+# 77. PLISTCONV and PLISTCONV_LIBDIR are other paths of what was built here.
 set -euo pipefail
-unset MAKEFLAGS MFLAGS MAKELEVEL CDPATH # (a `make` that started this has its own jobs)
+unset MAKEFLAGS MFLAGS MAKELEVEL CDPATH # do not share the jobs of a `make` that started this
 top=$(cd "$(dirname "$0")/.." && pwd)
 program=$(realpath "${PLISTCONV:-$top/plistconv}")
 libraries=$(realpath "${PLISTCONV_LIBDIR:-$top}")
@@ -46,7 +46,7 @@ else
         cp -p "$file" "$(basename "$file")"
     done
 fi
-# (nothing is built here, so there is no toolchain)
+# Nothing is built here, so no toolchain is needed.
 make() { command make --no-print-directory RT=no-toolchain "$@"; }
 version=$(./plistconv --version | cut -d ' ' -f 2)
 
@@ -56,7 +56,7 @@ if wants readme; then
     tried=1
 fi
 
-# The links of pages that name no file.
+# Prints the broken links of pages.
 broken_links() { # FOLDER
     local page link
     while IFS= read -r page; do
@@ -85,7 +85,7 @@ if wants install; then
     no_broken_links "$installed/share/doc/plistconv"
     printf '{b=a;a=b;}' > "$work/a.plist"
     if has python3 python3 'the commands'; then
-        # A command finds the program that was installed with it.
+        # A command finds the program of its own installation.
         (cd "$work" && env -u PLISTCONV "$installed/bin/plistconv-digest" a.plist)
         for command in "$installed"/bin/plistconv-*; do "$command" --help > "$work/log" || fail "$command --help"; done
     fi
@@ -135,7 +135,7 @@ if wants dist && has objdump binutils 'the tar file'; then
     quietly make dist
     [ "$first" = "$(cat dist/*.tar.gz.sha256)" ] || fail 'the tar file is another at the second time'
     echo "$first, twice"
-    # Where git does not tell the commit there is no tar file, unless what is taken from the commit is given.
+    # If git cannot tell the commit, no tar file is made unless the values from the commit are given.
     mkdir "$work/bin"
     printf '#!/bin/sh\necho "git: dubious ownership" >&2\nexit 128\n' > "$work/bin/git"
     chmod +x "$work/bin/git"
@@ -192,7 +192,7 @@ print(plistconv.library_version())'
     fi
     [ "$(dpkg-deb --ctrl-tarfile dist/libplistconv1_*.deb | tar -xO ./symbols | grep -c '^ plistconv_[a-z]*@Base ')" = \
         "$(grep -c '^uint[0-9]*_t plistconv_' include/plistconv.h)" ] || fail 'the symbols of the library are not those of the header'
-    # (a program over the packages' sources, with the packages' library)
+    # A program that uses the sources and the library of the packages.
     library=$(dirname "$work"/deb/usr/lib/*/libplistconv.so)
     if has cargo cargo 'the Rust crates of the packages'; then
         mkdir -p "$work/rust/src" "$work/rust/.cargo"

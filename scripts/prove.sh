@@ -1,12 +1,12 @@
 #!/usr/bin/env bash
-# scripts/prove.sh NAME: proves the crate and builds its library, in a copy of the crates that it stands on, so that
-# several crates are proved side by side: the toolchain locks the folders of a crate and of all below it while it
-# works. The crates below are proved and built before. What is built comes back into crates/NAME/out.
+# scripts/prove.sh NAME: proves the crate and builds its library, in a copy of the crate and of those that it uses. So
+# several crates can be proved in parallel, although the toolchain locks the folders of a crate and of all below it. The
+# crates below have to be proved and built already. The result is moved to crates/NAME/out.
 set -eu
 cd "$(dirname "$0")/.."
 name=$1
 copy=out/prove/$name
-if [ -d "$copy/crates/$name/out" ]; then # (a run that was broken off: it goes on where it was)
+if [ -d "$copy/crates/$name/out" ]; then # continues an interrupted run
     rm -rf "crates/$name/out"
     mv "$copy/crates/$name/out" "crates/$name/out"
 fi
@@ -14,7 +14,7 @@ rm -rf "$copy"
 mkdir -p "$copy/crates"
 cp HANDLES "$copy/"
 
-# The crates of this repository that a crate stands on, and those below them.
+# Prints the crates of this repository that a crate uses, directly or not.
 below() {
     for lower in $(sed -n "s/^$1\( [^:]*\)\{0,1\}://p" crates.txt); do
         if [ -d "crates/$lower" ]; then
@@ -27,7 +27,7 @@ for lower in "$name" $(below "$name" | sort -u); do
     grep "^$lower[ :]" crates.txt >> "$copy/crates.txt"
     cp -al "crates/$lower" "$copy/crates/$lower"
 done
-# (what the toolchain writes for this crate is written here alone, and its files in place of links)
+# The toolchain writes only for this crate, whose files must therefore not be hard links.
 rm -rf "$copy/crates/$name/out"
 [ -d "crates/$name/out" ] && cp -a "crates/$name/out" "$copy/crates/$name/out"
 

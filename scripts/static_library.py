@@ -1,10 +1,10 @@
 #!/usr/bin/env python3
-"""scripts/static_library.py ARCHIVE: builds crates/plistconv_c as a static library, over the libraries that `rt ci` left.
+"""scripts/static_library.py ARCHIVE: builds crates/plistconv_c as a static library from the libraries that `rt ci` left.
 
-`rt ci` proves the crate and leaves no archive of it, and `rt lib` would prove all crates below it once more, since it
-takes no library that was built with statements alone, which has no stamp. Where none has one, this calls the step of
-`rt lib` that comes after them: the crate is proved over those libraries, as `rt ci` does, and compiled. In a tree
-that was worked in, `rt ci` puts back what stood there, with stamps: then this is `rt lib`.
+`rt ci` proves the crate but leaves no archive of it. `rt lib` would prove all crates below it again, since it does not
+accept libraries that were built from statements only, which have no stamp. If none has a stamp, this script runs only
+the last step of `rt lib`: it proves the crate with those libraries, like `rt ci`, and compiles it. In a tree that was
+worked in, `rt ci` restores the libraries that were there, with stamps; then this script does the same as `rt lib`.
 """
 import importlib.machinery
 import importlib.util
@@ -17,7 +17,7 @@ TOP = os.path.dirname(os.path.dirname(os.path.abspath(__file__)))
 
 
 def toolchain():
-    """The module of the toolchain that `rt` is made of."""
+    """Returns the Python module that implements `rt`."""
     rt = shutil.which(os.environ.get("RT", "rt"))
     if rt is None:
         sys.exit("static_library: there is no rt on the path")
@@ -47,7 +47,7 @@ def main():
         sys.exit(f"static_library: no library of {', '.join(missing)}: `rt ci` leaves them where it proves them")
     os.makedirs("out", exist_ok=True)
     status = crate.compile([], archive)
-    if status < 0:  # (killed, most likely for memory)
+    if status < 0:  # killed, most likely because it ran out of memory
         status = crate.compile(["--jobs", "1"], archive)
     del held
     return status

@@ -1,6 +1,6 @@
 #!/usr/bin/env bash
-# scripts/toolchain.sh: checks that the toolchain, `rt` or what RT names, is none older than the one that README.md
-# names, the oldest that is known to prove this repository. Without a toolchain it is skipped (status 77).
+# scripts/toolchain.sh: checks that the toolchain, `rt` or RT, is not older than the one in README.md, the oldest that is
+# known to prove this repository. Without a toolchain it is skipped (status 77).
 set -euo pipefail
 cd "$(dirname "$0")/.."
 is_older() { # KIT KIT, such as rattle-kit-9c and rattle-kit-13f

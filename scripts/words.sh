@@ -1,6 +1,6 @@
 #!/bin/sh
-# Tries words that are not UTF-8, which no test of a crate can hand over: PLISTCONV=./plistconv scripts/words.sh
-# Each ends with status 3 and one line, and touches no file; standard input and output reach such files.
+# Tests arguments that are not UTF-8, which the tests of the crates cannot pass: PLISTCONV=./plistconv scripts/words.sh
+# Each ends with status 3 and one line, and changes no file. Files with such names can be standard input or output.
 set -eu
 PLISTCONV=$(realpath "${PLISTCONV:-plistconv}")
 work=$(mktemp -d) && trap 'rm -rf "$work"' EXIT
