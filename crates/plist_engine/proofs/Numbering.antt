@@ -54,7 +54,7 @@ count_below-none all (v ∷ rest) k n h =
       | false ↦ others
     ]
 
--- the entry of the kept places at the number of n is n
+-- the kept places have n and its value as the entry at the number of n
 abbrev pub IsEntry : ℕ → Plist → List (ℕ × Plist) → Type 0
 IsEntry n v kept = (count_below n kept < length kept) × ((d : ℕ × Plist) → get_or kept (count_below n kept) d ≡ (n, v))
 

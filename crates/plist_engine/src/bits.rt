@@ -91,8 +91,8 @@ fn set_bit_if(words: &mut [u64], bit: u32, wanted: bool)
     }
 }
 
-/// Returns the greatest bit of a vector with about `bits` bits. All lower bits of it are set, so
-/// that it is a mask too.
+/// Returns the number of the greatest bit of a vector of about `bits` bits. It is one less than a
+/// power of two, so that it is also a mask.
 pub(crate) fn mask_for(bits: u64) -> u32 {
     let bits = bits.clamp(LEAST, MOST) as u32;
     u32::MAX.checked_shr(bits.leading_zeros()).unwrap_or(0)

@@ -54,7 +54,7 @@ impl<'a, S: BuildHasher + Copy> Scalars<'a, S> {
     }
 }
 
-/// Returns the integer that the scalar contains, or `None` if it is negative or no integer.
+/// Returns the integer that the scalar contains, or `None` if the scalar is negative or no integer.
 pub fn natural_in(scalar: ScalarRef) -> Option<u64>
     ensures { result ≡ natural_in (content_of scalar.entry) }
 {

@@ -42,8 +42,8 @@ pub(crate) fn objects_of<'a, S: BuildHasher + Copy>(
     Ok(plan.into_objects())
 }
 
-// Returns the number of the value that the object encodes: the one in the memo, or else the next
-// one. In the latter case the objects of the value are added.
+// Returns the number of the value that the object encodes. Adds the objects of the value, unless it
+// is a scalar that already has a number.
 #[cycle(walk)]
 #[inline(always)]
 fn walk<'a, S: BuildHasher + Copy>(
