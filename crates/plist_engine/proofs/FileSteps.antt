@@ -13,7 +13,6 @@ use Rattle.plist_engine.specs.Sending.{IsWritten}
 use Rattle.plist_engine.specs.Output.{State, Goes, end_of}
 use Rattle.plist_engine.proofs.Going.{Goes_then, Goes_stop, Goes_same, Goes_put, count_then, is_written, is_refused}
 
--- the lengths of the parts
 pub file-length : (objects : List (List ℕ)) → length (file_of objects) ≡ 8 + (length (concat objects) + (length (references (least_width (8 + length (concat objects))) (starts 8 objects)) + 32))
 file-length objects =
     let place = 8 + length (concat objects) in
@@ -31,7 +30,6 @@ starts-under bound p (o ∷ objects) h =
 pub starts-before : (bound p : ℕ) (objects : List (List ℕ)) → p + length (concat objects) ≤ bound → All (λ q. q ≤ bound) (starts p objects)
 starts-before bound p objects h = All-from_recursion (λ q. q ≤ bound) (starts p objects) (starts-under bound p objects h)
 
--- the parts of a file
 pub file-parts : (objects : List (List ℕ)) → header ++ (concat objects ++ end_of (starts 8 objects) (8 + length (concat objects))) ≡ file_of objects
 file-parts objects =
     let place = 8 + length (concat objects) in

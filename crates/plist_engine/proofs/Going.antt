@@ -121,7 +121,6 @@ room_then a b p q value bound first room =
     let s = first.done.sent in
     omega (arith, n, m, l, s, room)
 
--- the number of bytes written
 pub count_then : {T : Type 0} (a : List ℕ) (p q : State) (value : T) → Goes a p q (Ok value) → q.sent + length q.waiting ≡ p.sent + (length p.waiting + length a)
 count_then a p q value first =
     let n = ap length first.done.whole ∙ length-append first.done.gone q.waiting in

@@ -44,7 +44,6 @@ Grows-lift f front old mid new hs x within same_originals same_references = reco
   stand_for = x.stand_for;
 }
 
--- one more scalar
 pub Grows-scalar : {S H : Type 0} → (f : List ℕ) (front i : ℕ) (old new : Plan S H) (s : Scalar) → Holds f i (holds_scalar s) → new.originals.items ≡ old.originals.items ++ (i ∷ []) → new.references.items ≡ old.references.items → Grows f front old new (holds_scalar s ∷ [])
 Grows-scalar f front i old new s holds added kept = record {
   originals = i ∷ [];

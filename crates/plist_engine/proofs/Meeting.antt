@@ -15,7 +15,6 @@ pub cases_Option : (o : Option ℕ) → (o ≡ None) ⊎ ((n : ℕ) × (o ≡ So
 cases_Option None = inl refl
 cases_Option (Some n) = inr (n, refl)
 
--- one more object
 number_from-more : (f : List ℕ) (n : ℕ) (originals : List ℕ) (i : ℕ) (s : Scalar) → number_from f n (originals ++ (i ∷ [])) s ≡ option_or (number_from f n originals s) (cond (is_held s (what_holds f i)) (Some (n + length originals)) None)
 number_from-more f n [] i s = rw add-zero refl
 number_from-more f n (x ∷ originals) i s =
@@ -37,7 +36,6 @@ module _ {S H : Type 0} (f : List ℕ) (i : ℕ) (old new : Plan S H) (added : n
   pub met-beside : (s : Scalar) → is_held s (what_holds f i) ≡ false → number_met f new s ≡ number_met f old s
   met-beside s apart = met-more s ∙ rw apart (or_none (number_met f old s))
 
-  -- what had a number still has it
   pub met-still : (s : Scalar) (n : ℕ) → number_met f old s ≡ Some n → number_met f new s ≡ Some n
   met-still s n had = met-more s ∙ rw had refl
 

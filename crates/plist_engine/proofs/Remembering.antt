@@ -50,7 +50,6 @@ pub number-remembered : {S H : Type 0} → (f : List ℕ) (plan : Plan S H) (i x
 number-remembered f plan i x same some knows =
     subst (λ (n : ℕ). IsRemembered f plan i n) same (knows.each i (subst IsNumber (sym same) some))
 
--- nothing is known at first
 pub knows-none : {S H : Type 0} → (f : List ℕ) (plan : Plan S H) → plan.originals.items ≡ [] → AreNew plan.scalars → length plan.memo.numbers.items ≡ (trailer_of f).count → ((i : ℕ) → kept plan.memo i ≡ no_number) → KnowsScalars f plan
 knows-none f plan none new listed unmet = record {
   listed = listed;

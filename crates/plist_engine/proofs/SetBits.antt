@@ -12,14 +12,12 @@ use Rattle.plist_engine.specs.Bits.{IsSet}
 abbrev ones : ℕ
 ones = 18446744073709551615
 
--- the bit in its word
 pub bit_in_word : (words : List ℕ) (n : ℕ) → n / 64 < length words → (eqb (bit_and (get_or words (n / 64) 0 / 2 ^ (n % 64)) 1) 1 ≡ true) ↔ IsSet words n
 unfolding IsSet
 bit_in_word words n within =
     let word = get_or words (n / 64) 0 in
     rw (get_or_default_zero words (n / 64) ones within, shr_and_one word (n % 64)) (eqb-true (bit_at word (n % 64)) 1, eq-eqb (bit_at word (n % 64)) 1)
 
--- a bit past the end
 pub bit_behind : (words : List ℕ) (n : ℕ) → length words ≤ n / 64 → IsSet words n
 unfolding IsSet
 bit_behind words n past =
@@ -67,7 +65,6 @@ module _ (words : List ℕ) (n : ℕ) (within : n / 64 < length words) where
     | inr apart ↦ other_word m apart has
   ]
 
-  -- the word without a change
   pub words_kept : (m : ℕ) → IsSet words m → IsSet (set words (n / 64) word) m
   unfolding IsSet
   words_kept m has = elim (cases_eq (m / 64) (n / 64)) [

@@ -47,7 +47,6 @@ marked-sifts f sieve noted old new marks = record {
   ];
 }
 
--- nothing is marked
 pub marks-none : (sieve : Sieve) (numbers : List ℕ) → Marks sieve numbers numbers
 marks-none sieve numbers = record { as_many = refl; each = λ i. inl refl }
 
@@ -57,7 +56,6 @@ sifts-none f old new same = record {
   each = λ i. inl (ap (λ numbers. kept_at numbers.items i) same);
 }
 
--- one more object is marked
 pub marks-more : (sieve : Sieve) (start now : List ℕ) (i : ℕ) → Marks sieve start now → i < length now → i < length sieve.bits.items → kept_at now i ≡ no_number → IsUnlike sieve i → Marks sieve start (set now i single)
 marks-more sieve start now i marks within below none unlike = record {
   as_many = length-set now i single ∙ marks.as_many;

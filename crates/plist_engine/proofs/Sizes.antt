@@ -160,7 +160,6 @@ length-kept all k (v ∷ rest) =
       | false ↦ omega arith
     ]
 
--- marker and count have at most ten bytes
 head_size-most : (n : ℕ) → head_size n ≤ 10
 head_size-most n =
     elim (ltb n 15) as (λ short. cond short 1 (2 + least_width n) ≤ 10) [

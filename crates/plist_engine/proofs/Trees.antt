@@ -62,7 +62,6 @@ Stands-all xs = record { before = []; after = []; whole = sym (append-nil xs); p
 pub Stands-head : {all : List Plist} {k : ℕ} (v : Plist) (vs : List Plist) → Stands all k (v ∷ vs) → (value_at all k ≡ v) × (k < length all)
 Stands-head v vs h = rw (h.whole, length-append) (get_or_at h.before v (vs ++ h.after) (list no_items) _ h.place, omega arith)
 
--- a tree begins with its value
 pub preorder-head : (v : Plist) → (rest : List Plist) × (preorder v ≡ v ∷ rest)
 preorder-head (scalar s) = ([], refl)
 preorder-head (list vs) = (preorder_items vs, refl)

@@ -75,7 +75,6 @@ walked-next f start i x plan mid next new n numbers h is within one same_origina
       walks = Walks-item f (length start) v rest.items plan next new n numbers (Walks-lift f (length start) (preorder v) (λ k. k ∷ []) plan mid next (n ∷ []) one.walks within same_originals same_references) rest.walks;
     }
 
--- no value remains
 pub walked-none : {S H : Type 0} → (f start : List ℕ) (i : ℕ) (plan : Plan S H) → length start ≤ i → ItemsWalked f (length start) (drop i start) plan plan []
 walked-none f start i plan past = record {
   items = no_items;

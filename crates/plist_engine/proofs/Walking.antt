@@ -33,14 +33,12 @@ pub found_in-append : (all : List Plist) (k : ℕ) (xs ys : List Plist) → foun
 found_in-append all k xs ys =
     ap (map (λ p. held_at (number_in all) p.0 p.1)) (kept_from-append all k xs ys) ∙ map-append _ (kept_from all k xs) _
 
--- nothing to do
 pub Walks-none : {S H : Type 0} → (f : List ℕ) (front : ℕ) (plan : Plan S H) → Walks f front [] (λ k. []) plan plan []
 Walks-none f front plan = record {
   numbered = λ all k stands ready. refl;
   adds = λ all k stands ready. record { ready = rw add-zero ready; grows = Grows-none f front plan };
 }
 
--- one part, and then another
 pub Adds-append : {S H : Type 0} → (f : List ℕ) (front : ℕ) (all : List Plist) (k : ℕ) (old mid new : Plan S H) (xs ys : List Plist) → Adds f front all k xs old mid → Adds f front all (k + length xs) ys mid new → Adds f front all k (xs ++ ys) old new
 Adds-append f front all k old mid new xs ys x y =
     let far : k + length xs + length ys ≡ k + length (xs ++ ys) = rw length-append (omega arith) in
@@ -108,7 +106,6 @@ module _ (s : Scalar) (all : List Plist) (k : ℕ) (stands : Stands all k (scala
         | inr above ↦ (let b = before in omega arith)
       ]
 
--- a scalar that is known
 pub Walks-known : {S H : Type 0} → (f : List ℕ) (s : Scalar) (old new : Plan S H) (n : ℕ) → number_met f old s ≡ Some n → new.originals ≡ old.originals → new.references ≡ old.references → WalksScalar f 0 s old new n
 Walks-known f s old new n met same_originals same_references = record {
   numbered = λ all k stands ready.

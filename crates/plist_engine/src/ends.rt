@@ -34,7 +34,6 @@ pub(crate) fn send_end<W: Sink>(places: &[u64], out: &mut Output<W>) -> Result<(
     send_trailer(places.len() as u64, place, out)
 }
 
-// Sends the offset table, with entries of `width` bytes.
 fn send_places<W: Sink>(width: u8, places: &[u64], out: &mut Output<W>) -> Result<(), WriteFault>
     requires width { IsWidth width }
     requires fit { All (λ place. place < 256 ^ width) places.now }
@@ -52,7 +51,6 @@ fn send_places<W: Sink>(width: u8, places: &[u64], out: &mut Output<W>) -> Resul
     Ok(())
 }
 
-// Sends the trailer, and flushes the buffer.
 fn send_trailer<W: Sink>(count: u64, place: u64, out: &mut Output<W>) -> Result<(), WriteFault>
     requires { CanTake (trailer_octets count place) (state_of W.Sink out.old) }
     ensures goes { Goes (trailer_octets count place)

@@ -66,7 +66,6 @@ pub fn write_canonical_of<'a, S: BuildHasher + Copy, W: Sink>(
     send_file(alloc, file, objects, out)
 }
 
-// Sends the file of the planned objects.
 fn send_file<W: Sink>(
     alloc: Global,
     file: &BinFile,

@@ -33,11 +33,9 @@ pub length-table : (width : ℕ) (keys values : List ℕ) → length (table_spel
 length-table width keys values =
     rw (length-append, length-append) (omega (arith, length-head 13 (length keys), length-references width keys, length-references width values))
 
--- a dictionary has the bytes of its parts
 pub length-table_parts : (width : ℕ) (keys values : List ℕ) → length (table_spelling width keys values) ≡ length (head 13 (length keys)) + (length (references width keys) + length (references width values))
 length-table_parts width keys values = rw (length-append, length-append) refl
 
--- an array has the bytes of its parts
 pub length-list_parts : (width count : ℕ) (refs : List ℕ) → length refs ≡ count → length (list_spelling width refs) ≡ length (head 10 count) + length (references width refs)
 length-list_parts width count refs e =
     length-append (head 10 (length refs)) (references width refs) ∙ ap (λ n. length (head 10 n) + length (references width refs)) e

@@ -50,7 +50,6 @@ references-read w (x ∷ xs) rest (suc i) h fits =
     let others = references-read w xs rest i (omega arith) fits in
     rw (next, append_assoc, sym (drop-drop (i * w) w (big_bytes w x ++ (references w xs ++ rest))), past) others
 
--- the last `back` bytes
 pub drop-end : (front tail : List ℕ) (back : ℕ) → length tail ≡ back → drop (length (front ++ tail) - back) (front ++ tail) ≡ tail
 drop-end front tail back long =
     let at : length front ≡ length (front ++ tail) - back = rw length-append (omega arith) in
@@ -123,7 +122,6 @@ unfolding object_at octets_at
 object_at-is f i p t r octets at_table at_width at_place behind before stands =
     rw (at_place, at_table, at_width, le-leb 8 p behind, lt-ltb p t before, stands) refl
 
--- the parts of a file before its trailer, and before its offset table
 pub before_trailer : (a b c d : List ℕ) → a ++ (b ++ (c ++ d)) ≡ (a ++ (b ++ c)) ++ d
 before_trailer a b c d = simp append_assoc
 

@@ -185,6 +185,5 @@ what_holds-held : (f : List ℕ) (i : ℕ) → AreOctets f → IfOk (what_holds 
 unfolding what_holds
 what_holds-held f i h = IfOk-then (object_at f i) _ (λ read. IsHeld read.0) _ (object_at-held f i h) (λ read is. is)
 
--- the content of an object is in its ranges
 pub Holds-held : (f : List ℕ) (i : ℕ) (held : Held) → AreOctets f → Holds f i held → IsHeld held
 Holds-held f i held h holds = subst (λ r. IfOk r IsHeld) holds.reads (what_holds-held f i h)

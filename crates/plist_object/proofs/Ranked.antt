@@ -132,7 +132,6 @@ less_from_lt Less is = refl
 less_from_lt Equal is = absurd (true≢false (sym is))
 less_from_lt Greater is = absurd (true≢false (sym is))
 
--- the key at i is not below the string before it
 pub not_below : (keys : List Key) (i : ℕ) (before : TextRef) (d : Key) → IsSorted in_order keys → i < length keys → ((e : Key) → before ≡ (get_or keys (i - 1) e).text) → (slice_cmp nat_cmp (units_of before) (units_of (get_or keys i d).text) ≡ Less → ⊥) → units_of before ≡ units_of (get_or keys i d).text
 not_below keys zero before d sorted within at apart = ap units_of (at d)
 not_below keys (suc i) before d sorted within at apart =
@@ -145,7 +144,6 @@ not_below keys (suc i) before d sorted within at apart =
     let other : slice_cmp nat_cmp (units_of last.text) (units_of next.text) ≡ Less → ⊥ = subst (λ (t : TextRef). slice_cmp nat_cmp (units_of t) (units_of next.text) ≡ Less → ⊥) is apart in
     ap units_of is ∙ equal_texts (units_of last.text) (units_of next.text) (nat_cmp next.object last.object) here other
 
--- the object of a key has an entry among the numbers
 pub object_within : (f : List ℕ) (numbers : List (Option ℕ)) (long : ℕ) (keys : List Key) (i : ℕ) (key : Key) → key ≡ get_or keys i key → long ≡ length numbers → length numbers ≡ (trailer_of f).count → All (HoldsKey f) keys → i < length keys → key.object < long
 object_within f numbers long keys i key same all counted held within =
     let holds = subst (HoldsKey f) (sym same) (held i key within) in
@@ -180,7 +178,6 @@ at_last keys i key e same within =
 abbrev pub no_rank : Option ℕ
 no_rank = None
 
--- no object has a sort position yet
 none_made : (n i : ℕ) → get_or (replicate n no_rank) i no_rank ≡ no_rank
 none_made n i =
     elim (cases_lt i n) [
@@ -217,7 +214,6 @@ ranked_first f numbers before texts first pushed empty none =
     let is : texts ≡ first ∷ [] = pushed ∙ ap (λ (ts : List TextRef). ts ++ first ∷ []) empty in
     subst (λ (ts : List TextRef). RankedTo f numbers (map units_of ts) 0 (units_of first)) (sym is) (ranked_one f numbers (units_of first) none)
 
--- there are no sort positions at all
 pub no_ranks : (f : List ℕ) (ranks : Ranks) → ranks.of_objects.items ≡ [] → ranks.texts.items ≡ [] → AreRanks f ranks
 unfolding IsStrictlySortedBy
 no_ranks f ranks none no_texts = record {

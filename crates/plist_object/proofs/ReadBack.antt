@@ -78,7 +78,6 @@ is_head kind n rest h =
     })
     (cases_lt n 15)
 
--- the halves of a marker
 pub object_in-marked : (width kind low : ℕ) (octets : List ℕ) → low < 16 → object_in width ((16 * kind + low) ∷ octets) ≡ marked_object width kind low octets
 object_in-marked width kind low octets h =
     let high : (16 * kind + low) / 16 ≡ kind = omega arith in

@@ -13,7 +13,6 @@ use Rattle.plist_object.proofs.ReadBack.{is_head, object_in-head, content-counte
 abbrev pub AllFit : ℕ → List ℕ → Type 0
 AllFit width refs = AllByRecursion (λ r. r < 256 ^ width) refs
 
--- encoded references are decoded, whatever follows them
 pub numbers-references : (width : ℕ) (refs rest : List ℕ) → AllFit width refs → numbers width (length refs) (references width refs ++ rest) ≡ refs
 numbers-references width [] rest fit = refl
 numbers-references width (r ∷ refs) rest fit =

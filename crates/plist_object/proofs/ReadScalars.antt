@@ -111,7 +111,6 @@ object_in-whole width (negsuc n) rest h =
     let signed : cast_signed w64 (18446744073709551615 - n) ≡ negsuc n = rw high (ap negsuc back) in
     object_in-digits width 8 3 (big_bytes 8 (18446744073709551615 - n)) (negsuc n) rest (omega arith) refl refl (whole_in-signed (18446744073709551615 - n) (negsuc n) unsigned signed)
 
--- an encoded scalar is decoded, whatever follows it
 pub object_in-scalar : (width : ℕ) (s : Scalar) (rest : List ℕ) → IsScalar s → IsSmall s → object_in width (scalar_spelling s ++ rest) ≡ Ok (holds_scalar s, rest)
 unfolding marked_object simple_object real_object moment_object
 object_in-scalar width (text us) rest valid small = object_in-text width us rest small valid

@@ -17,7 +17,6 @@ use Rattle.plist_object.specs.Spelled.{Spells, SpellItems, SpellPairs}
 use Rattle.plist_object.proofs.Ascending.{same_order}
 use Rattle.plist_value.proofs.Keys.{below_next}
 
--- an object has one content
 pub same_held : (f : List ℕ) (i : ℕ) (a b : Held) → Holds f i a → Holds f i b → a ≡ b
 same_held f i a b holds_a holds_b = cc (holds_a.reads, holds_b.reads)
 
@@ -61,7 +60,6 @@ pub same_rows : (f : List ℕ) (held rows others : List (ℕ × ℕ)) (ps qs : P
 same_rows f held rows others ps qs to_rows to_others spells_ps spells_qs valid_ps valid_qs =
     same_order (by_key_total f) held rows others to_rows to_others (rows_ascend f rows ps spells_ps valid_ps) (rows_ascend f others qs spells_qs valid_qs)
 
--- an object encodes at most one value
 mutual
   pub same_value : (f : List ℕ) (i : ℕ) (v w : Plist) → IsPlist v → IsPlist w → Spells f i v → Spells f i w → v ≡ w
   same_value f i (scalar s) (scalar t) valid_v valid_w a b =

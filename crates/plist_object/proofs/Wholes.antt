@@ -53,7 +53,6 @@ number_begins marker w n octets tail parts enough under marked least digits =
     begins_whole marker w (negsuc m) octets tail parts enough valid spelled)
     (cases_lt n 9223372036854775808)
 
--- a number in its least width
 pub whole-begins : (marker w : ℕ) (octets tail : List ℕ) → octets ≡ marker ∷ tail → AreOctets octets → w ≤ length tail → ((n : ℕ) → least_width n ≡ w → integer_marker n ≡ marker) → least_width (big_number w tail) ≡ w → BeginsWhole (1 + w) octets
 whole-begins marker w octets tail parts are enough marks least =
     let n = big_number w tail in

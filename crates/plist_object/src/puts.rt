@@ -333,7 +333,6 @@ fn push_whole(out: &mut Vec<u8>, number: i128)
     }
 }
 
-// Appends the number in 16 bytes.
 fn push_long_whole(out: &mut Vec<u8>, n: u64)
     requires { HasRoom out.old 17 }
     ensures { Appends out.old out.new (20 ∷ (replicate 8 0 ++ big_bytes 8 n)) }

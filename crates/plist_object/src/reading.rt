@@ -371,7 +371,6 @@ pub(crate) fn held(octets: &[u8], width: u8) -> Result<Object<'_>, ObjectFault>
     }
 }
 
-// Drops the remaining bytes.
 #[inline(always)]
 fn first<'a>(read: Read<'a, Object<'a>>) -> Result<Object<'a>, ObjectFault>
     ensures { result ≡ first_of read.entry }
