@@ -623,6 +623,14 @@ def blanks(level):
     return '  ' * min(level, 32)
 
 
+def printed_bytes(octets, level):
+    digits = octets.hex()
+    if len(octets) <= 32:
+        return '<%s>' % digits
+    lines = [blanks(level + 1) + digits[at:at + 64] + '\n' for at in range(0, len(digits), 64)]
+    return '<\n' + ''.join(lines) + blanks(level) + '>'
+
+
 def printed_lines(value, level):
     """Returns the lines of the value, of which the indentation of the first is already printed."""
     kind, content = value
@@ -639,7 +647,7 @@ def printed_lines(value, level):
         'text': printed_text,
         'whole': str,
         'flag': lambda flag: 'true' if flag else 'false',
-        'bytes': lambda octets: '<%s>' % octets.hex(),
+        'bytes': lambda octets: printed_bytes(octets, level),
         'real8': printed_real,
         'real4': lambda octets: printed_real(octets) + 'f',
         'moment': printed_date,

@@ -1,6 +1,5 @@
 -- Containers that are printed: their brackets and the lines between them.
 use Rattle.std.proofs.Common.{◌≡◌, ℕ, suc, ◌+◌, ◌<◌, List, [], ◌∷◌, ◌++◌, length, Result, Ok, Err, refl, ap, subst, ◌∙◌, arith, add-one}
-use Rattle.std.specs.Prelude.{codes}
 use Rattle.std.specs.List.{zip}
 use Rattle.std.specs.List.Sorted.{IsPermutation}
 use Rattle.plist_value.specs.Plist.{Scalar, text, Plist, scalar, list, table, Items, no_items, item, Pairs, no_pairs, pair, IsPlist, AreItems}
@@ -13,7 +12,7 @@ use Rattle.plist_engine.specs.Output.{State, Goes}
 use Rattle.plist_engine.proofs.Going.{Goes_then, Goes_stop, Goes_same}
 use Rattle.plist_engine.specs.Spelling.{SpellTable}
 use Rattle.plist_engine.proofs.Flat.{length-rows, length-keys}
-use Rattle.plist_print.specs.Printed.{indent, enclosed, printed_scalar, printed_at, printed_items, printed_pairs}
+use Rattle.plist_print.specs.Printed.{indent, enclosed, printed_line, printed_at, printed_items, printed_pairs}
 
 module _ (level left right : ℕ) (lines all : List ℕ) (is : enclosed level left right lines ≡ all) where
   -- it was refused at the opening bracket
@@ -70,11 +69,11 @@ table_brackets f keys values rows level ps as_many h spell =
     ap (λ n. enclosed level 123 125 (printed_pairs n ps)) (add-one level) ∙ table_filled f rows level ps (omega arith) spell.spell
 
 -- what is spelled where a scalar, a list or a table is held
-pub scalar_seen : (f : List ℕ) (i level : ℕ) (s : Scalar) (v : Plist) → Holds f i (holds_scalar s) → Spells f i v → printed_scalar s ++ codes "\n" ≡ printed_at level v
+pub scalar_seen : (f : List ℕ) (i level : ℕ) (s : Scalar) (v : Plist) → Holds f i (holds_scalar s) → Spells f i v → printed_line level s ≡ printed_at level v
 scalar_seen f i level s (scalar t) holds spells =
     let held = same_held f i (holds_scalar s) (holds_scalar t) holds spells in
     let same : s ≡ t = cc in
-    ap (λ x. printed_scalar x ++ codes "\n") same
+    ap (printed_line level) same
 scalar_seen f i level s (list vs) holds spells =
     absurd (let held = same_held f i (holds_scalar s) (holds_list spells.0) holds spells.1.0 in cc)
 scalar_seen f i level s (table ps) holds spells =

@@ -13,5 +13,10 @@ pub mod PrintSteps
 pub mod Enclosing
 pub mod Turns
 pub mod Plain
+pub mod DataLines
+pub mod Endings
+pub mod DataFronts
+pub mod ScalarFronts
 pub mod Fewest
 pub mod Padding
+pub mod TextBounds

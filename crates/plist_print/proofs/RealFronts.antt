@@ -102,7 +102,7 @@ after_5 l = tail_of (tail_of (tail_of (tail_of (tail_of l))))
 
 data-parts : (xs ys : List ℕ) (x y : List ℕ) → AreOctets xs → AreOctets ys → (flat_map two_digits xs ++ codes ">") ++ x ≡ (flat_map two_digits ys ++ codes ">") ++ y → (xs ≡ ys) × (x ≡ y)
 data-parts xs ys x y h k same =
-    data-front xs ys x y h k (sym (append_assoc (flat_map two_digits xs) (codes ">") x) ∙ same ∙ append_assoc (flat_map two_digits ys) (codes ">") y)
+    data-front 62 xs ys x y (omega arith) h k (sym (append_assoc (flat_map two_digits xs) (codes ">") x) ∙ same ∙ append_assoc (flat_map two_digits ys) (codes ">") y)
 
 shape-front : (a b : Shape) (c d : ℕ) (r s : List ℕ) → IsShape a → IsShape b → EndsDigits c → EndsDigits d → text_of a ++ (c ∷ r) ≡ text_of b ++ (d ∷ s) → (a ≡ b) × (c ∷ r ≡ d ∷ s)
 shape-front (as_decimal n k) (as_decimal m j) c d r s h g p q same =

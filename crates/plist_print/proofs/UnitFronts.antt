@@ -163,16 +163,18 @@ front-by (suc n) _ _ r s long h k (double u v us high low is) (double w x ws hig
 pub units-front : (us ws r s : List ℕ) → AreUnits us → AreUnits ws → printed_units us ++ (34 ∷ r) ≡ printed_units ws ++ (34 ∷ s) → (us ≡ ws) × (r ≡ s)
 units-front us ws r s h k same = front-by (length us) us ws r s (omega arith) h k (first us) (first ws) same
 
-digit-no_end : (d : ℕ) → d < 16 → digit_char d ≡ 62 → ⊥
-digit-no_end d h is = let e = digit_value-digit_char d (omega arith) in let f = ap digit_value is in omega arith
+-- an octet that is no digit
+pub digit-no_end : (e d : ℕ) → 16 ≤ digit_value e → d < 16 → digit_char d ≡ e → ⊥
+digit-no_end e d ends h is = let f = digit_value-digit_char d (omega arith) in let g = ap digit_value is in omega arith
 
-pub data-front : (xs ys r s : List ℕ) → AreOctets xs → AreOctets ys → flat_map two_digits xs ++ (62 ∷ r) ≡ flat_map two_digits ys ++ (62 ∷ s) → (xs ≡ ys) × (r ≡ s)
-data-front [] [] r s h k same = (refl, tails 62 62 r s same)
-data-front [] (y ∷ ys) r s h k same =
-    absurd (let b = k 0 in digit-no_end (y / 16) (omega arith) (sym (heads 62 (digit_char (y / 16)) _ _ same)))
-data-front (x ∷ xs) [] r s h k same =
-    absurd (let b = h 0 in digit-no_end (x / 16) (omega arith) (heads (digit_char (x / 16)) 62 _ _ same))
-data-front (x ∷ xs) (y ∷ ys) r s h k same =
-    let one = two-front x y (flat_map two_digits xs ++ (62 ∷ r)) (flat_map two_digits ys ++ (62 ∷ s)) (h 0) (k 0) same in
-    let rest = data-front xs ys r s (λ i. h (suc i)) (λ i. k (suc i)) one.1 in
+-- data up to the first octet that is no digit
+pub data-front : (e : ℕ) (xs ys r s : List ℕ) → 16 ≤ digit_value e → AreOctets xs → AreOctets ys → flat_map two_digits xs ++ (e ∷ r) ≡ flat_map two_digits ys ++ (e ∷ s) → (xs ≡ ys) × (r ≡ s)
+data-front e [] [] r s ends h k same = (refl, tails e e r s same)
+data-front e [] (y ∷ ys) r s ends h k same =
+    absurd (let b = k 0 in digit-no_end e (y / 16) ends (omega arith) (sym (heads e (digit_char (y / 16)) _ _ same)))
+data-front e (x ∷ xs) [] r s ends h k same =
+    absurd (let b = h 0 in digit-no_end e (x / 16) ends (omega arith) (heads (digit_char (x / 16)) e _ _ same))
+data-front e (x ∷ xs) (y ∷ ys) r s ends h k same =
+    let one = two-front x y (flat_map two_digits xs ++ (e ∷ r)) (flat_map two_digits ys ++ (e ∷ s)) (h 0) (k 0) same in
+    let rest = data-front e xs ys r s ends (λ i. h (suc i)) (λ i. k (suc i)) one.1 in
     (rw (one.0, rest.0) refl, rest.1)

@@ -1,7 +1,8 @@
 -- The printed text of a value.
-use Rattle.std.specs.Prelude.{ℕ, suc, ◌*◌, min, Bool, true, false, List, [], ◌∷◌, ◌++◌, replicate, codes}
+use Rattle.std.specs.Prelude.{ℕ, zero, suc, ◌+◌, ◌*◌, ◌/◌, min, Bool, true, false, nat_le, List, [], ◌∷◌, ◌++◌, length, take, drop, replicate, flat_map, codes, if◌then◌else◌}
 use Rattle.std.specs.Fmt.{signed_decimal}
 use Rattle.plist_value.specs.Plist.{Scalar, text, whole, flag, real4, real8, moment, bytes, Plist, scalar, list, table, Items, no_items, item, Pairs, no_pairs, pair}
+use Rattle.plist_value.specs.Digits.{two_digits}
 use Rattle.plist_print.specs.Units.{printed_data, printed_text}
 use Rattle.plist_print.specs.Reals.{single, double, printed_real}
 use Rattle.plist_print.specs.Dates.{printed_date}
@@ -10,6 +11,7 @@ abbrev pub printed_flag : Bool → List ℕ
 printed_flag true = codes "true"
 printed_flag false = codes "false"
 
+-- on one line
 abbrev pub printed_scalar : Scalar → List ℕ
 printed_scalar (text units) = printed_text units
 printed_scalar (whole z) = signed_decimal z
@@ -28,12 +30,33 @@ indent level = replicate (2 * min level 32) 32
 abbrev pub enclosed : ℕ → ℕ → ℕ → List ℕ → List ℕ
 enclosed level open_with close_with lines = open_with ∷ 10 ∷ (lines ++ (indent level ++ (close_with ∷ 10 ∷ [])))
 
+-- so many lines of 32 octets behind these blanks, the last with what is left
+abbrev pub data_lines : List ℕ → ℕ → List ℕ → List ℕ
+data_lines blanks zero xs = []
+data_lines blanks (suc lines) xs =
+    blanks ++ (flat_map two_digits (take 32 xs) ++ (10 ∷ data_lines blanks lines (drop 32 xs)))
+
+-- as many as the octets take
+abbrev pub octet_lines : List ℕ → List ℕ → List ℕ
+octet_lines blanks xs = data_lines blanks ((length xs + 31) / 32) xs
+
+-- Data: up to 32 octets on one line, more in lines of their own.
+abbrev pub printed_bytes : ℕ → List ℕ → List ℕ
+printed_bytes level xs =
+    if nat_le (length xs) 32 then printed_data xs ++ codes "\n"
+    else enclosed level 60 62 (octet_lines (indent (suc level)) xs)
+
+-- a scalar up to the end of its last line
+abbrev pub printed_line : ℕ → Scalar → List ℕ
+printed_line level (bytes xs) = printed_bytes level xs
+printed_line level s = printed_scalar s ++ codes "\n"
+
 -- A value up to the end of its last line, whose first line is indented by so many levels and has
 -- begun: a list is `[`, a line for each item, `]`; a table is `{`, a line for each key and value,
 -- `}`.
 abbrev mutual
   pub printed_at : ℕ → Plist → List ℕ
-  printed_at level (scalar s) = printed_scalar s ++ codes "\n"
+  printed_at level (scalar s) = printed_line level s
   printed_at level (list no_items) = codes "[]\n"
   printed_at level (list vs) = enclosed level 91 93 (printed_items (suc level) vs)
   printed_at level (table no_pairs) = codes "{}\n"

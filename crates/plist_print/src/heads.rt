@@ -1,52 +1,19 @@
 //! The parts of lines that stand before a value, and behind the lines of a container.
 ghost use Rattle.std.specs.Prelude.{◌≡◌, ◌∷◌, ◌++◌, [], codes, OnOk};
-ghost use Rattle.plist_value.specs.Scalars.{content_of};
 ghost use Rattle.plist_value.specs.Texts.{units_of};
 ghost use Rattle.plist_engine.specs.Output.{Goes, state_of};
 ghost use Rattle.plist_print.specs.Units.{printed_text};
-ghost use Rattle.plist_print.specs.Printed.{indent, printed_scalar};
+ghost use Rattle.plist_print.specs.Printed.{indent};
 ghost use Rattle.plist_print.specs.Printing.{pair_head};
 
-use crate::lines::{SHORT, is_long, print_scalar, print_text, put, put_scalar, settle};
+use crate::lines::{SHORT, print_text, put, settle};
 use crate::texts::put_text;
 use plist_engine::{Output, Sink, WriteFault};
-use plist_value::{ScalarRef, TextRef};
+use plist_value::TextRef;
 use std::alloc::AllocError;
 
 // Two blanks for each of 32 levels.
 static BLANKS: [u8; 64] = [b' '; 64];
-
-/// Sends the line of a scalar, or has it wait.
-pub(crate) fn print_line<W: Sink>(scalar: &ScalarRef, out: &mut Output<W>) -> Result<(), WriteFault>
-    ensures goes { Goes (printed_scalar (content_of scalar.now) ++ codes "\n")
-        (state_of W.Sink out.old) (state_of W.Sink out.new) result }
-{
-    if is_long(scalar) {
-        return print_long_line(scalar, out);
-    }
-    let Ok(()) = put_line(out.waiting, scalar) else {
-        return Err(WriteFault::OutOfMemory { sent: out.sent });
-    };
-    settle(out)
-}
-
-// Prints a scalar that is too long for one piece, and the end of its line.
-fn print_long_line<W: Sink>(scalar: &ScalarRef, out: &mut Output<W>) -> Result<(), WriteFault>
-    ensures goes { Goes (printed_scalar (content_of scalar.now) ++ codes "\n")
-        (state_of W.Sink out.old) (state_of W.Sink out.new) result }
-{
-    print_scalar(scalar, out)?;
-    put(b"\n", out)
-}
-
-// The scalar, and the end of its line.
-fn put_line(out: &mut Vec<u8>, scalar: &ScalarRef) -> Result<(), AllocError>
-    ensures { OnOk result (out.new.items
-        ≡ out.old.items ++ (printed_scalar (content_of scalar.now) ++ codes "\n")) }
-{
-    put_scalar(out, scalar)?;
-    Ok(out.push(b'\n')?)
-}
 
 /// Sends what stands before a value of a table, or has it wait.
 pub(crate) fn begin_pair<W: Sink>(
@@ -133,8 +100,8 @@ fn print_key<W: Sink>(key: &TextRef, out: &mut Output<W>) -> Result<(), WriteFau
     put(b" => ", out)
 }
 
-// The blanks before a line of this level.
-fn put_indent(out: &mut Vec<u8>, level: u64) -> Result<(), AllocError>
+/// The blanks before a line of this level.
+pub(crate) fn put_indent(out: &mut Vec<u8>, level: u64) -> Result<(), AllocError>
     ensures { OnOk result (out.new.items ≡ out.old.items ++ indent level) }
 {
     out.extend_from_slice(&BLANKS[..2 * level.min(32) as usize])

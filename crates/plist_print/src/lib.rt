@@ -3,6 +3,7 @@
 //! of scalars and of the value that a binary file spells.
 #![tactic(auto)]
 
+mod data;
 mod dates;
 mod digits;
 mod heads;

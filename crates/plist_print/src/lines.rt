@@ -1,20 +1,19 @@
 //! Scalars on their way to a sink.
-ghost use Rattle.std.specs.Prelude.{◌≡◌, ◌+◌, ◌≤◌, ◌^◌, ◌++◌, [], codes, flat_map, length, true};
+ghost use Rattle.std.specs.Prelude.{◌≡◌, ◌+◌, ◌≤◌, ◌^◌, ◌++◌, [], codes, length, true};
 ghost use Rattle.std.specs.Prelude.{IfErr, OnOk};
-ghost use Rattle.plist_value.specs.Plist.{bytes};
 ghost use Rattle.plist_value.specs.Scalars.{content_of};
 ghost use Rattle.plist_value.specs.Texts.{units_of};
 ghost use Rattle.plist_engine.specs.declared.faults.WriteFault.TheVariants.{OutOfMemory};
 ghost use Rattle.plist_engine.specs.Output.{Goes, state_of};
 ghost use Rattle.plist_engine.specs.Sending.{sent_of};
-ghost use Rattle.plist_value.specs.Digits.{two_digits};
-ghost use Rattle.plist_print.specs.Units.{printed_data, printed_text, printed_units};
-ghost use Rattle.plist_print.specs.Printed.{printed_scalar};
+ghost use Rattle.plist_print.specs.Units.{printed_text, printed_units};
+ghost use Rattle.plist_print.specs.Printed.{printed_line, printed_scalar};
 ghost use Rattle.plist_print.specs.Shown.{is_short};
 
+use crate::data::print_data;
 use crate::dates::put_date;
 use crate::reals::{put_double, put_single};
-use crate::texts::{put_chunk, put_data, put_some, put_text};
+use crate::texts::{put_some, put_text};
 use itoa::Buffer;
 use plist_engine::{Output, Sink, WriteFault};
 use plist_value::{ScalarRef, TextRef};
@@ -23,36 +22,51 @@ use std::alloc::AllocError;
 /// So many octets go out at once.
 const PIECE: usize = 4096;
 
-/// A text or data of so many units or octets goes into a piece whole.
+/// A text of so many units goes into a piece whole.
 pub(crate) const SHORT: usize = 256;
 
-/// Sends the text of a scalar, or has it wait. No piece is much longer than 4,096 octets.
+/// Sends a scalar up to the end of its last line, or has it wait. The line that it begins on is
+/// indented by so many levels. No piece is much longer than 4,096 octets.
 ///
 /// # Errors
 ///
 /// [`WriteFault::WriteFailed`] (51) where the sink fails, and [`WriteFault::OutOfMemory`] (60)
 /// where there is no memory for a piece, or where more than `u64::MAX` octets would go out.
-pub fn print_scalar<W: Sink>(scalar: &ScalarRef, out: &mut Output<W>) -> Result<(), WriteFault>
-    ensures goes { Goes (printed_scalar (content_of scalar.now))
+pub fn print_scalar<W: Sink>(
+    scalar: &ScalarRef,
+    level: u64,
+    out: &mut Output<W>,
+) -> Result<(), WriteFault>
+    ensures goes { Goes (printed_line level (content_of scalar.now))
         (state_of W.Sink out.old) (state_of W.Sink out.new) result }
 {
     match scalar {
-        ScalarRef::Text(text) => print_text(text, out),
-        ScalarRef::Bytes(octets) => print_data(octets, out),
+        ScalarRef::Text(text) => print_text_line(text, out),
+        ScalarRef::Bytes(octets) => print_data(octets, level, out),
         _ => print_short(scalar, out),
     }
 }
 
-// Sends a scalar that is neither a text nor data, or has it wait.
+// Sends the line of a scalar that is neither a text nor data, or has it wait.
 fn print_short<W: Sink>(scalar: &ScalarRef, out: &mut Output<W>) -> Result<(), WriteFault>
     requires short { is_short (content_of scalar.now) ≡ true }
-    ensures goes { Goes (printed_scalar (content_of scalar.now))
+    ensures goes { Goes (printed_scalar (content_of scalar.now) ++ codes "\n")
         (state_of W.Sink out.old) (state_of W.Sink out.new) result }
 {
-    let Ok(()) = put_short(out.waiting, scalar) else {
+    let Ok(()) = put_short_line(out.waiting, scalar) else {
         return Err(WriteFault::OutOfMemory { sent: out.sent });
     };
     settle(out)
+}
+
+// The line of a scalar that is neither a text nor data.
+fn put_short_line(out: &mut Vec<u8>, scalar: &ScalarRef) -> Result<(), AllocError>
+    requires { is_short (content_of scalar.now) ≡ true }
+    ensures { OnOk result (out.new.items
+        ≡ out.old.items ++ (printed_scalar (content_of scalar.now) ++ codes "\n")) }
+{
+    put_short(out, scalar)?;
+    Ok(out.push(b'\n')?)
 }
 
 // A scalar that is neither a text nor data.
@@ -81,25 +95,36 @@ fn put_short(out: &mut Vec<u8>, scalar: &ScalarRef) -> Result<(), AllocError>
     }
 }
 
-/// Whether the scalar is a text or data that is too long for one piece.
-pub(crate) fn is_long(scalar: &ScalarRef) -> bool {
-    match scalar {
-        ScalarRef::Text(text) => text.len() > SHORT,
-        ScalarRef::Bytes(octets) => octets.len() > SHORT,
-        _ => false,
+// Sends the line of a text, or has it wait.
+fn print_text_line<W: Sink>(text: &TextRef, out: &mut Output<W>) -> Result<(), WriteFault>
+    ensures goes { Goes (printed_text (units_of text.now) ++ codes "\n")
+        (state_of W.Sink out.old) (state_of W.Sink out.new) result }
+{
+    if text.len() > SHORT {
+        return print_long_text(text, out);
     }
+    let Ok(()) = put_text_line(out.waiting, text) else {
+        return Err(WriteFault::OutOfMemory { sent: out.sent });
+    };
+    settle(out)
 }
 
-/// The scalar, behind what `out` has.
-pub(crate) fn put_scalar(out: &mut Vec<u8>, scalar: &ScalarRef) -> Result<(), AllocError>
+// The line of a text.
+fn put_text_line(out: &mut Vec<u8>, text: &TextRef) -> Result<(), AllocError>
     ensures { OnOk result (out.new.items
-        ≡ out.old.items ++ printed_scalar (content_of scalar.now)) }
+        ≡ out.old.items ++ (printed_text (units_of text.now) ++ codes "\n")) }
 {
-    match scalar {
-        ScalarRef::Text(text) => put_text(out, text),
-        ScalarRef::Bytes(octets) => put_data(out, octets),
-        _ => put_short(out, scalar),
-    }
+    put_text(out, text)?;
+    Ok(out.push(b'\n')?)
+}
+
+// Sends the line of a text that is too long for one piece.
+fn print_long_text<W: Sink>(text: &TextRef, out: &mut Output<W>) -> Result<(), WriteFault>
+    ensures goes { Goes (printed_text (units_of text.now) ++ codes "\n")
+        (state_of W.Sink out.old) (state_of W.Sink out.new) result }
+{
+    print_text(text, out)?;
+    put(b"\n", out)
 }
 
 /// Sends the text between quotes, or has it wait.
@@ -129,31 +154,6 @@ fn print_units<W: Sink>(text: &TextRef, out: &mut Output<W>) -> Result<(), Write
         place = next;
     }
     put(b"\"", out)
-}
-
-// Sends the data, or has it wait.
-fn print_data<W: Sink>(octets: &[u8], out: &mut Output<W>) -> Result<(), WriteFault>
-    ensures goes { Goes (printed_data octets.now)
-        (state_of W.Sink out.old) (state_of W.Sink out.new) result }
-{
-    put(b"<", out)?;
-    print_digits(octets, out)
-}
-
-// The octets, and the bracket behind them.
-fn print_digits<W: Sink>(octets: &[u8], out: &mut Output<W>) -> Result<(), WriteFault>
-    ensures goes { Goes (flat_map two_digits octets.now ++ codes ">")
-        (state_of W.Sink out.old) (state_of W.Sink out.new) result }
-{
-    let mut left = octets;
-    while !left.is_empty() {
-        let Ok(behind) = put_chunk(out.waiting, left) else {
-            return Err(WriteFault::OutOfMemory { sent: out.sent });
-        };
-        settle(out)?;
-        left = behind;
-    }
-    put(b">", out)
 }
 
 /// Sends a few octets, or has them wait.

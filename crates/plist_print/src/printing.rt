@@ -15,9 +15,9 @@ ghost use Rattle.plist_print.specs.Known.{IsSeen};
 ghost use Rattle.plist_print.specs.Printed.{printed, printed_at, printed_items, printed_pairs};
 ghost use Rattle.plist_print.specs.Printing.{PairsWithin, TableWithin, item_lines, pair_lines};
 
-use crate::heads::{begin_line, begin_pair, end_lines, print_line};
+use crate::heads::{begin_line, begin_pair, end_lines};
 use crate::known::Seen;
-use crate::lines::{put, send_all};
+use crate::lines::{print_scalar, put, send_all};
 use plist_engine::objects::object_of;
 use plist_engine::order::push_sorted;
 use plist_engine::{Output, Sink, WriteFault};
@@ -96,7 +96,7 @@ impl<'a> Printer<'a> {
         ensures seen { OnOk result (IsSeen (octets_of self.now.file) seen.new) }
     {
         match object_of(&self.file, object) {
-            Object::Scalar(scalar) => print_line(&scalar, out),
+            Object::Scalar(scalar) => print_scalar(&scalar, level, out),
             Object::List(items) => self.list(seen, &items, level, out),
             Object::Table(keys, values) => self.table(seen, &keys, &values, level, out),
         }

@@ -1,32 +1,16 @@
-//! Texts and data as they are printed.
+//! Texts as they are printed.
 ghost use Rattle.std.specs.Prelude.{◌≡◌, ◌+◌, ◌*◌, ◌<◌, ◌≤◌, ◌∷◌, ◌++◌, ◌/◌, ◌%◌, ◌==◌, ℕ, List, codes};
-ghost use Rattle.std.specs.Prelude.{false, IsTrue, IfOk, OnOk, length, take, drop, flat_map};
+ghost use Rattle.std.specs.Prelude.{false, IsTrue, IfOk, OnOk, length, take, drop};
 ghost use Rattle.std.specs.Char.{encode_utf8};
 ghost use Rattle.plist_value.specs.Texts.{units_of};
 ghost use Rattle.plist_value.specs.Digits.{two_digits};
 ghost use Rattle.plist_print.specs.Shown.{Puts};
-ghost use Rattle.plist_print.specs.Units.{printed_data, printed_text, printed_unit};
+ghost use Rattle.plist_print.specs.Units.{printed_text, printed_unit};
 ghost use Rattle.plist_print.specs.Units.{printed_units};
 
 use crate::unseen::{seen_pair, seen_unit};
-use plist_value::{TextRef, digits_of, put_digits};
+use plist_value::{TextRef, digits_of};
 use std::alloc::AllocError;
-
-// So many octets of data are printed at once.
-const CHUNK: usize = 1024;
-
-/// Some of the octets, from the first on, as digits behind what `out` has. It answers those behind
-/// them.
-pub(crate) fn put_chunk<'a>(out: &mut Vec<u8>, octets: &'a [u8]) -> Result<&'a [u8], AllocError>
-    requires { 0 < length octets.now }
-    ensures octets { IfOk result (λ left. Puts out.old.items out.new.items
-        (flat_map two_digits octets.entry.now) (flat_map two_digits left.now)) }
-    ensures shorter { IfOk result (λ left. length left.now < length octets.entry.now) }
-{
-    let (front, left) = octets.split_at(octets.len().min(CHUNK));
-    put_digits(out, front)?;
-    Ok(left)
-}
 
 /// The text between quotes, behind what `out` has.
 pub(crate) fn put_text(out: &mut Vec<u8>, text: &TextRef) -> Result<(), AllocError>
@@ -62,15 +46,6 @@ fn put_each(out: &mut Vec<u8>, text: &TextRef) -> Result<(), AllocError>
         }
     }
     Ok(())
-}
-
-/// The data between brackets, behind what `out` has.
-pub(crate) fn put_data(out: &mut Vec<u8>, octets: &[u8]) -> Result<(), AllocError>
-    ensures { OnOk result (out.new.items ≡ out.old.items ++ printed_data octets.now) }
-{
-    out.push(b'<')?;
-    put_digits(out, octets)?;
-    Ok(out.push(b'>')?)
 }
 
 /// Some of the units from the place on, behind what `out` has: a run of those that are printed as

@@ -65,7 +65,7 @@ value-table-requires g t c κs within =
 pub value-returns-in-Scalar-clause-goes : goal.value-returns-in-Scalar-clause-goes
 value-returns-in-Scalar-clause-goes g t c = λ v valid spells.
     let f = octets_of c.args.self.now.file in
-    Goes_same _ (printed_at c.args.level v) (state_of g.W.Sink c.args.out.now) (state_of g.W.Sink c.print_line.new.out) c.print_line.result (scalar_seen f c.args.object c.args.level (content_of c.in-Scalar.scalar) v c.in-Scalar.ensures.holds spells) c.print_line.ensures.goes
+    Goes_same _ (printed_at c.args.level v) (state_of g.W.Sink c.args.out.now) (state_of g.W.Sink c.print_scalar.new.out) c.print_scalar.result (scalar_seen f c.args.object c.args.level (content_of c.in-Scalar.scalar) v c.in-Scalar.ensures.holds spells) c.print_scalar.ensures.goes
 
 pub value-returns-in-List-clause-goes : goal.value-returns-in-List-clause-goes
 value-returns-in-List-clause-goes g t c = λ v valid spells.

@@ -1,14 +1,13 @@
 use Rattle.std.proofs.Common.{◌≡◌, ℕ, List, ◌++◌, length, Ok}
-use Rattle.std.specs.Prelude.{flat_map}
 use Rattle.plist_engine.specs.Output.{Goes, state_of}
-use Rattle.plist_value.specs.Digits.{two_digits}
-use Rattle.plist_print.proofs.lines.print_digits.Given as goal
+use Rattle.plist_print.specs.Printed.{indent, octet_lines}
+use Rattle.plist_print.proofs.data.print_lines.Given as goal
 
 -- those that are done and those that are left are all
 abbrev pub invariant-loop-left : goal.invariant-loop-left
 invariant-loop-left g l = record {
   done : List ℕ;
-  split : done ++ flat_map two_digits l.left ≡ flat_map two_digits l.octets;
+  split : done ++ octet_lines (indent l.level) l.left ≡ octet_lines (indent l.level) l.octets;
   goes : Goes {T = Unit {0}} done (state_of g.W.Sink l.fn.out) (state_of g.W.Sink l.out) (Ok tt);
 }
 

@@ -1,0 +1,65 @@
+-- Data in lines of 32 octets.
+use Rattle.std.proofs.Common.{◌≡◌, ℕ, suc, ◌+◌, ◌-◌, ◌*◌, ◌/◌, ◌<◌, ◌≤◌, min, List, ◌++◌, length, take, drop, replicate, refl, sym, ap, ◌∙◌, arith, inl, inr, append_assoc, length-drop}
+use Rattle.std.specs.Prelude.{codes, flat_map, nat_le, if◌then◌else◌}
+use Rattle.std.proofs.lemmas.Bool.{cases_lt}
+use Rattle.std.proofs.lemmas.List.{take_all, drop_all}
+use Rattle.plist_value.specs.Digits.{two_digits}
+use Rattle.plist_print.specs.Shown.{Puts}
+use Rattle.plist_print.specs.Printed.{indent, enclosed, data_lines, octet_lines, printed_bytes}
+use Rattle.plist_print.proofs.Compared.{le-tells, le-denied}
+
+-- one line of data
+abbrev pub data_line : List ℕ → List ℕ → List ℕ
+data_line blanks xs = blanks ++ (flat_map two_digits xs ++ codes "\n")
+
+pub count-more : (xs : List ℕ) → 0 < length xs → (length xs + 31) / 32 ≡ suc ((length (drop 32 xs) + 31) / 32)
+count-more xs some =
+    let left : length (drop 32 xs) ≡ length xs - 32 = length-drop 32 xs in omega (arith, left)
+
+-- the first line, and the others
+pub lines-first : (blanks xs : List ℕ) → 0 < length xs → octet_lines blanks xs ≡ data_line blanks (take 32 xs) ++ octet_lines blanks (drop 32 xs)
+lines-first blanks xs some =
+    let rest = octet_lines blanks (drop 32 xs) in
+    let digits = flat_map two_digits (take 32 xs) in
+    ap (λ n. data_lines blanks n xs) (count-more xs some)
+    ∙ sym (append_assoc blanks (digits ++ codes "\n") rest ∙ ap (λ t. blanks ++ t) (append_assoc digits (codes "\n") rest))
+
+take-least : (xs : List ℕ) → take (min (length xs) 32) xs ≡ take 32 xs
+take-least xs = elim (cases_lt 32 (length xs)) [
+  | inl long ↦ (let is : min (length xs) 32 ≡ 32 = omega arith in ap (λ n. take n xs) is)
+  | inr short ↦ (
+      let is : min (length xs) 32 ≡ length xs = omega arith in
+      ap (λ n. take n xs) is ∙ take_all (length xs) xs (omega arith) ∙ sym (take_all 32 xs short)
+      )
+]
+
+drop-least : (xs : List ℕ) → drop (min (length xs) 32) xs ≡ drop 32 xs
+drop-least xs = elim (cases_lt 32 (length xs)) [
+  | inl long ↦ (let is : min (length xs) 32 ≡ 32 = omega arith in ap (λ n. drop n xs) is)
+  | inr short ↦ (
+      let is : min (length xs) 32 ≡ length xs = omega arith in
+      ap (λ n. drop n xs) is ∙ drop_all (length xs) xs (omega arith) ∙ sym (drop_all 32 xs short)
+      )
+]
+
+-- the line of the first octets was put
+pub puts-line : (blanks old new xs front left : List ℕ) → 0 < length xs → front ≡ take (min (length xs) 32) xs → left ≡ drop (min (length xs) 32) xs → new ≡ old ++ data_line blanks front → Puts old new (octet_lines blanks xs) (octet_lines blanks left)
+puts-line blanks old new xs front left some is rest put = record {
+  piece = data_line blanks front;
+  put = put;
+  split =
+      lines-first blanks xs some ∙ ap (λ t. data_line blanks t ++ octet_lines blanks (drop 32 xs)) (sym (is ∙ take-least xs))
+      ∙ ap (λ t. data_line blanks front ++ octet_lines blanks t) (sym (rest ∙ drop-least xs));
+}
+
+pub if-told : (xs ys : List ℕ) (a b : ℕ) → a ≤ b → (if nat_le a b then xs else ys) ≡ xs
+if-told xs ys a b h = rw (le-tells a b h) refl
+
+pub if-denied : (xs ys : List ℕ) (a b : ℕ) → b < a → (if nat_le a b then xs else ys) ≡ ys
+if-denied xs ys a b h = rw (le-denied a b h) refl
+
+-- data of more than 32 octets is between brackets on lines of their own
+pub bytes-enclosed : (level : ℕ) (xs : List ℕ) → 32 < length xs → enclosed level 60 62 (octet_lines (indent (min level 32 + 1)) xs) ≡ printed_bytes level xs
+bytes-enclosed level xs long =
+    let same : min (min level 32 + 1) 32 ≡ min (suc level) 32 = omega arith in
+    ap (λ n. enclosed level 60 62 (octet_lines (replicate (2 * n) 32) xs)) same ∙ sym (if-denied _ _ (length xs) 32 long)

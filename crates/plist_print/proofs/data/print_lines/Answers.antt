@@ -1,0 +1,56 @@
+use Rattle.std.proofs.Common.{◌≡◌, ℕ, List, [], ◌∷◌, ◌++◌, length, refl, sym, ap, ◌∙◌, arith, rules}
+use Rattle.std.proofs.lemmas.Bool.Decides.{nat_tests}
+use Rattle.std.proofs.lemmas.List.{append-nil}
+use Rattle.std.proofs.lemmas.Result.{err_from_is_err_and}
+use Rattle.plist_engine.specs.Output.{state_of}
+use Rattle.plist_engine.proofs.Going.{Goes_same}
+use Rattle.plist_print.specs.Printed.{indent, octet_lines}
+use Rattle.plist_print.proofs.Steps.{piece-split, piece-settled, piece-stops, no_piece}
+use Rattle.plist_print.proofs.data.print_lines.Goals as goal
+
+pub returns-in_default : goal.returns-in_default
+returns-in_default g c =
+    let all = octet_lines (indent c.args.level) c.args.octets.now in
+    let l = c.loop-left in
+    let p = state_of g.W.Sink c.args.out.now in
+    let q = state_of g.W.Sink l.out in
+    let items = c.put_front.new.out.items in
+    record { goes = no_piece l.invariant.done (octet_lines (indent c.args.level) l.left.now) all items p q l.invariant.split l.invariant.goes }
+
+pub returns-in_err-settle : goal.returns-in_err-settle
+returns-in_err-settle g c =
+    let e = err_from_is_err_and c.from_residual.result c.from_residual.ensures.1 in
+    let all = octet_lines (indent c.args.level) c.args.octets.now in
+    let l = c.loop-left in
+    let p = state_of g.W.Sink c.args.out.now in
+    let q = state_of g.W.Sink l.out in
+    let r = state_of g.W.Sink c.settle.new.out in
+    rw (e.1, e.2) (record { goes = piece-stops l.invariant.done (octet_lines (indent c.args.level) l.left.now) (octet_lines (indent c.args.level) c.in-Ok.behind.now) all c.put_front.new.out.items p q l.invariant.split l.invariant.goes c.in-Ok.ensures.octets r _ c.in_err-settle.ensures.goes })
+
+pub loop-left-preserved : goal.loop-left-preserved
+loop-left-preserved g c =
+    let all = octet_lines (indent c.args.level) c.args.octets.now in
+    let l = c.loop-left in
+    let p = state_of g.W.Sink c.args.out.now in
+    let q = state_of g.W.Sink l.out in
+    let puts = c.in-Ok.ensures.octets in
+    record {
+      done = l.invariant.done ++ puts.piece;
+      split = piece-split l.invariant.done (octet_lines (indent c.args.level) l.left.now) (octet_lines (indent c.args.level) c.in-Ok.behind.now) all c.put_front.new.out.items p q l.invariant.split l.invariant.goes puts;
+      goes = piece-settled l.invariant.done (octet_lines (indent c.args.level) l.left.now) (octet_lines (indent c.args.level) c.in-Ok.behind.now) all c.put_front.new.out.items p q l.invariant.split l.invariant.goes puts (state_of g.W.Sink c.settle.new.out) _ c.in_ok-settle.ensures.goes;
+    }
+
+empty : (xs : List ℕ) → length xs ≡ 0 → xs ≡ []
+empty [] e = refl
+empty (x ∷ xs) e = absurd (omega arith)
+
+pub returns : goal.returns
+returns g c =
+    let all = octet_lines (indent c.args.level) c.args.octets.now in
+    let l = c.loop-left in
+    let none : length l.left.now ≡ 0 = first_of (search rules, grind (arith, nat_tests)) in
+    let gone : octet_lines (indent c.args.level) l.left.now ≡ [] = ap (octet_lines (indent c.args.level)) (empty l.left.now none) in
+    let whole : l.invariant.done ≡ all = sym (append-nil l.invariant.done) ∙ ap (λ os. l.invariant.done ++ os) (sym gone) ∙ l.invariant.split in
+    let p = state_of g.W.Sink c.args.out.now in
+    let q = state_of g.W.Sink l.out in
+    record { goes = Goes_same l.invariant.done all p q _ whole l.invariant.goes }

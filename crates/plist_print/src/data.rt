@@ -1,0 +1,98 @@
+//! Data on its way to a sink.
+ghost use Rattle.std.specs.Prelude.{◌≡◌, ◌<◌, ◌++◌, codes, flat_map, length, IfOk, OnOk};
+ghost use Rattle.plist_value.specs.Digits.{two_digits};
+ghost use Rattle.plist_engine.specs.Output.{Goes, state_of};
+ghost use Rattle.plist_print.specs.Units.{printed_data};
+ghost use Rattle.plist_print.specs.Printed.{indent, octet_lines, printed_bytes};
+ghost use Rattle.plist_print.specs.Shown.{Puts};
+
+use crate::heads::{end_lines, put_indent};
+use crate::lines::{put, settle};
+use plist_engine::{Output, Sink, WriteFault};
+use plist_value::put_digits;
+use std::alloc::AllocError;
+
+// The most octets of data on a line.
+const LINE: usize = 32;
+
+/// Sends data up to the end of its last line, or has it wait. The line that it begins on is
+/// indented by so many levels.
+pub(crate) fn print_data<W: Sink>(
+    octets: &[u8],
+    level: u64,
+    out: &mut Output<W>,
+) -> Result<(), WriteFault>
+    ensures goes { Goes (printed_bytes level octets.now)
+        (state_of W.Sink out.old) (state_of W.Sink out.new) result }
+{
+    if octets.len() > LINE {
+        return print_long_data(octets, level, out);
+    }
+    let Ok(()) = put_short_data(out.waiting, octets) else {
+        return Err(WriteFault::OutOfMemory { sent: out.sent });
+    };
+    settle(out)
+}
+
+// The line of data between brackets.
+fn put_short_data(out: &mut Vec<u8>, octets: &[u8]) -> Result<(), AllocError>
+    ensures { OnOk result (out.new.items
+        ≡ out.old.items ++ (printed_data octets.now ++ codes "\n")) }
+{
+    out.push(b'<')?;
+    put_digits(out, octets)?;
+    out.extend_from_slice(b">\n")
+}
+
+// Sends data that takes several lines.
+fn print_long_data<W: Sink>(
+    octets: &[u8],
+    level: u64,
+    out: &mut Output<W>,
+) -> Result<(), WriteFault>
+    requires { 32 < length octets.now }
+    ensures goes { Goes (printed_bytes level octets.now)
+        (state_of W.Sink out.old) (state_of W.Sink out.new) result }
+{
+    put(b"<\n", out)?;
+    print_lines(octets, level.min(32) + 1, out)?;
+    end_lines(level, b'>', out)
+}
+
+// Sends the lines of data between its brackets, or has them wait.
+fn print_lines<W: Sink>(octets: &[u8], level: u64, out: &mut Output<W>) -> Result<(), WriteFault>
+    ensures goes { Goes (octet_lines (indent level) octets.now)
+        (state_of W.Sink out.old) (state_of W.Sink out.new) result }
+{
+    let mut left = octets;
+    while !left.is_empty() {
+        let Ok(behind) = put_front(out.waiting, level, left) else {
+            return Err(WriteFault::OutOfMemory { sent: out.sent });
+        };
+        settle(out)?;
+        left = behind;
+    }
+    Ok(())
+}
+
+// The line of the first octets. It answers those behind them.
+fn put_front<'a>(out: &mut Vec<u8>, level: u64, octets: &'a [u8]) -> Result<&'a [u8], AllocError>
+    requires { 0 < length octets.now }
+    ensures octets { IfOk result (λ left. Puts out.old.items out.new.items
+        (octet_lines (indent level) octets.entry.now) (octet_lines (indent level) left.now)) }
+    ensures shorter { IfOk result (λ left. length left.now < length octets.entry.now) }
+{
+    let (front, left) = octets.split_at(octets.len().min(LINE));
+    put_line(out, level, front)?;
+    Ok(left)
+}
+
+// A line of data.
+fn put_line(out: &mut Vec<u8>, level: u64, octets: &[u8]) -> Result<(), AllocError>
+    ensures { OnOk result (out.new.items
+        ≡ out.old.items ++ (indent level ++ (flat_map two_digits octets.now ++ codes "\n"))) }
+{
+    put_indent(out, level)?;
+    put_digits(out, octets)?;
+    Ok(out.push(b'\n')?)
+}
