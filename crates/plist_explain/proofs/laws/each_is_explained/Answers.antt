@@ -1,0 +1,8 @@
+use Rattle.plist_explain.proofs.Covered.{explains_refusals, explains_rules}
+use Rattle.plist_explain.proofs.laws.each_is_explained.Goals as goal
+
+pub returns-clause-refusals : goal.returns-clause-refusals
+returns-clause-refusals c = explains_refusals
+
+pub returns-clause-rules : goal.returns-clause-rules
+returns-clause-rules c = explains_rules

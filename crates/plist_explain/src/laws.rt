@@ -1,0 +1,8 @@
+//! That the table leaves nothing out.
+ghost use Rattle.plist_explain.specs.Topics.{ExplainsRefusals, ExplainsRules};
+
+/// Each refusal is explained by its number and by its name, and each rule by its own.
+pub fn each_is_explained()
+    ensures refusals { ExplainsRefusals }
+    ensures rules { ExplainsRules }
+{}

@@ -1,0 +1,399 @@
+//! The texts: one for each refusal, in the order of their numbers, then one for each rule of
+//! canonical files. No line has more than 79 columns.
+
+use crate::topics::{Subject, Topic};
+use plist_value::Refusal;
+
+/// Every topic.
+pub(crate) static TOPICS: [Topic; 43] = [
+    (
+        Subject::Refusal(Refusal::TooShort),
+        "fewer than 42 bytes, too few for a binary property list",
+        "\
+The smallest binary property list has 42 bytes: this file was cut off, or it is
+something else. `check` reads every file as binary and answers this for a short
+OpenStep text or XML file too, since these have no canonical form of their own.
+To see what such a file is:
+  plistconv lint FILE",
+    ),
+    (
+        Subject::Refusal(Refusal::BadHeader),
+        "the file does not begin with bplist00",
+        "\
+A binary property list begins with the 8 bytes bplist00. `check` reads every
+file as binary and answers this for an OpenStep text or XML file, since these
+have no canonical form of their own. To see what such a file is, and to write
+the canonical file of a text:
+  plistconv lint FILE
+  plistconv convert binary1 FILE OUT",
+    ),
+    (
+        Subject::Refusal(Refusal::BadTrailer),
+        "the last 32 bytes do not fit the file",
+        "\
+The last 32 bytes, the trailer, say how many objects the file has, which one is
+the top, and where the table of their offsets is. Here this does not fit the
+length of the file, for example because bytes are missing at the end or were
+added there. Fetch the file again; a transfer as text damages it.",
+    ),
+    (
+        Subject::Refusal(Refusal::BadOffset),
+        "an object does not begin where objects can be",
+        "\
+Objects are between the 8 bytes of the header and the offset table. The object
+named, counted from 0 in that table, is said to begin elsewhere: after the end
+of the file, say. The file is damaged, or the program that wrote it has a bug.
+Fetch the file again, or write it again with another program.",
+    ),
+    (
+        Subject::Refusal(Refusal::BadReference),
+        "an array or dictionary refers to an object that is not there",
+        "\
+Arrays and dictionaries refer to what they contain by number. The one named
+refers to a number that no object has: 5, say, in a file of 5 objects, which
+are 0 to 4. The file is damaged, or the program that wrote it has a bug. Fetch
+the file again, or write it again with another program.",
+    ),
+    (
+        Subject::Refusal(Refusal::CutObject),
+        "an object is longer than what is left for it",
+        "\
+The object named reaches past the end of all objects: a string that should have
+100 characters, say, of which only 20 are there. The file is damaged, or the
+program that wrote it has a bug. Fetch the file again, or write it again with
+another program.",
+    ),
+    (
+        Subject::Refusal(Refusal::BadMarker),
+        "an object is of no kind that the format has",
+        "\
+The first byte of an object says what it is: 10 is an integer, 51 a string of
+one character. That of the object named is none of those: 7f, say. Or a length
+follows it and is no integer. The file is damaged, or the program that wrote it
+has a bug. Fetch the file again, or write it again with another program.",
+    ),
+    (
+        Subject::Refusal(Refusal::NullObject),
+        "the file has a null, which is no property list value",
+        "\
+A null stands for a value that is missing. Binary files can have one, but no
+other form of property lists can, and plistconv reads none. In the program that
+writes the file, leave the key out, or write an empty string or false.",
+    ),
+    (
+        Subject::Refusal(Refusal::UidObject),
+        "the file is a keyed archive: it has a UID",
+        "\
+NSKeyedArchiver writes such files, with the keys $archiver and $objects. A UID
+is how one object of the archive refers to another, and no property list value,
+so plistconv reads none. Two archives can differ and yet contain equal objects:
+compare them in the program that reads them. On macOS, to look into one:
+  plutil -p FILE",
+    ),
+    (
+        Subject::Refusal(Refusal::SetObject),
+        "the file has a set, which is no property list value",
+        "\
+A set is an array without an order. Binary files can have one, but no other
+form of property lists can, and plistconv reads none. In the program that
+writes the file, write an array, sorted so that equal sets are equal files.",
+    ),
+    (
+        Subject::Refusal(Refusal::NotAscii),
+        "a string that should be ASCII has a byte above 7f",
+        "\
+A binary file has its strings in ASCII or in UTF-16. The one named says that it
+is ASCII, but has a byte that is not: e9, say, an accented letter of Latin-1.
+The program that wrote the file has a bug: such a string belongs in UTF-16.
+Write the file again with another program.",
+    ),
+    (
+        Subject::Refusal(Refusal::WideInteger),
+        "an integer of 16 bytes is out of range",
+        "\
+Integers go from -2^63 to 2^64 - 1. In 16 bytes only those from 0 are written,
+so the first eight bytes are zero; in the object named they are not. It is 2^64
+or more, or negative in a form that is not read. In the program that writes the
+file, write a number out of range as a string.",
+    ),
+    (
+        Subject::Refusal(Refusal::KeyNotText),
+        "a key of a dictionary is not a string",
+        "\
+In a binary file a key can be any object, but only strings can be keys of a
+property list. The dictionary named has another one: the integer 1, say. In the
+program that writes the file, turn its keys into strings: \"1\".",
+    ),
+    (
+        Subject::Refusal(Refusal::DuplicateKey),
+        "a dictionary has the same key twice",
+        "\
+As in { a = 1; b = 2; a = 3; }: programs differ on which value counts, so leave
+only one. In a text `plistconv-where FILE OFFSET` shows the line of the second
+key. For a binary file this prints each key that is there again:
+  python3 -c 'import plistlib, sys
+  class Keys(dict):
+    __setitem__ = lambda d, k, v: print(k) if k in d else d.update({k: v})
+  plistlib.load(open(sys.argv[1], \"rb\"), dict_type=Keys)' FILE",
+    ),
+    (
+        Subject::Refusal(Refusal::Cycle),
+        "an array or dictionary contains itself",
+        "\
+A reference leads from what is inside an array or dictionary back to it: object
+0 is an array, say, whose only item is object 0. Such a value has no end. The
+file is damaged, or was made to do harm: do not open it with other programs.",
+    ),
+    (
+        Subject::Refusal(Refusal::TooDeep),
+        "the value is more than 512 levels deep",
+        "\
+A string alone is one level, an array of strings two, an array of such arrays
+three. More than 512 are a sign of a program that went astray, or of a file
+made to do harm. In a program of your own, write one long array of items that
+name their parents, not items within items.",
+    ),
+    (
+        Subject::Refusal(Refusal::TooManyNodes),
+        "the value has more than 16,777,216 nodes",
+        "\
+Each key, string, number, array and so on is a node. What a binary file has
+once and refers to many times counts each time, so that even a small file, made
+to do harm, can pass the limit. Split a large property list into several.",
+    ),
+    (
+        Subject::Refusal(Refusal::TooMuchPayload),
+        "more than 1,073,741,824 bytes of strings and data",
+        "\
+Each UTF-16 unit of a string or key counts as two bytes, each byte of data as
+one. What a binary file has once and refers to many times counts each time.
+Keep long data in files of their own, and write the names of these files.",
+    ),
+    (
+        Subject::Refusal(Refusal::BadUtf8),
+        "the text is not in UTF-8",
+        "\
+A text is read as UTF-8, or as UTF-16 if it begins with a byte order mark. At
+the byte named there is no character of UTF-8. Old texts are often in Latin-1
+or MacRoman: try both, and keep the one whose letters are right. A picture, or
+any other file that is no property list, is refused like this too.
+  iconv -f LATIN1 -t UTF-8 FILE > OUT
+  iconv -f MACINTOSH -t UTF-8 FILE > OUT",
+    ),
+    (
+        Subject::Refusal(Refusal::XmlForm),
+        "an XML property list, which has to be made binary first",
+        "\
+plistconv does not read XML. Each of these makes the file binary; use the same
+one always, since plistutil makes 2.5 a real of 4 bytes, the others one of 8:
+  plutil -convert binary1 -o OUT FILE
+  plistutil -i FILE -f bin -o OUT
+  plistconv-canonicalise --from-xml - < FILE > OUT",
+    ),
+    (
+        Subject::Refusal(Refusal::UnexpectedCharacter),
+        "a character that is not allowed outside quotes",
+        "\
+A string needs quotes if it has other characters than ASCII letters and digits
+and _ $ / : . - as in name = \"Tea + milk\"; and the quotes are straight ones.
+JSON, with its [ and ], is none of the forms that are read: have a program that
+reads JSON write a binary property list, as this does on macOS:
+  plutil -convert binary1 -o OUT FILE",
+    ),
+    (
+        Subject::Refusal(Refusal::UnclosedString),
+        "a quoted string has no end",
+        "\
+The string begins with the quote at the byte named, \" or ', and ends at the
+next one of the same kind. A quote after a backslash does not end it, so that
+\"C:\\\" goes on: write \"C:\\\\\" for a backslash at the end. To see the line:
+  plistconv-where FILE OFFSET",
+    ),
+    (
+        Subject::Refusal(Refusal::UnclosedComment),
+        "a comment has no end",
+        "\
+The comment begins with the /* at the byte named, and ends at the next */, but
+there is none. Add it, or put quotes around a string that begins with /*.",
+    ),
+    (
+        Subject::Refusal(Refusal::BadEscape),
+        "no hexadecimal digit follows \\U",
+        "\
+In quotes \\U and up to four hexadecimal digits are a character: \\U20ac is the
+euro sign. In \"C:\\Users\" no digit follows: write a backslash as two, as in
+\"C:\\\\Users\".",
+    ),
+    (
+        Subject::Refusal(Refusal::OctalRange),
+        "an octal escape is above \\177",
+        "\
+In quotes a backslash and up to three octal digits are an ASCII character:
+\\101 is A. Above \\177 programs differ on what they mean. Write \\U and the
+digits of the character in Unicode: \\U00e9 for an e with an acute accent.",
+    ),
+    (
+        Subject::Refusal(Refusal::OddData),
+        "a hexadecimal digit of data is alone",
+        "\
+Data is written between < and > with two digits for each byte, as <0a1b 2c>. In
+<0a1> the 1 has no second digit: write <0a01> or <0a10>, whichever is meant. A
+blank may be between two bytes, but not between the digits of one.",
+    ),
+    (
+        Subject::Refusal(Refusal::BadData),
+        "data has something other than hexadecimal digits, or no end",
+        "\
+Data is written between < and > with two digits for each byte, as <0a1b 2c>. A
+string that begins with < needs quotes: \"<none>\". HTML is no property list, and
+numbers that GNUstep writes as <*I5> are not read.",
+    ),
+    (
+        Subject::Refusal(Refusal::Expected),
+        "something else has to be here, or the text ends too early",
+        "\
+Mostly a ; is missing just before, or a } or ) at the end. A dictionary has a ;
+after each value, an array a comma between items:
+  { name = Anna; languages = (en, fr); }
+JSON, with its : and , in dictionaries, is none of the forms that are read:
+have a program that reads JSON write a binary property list.",
+    ),
+    (
+        Subject::Refusal(Refusal::Junk),
+        "the text goes on after the end of its value",
+        "\
+A text is one value, and there is more after it: a } too many, say, or a second
+value, which belongs in a file of its own. A string of several words needs
+quotes: \"two words\". A file that is no property list is refused like this too.",
+    ),
+    (
+        Subject::Refusal(Refusal::BadUtf16),
+        "the text begins like UTF-16 but is not",
+        "\
+It begins with a byte order mark, ff fe or fe ff, so that two bytes are a unit.
+At the byte named one byte is left over, or half of a pair of surrogates is
+alone: the file was cut off, or is in another encoding after a mark that does
+not belong there. Fetch it again.",
+    ),
+    (
+        Subject::Refusal(Refusal::NotInOpenStep),
+        "the value has a kind that OpenStep texts cannot hold",
+        "\
+An OpenStep text holds strings, data, arrays and dictionaries. It has no way to
+write integers, reals, dates, true and false. To see which of them there are,
+and to keep them in a binary file:
+  plistconv print FILE
+  plistconv convert binary1 FILE OUT",
+    ),
+    (
+        Subject::Refusal(Refusal::ReadFailed),
+        "a file cannot be opened or read",
+        "\
+There is no such file, it is a folder, you may not read it, or the device
+fails. This says which:
+  cat FILE > /dev/null
+In an app, which is a folder, the file is mostly Contents/Info.plist. A name
+that begins with a dash is given as ./-name, standard input as /dev/stdin.",
+    ),
+    (
+        Subject::Refusal(Refusal::WriteFailed),
+        "the output cannot be opened or written",
+        "\
+OUT is a folder, is in a folder that is not there, you may not write it, the
+disk is full, or nothing reads the pipe any more. These say which:
+  touch OUT
+  df OUT
+OUT has the first bytes, as many as the line says, and no more: delete it.",
+    ),
+    (
+        Subject::Refusal(Refusal::InputTooLarge),
+        "the input has more than 4,294,967,295 bytes",
+        "\
+That is one byte less than 4 GiB. A device without an end, such as /dev/zero,
+is refused like this too. Split a large property list into several, or keep
+long data in files of their own and write the names of these files.",
+    ),
+    (
+        Subject::Refusal(Refusal::OutOfMemory),
+        "out of memory, which says nothing about the input",
+        "\
+The same file may be accepted where there is more memory. Most files need one
+to three times their size, texts of very many short items much more. Raise the
+limit, which `ulimit -v` shows, or that of the container, and try again. If a
+number of bytes above 0 is named, the output has only those: delete it.",
+    ),
+    (
+        Subject::Rule(0),
+        "every object can be read, and the value is within the limits",
+        "\
+`lint` says what is wrong with the object that `check` names, unless the value
+does not use it. If `lint` accepts the file, the second line leaves out what is
+not used and writes the canonical file:
+  plistconv lint FILE
+  plistconv convert binary1 FILE OUT",
+    ),
+    (
+        Subject::Rule(1),
+        "the trailer begins with six zeros, and the top object is 0",
+        "\
+The trailer is the last 32 bytes. Readers skip its first six, so that files
+that differ only there have equal values; and some programs write the top
+object last. To write the canonical file:
+  plistconv convert binary1 FILE OUT",
+    ),
+    (
+        Subject::Rule(2),
+        "offsets and references have the least widths",
+        "\
+Up to 255 objects are referred to by one byte each, and an offset has no more
+bytes than the largest needs. Programs that always write two or four bytes
+break this rule. To write the canonical file:
+  plistconv convert binary1 FILE OUT",
+    ),
+    (
+        Subject::Rule(3),
+        "the objects follow one another",
+        "\
+Object 0 begins at byte 8, each other where the one before it ends, and the
+offset table where the last one ends. Unused bytes between objects, or objects
+that overlap, break this rule. To write the canonical file:
+  plistconv convert binary1 FILE OUT",
+    ),
+    (
+        Subject::Rule(4),
+        "each object is as short as can be",
+        "\
+The integer 5 has one byte and not eight, a string of ASCII characters one byte
+for each, and a length below 15 is in the first byte. To write the canonical
+file:
+  plistconv convert binary1 FILE OUT",
+    ),
+    (
+        Subject::Rule(5),
+        "the keys of each dictionary ascend",
+        "\
+They are compared by UTF-16 units: \"B\" comes before \"a\", and \"a\" before \"ab\".
+Many programs write keys in the order of a hash table, or as they were added,
+and so break this rule. Two equal keys break it too; all other commands refuse
+them, as 14. To write the canonical file:
+  plistconv convert binary1 FILE OUT",
+    ),
+    (
+        Subject::Rule(6),
+        "no two objects are the same string, number, date or data",
+        "\
+A string that is used twice is there once, and both uses refer to it. Some
+programs write it each time. 1 and 1.0 are different numbers, as are reals of
+four and of eight bytes. To write the canonical file:
+  plistconv convert binary1 FILE OUT",
+    ),
+    (
+        Subject::Rule(7),
+        "objects are numbered as they are first referred to, from object 0",
+        "\
+An array or dictionary is followed by what it contains, keys first. Programs
+that number level by level, write an array once for two uses, or leave unused
+objects in the file break this rule. To write the canonical file:
+  plistconv convert binary1 FILE OUT",
+    ),
+];

@@ -1,0 +1,57 @@
+//! What can be explained, and the words that name it.
+ghost use Rattle.std.specs.Prelude.{◌≡◌, Some};
+ghost use Rattle.std.specs.Str.{bytes_eq};
+ghost use Rattle.std.specs.Fmt.{decimal};
+ghost use Rattle.plist_explain.specs.Topics.{is_named, label};
+
+use itoa::Buffer;
+use plist_value::Refusal;
+use std::fmt;
+
+/// A refusal, or a rule of canonical files by its number. It is printed as `14 DuplicateKey` or
+/// `C5`.
+#[derive(Clone, Copy)]
+pub enum Subject {
+    Refusal(Refusal),
+    Rule(u8),
+}
+
+/// A subject, what it means in less than a line, and its explanation: what it means, an example,
+/// and what to do.
+pub type Topic = (Subject, &'static str, &'static str);
+
+impl Subject {
+    /// Returns whether the word names it: `14` or `DuplicateKey` a refusal, `C5` a rule.
+    pub fn is_named(self, word: &str) -> bool
+        ensures { result ≡ is_named self word.now }
+    {
+        match self {
+            Subject::Refusal(refusal) => {
+                word == refusal.name() || is_number(word.as_bytes(), refusal.number())
+            }
+            Subject::Rule(rule) => match word.as_bytes() {
+                [b'C', digits @ ..] => is_number(digits, rule),
+                _ => false,
+            },
+        }
+    }
+}
+
+impl fmt::Display for Subject {
+    ghost output = { λ subject. Some (label subject) };
+
+    fn fmt<W: fmt::Write>(&self, f: &mut fmt::Formatter<W>) -> fmt::Result {
+        match *self {
+            Subject::Refusal(refusal) => write!(f, "{} {}", refusal.number(), refusal.name()),
+            Subject::Rule(rule) => write!(f, "C{rule}"),
+        }
+    }
+}
+
+/// Returns whether the bytes are the decimal digits of the number.
+fn is_number(digits: &[u8], number: u8) -> bool
+    ensures { result ≡ bytes_eq digits.now (decimal number) }
+{
+    let mut buffer = Buffer::new();
+    digits == buffer.format(number).as_bytes()
+}
