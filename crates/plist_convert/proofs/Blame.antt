@@ -1,10 +1,11 @@
 -- The program ends with 4 only where a device failed.
-use Rattle.std.proofs.Common.{arith, inl, inr, sym, Err, List, Ok, Option, Result, ℕ, ◌∙◌, ◌≡◌, ◌⊎◌}
+use Rattle.std.proofs.Common.{arith, inl, inr, sym, Err, List, None, Ok, Option, Result, Some, ℕ, ◌∙◌, ◌≡◌, ◌⊎◌}
 use Rattle.std.specs.Prelude.{◌≢◌, ◌<◌, ◌≤◌, Bool, true, false}
 use Rattle.std.proofs.lemmas.Bool.{cases_lt}
 use Rattle.clap.specs.Words.{Text}
 use Rattle.clap.specs.declared.error.ErrorKind.{ErrorKind}
 use Rattle.clap.specs.declared.error.ErrorKind.TheVariants as kind
+use Rattle.plist_explain.specs.Topics.{explanation_of}
 use Rattle.plist_binary.specs.Codes.{fault_code}
 use Rattle.plist_binary.specs.declared.fault.BinaryFault.{BinaryFault}
 use Rattle.plist_binary.specs.declared.fault.BinaryFault.TheVariants as binary
@@ -31,11 +32,11 @@ use Rattle.plist_convert.specs.Files.{FileName, IsStored, IsUnloaded}
 use Rattle.plist_convert.specs.Asked.{Asked, Filters, Converts, Compares, Lints, Checks}
 use Rattle.plist_convert.specs.Asked as asked
 use Rattle.plist_forms.specs.declared.forms.Form.{Form}
-use Rattle.plist_convert.specs.Answer.{IsCheckAnswer, IsLintAnswer, IsOutputRefusal, IsRefusedAnswer, IsSameAnswer, Said, Says, equality_said, pair_refusal, refusal}
+use Rattle.plist_convert.specs.Answer.{IsCheckAnswer, IsLintAnswer, IsOutputRefusal, IsRefusedAnswer, IsSameAnswer, Said, Says, equality_said, explained_said, explanation_said, pair_refusal, refusal}
 use Rattle.plist_convert.specs.Ending.{Ends, HaveFailed, Prints, no_memory}
 use Rattle.plist_convert.specs.Explaining.{Explains, said_of_kind, status_of_kind}
 use Rattle.plist_convert.specs.Program.{DeviceFailed, IsAskedRun, IsRun}
-use Rattle.plist_convert.specs.Runs.{EndsSending, IsAnswered, IsCheckRun, IsConvertRun, IsFileRun, IsFiltered, IsFilterRun, IsInputFault, IsLintRun, IsPrintRun, IsSameRun, IsUnread, IsWanting, refusal_between, standard}
+use Rattle.plist_convert.specs.Runs.{EndsSending, IsAnswered, IsCheckRun, IsConvertRun, IsExplainRun, IsFileRun, IsFiltered, IsFilterRun, IsInputFault, IsLintRun, IsPrintRun, IsSameRun, IsUnread, IsWanting, refusal_between, standard}
 use Rattle.plist_convert.specs.State.{Ending, Input, State}
 use Rattle.plist_convert.specs.Verdicts.{verdict_status_for}
 
@@ -150,6 +151,14 @@ output_quiet form octets fault (inr none) = rw none.is no_2
 
 output_refusal_quiet : (form : Form) (path octets : List ℕ) (s : Said) → IsOutputRefusal form path octets s → s.status ≢ 4
 output_refusal_quiet form path octets s answer = says_quiet s _ answer.says (output_quiet form octets answer.fault answer.cause)
+
+explanation_quiet : (word : List ℕ) (found : Option (List ℕ)) → (explanation_said word found).status ≢ 4
+explanation_quiet word (Some text) = no_0
+explanation_quiet word None = no_3
+
+explained_quiet : (what : Option (List ℕ)) → (explained_said what).status ≢ 4
+explained_quiet (Some word) = explanation_quiet word (explanation_of word)
+explained_quiet None = no_0
 
 kind_quiet : (error : ErrorKind) → status_of_kind error ≢ 4
 kind_quiet kind.DisplayHelp = no_0
@@ -290,6 +299,10 @@ print_blamed path before after status (inr (inl refused)) four = answered_blamed
 print_blamed path before after status (inr (inr run)) four =
     inr (sending_blamed (λ fault. refusal_between path standard (write_fault_for fault)) run.text before.printed run.printed after.printed before.print_failures run.failures after.print_failures status run.sent (λ n. no_5) run.written run.ends four)
 
+explain_blamed : (what : Option (List ℕ)) (before after : State) (status : ℕ) → IsExplainRun what before after status → status ≡ 4 → Failed before after
+unfolding IsExplainRun
+explain_blamed what before after status run four = ending_blamed before after (explained_said what) status (explained_quiet what) run four
+
 filtered_blamed : (input rest : Input) (before after : State) (status : ℕ) → IsFiltered input rest before after status → status ≡ 4
     → DeviceFailed input rest before after
 filtered_blamed input rest before after status run four =
@@ -310,6 +323,7 @@ asked_blamed (Compares first second) input rest before after status run four = i
 asked_blamed (Lints path) input rest before after status run four = inr (lint_blamed path before after status run.1 four)
 asked_blamed (Checks path) input rest before after status run four = inr (check_blamed path before after status run.1 four)
 asked_blamed (asked.Prints path) input rest before after status run four = inr (print_blamed path before after status run.1 four)
+asked_blamed (asked.Explains what) input rest before after status run four = inr (explain_blamed what before after status run.1.1 four)
 
 -- words that are refused
 

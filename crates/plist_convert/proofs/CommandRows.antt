@@ -1,10 +1,10 @@
 -- Worked rows of the command line: what these words ask for, and the kinds of error of others.
-use Rattle.std.proofs.Common.{ℕ, ap, codes, map, refl, List, Option, Some, [], ◌∷◌, ◌∙◌, ◌≡◌}
+use Rattle.std.proofs.Common.{ℕ, ap, codes, map, refl, List, Option, None, Some, [], ◌∷◌, ◌∙◌, ◌≡◌}
 use Rattle.std.specs.Borrow.{Bor}
 use Rattle.clap.specs.Words.{Kinds, Text, fault_of, subcommand_of}
 use Rattle.clap.proofs.OnLiterals.{clap_on_literals}
 use Rattle.clap.specs.declared.error.ErrorKind.TheVariants as kind
-use Rattle.plist_convert.specs.Asked.{Asked, Checks, Compares, Converts, asked_at}
+use Rattle.plist_convert.specs.Asked.{Asked, Checks, Compares, Converts, Explains, asked_at}
 use Rattle.plist_convert.specs.CommandLine.{NamesForms, program}
 use Rattle.plist_convert.specs.Reading.{IsParse}
 use Rattle.plist_forms.specs.declared.forms.Form.TheVariants.{Binary1}
@@ -85,3 +85,11 @@ compares = asks _ _ (λ p q r. refl) (λ p q r. refl)
 a-path-behind-two-lines : AsksFor (codes "plistconv" ∷ (codes "check" ∷ (codes "--" ∷ (codes "-x" ∷ [])))) (Checks (codes "-x"))
 unfolding clap_on_literals
 a-path-behind-two-lines = asks _ _ (λ p q r. refl) (λ p q r. refl)
+
+a-number-explained : AsksFor (codes "plistconv" ∷ (codes "explain" ∷ (codes "14" ∷ []))) (Explains (Some (codes "14")))
+unfolding clap_on_literals
+a-number-explained = asks _ _ (λ p q r. refl) (λ p q r. refl)
+
+all-explained : AsksFor (codes "plistconv" ∷ (codes "explain" ∷ [])) (Explains None)
+unfolding clap_on_literals
+all-explained = asks _ _ (λ p q r. refl) (λ p q r. refl)

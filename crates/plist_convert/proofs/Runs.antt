@@ -1,5 +1,5 @@
 -- From what the parts of a word ensure to its run.
-use Rattle.std.proofs.Common.{inl, inr, refl, Err, List, Ok, Result, ℕ, ◌≡◌, ◌⊎◌}
+use Rattle.std.proofs.Common.{ap₂, inl, inr, refl, subst, Err, List, Ok, Result, ℕ, ◌≡◌, ◌⊎◌}
 use Rattle.std.specs.Prelude.{◌≤◌, IfOk, MatchResult, length}
 use Rattle.std.specs.declared.alloc.AllocError.{AllocError}
 use Rattle.clap.specs.Words.{Text, kind_of}
@@ -7,12 +7,12 @@ use Rattle.clap.specs.declared.Error.{Error}
 use Rattle.plist_convert.specs.Files.{FileName, Holds, SameFiles}
 use Rattle.plist_convert.specs.Reading.{IsReading}
 use Rattle.plist_convert.specs.declared.answers.Answer.{Answer}
-use Rattle.plist_convert.specs.Answer.{IsSameAnswer, Said, said_of}
+use Rattle.plist_convert.specs.Answer.{IsSameAnswer, Said, Says, said_of}
 use Rattle.plist_convert.specs.Ending.{Prints, no_memory}
 use Rattle.plist_convert.specs.Explaining.{Explains}
 use Rattle.plist_convert.specs.Program.{IsRefusedRun}
 use Rattle.plist_convert.specs.Runs.{IsCompared, IsFileRun, IsWanting}
-use Rattle.plist_convert.specs.State.{Input, State}
+use Rattle.plist_convert.specs.State.{Ending, Input, State}
 
 -- what printing an answer ensures
 abbrev pub Gives : State → State → Result Answer AllocError → ℕ → Type 0
@@ -54,6 +54,16 @@ files_compared first second before after status a b (Ok r) holds_a holds_b kept 
 })
 files_compared first second before after status a b (Err e) holds_a holds_b kept unfailed answers prints =
     inr (record { kept = kept; unfailed = unfailed; ends = prints })
+
+says_same : (s t : Said) → Says s t → s ≡ t
+says_same s t says = ap₂ (λ text status. record { text = text; status = status }) says.0 says.1
+
+-- an answer that is known is printed
+pub answer_ends : (said : Said) (before after : State) (status : ℕ) (answer : Result Answer AllocError)
+    → IfOk answer (λ a. Says (said_of a) said) → Gives before after answer status → Ending before after said status
+answer_ends said before after status (Ok a) says prints =
+    inl (subst (λ s. Prints before.printed after.printed before.print_failures after.print_failures s status) (says_same (said_of a) said says) prints)
+answer_ends said before after status (Err e) says prints = inr prints
 
 -- the words are refused
 pub refused_run : (words : List Text) (input : Input) (before after : State) (error : Error) (status : ℕ) → 2 ≤ length words

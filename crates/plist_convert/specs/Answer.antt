@@ -1,5 +1,5 @@
 -- What is answered for octets that were loaded: the line that is printed, and the status.
-use Rattle.std.specs.Prelude.{◌≡◌, ◌↔◌, ◌⊎◌, ◌++◌, ℕ, Bool, List, codes, if◌then◌else◌, string_bytes}
+use Rattle.std.specs.Prelude.{◌≡◌, ◌↔◌, ◌⊎◌, ◌++◌, ℕ, Bool, List, Option, Some, None, codes, if◌then◌else◌, string_bytes}
 use Rattle.plist_value.specs.Plist.{Plist}
 use Rattle.plist_object.specs.Layout.{IsLaid}
 use Rattle.plist_canon.specs.Checking.{IsCheckFault, IsVerdict}
@@ -7,6 +7,7 @@ use Rattle.plist_canon.specs.Locality.{IsCanonical}
 use Rattle.plist_canon.specs.declared.checking.CheckFault.{CheckFault}
 use Rattle.plist_canon.specs.declared.checking.Verdict.{Verdict}
 use Rattle.plist_canon.specs.declared.checking.Verdict.TheVariants.{Canonical}
+use Rattle.plist_explain.specs.Topics.{all_lines, explanation_of}
 use Rattle.plist_forms.specs.Accepted.{IsAccepted}
 use Rattle.plist_forms.specs.Fault.{check_fault_for, code_of, status_for}
 use Rattle.plist_forms.specs.Line.{line_of}
@@ -46,6 +47,20 @@ accepted_said path = said (path ++ codes ": OK") 0
 
 abbrev pub equality_said : Bool → Said
 equality_said equal = if equal then said (codes "equal") 0 else said (codes "different") 1
+
+-- the explanation of a word, if it names something
+abbrev pub explanation_said : List ℕ → Option (List ℕ) → Said
+explanation_said word (Some text) = record { text = text; status = 0 }
+explanation_said word None =
+    said (codes "error: '" ++ (word ++ codes "' is no refusal and no rule: plistconv explain lists them")) 3
+
+abbrev pub word_said : List ℕ → Said
+word_said word = explanation_said word (explanation_of word)
+
+-- what `explain` answers: of a word its explanation, and without one a line for each
+abbrev pub explained_said : Option (List ℕ) → Said
+explained_said (Some word) = word_said word
+explained_said None = record { text = all_lines; status = 0 }
 
 -- the refusal of one of two files, under the path of that file
 abbrev pub pair_refusal : List ℕ → List ℕ → PairFault → Said

@@ -16,6 +16,7 @@ pub data Asked : Type 0 where
   Lints : Text → Asked
   Checks : Text → Asked
   Prints : Text → Asked
+  Explains : Option Text → Asked
 
 -- what a request asks for
 abbrev pub asked_by : Request → Asked
@@ -25,6 +26,7 @@ asked_by (request.Same first second) = Compares first.now second.now
 asked_by (request.Lint path) = Lints path.now
 asked_by (request.Check path) = Checks path.now
 asked_by (request.Print path) = Prints path.now
+asked_by (request.Explain what) = Explains (option_map (λ word. word.now) what)
 
 -- the form of this name
 abbrev pub form_of : Text → Option Form
@@ -59,6 +61,9 @@ check_at rows = option_map Checks (first_of (codes "IN") rows)
 abbrev pub print_at : List Row → Option Asked
 print_at rows = option_map Prints (first_of (codes "IN") rows)
 
+abbrev pub explain_at : List Row → Option Asked
+explain_at rows = Some (Explains (first_of (codes "WHAT") rows))
+
 abbrev pub asked_in : Text → List Row → Option Asked
 asked_in word rows =
     if bytes_eq word (codes "convert") then convert_at rows
@@ -66,6 +71,7 @@ asked_in word rows =
     else if bytes_eq word (codes "lint") then lint_at rows
     else if bytes_eq word (codes "check") then check_at rows
     else if bytes_eq word (codes "print") then print_at rows
+    else if bytes_eq word (codes "explain") then explain_at rows
     else None
 
 abbrev pub asked_at : Option (Text × List Row) → Option Asked

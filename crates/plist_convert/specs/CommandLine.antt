@@ -23,6 +23,10 @@ convert forms =
     (record (file_word (codes "FORM")) { parser = Some (Names forms) })) (file_word (codes "IN")))
     (file_word (codes "OUT"))
 
+-- `explain WHAT`, or `explain` alone
+abbrev pub explain : App
+explain = with_rule (new_app (codes "explain")) (new_rule (codes "WHAT"))
+
 -- one of the words has to be given
 abbrev pub program_top : App
 program_top =
@@ -31,9 +35,9 @@ program_top =
 
 abbrev pub program : Bor (List (Bor Text)) → App
 program forms =
-    with_subcommand (with_subcommand (with_subcommand (with_subcommand (with_subcommand program_top
-    (convert forms).top) same.top) (one_file (codes "lint")).top) (one_file (codes "check")).top)
-    (one_file (codes "print")).top
+    with_subcommand (with_subcommand (with_subcommand (with_subcommand (with_subcommand (with_subcommand
+    program_top (convert forms).top) same.top) (one_file (codes "lint")).top)
+    (one_file (codes "check")).top) (one_file (codes "print")).top) explain.top
 
 -- the names of the forms, in memory somewhere
 abbrev pub NamesForms : Bor (List (Bor Text)) → Type 0

@@ -1,11 +1,11 @@
 -- The whole program: words, what is there before, what is there after, and the status.
 use Rattle.std.specs.Prelude.{◌≡◌, ◌⊎◌, ℕ, ◌<◌, ◌≤◌, List, [], Option, Some, None, length}
 use Rattle.clap.specs.Words.{Kinds, Text}
-use Rattle.plist_convert.specs.Asked.{Asked, Filters, Converts, Compares, Lints, Checks, Prints}
+use Rattle.plist_convert.specs.Asked.{Asked, Filters, Converts, Compares, Lints, Checks, Prints, Explains}
 use Rattle.plist_convert.specs.Reading.{IsParse}
 use Rattle.plist_convert.specs.Ending.{HaveFailed}
 use Rattle.plist_convert.specs.Explaining.{IsExplained}
-use Rattle.plist_convert.specs.Runs.{IsCheckRun, IsConvertRun, IsFilterRun, IsLintRun, IsPrintRun, IsSameRun}
+use Rattle.plist_convert.specs.Runs.{IsCheckRun, IsConvertRun, IsExplainRun, IsFilterRun, IsLintRun, IsPrintRun, IsSameRun}
 use Rattle.plist_convert.specs.State.{Input, State, input_of, state}
 
 -- no file and no failure of one changes
@@ -26,6 +26,8 @@ IsAskedRun (Checks path) input rest before after status =
     (rest ≡ input) × IsCheckRun path before after status
 IsAskedRun (Prints path) input rest before after status =
     (rest ≡ input) × IsPrintRun path before after status
+IsAskedRun (Explains what) input rest before after status =
+    (rest ≡ input) × (KeepsDisk before after × IsExplainRun what before after status)
 
 -- the parser takes the words, and this is what they ask for
 pub record AreTaken (words : List Text) (it : Asked) : Type 0 where

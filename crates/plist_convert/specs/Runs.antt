@@ -15,7 +15,7 @@ use Rattle.plist_engine.specs.declared.faults.WriteFault.{WriteFault}
 use Rattle.plist_forms.specs.Output.{IsOutput}
 use Rattle.plist_forms.specs.Transfer.{IsInput, NeedsNoMemory}
 use Rattle.plist_convert.specs.Files.{FileName, Holds, IsStored, IsUnloaded, SameFiles}
-use Rattle.plist_convert.specs.Answer.{IsCheckAnswer, IsLintAnswer, IsOutputRefusal, IsRefusedAnswer, IsSameAnswer, Said, refusal}
+use Rattle.plist_convert.specs.Answer.{IsCheckAnswer, IsLintAnswer, IsOutputRefusal, IsRefusedAnswer, IsSameAnswer, Said, explained_said, refusal}
 use Rattle.plist_convert.specs.Ending.{Ends}
 use Rattle.plist_convert.specs.State.{Ending, Input, State, Wanting}
 
@@ -142,6 +142,10 @@ unfoldable pub IsPrintRun : FileName → State → State → ℕ → Type 0
 IsPrintRun path before after status =
     IsUnread path before after status ⊎ (IsAnswered (IsRefusedAnswer path) path before after status
     ⊎ IsPrintedRun path before after status)
+
+-- `explain WHAT`
+unfoldable pub IsExplainRun : Option (List ℕ) → State → State → ℕ → Type 0
+IsExplainRun what before after status = Ending before after (explained_said what) status
 
 -- The octets are all of the input, which was taken to its end without a failure.
 pub record IsTaken (input rest : Input) (octets : List ℕ) : Type 0 where

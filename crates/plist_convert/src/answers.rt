@@ -1,10 +1,12 @@
 //! What is answered for octets that were loaded.
-ghost use Rattle.std.specs.Prelude.{◌≡◌, ◌++◌, IfOk, codes, string_bytes};
+ghost use Rattle.std.specs.Prelude.{◌≡◌, ◌++◌, IfOk, codes, option_map, string_bytes};
 ghost use Rattle.plist_convert.specs.Answer.{IsCheckAnswer, IsLintAnswer, IsSameAnswer, Says};
-ghost use Rattle.plist_convert.specs.Answer.{accepted_said, equality_said, refusal, said_of};
+ghost use Rattle.plist_convert.specs.Answer.{accepted_said, equality_said, explained_said};
+ghost use Rattle.plist_convert.specs.Answer.{refusal, said_of, word_said};
 
 use crate::verdicts::{verdict_line, verdict_status};
 use plist_canon::check_with_hasher;
+use plist_explain::{explanation, list};
 use plist_forms::{Fault, PairFault, Status, judge_any, line, same_files_with_hasher};
 use std::alloc::{AllocError, Global};
 use std::hash::BuildHasher;
@@ -83,6 +85,40 @@ pub fn same_answer<H: BuildHasher + Copy>(
         Err(PairFault::First(fault)) => refused(alloc, first, &fault),
         Err(PairFault::Second(fault)) => refused(alloc, second, &fault),
     }
+}
+
+/// What `explain` answers: what the refusal or the rule means that the word names, and an error if
+/// it names none; without a word a line for each.
+///
+/// # Errors
+///
+/// Fails if out of memory.
+pub fn explain_answer(alloc: Global, what: Option<&str>) -> Result<Answer, AllocError>
+    ensures { IfOk result (λ answer. Says (said_of answer)
+        (explained_said (option_map (λ word. word.now) what.entry))) }
+{
+    match what {
+        Some(word) => explained(alloc, word),
+        None => Ok(Answer {
+            text: list(alloc)?,
+            status: Status::Done,
+        }),
+    }
+}
+
+fn explained(alloc: Global, word: &str) -> Result<Answer, AllocError>
+    ensures { IfOk result (λ answer. Says (said_of answer) (word_said word.now)) }
+{
+    if let Some(text) = explanation(alloc, word)? {
+        return Ok(Answer {
+            text,
+            status: Status::Done,
+        });
+    }
+    let line = format!(in alloc;
+        "error: '{word}' is no refusal and no rule: plistconv explain lists them"
+    )?;
+    told(line, Status::BadWords)
 }
 
 /// The line of a refusal, and its status.

@@ -1,8 +1,9 @@
 //! The command line, as `clap` is told of it.
 ghost use Rattle.std.specs.Prelude.{◌≡◌, IfOk, IsOkAnd, codes, false};
-ghost use Rattle.clap.specs.Words.{AddsSubcommand, app_of, new_app, rule_of};
+ghost use Rattle.clap.specs.Words.{AddsSubcommand, app_of, new_app, new_rule, rule_of};
 ghost use Rattle.plist_convert.specs.CommandLine.{IsConvert, IsProgram, file_word, one_file};
-ghost use Rattle.plist_convert.specs.CommandLine.{program_top, same as same_line};
+ghost use Rattle.plist_convert.specs.CommandLine.{explain as explain_line, program_top};
+ghost use Rattle.plist_convert.specs.CommandLine.{same as same_line};
 
 use crate::help;
 use clap::{Arg, Command};
@@ -18,7 +19,8 @@ pub(crate) fn program<'a>(alloc: Global) -> Result<Command<'a>, AllocError>
     let command = with_word(command, same(alloc))?;
     let command = with_word(command, lint(alloc))?;
     let command = with_word(command, check(alloc))?;
-    with_word(command, print(alloc))
+    let command = with_word(command, print(alloc))?;
+    with_word(command, explain(alloc))
 }
 
 /// The command with one more word, where there was memory for that.
@@ -36,7 +38,7 @@ fn top<'a>(alloc: Global) -> Command<'a>
     ensures { app_of result ≡ program_top }
 {
     word(alloc, "plistconv", help::ABOUT, help::AFTER)
-        .version("0.2.0")
+        .version("0.3.0")
         .subcommand_required(true)
 }
 
@@ -88,6 +90,16 @@ fn print<'a>(alloc: Global) -> Result<Command<'a>, AllocError>
     ))
 }
 
+fn explain<'a>(alloc: Global) -> Result<Command<'a>, AllocError>
+    ensures { IfOk result (λ command. app_of command ≡ explain_line) }
+{
+    word(alloc, "explain", help::EXPLAIN_ABOUT, help::EXPLAIN_AFTER).arg(optional(
+        alloc,
+        "WHAT",
+        "A number, a name or a rule",
+    ))
+}
+
 /// A word of the program, with its help.
 fn word<'a>(alloc: Global, name: &'a str, about: &'a str, after: &'a str) -> Command<'a>
     ensures { app_of result ≡ new_app name.entry.now }
@@ -101,4 +113,12 @@ fn place<'a>(alloc: Global, id: &'a str, text: &'a str) -> Arg<'a>
     ensures local { result.global ≡ false }
 {
     Arg::new(alloc, id).required(true).help(text)
+}
+
+/// A word that may be left out.
+fn optional<'a>(alloc: Global, id: &'a str, text: &'a str) -> Arg<'a>
+    ensures rule { rule_of result ≡ new_rule id.entry.now }
+    ensures local { result.global ≡ false }
+{
+    Arg::new(alloc, id).help(text)
 }

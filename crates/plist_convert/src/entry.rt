@@ -10,7 +10,7 @@ use crate::host_disk::HostDisk;
 use crate::printing::explain;
 use crate::reading::read_words;
 use crate::request::Request;
-use crate::words::{check_file, compare_files, convert_file, lint_file, print_file};
+use crate::words::{check_file, compare_files, convert_file, explain_what, lint_file, print_file};
 use plist_devices::{ReaderSource, Sink, Source, Stream};
 use plist_value::FixedHasher;
 use std::alloc::Global;
@@ -165,5 +165,6 @@ fn obey<H: BuildHasher + Copy, D: Disk, S: Source, W: Sink>(
         Request::Lint { path } => lint_file(alloc, disk, path, output),
         Request::Check { path } => check_file(alloc, hasher, disk, path, output),
         Request::Print { path } => print_file(alloc, disk, path, output),
+        Request::Explain { what } => explain_what(alloc, what, output),
     }
 }

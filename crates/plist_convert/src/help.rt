@@ -1,24 +1,23 @@
-//! The texts of `--help`: what the program and each of its words read, write and answer. No line is
-//! wider than 80 columns, and the help of the program has at most 30 lines.
+//! The texts of `--help`: what the program and each of its commands read, write and answer. No line
+//! is wider than 80 columns, and the help of the program has at most 30 lines.
 
 /// What the program is for.
 pub(crate) const ABOUT: &str = "Converts Apple property lists to their canonical form";
 
-/// What it does without words, and how it ends.
+/// What it does without a command, and how it ends.
 pub(crate) const AFTER: &str = "\
-Reads binary files (bplist00) and OpenStep texts. XML is refused: make it binary
-first, always by the same converter, since they differ on reals:
+Reads binary property lists (bplist00) and OpenStep texts. XML has to be made
+binary first:
   plutil -convert binary1 -o OUT IN    or    plistutil -i IN -f bin -o OUT
 
-Without words it reads standard input (if empty, it is an empty dictionary) and
-writes its canonical file to standard output. A refusal is a line there, in
-place of the file, and only the status tells, so test it:
+Without a command, converts standard input to standard output. If the input is
+refused, one line that says so is written in place of the file:
   plistconv < Info.plist > OUT || rm OUT
-  plistconv convert binary1 Info.plist /dev/stdout > OUT || rm OUT
 
-Exit status: 0 done, equal, accepted or canonical; 1 different or not canonical;
-2 an input is refused; 3 the words are not understood; 4 a file cannot be read
-or written, or a line cannot be printed; 5 no memory is left.";
+All messages are on standard output, usage errors too. The exit status tells
+them from answers: 0 done, equal, accepted or canonical; 1 different or not
+canonical; 2 an input is refused; 3 usage error; 4 I/O error; 5 out of memory.
+`plistconv explain` lists what refusals mean, `man plistconv` says the rest.";
 
 /// What `convert` is for.
 pub(crate) const CONVERT_ABOUT: &str = "Writes the property list of one file to another";
@@ -28,28 +27,32 @@ pub(crate) const CONVERT_AFTER: &str = "\
 Reads a property list, a binary file or an OpenStep text, from IN and writes its
 value to OUT: for binary1 as its canonical binary file, for openstep as a text.
 OUT is created, or emptied, only after IN was accepted, and may be IN. Prints
-nothing where that is done, else one line that says what is refused and why.
+nothing if that is done, else one line that says what is refused and why.
 
-A text holds strings, data, lists and tables. A value that holds a number, a
-flag, a real or a date has none and is refused.
+An OpenStep text holds strings, data, arrays and dictionaries. A value with a
+number, a boolean or a date has none, and is refused with 40.
+
+Messages are on standard output, usage errors too: check the exit status.
 
 Example: plistconv convert binary1 Info.plist canonical.plist
 
 Exit status:
   0  done
   2  IN is refused
-  3  the words are not understood
-  4  a file cannot be read or written, or a line cannot be printed
-  5  no memory is left";
+  3  usage error
+  4  a file cannot be read or written, or the line cannot be printed
+  5  out of memory";
 
 /// What `same` is for.
-pub(crate) const SAME_ABOUT: &str = "Says whether two files hold equal property lists";
+pub(crate) const SAME_ABOUT: &str = "Compares the values of two property lists";
 
 /// What `same` reads and answers.
 pub(crate) const SAME_AFTER: &str = "\
-Reads two property lists, binary files or OpenStep texts, from A and from B, and
-writes no file. Prints one line: equal or different, by the values and not by
-the octets. Where a file is refused, the line says which and why.
+Reads two property lists, binary files or OpenStep texts, from A and B, and
+writes no file. Prints one line: equal or different, which tells values apart
+and not bytes. If a file is refused, the line says which and why.
+
+Messages are on standard output, usage errors too: only 0 and 1 are answers.
 
 Example: plistconv same Info.plist canonical.plist
 
@@ -57,62 +60,65 @@ Exit status:
   0  equal
   1  different
   2  a file is refused
-  3  the words are not understood
+  3  usage error
   4  a file cannot be read, or the line cannot be printed
-  5  no memory is left";
+  5  out of memory";
 
 /// What `lint` is for.
-pub(crate) const LINT_ABOUT: &str = "Says whether a file is a property list";
+pub(crate) const LINT_ABOUT: &str = "Checks whether a file is a property list";
 
 /// What `lint` reads and answers.
 pub(crate) const LINT_AFTER: &str = "\
 Reads a property list, a binary file or an OpenStep text, from IN, and writes no
 file. Prints one line: IN: OK, or what is refused, where, and why.
 
-XML is refused as 21 XmlForm. Either of these makes it binary; use one of them
-throughout, since they differ on reals, of four octets or of eight:
+XML is refused with 21. Either of these makes it binary; always use the same
+one, since they write reals differently, in 4 bytes or in 8:
   plutil -convert binary1 -o OUT IN
   plistutil -i IN -f bin -o OUT
+
+Messages are on standard output, usage errors too: only 0 means accepted.
 
 Example: plistconv lint Info.plist
 
 Exit status:
   0  accepted
   2  refused
-  3  the words are not understood
+  3  usage error
   4  the file cannot be read, or the line cannot be printed
-  5  no memory is left";
+  5  out of memory";
 
 /// What `check` is for.
-pub(crate) const CHECK_ABOUT: &str = "Says whether a file is the canonical file of its value";
+pub(crate) const CHECK_ABOUT: &str = "Checks whether a file is already canonical";
 
 /// What `check` reads and answers.
 pub(crate) const CHECK_AFTER: &str = "\
-Reads a property list in binary form (bplist00) from IN, and writes no file.
-Prints one line: canonical, or one such as broken C7 at object 0, with a rule
-that does not hold and the object at which it was seen.
+Reads a binary property list (bplist00) from IN, and writes no file. Prints one
+line: canonical, or a rule that is broken and the object at which this was seen,
+such as broken C7 at object 0.
 
   C0  every object can be read, and the value is within the limits
-  C1  the unused octets of the trailer are zero, and the top object is 0
+  C1  the trailer begins with six zeros, and the top object is 0
   C2  offsets and references have the least widths
-  C3  the objects stand one behind the other
-  C4  every object has its shortest spelling
-  C5  the keys of every table ascend
-  C6  no two objects hold one scalar
-  C7  the objects are numbered as they are met from the top, and only scalars
-      are met again
+  C3  the objects follow one another
+  C4  every object is as short as can be
+  C5  the keys of every dictionary ascend
+  C6  no two objects are the same string, number, date or data
+  C7  objects are numbered as they are first referred to, and only strings,
+      numbers, dates and data are referred to again
 
-What is no binary file, a text or XML, is refused as 1 or 2; lint tells which.
+Anything but a binary file is refused with 1 or 2; `plistconv lint` says what it
+is. Messages are on standard output, usage errors too: only 0 and 1 are answers.
 
 Example: plistconv check Info.plist
 
 Exit status:
   0  canonical
-  1  broken
-  2  the file has not the layout of a binary file
-  3  the words are not understood
+  1  a rule is broken
+  2  not a binary property list
+  3  usage error
   4  the file cannot be read, or the line cannot be printed
-  5  no memory is left";
+  5  out of memory";
 
 /// What `print` is for.
 pub(crate) const PRINT_ABOUT: &str = "Prints the value of a file for people to read";
@@ -123,15 +129,38 @@ Reads a property list, a binary file or an OpenStep text, from IN, and writes no
 file. Prints its value, whatever it holds; if IN is refused, only one line that
 says what is refused, where, and why.
 
-Two values print the same exactly if they are equal, so a comparison of two
+Two values print the same if and only if they are equal, so a comparison of two
 prints shows all that differs:
   plistconv print A > a && plistconv print B > b && diff -u a b
+
+Messages are on standard output, usage errors too: only 0 means a whole print.
 
 Example: plistconv print Info.plist
 
 Exit status:
   0  printed
   2  refused
-  3  the words are not understood
+  3  usage error
   4  the file cannot be read, or its value cannot be printed
-  5  no memory is left";
+  5  out of memory";
+
+/// What `explain` is for.
+pub(crate) const EXPLAIN_ABOUT: &str = "Explains a refusal or a rule";
+
+/// What `explain` prints.
+pub(crate) const EXPLAIN_AFTER: &str = "\
+Prints what a refusal or a rule means, an example, and what to do. WHAT is the
+number or the name of a refusal, or a rule that check names. Without WHAT,
+prints one line for each of them.
+
+Messages are on standard output, usage errors too: only 0 is an answer.
+
+Example: plistconv explain 14
+         plistconv explain DuplicateKey
+         plistconv explain C5
+
+Exit status:
+  0  explained
+  3  usage error, or WHAT is no refusal and no rule
+  4  the text cannot be printed
+  5  out of memory";

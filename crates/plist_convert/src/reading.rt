@@ -2,7 +2,7 @@
 ghost use Rattle.std.specs.Prelude.{◌≡◌, ◌<◌, ◌≤◌, length, map, option_map, Ok};
 ghost use Rattle.clap.specs.Words.{app_of, first_of, found_of, rows_of, subcommand_rows_of};
 ghost use Rattle.plist_convert.specs.Asked.{asked_by, asked_at, check_at, convert_at};
-ghost use Rattle.plist_convert.specs.Asked.{form_of, lint_at, print_at, same_at};
+ghost use Rattle.plist_convert.specs.Asked.{explain_at, form_of, lint_at, print_at, same_at};
 ghost use Rattle.plist_convert.specs.CommandLine.{IsProgram};
 ghost use Rattle.plist_convert.specs.Reading.{IsReading};
 
@@ -52,6 +52,7 @@ fn request_of<'a>(matches: &ArgMatches<'a>) -> Option<Request<'a>>
         "lint" => lint_request(given),
         "check" => check_request(given),
         "print" => print_request(given),
+        "explain" => explain_request(given),
         _ => None,
     }
 }
@@ -96,6 +97,14 @@ fn print_request<'a>(given: &ArgMatches<'a>) -> Option<Request<'a>>
 {
     Some(Request::Print {
         path: value(given, "IN")?,
+    })
+}
+
+fn explain_request<'a>(given: &ArgMatches<'a>) -> Option<Request<'a>>
+    ensures { option_map asked_by result ≡ explain_at (rows_of (found_of given.now)) }
+{
+    Some(Request::Explain {
+        what: value(given, "WHAT"),
     })
 }
 

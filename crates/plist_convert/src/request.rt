@@ -30,4 +30,8 @@ pub enum Request<'a> {
     Print {
         path: &'a str,
     },
+    /// `explain WHAT`: what a refusal or a rule means, or a line for each.
+    Explain {
+        what: Option<&'a str>,
+    },
 }

@@ -1,11 +1,12 @@
 //! What each word of the program does with the files that it names.
-ghost use Rattle.std.specs.Prelude.{◌≡◌};
+ghost use Rattle.std.specs.Prelude.{◌≡◌, ℕ, Option, option_map};
+ghost use Rattle.plist_convert.specs.Files.{Files};
 ghost use Rattle.plist_convert.specs.Runs.{IsCheckRun, IsConvertRun, IsLintRun, IsPrintRun};
-ghost use Rattle.plist_convert.specs.Runs.{IsSameRun};
+ghost use Rattle.plist_convert.specs.Runs.{IsExplainRun, IsSameRun};
 ghost use Rattle.plist_convert.specs.Runs.{path_of_fault};
 ghost use Rattle.plist_convert.specs.State.{state};
 
-use crate::answers::{check_answer, lint_answer, same_answer};
+use crate::answers::{check_answer, explain_answer, lint_answer, same_answer};
 use crate::disks::Disk;
 use crate::filtering::STANDARD;
 use crate::printing::{give, report};
@@ -143,6 +144,17 @@ pub(crate) fn print_file<D: Disk, W: Sink>(
         Ok(_) => Status::Done.code(),
         Err(fault) => report(alloc, path_of(&fault, path, STANDARD), &fault, output),
     }
+}
+
+/// `explain WHAT`.
+pub(crate) fn explain_what<W: Sink>(alloc: Global, what: Option<&str>, output: &mut W) -> u8
+    ensures run { (disk : ℕ) (files : Option Files) → IsExplainRun
+        (option_map (λ word. word.now) what.entry)
+        (state files disk (W.taken output.old) (W.failures output.old))
+        (state files disk (W.taken output.new) (W.failures output.new)) result }
+    ensures same { W.device output.new ≡ W.device output.old }
+{
+    give(output, explain_answer(alloc, what))
 }
 
 /// The path under which a refusal is told of what goes from one path to another.

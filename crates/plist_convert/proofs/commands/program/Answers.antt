@@ -1,7 +1,7 @@
 use Rattle.std.proofs.Common.{ap, codes, refl, ◌∙◌}
 use Rattle.std.proofs.lemmas.Result.{IfOk-weaker}
 use Rattle.clap.specs.Words.{with_subcommand}
-use Rattle.plist_convert.specs.CommandLine.{convert, one_file, same}
+use Rattle.plist_convert.specs.CommandLine.{convert, explain, one_file, same}
 use Rattle.plist_convert.proofs.WithWords.{adds_convert, adds_word}
 use Rattle.plist_convert.proofs.commands.program.Goals as goal
 
@@ -15,8 +15,9 @@ returns c =
     let check = one_file (codes "check") in
     let four = adds_word _ _ c.check.result check refl c.check.ensures c.in_ok-command-4.ensures ∙ ap (λ a. with_subcommand a check.top) three in
     let print = one_file (codes "print") in
-    IfOk-weaker c.with_word-5.result _ _ (λ command added. record {
+    let five = adds_word _ _ c.print.result print refl c.print.ensures c.in_ok-command-5.ensures ∙ ap (λ a. with_subcommand a print.top) four in
+    IfOk-weaker c.with_word-6.result _ _ (λ command added. record {
       forms = line.0;
       named = line.1;
-      is = adds_word _ command c.print.result print refl c.print.ensures added ∙ ap (λ a. with_subcommand a print.top) four;
-    }) c.with_word-5.ensures
+      is = adds_word _ command c.explain.result explain refl c.explain.ensures added ∙ ap (λ a. with_subcommand a explain.top) five;
+    }) c.with_word-6.ensures

@@ -25,3 +25,7 @@ returns-in-Check-clause-run g c = rw c.in-Check.is (refl, c.check_file.ensures.r
 pub returns-in-Print-clause-run : goal.returns-in-Print-clause-run
 unfolding IsAskedRun
 returns-in-Print-clause-run g c = rw c.in-Print.is (refl, c.print_file.ensures.run)
+
+pub returns-in-Explain-clause-run : goal.returns-in-Explain-clause-run
+unfolding IsAskedRun
+returns-in-Explain-clause-run g c = rw c.in-Explain.is (refl, ((refl, refl), c.explain_what.ensures.run _ _))
