@@ -41,7 +41,7 @@ extern "C" {
 
 /* The version of this header, also as a number (10,000 * major + 100 * minor + patch). plistconv_version() returns the
  * number of the linked library. */
-#define PLISTCONV_VERSION "0.2.0"
+#define PLISTCONV_VERSION "0.3.0"
 #define PLISTCONV_VERSION_NUMBER 200
 uint32_t plistconv_version(void);
 

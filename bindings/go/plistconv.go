@@ -85,7 +85,7 @@ func Check(file []byte) (Verdict, error) {
 	return Verdict{finding.canonical == 1, int(finding.rule), uint64(finding.object)}, nil
 }
 
-// LibraryVersion returns the version of the library that is loaded, as "0.2.0".
+// LibraryVersion returns the version of the library that is loaded, as "0.3.0".
 func LibraryVersion() string {
 	number := uint(C.plistconv_version())
 	return fmt.Sprintf("%d.%d.%d", number/10000, number/100%100, number%100)

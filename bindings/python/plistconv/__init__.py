@@ -37,7 +37,7 @@ import threading
 from typing import Any, Callable, List, Optional, Tuple, Union
 
 __all__ = ["Refusal", "Refused", "Finding", "canonical", "same", "lint", "check", "text", "printed", "library_version"]
-__version__ = "0.2.0"
+__version__ = "0.3.0"
 
 Octets = Union[bytes, bytearray, memoryview]
 

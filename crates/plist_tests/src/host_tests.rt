@@ -164,7 +164,7 @@ fn writes_a_long_file(rt: HostRuntime) -> Result<(), Fail> {
 const OTHER_WORDS: [&str; 11] = [
     "-h|0 Converts Apple property lists",
     "lint -h|0 Says whether a file is a",
-    "--version|0 plistconv 0.2.0\n",
+    "--version|0 plistconv 0.3.0\n",
     "turn row2.txt|3 error: ",
     "same row2.txt|3 error: ",
     "lint|3 error: ",

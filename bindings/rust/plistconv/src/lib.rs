@@ -187,7 +187,7 @@ pub fn check(file: &[u8]) -> Result<Verdict, Refused> {
     })
 }
 
-/// Returns the version of the library, `"0.2.0"` for example.
+/// Returns the version of the library, `"0.3.0"` for example.
 pub fn library_version() -> String {
     // SAFETY: the call takes nothing.
     let number = unsafe { sys::plistconv_version() };
