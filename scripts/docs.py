@@ -16,6 +16,7 @@ Besides:
   crate reaches exactly what it reaches by crates.txt. The crates of tests are left out;
 - docs/ARCHITECTURE.md has a row for each crate, and its layers have each crate once, none above one that it uses;
 - docs/FORMATS.md has each refusal with its number and its name, and the limits of the code, and so does SECURITY.md;
+  `plist_explain` explains its refusals and rules, in its order, in lines of at most 79 columns;
 - CHANGELOG.md has the version of the program, which is also that of the man page, the header and the packages;
 - docs/RECIPES.md and the man page plistconv-tools.1 name each command in tools/;
 - CONTRIBUTING.md, Makefile and build.mk state the same cost of the first `make`;
@@ -224,6 +225,13 @@ def number_faults():
     code = re.findall(r"(?m)^number_of (\w+) = (\d+)$", read("crates/plist_value/specs/Refusals.antt"))
     if table != {int(number): name for name, number in code}:
         yield "FORMATS.md: its refusals are not those of plist_value/specs/Refusals.antt"
+    texts = read("crates/plist_explain/src/table.rt")
+    explained = re.findall(r"Subject::(?:Refusal\(Refusal::|Rule\()(\w+)", texts)
+    if explained != [table[number] for number in sorted(table)] + re.findall(r"(?m)^C(\d) \|", formats):
+        yield "FORMATS.md: its refusals and rules are not those of plist_explain/src/table.rt"
+    plain = re.sub(r"\\(.)", r"\1", texts)
+    if long := [line for line in re.findall(r'(?m)^[^ /].*?(?=",$|$)', plain) if len(line) > 79]:
+        yield f"plist_explain/src/table.rt: a line is too long: {long[0]}"
     constants = "".join(read(f"crates/{file}.rt") for file in ("plist_value/src/lib", "plist_forms/src/loading"))
     for name, number in re.findall(r"pub const (MAX_\w+): u64 = ([\d_]+);", constants):
         for page in ("docs/FORMATS.md", "SECURITY.md"):
