@@ -61,7 +61,8 @@ SHORT = ["table.txt", "twice.txt", "shared.bin", "same-keys.bin"]
 WORDS = [["convert", "binary1", "IN", "out"], ["convert", "openstep", "IN", "out"], ["lint", "IN"], ["check", "IN"],
          ["print", "IN"], ["same", "IN", "table.txt"], ["same", "unsorted.bin", "IN"]]
 OTHER_WORDS = [["--help"], ["convert", "--help"], ["--version"], ["turn", "table.bin"], ["check"], ["lint", "missing"],
-               ["check", "missing"], ["convert", "binary1", "table.bin", "no/out"], ["same", "table.bin", "missing"]]
+               ["check", "missing"], ["convert", "binary1", "table.bin", "no/out"], ["same", "table.bin", "missing"],
+               ["explain"], ["explain", "14"], ["explain", "turn"]]
 
 
 class Refusing:

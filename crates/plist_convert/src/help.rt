@@ -14,9 +14,10 @@ Without a command, converts standard input to standard output. If the input is
 refused, one line that says so is written in place of the file:
   plistconv < Info.plist > OUT || rm OUT
 
-All messages are on standard output, usage errors too. The exit status tells
-them from answers: 0 done, equal, accepted or canonical; 1 different or not
-canonical; 2 an input is refused; 3 usage error; 4 I/O error; 5 out of memory.
+All messages are on standard output, usage errors too: only 0 and 1 are answers.
+Exit status: 0 done, equal, accepted or canonical; 1 different or not canonical;
+2 an input is refused; 3 usage error; 4 I/O error; 5 out of memory.
+
 `plistconv explain` lists what refusals mean, `man plistconv` says the rest.";
 
 /// What `convert` is for.

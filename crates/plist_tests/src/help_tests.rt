@@ -13,7 +13,7 @@ fn size_of(text: &str) -> (usize, usize) {
 }
 
 /// The arguments, how the help begins, and an example in it.
-const ROWS: [(&str, &str, &str); 6] = [
+const ROWS: [(&str, &str, &str); 7] = [
     (
         "--help",
         "Converts Apple property lists",
@@ -26,23 +26,28 @@ const ROWS: [(&str, &str, &str); 6] = [
     ),
     (
         "same --help",
-        "Says whether two files",
+        "Compares the values",
         "Example: plistconv same ",
     ),
     (
         "lint --help",
-        "Says whether a file is a",
+        "Checks whether a file is a",
         "plutil -convert binary1 -o OUT IN",
     ),
     (
         "check --help",
-        "Says whether a file is the",
+        "Checks whether a file is already",
         "Example: plistconv check ",
     ),
     (
         "print --help",
         "Prints the value of a file",
         "Example: plistconv print ",
+    ),
+    (
+        "explain --help",
+        "Explains a refusal",
+        "Example: plistconv explain 14",
     ),
 ];
 
@@ -54,8 +59,8 @@ fn explains(text: &str, line: &str, front: &str, example: &str) -> bool {
     for part in [
         example,
         "Exit status:",
-        "the words are not understood",
-        "no memory is left",
+        "usage error",
+        "out of memory",
     ] {
         if !text.contains(part) {
             return false;

@@ -161,10 +161,16 @@ fn writes_a_long_file(rt: HostRuntime) -> Result<(), Fail> {
 }
 
 /// Runs, and how their output begins.
-const OTHER_WORDS: [&str; 11] = [
+const OTHER_WORDS: [&str; 17] = [
     "-h|0 Converts Apple property lists",
-    "lint -h|0 Says whether a file is a",
+    "lint -h|0 Checks whether a file is a",
     "--version|0 plistconv 0.3.0\n",
+    "explain|0 1 TooShort: ",
+    "explain 14|0 14 DuplicateKey: a dictionary has the same key twice\n\n",
+    "explain OutOfMemory|0 60 OutOfMemory: ",
+    "explain C5|0 C5: ",
+    "explain 22|3 error: '22' is no refusal and no rule: plistconv explain lists them\n",
+    "explain 14 C5|3 error: ",
     "turn row2.txt|3 error: ",
     "same row2.txt|3 error: ",
     "lint|3 error: ",

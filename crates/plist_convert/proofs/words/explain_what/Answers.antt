@@ -1,4 +1,4 @@
-use Rattle.std.proofs.Common.{rules, option_map}
+use Rattle.std.proofs.Common.{option_map}
 use Rattle.plist_convert.specs.Answer.{explained_said}
 use Rattle.plist_convert.specs.Runs.{IsExplainRun}
 use Rattle.plist_convert.specs.State.{state}
