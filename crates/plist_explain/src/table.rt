@@ -20,10 +20,10 @@ To see what such a file is:
         Subject::Refusal(Refusal::BadHeader),
         "the file does not begin with bplist00",
         "\
-A binary property list begins with the 8 bytes bplist00. `check` reads every
-file as binary and answers this for an OpenStep text or XML file, since these
-have no canonical form of their own. To see what such a file is, and to write
-the canonical file of a text:
+A binary property list begins with the 8 bytes bplist00; bplist15, say, is not
+read. `check` reads every file as binary and answers this for an OpenStep text
+or XML file, since these have no canonical form of their own. To see what such
+a file is, and to write the canonical file of a text:
   plistconv lint FILE
   plistconv convert binary1 FILE OUT",
     ),
@@ -85,9 +85,9 @@ writes the file, leave the key out, or write an empty string or false.",
         "the file is a keyed archive: it has a UID",
         "\
 NSKeyedArchiver writes such files, with the keys $archiver and $objects. A UID
-is how one object of the archive refers to another, and no property list value,
-so plistconv reads none. Two archives can differ and yet contain equal objects:
-compare them in the program that reads them. On macOS, to look into one:
+is how one object of the archive refers to another. It is no property list
+value, so plistconv reads none. Two archives of equal objects can differ, so
+compare them in the program that reads them. To look into one on macOS:
   plutil -p FILE",
     ),
     (
@@ -174,9 +174,9 @@ Keep long data in files of their own, and write the names of these files.",
         "the text is not in UTF-8",
         "\
 A text is read as UTF-8, or as UTF-16 if it begins with a byte order mark. At
-the byte named there is no character of UTF-8. Old texts are often in Latin-1
-or MacRoman: try both, and keep the one whose letters are right. A picture, or
-any other file that is no property list, is refused like this too.
+the byte named there is no character of UTF-8. A picture, or any other file
+that is no property list, is refused like this too. Old texts are often in
+Latin-1 or MacRoman: try both, and keep the one whose letters are right.
   iconv -f LATIN1 -t UTF-8 FILE > OUT
   iconv -f MACINTOSH -t UTF-8 FILE > OUT",
     ),
@@ -184,8 +184,8 @@ any other file that is no property list, is refused like this too.
         Subject::Refusal(Refusal::XmlForm),
         "an XML property list, which has to be made binary first",
         "\
-plistconv does not read XML. Each of these makes the file binary; use the same
-one always, since plistutil makes 2.5 a real of 4 bytes, the others one of 8:
+plistconv does not read XML. Each of these makes the file binary. Always use
+the same one: plistutil writes 2.5 in 4 bytes, plistconv-canonicalise in 8.
   plutil -convert binary1 -o OUT FILE
   plistutil -i FILE -f bin -o OUT
   plistconv-canonicalise --from-xml - < FILE > OUT",
@@ -195,7 +195,7 @@ one always, since plistutil makes 2.5 a real of 4 bytes, the others one of 8:
         "a character that is not allowed outside quotes",
         "\
 A string needs quotes if it has other characters than ASCII letters and digits
-and _ $ / : . - as in name = \"Tea + milk\"; and the quotes are straight ones.
+and _ $ / : . - as in name = \"Tea + milk\"; the quotes must be straight ones.
 JSON, with its [ and ], is none of the forms that are read: have a program that
 reads JSON write a binary property list, as this does on macOS:
   plutil -convert binary1 -o OUT FILE",
@@ -280,8 +280,8 @@ not belong there. Fetch it again.",
         "the value has a kind that OpenStep texts cannot hold",
         "\
 An OpenStep text holds strings, data, arrays and dictionaries. It has no way to
-write integers, reals, dates, true and false. To see which of them there are,
-and to keep them in a binary file:
+write integers, reals, dates and booleans (true and false). To see which of
+them there are, and to keep them in a binary file:
   plistconv print FILE
   plistconv convert binary1 FILE OUT",
     ),
@@ -303,7 +303,7 @@ OUT is a folder, is in a folder that is not there, you may not write it, the
 disk is full, or nothing reads the pipe any more. These say which:
   touch OUT
   df OUT
-OUT has the first bytes, as many as the line says, and no more: delete it.",
+If the number of bytes is above 0, OUT has only those: delete it.",
     ),
     (
         Subject::Refusal(Refusal::InputTooLarge),
@@ -320,15 +320,15 @@ long data in files of their own and write the names of these files.",
 The same file may be accepted where there is more memory. Most files need one
 to three times their size, texts of very many short items much more. Raise the
 limit, which `ulimit -v` shows, or that of the container, and try again. If a
-number of bytes above 0 is named, the output has only those: delete it.",
+number of bytes above 0 is named, OUT has only those: delete it.",
     ),
     (
         Subject::Rule(0),
         "every object can be read, and the value is within the limits",
         "\
-`lint` says what is wrong with the object that `check` names, unless the value
-does not use it. If `lint` accepts the file, the second line leaves out what is
-not used and writes the canonical file:
+`lint` says what is wrong, unless the value does not use the object named. If
+`lint` accepts the file, the second line leaves out what is not used and writes
+the canonical file:
   plistconv lint FILE
   plistconv convert binary1 FILE OUT",
     ),
@@ -345,9 +345,9 @@ object last. To write the canonical file:
         Subject::Rule(2),
         "offsets and references have the least widths",
         "\
-Up to 255 objects are referred to by one byte each, and an offset has no more
-bytes than the largest needs. Programs that always write two or four bytes
-break this rule. To write the canonical file:
+A file of up to 255 objects refers to them in one byte each, and has offsets of
+one byte if the objects end before byte 256. Programs that always write two or
+four bytes break this rule. To write the canonical file:
   plistconv convert binary1 FILE OUT",
     ),
     (
@@ -364,8 +364,8 @@ that overlap, break this rule. To write the canonical file:
         "each object is as short as can be",
         "\
 The integer 5 has one byte and not eight, a string of ASCII characters one byte
-for each, and a length below 15 is in the first byte. To write the canonical
-file:
+for each, and a length below 15 is part of the first byte. To write the
+canonical file:
   plistconv convert binary1 FILE OUT",
     ),
     (
