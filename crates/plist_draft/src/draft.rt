@@ -18,7 +18,7 @@ ghost use Rattle.plist_draft.specs.OneProof.{IsDraft-prop};
 ghost use Rattle.plist_draft.specs.Told.{SpellsIn, SpellItemsIn, SpellPairsIn, Keeps, Shows};
 
 use crate::ends::{are_octets, put_places};
-use crate::recent::{Recent, Role, hash_of};
+use crate::recent::{Recent, hash_of};
 use crate::wanted::Wanted;
 use plist_object::{HEADER, put_scalar, put_short_list, put_short_table, put_trailer, short};
 use plist_value::ScalarRef;
@@ -77,14 +77,13 @@ impl Draft {
     }
 
     /// Puts a scalar as [`Draft::put_scalar`] does, or answers the number of an equal one that was
-    /// put of late. Of scalars that are put often, few objects stand in the draft; where few of a
-    /// role are put again, many of that role are put without a look.
+    /// put before. Most scalars that are put often have one object.
     ///
     /// # Errors
     ///
-    /// Those of [`Draft::put_scalar`], and where there is no memory for what was put of late. The
+    /// Those of [`Draft::put_scalar`], and where there is no memory for the table of scalars. The
     /// draft is then as it was.
-    pub fn share_scalar(&mut self, scalar: &ScalarRef, role: Role) -> Result<u32, AllocError>
+    pub fn share_scalar(&mut self, scalar: &ScalarRef) -> Result<u32, AllocError>
         requires { IsScalar (content_of scalar.now) }
         ensures put { OnOk result ((objects self.new ≡ objects self.old) ⊎ (objects self.new
             ≡ objects self.old ++ (holds_scalar (content_of scalar.now) ∷ []))) }
@@ -93,30 +92,22 @@ impl Draft {
         ensures kept { Keeps (objects self.old) (objects self.new) }
         ensures refused { OnErr result (objects self.new ≡ objects self.old) }
     {
-        if self.recent.passes_over(role) {
-            return self.put_scalar(scalar);
-        }
         self.recent.prepare(self.places.len())?;
         let Some(text) = short_ascii(scalar) else {
-            return self.share_spelled(scalar, role);
+            return self.share_spelled(scalar);
         };
         let hash = hash_of(text);
         let wanted = Wanted::Ascii(text);
-        if let Some(same) = self
-            .recent
-            .find_again(hash, wanted, &self.octets, &self.places)
-        {
-            self.recent.hit(role);
+        if let Some(same) = self.recent.find(hash, wanted, &self.octets, &self.places) {
             return Ok(same);
         }
-        let start = short(self.octets.len() as u64)?;
         let number = self.put_scalar(scalar)?;
-        self.recent.keep(role, hash, number, start);
+        self.recent.keep(hash, number);
         Ok(number)
     }
 
     // The same of any scalar: it is spelled before an equal one is looked for.
-    fn share_spelled(&mut self, scalar: &ScalarRef, role: Role) -> Result<u32, AllocError>
+    fn share_spelled(&mut self, scalar: &ScalarRef) -> Result<u32, AllocError>
         requires { IsScalar (content_of scalar.now) }
         ensures put { OnOk result ((objects self.new ≡ objects self.old) ⊎ (objects self.new
             ≡ objects self.old ++ (holds_scalar (content_of scalar.now) ∷ []))) }
@@ -130,12 +121,11 @@ impl Draft {
         let (before, spelled) = self.octets.split_at(place as usize);
         let hash = hash_of(spelled);
         let wanted = Wanted::Spelled(spelled);
-        if let Some(known) = self.recent.find_again(hash, wanted, before, &self.places) {
+        if let Some(known) = self.recent.find(hash, wanted, before, &self.places) {
             self.octets.truncate(place as usize);
-            self.recent.hit(role);
             return Ok(known);
         }
-        self.recent.keep(role, hash, number, place);
+        self.recent.keep(hash, number);
         self.places.push_reserved(place);
         Ok(number)
     }

@@ -10,5 +10,4 @@ pub mod values;
 mod wanted;
 
 pub use draft::Draft;
-pub use recent::Role;
 pub use values::put_value;
