@@ -5,7 +5,6 @@ pub use Rattle.plist_object.specs.Objects
 pub use Rattle.plist_object.specs.Spelled
 pub use Rattle.plist_object.specs.Files
 pub mod Stored
-pub mod Wanted
 pub mod OneProof
 pub mod Told
 pub mod View

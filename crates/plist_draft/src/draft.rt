@@ -1,7 +1,7 @@
 //! A binary file that grows.
 ghost use Rattle.std.specs.Prelude.{◌≡◌, ◌+◌, ◌<◌, ◌≤◌, ◌^◌, ◌++◌, ◌∷◌, []};
 ghost use Rattle.std.specs.Prelude.{ℕ, List, length, vec_len, vec_capacity};
-ghost use Rattle.std.specs.Prelude.{IfOk, IfSome, IsOk, OnOk, OnErr, ◌↔◌, ◌⊎◌};
+ghost use Rattle.std.specs.Prelude.{IfOk, IsOk, OnOk, OnErr, ◌↔◌, ◌⊎◌};
 ghost use Rattle.std.specs.List.{zip};
 ghost use Rattle.std.specs.List.Sorted.{IsPermutation};
 ghost use Rattle.plist_value.specs.Plist.{Plist, Items, Pairs, IsPlist, IsScalar};
@@ -13,13 +13,11 @@ ghost use Rattle.plist_object.specs.Sizes.{IsSmall};
 ghost use Rattle.plist_object.specs.Spelling.{scalar_spelling};
 ghost use Rattle.plist_object.specs.Spelled.{IsBinary};
 ghost use Rattle.plist_draft.specs.Stored.{AreKept, IsDraft, draft_file};
-ghost use Rattle.plist_draft.specs.Wanted.{IsShortAscii};
 ghost use Rattle.plist_draft.specs.OneProof.{IsDraft-prop};
 ghost use Rattle.plist_draft.specs.Told.{SpellsIn, SpellItemsIn, SpellPairsIn, Keeps, Shows};
 
 use crate::ends::{are_octets, put_places};
 use crate::recent::{Recent, hash_of};
-use crate::wanted::Wanted;
 use plist_object::{HEADER, put_scalar, put_short_list, put_short_table, put_trailer, short};
 use plist_value::ScalarRef;
 use std::alloc::{AllocError, Global};
@@ -93,35 +91,11 @@ impl Draft {
         ensures refused { OnErr result (objects self.new ≡ objects self.old) }
     {
         self.recent.prepare(self.places.len())?;
-        let Some(text) = short_ascii(scalar) else {
-            return self.share_spelled(scalar);
-        };
-        let hash = hash_of(text);
-        let wanted = Wanted::Ascii(text);
-        if let Some(same) = self.recent.find(hash, wanted, &self.octets, &self.places) {
-            return Ok(same);
-        }
-        let number = self.put_scalar(scalar)?;
-        self.recent.keep(hash, number);
-        Ok(number)
-    }
-
-    // The same of any scalar: it is spelled before an equal one is looked for.
-    fn share_spelled(&mut self, scalar: &ScalarRef) -> Result<u32, AllocError>
-        requires { IsScalar (content_of scalar.now) }
-        ensures put { OnOk result ((objects self.new ≡ objects self.old) ⊎ (objects self.new
-            ≡ objects self.old ++ (holds_scalar (content_of scalar.now) ∷ []))) }
-        ensures spells { IfOk result (λ number.
-            SpellsIn (objects self.new) number (one_scalar (content_of scalar.now))) }
-        ensures kept { Keeps (objects self.old) (objects self.new) }
-        ensures refused { OnErr result (objects self.new ≡ objects self.old) }
-    {
         let (number, place) = self.begin()?;
         spell(&mut self.octets, scalar)?;
         let (before, spelled) = self.octets.split_at(place as usize);
         let hash = hash_of(spelled);
-        let wanted = Wanted::Spelled(spelled);
-        if let Some(known) = self.recent.find(hash, wanted, before, &self.places) {
+        if let Some(known) = self.recent.find(hash, spelled, before, &self.places) {
             self.octets.truncate(place as usize);
             return Ok(known);
         }
@@ -238,21 +212,6 @@ fn spell(octets: &mut Vec<u8>, scalar: &ScalarRef) -> Result<(), AllocError>
 {
     is_small(scalar)?;
     put_scalar(octets, scalar)
-}
-
-// The octets of a string that is kept as ASCII octets, below 256.
-fn short_ascii<'a>(scalar: &ScalarRef<'a>) -> Option<&'a [u8]>
-    ensures { IfSome result (λ octets. IsShortAscii (content_of scalar.now) octets.now) }
-{
-    let ScalarRef::Text(text) = scalar else {
-        return None;
-    };
-    let octets = text.octets()?;
-    if octets.len() < 256 && text.is_ascii() {
-        Some(octets)
-    } else {
-        None
-    }
 }
 
 // Whether a text has below 2^32 units, and data below 2^32 octets.

@@ -7,7 +7,6 @@ mod ends;
 pub mod laws;
 mod recent;
 pub mod values;
-mod wanted;
 
 pub use draft::Draft;
 pub use values::put_value;

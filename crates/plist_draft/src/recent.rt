@@ -2,9 +2,7 @@
 ghost use Rattle.std.specs.Prelude.{IfSome};
 ghost use Rattle.std.specs.Bool.{OnTrue};
 ghost use Rattle.plist_draft.specs.Stored.{StandsAgain};
-ghost use Rattle.plist_draft.specs.Wanted.{wanted_octets};
 
-use crate::wanted::Wanted;
 use plist_value::FixedHasher;
 use std::alloc::{AllocError, Global};
 use std::hash::{BuildHasher, Hasher};
@@ -60,15 +58,15 @@ impl Recent {
     pub(crate) fn find(
         &self,
         hash: u32,
-        wanted: Wanted,
+        spelled: &[u8],
         octets: &[u8],
         places: &[u32],
     ) -> Option<u32>
         ensures { IfSome result (λ number.
-            StandsAgain octets.now places.now number (wanted_octets wanted.entry)) }
+            StandsAgain octets.now places.now number spelled.now) }
     {
         let entry = self.slots.get(self.slot_of(hash))?;
-        if entry.hash == hash && stands_again(octets, places, entry.number, wanted) {
+        if entry.hash == hash && stands_again(octets, places, entry.number, spelled) {
             Some(entry.number)
         } else {
             None
@@ -91,9 +89,9 @@ pub(crate) fn hash_of(octets: &[u8]) -> u32 {
     (hasher.finish() >> 32) as u32
 }
 
-// Returns whether the object with the number begins with what is wanted.
-fn stands_again(octets: &[u8], places: &[u32], number: u32, wanted: Wanted) -> bool
-    ensures { OnTrue result (StandsAgain octets.now places.now number (wanted_octets wanted.entry)) }
+// Returns whether the object with the number is spelled so.
+fn stands_again(octets: &[u8], places: &[u32], number: u32, spelled: &[u8]) -> bool
+    ensures { OnTrue result (StandsAgain octets.now places.now number spelled.now) }
 {
     let Some(place) = places.get(number as usize) else {
         return false;
@@ -103,5 +101,5 @@ fn stands_again(octets: &[u8], places: &[u32], number: u32, wanted: Wanted) -> b
         return false;
     }
     let (_, behind) = octets.split_at(start);
-    wanted.stands_first(behind)
+    behind.starts_with(spelled)
 }
