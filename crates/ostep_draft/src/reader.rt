@@ -18,7 +18,7 @@ use crate::first::First;
 use crate::rows::Rows;
 use crate::tokens::Tokens;
 use ostep_lex::{Token, TokenKind};
-use plist_draft::{Draft, Role};
+use plist_draft::Draft;
 use plist_value::{MAX_DEPTH, ScalarRef, TextRef};
 use std::alloc::Global;
 
@@ -97,8 +97,8 @@ impl<'a> Reader<'a> {
             return Err(NoDraft::NoValue);
         }
         match first {
-            First::Plain(text) => self.put_text(text, Role::Value),
-            First::Units(units) => self.put_units(units, Role::Value),
+            First::Plain(text) => self.put_text(text),
+            First::Units(units) => self.put_units(units),
             First::Other(token) => self.token_value(token, levels - 1),
         }
     }
@@ -118,7 +118,7 @@ impl<'a> Reader<'a> {
             (objects self.new.draft) self.new.tokens.cursor) }
     {
         match first.kind {
-            TokenKind::Text(text) => self.put_text(TextRef::of_units(text.units()), Role::Value),
+            TokenKind::Text(text) => self.put_text(TextRef::of_units(text.units())),
             TokenKind::Octets(octets) => self.put_data(&octets),
             TokenKind::ParenOpen => {
                 let items = self.items(levels)?;
@@ -231,7 +231,7 @@ impl<'a> Reader<'a> {
     }
 
     // Puts a text, and answers its number.
-    fn put_text(&mut self, text: TextRef<'_>, role: Role) -> Result<u32, NoDraft>
+    fn put_text(&mut self, text: TextRef<'_>) -> Result<u32, NoDraft>
         requires { AreUnits (units_of text) }
         ensures put { IfOk result (Puts (objects self.old.draft) (objects self.new.draft)
             (holds_scalar (one_text (units_of text.entry)))) }
@@ -239,18 +239,18 @@ impl<'a> Reader<'a> {
         ensures cursor { self.new.tokens.cursor ≡ self.old.tokens.cursor }
     {
         let scalar = ScalarRef::Text(text);
-        Ok(self.draft.share_scalar(&scalar, role)?)
+        Ok(self.draft.share_scalar(&scalar)?)
     }
 
     // Puts the text of these units, and answers its number. They leave their room to those of the
     // next string, unless it is large.
-    fn put_units(&mut self, units: Vec<u16>, role: Role) -> Result<u32, NoDraft>
+    fn put_units(&mut self, units: Vec<u16>) -> Result<u32, NoDraft>
         ensures put { IfOk result (Puts (objects self.old.draft) (objects self.new.draft)
             (holds_scalar (one_text units.items))) }
         ensures memory { IfErr result (λ why. why ≡ OutOfMemory) }
         ensures cursor { self.new.tokens.cursor ≡ self.old.tokens.cursor }
     {
-        let number = self.put_text(TextRef::of_units(units.as_slice()), role)?;
+        let number = self.put_text(TextRef::of_units(units.as_slice()))?;
         if units.capacity() <= MOST_ROOM {
             self.tokens.room = units;
         }
@@ -266,8 +266,8 @@ impl<'a> Reader<'a> {
         ensures cursor { self.new.tokens.cursor ≡ self.old.tokens.cursor }
     {
         match first {
-            First::Plain(text) => self.put_text(text, Role::Key),
-            First::Units(units) => self.put_units(units, Role::Key),
+            First::Plain(text) => self.put_text(text),
+            First::Units(units) => self.put_units(units),
             First::Other(token) => self.put_key_token(&token.kind),
         }
     }
@@ -278,7 +278,7 @@ impl<'a> Reader<'a> {
         ensures cursor { self.new.tokens.cursor ≡ self.old.tokens.cursor }
     {
         match kind {
-            TokenKind::Text(text) => self.put_text(TextRef::of_units(text.units()), Role::Key),
+            TokenKind::Text(text) => self.put_text(TextRef::of_units(text.units())),
             _ => Err(NoDraft::NoValue),
         }
     }
