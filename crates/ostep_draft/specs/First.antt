@@ -4,15 +4,13 @@ use Rattle.plist_value.specs.Plist.{AreUnits}
 use Rattle.plist_value.specs.Texts.{units_of}
 use Rattle.ostep_lex.specs.Lexeme.{Lexeme, lexeme_of, text}
 use Rattle.ostep_draft.specs.declared.first.First.{First}
-use Rattle.ostep_draft.specs.declared.first.First.TheVariants.{Plain, Units, Other}
+use Rattle.ostep_draft.specs.declared.first.First.TheVariants.{Plain, Other}
 
 abbrev pub first_lexeme : First → Lexeme
 first_lexeme (Plain string) = text (units_of string)
-first_lexeme (Units units) = text units.items
 first_lexeme (Other token) = lexeme_of token.kind
 
 -- its units have 16 bits
 abbrev pub IsValid : First → Type 0
 IsValid (Plain string) = AreUnits (units_of string)
-IsValid (Units units) = ⊤
 IsValid (Other token) = ⊤

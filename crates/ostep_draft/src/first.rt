@@ -7,12 +7,10 @@ ghost use Rattle.ostep_draft.specs.First.{first_lexeme};
 use ostep_lex::{Token, TokenKind};
 use plist_value::TextRef;
 
-// A token: the text of a string that was read where it stands, the units of one that was not, or
-// any token.
+// A token: the text of a string that was read where it stands, or any token.
 #[derive(Drop)]
 pub(crate) enum First<'a> {
     Plain(TextRef<'a>),
-    Units(Vec<u16>),
     Other(Token),
 }
 
@@ -23,7 +21,7 @@ impl<'a> First<'a> {
         ensures { OnTrue result (first_lexeme self.now ≡ paren_close) }
     {
         match self {
-            First::Plain(_) | First::Units(_) => false,
+            First::Plain(_) => false,
             First::Other(token) => matches!(token.kind, TokenKind::ParenClose),
         }
     }
@@ -34,7 +32,7 @@ impl<'a> First<'a> {
         ensures { OnTrue result (first_lexeme self.now ≡ brace_close) }
     {
         match self {
-            First::Plain(_) | First::Units(_) => false,
+            First::Plain(_) => false,
             First::Other(token) => matches!(token.kind, TokenKind::BraceClose),
         }
     }

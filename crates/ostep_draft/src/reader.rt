@@ -25,9 +25,6 @@ use std::alloc::Global;
 // How many levels deep what lies in a table without braces may be.
 const BARE_LEVELS: u64 = MAX_DEPTH - 1;
 
-// The greatest capacity, in UTF-16 units, that a string leaves to the next.
-const MOST_ROOM: usize = 65_536;
-
 // The tokens that are to be read of an input, and what was put for those before.
 #[derive(Drop)]
 pub(crate) struct Reader<'a> {
@@ -98,7 +95,6 @@ impl<'a> Reader<'a> {
         }
         match first {
             First::Plain(text) => self.put_text(text),
-            First::Units(units) => self.put_units(units),
             First::Other(token) => self.token_value(token, levels - 1),
         }
     }
@@ -242,21 +238,6 @@ impl<'a> Reader<'a> {
         Ok(self.draft.share_scalar(&scalar)?)
     }
 
-    // Puts the text of these units, and answers its number. They leave their room to those of the
-    // next string, unless it is large.
-    fn put_units(&mut self, units: Vec<u16>) -> Result<u32, NoDraft>
-        ensures put { IfOk result (Puts (objects self.old.draft) (objects self.new.draft)
-            (holds_scalar (one_text units.items))) }
-        ensures memory { IfErr result (λ why. why ≡ OutOfMemory) }
-        ensures cursor { self.new.tokens.cursor ≡ self.old.tokens.cursor }
-    {
-        let number = self.put_text(TextRef::of_units(units.as_slice()))?;
-        if units.capacity() <= MOST_ROOM {
-            self.tokens.room = units;
-        }
-        Ok(number)
-    }
-
     // Puts the text of a string as a key, and answers its number.
     #[inline(always)]
     fn put_key(&mut self, first: First<'_>) -> Result<u32, NoDraft>
@@ -267,7 +248,6 @@ impl<'a> Reader<'a> {
     {
         match first {
             First::Plain(text) => self.put_text(text),
-            First::Units(units) => self.put_units(units),
             First::Other(token) => self.put_key_token(&token.kind),
         }
     }

@@ -2,7 +2,7 @@
 ghost use Rattle.std.specs.Prelude.{◌≡◌, ◌<◌, ◌∷◌, ◌++◌, [], ℕ, List, length};
 ghost use Rattle.std.specs.Prelude.{MatchOption, IfNone, IfSome, IfOk, IfErr};
 ghost use Rattle.std.specs.Result.{OnOk};
-ghost use Rattle.ostep_lex.specs.Lexeme.{Placed, placed, text as string};
+ghost use Rattle.ostep_lex.specs.Lexeme.{Placed, placed};
 ghost use Rattle.ostep_lex.specs.Lexing.{HasTokens, HasNoTokens};
 ghost use Rattle.ostep_lex.specs.Cursor.{ahead, AddsToken, StandsBehind};
 ghost use Rattle.ostep_draft.specs.declared.failure.NoDraft.TheVariants.{NoValue};
@@ -10,7 +10,7 @@ ghost use Rattle.ostep_draft.specs.First.{first_lexeme, IsValid};
 
 use crate::failure::NoDraft;
 use crate::first::First;
-use ostep_lex::{Cursor, Token, TokenKind, next_mark, next_plain, next_token, next_units};
+use ostep_lex::{Cursor, Token, TokenKind, next_mark, next_plain, next_token};
 use std::alloc::Global;
 
 // The tokens of an input from a place on.
@@ -18,11 +18,6 @@ use std::alloc::Global;
 pub(crate) struct Tokens<'a> {
     pub(crate) alloc: Global,
     pub(crate) cursor: Cursor<'a>,
-    // What the units of the next string fill that is no plain one.
-    pub(crate) room: Vec<u16>,
-    // Whether the last token that was no plain string was a string all the same. Then the next such
-    // token mostly is one too; elsewhere it is a mark, and looking for a string costs more.
-    has_units: bool,
 }
 
 impl<'a> Tokens<'a> {
@@ -30,12 +25,7 @@ impl<'a> Tokens<'a> {
     pub(crate) fn new(alloc: Global, cursor: Cursor<'a>) -> Tokens<'a>
         ensures { result.cursor ≡ cursor.entry }
     {
-        Tokens {
-            alloc,
-            cursor,
-            room: Vec::new(alloc),
-            has_units: false,
-        }
+        Tokens { alloc, cursor }
     }
 
     // Whether they are those of a table without braces, by their beginning: there is none, or there
@@ -105,24 +95,6 @@ impl<'a> Tokens<'a> {
         }
     }
 
-    // The units of the next token, where this is a string and strings are expected. Else the cursor
-    // stays.
-    #[inline(always)]
-    fn next_string(&mut self) -> Option<Vec<u16>>
-        ensures some { IfSome result (λ units.
-            AddsToken (string units.items) self.old.cursor self.new.cursor) }
-        ensures shorter { IfSome result (λ _.
-            length (ahead self.new.cursor) < length (ahead self.old.cursor)) }
-        ensures none { IfNone result (self.new.cursor ≡ self.old.cursor) }
-    {
-        if !self.has_units {
-            return None;
-        }
-        let (units, behind) = next_units(self.alloc, self.cursor, &mut self.room)?;
-        self.cursor = behind;
-        Some(units)
-    }
-
     // The next token, or None where the text ends, with less work where it is a string.
     #[inline(always)]
     pub(crate) fn next_first(&mut self) -> Result<Option<First<'a>>, NoDraft>
@@ -139,14 +111,8 @@ impl<'a> Tokens<'a> {
             self.cursor = behind;
             return Ok(Some(First::Plain(text)));
         }
-        if let Some(units) = self.next_string() {
-            return Ok(Some(First::Units(units)));
-        }
         match self.next()? {
-            Some(token) => {
-                self.has_units = is_string(&token);
-                Ok(Some(First::Other(token)))
-            }
+            Some(token) => Ok(Some(First::Other(token))),
             None => Ok(None),
         }
     }
@@ -165,8 +131,4 @@ impl<'a> Tokens<'a> {
             None => Err(NoDraft::NoValue),
         }
     }
-}
-
-fn is_string(token: &Token) -> bool {
-    matches!(token.kind, TokenKind::Text(_))
 }

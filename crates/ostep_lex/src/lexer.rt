@@ -54,11 +54,11 @@ fn token_here(
         return Ok(Some((kind, behind)));
     }
     if is_run(c) {
-        let (units, end) = run(Vec::new(alloc), cursor)?;
+        let (units, end) = run(alloc, cursor)?;
         return Ok(Some((TokenKind::Text(Utf16::from_units(units)), end)));
     }
     if is_quote(c) {
-        let (units, end) = quoted(Vec::new(alloc), c, cursor.place(), behind)?;
+        let (units, end) = quoted(alloc, c, cursor.place(), behind)?;
         return Ok(Some((TokenKind::Text(Utf16::from_units(units)), end)));
     }
     if c == '<' {

@@ -1,5 +1,5 @@
 //! Strings, unquoted and quoted, and their escapes.
-ghost use Rattle.std.specs.Prelude.{◌≡◌, ◌==◌, ◌++◌, [], ◌∷◌, true, false, List, ℕ, OnOk, IfOk};
+ghost use Rattle.std.specs.Prelude.{◌≡◌, ◌==◌, ◌++◌, ◌∷◌, true, false, List, ℕ, OnOk, IfOk};
 ghost use Rattle.std.specs.Prelude.{IfErr};
 ghost use Rattle.std.specs.Char.Escape.{encode_utf16};
 ghost use Rattle.ostep_lex.specs.Digits.{begins_digit};
@@ -16,15 +16,14 @@ use crate::cursor::Cursor;
 use crate::digits::{begins_digit, number};
 use crate::fault::LexFault;
 use crate::stretch::Class;
-use std::alloc::AllocError;
+use std::alloc::{AllocError, Global};
 
 /// The units of the run at the cursor, as many run characters as stand there, and the cursor behind
-/// it. The units fill an empty vector.
-pub fn run(room: Vec<u16>, cursor: Cursor<'_>) -> Result<(Vec<u16>, Cursor<'_>), AllocError>
-    requires { room.items ≡ [] }
+/// it.
+pub fn run(alloc: Global, cursor: Cursor<'_>) -> Result<(Vec<u16>, Cursor<'_>), AllocError>
     ensures { IfOk result (λ found. PassesRun cursor.entry found.1 found.0.items) }
 {
-    let mut units = room;
+    let mut units = Vec::new(alloc);
     let mut rest = cursor.push_stretch(Class::Run, &mut units)?;
     while let Some((c, behind)) = rest.first() {
         if !is_run(c) {
@@ -204,19 +203,18 @@ fn push_raw_behind<'a>(
 }
 
 /// The units of the string behind its quote, which stands at the place `start`, and the cursor
-/// behind the quote that closes it. The units fill an empty vector.
+/// behind the quote that closes it.
 pub fn quoted(
-    room: Vec<u16>,
+    alloc: Global,
     mark: char,
     start: usize,
     cursor: Cursor<'_>,
 ) -> Result<(Vec<u16>, Cursor<'_>), LexFault>
-    requires { room.items ≡ [] }
     ensures ok { IfOk result (λ found. PassesQuoted mark cursor.entry found.1 found.0.items) }
     ensures err { IfErr result (UnlessMemory
         (QuotedFault (places_in cursor.entry) start mark (ahead cursor.entry))) }
 {
-    let mut units = room;
+    let mut units = Vec::new(alloc);
     let mut rest = push_raw(&mut units, mark, cursor)?;
     while let Some((c, behind)) = rest.first() {
         if c == mark {

@@ -10,7 +10,7 @@ use Rattle.ostep_lex.proofs.quoted.run.Goals.{in-Some+then-not-is_run, in_defaul
 pub loop-c-init : goal.loop-c-init
 loop-c-init c =
     let q = c.in_ok-rest.ensures in
-    let all : c.push_stretch.new.units.items ≡ q.front = q.appended ∙ ap (λ us. us ++ q.front) c.requires in (
+    let all : c.push_stretch.new.units.items ≡ q.front = q.appended ∙ ap (λ us. us ++ q.front) c.new-units.ensures.items in (
       λ more end r. subst (λ us. Run (ahead c.args.cursor) (us ++ more) end) (sym all) (run_stretch q.passes r),
       q.passes.input,
     )

@@ -22,15 +22,6 @@ value-returns-in-Plain-clause-read t c octets tokens at l h =
     IfOk-weaker c.put_text.result (Puts old new (holds_scalar (text units))) (λ number. DraftsValue octets tokens at.lexeme number new c.put_text.new.self.tokens.cursor)
     (λ number p. drafts-text tokens at units number (l ∙ ap first_lexeme c.in-Plain.is) has p) c.put_text.ensures.put
 
-pub value-returns-in-Units-clause-read : goal.value-returns-in-Units-clause-read
-value-returns-in-Units-clause-read t c octets tokens at l h =
-    let old = objects c.args.self.now.draft in
-    let new = objects c.put_units.new.self.draft in
-    let units = c.in-Units.units.items in
-    let has : StandsBehind octets (tokens ++ at ∷ []) c.put_units.new.self.tokens.cursor = subst (λ x. StandsBehind octets (tokens ++ at ∷ []) x) (sym c.put_units.ensures.cursor) h in
-    IfOk-weaker c.put_units.result (Puts old new (holds_scalar (text units))) (λ number. DraftsValue octets tokens at.lexeme number new c.put_units.new.self.tokens.cursor)
-    (λ number p. drafts-text tokens at units number (l ∙ ap first_lexeme c.in-Units.is) has p) c.put_units.ensures.put
-
 pub token_value-returns-in-Text-clause-read : goal.token_value-returns-in-Text-clause-read
 token_value-returns-in-Text-clause-read t c octets tokens at l h =
     let old = objects c.args.self.now.draft in

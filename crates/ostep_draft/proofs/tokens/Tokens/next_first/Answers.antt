@@ -1,4 +1,4 @@
-use Rattle.std.proofs.Common.{◌≡◌, ◌∷◌, ◌++◌, [], refl, sym, subst}
+use Rattle.std.proofs.Common.{◌∷◌, ◌++◌, [], refl}
 use Rattle.ostep_lex.specs.Lexeme.{placed}
 use Rattle.ostep_lex.specs.Cursor.{StandsBehind}
 use Rattle.ostep_draft.proofs.tokens.Tokens.next_first.Goals as goal
@@ -8,8 +8,6 @@ returns-in-Some-2-clause-read c = record {
   token = placed c.in-Some-2.token;
   is = refl;
   stands = λ octets tokens h.
-      let stays : c.next_string.new.self.cursor ≡ c.args.self.now.cursor = c.in_default-next_string.ensures.none in
-      let before : StandsBehind octets tokens c.next_string.new.self.cursor = subst (λ x. StandsBehind octets tokens x) (sym stays) h in
-      let behind : StandsBehind octets (tokens ++ placed c.in-Some-2.token ∷ []) c.next.new.self.cursor = rw c.in-Some-2.is at (c.in_ok-token.ensures.read octets tokens before) in
+      let behind : StandsBehind octets (tokens ++ placed c.in-Some-2.token ∷ []) c.next.new.self.cursor = rw c.in-Some-2.is at (c.in_ok-token.ensures.read octets tokens h) in
       behind;
 }
