@@ -49,7 +49,7 @@ pub fn front_unit(order: ByteOrder, octets: &[u8]) -> Option<(u16, &[u8])>
 }
 
 /// The character at the front of UTF-16 octets, and the octets behind it.
-#[inline(never)]
+#[inline(always)]
 fn front_character(order: ByteOrder, octets: &[u8]) -> Option<(char, &[u8])>
     ensures { MatchOption result (BeginsWithNone (encoding_by order) octets.now)
         (λ found. BeginsWith (encoding_by order) octets.now found.0 found.1.now) }
@@ -66,59 +66,25 @@ fn front_character(order: ByteOrder, octets: &[u8]) -> Option<(char, &[u8])>
     Some((char::from_u32(code)?, behind))
 }
 
-/// Behind the unit at the front of UTF-16 octets, if it is no surrogate: a character by itself.
-#[inline(always)]
-fn behind_character(order: ByteOrder, octets: &[u8]) -> Option<&[u8]>
-    ensures fronts { IfSome result (λ behind. FrontsOf (encoding_by order) octets.now behind.now) }
-    ensures shorter { IfSome result (λ behind. length behind.now < length octets.now) }
-{
-    let (unit, behind) = front_unit(order, octets)?;
-    if (0xd800..0xe000).contains(&unit) {
-        return None;
-    }
-    let _character = char::from_u32(u32::from(unit))?;
-    Some(behind)
-}
-
-/// Behind the first four units, if none is a surrogate. Room is tested once for all of them.
-#[inline(always)]
-fn behind_four_characters(order: ByteOrder, octets: &[u8]) -> Option<&[u8]>
-    ensures fronts { IfSome result (λ behind. FrontsOf (encoding_by order) octets.now behind.now) }
-    ensures shorter { IfSome result (λ behind. length behind.now < length octets.now) }
-{
-    if octets.len() < 8 {
-        return None;
-    }
-    let first = behind_character(order, octets)?;
-    let second = behind_character(order, first)?;
-    let third = behind_character(order, second)?;
-    let fourth = behind_character(order, third)?;
-    Some(fourth)
-}
-
-/// Behind four units that are no surrogates, and four more, as often as such stand there.
-#[inline(always)]
-fn behind_many_characters(order: ByteOrder, octets: &[u8]) -> &[u8]
-    ensures fronts { FrontsOf (encoding_by order) octets.now result.now }
-    ensures shorter { length result.now ≤ length octets.now }
-{
-    let mut rest = octets;
-    while let Some(behind) = behind_four_characters(order, rest) {
-        rest = behind;
-    }
-    rest
-}
-
 /// The octets from the first place on at which no UTF-16 character begins.
 pub fn behind_characters(order: ByteOrder, octets: &[u8]) -> &[u8]
     ensures fronts { FrontsOf (encoding_by order) octets.now result.now }
     ensures none { BeginsWithNone (encoding_by order) result.now }
 {
-    let mut rest = behind_many_characters(order, octets);
+    let mut rest = octets;
     while let Some((_, behind)) = front_character(order, rest) {
-        rest = behind_many_characters(order, behind);
+        rest = behind;
     }
     rest
+}
+
+/// Like [`front_character`], but as a call: most inputs are UTF-8, and need no code for it.
+#[inline(never)]
+fn front_character_out_of_line(order: ByteOrder, octets: &[u8]) -> Option<(char, &[u8])>
+    ensures { MatchOption result (BeginsWithNone (encoding_by order) octets.now)
+        (λ found. BeginsWith (encoding_by order) octets.now found.0 found.1.now) }
+{
+    front_character(order, octets)
 }
 
 /// The first character of a text, and the text behind it.
@@ -156,7 +122,7 @@ impl<'a> Source<'a> {
                 Some((first, Source::Utf8(behind)))
             }
             Source::Utf16(order, octets) => {
-                let (first, behind) = front_character(order, octets)?;
+                let (first, behind) = front_character_out_of_line(order, octets)?;
                 Some((first, Source::Utf16(order, behind)))
             }
         }

@@ -113,25 +113,9 @@ fn behind_unit(class: Class, order: ByteOrder, octets: &[u8]) -> Option<&[u8]>
     }
 }
 
-/// Behind the first four units, if all are of the class. Room is tested once for all of them.
+/// Behind the longest stretch at the front of UTF-16 octets.
 #[inline(always)]
-fn behind_four_units(class: Class, order: ByteOrder, octets: &[u8]) -> Option<&[u8]>
-    ensures begins { IfSome result (λ behind. BeginsWithUnits class order octets.now behind.now) }
-    ensures shorter { IfSome result (λ behind. length behind.now < length octets.now) }
-{
-    if octets.len() < 8 {
-        return None;
-    }
-    let first = behind_unit(class, order, octets)?;
-    let second = behind_unit(class, order, first)?;
-    let third = behind_unit(class, order, second)?;
-    let fourth = behind_unit(class, order, third)?;
-    Some(fourth)
-}
-
-/// Behind the longest stretch at the front of UTF-16 octets. Its code stands where it is called.
-#[inline(always)]
-fn behind_units_in_place(class: Class, order: ByteOrder, octets: &[u8]) -> &[u8]
+fn behind_units_by(class: Class, order: ByteOrder, octets: &[u8]) -> &[u8]
     ensures { BeginsWithUnits class order octets.now result.now }
 {
     let mut rest = octets;
@@ -141,40 +125,14 @@ fn behind_units_in_place(class: Class, order: ByteOrder, octets: &[u8]) -> &[u8]
     rest
 }
 
-/// The same, four units at a time: for a class whose stretches are long.
-#[inline(always)]
-fn behind_many_units(class: Class, order: ByteOrder, octets: &[u8]) -> &[u8]
-    ensures { BeginsWithUnits class order octets.now result.now }
-{
-    let mut rest = octets;
-    while let Some(behind) = behind_four_units(class, order, rest) {
-        rest = behind;
-    }
-    behind_units_in_place(class, order, rest)
-}
-
-/// Behind the longest stretch at the front of UTF-16 octets. Each class has a loop of its own.
-#[inline(always)]
-fn behind_class(class: Class, order: ByteOrder, octets: &[u8]) -> &[u8]
-    ensures { BeginsWithUnits class order octets.now result.now }
-{
-    match class {
-        Class::Run => behind_units_in_place(Class::Run, order, octets),
-        Class::White => behind_units_in_place(Class::White, order, octets),
-        Class::Raw(mark) => behind_many_units(Class::Raw(mark), order, octets),
-        Class::Line => behind_many_units(Class::Line, order, octets),
-        Class::Starless => behind_many_units(Class::Starless, order, octets),
-    }
-}
-
-/// The same. Each order of octets has loops of its own too, in which it is not asked for.
+/// Behind the longest stretch at the front of UTF-16 octets.
 #[inline(never)]
 pub fn behind_units(class: Class, order: ByteOrder, octets: &[u8]) -> &[u8]
     ensures { BeginsWithUnits class order octets.now result.now }
 {
     match order {
-        ByteOrder::Big => behind_class(class, ByteOrder::Big, octets),
-        ByteOrder::Little => behind_class(class, ByteOrder::Little, octets),
+        ByteOrder::Big => behind_units_by(class, ByteOrder::Big, octets),
+        ByteOrder::Little => behind_units_by(class, ByteOrder::Little, octets),
     }
 }
 

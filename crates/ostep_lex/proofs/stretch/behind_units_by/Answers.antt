@@ -1,5 +1,5 @@
 use Rattle.ostep_lex.proofs.StretchLemmas.{units_none, units_behind}
-use Rattle.ostep_lex.proofs.stretch.behind_units_in_place.Goals as goal
+use Rattle.ostep_lex.proofs.stretch.behind_units_by.Goals as goal
 
 pub loop-behind-init : goal.loop-behind-init
 loop-behind-init c = units_none _ _ _
