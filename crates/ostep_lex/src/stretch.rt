@@ -6,7 +6,7 @@ ghost use Rattle.ostep_lex.specs.Stretch.{belongs, is_stretch, BeginsWithStretch
 ghost use Rattle.ostep_lex.specs.Stretch.{BeginsWithUnits, AppendsUnits};
 ghost use Rattle.ostep_lex.specs.Source.{units_in};
 
-use crate::character::{is_line_end, is_run, is_run_octet, is_white};
+use crate::character::{is_line_end, is_run, is_white};
 use crate::source::{ByteOrder, front_unit};
 use std::alloc::AllocError;
 
@@ -44,10 +44,7 @@ fn is_of(class: Class, c: char) -> bool
 fn is_in(class: Class, octet: u8) -> bool
     ensures { result ≡ (nat_lt octet 128 && belongs class octet) }
 {
-    match class {
-        Class::Run => is_run_octet(octet),
-        _ => is_of(class, char::from(octet)) && octet < 0x80,
-    }
+    is_of(class, char::from(octet)) && octet < 0x80
 }
 
 /// Whether the unit is a character of the class, and below the surrogates.
