@@ -17,14 +17,3 @@ pub fn object_of<'a>(file: &BinFile<'a>, n: u64) -> Object<'a>
 {
     file.object(n).unwrap()
 }
-
-/// Returns the string of an object that is known to contain one.
-pub fn text_of<'a>(file: &BinFile<'a>, n: u64) -> TextRef<'a>
-    requires { HoldsText (octets_of file.now) n }
-    ensures { Holds (octets_of file.now) n (holds_scalar (text (units_of result))) }
-{
-    match object_of(file, n) {
-        Object::Scalar(ScalarRef::Text(text)) => text,
-        _ => unreachable!(),
-    }
-}

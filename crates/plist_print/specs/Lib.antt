@@ -6,4 +6,3 @@ pub mod Printed
 pub mod Shown
 pub mod Printing
 pub mod Laws
-pub mod Known

@@ -8,7 +8,6 @@ mod dates;
 mod digits;
 mod heads;
 mod kept;
-mod known;
 pub mod laws;
 pub mod lines;
 pub mod printing;

@@ -4,6 +4,7 @@ ghost use Rattle.plist_value.specs.Plist.{Plist, Items, Pairs, list, table, text
 ghost use Rattle.plist_value.specs.Plist.{IsPlist, AreItems, ArePairs};
 ghost use Rattle.plist_value.specs.declared.TheConstants.{MAX_DEPTH};
 ghost use Rattle.plist_object.specs.Objects.{holds_scalar};
+ghost use Rattle.plist_object.specs.KeyOrder.{IsReady};
 ghost use Rattle.plist_object.specs.Places.{Holds, HoldsText};
 ghost use Rattle.plist_object.specs.Spelled.{IsBinary, Spells, SpellItems, SpellPairs, SpellsWithin};
 ghost use Rattle.plist_object.specs.Views.{numbers_of, octets_of};
@@ -11,22 +12,20 @@ ghost use Rattle.plist_engine.specs.Output.{Goes, Stays, state_of};
 ghost use Rattle.plist_engine.specs.Sending.{IsWritten};
 ghost use Rattle.plist_engine.specs.Spelling.{IsTable, SpellTable};
 ghost use Rattle.plist_engine.specs.Spelling.{SpellWithin, in_turn};
-ghost use Rattle.plist_print.specs.Known.{IsSeen};
 ghost use Rattle.plist_print.specs.Printed.{printed, printed_at, printed_items, printed_pairs};
 ghost use Rattle.plist_print.specs.Printing.{PairsWithin, TableWithin, item_lines, pair_lines};
 
 use crate::heads::{begin_line, begin_pair, end_lines};
-use crate::known::Seen;
 use crate::lines::{print_scalar, put, send_all};
 use plist_engine::objects::object_of;
 use plist_engine::order::push_sorted;
 use plist_engine::{Output, Sink, WriteFault};
-use plist_object::{BinFile, Object, Refs};
+use plist_object::{BinFile, KeyOrder, Object, Refs, text_of};
 use std::alloc::{AllocError, Global};
 
 /// Sends the printed text of the value that the file spells, object after object, and answers how
 /// many octets it has. Neither that value nor the text is in memory: what is kept is the order of
-/// the keys of each table that is open, where up to 64 keys stand in the file, and a piece.
+/// the keys of each dictionary that is being printed, and one piece.
 ///
 /// # Errors
 ///
@@ -64,8 +63,8 @@ fn print_file<W: Sink>(
     ensures stays { Stays (state_of W.Sink out.old) (state_of W.Sink out.new) }
 {
     let printer = Printer { alloc, file: *file };
-    let mut seen = Seen::new(alloc, file);
-    printer.value(&mut seen, file.top(), 0, out)?;
+    let mut order = KeyOrder::new(alloc, file);
+    printer.value(&mut order, file.top(), 0, out)?;
     send_all(out)?;
     Ok(out.sent)
 }
@@ -82,23 +81,23 @@ impl<'a> Printer<'a> {
     #[cycle(print)]
     fn value<W: Sink>(
         &self,
-        seen: &mut Seen<'a>,
+        order: &mut KeyOrder<'a>,
         object: u64,
         level: u64,
         out: &mut Output<W>,
     ) -> Result<(), WriteFault>
         requires spells { SpellsWithin (octets_of self.now.file) object (MAX_DEPTH - level) }
-        requires seen { IsSeen (octets_of self.now.file) seen.old }
+        requires ready { IsReady (octets_of self.now.file) order.old }
         ensures goes { (v : Plist) → IsPlist v → Spells (octets_of self.now.file) object v
             → Goes (printed_at level v)
             (state_of W.Sink out.old) (state_of W.Sink out.new) result }
         ensures stays { Stays (state_of W.Sink out.old) (state_of W.Sink out.new) }
-        ensures seen { OnOk result (IsSeen (octets_of self.now.file) seen.new) }
+        ensures ready { OnOk result (IsReady (octets_of self.now.file) order.new) }
     {
         match object_of(&self.file, object) {
             Object::Scalar(scalar) => print_scalar(&scalar, level, out),
-            Object::List(items) => self.list(seen, &items, level, out),
-            Object::Table(keys, values) => self.table(seen, &keys, &values, level, out),
+            Object::List(items) => self.list(order, &items, level, out),
+            Object::Table(keys, values) => self.table(order, &keys, &values, level, out),
         }
     }
 
@@ -106,7 +105,7 @@ impl<'a> Printer<'a> {
     #[cycle(print)]
     fn list<W: Sink>(
         &self,
-        seen: &mut Seen<'a>,
+        order: &mut KeyOrder<'a>,
         items: &Refs,
         level: u64,
         out: &mut Output<W>,
@@ -114,19 +113,19 @@ impl<'a> Printer<'a> {
         requires below { level < MAX_DEPTH }
         requires spell { SpellWithin (octets_of self.now.file) (numbers_of items.now)
             (MAX_DEPTH - (level + 1)) }
-        requires seen { IsSeen (octets_of self.now.file) seen.old }
+        requires ready { IsReady (octets_of self.now.file) order.old }
         ensures goes { (vs : Items) → AreItems vs
             → SpellItems (octets_of self.now.file) (numbers_of items.now) vs
             → Goes (printed_at level (list vs))
             (state_of W.Sink out.old) (state_of W.Sink out.new) result }
         ensures stays { Stays (state_of W.Sink out.old) (state_of W.Sink out.new) }
-        ensures seen { OnOk result (IsSeen (octets_of self.now.file) seen.new) }
+        ensures ready { OnOk result (IsReady (octets_of self.now.file) order.new) }
     {
         if items.is_empty() {
             return put(b"[]\n", out);
         }
         put(b"[\n", out)?;
-        self.items(seen, items, level + 1, out)?;
+        self.items(order, items, level + 1, out)?;
         end_lines(level, b']', out)
     }
 
@@ -134,23 +133,23 @@ impl<'a> Printer<'a> {
     #[cycle(print)]
     fn items<W: Sink>(
         &self,
-        seen: &mut Seen<'a>,
+        order: &mut KeyOrder<'a>,
         items: &Refs,
         level: u64,
         out: &mut Output<W>,
     ) -> Result<(), WriteFault>
         requires spell { SpellWithin (octets_of self.now.file) (numbers_of items.now)
             (MAX_DEPTH - level) }
-        requires seen { IsSeen (octets_of self.now.file) seen.old }
+        requires ready { IsReady (octets_of self.now.file) order.old }
         ensures goes { (vs : Items) → AreItems vs
             → SpellItems (octets_of self.now.file) (numbers_of items.now) vs
             → Goes (printed_items level vs)
             (state_of W.Sink out.old) (state_of W.Sink out.new) result }
         ensures stays { Stays (state_of W.Sink out.old) (state_of W.Sink out.new) }
-        ensures seen { OnOk result (IsSeen (octets_of self.now.file) seen.new) }
+        ensures ready { OnOk result (IsReady (octets_of self.now.file) order.new) }
     {
         for i in 0..items.len() {
-            self.item(seen, items.get(i), level, out)?;
+            self.item(order, items.get(i), level, out)?;
         }
         Ok(())
     }
@@ -159,28 +158,28 @@ impl<'a> Printer<'a> {
     #[cycle(print)]
     fn item<W: Sink>(
         &self,
-        seen: &mut Seen<'a>,
+        order: &mut KeyOrder<'a>,
         object: u64,
         level: u64,
         out: &mut Output<W>,
     ) -> Result<(), WriteFault>
         requires spells { SpellsWithin (octets_of self.now.file) object (MAX_DEPTH - level) }
-        requires seen { IsSeen (octets_of self.now.file) seen.old }
+        requires ready { IsReady (octets_of self.now.file) order.old }
         ensures goes { (v : Plist) → IsPlist v → Spells (octets_of self.now.file) object v
             → Goes (item_lines level v)
             (state_of W.Sink out.old) (state_of W.Sink out.new) result }
         ensures stays { Stays (state_of W.Sink out.old) (state_of W.Sink out.new) }
-        ensures seen { OnOk result (IsSeen (octets_of self.now.file) seen.new) }
+        ensures ready { OnOk result (IsReady (octets_of self.now.file) order.new) }
     {
         begin_line(level, out)?;
-        self.value(seen, object, level, out)
+        self.value(order, object, level, out)
     }
 
     // Sends the table of the keys and values that the references spell, or has it wait.
     #[cycle(print)]
     fn table<W: Sink>(
         &self,
-        seen: &mut Seen<'a>,
+        order: &mut KeyOrder<'a>,
         keys: &Refs<'a>,
         values: &Refs,
         level: u64,
@@ -189,23 +188,23 @@ impl<'a> Printer<'a> {
         requires below { level < MAX_DEPTH }
         requires spell { TableWithin (octets_of self.now.file) (numbers_of keys.now)
             (numbers_of values.now) (MAX_DEPTH - (level + 1)) }
-        requires seen { IsSeen (octets_of self.now.file) seen.old }
+        requires ready { IsReady (octets_of self.now.file) order.old }
         ensures goes { (rows : List (ℕ × ℕ)) (ps : Pairs)
             → SpellTable (octets_of self.now.file) (numbers_of keys.now) (numbers_of values.now)
             rows ps
             → Goes (printed_at level (table ps))
             (state_of W.Sink out.old) (state_of W.Sink out.new) result }
         ensures stays { Stays (state_of W.Sink out.old) (state_of W.Sink out.new) }
-        ensures seen { OnOk result (IsSeen (octets_of self.now.file) seen.new) }
+        ensures ready { OnOk result (IsReady (octets_of self.now.file) order.new) }
     {
         if keys.is_empty() {
             return put(b"{}\n", out);
         }
-        let Ok(references) = self.in_turn(seen, keys, values) else {
+        let Ok(references) = self.in_turn(order, keys, values) else {
             return Err(WriteFault::OutOfMemory { sent: out.sent });
         };
         put(b"{\n", out)?;
-        self.pairs(seen, &references, level + 1, out)?;
+        self.pairs(order, &references, level + 1, out)?;
         end_lines(level, b'}', out)
     }
 
@@ -213,29 +212,22 @@ impl<'a> Printer<'a> {
     // same order.
     fn in_turn(
         &self,
-        seen: &mut Seen<'a>,
+        order: &mut KeyOrder<'a>,
         keys: &Refs<'a>,
         values: &Refs,
     ) -> Result<Vec<u32>, AllocError>
         requires table { IsTable (octets_of self.now.file) (numbers_of keys.now)
             (numbers_of values.now) }
-        requires seen { IsSeen (octets_of self.now.file) seen.old }
+        requires ready { IsReady (octets_of self.now.file) order.old }
         ensures turn { IfOk result (λ references. (rows : List (ℕ × ℕ)) (ps : Pairs)
             → SpellTable (octets_of self.now.file) (numbers_of keys.now) (numbers_of values.now)
             rows ps
             → references.items ≡ in_turn rows) }
-        ensures seen { OnOk result (IsSeen (octets_of self.now.file) seen.new) }
+        ensures ready { OnOk result (IsReady (octets_of self.now.file) order.new) }
     {
         let count = keys.len().saturating_mul(2);
         let mut references = Vec::with_capacity(self.alloc, count as usize)?;
-        push_sorted(
-            self.alloc,
-            &self.file,
-            &mut seen.order,
-            keys,
-            values,
-            &mut references,
-        )?;
+        push_sorted(self.alloc, &self.file, order, keys, values, &mut references)?;
         Ok(references)
     }
 
@@ -244,25 +236,25 @@ impl<'a> Printer<'a> {
     #[cycle(print)]
     fn pairs<W: Sink>(
         &self,
-        seen: &mut Seen<'a>,
+        order: &mut KeyOrder<'a>,
         references: &[u32],
         level: u64,
         out: &mut Output<W>,
     ) -> Result<(), WriteFault>
         requires spell { PairsWithin (octets_of self.now.file) references.now (MAX_DEPTH - level) }
-        requires seen { IsSeen (octets_of self.now.file) seen.old }
+        requires ready { IsReady (octets_of self.now.file) order.old }
         ensures goes { (rows : List (ℕ × ℕ)) (ps : Pairs) → references.now ≡ in_turn rows
             → ArePairs ps → SpellPairs (octets_of self.now.file) rows ps
             → Goes (printed_pairs level ps)
             (state_of W.Sink out.old) (state_of W.Sink out.new) result }
         ensures stays { Stays (state_of W.Sink out.old) (state_of W.Sink out.new) }
-        ensures seen { OnOk result (IsSeen (octets_of self.now.file) seen.new) }
+        ensures ready { OnOk result (IsReady (octets_of self.now.file) order.new) }
     {
         let count = references.len() / 2;
         for i in 0..count {
             let key = u64::from(references[i]);
             let object = u64::from(references[count + i]);
-            self.pair(seen, key, object, level, out)?;
+            self.pair(order, key, object, level, out)?;
         }
         Ok(())
     }
@@ -271,7 +263,7 @@ impl<'a> Printer<'a> {
     #[cycle(print)]
     fn pair<W: Sink>(
         &self,
-        seen: &mut Seen<'a>,
+        order: &mut KeyOrder<'a>,
         key: u64,
         object: u64,
         level: u64,
@@ -279,17 +271,17 @@ impl<'a> Printer<'a> {
     ) -> Result<(), WriteFault>
         requires key { HoldsText (octets_of self.now.file) key }
         requires spells { SpellsWithin (octets_of self.now.file) object (MAX_DEPTH - level) }
-        requires seen { IsSeen (octets_of self.now.file) seen.old }
+        requires ready { IsReady (octets_of self.now.file) order.old }
         ensures goes { (units : List ℕ) (v : Plist)
             → Holds (octets_of self.now.file) key (holds_scalar (text units))
             → IsPlist v → Spells (octets_of self.now.file) object v
             → Goes (pair_lines level units v)
             (state_of W.Sink out.old) (state_of W.Sink out.new) result }
         ensures stays { Stays (state_of W.Sink out.old) (state_of W.Sink out.new) }
-        ensures seen { OnOk result (IsSeen (octets_of self.now.file) seen.new) }
+        ensures ready { OnOk result (IsReady (octets_of self.now.file) order.new) }
     {
-        let text = seen.keys.text_of(&self.file, key);
+        let text = text_of(&self.file, key);
         begin_pair(&text, level, out)?;
-        self.value(seen, object, level, out)
+        self.value(order, object, level, out)
     }
 }

@@ -28,5 +28,5 @@ returns-clause-written g c = λ v binary.
     let r = state_of g.W.Sink c.send_all.new.out in
     is_written (printed v) p r _ c.requires.none c.requires.first c.in_ok-send_all.ensures.none (Goes_last (printed v) p (state_of g.W.Sink c.value.new.out) r _ _ (c.in_ok-value.ensures.goes v binary.valid spells) c.in_ok-send_all.ensures.goes)
 
-pub value-requires-clause-seen : goal.value-requires-clause-seen
-value-requires-clause-seen g c = c.new-seen.ensures (octets_of c.args.file.now)
+pub value-requires-clause-ready : goal.value-requires-clause-ready
+value-requires-clause-ready g c = c.new-order.ensures (octets_of c.args.file.now)

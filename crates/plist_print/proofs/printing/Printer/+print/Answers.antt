@@ -33,7 +33,7 @@ value-list-requires g t c κs within =
     let below : c.args.level < MAX_DEPTH = omega arith in
     let less : MAX_DEPTH - c.args.level - 1 ≡ MAX_DEPTH - (c.args.level + 1) = omega arith in
     let inside = items_within f c.args.object (MAX_DEPTH - c.args.level) refs c.requires.spells c.in-List.ensures.holds in
-    (omega (arith, c.decreases, some), (within, (below, (subst (λ (n : ℕ). SpellWithin f refs n) less inside, c.requires.seen))))
+    (omega (arith, c.decreases, some), (within, (below, (subst (λ (n : ℕ). SpellWithin f refs n) less inside, c.requires.ready))))
 
 pub value-table-requires : goal.value-table-requires
 value-table-requires g t c κs within =
@@ -56,7 +56,7 @@ value-table-requires g t c κs within =
               spell = inside.spell;
               deep = omega (arith, inside.deep);
             },
-            c.requires.seen,
+            c.requires.ready,
           ),
         ),
       ),
@@ -113,7 +113,7 @@ items-item-requires g t c κs within =
     let i = c.loop-i.i in
     let below : i < length refs = omega (arith, c.loop-i-test.true, c.len-i-end.ensures) in
     let one = value_within f refs (MAX_DEPTH - c.args.level) i c.requires.spell below in
-    (omega (arith, c.decreases), (within, (subst (λ (n : ℕ). SpellsWithin f n (MAX_DEPTH - c.args.level)) (sym c.get.ensures) one, c.loop-i.invariant.seen)))
+    (omega (arith, c.decreases), (within, (subst (λ (n : ℕ). SpellsWithin f n (MAX_DEPTH - c.args.level)) (sym c.get.ensures) one, c.loop-i.invariant.ready)))
 
 pub items-returns-in_err-item-clause-goes : goal.items-returns-in_err-item-clause-goes
 items-returns-in_err-item-clause-goes g t c = λ vs valid spell.
@@ -143,7 +143,7 @@ items-loop-i-preserved g t c = record {
       let more : items_before c.args.level i vs ++ item_lines c.args.level at.value ≡ items_before c.args.level (i + 1) vs = sym at.more ∙ ap (λ k. items_before c.args.level k vs) (sym (add-one i)) in
       Goes_rest (items_before c.args.level i vs) (item_lines c.args.level at.value) (items_before c.args.level (i + 1) vs) (state_of g.W.Sink c.args.out.now) (state_of g.W.Sink c.loop-i.out) (state_of g.W.Sink c.item.new.out) tt _ more (c.loop-i.invariant.goes vs valid spell) (c.in_ok-item.ensures.goes at.value at.valid spells);
   stays = Stays-trans (state_of g.W.Sink c.args.out.now) (state_of g.W.Sink c.loop-i.out) (state_of g.W.Sink c.item.new.out) c.loop-i.invariant.stays c.in_ok-item.ensures.stays;
-  seen = c.in_ok-item.ensures.seen;
+  ready = c.in_ok-item.ensures.ready;
 }
 
 pub items-returns-clause-goes : goal.items-returns-clause-goes
@@ -197,7 +197,7 @@ table-pairs-requires g t c κs within =
             valid = all.spell.valid;
             deep = all.deep;
           },
-          c.in-Ok.ensures.seen,
+          c.in-Ok.ensures.ready,
         ),
       ),
     )
@@ -232,7 +232,7 @@ pairs-pair-requires g t c κs within =
     let key = c.from-key.ensures ∙ turn_key refs all.rows all.turn i below in
     let named = subst (λ (n : ℕ). HoldsText f n) (sym key) (at.key, at.named) in
     let one = subst (λ (n : ℕ). SpellsWithin f n (MAX_DEPTH - c.args.level)) (sym c.from-object.ensures) (turn_within f refs (MAX_DEPTH - c.args.level) (length refs / 2 + i) all far) in
-    (omega (arith, c.decreases), (within, (named, (one, c.loop-i.invariant.seen))))
+    (omega (arith, c.decreases), (within, (named, (one, c.loop-i.invariant.ready))))
 
 pub pairs-returns-in_err-pair-clause-goes : goal.pairs-returns-in_err-pair-clause-goes
 pairs-returns-in_err-pair-clause-goes g t c = λ rows ps turn valid spell.
@@ -266,7 +266,7 @@ pairs-loop-i-preserved g t c = record {
       let more : pairs_before c.args.level i ps ++ pair_lines c.args.level at.key at.value ≡ pairs_before c.args.level (i + 1) ps = sym at.more ∙ ap (λ k. pairs_before c.args.level k ps) (sym (add-one i)) in
       Goes_rest (pairs_before c.args.level i ps) (pair_lines c.args.level at.key at.value) (pairs_before c.args.level (i + 1) ps) (state_of g.W.Sink c.args.out.now) (state_of g.W.Sink c.loop-i.out) (state_of g.W.Sink c.pair.new.out) tt _ more (c.loop-i.invariant.goes rows ps turn valid spell) (c.in_ok-pair.ensures.goes at.key at.value named at.valid spells);
   stays = Stays-trans (state_of g.W.Sink c.args.out.now) (state_of g.W.Sink c.loop-i.out) (state_of g.W.Sink c.pair.new.out) c.loop-i.invariant.stays c.in_ok-pair.ensures.stays;
-  seen = c.in_ok-pair.ensures.seen;
+  ready = c.in_ok-pair.ensures.ready;
 }
 
 pub pairs-returns-clause-goes : goal.pairs-returns-clause-goes
@@ -281,14 +281,14 @@ pub pair-returns-in_err-begin_pair-clause-goes : goal.pair-returns-in_err-begin_
 pair-returns-in_err-begin_pair-clause-goes g t c = λ units v named valid spells.
     let e = err_from_is_err_and c.from_residual.result c.from_residual.ensures.1 in
     let seen = units_of c.text_of-text.result in
-    let same = text_seen (octets_of c.args.self.now.file) c.args.key seen units c.text_of-text.ensures.text named in
+    let same = text_seen (octets_of c.args.self.now.file) c.args.key seen units c.text_of-text.ensures named in
     let is = ap (λ us. pair_lines c.args.level us v) same in
     rw (e.1, e.2) (Goes_same (pair_lines c.args.level seen v) (pair_lines c.args.level units v) (state_of g.W.Sink c.args.out.now) (state_of g.W.Sink c.begin_pair.new.out) _ is (Goes_stop (pair_head c.args.level seen) (printed_at c.args.level v) (state_of g.W.Sink c.args.out.now) (state_of g.W.Sink c.begin_pair.new.out) _ c.in_err-begin_pair.ensures.goes))
 
 pub pair-returns-clause-goes : goal.pair-returns-clause-goes
 pair-returns-clause-goes g t c = λ units v named valid spells.
     let seen = units_of c.text_of-text.result in
-    let same = text_seen (octets_of c.args.self.now.file) c.args.key seen units c.text_of-text.ensures.text named in
+    let same = text_seen (octets_of c.args.self.now.file) c.args.key seen units c.text_of-text.ensures named in
     let is = ap (λ us. pair_lines c.args.level us v) same in
     Goes_same (pair_lines c.args.level seen v) (pair_lines c.args.level units v) (state_of g.W.Sink c.args.out.now) (state_of g.W.Sink c.value.new.out) c.value.result is (Goes_then (pair_head c.args.level seen) (printed_at c.args.level v) (state_of g.W.Sink c.args.out.now) (state_of g.W.Sink c.begin_pair.new.out) (state_of g.W.Sink c.value.new.out) _ c.value.result c.in_ok-begin_pair.ensures.goes (c.value.ensures.goes v valid spells))
 
@@ -298,7 +298,7 @@ items-loop-i-init g t c =
     record {
       goes = λ vs valid spell. Goes_put [] p.waiting p (sym (append-nil p.waiting));
       stays = record { sink = refl; device = refl };
-      seen = c.requires.seen;
+      ready = c.requires.ready;
     }
 
 pub pairs-loop-i-init : goal.pairs-loop-i-init
@@ -307,5 +307,5 @@ pairs-loop-i-init g t c =
     record {
       goes = λ rows ps turn valid spell. Goes_put [] p.waiting p (sym (append-nil p.waiting));
       stays = record { sink = refl; device = refl };
-      seen = c.requires.seen;
+      ready = c.requires.ready;
     }

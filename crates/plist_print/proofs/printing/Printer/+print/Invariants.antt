@@ -4,7 +4,7 @@ use Rattle.plist_value.specs.declared.TheConstants.{MAX_DEPTH}
 use Rattle.plist_object.specs.Spelled.{SpellItems, SpellPairs}
 use Rattle.plist_object.specs.Views.{octets_of, numbers_of}
 use Rattle.plist_engine.specs.Output.{Goes, Stays, state_of}
-use Rattle.plist_print.specs.Known.{IsSeen}
+use Rattle.plist_object.specs.KeyOrder.{IsReady}
 use Rattle.plist_engine.specs.Spelling.{in_turn}
 use Rattle.plist_print.proofs.PrintSteps.{items_before, pairs_before}
 use Rattle.plist_print.proofs.printing.Printer.+print.Given as goal
@@ -36,7 +36,7 @@ abbrev pub invariant-items-loop-i : goal.invariant-items-loop-i
 invariant-items-loop-i g l = record {
   goes : (vs : Items) → AreItems vs → SpellItems (octets_of l.self.file) (numbers_of l.items) vs → Goes {T = Unit {0}} (items_before l.level l.i vs) (state_of g.W.Sink l.fn.out) (state_of g.W.Sink l.out) (Ok tt);
   stays : Stays (state_of g.W.Sink l.fn.out) (state_of g.W.Sink l.out);
-  seen : IsSeen (octets_of l.self.file) l.seen;
+  ready : IsReady (octets_of l.self.file) l.order;
 }
 
 -- the lines of the pairs before this one went
@@ -44,5 +44,5 @@ abbrev pub invariant-pairs-loop-i : goal.invariant-pairs-loop-i
 invariant-pairs-loop-i g l = record {
   goes : (rows : List (ℕ × ℕ)) (ps : Pairs) → l.references ≡ in_turn rows → ArePairs ps → SpellPairs (octets_of l.self.file) rows ps → Goes {T = Unit {0}} (pairs_before l.level l.i ps) (state_of g.W.Sink l.fn.out) (state_of g.W.Sink l.out) (Ok tt);
   stays : Stays (state_of g.W.Sink l.fn.out) (state_of g.W.Sink l.out);
-  seen : IsSeen (octets_of l.self.file) l.seen;
+  ready : IsReady (octets_of l.self.file) l.order;
 }
