@@ -1,13 +1,10 @@
 //! Decodes objects whose content is known to be valid.
-ghost use Rattle.plist_value.specs.Plist.{text};
-ghost use Rattle.plist_value.specs.Texts.{units_of};
-ghost use Rattle.plist_object.specs.Objects.{IsHeld, holds_scalar};
-ghost use Rattle.plist_object.specs.Places.{Holds, HoldsText};
+ghost use Rattle.plist_object.specs.Objects.{IsHeld};
+ghost use Rattle.plist_object.specs.Places.{Holds};
 ghost use Rattle.plist_object.specs.Views.{held_of, octets_of};
 ghost use Rattle.plist_engine.specs.Spelling.{IsRead};
 
 use plist_object::{BinFile, Object};
-use plist_value::{ScalarRef, TextRef};
 
 /// Decodes an object that is known to be valid.
 pub fn object_of<'a>(file: &BinFile<'a>, n: u64) -> Object<'a>
