@@ -56,12 +56,7 @@ const ROWS: [(&str, &str, &str); 7] = [
 fn explains(text: &str, line: &str, front: &str, example: &str) -> bool {
     let (lines, longest) = size_of(text);
     let most = if line == "--help" { 30 } else { 40 };
-    for part in [
-        example,
-        "Exit status:",
-        "usage error",
-        "out of memory",
-    ] {
+    for part in [example, "Exit status:", "usage error", "out of memory"] {
         if !text.contains(part) {
             return false;
         }

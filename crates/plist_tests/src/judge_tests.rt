@@ -1,7 +1,8 @@
 //! The validator and the reader, beyond the rows: keys of long dictionaries, overlapping
 //! dictionaries, and refused memory.
+use crate::engine::canonical_file;
 use crate::worked_files::UNSORTED;
-use plist_binary::{BinaryFault, judge, judge_keys, read};
+use plist_binary::{BinaryFault, judge, read};
 use plist_canon::{CheckFault, Verdict, check};
 use std::alloc::{AllocError, Global};
 use std::test::Fail;
@@ -49,24 +50,16 @@ fn long_table(alloc: Global, sharing: u8, units: u8, last: u8) -> Result<Vec<u8>
     draft.finish(2, 1)
 }
 
-// Returns whether the keys of the long dictionary are sorted.
-fn is_in_order(alloc: Global, octets: &[u8]) -> Result<bool, AllocError> {
-    let Ok(judged) = judge_keys(alloc, octets) else {
+// Returns whether the file is valid, and its canonical file is one, so that all keys are sorted.
+fn is_sorted(alloc: Global, octets: &[u8]) -> Result<bool, AllocError> {
+    if judge(alloc, octets).is_err() {
         return Ok(false);
-    };
-    let Some(sorted) = judged.sorted else {
-        return Ok(false);
-    };
-    for (number, place) in (0..80).zip(sorted.places.iter()) {
-        if *place % 80 * 37 % 80 != number {
-            return Ok(false);
-        }
     }
-    Ok(true)
+    let file = canonical_file(alloc, octets)?;
+    Ok(matches!(check(alloc, file.as_slice()), Ok(Verdict::Canonical)))
 }
 
-// How many keys share their first unit, and how many units they begin with: fewer than are compared
-// at a time, as many, and more than the sort looks at.
+// How many keys share their first unit, and how many units they begin with.
 const BEGINNINGS: [(u8, &[u8]); 3] = [
     (80, &[0, 1, 40, 62, 63, 64, 65, 90]),
     (8, &[1, 7, 8, 9, 16, 63, 64, 65, 90]),
@@ -81,7 +74,7 @@ fn wrong_beginning(alloc: Global) -> Result<Option<(u8, u8)>, AllocError> {
             let octets = long_table(alloc, *sharing, *units, 6)?;
             let twice = long_table(alloc, *sharing, *units, 7)?;
             let fault = judge(alloc, twice.as_slice()).err();
-            if !is_in_order(alloc, octets.as_slice())?
+            if !is_sorted(alloc, octets.as_slice())?
                 || fault != Some(BinaryFault::DuplicateKey { object: 0 })
             {
                 return Ok(Some((*sharing, *units)));
@@ -97,16 +90,31 @@ fn keys_of_a_long_table(rt: HostRuntime) -> Result<(), Fail> {
     Ok(())
 }
 
-// Two references to one empty array; a dictionary with its keys out of order; an array that
-// contains itself. Literals, so that only the calls allocate. With the number of the refusal, 0 if
-// the file is accepted.
-const FILES: [(&[u8], u8); 3] = [
+// Two dictionaries of the same two keys, in either order. Both keys are long: together they are
+// longer than the file, so that they are compared by their ranks.
+const REORDERED: &[u8] = b"bplist00\xa2\x01\x02\xd2\x03\x04\x05\x05\xd2\x04\x03\x05\x05\
+    \x5f\x10\x3caaaaaaaaaaaaaaaaaaaaaaaaaaaaaaaaaaaaaaaaaaaaaaaaaaaaaaaaaaax\
+    \x5f\x10\x3caaaaaaaaaaaaaaaaaaaaaaaaaaaaaaaaaaaaaaaaaaaaaaaaaaaaaaaaaaaw\x09\
+    \x08\x0b\x10\x15\x54\x93\0\0\0\0\0\0\x01\x01\0\0\0\0\0\0\0\x06\0\0\0\0\0\0\0\0\
+    \0\0\0\0\0\0\0\x94";
+
+#[test]
+fn keys_in_another_order(rt: HostRuntime) -> Result<(), Fail> {
+    assert!(rt; is_sorted(rt.alloc(), REORDERED)?);
+    Ok(())
+}
+
+// Two references to one empty array; a dictionary with its keys out of order, and two; an array
+// that contains itself. Literals, so that only the calls allocate. With the number of the refusal,
+// 0 if the file is accepted.
+const FILES: [(&[u8], u8); 4] = [
     (
         b"bplist00\xa2\x01\x01\xa0\x08\x0b\0\0\0\0\0\0\x01\x01\0\0\0\0\0\0\0\x02\0\0\0\0\0\0\0\
           \0\0\0\0\0\0\0\0\x0c",
         0,
     ),
     (UNSORTED, 0),
+    (REORDERED, 0),
     (
         b"bplist00\xa1\x00\x08\0\0\0\0\0\0\x01\x01\0\0\0\0\0\0\0\x01\0\0\0\0\0\0\0\0\0\0\0\0\0\
           \0\0\x0a",
