@@ -17,4 +17,5 @@ pub mod SameOctets
 pub mod Ranked
 pub mod Orders
 pub mod KeyOrders
+pub mod PrefixSteps
 pub mod Ascents

@@ -21,3 +21,4 @@ pub mod Heads
 pub mod Ranks
 pub mod Order
 pub mod KeyOrder
+pub mod Prefixes

@@ -10,6 +10,7 @@ pub mod lengths;
 mod markers;
 pub mod object;
 pub mod order;
+mod prefixes;
 pub mod puts;
 pub mod ranks;
 mod reached;

@@ -15,11 +15,15 @@ ghost use Rattle.plist_object.specs.Ranks.{AreRanks};
 
 use crate::keys::Keys;
 use crate::layout::BinFile;
+use crate::prefixes;
 use crate::ranks::Ranks;
 use crate::refs::Refs;
 use plist_value::TextRef;
 use std::alloc::{AllocError, Global};
 use std::cmp::Ordering;
+
+// Up to this number of keys are sorted by their strings alone.
+const FEW_KEYS: usize = 12;
 
 // A key of a dictionary and its position among the keys. Where two numbers differ, the key with
 // the lower one has the lower string.
@@ -177,7 +181,20 @@ fn text_rows<'a>(alloc: Global, file: &BinFile<'a>, keys: &Refs) -> Result<Vec<R
             place,
         })?;
     }
+    number(&mut rows);
     Ok(rows)
+}
+
+// Numbers the rows of a long dictionary, so that most are compared by a number each.
+fn number(rows: &mut Vec<Row>)
+    ensures { (f keys : List ℕ) → AreRows f keys rows.old.items → AreRows f keys rows.new.items }
+{
+    if rows.len() <= FEW_KEYS {
+        return;
+    }
+    let first = rows[0].text;
+    let front = prefixes::shared(&*rows, &first);
+    prefixes::fill(rows.as_mut_slice(), front);
 }
 
 // Whether each string is below the next.

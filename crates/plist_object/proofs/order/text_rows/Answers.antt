@@ -25,4 +25,6 @@ text_of-text-requires c = rw c.get.ensures (c.requires c.loop-place.place (omega
 
 pub returns : goal.returns
 returns c =
-    AreRows-unnumbered (octets_of c.args.file.now) (numbers_of c.args.keys.now) c.loop-place.place c.loop-place.rows.items (omega arith) c.loop-place.invariant.places c.loop-place.invariant.held c.loop-place.invariant.unnumbered
+    let f = octets_of c.args.file.now in
+    let keys = numbers_of c.args.keys.now in
+    c.number.ensures f keys (AreRows-unnumbered f keys c.loop-place.place c.loop-place.rows.items (omega arith) c.loop-place.invariant.places c.loop-place.invariant.held c.loop-place.invariant.unnumbered)
