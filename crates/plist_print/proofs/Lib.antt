@@ -20,3 +20,5 @@ pub mod ScalarFronts
 pub mod Fewest
 pub mod Padding
 pub mod TextBounds
+pub mod RealBounds
+pub mod Bounds

@@ -78,7 +78,7 @@ last-same (suc k) n m e f =
     let same : x ≡ y = omega arith in
     last-same k n m same (tails (48 + x % 10) (48 + y % 10) (last_digits k n) (last_digits k m) f)
 
-last-long : (k n : ℕ) → length (last_digits k n) ≡ k
+pub last-long : (k n : ℕ) → length (last_digits k n) ≡ k
 last-long zero n = refl
 last-long (suc k) n = let e = last-long k n in omega arith
 

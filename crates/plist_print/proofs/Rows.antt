@@ -1,5 +1,5 @@
 -- Worked rows, shown on the definitions by computing.
-use Rattle.std.proofs.Common.{◌≡◌, true, [], ◌∷◌, refl}
+use Rattle.std.proofs.Common.{◌≡◌, true, [], ◌∷◌, replicate, refl}
 use Rattle.std.specs.Prelude.{codes, negsuc}
 use Rattle.plist_value.specs.Plist.{text, whole, flag, real4, real8, moment, bytes, scalar, list, table, no_items, item, no_pairs, pair}
 use Rattle.ucd_category.specs.GeneralCategory.{general_category}
@@ -87,3 +87,7 @@ printed_unseen = refl
 pub printed_nested : printed (table (pair (codes "a") (list (item (scalar (whole (negsuc 4))) (item (list no_items) no_items))) (pair (codes "b") (table no_pairs) (pair (codes "c") (scalar (flag true)) (pair (codes "d") (scalar (bytes (10 ∷ 11 ∷ []))) no_pairs))))) ≡ codes "{\n  \"a\" => [\n    -5\n    []\n  ]\n  \"b\" => {}\n  \"c\" => true\n  \"d\" => <0a0b>\n}\n"
 unfolding printed_unit is_unseen general_category general_category_rows is_default_ignorable_code_point default_ignorable_code_point_ranges value_in in_ranges encode_utf8 digits
 printed_nested = refl
+
+-- data of 33 octets in a list
+pub printed_long : printed (list (item (scalar (bytes (replicate 33 171))) no_items)) ≡ codes "[\n  <\n    abababababababababababababababababababababababababababababababab\n    ab\n  >\n]\n"
+printed_long = refl

@@ -12,7 +12,7 @@ use Rattle.plist_print.specs.Printed.{indent, enclosed, data_lines, octet_lines,
 use Rattle.plist_print.proofs.DataLines.{if-told, if-denied}
 
 -- the longer of two ways
-if-long : (b : Bool) (xs ys : List ℕ) (n : ℕ) → length xs ≤ n → length ys ≤ n → length (if b then xs else ys) ≤ n
+pub if-long : (b : Bool) (xs ys : List ℕ) (n : ℕ) → length xs ≤ n → length ys ≤ n → length (if b then xs else ys) ≤ n
 if-long true xs ys n h k = h
 if-long false xs ys n h k = k
 
@@ -50,7 +50,7 @@ digits-long : (xs : List ℕ) → length (flat_map two_digits xs) ≡ 2 * length
 digits-long [] = refl
 digits-long (x ∷ xs) = let e = digits-long xs in omega (arith, e)
 
-data-long : (xs : List ℕ) → length (printed_data xs) ≡ 2 * length xs + 2
+pub data-long : (xs : List ℕ) → length (printed_data xs) ≡ 2 * length xs + 2
 data-long xs =
     let e = digits-long xs in let l = length-append (flat_map two_digits xs) (codes ">") in omega (arith, e, l)
 

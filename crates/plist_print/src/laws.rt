@@ -1,5 +1,6 @@
 //! What holds of all printed texts. Each law is the contract of a function that does nothing.
 ghost use Rattle.plist_print.specs.Laws.{PrintTellsValuesApart, PrintIsKnownByItsFront};
+ghost use Rattle.plist_print.specs.Laws.{PrintIsBounded};
 
 /// Two property lists have the same printed text exactly if they are equal.
 pub fn print_tells_values_apart()
@@ -11,4 +12,10 @@ pub fn print_tells_values_apart()
 /// another.
 pub fn print_is_known_by_its_front()
     ensures { PrintIsKnownByItsFront }
+{}
+
+/// A printed text has at most five octets for each octet of the payload and, for each node, 70 and
+/// four for each level of the value up to 32.
+pub fn print_is_bounded()
+    ensures { PrintIsBounded }
 {}

@@ -1,0 +1,136 @@
+-- How long a real, a date or a whole number is at most as it is printed.
+use Rattle.std.proofs.Common.{◌≡◌, ℕ, zero, suc, ◌+◌, ◌-◌, ◌*◌, ◌/◌, ◌%◌, ◌^◌, ◌<◌, ◌≤◌, Bool, true, false, List, ◌∷◌, ◌++◌, length, Option, Some, None, refl, ap, ◌∙◌, arith, length-append}
+use Rattle.std.specs.Prelude.{codes, decimal, ◌==◌, nat_le, nat_lt, ℤ, pos, negsuc, if◌then◌else◌}
+use Rattle.std.specs.Fmt.{signed_decimal, sign_text}
+use Rattle.std.proofs.lemmas.Bool.{and_parts}
+use Rattle.std.proofs.lemmas.Fmt.{length-decimal-le_wide}
+use Rattle.std.proofs.lemmas.Int.{ints}
+use Rattle.std.proofs.lemmas.Nat.{pow-add}
+use Rattle.std.proofs.Math.Nat.{div-lt_iff_lt-mul, pow-le-pow_right}
+use Rattle.byteorder.specs.Endian.{big_number}
+use Rattle.plist_value.specs.Plist.{IsWhole}
+use Rattle.plist_print.specs.Units.{printed_data}
+use Rattle.plist_print.specs.Reals.{Format, double, Placed, nearest, reads_as, shortest, decimal_of, is_moderate, placed_in, last_digits, printed_decimal, printed_finite, printed_size, printed_real}
+use Rattle.plist_print.specs.Dates.{year_of, month_of, days_before, days_of_months, printed_month, printed_day, printed_time, printed_moment, second_of, in_brackets, printed_date}
+use Rattle.plist_print.proofs.Compared.{lt-told}
+use Rattle.plist_print.proofs.Deciding.{some-power}
+use Rattle.plist_print.proofs.RealFronts.{last-long}
+use Rattle.plist_print.proofs.TextBounds.{if-long, data-long}
+
+-- a decimal has at most 128 bits, and 1 to 21 digits behind the point
+abbrev Few : Option (ℕ × ℕ) → Type 0
+Few None = Unit {0}
+Few (Some d) = (d.0 < 2 ^ 128) × (1 ≤ d.1) × (d.1 ≤ 21)
+
+if-few : (b : Bool) (o p : Option (ℕ × ℕ)) → (b ≡ true → Few o) → Few p → Few (if b then o else p)
+if-few true o p h k = h refl
+if-few false o p h k = k
+
+shortest-few : (x : Placed) (more digits : ℕ) → 1 ≤ digits → more + digits ≤ 22 → Few (shortest x more digits)
+shortest-few x zero digits low high = tt
+shortest-few x (suc more) digits low high =
+    if-few (reads_as x (10 ^ digits) (nearest x (10 ^ digits))) _ _ (λ reads. (lt-told _ (2 ^ 128) (and_parts _ _ reads).0, low, omega (arith, high))) (shortest-few x more (suc digits) (omega arith) (omega (arith, high)))
+
+decimal-few : (f : Format) (bits : ℕ) → Few (decimal_of f bits)
+unfolding decimal_of
+decimal-few f bits =
+    if-few (is_moderate f bits) _ _ (λ moderate. shortest-few (placed_in f bits) 21 1 (omega arith) (omega arith)) tt
+
+decimal-long : (n k : ℕ) → n < 2 ^ 128 → 1 ≤ k → k ≤ 21 → length (printed_decimal n k) ≤ 40
+decimal-long n k fits some few =
+    let places : 39 ≡ (39 - k) + k = omega arith in
+    let split : 10 ^ 39 ≡ 10 ^ (39 - k) * 10 ^ k = ap (λ e. 10 ^ e) places ∙ pow-add 10 (39 - k) k in
+    let high : n / 10 ^ k < 10 ^ (39 - k) = (div-lt_iff_lt-mul (some-power k)).1 (omega (arith, fits, split)) in
+    let places_64 : 39 - k ≤ 64 = omega arith in
+    let wide : 10 ^ (39 - k) ≤ 10 ^ 64 = pow-le-pow_right {n = 10} (omega arith) places_64 in
+    let whole = length-decimal-le_wide (39 - k) (n / 10 ^ k) (omega arith) high (omega (arith, high, wide)) in
+    let behind = last-long k n in
+    let all = length-append (decimal (n / 10 ^ k)) (46 ∷ last_digits k n) in
+    omega (arith, some, few, whole, behind, all)
+
+finite-long : (xs : List ℕ) (o : Option (ℕ × ℕ)) → length xs ≤ 8 → Few o → length (printed_finite xs o) ≤ 40
+finite-long xs (Some d) short few = decimal-long d.0 d.1 few.0 few.1 few.2
+finite-long xs None short few =
+    let octets = data-long xs in
+    let all = length-append (codes "real ") (printed_data xs) in
+    omega (arith, short, octets, all)
+
+size-long : (f : Format) (xs : List ℕ) (bits : ℕ) → length xs ≤ 8 → length (printed_size f xs bits) ≤ 40
+size-long f xs bits short =
+    let octets = data-long xs in
+    let all = length-append (codes "nan ") (printed_data xs) in
+    if-long (nat_lt bits f.infinite) _ _ 40 (finite-long xs (decimal_of f bits) short (decimal-few f bits)) (if-long (bits == f.infinite) _ _ 40 (omega arith) (omega (arith, short, octets, all)))
+
+sign-long : (negative : Bool) → length (sign_text negative) ≤ 1
+sign-long true = omega arith
+sign-long false = omega arith
+
+pub real-long : (f : Format) (xs : List ℕ) → length xs ≤ 8 → length (printed_real f xs) ≤ 41
+real-long f xs short =
+    let bits = big_number f.octets xs in
+    let sign = sign-long (nat_le f.sign bits) in
+    let size = size-long f xs (bits % f.sign) short in
+    let all = length-append (sign_text (nat_le f.sign bits)) (printed_size f xs (bits % f.sign)) in
+    omega (arith, sign, size, all)
+
+month-long : (year day : ℕ) → length (printed_month year day) ≡ 5
+unfolding printed_month
+month-long year day =
+    let month = month_of year day in
+    let last = day - days_of_months year (month - 1) + 1 in
+    let first = last-long 2 month in
+    let second = last-long 2 last in
+    let all = length-append (last_digits 2 month) (45 ∷ last_digits 2 last) in
+    omega (arith, first, second, all)
+
+day-long : (day : ℕ) → length (printed_day day) ≡ 10
+unfolding printed_day
+day-long day =
+    let year = year_of day in
+    let rest = printed_month year (day - days_before year) in
+    let first = last-long 4 year in
+    let behind = month-long year (day - days_before year) in
+    let all = length-append (last_digits 4 year) (45 ∷ rest) in
+    omega (arith, first, behind, all)
+
+time-long : (second : ℕ) → length (printed_time second) ≡ 8
+unfolding printed_time
+time-long second =
+    let seconds = last_digits 2 (second % 60) in
+    let minutes = last_digits 2 (second / 60 % 60) in
+    let first = last-long 2 (second / 3600) in
+    let next = last-long 2 (second / 60 % 60) in
+    let last = last-long 2 (second % 60) in
+    let outer = length-append (last_digits 2 (second / 3600)) (58 ∷ (minutes ++ (58 ∷ seconds))) in
+    let inner = length-append minutes (58 ∷ seconds) in
+    omega (arith, first, next, last, outer, inner)
+
+moment-long : (second : ℕ) → length (printed_moment second) ≡ 20
+unfolding printed_moment
+moment-long second =
+    let time = printed_time (second % 86400) in
+    let first = day-long (second / 86400) in
+    let next = time-long (second % 86400) in
+    let outer = length-append (printed_day (second / 86400)) (84 ∷ (time ++ codes "Z")) in
+    let inner = length-append time (codes "Z") in
+    omega (arith, first, next, outer, inner)
+
+brackets-long : (moment : Option ℕ) → length (in_brackets moment) ≤ 23
+brackets-long None = omega arith
+brackets-long (Some second) =
+    let moment = moment-long second in
+    let all = length-append (printed_moment second) (codes ")") in
+    omega (arith, moment, all)
+
+pub date-long : (xs : List ℕ) → length xs ≤ 8 → length (printed_date xs) ≤ 64
+date-long xs short =
+    let seconds = real-long double xs short in
+    let brackets = brackets-long (second_of xs) in
+    let all = length-append (printed_real double xs) (in_brackets (second_of xs)) in
+    omega (arith, seconds, brackets, all)
+
+pub whole-long : (z : ℤ) → IsWhole z → length (signed_decimal z) ≤ 21
+whole-long (pos n) h =
+    let most = h.most in let digits = length-decimal-le_wide 20 n (omega arith) (omega (arith, ints)) (omega (arith, ints)) in omega (arith, digits)
+whole-long (negsuc n) h =
+    let least = h.least in let digits = length-decimal-le_wide 20 (suc n) (omega arith) (omega (arith, ints)) (omega (arith, ints)) in omega (arith, digits)
