@@ -47,15 +47,6 @@ FrontsOf-more {e} {octets} {rest} {behind} {c} f b = record {
       ∙ ap (λ w. w ++ behind) (sym (octets_of-append e f.before (c ∷ []) ∙ ap (λ w. octets_of e f.before ++ w) (append-nil (spelling e c))));
 }
 
--- whole characters behind others
-pub FrontsOf-behind : {e : Encoding} {octets rest behind : List ℕ} → FrontsOf e octets rest → FrontsOf e rest behind → FrontsOf e octets behind
-FrontsOf-behind {e} {octets} {rest} {behind} f g = record {
-  before = f.before ++ g.before;
-  whole = rw (all_scalars-append, f.whole, g.whole) refl;
-  split = f.split ∙ ap (λ w. octets_of e f.before ++ w) g.split ∙ sym (append_assoc (octets_of e f.before) (octets_of e g.before) behind)
-      ∙ ap (λ w. w ++ behind) (sym (octets_of-append e f.before g.before));
-}
-
 -- what stands behind the first character of a whole text is a whole text
 pub record WholeText (e : Encoding) (text octets : List ℕ) : Type 0 where
   pub scalars : all_scalars text ≡ true

@@ -22,9 +22,6 @@ Keeps-both first second third a b = record {
 pub record ItemsLeft (helds : List Held) (done : List ℕ) (left all : Items) : Type 0 where
   pub ends : (later : List Held) (rest : List ℕ) → Keeps helds later → SpellItemsIn later rest left → SpellItemsIn later (done ++ rest) all
 
-pub items-begun : (helds : List Held) (all : Items) → ItemsLeft helds [] all all
-items-begun helds all = record { ends = λ later rest keeps told. told }
-
 pub items-next : (helds after : List Held) (done pushed : List ℕ) (n : ℕ) (v : Plist) (left rest all : Items) → Keeps helds after → SpellsIn after n v → left ≡ item v rest → pushed ≡ done ++ (n ∷ []) → ItemsLeft helds done left all → ItemsLeft after pushed rest all
 items-next helds after done pushed n v left rest all keeps spells first added begun = record {
   ends = λ later refs keeps_later told.
@@ -49,9 +46,6 @@ zip-last (w ∷ ws) (z ∷ zs) x y same = ap (λ (rows : List (ℕ × ℕ)). (w,
 pub record PairsLeft (helds : List Held) (keys values : List ℕ) (left all : Pairs) : Type 0 where
   pub same : length keys ≡ length values
   pub ends : (later : List Held) (rest : List (ℕ × ℕ)) → Keeps helds later → SpellPairsIn later rest left → SpellPairsIn later (zip keys values ++ rest) all
-
-pub pairs-begun : (helds : List Held) (all : Pairs) → PairsLeft helds [] [] all all
-pairs-begun helds all = record { same = refl; ends = λ later rest keeps told. told }
 
 pub pairs-next : (helds between after : List Held) (keys values keys_pushed values_pushed : List ℕ) (k n : ℕ) (key : List ℕ) (v : Plist) (left rest all : Pairs) → Keeps helds between → SpellsIn between k (scalar (text key)) → Keeps between after → SpellsIn after n v → left ≡ pair key v rest → keys_pushed ≡ keys ++ (k ∷ []) → values_pushed ≡ values ++ (n ∷ []) → PairsLeft helds keys values left all → PairsLeft after keys_pushed values_pushed rest all
 pairs-next helds between after keys values keys_pushed values_pushed k n key v left rest all keeps_first spells_key keeps spells first key_added value_added begun =

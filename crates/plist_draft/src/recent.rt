@@ -7,10 +7,10 @@ use plist_value::FixedHasher;
 use std::alloc::{AllocError, Global};
 use std::hash::{BuildHasher, Hasher};
 
-/// The number of slots at first, and at most: 2 MiB of them.
+/// The number of slots at first, and at most: 512 KiB of them, which a processor keeps near.
 const LEAST: usize = 64;
 
-const MOST: usize = 262_144;
+const MOST: usize = 65_536;
 
 /// In a slot that was never filled: no object has this number.
 const NOTHING: Entry = Entry {

@@ -2,7 +2,7 @@
 //! unchanged.
 use ostep_text::read_text;
 use plist_binary::read;
-use plist_draft::{Draft, Role, put_value};
+use plist_draft::{Draft, put_value};
 use plist_value::{ScalarRef, TextRef, Value, same};
 use std::alloc::{AllocError, Global};
 use std::test::Fail;
@@ -21,8 +21,8 @@ fn put_text(draft: &mut Draft, units: &[u16]) -> Result<u32, AllocError> {
     draft.put_scalar(&ScalarRef::Text(TextRef::of_units(units)))
 }
 
-fn share_text(draft: &mut Draft, units: &[u16], role: Role) -> Result<u32, AllocError> {
-    draft.share_scalar(&ScalarRef::Text(TextRef::of_units(units)), role)
+fn share_text(draft: &mut Draft, units: &[u16]) -> Result<u32, AllocError> {
+    draft.share_scalar(&ScalarRef::Text(TextRef::of_units(units)))
 }
 
 fn one_text(alloc: Global) -> Result<Vec<u8>, AllocError> {
@@ -60,14 +60,11 @@ fn drafts_are_finished(rt: HostRuntime) -> Result<(), Fail> {
 #[test]
 fn equal_scalars_are_one_object(rt: HostRuntime) -> Result<(), Fail> {
     let mut draft = Draft::new(rt.alloc())?;
-    let a = share_text(&mut draft, &[0x61], Role::Value)?;
-    let b = share_text(&mut draft, &[0x62], Role::Value)?;
+    let a = share_text(&mut draft, &[0x61])?;
+    let b = share_text(&mut draft, &[0x62])?;
     assert_eq!(rt; [a, b], [0, 1]);
-    assert_eq!(rt; share_text(&mut draft, &[0x61], Role::Value)?, a);
-    assert_eq!(rt;
-        draft.share_scalar(&ScalarRef::Bytes(b"a"), Role::Value)?,
-        2
-    );
+    assert_eq!(rt; share_text(&mut draft, &[0x61])?, a);
+    assert_eq!(rt; draft.share_scalar(&ScalarRef::Bytes(b"a"))?, 2);
     assert_eq!(rt; put_text(&mut draft, &[0x61])?, 3);
     let top = draft.put_table(&[b, a], &[a, b])?;
     let table = draft.finish(top)?;
@@ -75,25 +72,17 @@ fn equal_scalars_are_one_object(rt: HostRuntime) -> Result<(), Fail> {
     Ok(())
 }
 
-// After many distinct strings, the next ones are put without a lookup for a while, and then equal
-// ones are found again. The hit rates of keys and of values are independent.
+// Also after many other strings: the table of scalars grows, and its slots are replaced.
 #[test]
-fn few_equal_scalars_are_not_looked_for(rt: HostRuntime) -> Result<(), Fail> {
-    for (role, other) in [(Role::Value, Role::Key), (Role::Key, Role::Value)] {
-        let mut draft = Draft::new(rt.alloc())?;
-        for i in 0..5_000u16 {
-            share_text(&mut draft, &[i, 0x61], role)?;
-        }
-        assert_eq!(rt; share_text(&mut draft, &[0x61], role)?, 5_000);
-        assert_eq!(rt; share_text(&mut draft, &[0x61], role)?, 5_001);
-        let b = share_text(&mut draft, &[0x62], other)?;
-        assert_eq!(rt; share_text(&mut draft, &[0x62], other)?, b);
-        for _ in 0..66_000u32 {
-            share_text(&mut draft, &[0x61], role)?;
-        }
-        let c = share_text(&mut draft, &[0x63], role)?;
-        assert_eq!(rt; share_text(&mut draft, &[0x63], role)?, c);
+fn equal_scalars_are_found_behind_others(rt: HostRuntime) -> Result<(), Fail> {
+    let mut draft = Draft::new(rt.alloc())?;
+    for i in 0..70_000u32 {
+        share_text(&mut draft, &[(i / 256) as u16, (i % 256) as u16])?;
     }
+    let a = share_text(&mut draft, &[0x61])?;
+    assert_eq!(rt; share_text(&mut draft, &[0x61])?, a);
+    let b = share_text(&mut draft, &[0x62])?;
+    assert_eq!(rt; share_text(&mut draft, &[0x62])?, b);
     Ok(())
 }
 
@@ -129,7 +118,7 @@ fn is_scalar_put(alloc: Global, is_shared: bool) -> Result<bool, Fail> {
     let mut draft = Draft::new(alloc)?;
     put_text(&mut draft, &[0x61])?;
     let put = if is_shared {
-        share_text(&mut draft, &[0x62], Role::Value)
+        share_text(&mut draft, &[0x62])
     } else {
         put_text(&mut draft, &[0x62])
     };

@@ -1,5 +1,5 @@
 //! Tokens one at a time, and with memory refused.
-use ostep_lex::{LexFault, next_mark, next_plain, next_token, next_units, open, tokens};
+use ostep_lex::{LexFault, TokenKind, next_mark, next_plain, next_token, open, tokens};
 use std::alloc::{AllocError, Global};
 use std::test::Fail;
 
@@ -100,22 +100,17 @@ const UNITS: [UnitsRow; 5] = [
     (b"//\n''", &[], 5),
 ];
 
-// Inputs that are not read as a string: another token, a fault, a string that begins with a slash.
-const NO_UNITS: [&[u8]; 5] = [b"{", b"<00>", b"\"a", b"/a", b""];
-
 #[test]
-fn units_in_the_room_of_those_before(rt: HostRuntime) -> Result<(), Fail> {
-    let mut room = Vec::new(rt.alloc());
+fn a_string_by_its_units(rt: HostRuntime) -> Result<(), Fail> {
     for (octets, wanted, place) in UNITS {
-        let Some((units, behind)) = next_units(rt.alloc(), open(octets)?, &mut room) else {
-            return Err(Fail::from(AllocError));
+        let Some((token, behind)) = next_token(rt.alloc(), open(octets)?)? else {
+            return Err(Fail::from("it is no string"));
         };
-        assert_eq!(rt; units.as_slice(), wanted);
+        let TokenKind::Text(text) = token.kind else {
+            return Err(Fail::from("it is no string"));
+        };
+        assert_eq!(rt; text.units(), wanted);
         assert_eq!(rt; behind.place(), place);
-        room = units;
-    }
-    for octets in NO_UNITS {
-        assert!(rt; next_units(rt.alloc(), open(octets)?, &mut room).is_none());
     }
     Ok(())
 }
