@@ -1,4 +1,5 @@
-//! The judge of binary property lists: it answers all refusals of the reader, and makes no value.
+//! The validator of binary property lists: it finds every refusal of the reader and builds no
+//! value.
 ghost use Rattle.std.specs.Prelude.{◌≡◌, ◌≢◌, IfOk, IfErr, OnOk};
 ghost use Rattle.plist_value.specs.Plist.{Plist};
 ghost use Rattle.plist_object.specs.Layout.{IsLaid, trailer_of};
@@ -16,17 +17,24 @@ use plist_object::{BinFile, Keys, Ranks};
 use plist_value::{Budget, MAX_DEPTH};
 use std::alloc::Global;
 
-/// Whether the octets spell a value, of which nothing is made: the refusals of `read`, in their
-/// order and at their places. An object that several references share is walked once, and a key
-/// that many tables share is read twice at most, so time and memory grow with the file and not with
-/// the value. Only where objects overlap are keys read again at each table.
+/// Validates a binary property list: returns the fault that `read` would return, without building
+/// the value. Each object is validated once, even if several references point to it, and a key that
+/// several dictionaries share is read at most twice. So time and memory grow with the file, not
+/// with the value. Only if objects overlap are keys read again for each dictionary.
 ///
 /// # Errors
 ///
-/// The first fault in this order: the layout; then, for each reference in preorder from the top, a
-/// reference to no object, one to a container on the path to it, a node too many, a node too deep,
-/// the object's own fault, a key that is no text, too much payload. Of a table all keys come first,
-/// then two equal keys, then the values. Want of memory may come before any of them.
+/// The first fault in this order: the layout; then, for each reference in preorder from the top,
+/// - a reference to no object;
+/// - a reference to a container on the path to it;
+/// - a node too many;
+/// - a node too deep;
+/// - the object's own fault;
+/// - a key that is no string;
+/// - too much payload.
+///
+/// In a dictionary all keys come first, then duplicate keys, then the values. `OutOfMemory` may
+/// come before any of them.
 pub fn judge(alloc: Global, octets: &[u8]) -> Result<(), BinaryFault>
     ensures ok { OnOk result ((v : Plist) × IsBinary octets.now v) }
     ensures refused { IfErr result (λ fault. fault ≢ BinaryFault.OutOfMemory → (v : Plist) →
@@ -39,11 +47,11 @@ pub fn judge(alloc: Global, octets: &[u8]) -> Result<(), BinaryFault>
     }
 }
 
-/// Validates as [`judge`] does, and returns the file, so that its layout need not be read again.
+/// Validates like [`judge`] and returns the file, so that its layout need not be read again.
 ///
 /// # Errors
 ///
-/// Those of [`judge`].
+/// Fails like [`judge`].
 pub fn judge_file(alloc: Global, octets: &[u8]) -> Result<BinFile<'_>, BinaryFault>
     ensures file { IfOk result (λ file. octets_of file ≡ octets.entry.now) }
     ensures ok { OnOk result ((v : Plist) × IsBinary octets.entry.now v) }
@@ -56,9 +64,8 @@ pub fn judge_file(alloc: Global, octets: &[u8]) -> Result<BinFile<'_>, BinaryFau
     Ok(file)
 }
 
-// Whether the top object of the file spells a value within the limits. Where the value is far
-// longer than the file, the file shares texts, and its keys are ranked, so that no key is read
-// again at each table.
+// Validates the top object of the file. If the payload exceeds the short budget, the file shares
+// strings; its keys are then ranked, so that no key is read again for each dictionary.
 pub(crate) fn judge_top(alloc: Global, file: BinFile) -> Result<(), BinaryFault>
     requires { IsLaid (octets_of file) }
     ensures passed { OnOk result (PassesTop (octets_of file.entry)) }
@@ -78,7 +85,8 @@ pub(crate) fn judge_top(alloc: Global, file: BinFile) -> Result<(), BinaryFault>
     }
 }
 
-// A budget of not much more payload than the file has octets. What it refuses may be a value.
+// Returns a budget of four times as much payload as the file has bytes. A file that exceeds it may
+// still encode a value within the limits.
 fn short_budget(file: &BinFile) -> Budget
     ensures { IsWithinLimits result }
 {
@@ -89,7 +97,7 @@ fn short_budget(file: &BinFile) -> Budget
     }
 }
 
-// Whether the top object of the file spells a value within the whole budget.
+// Validates the top object of the file, within this budget.
 fn judge_within<'a>(
     alloc: Global,
     file: BinFile<'a>,

@@ -6,14 +6,14 @@ ghost use Rattle.plist_binary.specs.Recalls.{IsKnownLast, ReadsApart};
 use plist_object::Refs;
 use plist_value::Budget;
 
-// References to distinct strings, and their payload.
+// References to distinct strings, with the payload of these strings.
 #[derive(Clone, Copy)]
 pub(crate) struct LastKeys<'a> {
     pub(crate) refs: Refs<'a>,
     pub(crate) payload: u64,
 }
 
-// Returns what is left after the keys, if they are those of the last dictionary and fit.
+// Returns the budget left after the keys, if they are those of the last dictionary and fit into it.
 pub(crate) fn recall_keys(
     last: &Option<LastKeys>,
     refs: &Refs,

@@ -1,4 +1,4 @@
-//! The keys of a dictionary in order, and the map of its pairs.
+//! The keys of a dictionary in order, and the map of its entries.
 ghost use Rattle.std.specs.Prelude.{◌≡◌, ◌<◌, ◌==◌, ◌↔◌, All, IsTrue, IfOk, length, map};
 ghost use Rattle.std.specs.Ordering.{eq_by_cmp, nat_cmp};
 ghost use Rattle.std.specs.Cmp.Lexicographic.{slice_cmp};
@@ -14,7 +14,7 @@ use std::cmp::Ordering;
 use std::collections::BTreeMap;
 use std::mem;
 
-// A key of a dictionary, and its position among the keys of the file.
+// A key of a dictionary with its position among the keys in the file.
 #[derive(Clone, Copy)]
 pub(crate) struct Key<'a> {
     pub(crate) text: TextRef<'a>,
@@ -52,8 +52,8 @@ fn is_below(key: &Key, next: &Key) -> bool
     key.text < next.text
 }
 
-// Makes the map of the keys, which ascend, each with the value at its position. The last key is
-// inserted first: a key below all others is found by one comparison in each node.
+// Builds the map from keys in ascending order, each with the value at its position. The last key is
+// inserted first: a key below all others is found with one comparison per node.
 pub(crate) fn table(
     alloc: Global,
     keys: Vec<Key>,

@@ -1,4 +1,4 @@
-//! The walk through the objects of a file.
+//! The traversal of the objects of a file.
 ghost use Rattle.std.specs.Prelude.{◌≡◌, ◌+◌, ◌<◌, ◌∷◌, ℕ, List, length, max, IfOk, IfErr, OnOk};
 ghost use Rattle.std.specs.List.{Contains};
 ghost use Rattle.plist_value.specs.Texts.{units_of};
@@ -22,7 +22,7 @@ use plist_object::{Object, Refs};
 use plist_value::MAX_DEPTH;
 use std::alloc::Global;
 
-// Walks through the objects of a file, each of which the visitor reads.
+// Traverses the objects of a file. The visitor reads each of them.
 #[derive(Clone, Copy)]
 pub(crate) struct Walker<'a, 'r> {
     pub(crate) alloc: Global,
@@ -30,7 +30,7 @@ pub(crate) struct Walker<'a, 'r> {
 }
 
 impl<'a, 'r> Walker<'a, 'r> {
-    // Whether the top object spells a value within the whole budget.
+    // Validates the top object within the whole budget.
     pub(crate) fn top(&self) -> Result<(), BinaryFault>
         requires { IsWithinLimits self.now.visitor.whole }
         ensures passed { OnOk result (PassesTop (octets_of self.now.visitor.file)) }
@@ -44,8 +44,8 @@ impl<'a, 'r> Walker<'a, 'r> {
         Ok(())
     }
 
-    // The depth of the value that the object spells, to which the path leads, of at most so many
-    // levels.
+    // Validates the object at the end of the path and returns the depth of its value. `levels` is
+    // the depth allowed.
     #[cycle(walk)]
     #[inline(always)]
     fn pass(
@@ -75,7 +75,8 @@ impl<'a, 'r> Walker<'a, 'r> {
         self.walk(progress, path, object, levels)
     }
 
-    // Walks an object that is not in the memo, and records what its value takes.
+    // Validates an object that the memo does not have, and records its depth and the budget it
+    // takes.
     #[cycle(walk)]
     fn walk(
         &self,
@@ -105,8 +106,8 @@ impl<'a, 'r> Walker<'a, 'r> {
         Ok(deep)
     }
 
-    // The depth of what the object holds, which is marked as open if it is a container. Of a table
-    // all keys come before the values.
+    // Returns the depth of the object's value. A container is marked as open. In a dictionary all
+    // keys are read before the values.
     #[cycle(walk)]
     fn content(
         &self,
@@ -149,7 +150,7 @@ impl<'a, 'r> Walker<'a, 'r> {
         }
     }
 
-    // The depth of the deepest value that the references of the open container spell.
+    // Validates the items of the open container and returns the depth of the deepest.
     #[cycle(walk)]
     fn items(
         &self,
@@ -181,8 +182,8 @@ impl<'a, 'r> Walker<'a, 'r> {
         Ok(deepest)
     }
 
-    // Reads the keys of the table, of which no two are equal. Those of the last table are not read
-    // again.
+    // Reads the keys of the dictionary, and fails if two are equal. Keys that are those of the last
+    // dictionary are not read again.
     fn keys_apart(
         &self,
         progress: &mut Progress<'a>,
@@ -211,8 +212,8 @@ impl<'a, 'r> Walker<'a, 'r> {
         self.read_apart(progress, table, before, refs, levels)
     }
 
-    // Reads keys that are not those of the last table. It stands by itself, so that the walk of an
-    // object that has no keys makes no room for them.
+    // Reads keys that are not those of the last dictionary. This is a function of its own so that
+    // frames of objects without keys reserve no space for it.
     #[inline(never)]
     fn read_apart(
         &self,
@@ -245,7 +246,7 @@ impl<'a, 'r> Walker<'a, 'r> {
         Ok(())
     }
 
-    // Reads the keys of the table, which are texts.
+    // Reads the keys of the dictionary, and fails if one is no string.
     fn keys(
         &self,
         progress: &mut Progress<'a>,
@@ -277,7 +278,7 @@ impl<'a, 'r> Walker<'a, 'r> {
     }
 }
 
-// The greater of two depths.
+// Returns the greater of two depths.
 fn deeper(first: u64, second: u64) -> u64
     ensures { result ≡ max first second }
 {

@@ -24,7 +24,7 @@ use Rattle.plist_engine.specs.Spelling.{IsTable, SpellTable, in_turn}
 use Rattle.plist_object.proofs.Uniqueness.{key_of, by_key, by_key_total, rows_ascend}
 use Rattle.plist_value.proofs.Keys.{turned}
 
--- the pairs at all positions
+-- the pairs at the first k positions
 range_pairs : (keys values : List ℕ) → length keys ≡ length values → (k : ℕ) → k ≤ length keys → map (pair_of keys values) (range_with_len 0 k) ≡ take k (zip keys values)
 range_pairs keys values as_many zero h = refl
 range_pairs keys values as_many (suc k) h =
@@ -40,7 +40,7 @@ pairs_moved f keys values places as_many order =
     let all = range_pairs keys values as_many (length keys) (omega arith) ∙ take_all (length keys) (zip keys values) long in
     subst (λ (ps : List (ℕ × ℕ)). IsPermutation ps (map (pair_of keys values) places)) all (IsPermutation-map (pair_of keys values) (range_with_len 0 (length keys)) places order.moved)
 
--- pairs whose keys are in order and distinct
+-- pairs with sorted and distinct keys ascend strictly by their keys
 strictly : (f : List ℕ) (pairs : List (ℕ × ℕ)) → IsSorted (slice_cmp nat_cmp) (map (key_of f) pairs) → IsDistinct (eq_by_cmp (by_key f)) pairs → IsStrictlySortedBy (by_key f) pairs
 unfolding by_key
 strictly f pairs sorted distinct =
@@ -60,7 +60,7 @@ keys_read f keys values [] = refl
 keys_read f keys values (place ∷ places) =
     ap (λ ts. units_in (what_holds f (slice_index keys place)) ∷ ts) (keys_read f keys values places)
 
--- pairs in the order of their keys are those that encode the pairs of the dictionary
+-- the pairs at the sorted positions are the rows that encode the dictionary
 rows_are : (f keys values places : List ℕ) (rows : List (ℕ × ℕ)) (ps : Pairs) → length keys ≡ length values → IsInOrder f keys places → SpellTable f keys values rows ps → map (pair_of keys values) places ≡ rows
 rows_are f keys values places rows ps as_many order table =
     let pairs = map (pair_of keys values) places in
@@ -100,13 +100,13 @@ seconds : (keys values places : List ℕ) → map (λ (p : ℕ × ℕ). p.1) (ma
 seconds keys values [] = refl
 seconds keys values (place ∷ places) = ap (λ xs. slice_index values place ∷ xs) (seconds keys values places)
 
--- the positions are those of keys
+-- the positions of the keys are in range
 pub places_within : (f keys places : List ℕ) (n : ℕ) → length keys ≡ n → IsInOrder f keys places → All (λ place. place < n) places
 places_within f keys places n long order =
     let all : All (λ place. place < n) (range_with_len 0 (length keys)) = λ k d h. (let within : k < length keys = omega (arith, h, length-range_with_len 0 (length keys)) in omega (arith, within, get_or-range_with_len 0 (length keys) k d within)) in
     All-permutation (λ place. place < n) (range_with_len 0 (length keys)) places order.moved all
 
--- the keys and then the values at the positions are the rows that encode the pairs of the dictionary
+-- the keys and then the values at the sorted positions are the rows that encode the dictionary
 pub in_turn-places : (f keys values places : List ℕ) (rows : List (ℕ × ℕ)) (ps : Pairs) (old mid new : List ℕ) → length keys ≡ length values → IsInOrder f keys places → SpellTable f keys values rows ps → mid ≡ old ++ map (slice_index keys) places → new ≡ mid ++ map (slice_index values) places → new ≡ old ++ in_turn rows
 in_turn-places f keys values places rows ps old mid new as_many order spell first second =
     let of_keys = map (slice_index keys) places in

@@ -9,8 +9,8 @@ ghost use Rattle.plist_engine.specs.Spelling.{IsTable, SpellTable, in_turn};
 use plist_object::{BinFile, KeyOrder, Refs, short};
 use std::alloc::{AllocError, Global};
 
-/// Appends the references to a dictionary's keys, in ascending order of the keys, and then those to
-/// its values in the same order.
+/// Appends the references to a dictionary's keys, in ascending order of the keys, and then the
+/// references to its values in the same order.
 ///
 /// # Errors
 ///

@@ -1,4 +1,4 @@
--- Strings that ascend, and strings no two of which are equal.
+-- Sorted strings ascend if and only if no two are equal.
 use Rattle.std.proofs.Common.{◌≡◌, ℕ, ◌<◌, List, [], ◌∷◌, length, get_or, map, false, sym, ap, ◌∙◌, subst, arith, ◌+◌, ◌-◌, ◌≤◌, true, ⊎_elim}
 use Rattle.std.specs.Prelude.{Bool, IsTrue, ◌↔◌}
 use Rattle.std.specs.declared.cmp.Ordering.TheVariants.{Less}
@@ -21,7 +21,7 @@ abbrev pub AscendTo : ℕ → List (List ℕ) → Type 0
 AscendTo n keys =
     (k : ℕ) → k + 1 < n → slice_cmp nat_cmp (get_or keys k []) (get_or keys (k + 1) []) ≡ Less
 
--- one more that is below the next
+-- one more string that is below the next
 pub ascend_next : {A : Type 0} (g : A → List ℕ) (xs : List A) (i : ℕ) (d e : A) → 1 ≤ i → i < length xs → slice_cmp nat_cmp (g (get_or xs (i - 1) d)) (g (get_or xs i e)) ≡ Less → AscendTo i (map g xs) → AscendTo (i + 1) (map g xs)
 ascend_next g xs i d e some within less below k h =
     let keys = map g xs in
@@ -76,12 +76,12 @@ ascent_from_distinct g (x ∷ xs) order distinct = strict_from g (x ∷ xs) x or
 pub distinct_from_ascent : (keys : List (List ℕ)) → IsStrictlySortedBy (slice_cmp nat_cmp) keys → IsDistinct same_key keys
 distinct_from_ascent keys sorted = IsDistinct-from_sorted (slice_cmp nat_cmp) keys sorted
 
--- strings in another order are still distinct
+-- permuted strings are still distinct
 pub distinct_moved : {A : Type 0} (g : A → List ℕ) (xs ys : List A) → IsPermutation xs ys → IsDistinct same_key (map g xs) → IsDistinct same_key (map g ys)
 distinct_moved g xs ys moved distinct =
     IsDistinct-IsPermutation same_key (eq_by_cmp_equiv nat_list_cmp_total).symm (map g xs) (map g ys) (IsPermutation-map g xs ys moved) distinct
 
--- strings in order, of which no two are equal, ascend
+-- sorted strings of which no two are equal ascend
 pub strict_from_distinct : (keys : List (List ℕ)) → IsSorted (slice_cmp nat_cmp) keys → IsDistinct same_key keys → IsStrictlySortedBy (slice_cmp nat_cmp) keys
 strict_from_distinct keys order distinct =
     sorted_from_ascent keys (λ k h. less_from (get_or keys k []) (get_or keys (k + 1) []) (order k [] (omega arith) h) (apart_from_distinct same_key keys k (k + 1) [] distinct (omega arith) h))

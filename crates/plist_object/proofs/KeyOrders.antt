@@ -1,4 +1,4 @@
--- Rows of keys in the order of their numbers are in the order of their strings.
+-- Rows of keys that are sorted by their numbers are in the order of their strings.
 use Rattle.std.proofs.Common.{◌≡◌, ℕ, ◌+◌, ◌<◌, List, [], ◌∷◌, ◌++◌, length, get_or, map, slice_index, refl, sym, ap, ◌∙◌, subst, arith, inl, inr, Ok}
 use Rattle.std.specs.Prelude.{All, true, false, Bool}
 use Rattle.std.specs.declared.cmp.Ordering.{Ordering}
@@ -27,7 +27,7 @@ ranks_tell f ranks row other are is is_other below =
     sym (ap (λ us. slice_cmp nat_cmp us (get_or (texts_of ranks) other.number [])) is.1 ∙ ap (λ us. slice_cmp nat_cmp (units_at row) us) is_other.1)
     ∙ below_from_ranks (texts_of ranks) row.number other.number are.ascending is_other.0 below
 
--- rows that stand as in the file
+-- rows in the order of the file
 from_file : (f keys : List ℕ) (n : ℕ) (rows : List Row) → length keys ≡ n → map place_of rows ≡ range_with_len 0 n → All (HoldsRow f keys) rows → All (λ row. All (TellsOrder row) rows) rows → AreRows f keys rows
 from_file f keys n rows long are held tell = record {
   moved = subst (λ (ps : List ℕ). IsPermutation (range_with_len 0 (length keys)) ps) (ap (range_with_len 0) long ∙ sym are) (IsPermutation-refl (range_with_len 0 (length keys)));
@@ -51,12 +51,12 @@ range-more : (k : ℕ) → range_with_len 0 (k + 1) ≡ range_with_len 0 k ++ k 
 range-more k =
     sym (map_self (range_with_len 0 (k + 1))) ∙ map-range_with_len_more (λ n. n) 0 k k (omega arith) ∙ ap (λ ns. ns ++ k ∷ []) (map_self (range_with_len 0 k))
 
--- one row more
+-- the positions after a row is pushed
 pub places-push : (rows pushed : List Row) (row : Row) (k : ℕ) → pushed ≡ rows ++ row ∷ [] → row.place ≡ k → map place_of rows ≡ range_with_len 0 k → map place_of pushed ≡ range_with_len 0 (k + 1)
 places-push rows pushed row k is at so_far =
     ap (map place_of) is ∙ map-append place_of rows (row ∷ []) ∙ ap (λ ps. ps ++ place_of row ∷ []) so_far ∙ ap (λ p. range_with_len 0 k ++ p ∷ []) at ∙ sym (range-more k)
 
--- rows in another order
+-- permuted rows are still the rows of the keys
 pub moved_rows : (f keys : List ℕ) (rows sorted : List Row) → IsPermutation rows sorted → AreRows f keys rows → AreRows f keys sorted
 moved_rows f keys rows sorted moved are =
     let to_each : All (λ row. All (TellsOrder row) sorted) rows = λ k d h. All-permutation (TellsOrder (get_or rows k d)) rows sorted moved (are.tell k d h) in
@@ -66,12 +66,12 @@ moved_rows f keys rows sorted moved are =
       tell = All-permutation (λ row. All (TellsOrder row) sorted) rows sorted moved to_each;
     }
 
--- by numbers, and by strings where these are equal
+-- by numbers, and by strings if these are equal
 abbrev pub by_number : Row → Row → Ordering
 by_number row other =
     ordering_then (nat_cmp row.number other.number) (slice_cmp nat_cmp (units_at row) (units_at other))
 
--- a lower string goes first
+-- a row with a lower string comes first
 lower_first : (row other : Row) → TellsOrder other row → slice_cmp nat_cmp (units_at row) (units_at other) ≡ Less → is_lt (by_number row other) ≡ true
 lower_first row other tells less =
     let p = slice_cmp nat_cmp (units_at row) (units_at other) in
@@ -102,7 +102,7 @@ texts_in_order f keys (first ∷ rows) are sorted k d low high =
     let upper = get_or-map units_at all (k + 1) first d within in
     ap (λ us. is_lt (slice_cmp nat_cmp us (get_or (map units_at all) k d))) upper ∙ ap (λ us. is_lt (slice_cmp nat_cmp (units_at (get_or all (k + 1) first)) us)) lower ∙ in_order f keys all are sorted k first within
 
--- the strings of rows
+-- the strings of the rows are the strings at their positions
 strings_of : (f keys : List ℕ) (rows : List Row) → AllByRecursion (HoldsRow f keys) rows → strings_at f keys (map place_of rows) ≡ map units_at rows
 strings_of f keys [] held = refl
 strings_of f keys (row ∷ rows) held =
@@ -113,7 +113,7 @@ strings_of f keys (row ∷ rows) held =
 pub strings-rows : (f keys : List ℕ) (rows : List Row) → All (HoldsRow f keys) rows → strings_at f keys (map place_of rows) ≡ map units_at rows
 strings-rows f keys rows held = strings_of f keys rows (recursion_from_All (HoldsRow f keys) rows held)
 
--- the positions of rows that are sorted by their numbers
+-- the positions of rows that are sorted by their numbers are in the order of the strings
 pub IsInOrder-rows : (f keys : List ℕ) (rows sorted : List Row) → AreRows f keys rows → IsPermutation rows sorted → IsSorted by_number sorted → IsInOrder f keys (map place_of sorted)
 IsInOrder-rows f keys rows sorted are moved order =
     let now = moved_rows f keys rows sorted moved are in

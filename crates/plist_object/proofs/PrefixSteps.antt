@@ -1,4 +1,4 @@
--- Sort prefixes: the lower of two strings has no larger sort prefix.
+-- The lower of two strings never has the larger sort prefix.
 use Rattle.std.proofs.Common.{◌≡◌, ℕ, zero, suc, ◌+◌, ◌*◌, ◌^◌, ◌<◌, ◌≤◌, List, [], ◌∷◌, ◌++◌, sym, ap, ◌∙◌, subst, arith, inl, inr, refl, lt-ltb, le-ltb, ◌-◌, length, get_or, set, map, take, drop}
 use Rattle.std.proofs.Math.Nat.{pow-zero, pow-suc, mul-le-mul_right, mul-le-mul_left, one-le-pow}
 use Rattle.std.specs.declared.cmp.Ordering.{Ordering}
@@ -41,7 +41,7 @@ prefix_below (suc k) (unit ∷ units) =
           rw (prefix_cut k unit units wide, p) (omega (arith, below)))
     ]
 
--- the sort prefix of a unit of 256 or more is the largest
+-- the sort prefix of a string that begins with a unit of 256 or more is the largest
 prefix_highest : (k unit : ℕ) (units : List ℕ) → 256 ≤ unit → prefix_of k (unit ∷ units) + 1 ≡ 256 ^ k
 prefix_highest zero unit units wide = rw (pow-zero 256) refl
 prefix_highest (suc k) unit units wide =
@@ -80,7 +80,7 @@ rest_below k a us vs below =
           omega (arith, first, second))
     ]
 
--- the lower of two strings has no larger sort prefix
+-- the lower of two strings never has the larger sort prefix
 pub monotone : (k : ℕ) (us vs : List ℕ) → slice_cmp nat_cmp us vs ≡ Less → prefix_of k us ≤ prefix_of k vs
 monotone zero us vs less = omega arith
 monotone (suc k) [] vs less = let e = prefix_none (suc k) in omega (arith, e)
@@ -99,10 +99,9 @@ compared_behind [] us vs = refl
 compared_behind (unit ∷ front) us vs =
     ap (λ o. ordering_then o (slice_cmp nat_cmp (front ++ us) (front ++ vs))) (tied_itself nat_cmp_total unit) ∙ compared_behind front us vs
 
--- The sort prefixes of keys: how they are read, and that keys sorted by them are sorted by their
--- strings.
+-- How sort prefixes are read, and that keys sorted by them are sorted by their strings.
 
--- the keys up to i were changed, and now the next
+-- if the keys up to i were changed and now the next is, the keys up to i + 1 were changed
 pub changed_more : (f : Row → Row) (i : ℕ) (before now : List Row) (next d : Row) → i < length before → now ≡ map f (take i before) ++ drop i before → next ≡ f (get_or now i d) → set now i next ≡ map f (take (i + 1) before) ++ drop (i + 1) before
 changed_more f i [] now next d within is next_is = absurd (omega arith)
 changed_more f zero (key ∷ before) now next d within is next_is =
@@ -115,7 +114,7 @@ changed_more f (suc i) (key ∷ before) now next d within is next_is =
     let one : suc i + 1 ≡ suc (i + 1) = omega arith in
     ap (λ (ks : List Row). set ks (suc i) next) is ∙ ap (λ (ks : List Row). f key ∷ ks) more ∙ ap (λ (n : ℕ). map f (take n (key ∷ before)) ++ drop n (key ∷ before)) (sym one)
 
--- the key with another sort prefix
+-- the key with its sort prefix as its number
 pub with_prefix_is : (front : ℕ) (row : Row) (prefix : ℕ) → prefix ≡ prefix_of 8 (drop front (units_at row)) → record { number = prefix; text = row.text; place = row.place } ≡ with_prefix front row
 with_prefix_is front row prefix is =
     ap (λ (n : ℕ). record { number = n; text = row.text; place = row.place }) is
@@ -151,7 +150,7 @@ prefix_fits left next octets octet head units one is whole =
     let m : (256 * octets + octet) * 1 ≤ (256 * octets + octet) * 256 ^ next = mul-le-mul_left (256 * octets + octet) one_at_least in
     omega (arith, step, m)
 
--- one more byte of the sort prefix of bytes
+-- one more byte of a sort prefix that is read from bytes
 pub octets_step : (front i head octet : ℕ) (octets : List ℕ) → i < 8 → front + 8 ≤ length octets → get_or octets (front + i) 0 < 256 → octet ≡ get_or octets (front + i) 0 → head * 256 ^ (8 - i) + prefix_of (8 - i) (drop (front + i) octets) ≡ prefix_of 8 (drop front octets) → (256 * head + octet) * 256 ^ (8 - (i + 1)) + prefix_of (8 - (i + 1)) (drop (front + (i + 1)) octets) ≡ prefix_of 8 (drop front octets)
 octets_step front i head octet octets more within small is whole =
     let here = octet_here octets (front + i) 0 (omega arith) small in
@@ -165,14 +164,14 @@ octets_fit front i head octet octets more within small is whole =
     let below = prefix_below 8 (drop front octets) in
     omega (arith, most, below)
 
--- the units after the shared prefix are compared
+-- strings with a common prefix compare like the units after it
 compared : (front : ℕ) (first us vs : List ℕ) → take front us ≡ take front first → take front vs ≡ take front first → slice_cmp nat_cmp us vs ≡ slice_cmp nat_cmp (drop front us) (drop front vs)
 compared front first us vs shared_us shared_vs =
     let whole_us : us ≡ take front first ++ drop front us = sym (take-append-drop front us) ∙ ap (λ (ws : List ℕ). ws ++ drop front us) shared_us in
     let whole_vs : vs ≡ take front first ++ drop front vs = sym (take-append-drop front vs) ∙ ap (λ (ws : List ℕ). ws ++ drop front vs) shared_vs in
     ap (λ (ws : List ℕ). slice_cmp nat_cmp ws vs) whole_us ∙ ap (λ (ws : List ℕ). slice_cmp nat_cmp (take front first ++ drop front us) ws) whole_vs ∙ compared_behind (take front first) (drop front us) (drop front vs)
 
--- the lower of two strings has no larger sort prefix
+-- the lower of two strings with a common prefix never has the larger sort prefix
 no_higher_head : (front : ℕ) (first us vs : List ℕ) → take front us ≡ take front first → take front vs ≡ take front first → slice_cmp nat_cmp us vs ≡ Less → prefix_of 8 (drop front us) ≤ prefix_of 8 (drop front vs)
 no_higher_head front first us vs shared_us shared_vs less =
     monotone 8 (drop front us) (drop front vs) (sym (compared front first us vs shared_us shared_vs) ∙ less)
@@ -189,7 +188,7 @@ places_kept : (front : ℕ) (rows : List Row) → map place_of (map (with_prefix
 places_kept front [] = refl
 places_kept front (row ∷ rows) = ap (λ (ps : List ℕ). place_of row ∷ ps) (places_kept front rows)
 
--- rows that are numbered by their sort prefixes
+-- rows numbered by their sort prefixes are rows of the same keys
 pub AreRows-prefixed : (f keys : List ℕ) (front : ℕ) (first : List ℕ) (rows : List Row) → All (λ row. take front (units_at row) ≡ take front first) rows → AreRows f keys rows → AreRows f keys (map (with_prefix front) rows)
 AreRows-prefixed f keys front first rows shared are =
     let now = map (with_prefix front) rows in

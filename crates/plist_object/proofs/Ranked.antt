@@ -22,7 +22,7 @@ use Rattle.plist_object.specs.Ranks.{HoldsUnits, HoldsKey, AreRanks, in_order, r
 pub irreflexive : (units : List ℕ) → slice_cmp nat_cmp units units ≡ Less → ⊥
 irreflexive units below = absurd (let tied = tied_itself nat_list_cmp_total units in let e : Less ≡ Equal = sym below ∙ tied in cc)
 
--- of ascending strings the lower has the lower position
+-- of ascending strings the one with the lower position is lower
 pub below_from_ranks : (texts : List (List ℕ)) (first second : ℕ) → IsStrictlySortedBy (slice_cmp nat_cmp) texts → second < length texts → first < second → slice_cmp nat_cmp (get_or texts first []) (get_or texts second []) ≡ Less
 below_from_ranks texts first second ascending within below =
     Less-from_sorted (slice_cmp nat_cmp) texts first second [] ascending below within
@@ -76,7 +76,7 @@ sorted_push texts next rank sorted long below =
           rw (here, there) (subst (λ (n : ℕ). slice_cmp nat_cmp (get_or texts n []) next ≡ Less) is below))
     ])
 
--- one more number is set, and the others are unchanged
+-- setting one number leaves the others unchanged
 numbered : (P : ℕ → ℕ → Type 0) (numbers : List (Option ℕ)) (object rank i r : ℕ) → object < length numbers → (get_or numbers i None ≡ Some r → P i r) → P object rank → get_or (slice_set numbers object (Some rank)) i None ≡ Some r → P i r
 numbered P numbers object rank i r within old new is =
     elim (cases_eq i object) [

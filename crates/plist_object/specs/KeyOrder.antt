@@ -1,4 +1,4 @@
--- What is kept of the keys of dictionaries, and the rows by which keys are sorted.
+-- What the key order keeps of dictionaries, and the rows that it sorts.
 use Rattle.std.specs.Prelude.{◌≡◌, ◌↔◌, ℕ, ◌<◌, Bool, IsTrue, List, [], All, IfSome, length, map, slice_index, slice_index_or}
 use Rattle.std.specs.declared.cmp.Ordering.TheVariants.{Less}
 use Rattle.std.specs.Ordering.{nat_cmp}
@@ -22,7 +22,7 @@ place_of row = row.place
 abbrev pub units_at : Row → List ℕ
 units_at row = units_of row.text
 
--- the reference at the row's position names its string
+-- the reference at the row's position points to its string
 abbrev pub HoldsRow : List ℕ → List ℕ → Row → Type 0
 HoldsRow f keys row = Holds f (slice_index keys row.place) (holds_scalar (text (units_at row)))
 
@@ -34,19 +34,19 @@ IsRankedRow ranks row = (row.number < length (texts_of ranks)) × (slice_index_o
 abbrev pub TellsOrder : Row → Row → Type 0
 TellsOrder row other = row.number < other.number → slice_cmp nat_cmp (units_at row) (units_at other) ≡ Less
 
--- one row for each of the keys, with numbers that tell their order
+-- one row for each of the keys, with numbers that agree with their order
 pub record AreRows (f keys : List ℕ) (rows : List Row) : Type 0 where
   pub moved : IsPermutation (range_with_len 0 (length keys)) (map place_of rows)
   pub held : All (HoldsRow f keys) rows
   pub tell : All (λ row. All (TellsOrder row) rows) rows
 
--- the positions that are kept order the last dictionary's keys, and it is known whether these are
--- distinct
+-- the kept positions are the order of the last dictionary's keys, and `distinct` says whether these
+-- are distinct
 pub record IsLast (f keys places : List ℕ) (distinct : Bool) : Type 0 where
   pub order : IsInOrder f keys places
   pub tells : IsTrue distinct ↔ Ascend f keys places
 
--- what is kept of the last dictionary is right, and the ranks are of this file
+-- what is kept of the last dictionary is correct, and the ranks are those of this file
 pub record IsReady (f : List ℕ) (order : KeyOrder) : Type 0 where
   pub last : IfSome order.last (λ keys. IsLast f (numbers_of keys) order.places.items order.distinct)
   pub ranks : AreRanks f order.ranks

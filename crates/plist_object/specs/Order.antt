@@ -1,4 +1,4 @@
--- The keys of a table in the order of their texts.
+-- The keys of a dictionary in the order of their strings.
 use Rattle.std.specs.Prelude.{◌≡◌, ℕ, ◌<◌, List, Option, All, EachIndex, IfSome, Result, Ok, Err, [], length, map, slice_index}
 use Rattle.std.specs.Ordering.{nat_cmp}
 use Rattle.std.specs.Cmp.Lexicographic.{slice_cmp}
@@ -11,7 +11,7 @@ use Rattle.plist_object.specs.Places.{what_holds, HoldsText}
 use Rattle.plist_object.specs.Views.{numbers_of}
 use Rattle.plist_object.specs.declared.sorted.SortedKeys.{SortedKeys}
 
--- each of the references names a string
+-- each of the references points to a string
 abbrev pub NameTexts : List ℕ → List ℕ → Type 0
 NameTexts f keys = EachIndex keys (λ k. HoldsText f (slice_index keys k))
 
@@ -36,16 +36,16 @@ pub record IsInOrder (f keys places : List ℕ) : Type 0 where
 abbrev pub Ascend : List ℕ → List ℕ → List ℕ → Type 0
 Ascend f keys places = IsStrictlySortedBy (slice_cmp nat_cmp) (strings_at f keys places)
 
--- what stands at a place of two lists
+-- the key and the value at a position
 abbrev pub pair_of : List ℕ → List ℕ → ℕ → ℕ × ℕ
 pair_of keys values place = (slice_index keys place, slice_index values place)
 
--- there is one place for each of the keys, whatever their values are
+-- the positions are those of all keys, each once, whatever the values are
 pub record ArePlaces (keys places : List ℕ) : Type 0 where
   pub within : All (λ place. place < length keys) places
   pub moved : (values : List ℕ) → length keys ≡ length values → IsPermutation (zip keys values) (map (pair_of keys values) places)
 
--- the places of the keys in the order of their texts, of which each is below the next
+-- the positions of the keys in the order of their strings, each of which is below the next
 pub record IsOrder (f keys places : List ℕ) : Type 0 where
   pub texts : List (List ℕ)
   pub placed : ArePlaces keys places
@@ -55,6 +55,6 @@ pub record IsOrder (f keys places : List ℕ) : Type 0 where
 abbrev pub AreSorted : List ℕ → SortedKeys → Type 0
 AreSorted f keys = IsOrder f (numbers_of keys.refs) keys.places.items
 
--- of the keys of a table, if they are those of one
+-- the keys, if there are any, are sorted
 abbrev pub AreSortedIfAny : List ℕ → Option SortedKeys → Type 0
 AreSortedIfAny f keys = IfSome keys (AreSorted f)

@@ -1,4 +1,4 @@
--- The order of the texts that tables name as keys, told by numbers.
+-- Ranks: the sort positions of the strings that are keys of dictionaries.
 use Rattle.std.specs.Prelude.{◌≡◌, ℕ, ◌<◌, length, List, [], Option, Some, None, slice_index_or, slice_get, map, All}
 use Rattle.std.specs.declared.cmp.Ordering.{Ordering}
 use Rattle.std.specs.Ordering.{nat_cmp, ordering_then}
@@ -15,18 +15,19 @@ use Rattle.plist_object.specs.declared.keys.Keys.{Keys}
 use Rattle.plist_object.specs.declared.ranks.Ranks.{Ranks}
 use Rattle.plist_object.specs.declared.reached.Reached.{Reached}
 
--- the object holds the text, whose units are units
+-- the object contains the string of these units
 abbrev pub HoldsUnits : List ℕ → ℕ → List ℕ → Type 0
 HoldsUnits f i units = Holds f i (holds_scalar (text units)) × AreUnits units
 
 abbrev pub HoldsKey : List ℕ → Key → Type 0
 HoldsKey f key = HoldsUnits f key.object (units_of key.text)
 
--- by their texts, and where these are equal by the objects
+-- by strings, and by object numbers if these are equal
 abbrev pub in_order : Key → Key → Ordering
 in_order a b = ordering_then (slice_cmp nat_cmp (units_of a.text) (units_of b.text)) (nat_cmp a.object b.object)
 
--- each entry is a text that its object holds, and each object has a mark whether it was seen
+-- each entry is a string that its object contains, and each object has a mark for whether it was
+-- seen
 pub record AreKeys (f : List ℕ) (keys : Keys) : Type 0 where
   pub held : All (HoldsKey f) keys.entries.items
   pub marked : length keys.seen.items ≡ (trailer_of f).count
@@ -39,15 +40,15 @@ AreMarked f reached = length reached.marks.items ≡ (trailer_of f).count
 abbrev pub rank_of : Ranks → ℕ → Option ℕ
 rank_of ranks i = slice_index_or ranks.of_objects.items i None
 
--- the text of the rank, if it is one
+-- the string with the rank, if there is one
 abbrev pub text_of_rank : Ranks → ℕ → Option TextRef
 text_of_rank ranks rank = slice_get ranks.texts.items rank
 
--- the texts, in the order of their ranks
+-- the strings, in the order of their ranks
 abbrev pub texts_of : Ranks → List (List ℕ)
 texts_of ranks = map units_of ranks.texts.items
 
--- Each text is below the next, and an object with a rank holds the text of the rank.
+-- Each string is below the next, and an object with a rank contains the string with that rank.
 pub record AreRanks (f : List ℕ) (ranks : Ranks) : Type 0 where
   pub ascending : IsStrictlySortedBy (slice_cmp nat_cmp) (texts_of ranks)
   pub within : (i rank : ℕ) → rank_of ranks i ≡ Some rank → rank < length (texts_of ranks)

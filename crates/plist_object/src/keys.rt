@@ -1,4 +1,4 @@
-//! The texts that tables name as keys.
+//! The strings that are keys of a file's dictionaries.
 ghost use Rattle.std.specs.Prelude.{◌≡◌, ◌<◌, IfOk, OnOk, IfSome};
 ghost use Rattle.std.specs.Option.{is_none};
 ghost use Rattle.plist_value.specs.Texts.{units_of};
@@ -15,27 +15,28 @@ use crate::refs::Refs;
 use plist_value::{ScalarRef, TextRef};
 use std::alloc::{AllocError, Global};
 
-// A text and the object that holds it.
+// A string and the object that contains it.
 #[derive(Clone, Copy, PartialEq, Eq, PartialOrd, Ord)]
 pub(crate) struct Key<'a> {
     pub(crate) text: TextRef<'a>,
     pub(crate) object: u64,
 }
 
-/// The texts that tables name as keys, each object once.
+/// The strings that are keys of a file's dictionaries, each object once.
 #[derive(Drop)]
 pub struct Keys<'a> {
     entries: Vec<Key<'a>>,
     seen: Vec<bool>,
-    // How many octets may be read still, if not too many were.
+    // The number of bytes that may still be read; `None` once it is exceeded.
     room: Option<u64>,
-    // How many keys tables may name still.
+    // The number of keys that dictionaries may still have.
     named: u64,
 }
 
 impl<'a> Keys<'a> {
-    /// The keys of the tables up to the last object. It ends before at the first table that does
-    /// not read, at the first key that is no text, and where tables or texts overlap.
+    /// Collects the keys of the dictionaries up to object `last`. Stops early at the first
+    /// dictionary that cannot be read, at the first key that is no string, or if dictionaries or
+    /// strings overlap.
     pub fn of_tables(alloc: Global, file: &BinFile<'a>, last: u64) -> Result<Keys<'a>, AllocError>
         ensures { IfOk result (λ keys. AreKeys (octets_of file.now) keys) }
     {
@@ -48,8 +49,8 @@ impl<'a> Keys<'a> {
         Ok(keys)
     }
 
-    /// The keys of all tables that read. It ends before the last where so much was read that
-    /// objects overlap.
+    /// Collects the keys of all dictionaries that can be read. Stops early once so much was read
+    /// that objects must overlap.
     pub fn of_file(alloc: Global, file: &BinFile<'a>) -> Result<Keys<'a>, AllocError>
         ensures { IfOk result (λ keys. AreKeys (octets_of file.now) keys) }
     {
@@ -63,14 +64,14 @@ impl<'a> Keys<'a> {
         Ok(keys)
     }
 
-    /// The keys of the dictionaries that the top object reaches.
+    /// Collects the keys of the dictionaries that the top object reaches.
     pub fn of_reached(alloc: Global, file: &BinFile<'a>) -> Result<Keys<'a>, AllocError>
         ensures { IfOk result (λ keys. AreKeys (octets_of file.now) keys) }
     {
         reached_keys(alloc, file)
     }
 
-    // None yet, where so many octets may be read.
+    // Creates an empty collection; `room` is the number of bytes that may be read.
     pub(crate) fn none(alloc: Global, file: &BinFile<'a>, room: u64) -> Result<Keys<'a>, AllocError>
         ensures { IfOk result (λ keys. AreKeys (octets_of file.now) keys) }
     {
@@ -84,7 +85,7 @@ impl<'a> Keys<'a> {
         })
     }
 
-    // Adds the keys of the object, if it is a table.
+    // Adds the keys of the object, if it is a dictionary.
     fn look(&mut self, file: &BinFile<'a>, i: u64) -> Result<(), AllocError>
         requires listed { i < (trailer_of (octets_of file.now)).count }
         requires keys { AreKeys (octets_of file.now) self.old }
@@ -100,7 +101,8 @@ impl<'a> Keys<'a> {
         Ok(())
     }
 
-    // Adds the keys that are texts. One that is none may have been read up to the offset table.
+    // Adds the keys that are strings. For a key that is none, reading may have gone as far as the
+    // offset table.
     fn look_at_all(&mut self, file: &BinFile<'a>, keys: &Refs) -> Result<(), AllocError>
         requires { AreKeys (octets_of file.now) self.old }
         ensures { OnOk result (AreKeys (octets_of file.now) self.new) }
@@ -117,7 +119,8 @@ impl<'a> Keys<'a> {
         Ok(())
     }
 
-    // Whether the object is no table, or reads and its keys were added.
+    // Adds the keys of the object, if it is a dictionary. Returns `false` if it cannot be read, if
+    // a key is no string, or if objects overlap.
     fn add_table(&mut self, file: &BinFile<'a>, i: u64) -> Result<bool, AllocError>
         requires listed { i < (trailer_of (octets_of file.now)).count }
         requires keys { AreKeys (octets_of file.now) self.old }
@@ -160,7 +163,8 @@ impl<'a> Keys<'a> {
         Ok(())
     }
 
-    // Whether the object holds a text, which is then among the keys, and no objects overlap.
+    // Adds the string that the object contains. Returns `false` if it contains none or if objects
+    // overlap.
     fn add(&mut self, file: &BinFile<'a>, object: u64) -> Result<bool, AllocError>
         requires { AreKeys (octets_of file.now) self.old }
         ensures { OnOk result (AreKeys (octets_of file.now) self.new) }
@@ -180,15 +184,15 @@ impl<'a> Keys<'a> {
         Ok(!self.overlap())
     }
 
-    /// Whether more was read, or tables named more keys, than the part of the file before the
-    /// offset table holds, which only texts and tables that overlap can do.
+    /// Returns whether more was read, or dictionaries had more keys, than fit before the offset
+    /// table. Only strings and dictionaries that overlap can cause this.
     pub fn overlap(&self) -> bool
         ensures { result ≡ is_none self.now.room }
     {
         self.room.is_none()
     }
 
-    /// The ranks of the texts.
+    /// Sorts the strings and returns their ranks.
     pub fn ranks(&mut self, alloc: Global, file: &BinFile<'a>) -> Result<Ranks<'a>, AllocError>
         requires { AreKeys (octets_of file.now) self.old }
         ensures { IfOk result (λ ranks. AreRanks (octets_of file.now) ranks) }
@@ -198,7 +202,7 @@ impl<'a> Keys<'a> {
     }
 }
 
-// What may be read after so many octets more, if they were not too many.
+// Subtracts the bytes read; `None` if they are more than were left.
 fn less(room: Option<u64>, read: u64) -> Option<u64> {
     room?.checked_sub(read)
 }

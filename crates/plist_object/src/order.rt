@@ -25,8 +25,8 @@ use std::cmp::Ordering;
 // Up to this number of keys are sorted by their strings alone.
 const FEW_KEYS: usize = 12;
 
-// A key of a dictionary and its position among the keys. Where two numbers differ, the key with
-// the lower one has the lower string.
+// A key of a dictionary with its position among the keys. Of two rows with different numbers, the
+// one with the lower number has the lower string.
 #[derive(Clone, Copy)]
 pub(crate) struct Row<'a> {
     pub(crate) number: u64,
@@ -34,24 +34,24 @@ pub(crate) struct Row<'a> {
     pub(crate) place: u64,
 }
 
-/// Orders the keys of a file's dictionaries.
+/// Sorts the keys of a file's dictionaries.
 ///
-/// Most dictionaries have the same keys as the one before, so that order is kept. Otherwise the
-/// strings are compared, until the strings compared so far are longer in all than the file. Then
-/// all keys are ranked, once, and from there on numbers are compared.
+/// Most dictionaries have the same keys as the one before, so the last order is kept. Other keys
+/// are sorted by their strings, until the strings compared so far are longer in all than the file.
+/// Then all keys are ranked, once, and from there on ranks are compared.
 #[derive(Drop)]
 pub struct KeyOrder<'a> {
     last: Option<Refs<'a>>,
     places: Vec<u64>,
     // Whether no two of these keys are equal.
     distinct: bool,
-    // How many UTF-16 units may still be compared; none once the keys are ranked.
+    // The number of UTF-16 units that may still be compared; `None` once the keys are ranked.
     left: Option<u64>,
     ranks: Ranks<'a>,
 }
 
 impl<'a> KeyOrder<'a> {
-    /// An order of no keys yet.
+    /// Creates an order that has not sorted any keys.
     pub fn new(alloc: Global, file: &BinFile<'a>) -> KeyOrder<'a>
         ensures { (f : List ℕ) → IsReady f result }
     {
@@ -64,7 +64,7 @@ impl<'a> KeyOrder<'a> {
         }
     }
 
-    /// The positions of the keys that were sorted last, counted from 0, in ascending order of their
+    /// Returns the positions of the keys sorted last, counted from 0, in ascending order of their
     /// strings by UTF-16 units.
     pub fn places(&self) -> &[u64]
         ensures { result.now ≡ self.now.places.items }
@@ -73,11 +73,11 @@ impl<'a> KeyOrder<'a> {
     }
 
     /// Sorts the keys of a dictionary and returns whether no two are equal.
-    /// [`places`](KeyOrder::places) then gives their order.
+    /// [`places`](KeyOrder::places) then returns their order.
     ///
     /// # Errors
     ///
-    /// [`AllocError`] if memory runs out.
+    /// [`AllocError`] if out of memory.
     pub fn sort(
         &mut self,
         alloc: Global,
@@ -105,7 +105,7 @@ impl<'a> KeyOrder<'a> {
         Ok(self.distinct)
     }
 
-    // The keys as they stand in the file, with numbers that tell their order.
+    // Returns the keys as they are in the file, with numbers that agree with their order.
     fn rows(
         &mut self,
         alloc: Global,
@@ -130,7 +130,7 @@ impl<'a> KeyOrder<'a> {
     }
 }
 
-// The keys with their ranks, if all have one.
+// Returns the keys numbered by their ranks, or like `text_rows` if one has no rank.
 fn ranked_rows<'a>(
     alloc: Global,
     file: &BinFile<'a>,
@@ -151,7 +151,7 @@ fn ranked_rows<'a>(
     Ok(rows)
 }
 
-// The key that the object holds, if it has a rank.
+// Returns the row of the key that the object contains, if it has a rank.
 fn ranked_row<'a>(ranks: &Ranks<'a>, object: u64, place: u64) -> Option<Row<'a>>
     ensures place { IfSome result (λ row. row.place ≡ place) }
     ensures held { IfSome result (λ row. (f : List ℕ) → AreRanks f ranks.now
@@ -167,7 +167,7 @@ fn ranked_row<'a>(ranks: &Ranks<'a>, object: u64, place: u64) -> Option<Row<'a>>
     })
 }
 
-// The keys with their strings alone.
+// Returns the keys with their strings, numbered by sort prefixes if they are many.
 fn text_rows<'a>(alloc: Global, file: &BinFile<'a>, keys: &Refs) -> Result<Vec<Row<'a>>, AllocError>
     requires { NameTexts (octets_of file.now) (numbers_of keys.now) }
     ensures { IfOk result (λ rows. AreRows (octets_of file.now) (numbers_of keys.now) rows.items) }
@@ -185,7 +185,8 @@ fn text_rows<'a>(alloc: Global, file: &BinFile<'a>, keys: &Refs) -> Result<Vec<R
     Ok(rows)
 }
 
-// Numbers the rows of a long dictionary, so that most are compared by a number each.
+// Numbers the rows of a long dictionary by sort prefixes, so that most comparisons compare two
+// numbers.
 fn number(rows: &mut Vec<Row>)
     ensures { (f keys : List ℕ) → AreRows f keys rows.old.items → AreRows f keys rows.new.items }
 {
@@ -197,7 +198,7 @@ fn number(rows: &mut Vec<Row>)
     prefixes::fill(rows.as_mut_slice(), front);
 }
 
-// Whether each string is below the next.
+// Returns whether each string is below the next.
 fn ascend(rows: &[Row]) -> bool
     requires { All (λ row. All (TellsOrder row) rows.now) rows.now }
     ensures { IsTrue result ↔ IsStrictlySortedBy (slice_cmp nat_cmp) (map units_at rows.now) }
@@ -218,7 +219,7 @@ fn is_below(row: &Row, next: &Row) -> bool
     row.number < next.number || row.text < next.text
 }
 
-// How many units the strings have in all.
+// Returns the total length of the strings, in units.
 fn units_in(rows: &[Row]) -> u64 {
     let mut units: u64 = 0;
     for row in rows {
@@ -237,7 +238,7 @@ fn places_in_turn(alloc: Global, rows: &[Row]) -> Result<Vec<u64>, AllocError>
     Ok(places)
 }
 
-/// The string that an object holds.
+/// Returns the string that an object contains.
 pub fn text_of<'a>(file: &BinFile<'a>, n: u64) -> TextRef<'a>
     requires { HoldsText (octets_of file.now) n }
     ensures { Holds (octets_of file.now) n (holds_scalar (text (units_of result))) }

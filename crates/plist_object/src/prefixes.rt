@@ -7,7 +7,7 @@ ghost use Rattle.plist_object.specs.Prefixes.{behind, prefix_of, octet_of, with_
 use crate::order::Row;
 use plist_value::TextRef;
 
-// Returns how many units all keys share with the first string.
+// Returns the number of leading units that all keys share with the first string.
 pub(crate) fn shared(rows: &[Row], first: &TextRef) -> usize
     ensures { All (λ row. take result (units_at row) ≡ take result (units_of first.now)) rows.now }
 {
@@ -27,7 +27,7 @@ pub(crate) fn fill(rows: &mut [Row], front: usize)
     }
 }
 
-// Returns how many units both strings share at the front, up to `most`.
+// Returns the number of leading units that both strings share, up to `most`.
 #[inline(always)]
 fn alike(first: &TextRef, text: &TextRef, most: usize) -> usize
     ensures within { result ≤ most }
@@ -40,7 +40,7 @@ fn alike(first: &TextRef, text: &TextRef, most: usize) -> usize
     }
 }
 
-// Returns how many bytes both share at the front, up to `most`: usually all.
+// Returns the number of leading bytes that both share, up to `most`. Usually this is `most`.
 fn alike_octets(octets: &[u8], others: &[u8], most: usize) -> usize
     requires { (most ≤ length octets.now) × (most ≤ length others.now) }
     ensures within { result ≤ most }
@@ -82,7 +82,7 @@ fn sort_prefix(text: &TextRef, front: usize) -> u64
     units_prefix(text, front)
 }
 
-// The same for bytes, one for each unit.
+// Like [`sort_prefix`], for bytes that are the units.
 fn octets_prefix(octets: &[u8], front: usize) -> u64
     requires { front + 8 ≤ length octets.now }
     ensures { result ≡ prefix_of 8 (drop front octets.now) }

@@ -1,4 +1,4 @@
-//! The ranks of objects that hold texts.
+//! Ranks: the sort positions of objects that contain strings.
 ghost use Rattle.std.specs.Prelude.{◌≡◌, ℕ, List, All, IfOk};
 ghost use Rattle.std.specs.List.Sorted.{IsSorted};
 ghost use Rattle.plist_object.specs.Views.{octets_of};
@@ -9,8 +9,8 @@ use crate::layout::BinFile;
 use plist_value::TextRef;
 use std::alloc::{AllocError, Global};
 
-/// The ranks of some objects that hold texts: equal texts have one rank, and a lower text has a
-/// lower one. Which objects have a rank is not said: it is a memo.
+/// The ranks of some objects that contain strings. Equal strings have the same rank, and a lower
+/// string has a lower rank. This is a cache: which objects have a rank is not specified.
 #[derive(Drop)]
 pub struct Ranks<'a> {
     of_objects: Vec<Option<u64>>,
@@ -18,7 +18,7 @@ pub struct Ranks<'a> {
 }
 
 impl<'a> Ranks<'a> {
-    /// No object has a rank.
+    /// Creates ranks that no object has.
     pub fn none(alloc: Global) -> Ranks<'a>
         ensures { (f : List ℕ) → AreRanks f result }
     {
@@ -28,7 +28,7 @@ impl<'a> Ranks<'a> {
         }
     }
 
-    /// The rank of the object, if it has one.
+    /// Returns the rank of the object, if it has one.
     pub fn get(&self, object: u64) -> Option<u64>
         ensures { result ≡ rank_of self.now object }
     {
@@ -39,7 +39,7 @@ impl<'a> Ranks<'a> {
         }
     }
 
-    /// The text of the rank, if it is one.
+    /// Returns the string with this rank, if there is one.
     pub fn text(&self, rank: u64) -> Option<TextRef<'a>>
         ensures { result ≡ text_of_rank self.now rank }
     {
@@ -47,7 +47,7 @@ impl<'a> Ranks<'a> {
     }
 }
 
-/// The ranks of texts that stand in their order.
+/// Returns the ranks of keys that are sorted by their strings.
 pub(crate) fn ranks_in_order<'a>(
     alloc: Global,
     file: &BinFile<'a>,

@@ -1,4 +1,4 @@
-//! The keys of the dictionaries that a file's top object reaches.
+//! The keys of the dictionaries that the top object of a file reaches.
 ghost use Rattle.std.specs.Prelude.{◌≡◌, ◌<◌, IfOk, OnOk};
 ghost use Rattle.plist_object.specs.Layout.{trailer_of};
 ghost use Rattle.plist_object.specs.Views.{octets_of};
@@ -11,17 +11,17 @@ use crate::object::Object;
 use crate::refs::Refs;
 use std::alloc::{AllocError, Global};
 
-// Arrays and dictionaries that were met, each once, and a mark for each object of the file.
+// The arrays and dictionaries seen so far, each once, and a mark for each object of the file.
 #[derive(Drop)]
 pub(crate) struct Reached {
     pub(crate) marks: Vec<bool>,
     containers: Vec<u64>,
-    // How many references may still be read, if not too many were.
+    // The number of references that may still be read; `None` once it is exceeded.
     left: Option<u64>,
 }
 
-/// The strings that reachable dictionaries name as keys: some of them, if more strings or references
-/// were read than the file has bytes, which takes objects that overlap.
+/// Returns the strings that are keys of dictionaries the top object reaches. Stops early if more
+/// units or references are read than the file has bytes, which takes objects that overlap.
 pub(crate) fn reached_keys<'a>(alloc: Global, file: &BinFile<'a>) -> Result<Keys<'a>, AllocError>
     ensures { IfOk result (λ keys. AreKeys (octets_of file.now) keys) }
 {
@@ -40,7 +40,7 @@ pub(crate) fn reached_keys<'a>(alloc: Global, file: &BinFile<'a>) -> Result<Keys
     Ok(keys)
 }
 
-// Adds the keys of the object, if it is a dictionary, and meets what it contains.
+// Adds the keys of the object, if it is a dictionary, and enters the containers in it.
 fn visit<'a>(
     file: &BinFile<'a>,
     keys: &mut Keys<'a>,
@@ -95,7 +95,7 @@ impl Reached {
         Ok(())
     }
 
-    // Marks the object and keeps it, if it is a container that was not met before.
+    // Marks and enters the object, if it is a container that was not seen before.
     fn meet(&mut self, file: &BinFile, object: u64) -> Result<(), AllocError>
         requires { AreMarked (octets_of file.now) self.old }
         ensures { OnOk result (AreMarked (octets_of file.now) self.new) }

@@ -1,10 +1,10 @@
--- Feeding units four at a time, and eight.
+-- Feeding units four at a time, and eight at a time.
 use Rattle.std.proofs.Common.{◌≡◌, ℕ, ◌+◌, ◌<◌, ◌≤◌, List, [], ◌∷◌, ◌++◌, length, drop, take, slice_index, refl, arith}
 use Rattle.std.proofs.lemmas.List.{drop_more}
 use Rattle.std.specs.Hash as fed
 use Rattle.plist_value.specs.Hashes.{fed_narrow, fed_units, seven_and, word_from}
 
--- the next four are one number
+-- the next four units are one number
 pub fed_units-word : (units : List ℕ) (i : ℕ) → i + 4 ≤ length units → fed_units (drop i units) ≡ fed.u64 (word_from i units) ++ fed_units (drop (i + 4) units)
 fed_units-word units i h =
     let a : drop i units ≡ slice_index units i ∷ drop (i + 1) units = drop_more units i 0 (omega arith) in
@@ -38,7 +38,7 @@ seven_and-eight (a ∷ b ∷ c ∷ d ∷ e ∷ f ∷ []) h = absurd (omega arith
 seven_and-eight (a ∷ b ∷ c ∷ d ∷ e ∷ f ∷ g ∷ []) h = absurd (omega arith)
 seven_and-eight (a ∷ b ∷ c ∷ d ∷ e ∷ f ∷ g ∷ k ∷ rest) h = refl
 
--- and fewer are the last
+-- fewer than eight narrow units are the last write
 pub fed_narrow-last : (xs : List ℕ) → length xs < 8 → fed_narrow xs ≡ seven_and xs (128 + length xs) ∷ []
 fed_narrow-last [] h = refl
 fed_narrow-last (a ∷ []) h = refl

@@ -1,4 +1,4 @@
--- Items with one more at the end, and the least depth of a value.
+-- Items with one more at the end, and the minimal depth of a value.
 use Rattle.std.proofs.Common.{◌≡◌, ℕ, ◌+◌, ◌≤◌, List, [], ◌∷◌, ◌++◌, refl, ap, ◌∙◌, arith}
 use Rattle.std.specs.Prelude.{map}
 use Rattle.std.proofs.lemmas.List.{map-append}

@@ -1,4 +1,4 @@
--- Keys that ascend, in a map and in the pairs of a table.
+-- Ascending keys, in a map and in the entries of a dictionary.
 use Rattle.std.proofs.Common.{◌≡◌, ℕ, List, [], ◌∷◌, Less, Equal, Greater, false}
 use Rattle.std.specs.declared.cmp.Ordering.{Ordering}
 use Rattle.std.specs.Ordering.{is_eq, is_lt, nat_cmp, ordering_reverse}
@@ -16,12 +16,12 @@ unfolding IsStrictlySortedBy
 IsKeyBelow-ordered key v [] ordered = (tt, tt)
 IsKeyBelow-ordered key v (p ∷ ps) ordered = (ordered.0.0, ordered.1)
 
--- a key below one that is below all is below all
+-- what is below a key that is below all entries is below all of them
 pub below_next : (low key : List ℕ) (ps : Pairs) → slice_cmp nat_cmp low key ≡ Less → IsKeyBelow key ps → IsKeyBelow low ps
 below_next low key no_pairs below others = tt
 below_next low key (pair next v ps) below others = nat_list_cmp_total.trans low key next below others
 
--- what is neither below nor equal is above
+-- if the second is neither below nor equal to the first, the first is below the second
 pub turned : (o p : Ordering) → o ≡ ordering_reverse p → is_lt p ≡ false → is_eq o ≡ false → o ≡ Less
 turned o Less is order apart = absurd cc
 turned o Equal is order apart = absurd cc

@@ -1,4 +1,4 @@
--- Octets are units that fit in one octet each.
+-- Bytes are units that fit into one byte each.
 use Rattle.std.proofs.Common.{◌≡◌, ℕ, suc, true, List, [], ◌∷◌, refl, lt-ltb}
 use Rattle.plist_value.specs.Plist.{AreOctets}
 use Rattle.plist_value.specs.Narrow.{are_narrow}

@@ -1,4 +1,4 @@
--- The order of two lists of units, from a place on.
+-- The order of two lists of units from a position on.
 use Rattle.std.proofs.Common.{◌≡◌, ℕ, ◌+◌, ◌<◌, ◌≤◌, min, List, length, slice_index, sym, ap, ◌∙◌, arith}
 use Rattle.std.proofs.lemmas.List.{drop_more, drop_all}
 use Rattle.std.specs.declared.cmp.Ordering.{Ordering}
@@ -8,12 +8,12 @@ use Rattle.std.specs.Cmp.{nat_cmp_is}
 use Rattle.plist_value.specs.Plist.{AreUnits}
 use Rattle.plist_value.specs.Hashes.{order_from, word_from}
 
--- one pair, and what is behind it
+-- the order of one pair of units, and then that of the rest
 pub order_from-step : (units others : List ℕ) (i : ℕ) → i < length units → i < length others
     → order_from i units others ≡ ordering_then (nat_cmp (slice_index units i) (slice_index others i)) (order_from (i + 1) units others)
 order_from-step units others i h g = rw (drop_more units i 0 h, drop_more others i 0 g)
 
--- where one of them ends, the lengths decide
+-- if one of the lists ends, the lengths decide
 pub order_from-ends : (units others : List ℕ) (i : ℕ) (r : Ordering) → i ≡ min (length units) (length others)
     → MatchOrdering r (length units < length others) (length units ≡ length others) (length others < length units)
     → order_from i units others ≡ r
@@ -24,14 +24,14 @@ order_from-ends units others i Equal h m =
 order_from-ends units others i Greater h m =
     rw (drop_more units i 0 (omega arith), drop_all i others (omega arith))
 
--- an equal pair decides nothing
+-- equal units do not change the order
 pub order_from-same : (units others : List ℕ) (i : ℕ) → i < length units → i < length others → slice_index units i ≡ slice_index others i
     → order_from (i + 1) units others ≡ order_from i units others
 order_from-same units others i h g same =
     let equal : nat_cmp (slice_index units i) (slice_index others i) ≡ Equal = sym (nat_cmp_is _ _ Equal same) in
     sym (order_from-step units others i h g ∙ ap (λ o. ordering_then o (order_from (i + 1) units others)) equal)
 
--- nor do four, which are equal where their words are
+-- four equal units, which are compared as one word, do not change the order
 pub order_from-word : (units others : List ℕ) (i : ℕ) → AreUnits units → AreUnits others → i + 4 ≤ length units → i + 4 ≤ length others
     → word_from i units ≡ word_from i others → order_from (i + 4) units others ≡ order_from i units others
 order_from-word units others i valid other_valid h g same =

@@ -1,4 +1,4 @@
--- A pair that is put into a table, and two tables beside each other.
+-- Inserting an entry into a dictionary, and comparing two dictionaries.
 use Rattle.std.proofs.Common.{◌≡◌, ℕ, List, [], ◌∷◌, ◌++◌, length, Ordering, Less, Equal, Greater, nat_cmp, refl, ap, suc, ◌∙◌}
 use Rattle.std.proofs.lemmas.Cmp.{nat_list_cmp_total}
 use Rattle.std.specs.BTreeMap.{insert_entry}
@@ -14,7 +14,7 @@ use Rattle.plist_value.specs.View.{view, view_items, view_pairs}
 abbrev pub Entry : Type 0
 Entry = List ℕ × Value
 
--- a pair at its place among pairs in order, or in place of the one with its key
+-- inserts an entry among sorted entries, or replaces the one with its key
 abbrev pub put_pair : List ℕ → Plist → Pairs → Pairs
 put_pair key v no_pairs = pair key v no_pairs
 put_pair key v (pair next w ps) = match_ordering (slice_cmp nat_cmp key next) (pair key v (pair next w ps)) (pair next v ps) (pair next w (put_pair key v ps))
@@ -32,7 +32,7 @@ below_middle : (first : Entry) (es : List Entry) (e : Entry) (more : List Entry)
 below_middle first [] e more h = h.0
 below_middle first (x ∷ es) e more h = below_middle first es e more h.1
 
--- a key that is above those before it goes last
+-- a key above all those before it is inserted last
 pub put_last : (done : List Entry) (e : Entry) (more : List Entry) → IsStrictlySortedBy (slice_cmp nat_cmp) (keys_of (done ++ e ∷ more)) → put_pair e.0 (view e.1) (view_pairs done) ≡ view_pairs (done ++ e ∷ [])
 unfolding IsStrictlySortedBy
 put_last [] e more h = refl
@@ -41,7 +41,6 @@ put_last (first ∷ done) e more h =
     nat_list_cmp_total.antisymm e.0 first.0 ∙ ap ordering_reverse (below_middle first done e more h.0) in
     rw above (ap (pair first.0 (view first.1)) (put_last done e more h.1))
 
--- equal lists are equally long
 pub view_items-long : (xs ys : List Value) → view_items xs ≡ view_items ys → length xs ≡ length ys
 view_items-long [] [] e = refl
 view_items-long [] (y ∷ ys) e = cc

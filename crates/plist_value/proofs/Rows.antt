@@ -1,4 +1,4 @@
--- What the definitions say of small values.
+-- Examples of the definitions for small values.
 use Rattle.std.specs.Prelude.{◌≡◌, ℕ, zero, suc, ◌<◌, pos, negsuc, true, false, List, [], ◌∷◌, refl}
 use Rattle.std.specs.declared.cmp.Ordering.TheVariants.{Less, Greater}
 use Rattle.std.specs.Ordering.{nat_cmp}
@@ -32,14 +32,14 @@ swapped-is = (one_unit 97 (lit< tt), one_unit 98 (lit< tt), refl, (one_unit 98 (
 unsorted-not : IsPlist unsorted → ⊥
 unsorted-not h = let below : Greater ≡ Less = h.2 in cc
 
--- one key twice
+-- a key twice
 twice-not : IsPlist (table (pair a (scalar (flag true)) (pair a (scalar (flag true)) no_pairs))) → ⊥
 twice-not h = cc (h.2)
 
 empty-depth : depth (table no_pairs) ≡ 1
 empty-depth = refl
 
--- a pair of surrogates, d800 dc00, stands below the unit ff61
+-- a pair of surrogates, d800 dc00, is below the unit ff61
 surrogates-first : slice_cmp nat_cmp (55296 ∷ 56320 ∷ []) (65377 ∷ []) ≡ Less
 surrogates-first = refl
 

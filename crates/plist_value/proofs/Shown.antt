@@ -1,4 +1,4 @@
--- How values are seen.
+-- Values and the property lists that they are.
 use Rattle.std.proofs.Common.{◌≡◌, ℕ, List, sym, ap, ◌∙◌}
 use Rattle.plist_value.specs.Plist.{Plist, scalar, text, bytes, list, table}
 use Rattle.plist_value.specs.View.{view, view_step, view_items, view_pairs}

@@ -1,4 +1,4 @@
--- Equality of scalars as a test, and what each scalar feeds a hasher.
+-- Equality of scalars as a boolean, and what a scalar feeds a hasher.
 use Rattle.std.specs.Prelude.{ℕ, Bool, false, List, ◌∷◌, ◌++◌, nat_eq}
 use Rattle.std.specs.Cmp.Lexicographic.{pointwise}
 use Rattle.std.specs.Ordering.{int_eq}
@@ -7,7 +7,7 @@ use mathlib.Core.Bool.{beq}
 use Rattle.plist_value.specs.Hashes.{fed_text}
 use Rattle.plist_value.specs.Plist.{Scalar, text, whole, flag, real4, real8, moment, bytes}
 
--- the same kind and the same content
+-- Kind and content are equal.
 abbrev pub scalar_eq : Scalar → Scalar → Bool
 scalar_eq (text xs) (text ys) = pointwise nat_eq xs ys
 scalar_eq (whole y) (whole z) = int_eq y z
@@ -18,7 +18,7 @@ scalar_eq (moment xs) (moment ys) = pointwise nat_eq xs ys
 scalar_eq (bytes xs) (bytes ys) = pointwise nat_eq xs ys
 scalar_eq s t = false
 
--- the content, and then the kind, where it is no text; octets go in one piece
+-- the content, and then the kind unless it is a string; bytes go in one write
 abbrev pub fed_scalar : Scalar → List (List ℕ)
 fed_scalar (text units) = fed_text units
 fed_scalar (whole z) = fed.i128 z ++ fed.u8 1

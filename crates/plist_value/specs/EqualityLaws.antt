@@ -1,4 +1,5 @@
--- The test for equal scalars answers true exactly for equal ones, which feed a hasher alike.
+-- The test for equal scalars is true if and only if they are equal, and equal ones feed a hasher
+-- alike.
 use Rattle.std.proofs.Common.{◌≡◌, ap, sym, true≢false}
 use Rattle.std.specs.Bool.{Decides}
 use Rattle.std.specs.Cmp.{IsEquivalence, decided, booleans_Decides, signed_Decides}

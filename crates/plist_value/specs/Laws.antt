@@ -1,15 +1,15 @@
--- What equality, order and hash of a type that is seen through its content may depend on.
+-- Equality, order and hash of a type depend on its content alone.
 use Rattle.std.specs.Prelude.{◌≡◌, ◌↔◌, ℕ, List, Bool, IsTrue}
 use Rattle.std.specs.declared.cmp.Ordering.{Ordering}
 
--- values are equal exactly where their contents are
+-- values are equal if and only if their contents are
 abbrev pub IsEqualityOf : {A B : Type 0} → (A → B) → (A → A → Bool) → Type 0
 IsEqualityOf {A} content eq = (x y : A) → IsTrue (eq x y) ↔ content x ≡ content y
 
--- values are ordered as their contents
+-- values have the order of their contents
 abbrev pub IsOrderOf : {A B : Type 0} → (A → B) → (B → B → Ordering) → (A → A → Ordering) → Type 0
 IsOrderOf {A} content order cmp = (x y : A) → cmp x y ≡ order (content x) (content y)
 
--- values of equal content feed a hasher alike
+-- values with equal contents feed a hasher alike
 abbrev pub IsHashOf : {A B : Type 0} → (A → B) → (A → List (List ℕ)) → Type 0
 IsHashOf {A} content fed = (x y : A) → content x ≡ content y → fed x ≡ fed y

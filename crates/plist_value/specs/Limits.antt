@@ -1,4 +1,4 @@
--- How large a value is, and how large one may be.
+-- The size of a value, and the limits.
 use Rattle.std.specs.Prelude.{ℕ, ◌+◌, ◌*◌, ◌≤◌, length, max}
 use Rattle.plist_value.specs.Plist.{Scalar, text, whole, flag, real4, real8, moment, bytes, Plist, scalar, list, table, Items, no_items, item, Pairs, no_pairs, pair}
 use Rattle.plist_value.specs.declared.TheConstants.{MAX_NODES, MAX_DEPTH, MAX_PAYLOAD}
@@ -18,8 +18,8 @@ abbrev mutual
   nodes_of_pairs no_pairs = 0
   nodes_of_pairs (pair key v ps) = 1 + nodes v + nodes_of_pairs ps
 
--- A scalar and an empty container have depth 1, any other container one more than the deepest in
--- it.
+-- A scalar and an empty container have depth 1. The depth of any other container is one more than
+-- that of the deepest value in it.
 abbrev mutual
   pub depth : Plist → ℕ
   depth (scalar s) = 1
@@ -34,7 +34,7 @@ abbrev mutual
   depth_of_pairs no_pairs = 0
   depth_of_pairs (pair key v ps) = max (max 1 (depth v)) (depth_of_pairs ps)
 
--- Two octets for each UTF-16 unit of a text, one for each octet of data.
+-- Two bytes for each UTF-16 unit of a string, one for each byte of data.
 abbrev pub payload_of_scalar : Scalar → ℕ
 payload_of_scalar (text units) = 2 * length units
 payload_of_scalar (whole z) = 0

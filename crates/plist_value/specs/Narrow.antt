@@ -1,4 +1,4 @@
--- Units that fit in one octet each.
+-- Units that fit into one byte each.
 use Rattle.std.specs.Prelude.{ℕ, Bool, nat_lt, List}
 use Rattle.std.specs.List.{list_all}
 

@@ -1,11 +1,11 @@
--- The values that property lists spell. Two values are equal exactly if they are the same term: a
--- table is its pairs in ascending order of their keys.
+-- The values that property lists encode. Two values are equal if and only if they are the same
+-- term: a dictionary is its entries in ascending order of their keys.
 use Rattle.std.specs.Prelude.{◌≡◌, ℕ, ◌<◌, ℤ, pos, negsuc, ◌≤ℤ◌, Bool, List, length, slice_index, ⊤}
 use Rattle.std.specs.declared.cmp.Ordering.TheVariants.{Less}
 use Rattle.std.specs.Ordering.{nat_cmp}
 use Rattle.std.specs.Cmp.Lexicographic.{slice_cmp}
 
--- A value that holds no other. A text is its UTF-16 units; reals and moments are their octets.
+-- A value that contains no other. A string is its UTF-16 units; reals and dates are their bytes.
 pub data Scalar : Type 0 where
   text : List ℕ → Scalar
   whole : ℤ → Scalar
@@ -39,12 +39,12 @@ AreOctets xs = AllUnder 256 xs
 abbrev pub AreUnits : List ℕ → Type 0
 AreUnits xs = AllUnder 65536 xs
 
--- a whole number lies from -2^63 to 2^64 - 1
+-- an integer is from -2^63 to 2^64 - 1
 pub record IsWhole (z : ℤ) : Type 0 where
   pub least : negsuc 9223372036854775807 ≤ℤ z
   pub most : z ≤ℤ pos 18446744073709551615
 
--- so many octets
+-- exactly n bytes
 pub record IsOctetsOf (n : ℕ) (xs : List ℕ) : Type 0 where
   pub long : length xs ≡ n
   pub octets : AreOctets xs
@@ -58,13 +58,13 @@ IsScalar (real8 xs) = IsOctetsOf 8 xs
 IsScalar (moment xs) = IsOctetsOf 8 xs
 IsScalar (bytes xs) = AreOctets xs
 
--- the key is below the first of the pairs, unit by unit, a proper prefix first
+-- the key is below the first key of the entries, unit by unit; a proper prefix is less
 abbrev pub IsKeyBelow : List ℕ → Pairs → Type 0
 IsKeyBelow key no_pairs = ⊤
 IsKeyBelow key (pair next v ps) = slice_cmp nat_cmp key next ≡ Less
 
--- the term stands for a property list: numbers in their ranges, and the keys of each table strictly
--- ascending
+-- The term is a property list: numbers are in range, and the keys of each dictionary ascend
+-- strictly.
 abbrev mutual
   pub IsPlist : Plist → Type 0
   IsPlist (scalar s) = IsScalar s
@@ -79,7 +79,7 @@ abbrev mutual
   ArePairs no_pairs = ⊤
   ArePairs (pair key v ps) = AreUnits key × IsPlist v × IsKeyBelow key ps × ArePairs ps
 
--- a list or a table
+-- an array or a dictionary
 abbrev pub IsContainer : Plist → Type 0
 IsContainer (scalar s) = ⊥
 IsContainer (list vs) = ⊤

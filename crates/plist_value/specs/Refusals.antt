@@ -1,4 +1,4 @@
--- The numbers and the names of the refusals, and how one is printed.
+-- The numbers and the names of the refusals, and how a refusal is printed.
 use Rattle.std.specs.Prelude.{◌≡◌, ℕ, List, ◌++◌, codes}
 use Rattle.std.specs.Fmt.{decimal}
 use Rattle.plist_value.specs.declared.refusals.Refusal.{Refusal}
@@ -81,21 +81,21 @@ name_of WriteFailed = codes "WriteFailed"
 name_of InputTooLarge = codes "InputTooLarge"
 name_of OutOfMemory = codes "OutOfMemory"
 
--- a refusal, and what it names
+-- a refusal with its position
 abbrev pub reports : Refusal → Place → Report
 reports refusal place = record { 0 = refusal; 1 = place }
 
--- the words for the place
+-- how the position is printed
 abbrev pub place_text : Place → List ℕ
 place_text Nowhere = codes ""
 place_text (Object object) = codes " at object " ++ decimal object
 place_text (Octet octet) = codes " at octet " ++ decimal octet
 place_text (After sent) = codes " after " ++ (decimal sent ++ codes " octets")
 
--- what is printed: the number, the name and the place
+-- how a report is printed: the number, the name and the position
 abbrev pub report_text : Report → List ℕ
 report_text report = decimal (number_of report.0) ++ (codes " " ++ (name_of report.0 ++ place_text report.1))
 
--- no two refusals are told alike
+-- no two refusals have the same image
 abbrev pub TellsApart : {A : Type 0} → (Refusal → A) → Type 0
 TellsApart told = (a b : Refusal) → told a ≡ told b → a ≡ b

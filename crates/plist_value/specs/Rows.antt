@@ -1,4 +1,4 @@
--- Small values, of which worked rows speak.
+-- Small values for examples.
 use Rattle.std.specs.Prelude.{ℕ, List, [], ◌∷◌}
 use Rattle.plist_value.specs.Plist.{text, Plist, scalar, table, no_pairs, pair}
 
@@ -8,10 +8,10 @@ a = 97 ∷ []
 abbrev pub b : List ℕ
 b = 98 ∷ []
 
--- b under a, and a under b
+-- {"a" = "b"; "b" = "a";}
 abbrev pub swapped : Plist
 swapped = table (pair a (scalar (text b)) (pair b (scalar (text a)) no_pairs))
 
--- the same pairs, the later key first
+-- the same entries, the greater key first
 abbrev pub unsorted : Plist
 unsorted = table (pair b (scalar (text a)) (pair a (scalar (text b)) no_pairs))

@@ -1,4 +1,4 @@
--- The scalar that a `ScalarRef` shows.
+-- The scalar that a `ScalarRef` refers to.
 use Rattle.plist_value.specs.Plist.{Scalar, text, whole, flag, real4, real8, moment, bytes}
 use Rattle.plist_value.specs.Wholes.{number_of}
 use Rattle.plist_value.specs.Texts.{units_of}

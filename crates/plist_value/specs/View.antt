@@ -1,4 +1,4 @@
--- The property list that a `Value` stands for.
+-- The property list that a `Value` is.
 use Rattle.std.specs.Prelude.{ℕ, List, [], ◌∷◌, map}
 use Rattle.plist_value.specs.Plist.{text, whole, flag, real4, real8, moment, bytes, Plist, scalar, list, table, Items, no_items, item, Pairs, no_pairs, pair}
 use Rattle.plist_value.specs.Wholes.{number_of}
@@ -13,7 +13,7 @@ abbrev pub pairs_of : List (List ℕ × Plist) → Pairs
 pairs_of [] = no_pairs
 pairs_of (p ∷ ps) = pair p.0 p.1 (pairs_of ps)
 
--- one level, each value inside already seen as its property list
+-- one level; the values in it are already property lists
 abbrev pub view_step : Value-F Plist → Plist
 view_step (Value-F.Text units) = scalar (text units)
 view_step (Value-F.Whole w) = scalar (whole (number_of w))

@@ -1,4 +1,4 @@
--- The number that a `Whole` stands for.
+-- The number that a `Whole` is.
 use Rattle.std.specs.Prelude.{ℤ}
 use Rattle.plist_value.specs.Numbers.{number_kept}
 use Rattle.plist_value.specs.declared.whole.Whole.{Whole}

@@ -1,22 +1,21 @@
-//! What is left of the limits while a value or a file is walked.
+//! What is left of the limits during a traversal of a value or a file.
 ghost use Rattle.std.specs.Prelude.{◌≡◌, ◌<◌, IfSome, IfNone};
 ghost use Rattle.plist_value.specs.Budget.{Spends, IsOver};
 
 use crate::{MAX_NODES, MAX_PAYLOAD};
 
-/// How many nodes, and how many octets of payload, may still be met. A node is a scalar, a
-/// container or a key; the payload is two octets for each UTF-16 unit of a text, and one for each
-/// octet of data.
+/// The number of nodes and of payload bytes that are left. A node is a scalar, a container or a
+/// key; the payload is two bytes for each UTF-16 unit of a string, and one for each byte of data.
 #[derive(Clone, Copy, Debug)]
 pub struct Budget {
-    /// The nodes that are left.
+    /// The number of nodes left.
     pub nodes: u64,
-    /// The octets of payload that are left.
+    /// The number of payload bytes left.
     pub payload: u64,
 }
 
 impl Budget {
-    /// The limits themselves: `MAX_NODES` nodes and `MAX_PAYLOAD` octets of payload.
+    /// Returns the limits themselves: `MAX_NODES` nodes and `MAX_PAYLOAD` bytes of payload.
     pub fn whole() -> Budget
         ensures nodes { result.nodes ≡ MAX_NODES }
         ensures payload { result.payload ≡ MAX_PAYLOAD }
@@ -27,7 +26,7 @@ impl Budget {
         }
     }
 
-    /// What is left after one node, or `None` exactly where no node is left.
+    /// Returns the budget left after one node, or `None` if and only if no node is left.
     pub fn take_node(self) -> Option<Budget>
         ensures left { IfSome result (Spends self 1 0) }
         ensures over { IfNone result (self.nodes ≡ 0) }
@@ -38,7 +37,7 @@ impl Budget {
         })
     }
 
-    /// What is left after so many octets of payload, or `None` exactly where fewer are left.
+    /// Returns the budget left after `payload` bytes, or `None` if and only if fewer are left.
     pub fn take_payload(self, payload: u128) -> Option<Budget>
         ensures left { IfSome result (Spends self 0 payload) }
         ensures over { IfNone result (self.payload < payload) }
@@ -52,8 +51,8 @@ impl Budget {
         })
     }
 
-    /// What is left after one node and its payload, or `None` exactly where there is no node left
-    /// or too little payload.
+    /// Returns the budget left after one node and its payload, or `None` if and only if no node or
+    /// too little payload is left.
     pub fn spend(self, payload: u128) -> Option<Budget>
         ensures left { IfSome result (Spends self 1 payload) }
         ensures over { IfNone result (IsOver self 1 payload) }

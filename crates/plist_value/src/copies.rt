@@ -6,12 +6,12 @@ use crate::{Utf16, Value};
 use std::alloc::{AllocError, Global};
 use std::collections::BTreeMap;
 
-/// An equal value, in memory of its own. It copies each node once, looks up each key of a table
-/// among those before it, and recurses as deep as the value.
+/// Returns an equal value in its own memory. Copies each node once, looks up each key of a
+/// dictionary among those before it, and recurses as deep as the value.
 ///
 /// # Errors
 ///
-/// Where there is no memory for the copy; what was copied is freed.
+/// [`AllocError`] if out of memory; what was copied is freed.
 #[cycle(copy)]
 pub fn copy(alloc: Global, value: &Value) -> Result<Value, AllocError>
     ensures { IfOk result (λ copy. view copy ≡ view value.now) }

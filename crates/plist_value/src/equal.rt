@@ -7,9 +7,9 @@ ghost use Rattle.plist_value.specs.View.{view, view_items, view_pairs};
 use crate::{ScalarRef, Utf16, Value};
 use std::collections::BTreeMap;
 
-/// Whether the two values are equal: the same kind and the same content, and for tables the same
-/// keys with equal values. It goes over both at most once, stops at the first difference, recurses
-/// as deep as the values, and takes no memory.
+/// Returns whether the two values are equal: the same kind and the same content, and for
+/// dictionaries the same keys with equal values. Traverses both at most once, stops at the first
+/// difference, recurses as deep as the values, and allocates nothing.
 #[cycle(same)]
 pub fn same(value: &Value, other: &Value) -> bool
     ensures { IsTrue result ↔ view value.now ≡ view other.now }
@@ -21,7 +21,7 @@ pub fn same(value: &Value, other: &Value) -> bool
     }
 }
 
-// Whether both are scalars, and equal.
+// Returns whether both are scalars and equal.
 fn same_scalars(value: &Value, other: &Value) -> bool
     ensures equal { OnTrue result (view value.now ≡ view other.now) }
     ensures different { OnFalse result

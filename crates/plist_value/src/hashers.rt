@@ -1,9 +1,9 @@
-//! How scalars are hashed where the caller does not say.
+//! The default hasher of scalars.
 
 use std::hash::{BuildHasherDefault, FoldHasher};
 
-/// The builder of hashers whose seed is fixed, which is the default. It is the fastest. Whoever
-/// knows its source can pick scalars that collide under it, and so make a set of `n` of them cost
-/// as much as `n` times `n`: where somebody else picks them, hand a
-/// [`RandomState`](std::hash::RandomState) to the call that takes a builder.
+/// Builds hashers with a fixed seed. This is the default, and the fastest. Whoever knows the source
+/// can choose scalars that collide, so that a set of `n` of them takes time in the order of `n *
+/// n`. If somebody else chooses the scalars, pass a [`RandomState`](std::hash::RandomState) to the
+/// call that takes a builder.
 pub type FixedHasher = BuildHasherDefault<FoldHasher>;

@@ -1,4 +1,4 @@
-//! Octets as hexadecimal digits.
+//! Bytes as hexadecimal digits.
 ghost use Rattle.std.specs.Prelude.{◌≡◌, ◌+◌, ◌*◌, ◌<◌, ◌≤◌, ◌++◌};
 ghost use Rattle.std.specs.Prelude.{OnOk, length, flat_map, vec_len, vec_capacity};
 ghost use Rattle.std.specs.Char.{digit_char};
@@ -6,11 +6,11 @@ ghost use Rattle.plist_value.specs.Digits.{two_digits};
 
 use std::alloc::AllocError;
 
-/// Puts two lower-case hexadecimal digits for each octet behind what `out` has.
+/// Appends two lower-case hexadecimal digits for each byte to `out`.
 ///
 /// # Errors
 ///
-/// Where there is no memory for them.
+/// [`AllocError`] if out of memory.
 pub fn put_digits(out: &mut Vec<u8>, octets: &[u8]) -> Result<(), AllocError>
     ensures { OnOk result (out.new.items ≡ out.old.items ++ flat_map two_digits octets.now) }
 {
@@ -19,14 +19,14 @@ pub fn put_digits(out: &mut Vec<u8>, octets: &[u8]) -> Result<(), AllocError>
     Ok(())
 }
 
-/// The two lower-case hexadecimal digits of an octet.
+/// Returns the two lower-case hexadecimal digits of a byte.
 pub fn digits_of(octet: u8) -> [u8; 2]
     ensures { result ≡ two_digits octet }
 {
     [digit(octet / 16), digit(octet % 16)]
 }
 
-// The octets as pairs of digits, for which `out` has room.
+// Appends the bytes as pairs of digits. `out` has the capacity.
 fn push_digits(out: &mut Vec<u8>, octets: &[u8])
     requires { vec_len out.old + 2 * length octets.now ≤ vec_capacity out.old }
     ensures { out.new.items ≡ out.old.items ++ flat_map two_digits octets.now }
@@ -36,7 +36,7 @@ fn push_digits(out: &mut Vec<u8>, octets: &[u8])
     }
 }
 
-// The octet as a pair of digits, for which `out` has room.
+// Appends the byte as a pair of digits. `out` has the capacity.
 fn push_octet(out: &mut Vec<u8>, octet: u8)
     requires { vec_len out.old + 2 ≤ vec_capacity out.old }
     ensures items { out.new.items ≡ out.old.items ++ two_digits octet }
@@ -47,7 +47,6 @@ fn push_octet(out: &mut Vec<u8>, octet: u8)
     out.push_reserved(digit(octet % 16));
 }
 
-// The hexadecimal digits in their order.
 static DIGITS: [u8; 16] = *b"0123456789abcdef";
 
 fn digit(value: u8) -> u8

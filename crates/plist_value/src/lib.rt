@@ -1,4 +1,4 @@
-//! The values that property lists spell, and how large they may be.
+//! The values that property lists encode, and their size limits.
 #![tactic(auto)]
 
 mod ascii;
@@ -39,6 +39,6 @@ pub const MAX_NODES: u64 = 16_777_216;
 /// than the deepest value in it.
 pub const MAX_DEPTH: u64 = 512;
 
-/// The greatest payload, in octets: two for each UTF-16 unit of a text, one for each octet of data,
-/// over the whole tree, keys included.
+/// The greatest payload, in bytes: two for each UTF-16 unit of a string and one for each byte of
+/// data, over the whole tree, keys included.
 pub const MAX_PAYLOAD: u64 = 1_073_741_824;

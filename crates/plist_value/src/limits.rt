@@ -12,9 +12,10 @@ use crate::budget::Budget;
 use crate::{MAX_DEPTH, ScalarRef, TextRef, Utf16, Value};
 use std::collections::BTreeMap;
 
-/// Whether the value is within the limits: at most `MAX_NODES` nodes, `MAX_DEPTH` deep, and at most
-/// `MAX_PAYLOAD` octets of payload. It visits each node at most once and reads no text or data,
-/// stops where a limit is passed, recurses at most `MAX_DEPTH` deep, and takes no memory.
+/// Returns whether the value is within the limits: at most `MAX_NODES` nodes, `MAX_DEPTH` deep, and
+/// at most `MAX_PAYLOAD` bytes of payload. Visits each node at most once and reads no string or
+/// data, stops at the first limit exceeded, recurses at most `MAX_DEPTH` deep, and allocates
+/// nothing.
 pub fn fits(value: &Value) -> bool
     ensures limits { IsTrue result ↔ Fits (view value.now) }
     ensures valid { OnTrue result (IsPlist (view value.now)) }
@@ -22,7 +23,7 @@ pub fn fits(value: &Value) -> bool
     charge(value, MAX_DEPTH, Budget::whole()).is_some()
 }
 
-// What is left of the budget after the value, which may be so many levels deep.
+// Returns the budget left after the value; `levels` is the depth allowed.
 #[cycle(fits)]
 fn charge(value: &Value, levels: u64, left: Budget) -> Option<Budget>
     ensures left { IfSome result (Spends left (nodes (view value.now)) (payload (view value.now))) }

@@ -1,26 +1,26 @@
-//! Every refusal: its number and its name, each written once, and how one is printed.
+//! All refusals: their numbers and names, each written once, and how a refusal is printed.
 ghost use Rattle.std.specs.Prelude.{◌≡◌, Some};
 ghost use Rattle.plist_value.specs.Refusals.{TellsApart, name_of, number_of, report_text};
 
 use std::fmt;
 
-/// Why a call refuses. This is the one table of numbers and names; which faults a call answers, and
-/// where each stands, is said by the fault types.
+/// Why a call refuses its input. This is the one table of numbers and names. The fault types say
+/// which faults a call returns, and which position each has.
 #[derive(Clone, Copy)]
 pub enum Refusal {
-    /// A binary file has fewer than 42 octets.
+    /// A binary file has fewer than 42 bytes.
     TooShort = 1,
     /// A binary file does not begin with `bplist00`.
     BadHeader = 2,
     /// The trailer of a binary file does not fit the file.
     BadTrailer = 3,
-    /// The place of an object is in the header, or not before the offset table.
+    /// The offset of an object is in the header, or not before the offset table.
     BadOffset = 4,
     /// A reference is not below the number of objects.
     BadReference = 5,
-    /// An object reaches into the offset table.
+    /// An object extends into the offset table.
     CutObject = 6,
-    /// A marker is none of the format.
+    /// The format has no such marker.
     BadMarker = 7,
     /// An object is a null.
     NullObject = 8,
@@ -28,9 +28,9 @@ pub enum Refusal {
     UidObject = 9,
     /// An object is a set.
     SetObject = 10,
-    /// An ASCII string has an octet above 7f.
+    /// An ASCII string has a byte above 7f.
     NotAscii = 11,
-    /// A whole number of sixteen octets does not fit into eight.
+    /// An integer of sixteen bytes does not fit into eight.
     WideInteger = 12,
     /// A key is no string.
     KeyNotText = 13,
@@ -44,11 +44,11 @@ pub enum Refusal {
     TooManyNodes = 17,
     /// The value has more payload than [`MAX_PAYLOAD`](crate::MAX_PAYLOAD).
     TooMuchPayload = 18,
-    /// A text is no UTF-8.
+    /// A text is not UTF-8.
     BadUtf8 = 20,
-    /// A text begins as an XML property list does.
+    /// A text begins like an XML property list.
     XmlForm = 21,
-    /// A character begins no token.
+    /// No token begins with a character.
     UnexpectedCharacter = 23,
     /// A quoted string has no end.
     UnclosedString = 24,
@@ -58,37 +58,37 @@ pub enum Refusal {
     BadEscape = 26,
     /// An octal escape is above octal 177.
     OctalRange = 27,
-    /// A hexadecimal digit of data stands alone.
+    /// Data has an odd number of hexadecimal digits.
     OddData = 28,
-    /// Data has another character, or no end.
+    /// Data contains another character, or has no end.
     BadData = 29,
-    /// No text goes on with a token, or it ends too early.
+    /// Another token was expected, or the text ends too early.
     Expected = 30,
-    /// A token stands behind a whole text.
+    /// A token follows a complete text.
     Junk = 31,
-    /// A text with a mark of UTF-16 is no UTF-16.
+    /// A text with a byte order mark of UTF-16 is not UTF-16.
     BadUtf16 = 32,
-    /// A value has no OpenStep text.
+    /// OpenStep text cannot encode the value.
     NotInOpenStep = 40,
     /// A source failed.
     ReadFailed = 50,
     /// A sink failed.
     WriteFailed = 51,
-    /// The input is longer than is read.
+    /// The input is longer than the limit.
     InputTooLarge = 52,
     /// Out of memory.
     OutOfMemory = 60,
 }
 
 impl Refusal {
-    /// The number, from 1 to 60.
+    /// Returns the number, from 1 to 60.
     pub fn number(self) -> u8
         ensures { result ≡ number_of self }
     {
         self as u8
     }
 
-    /// The name, as it is printed.
+    /// Returns the name, as it is printed.
     pub fn name(self) -> &'static str
         ensures { result.now ≡ name_of self }
     {
@@ -132,21 +132,21 @@ impl Refusal {
     }
 }
 
-/// What a fault names besides its refusal.
+/// The position of a fault.
 #[derive(Clone, Copy)]
 pub enum Place {
-    /// Nothing.
+    /// No position.
     Nowhere,
     /// An object of a binary file, by its number.
     Object(u64),
-    /// An octet of the input, counted from its first.
+    /// A byte of the input, by its offset.
     Octet(usize),
-    /// How many octets had gone out.
+    /// The number of bytes written before.
     After(u64),
 }
 
-/// A refusal, and what it names: what is printed of a fault, as `14 DuplicateKey at object 0`,
-/// `24 UnclosedString at octet 2`, `51 WriteFailed after 10 octets` or `1 TooShort`.
+/// A refusal with its position. It is printed like `14 DuplicateKey at object 0`, `24
+/// UnclosedString at octet 2`, `51 WriteFailed after 10 octets` or `1 TooShort`.
 #[derive(Clone, Copy)]
 pub struct Report(pub Refusal, pub Place);
 
@@ -165,7 +165,7 @@ impl fmt::Display for Report {
     }
 }
 
-/// No two refusals have one number or one name.
+/// No two refusals have the same number or the same name.
 pub fn refusals_differ()
     ensures numbers { TellsApart number_of }
     ensures names { TellsApart name_of }

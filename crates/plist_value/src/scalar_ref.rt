@@ -1,4 +1,4 @@
-//! Scalars that are borrowed.
+//! Borrowed scalars.
 ghost use Rattle.std.specs.Prelude.{◌≡◌, ◌↔◌, IsSome, IsNone, IfSome, fold, ◌++◌, ◌∷◌, []};
 ghost use Rattle.std.specs.Hash as fed;
 ghost use Rattle.std.specs.Ordering.{on};
@@ -11,24 +11,24 @@ ghost use Rattle.plist_value.specs.Scalars.{content_of};
 use crate::{TextRef, Value, Whole};
 use std::hash::{Hash, Hasher};
 
-/// A value that holds no other, borrowed from a `Value` or from the octets of a file. Two are equal
-/// where they are of one kind and have the same content, and then they hash alike; so they serve as
+/// A value that contains no other, borrowed from a `Value` or from the bytes of a file. Two are
+/// equal if they have the same kind and the same content, and then they hash alike, so they can be
 /// keys of a map.
 #[derive(Clone, Copy, Debug)]
 pub enum ScalarRef<'a> {
-    /// A list of UTF-16 units.
+    /// A string, as UTF-16 units.
     Text(TextRef<'a>),
-    /// A whole number from -2^63 to 2^64 - 1.
+    /// An integer from -2^63 to 2^64 - 1.
     Whole(Whole),
-    /// True or false.
+    /// A boolean.
     Flag(bool),
-    /// The four octets of a real, as they stand in a file.
+    /// A real of four bytes, as in a file.
     Real4([u8; 4]),
-    /// The eight octets of a real, as they stand in a file.
+    /// A real of eight bytes, as in a file.
     Real8([u8; 8]),
-    /// The eight octets of a date, as they stand in a file.
+    /// A date, as the eight bytes in a file.
     Moment([u8; 8]),
-    /// Data, a list of octets.
+    /// Data, as bytes.
     Bytes(&'a [u8]),
 }
 
@@ -38,7 +38,7 @@ impl<'a> ScalarRef<'a> {
     ghost use Rattle.plist_value.specs.Plist.{real4, real8, moment, bytes};
     ghost use Rattle.plist_value.specs.View.{view};
 
-    /// The scalar that the value is, or `None` exactly for a list or a table.
+    /// Returns the value as a scalar, or `None` if and only if it is an array or a dictionary.
     pub fn of(value: &'a Value) -> Option<ScalarRef<'a>>
         ensures container { IsNone result ↔ IsContainer (view value.entry.now) }
         ensures content { IfSome result (λ s. view value.entry.now ≡ scalar (content_of s)) }
@@ -56,8 +56,8 @@ impl<'a> ScalarRef<'a> {
         }
     }
 
-    /// The payload in octets: two for each UTF-16 unit of a text, one for each octet of data, and
-    /// none of any other scalar. No text and no data is read.
+    /// Returns the payload in bytes: two for each UTF-16 unit of a string, one for each byte of
+    /// data, and none for any other scalar. Reads no string and no data.
     pub fn payload(&self) -> u128
         ensures { result ≡ payload_of_scalar (content_of self.now) }
     {
@@ -97,7 +97,7 @@ impl<'a> ScalarRef<'a> {
     }
 }
 
-/// The same kind and the same content, wherever each is borrowed from.
+/// Compares kind and content, from wherever each is borrowed.
 impl<'a> PartialEq for ScalarRef<'a> {
     ghost eq = { on content_of scalar_eq };
 
@@ -121,9 +121,9 @@ impl<'a> Eq for ScalarRef<'a> {
     ghost laws = { on_equiv content_of scalar_eq-equiv };
 }
 
-/// By the content and the kind alone. The kind comes last: a hasher that takes eight octets at a
-/// time is fed whole words before it. Of a text the last octet is above all other kinds. Octets are
-/// fed in one write.
+/// Hashes the content and the kind alone. The kind comes last, so that a hasher that takes eight
+/// bytes at a time is fed whole words before it. The last byte of a string is above the kinds of
+/// all other scalars. Bytes are fed in one write.
 impl<'a> Hash for ScalarRef<'a> {
     ghost hash_input = { λ scalar. fed_scalar (content_of scalar) };
 

@@ -1,4 +1,4 @@
-//! What a text feeds a hasher, however it is kept.
+//! What a string feeds a hasher, however it is stored.
 ghost use Rattle.std.specs.Prelude.{◌≡◌, ◌<◌, ◌≤◌, ◌+◌};
 ghost use Rattle.std.specs.Prelude.{true, length, slice_index, drop, fold};
 ghost use Rattle.plist_value.specs.Hashes.{fed_narrow, fed_text, fed_units, fed_wide};
@@ -10,8 +10,8 @@ use crate::text_ref::TextRef;
 use crate::words::{feed, word};
 use std::hash::Hasher;
 
-/// By the units alone: eight in each write where all are below 256, and otherwise four. A text that
-/// is kept as ASCII octets is fed faster by these.
+/// Feeds the units alone: eight in each write if all are below 256, and otherwise four.
+/// [`feed_octets`](crate::words::feed_octets) is faster for ASCII bytes.
 pub fn feed_text<H: Hasher>(text: &TextRef, state: &mut H)
     ensures { state.new ≡ fold H.write state.old (fed_text (units_of text.now)) }
 {
@@ -23,7 +23,7 @@ pub fn feed_text<H: Hasher>(text: &TextRef, state: &mut H)
 }
 
 impl<'a> TextRef<'a> {
-    // The unit that stands `k` places behind the place `i`, or 0 behind the end.
+    // Returns the unit `k` positions after `i`, or 0 after the end.
     fn octet(&self, i: usize, k: usize) -> u8
         requires narrow { are_narrow (units_of self.now) ≡ true }
         requires within { i ≤ length (units_of self.now) }
@@ -36,7 +36,7 @@ impl<'a> TextRef<'a> {
         }
     }
 
-    // The seven units from the place `i` on, zeros behind the end, and another octet.
+    // Returns the seven units from position `i` on, zeros after the end, and then `last`.
     fn seven_and(&self, i: usize, last: u8) -> [u8; 8]
         requires narrow { are_narrow (units_of self.now) ≡ true }
         requires within { i ≤ length (units_of self.now) }
@@ -54,7 +54,7 @@ impl<'a> TextRef<'a> {
         ]
     }
 
-    // The four units from the place `i` on, the first in the lowest bits.
+    // Returns the four units from position `i` on as a number, the first in the lowest bits.
     fn word_at(&self, i: usize) -> u64
         requires { i + 4 ≤ length (units_of self.now) }
         ensures { result ≡ word_from i (units_of self.now) }
@@ -72,7 +72,7 @@ impl<'a> TextRef<'a> {
     }
 }
 
-// Whether all units are below 256.
+// Returns whether all units are below 256.
 fn is_narrow(text: &TextRef) -> bool
     ensures { result ≡ are_narrow (units_of text.now) }
 {
@@ -85,7 +85,7 @@ fn is_narrow(text: &TextRef) -> bool
     true
 }
 
-// However it is kept; the octets of a slice are fed faster.
+// Works for each way of storing the string; `feed_octets` is faster for ASCII bytes.
 fn feed_narrow<H: Hasher>(text: &TextRef, state: &mut H)
     requires { are_narrow (units_of text.now) ≡ true }
     ensures { state.new ≡ fold H.write state.old (fed_narrow (units_of text.now)) }
@@ -109,7 +109,7 @@ fn feed_wide<H: Hasher>(text: &TextRef, state: &mut H)
     state.write_u8(255);
 }
 
-// However it is kept; the units of a slice are fed faster.
+// Works for each way of storing the string; `feed` is faster for a slice of units.
 fn feed_each<H: Hasher>(text: &TextRef, state: &mut H)
     ensures { state.new ≡ fold H.write state.old (fed_units (units_of text.now)) }
 {

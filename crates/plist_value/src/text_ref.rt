@@ -1,4 +1,4 @@
-//! Texts that are borrowed.
+//! Borrowed strings.
 ghost use Rattle.std.specs.Prelude.{◌≡◌, ◌<◌, ◌%◌, ◌↔◌, IsSome};
 ghost use Rattle.std.specs.Prelude.{IfSome, All, true, nat_eq, nat_lt, length, slice_index};
 ghost use Rattle.std.specs.List.{list_all};
@@ -18,16 +18,15 @@ use crate::words::{compare, feed_octets};
 use std::cmp::Ordering;
 use std::hash::{Hash, Hasher};
 
-/// A text that is borrowed: from UTF-16 units, or from the octets of a file. Texts are equal,
-/// ordered and hashed by their units, whichever way they are kept. That takes no memory and copies
-/// nothing: a comparison reads both up to their first difference, a hash reads all units once.
+/// A string, borrowed from UTF-16 units or from the bytes of a file. Strings are equal, ordered and
+/// hashed by their units, however they are stored. This allocates and copies nothing: a comparison
+/// reads both up to the first difference, and a hash reads all units once.
 #[derive(Clone, Copy, Debug)]
 pub struct TextRef<'a> {
     kept: Kept<'a>,
 }
 
-// How the units are kept: as they are, one in each octet below 128, or one in two octets, the high
-// one first.
+// How the units are stored: as they are, as bytes below 128, or as two bytes each, big-endian.
 #[derive(Clone, Copy, Debug)]
 enum Kept<'a> {
     Units(&'a [u16]),
@@ -38,7 +37,7 @@ enum Kept<'a> {
 impl<'a> TextRef<'a> {
     ghost use Rattle.plist_value.specs.Plist.{AreUnits};
 
-    /// The text of these units.
+    /// Returns the string of these units.
     pub fn of_units(units: &'a [u16]) -> TextRef<'a>
         ensures text { units_of result ≡ units.entry.now }
         ensures valid { AreUnits (units_of result) }
@@ -49,8 +48,8 @@ impl<'a> TextRef<'a> {
         }
     }
 
-    /// The text whose units are these octets, or `None` exactly where an octet is above 7f. It
-    /// reads them once.
+    /// Returns the string whose units are these bytes, or `None` if and only if a byte is above 7f.
+    /// Reads them once.
     pub fn of_ascii(octets: &'a [u8]) -> Option<TextRef<'a>>
         ensures ascii { IsSome result ↔ All (λ octet. octet < 128) octets.entry.now }
         ensures text { IfSome result (λ t. units_of t ≡ octets.entry.now) }
@@ -63,8 +62,8 @@ impl<'a> TextRef<'a> {
         })
     }
 
-    /// The text whose units stand in these octets two by two, the high octet first, or `None`
-    /// exactly where there is an odd number of octets.
+    /// Returns the string of these units of two bytes each, big-endian, or `None` if and only if
+    /// the number of bytes is odd.
     pub fn of_wide(octets: &'a [u8]) -> Option<TextRef<'a>>
         ensures even { IsSome result ↔ (length octets.entry.now % 2 ≡ 0) }
         ensures text { IfSome result (λ t. units_of t ≡ wide_units octets.entry.now) }
@@ -80,7 +79,7 @@ impl<'a> TextRef<'a> {
         }
     }
 
-    /// The number of units.
+    /// Returns the number of units.
     pub fn len(&self) -> usize
         ensures { result ≡ length (units_of self.now) }
     {
@@ -91,14 +90,14 @@ impl<'a> TextRef<'a> {
         }
     }
 
-    /// Whether there is no unit.
+    /// Returns whether there are no units.
     pub fn is_empty(&self) -> bool
         ensures { result ≡ nat_eq (length (units_of self.now)) 0 }
     {
         self.len() == 0
     }
 
-    /// The unit at the place `i`, which is below `len`.
+    /// Returns the unit at position `i`, which is below `len`.
     pub fn unit(&self, i: usize) -> u16
         requires { i < length (units_of self.now) }
         ensures { result ≡ slice_index (units_of self.now) i }
@@ -110,7 +109,7 @@ impl<'a> TextRef<'a> {
         }
     }
 
-    /// Whether all units are below 128. Of a text that is kept as ASCII octets none is read.
+    /// Returns whether all units are below 128. Reads no unit if they are stored as ASCII bytes.
     pub fn is_ascii(&self) -> bool
         ensures { result ≡ list_all (λ unit. nat_lt unit 128) (units_of self.now) }
     {
@@ -121,8 +120,7 @@ impl<'a> TextRef<'a> {
         }
     }
 
-    /// The octets of a text that is kept as ASCII octets, one for each unit: exactly a text that
-    /// `of_ascii` made has some.
+    /// Returns the bytes, one for each unit, if the string was created by `of_ascii`.
     pub fn octets(&self) -> Option<&'a [u8]>
         ensures text { IfSome result (λ octets. units_of self.now ≡ octets.now) }
         ensures kept { IsSome result ↔ (is_ascii_kept self.now ≡ true) }
@@ -133,7 +131,7 @@ impl<'a> TextRef<'a> {
         }
     }
 
-    /// The units of a text that is kept as units: exactly a text that `of_units` made has some.
+    /// Returns the units, if the string was created by `of_units`.
     pub fn units(&self) -> Option<&'a [u16]>
         ensures text { IfSome result (λ units. units_of self.now ≡ units.now) }
         ensures kept { IsSome result ↔ (is_units_kept self.now ≡ true) }
@@ -144,8 +142,7 @@ impl<'a> TextRef<'a> {
         }
     }
 
-    /// The octets of a text that is kept in two octets a unit, the high one first: exactly a text
-    /// that `of_wide` made has some.
+    /// Returns the bytes, two for each unit, big-endian, if the string was created by `of_wide`.
     pub fn wide_octets(&self) -> Option<&'a [u8]>
         ensures text { IfSome result (λ octets. units_of self.now ≡ wide_units octets.now) }
         ensures kept { IsSome result ↔ (is_wide_kept self.now ≡ true) }
@@ -168,7 +165,7 @@ fn are_ascii(units: &[u16]) -> bool
     true
 }
 
-// However the text is kept; a slice of units is read faster.
+// Works for each way of storing the string; `are_ascii` is faster for a slice of units.
 fn is_each_ascii(text: &TextRef) -> bool
     ensures { result ≡ list_all (λ unit. nat_lt unit 128) (units_of text.now) }
 {
@@ -188,7 +185,7 @@ fn plain_unit(units: &[u16], i: usize) -> u16
     units[i]
 }
 
-// The unit in the octets 2 i and 2 i + 1.
+// Returns the unit in the bytes `2 * i` and `2 * i + 1`.
 fn wide_unit(octets: &[u8], i: usize) -> u16
     requires { i < length (wide_units octets.now) }
     ensures { result ≡ slice_index (wide_units octets.now) i }
@@ -215,7 +212,7 @@ impl<'a> Eq for TextRef<'a> {
     ghost laws = { Prim.search (comparing, rules) };
 }
 
-/// Unit by unit, a proper prefix first.
+/// Compares unit by unit; a proper prefix is less.
 impl<'a> Ord for TextRef<'a> {
     ghost cmp = { on units_of (slice_cmp nat_cmp) };
 
@@ -245,7 +242,8 @@ impl<'a> PartialOrd for TextRef<'a> {
     }
 }
 
-/// By the units alone, in place: eight in each write where all are below 256, and otherwise four.
+/// Hashes the units alone, without a copy: eight in each write if all are below 256, and otherwise
+/// four.
 impl<'a> Hash for TextRef<'a> {
     ghost hash_input = { λ text. fed_text (units_of text) };
 
@@ -260,7 +258,7 @@ impl<'a> Hash for TextRef<'a> {
     }
 }
 
-// However each is kept; the slices of one kind are compared faster.
+// Works for each way of storing the strings; slices of the same kind are compared faster.
 fn same_units(text: &TextRef, other: &TextRef) -> bool
     ensures { result ≡ pointwise nat_eq (units_of text.now) (units_of other.now) }
 {

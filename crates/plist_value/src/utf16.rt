@@ -1,4 +1,4 @@
-//! Texts that are owned.
+//! Owned strings.
 ghost use Rattle.std.specs.Prelude.{◌≡◌, ℕ, List, nat_eq, IfOk};
 ghost use Rattle.std.specs.Ordering.{nat_cmp, as_partial_cmp};
 ghost use Rattle.std.specs.Cmp.{partial_order_from_own_ties};
@@ -15,7 +15,8 @@ use std::cmp::Ordering;
 use std::hash::{Hash, Hasher};
 use std::marker::Model;
 
-/// A text: a list of UTF-16 units, any units, lone surrogates too. A contract sees it as that list.
+/// A string: any sequence of UTF-16 units, including lone surrogates. Contracts see it as the list
+/// of its units.
 #[derive(Debug, Drop)]
 pub struct Utf16 {
     units: Vec<u16>,
@@ -28,25 +29,25 @@ impl Model for Utf16 {
 }
 
 impl Utf16 {
-    /// The text of these units.
+    /// Returns the string of these units.
     pub fn from_units(units: Vec<u16>) -> Self
         ensures { result ≡ units.items }
     {
         Utf16 { units }
     }
 
-    /// The units of the text, in order.
+    /// Returns the units, in order.
     pub fn units(&self) -> &[u16]
         ensures { result.now ≡ self.now }
     {
         self.units.as_slice()
     }
 
-    /// A text of the same units, in memory of its own: one allocation of two octets for each unit.
+    /// Returns a copy in its own memory: one allocation of two bytes for each unit.
     ///
     /// # Errors
     ///
-    /// Where there is no memory for the units.
+    /// [`AllocError`] if out of memory.
     pub fn copy(&self, alloc: Global) -> Result<Utf16, AllocError>
         ensures { IfOk result (λ copy. copy ≡ self.now) }
     {
@@ -68,7 +69,7 @@ impl Eq for Utf16 {
     ghost laws = { Prim.search (comparing, rules) };
 }
 
-/// Unit by unit, a proper prefix first.
+/// Compares unit by unit; a proper prefix is less.
 impl Ord for Utf16 {
     ghost cmp = { slice_cmp nat_cmp };
 
@@ -94,7 +95,7 @@ impl PartialOrd for Utf16 {
     }
 }
 
-/// By the units alone, as a `TextRef` of them.
+/// Hashes the units alone, like a `TextRef` of them.
 impl Hash for Utf16 {
     ghost hash_input = { fed_text };
 

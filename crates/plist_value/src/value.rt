@@ -6,25 +6,25 @@ ghost use Rattle.plist_value.specs.View.{view};
 use crate::{Utf16, Whole};
 use std::collections::BTreeMap;
 
-/// A property list, which owns its content.
+/// A property list that owns its content.
 #[derive(Debug, Drop)]
 pub enum Value {
-    /// A list of UTF-16 units.
+    /// A string, as UTF-16 units.
     Text(Utf16),
-    /// A whole number from -2^63 to 2^64 - 1.
+    /// An integer from -2^63 to 2^64 - 1.
     Whole(Whole),
-    /// True or false.
+    /// A boolean.
     Flag(bool),
-    /// The four octets of a real, as they stand in a file.
+    /// A real of four bytes, as in a file.
     Real4([u8; 4]),
-    /// The eight octets of a real, as they stand in a file.
+    /// A real of eight bytes, as in a file.
     Real8([u8; 8]),
-    /// The eight octets of a date, as they stand in a file.
+    /// A date, as the eight bytes in a file.
     Moment([u8; 8]),
-    /// Data, a list of octets.
+    /// Data, as bytes.
     Bytes(Vec<u8>),
-    /// Values in order.
+    /// An array.
     List(Vec<Value>),
-    /// Values by their keys, each key once.
+    /// A dictionary.
     Table(BTreeMap<Utf16, Value>),
 }

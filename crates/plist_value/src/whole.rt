@@ -1,4 +1,4 @@
-//! Whole numbers.
+//! Integers.
 ghost use Rattle.std.specs.Prelude.{◌≡◌, ◌↔◌, ℤ, IsSome, IfSome};
 ghost use Rattle.std.specs.Ordering.{int_eq, on};
 ghost use Rattle.std.specs.Cmp.Rules.{comparing, hashing};
@@ -9,7 +9,7 @@ ghost use Rattle.plist_value.specs.Numbers.{number_kept};
 
 use std::hash::{Hash, Hasher};
 
-/// A whole number from -2^63 to 2^64 - 1.
+/// An integer from -2^63 to 2^64 - 1.
 #[derive(Clone, Copy, Debug)]
 pub struct Whole {
     kept: Number,
@@ -25,7 +25,7 @@ enum Number {
 impl Whole {
     ghost use Rattle.plist_value.specs.Wholes.{number_of};
 
-    /// The number `n`, or `None` exactly where it is below -2^63 or above 2^64 - 1.
+    /// Returns the integer `n`, or `None` if and only if it is below -2^63 or above 2^64 - 1.
     pub fn new(n: i128) -> Option<Self>
         ensures in_range { IsSome result ↔ IsWhole n }
         ensures value { IfSome result (λ w. number_of w ≡ n) }
@@ -41,7 +41,7 @@ impl Whole {
         })
     }
 
-    /// The number itself, from -2^63 to 2^64 - 1.
+    /// Returns the number, from -2^63 to 2^64 - 1.
     pub fn get(&self) -> i128
         ensures value { result ≡ number_of self.now }
         ensures in_range { IsWhole result }
@@ -69,7 +69,7 @@ impl Eq for Whole {
     ghost laws = { Prim.search (comparing, rules) };
 }
 
-/// By the number alone.
+/// Hashes the number alone.
 impl Hash for Whole {
     ghost use Rattle.plist_value.specs.Wholes.{number_of};
 

@@ -1,4 +1,4 @@
-//! Units as numbers, and what a hasher is fed of them.
+//! Units as machine words, for hashing and comparing.
 ghost use Rattle.std.specs.Prelude.{◌≡◌, ◌≢◌, ◌+◌, ◌≤◌, length, slice_index, fold};
 ghost use Rattle.std.specs.Ordering.{nat_cmp};
 ghost use Rattle.std.specs.Cmp.Lexicographic.{slice_cmp};
@@ -9,7 +9,7 @@ ghost use Rattle.plist_value.specs.Hashes.{word_from, order_from};
 use std::cmp::Ordering;
 use std::hash::Hasher;
 
-// The four units as one number, the first in its lowest bits.
+// Returns the four units as one number, the first in the lowest bits.
 #[inline(always)]
 pub(crate) fn word(a: u16, b: u16, c: u16, d: u16) -> u64
     ensures { result ≡ word a b c d }
@@ -19,7 +19,7 @@ pub(crate) fn word(a: u16, b: u16, c: u16, d: u16) -> u64
     u64::from(low) + 4_294_967_296 * u64::from(high)
 }
 
-/// Feeds the units to the hasher: four in each write, and in a last one those that are left.
+/// Feeds the units to the hasher: four in each write, and the rest in a last one.
 pub(crate) fn feed<H: Hasher>(units: &[u16], state: &mut H)
     ensures { state.new ≡ fold H.write state.old (fed_units units.now) }
 {
@@ -36,8 +36,8 @@ pub(crate) fn feed<H: Hasher>(units: &[u16], state: &mut H)
     }
 }
 
-/// Feeds the octets, a unit in each, to the hasher: eight in each write, and in a last one those
-/// that are left.
+/// Feeds the bytes, one for each unit, to the hasher: eight in each write, and the rest in a last
+/// one.
 pub(crate) fn feed_octets<H: Hasher>(octets: &[u8], state: &mut H)
     ensures { state.new ≡ fold H.write state.old (fed_text octets.now) }
 {
@@ -50,7 +50,7 @@ pub(crate) fn feed_octets<H: Hasher>(octets: &[u8], state: &mut H)
     state.write(&seven_and(rest, 128 + rest.len() as u8));
 }
 
-// The first seven octets, zeros behind the end, and another.
+// Returns the first seven bytes, zeros after the end, and then `last`.
 fn seven_and(octets: &[u8], last: u8) -> [u8; 8]
     ensures { result ≡ seven_and octets.now last }
 {
@@ -66,7 +66,7 @@ fn seven_and(octets: &[u8], last: u8) -> [u8; 8]
     ]
 }
 
-// The octet at the place, or 0 behind the end.
+// Returns the byte at position `i`, or 0 after the end.
 fn octet(octets: &[u8], i: usize) -> u8
     ensures { result ≡ slice_index octets.now i }
 {
@@ -88,8 +88,7 @@ fn unit_word(units: &[u16], i: usize) -> u64
     word(units[i], units[i + 1], units[i + 2], units[i + 3])
 }
 
-// Of the two pairs of units from the place `i` on, which are not both equal, where the first
-// unequal one is.
+// Returns the position of the first unequal pair, if the four units from position `i` on differ.
 #[inline(always)]
 fn unequal_pair(units: &[u16], others: &[u16], i: usize) -> usize
     requires length { i + 4 ≤ length units.now }
@@ -106,7 +105,7 @@ fn unequal_pair(units: &[u16], others: &[u16], i: usize) -> usize
     }
 }
 
-// Of the two units from the place `i` on, which are not both equal, where the first unequal one is.
+// Returns the position of the first unequal unit, if the two units from position `i` on differ.
 #[inline(always)]
 fn unequal_unit(units: &[u16], others: &[u16], i: usize) -> usize
     requires length { i + 2 ≤ length units.now }
@@ -119,7 +118,7 @@ fn unequal_unit(units: &[u16], others: &[u16], i: usize) -> usize
     if units[i] == others[i] { i + 1 } else { i }
 }
 
-// The order from a place on.
+// Compares the units from position `start` on.
 #[inline(always)]
 fn compare_from(units: &[u16], others: &[u16], start: usize) -> Ordering
     requires length { start ≤ length units.now }
@@ -140,8 +139,7 @@ fn compare_from(units: &[u16], others: &[u16], start: usize) -> Ordering
     }
 }
 
-/// Unit by unit, a proper prefix first: four at a time while they are equal, and no branch tells
-/// which of four is not.
+/// Compares unit by unit; a proper prefix is less. Compares four at a time while they are equal.
 pub(crate) fn compare(units: &[u16], others: &[u16]) -> Ordering
     ensures { result ≡ slice_cmp nat_cmp units.now others.now }
 {

@@ -2,7 +2,7 @@ use Rattle.std.proofs.Common.{◌≡◌, drop}
 use Rattle.plist_value.specs.View.{view_items, view_pairs}
 use Rattle.plist_value.proofs.equal.+same.Given as goal
 
--- all are equal exactly where those that are left are
+-- all items are equal if and only if the remaining ones are
 abbrev pub invariant-same_items-loop-i : goal.invariant-same_items-loop-i
 invariant-same_items-loop-i l =
     let rest = view_items (drop l.i l.items.items) in

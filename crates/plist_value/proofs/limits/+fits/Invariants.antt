@@ -8,7 +8,7 @@ use Rattle.std.specs.List.Sorted.{IsStrictlySortedBy}
 use Rattle.std.specs.Map.{keys_of}
 use Rattle.plist_value.proofs.limits.+fits.Given as goal
 
--- what the items that are left need is what all of them needed, less what was spent
+-- what the remaining items need is what all items needed minus what was spent
 abbrev pub invariant-charge_items-loop-item : goal.invariant-charge_items-loop-item
 invariant-charge_items-loop-item l =
     let all = view_items l.items.items in

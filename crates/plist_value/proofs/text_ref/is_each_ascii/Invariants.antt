@@ -3,7 +3,7 @@ use Rattle.std.specs.List.{list_all}
 use Rattle.plist_value.specs.Texts.{units_of}
 use Rattle.plist_value.proofs.text_ref.is_each_ascii.Given as goal
 
--- all that follow decide
+-- all units are ASCII if and only if the remaining ones are
 abbrev pub invariant-loop-i : goal.invariant-loop-i
 invariant-loop-i l =
     list_all (λ unit. nat_lt unit 128) (drop l.i (units_of l.text)) ≡ list_all (λ unit. nat_lt unit 128) (units_of l.text)

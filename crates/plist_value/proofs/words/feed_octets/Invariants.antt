@@ -2,7 +2,7 @@ use Rattle.std.proofs.Common.{◌≡◌, fold, length}
 use Rattle.plist_value.specs.Hashes.{fed_narrow}
 use Rattle.plist_value.proofs.words.feed_octets.Given as goal
 
--- feeding what is left gives what feeding all gave
+-- feeding the remaining units gives the same result as feeding all of them
 abbrev pub invariant-loop-rest : goal.invariant-loop-rest
 invariant-loop-rest g l = fold g.H.Hasher.write l.state (fed_narrow l.rest) ≡ fold g.H.Hasher.write l.initial.state (fed_narrow l.octets)
 
