@@ -1,5 +1,5 @@
 -- A step over a gap or a token, by an equation that says what comes first, and the lexer's steps.
-use Rattle.std.proofs.Common.{ℕ, ◌≤◌, true, false, List, [], ◌∷◌, ◌≡◌, length, sym, ap, subst, ◌∙◌, arith, Bool, ◌==◌, Some, inl, inr, refl, ◌||◌, None, ◌<◌, ◌++◌, map, append-nil}
+use Rattle.std.proofs.Common.{ℕ, ◌≤◌, true, false, List, [], ◌∷◌, ◌≡◌, length, sym, ap, subst, ◌∙◌, arith, Bool, ◌==◌, Some, inl, inr, refl, None, ◌<◌, ◌++◌, map, append-nil}
 use Rattle.std.proofs.lemmas.Bool.{cases_Bool}
 use Rattle.std.proofs.lemmas.Bool.Decides.{nat_tests}
 use Rattle.std.proofs.lemmas.List.{map-append}

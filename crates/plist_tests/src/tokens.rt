@@ -1,6 +1,6 @@
 //! Tokens one at a time, and with memory refused.
 use ostep_lex::{LexFault, TokenKind, next_mark, next_plain, next_token, open, tokens};
-use std::alloc::{AllocError, Global};
+use std::alloc::Global;
 use std::test::Fail;
 
 const TABLE: &[u8] = b"{a = <0F>;}";
