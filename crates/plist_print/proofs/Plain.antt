@@ -1,6 +1,8 @@
 -- Units that are printed as they are.
-use Rattle.std.proofs.Common.{◌≡◌, ℕ, zero, suc, ◌+◌, ◌-◌, ◌<◌, ◌≤◌, Bool, true, false, not, ◌&&◌, T, List, [], ◌∷◌, ◌++◌, refl, ap, ◌∙◌, arith, inl, inr, eq-zero-or-pos}
-use Rattle.std.specs.Prelude.{◌==◌, if◌then◌else◌}
+use Rattle.std.proofs.Common.{◌≡◌, ℕ, zero, suc, ◌+◌, ◌-◌, ◌/◌, ◌%◌, ◌<◌, ◌≤◌, Bool, true, false, not, ◌&&◌, T, List, [], ◌∷◌, ◌++◌, refl, ap, ◌∙◌, arith, inl, inr, eq-zero-or-pos}
+use Rattle.std.specs.Prelude.{◌==◌, codes, if◌then◌else◌}
+use Rattle.std.specs.Char.{encode_utf8}
+use Rattle.plist_value.specs.Digits.{two_digits}
 use Rattle.std.specs.Char.Utf16.{is_high_surrogate}
 use Rattle.std.proofs.lemmas.Bool.Decides.{nat_tests}
 use Rattle.std.proofs.lemmas.Str.{encode_ascii}
@@ -69,3 +71,6 @@ pub printed_units-plain : (u : ℕ) (us : List ℕ) → IsPlain u → printed_un
 printed_units-plain u [] p = one u p
 printed_units-plain u (v ∷ us) p =
     if-pair (is_high_surrogate u) _ _ _ (no-high u p.high) ∙ ap (λ xs. xs ++ printed_units (v ∷ us)) (one u p)
+
+pub ascii_shown : (u : ℕ) → 32 ≤ u → u < 127 → (if is_unseen u then codes "\\U" ++ (two_digits (u / 256) ++ two_digits (u % 256)) else encode_utf8 u) ≡ u ∷ []
+ascii_shown u low high = if-false (is_unseen u) _ _ (seen u low high) ∙ encode_ascii u (omega (arith, high))

@@ -15,8 +15,8 @@ use std::alloc::AllocError;
 // The most octets of data on a line.
 const LINE: usize = 32;
 
-/// Sends data up to the end of its last line, or has it wait. The line that it begins on is
-/// indented by so many levels.
+/// Sends data up to the end of its last line, or has it wait. `level` is that of the line that it
+/// begins on.
 pub(crate) fn print_data<W: Sink>(
     octets: &[u8],
     level: u64,
@@ -59,7 +59,7 @@ fn print_long_data<W: Sink>(
     end_lines(level, b'>', out)
 }
 
-// Sends the lines of data between its brackets, or has them wait.
+// Sends the lines between the brackets of data, or has them wait.
 fn print_lines<W: Sink>(octets: &[u8], level: u64, out: &mut Output<W>) -> Result<(), WriteFault>
     ensures goes { Goes (octet_lines (indent level) octets.now)
         (state_of W.Sink out.old) (state_of W.Sink out.new) result }
@@ -75,7 +75,7 @@ fn print_lines<W: Sink>(octets: &[u8], level: u64, out: &mut Output<W>) -> Resul
     Ok(())
 }
 
-// The line of the first octets. It answers those behind them.
+// Puts the line of the first octets, and returns the octets after them.
 fn put_front<'a>(out: &mut Vec<u8>, level: u64, octets: &'a [u8]) -> Result<&'a [u8], AllocError>
     requires { 0 < length octets.now }
     ensures octets { IfOk result (λ left. Puts out.old.items out.new.items

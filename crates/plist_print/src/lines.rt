@@ -22,11 +22,11 @@ use std::alloc::AllocError;
 /// So many octets go out at once.
 const PIECE: usize = 4096;
 
-/// A text of so many units goes into a piece whole.
+/// Texts of at most this many units are put into a piece whole.
 pub(crate) const SHORT: usize = 256;
 
-/// Sends a scalar up to the end of its last line, or has it wait. The line that it begins on is
-/// indented by so many levels. No piece is much longer than 4,096 octets.
+/// Sends a scalar up to the end of its last line, or has it wait. `level` is that of the line that
+/// it begins on. No piece is much longer than 4,096 octets.
 ///
 /// # Errors
 ///

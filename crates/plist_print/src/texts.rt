@@ -5,8 +5,7 @@ ghost use Rattle.std.specs.Char.{encode_utf8};
 ghost use Rattle.plist_value.specs.Texts.{units_of};
 ghost use Rattle.plist_value.specs.Digits.{two_digits};
 ghost use Rattle.plist_print.specs.Shown.{Puts};
-ghost use Rattle.plist_print.specs.Units.{printed_text, printed_unit};
-ghost use Rattle.plist_print.specs.Units.{printed_units};
+ghost use Rattle.plist_print.specs.Units.{printed_text, printed_unit, printed_units};
 
 use crate::unseen::{seen_pair, seen_unit};
 use plist_value::{TextRef, digits_of};
@@ -25,25 +24,9 @@ pub(crate) fn put_text(out: &mut Vec<u8>, text: &TextRef) -> Result<(), AllocErr
 fn put_units(out: &mut Vec<u8>, text: &TextRef) -> Result<(), AllocError>
     ensures { OnOk result (out.new.items ≡ out.old.items ++ printed_units (units_of text.now)) }
 {
-    match text.octets() {
-        Some(octets) if are_plain(octets) => out.extend_from_slice(octets),
-        _ => put_each(out, text),
-    }
-}
-
-// The same, unit by unit.
-fn put_each(out: &mut Vec<u8>, text: &TextRef) -> Result<(), AllocError>
-    ensures { OnOk result (out.new.items ≡ out.old.items ++ printed_units (units_of text.now)) }
-{
     let mut place = 0;
     while place < text.len() {
-        let unit = text.unit(place);
-        if unit < 0x7f && is_plain(unit as u8) {
-            out.push(unit as u8)?;
-            place += 1;
-        } else {
-            place = put_unit(out, text, place)?;
-        }
+        place = put_some(out, text, place)?;
     }
     Ok(())
 }
@@ -71,10 +54,10 @@ pub(crate) fn put_some(out: &mut Vec<u8>, text: &TextRef, place: usize) -> Resul
     Ok(place + run)
 }
 
-// So many octets of a run are printed at once.
+// The most octets of a run that are printed at once.
 const RUN: usize = 4096;
 
-// How many octets at the front are printed as they are, up to `RUN`.
+// Returns how many octets at the front are printed as they are, at most `RUN`.
 fn plain_length(octets: &[u8]) -> usize
     ensures within { result ≤ length octets.now }
     ensures same { printed_units octets.now
@@ -86,18 +69,6 @@ fn plain_length(octets: &[u8]) -> usize
         length += 1;
     }
     length
-}
-
-// Whether all octets, as units, are printed as they are. It looks at all of them, many at a time.
-fn are_plain(octets: &[u8]) -> bool
-    ensures { IsTrue result → (units : List ℕ)
-        → printed_units (octets.now ++ units) ≡ octets.now ++ printed_units units }
-{
-    let mut plain = true;
-    for octet in octets {
-        plain &= is_plain(*octet);
-    }
-    plain
 }
 
 // Whether the octet, as a unit, is printed as it is.
@@ -138,7 +109,7 @@ fn put_unit(out: &mut Vec<u8>, text: &TextRef, place: usize) -> Result<usize, Al
 }
 
 // A unit that is in no pair.
-#[tactic(auto, unfolding(crate::specs::Units::printed_unit))]
+#[tactic(auto, using(crate::proofs::Plain::ascii_shown), unfolding(crate::specs::Units::printed_unit))]
 fn put_single(out: &mut Vec<u8>, unit: u16) -> Result<(), AllocError>
     ensures { OnOk result (out.new.items ≡ out.old.items ++ printed_unit unit) }
 {
@@ -148,13 +119,14 @@ fn put_single(out: &mut Vec<u8>, unit: u16) -> Result<(), AllocError>
         0x0a => out.extend_from_slice(b"\\n"),
         0x09 => out.extend_from_slice(b"\\t"),
         0x0d => out.extend_from_slice(b"\\r"),
-        _ => put_plain(out, unit),
+        0x20..=0x7e => Ok(out.push(unit as u8)?),
+        _ => put_other(out, unit),
     }
 }
 
 // A unit that no escape of one letter stands for.
 #[tactic(auto, unfolding(crate::specs::Units::printed_unit))]
-fn put_plain(out: &mut Vec<u8>, unit: u16) -> Result<(), AllocError>
+fn put_other(out: &mut Vec<u8>, unit: u16) -> Result<(), AllocError>
     requires quote { (unit == 34) ≡ false }
     requires backslash { (unit == 92) ≡ false }
     requires newline { (unit == 10) ≡ false }

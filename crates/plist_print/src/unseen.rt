@@ -57,7 +57,8 @@ fn is_unseen(character: char) -> bool
     character != ' ' && (is_blank(character) || is_default_ignorable_code_point(character))
 }
 
-// Returns whether the character is a blank, a separator, a control or a format character.
+// Returns whether the character is a blank, a separator, a control or a format character: Zs, Zl,
+// Zp, Cc or Cf.
 fn is_blank(character: char) -> bool
     ensures { result ≡ is_blank (general_category character) }
 {
