@@ -1,4 +1,4 @@
--- What a draft has for the tokens that were read, from its parts.
+-- What a draft contains for the tokens read, built from its parts.
 use Rattle.std.proofs.Common.{◌≡◌, ℕ, List, [], ◌∷◌, ◌++◌, length, refl, sym, ap, subst, ◌∙◌, arith, length-append}
 use Rattle.std.specs.List.{zip}
 use Rattle.plist_value.specs.Plist.{text, bytes, Items, no_items, item, Pairs, no_pairs, pair, IsPlist, AreItems, ArePairs}
@@ -23,11 +23,10 @@ more-even keys values k v e g even =
     let high = length-append values (v ∷ []) in
     omega (arith, ap length e, ap length g)
 
--- behind whatever tokens the first cursor stands, the second stands behind one more
+-- the second cursor is one token after the first
 abbrev pub StepsBy : List ℕ → Cursor → Placed → Cursor → Type 0
 StepsBy octets old token new = (all : List Placed) → StandsBehind octets all old → StandsBehind octets (all ++ token ∷ []) new
 
--- values
 pub drafts-text : {octets : List ℕ} {old new : List Held} {cursor : Cursor} (tokens : List Placed) (first : Placed) (units : List ℕ) (number : ℕ) → first.lexeme ≡ string units
     → StandsBehind octets (tokens ++ first ∷ []) cursor → Puts old new (holds_scalar (text units)) number → DraftsValue octets tokens first.lexeme number new cursor
 drafts-text {octets} {cursor = cursor} tokens first units number e h put = λ f holds v valid s.
@@ -55,7 +54,6 @@ drafts-table {octets} {cursor} old new tokens first keys values number e d put =
     (table-read tokens first e (d f (holds-old old new put.kept holds) turn.rows (turned-rows turn.same are) turn.spell)
     (record { same = turn.same; ascending = pairs-ascend t.pairs are }))
 
--- items
 no-items : (f : List ℕ) (vs : Items) → SpellItems f [] vs → vs ≡ no_items
 no-items f no_items s = refl
 no-items f (item v vs) s = absurd s
@@ -89,7 +87,6 @@ module _ {octets : List ℕ} {tokens : List Placed} {begin first_read value_read
       let v = value r.reads.all (steps r.reads.all r.reads.has) f holds l.last are.1 l.spell_last in
       subst (λ x. ReadsItems octets tokens (paren_close ∷ []) x after) (sym l.is) (last_item-read r v token e (behind v.reads.all v.reads.has))
 
--- a row
 pub drafts-ended : {octets : List ℕ} {mid after : Cursor} (helds : List Held) (tokens : List Placed) (first : Placed) (number : ℕ) (token : Placed) → token.lexeme ≡ semicolon
     → DraftsValue octets tokens first.lexeme number helds mid → StepsBy octets mid token after → DraftsEnded octets tokens number helds after
 drafts-ended helds tokens first number token e d step = λ f holds v valid s. let r = d f holds v valid s in ended-read tokens first r token e (step r.reads.all r.reads.has)
@@ -109,7 +106,6 @@ drafts-alone {octets} {after} old new tokens at token units number l e h put = �
     subst (λ x. ReadsRow octets tokens x v after) (sym (key-spelled f number units key there k))
     (subst (λ x. ReadsRow octets tokens units x after) (sym (scalar-spelled f number (text units) v there s)) (alone-read tokens at token units l e h))
 
--- rows
 no-pairs : (f : List ℕ) (rows : Pairs) → SpellPairs f [] rows → rows ≡ no_pairs
 no-pairs f no_pairs s = refl
 no-pairs f (pair key v rows) s = absurd s
@@ -142,7 +138,7 @@ module _ {octets : List ℕ} {tokens : List Placed} {begin key_read after : Curs
       let w = reads r.reads.all (steps r.reads.all r.reads.has) f holds l.key l.last are.0 l.spell_key l.spell_last in
       subst (λ x. ReadsRows octets tokens [] x after) (sym l.is) (row-more-read r w are.1)
 
--- whole texts
+-- complete texts
 pub value-drafts : {octets : List ℕ} {first : Lexeme} {cursor : Cursor} (helds : List Held) (number : ℕ) → DraftsValue octets [] first number helds cursor
     → ((all : List Placed) → StandsBehind octets all cursor → HasTokens octets all) → DraftsText octets number helds
 value-drafts helds number d ends = λ f holds v valid s.

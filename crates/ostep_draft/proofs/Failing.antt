@@ -1,4 +1,4 @@
--- What it says of the octets that there is no draft.
+-- What it means for the bytes if there is no draft.
 use Rattle.std.proofs.Common.{◌≡◌, ◌∙◌, ap, sym, List, ℕ, Result, Ok, Err, IfErr}
 use Rattle.std.specs.Result.{IsErrAnd}
 use Rattle.ostep_lex.specs.declared.fault.LexFault.{LexFault}
@@ -8,7 +8,7 @@ use Rattle.ostep_draft.specs.Failure.{of_tokens}
 use Rattle.ostep_draft.specs.declared.failure.NoDraft.{NoDraft}
 use Rattle.ostep_draft.specs.declared.failure.NoDraft.TheVariants.{NoValue, OutOfMemory}
 
--- tokens that have a fault are none, unless memory ran out
+-- faulty tokens are no tokens, unless memory ran out
 pub no-tokens : {A : Type 0} (octets : List ℕ) (fault : LexFault) (result : Result A NoDraft) → IsErrAnd result (λ why. why ≡ of_tokens fault)
     → UnlessMemory (λ f. HasNoTokens octets) fault → IfErr result (λ why. why ≡ NoValue → HasNoTokens octets)
 no-tokens octets fault (Ok found) is none = tt

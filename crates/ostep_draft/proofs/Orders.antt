@@ -1,4 +1,4 @@
--- A table's rows in the order of the text: the same pairs, each with a key of its own.
+-- The rows of a dictionary in the order of the text: the same entries, without duplicate keys.
 use Rattle.std.proofs.Common.{◌≡◌, ℕ, zero, suc, ◌<◌, false, List, [], ◌∷◌, length, get_or, set, refl, sym, subst, ◌∙◌, arith}
 use Rattle.std.specs.Prelude.{nat_eq}
 use Rattle.std.specs.List.{swap, zip}
@@ -21,7 +21,7 @@ data Moves {X : Type 0} : List X → List X → Type 0 where
   flip : {x y : X} {xs : List X} → Moves (x ∷ y ∷ xs) (y ∷ x ∷ xs)
   then : {xs ys zs : List X} → Moves xs ys → Moves ys zs → Moves xs zs
 
--- the first element and one behind it
+-- swaps the first element with a later one
 first-moves : {X : Type 0} (x : X) (xs : List X) (j : ℕ) (d : X) → j < length xs → Moves (x ∷ xs) (get_or xs j d ∷ set xs j x)
 first-moves x [] j d h = absurd (omega arith)
 first-moves x (y ∷ ys) zero d h = flip
@@ -40,7 +40,7 @@ swap-moves (x ∷ xs) (suc i) (suc j) h k =
 moves : {X : Type 0} (xs ys : List X) → IsPermutation xs ys → Moves xs ys
 moves xs ys p = IsPermutation-keeps xs (λ l. Moves xs l) still (λ l i j h k m. then m (swap-moves l i j h k)) ys p
 
--- pairs of the references, with those that are given in some order
+-- entries in the order of the references, which are the given ones in some order
 record Turned (f : List ℕ) (refs : List (ℕ × ℕ)) (ps : Pairs) : Type 0 where
   rows : Pairs
   spell : SpellPairs f refs rows
@@ -63,7 +63,7 @@ turn flip (pair key v (pair next w rows)) s (row (row r t) among) =
     let e = exchange t among in
     record { rows = pair next w (pair key v rows); spell = (s.2.0, s.2.1, (s.0, s.1, s.2.2)); same = row (row r e.outer) e.inner }
 
--- rows of a table, in the order of its references
+-- rows of a dictionary, in the order of its references
 pub record InTurn (f keys values : List ℕ) (ps : Pairs) : Type 0 where
   pub rows : Pairs
   pub spell : SpellPairs f (zip keys values) rows
@@ -74,7 +74,7 @@ in-turn f keys values refs ps p s =
     let t = turn (moves refs (zip keys values) (IsPermutation-sym (zip keys values) refs p)) ps s (turn-same ps) in
     record { rows = t.rows; spell = t.spell; same = t.same }
 
--- a key that all lack is not that of one among them, and the others lack it
+-- if no row has a key, then neither one of the rows nor the others have it
 among-head : {key : List ℕ} {v : Plist} {others all : Pairs} (next : List ℕ) → StandsAmong key v others all → has_key next all ≡ false → pointwise nat_eq next key ≡ false
 among-head {key} {v} {others} next first e = has_key-head next key v others e
 among-head next (later {next = n} {w = w} {all = all} s) e = among-head next s (has_key-tail next n w all e)
@@ -100,7 +100,7 @@ pairs-rows : (ps : Pairs) → ArePairs ps → AreRows ps
 pairs-rows no_pairs a = tt
 pairs-rows (pair key v ps) a = (a.1, low_key key ps a.2 (pairs-ascend ps a.3), pairs-rows ps a.3)
 
--- in the order of the text they are rows
+-- rows in the order of the text have no duplicate keys
 pub turned-rows : {rows ps : Pairs} → AreReordered rows ps → ArePairs ps → AreRows rows
 turned-rows {ps = ps} r a = reordered-rows r (pairs-rows ps a)
 

@@ -1,4 +1,4 @@
--- What a file spells by the objects of a draft.
+-- What a file encodes with the objects of a draft.
 use Rattle.std.proofs.Common.{◌≡◌, ℕ, List, [], ◌∷◌, ◌++◌, length, refl, ap, subst, ◌∙◌, arith, length-append}
 use Rattle.std.specs.List.{zip}
 use Rattle.std.specs.List.Sorted.{IsPermutation}
@@ -12,7 +12,7 @@ use Rattle.ostep_text.proofs.PhraseSteps.{push_row}
 use Rattle.plist_value.proofs.Items.{push}
 use Rattle.ostep_draft.specs.Held.{AllRemain, HoldsAll, Puts}
 
--- an object that was put
+-- an appended object
 pub puts : (old new : List Held) (held : Held) (number : ℕ) → new ≡ old ++ held ∷ [] → number ≡ length old → Puts old new held number
 puts old new held number e n =
     let long = ap length e ∙ length-append old (held ∷ []) in
@@ -22,11 +22,11 @@ puts old new held number e n =
       kept = λ i other t. rw e (Tells-append old (held ∷ []) i other t);
     }
 
--- a file that holds the new objects holds the old ones
+-- a file that contains the new objects contains the old ones
 pub holds-old : {f : List ℕ} (old new : List Held) → AllRemain old new → HoldsAll f new → HoldsAll f old
 holds-old old new r h = λ i held t. h i held (r i held t)
 
--- by what the object holds
+-- what a scalar object encodes
 pub scalar-spelled : (f : List ℕ) (i : ℕ) (s : Scalar) (v : Plist) → Holds f i (holds_scalar s) → Spells f i v → v ≡ scalar s
 scalar-spelled f i s (scalar t) h k = let e = same_held f i (holds_scalar t) (holds_scalar s) k h in cc e
 scalar-spelled f i s (list vs) h k = absurd (let e = same_held f i (holds_list k.0) (holds_scalar s) k.1.0 h in cc e)
@@ -69,7 +69,6 @@ table-spelled f i keys values (table ps) h k =
 pub key-spelled : (f : List ℕ) (i : ℕ) (units key : List ℕ) → Holds f i (holds_scalar (text units)) → Holds f i (holds_scalar (text key)) → key ≡ units
 key-spelled f i units key h k = let e = same_held f i (holds_scalar (text key)) (holds_scalar (text units)) k h in cc e
 
--- the last item
 pub record LastItem (f refs : List ℕ) (number : ℕ) (vs : Items) : Type 0 where
   pub before : Items
   pub last : Plist
@@ -90,7 +89,6 @@ pub push-items : (vs : Items) (v : Plist) → AreItems (push vs v) → AreItems 
 push-items no_items v a = (tt, a.0)
 push-items (item w vs) v a = let r = push-items vs v a.1 in ((a.0, r.0), r.1)
 
--- the last row
 pub record LastRow (f : List ℕ) (refs : List (ℕ × ℕ)) (row : ℕ × ℕ) (rows : Pairs) : Type 0 where
   pub before : Pairs
   pub key : List ℕ

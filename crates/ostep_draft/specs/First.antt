@@ -1,4 +1,4 @@
--- The token that a value or a row begins with.
+-- The first token of a value or of a row.
 use Rattle.std.specs.Prelude.{⊤}
 use Rattle.plist_value.specs.Plist.{AreUnits}
 use Rattle.plist_value.specs.Texts.{units_of}

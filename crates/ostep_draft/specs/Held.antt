@@ -1,5 +1,4 @@
--- What becomes of the objects of a draft: none changes when others are put behind it, and the file
--- holds each.
+-- The objects of a draft: none changes when others are appended, and the file contains each.
 use Rattle.std.specs.Prelude.{◌≡◌, ℕ, ◌<◌, List, length}
 use Rattle.plist_value.specs.Plist.{text}
 use Rattle.plist_object.specs.Objects.{Held, holds_scalar}
@@ -7,21 +6,21 @@ use Rattle.plist_object.specs.Places.{Holds}
 use Rattle.plist_draft.specs.Told.{Tells}
 use Rattle.ostep_lex.specs.Lexeme.{Lexeme, text as string}
 
--- each old object stands among the new ones under its number
+-- each old object is among the new ones under its number
 abbrev pub AllRemain : List Held → List Held → Type 0
 AllRemain old new = (i : ℕ) (held : Held) → Tells old i held → Tells new i held
 
--- the file holds each of the objects under its number
+-- the file contains each of the objects under its number
 abbrev pub HoldsAll : List ℕ → List Held → Type 0
 HoldsAll f helds = (i : ℕ) (held : Held) → Tells helds i held → Holds f i held
 
--- an object that holds this was put behind the others, under this number
+-- an object with this content was appended, under this number
 pub record Puts (old new : List Held) (held : Held) (number : ℕ) : Type 0 where
   pub tells : Tells new number held
   pub within : number < length new
   pub kept : AllRemain old new
 
--- the lexeme is a string, and its text was put under this number
+-- the lexeme is a string, and the string was appended under this number
 pub record PutsString (lexeme : Lexeme) (old new : List Held) (number : ℕ) : Type 0 where
   pub units : List ℕ
   pub is : lexeme ≡ string units

@@ -1,4 +1,4 @@
--- What was read of a text, up to a cursor.
+-- The values of a text that was read up to a cursor.
 use Rattle.std.specs.Prelude.{◌≡◌, ℕ, false, List, ⊤}
 use Rattle.plist_value.specs.Plist.{Plist, Items, Pairs, no_pairs, pair, IsPlist}
 use Rattle.ostep_lex.specs.Lexeme.{Lexeme, Placed}
@@ -10,7 +10,7 @@ use Rattle.ostep_text.specs.Read
 use Rattle.ostep_text.specs.Sorting.{has_key}
 use Rattle.ostep_text.specs.Text.{lexemes}
 
--- what was read of the input up to the cursor
+-- the part of the input up to the cursor
 abbrev pub ReadsValue : List ℕ → List Placed → Lexeme → Plist → Cursor → Type 0
 ReadsValue octets tokens first v cursor = Read.ReadsValue (λ all. StandsBehind octets all cursor) tokens first v
 
@@ -32,7 +32,7 @@ pub record Says (octets : List ℕ) (v : Plist) : Type 0 where
   pub has : HasTokens octets tokens
   pub phrase : TopPhrase (lexemes tokens) v
 
--- rows of property lists, each with a key of its own
+-- rows of property lists without duplicate keys
 abbrev pub AreRows : Pairs → Type 0
 AreRows no_pairs = ⊤
 AreRows (pair key v rows) = IsPlist v × (has_key key rows ≡ false) × AreRows rows

@@ -1,4 +1,4 @@
-//! Whole texts.
+//! Complete texts.
 ghost use Rattle.std.specs.Prelude.{IfOk};
 ghost use Rattle.plist_value.specs.Plist.{Plist};
 ghost use Rattle.plist_object.specs.Spelled.{IsBinary};
@@ -11,18 +11,18 @@ use ostep_lex::open;
 use plist_draft::Draft;
 use std::alloc::Global;
 
-/// A binary file of what the text says: a property list within the limits that the file spells is
-/// the one that the text says. The text is UTF-8, or UTF-16 of either order behind its mark; at the
-/// top the braces of a table may be missing, and a text without tokens is the empty table.
+/// Converts a text to a binary file. If the file encodes a property list within the limits, it is
+/// the one that the text encodes. The text is UTF-8, or UTF-16 of either byte order after a byte
+/// order mark. At the top the braces of a dictionary may be missing, and a text without tokens is
+/// the empty dictionary.
 ///
-/// In the file a table may have a key twice, and there may be more nodes or payload than the limits
-/// allow: it is to be judged before it is used.
+/// A dictionary in the file may have duplicate keys, and the nodes or the payload may exceed the
+/// limits: validate the file before you use it.
 ///
 /// # Errors
 ///
-/// [`NoDraft::NoValue`] for octets that are no text, and for values deeper than `MAX_DEPTH`;
-/// `ostep_text::read_text` tells which it is, and where. [`NoDraft::OutOfMemory`] for want of
-/// memory, at any step.
+/// [`NoDraft::NoValue`] if the bytes are not a text or a value is deeper than `MAX_DEPTH`;
+/// `ostep_text::read_text` says which, and where. [`NoDraft::OutOfMemory`] at any step.
 pub fn draft_text(alloc: Global, octets: &[u8]) -> Result<Vec<u8>, NoDraft>
     ensures { IfOk result (λ file. (v : Plist) → IsBinary file.items v → IsText octets.now v) }
 {

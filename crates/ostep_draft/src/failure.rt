@@ -6,13 +6,13 @@ ghost use Rattle.ostep_draft.specs.declared.failure.NoDraft.TheVariants.{OutOfMe
 use ostep_lex::LexFault;
 use std::alloc::{AllocError, AllocFailed};
 
-/// Why there is no draft of some octets.
+/// Why there is no draft.
 #[derive(Clone, Copy, Debug)]
 pub enum NoDraft {
-    /// The reader found no value: the octets have no tokens, these are no phrase, or the value is
-    /// deeper than `MAX_DEPTH`. `ostep_text::read_text` tells which it is, and where.
+    /// The bytes are not a text, or the value is deeper than `MAX_DEPTH`. `ostep_text::read_text`
+    /// says which, and where.
     NoValue,
-    /// No memory was left.
+    /// Out of memory.
     OutOfMemory,
 }
 

@@ -1,4 +1,4 @@
-//! Tokens, as a value or a row begins with them.
+//! The first token of a value or of a row.
 ghost use Rattle.std.specs.Prelude.{◌≡◌};
 ghost use Rattle.std.specs.Bool.{OnTrue};
 ghost use Rattle.ostep_lex.specs.Lexeme.{paren_close, brace_close};
@@ -7,7 +7,7 @@ ghost use Rattle.ostep_draft.specs.First.{first_lexeme};
 use ostep_lex::{Token, TokenKind};
 use plist_value::TextRef;
 
-// A token: the text of a string that was read where it stands, or any token.
+// Either a string borrowed from the input, or any token.
 #[derive(Drop)]
 pub(crate) enum First<'a> {
     Plain(TextRef<'a>),
@@ -15,7 +15,7 @@ pub(crate) enum First<'a> {
 }
 
 impl<'a> First<'a> {
-    // Whether it is the parenthesis that ends a list.
+    // Returns whether it is the parenthesis that ends an array.
     #[inline(always)]
     pub(crate) fn ends_list(&self) -> bool
         ensures { OnTrue result (first_lexeme self.now ≡ paren_close) }
@@ -26,7 +26,7 @@ impl<'a> First<'a> {
         }
     }
 
-    // Whether it is the brace that ends a table.
+    // Returns whether it is the brace that ends a dictionary.
     #[inline(always)]
     pub(crate) fn ends_table(&self) -> bool
         ensures { OnTrue result (first_lexeme self.now ≡ brace_close) }

@@ -1,8 +1,8 @@
-//! OpenStep texts, read straight into binary files.
+//! Converts OpenStep texts directly to binary files.
 //!
-//! No tree of values is built, no limit of a value is tested and no duplicate key is looked for:
-//! the binary file is to be judged before it is used (`plist_binary::judge`). What is proved is
-//! that a property list within the limits that the file spells is the one that the text says.
+//! Builds no tree of values, checks no limit of values and finds no duplicate keys: the binary file
+//! has to be validated before it is used (`plist_binary::judge`). It is proved that a property list
+//! within the limits that the file encodes is the one that the text encodes.
 #![tactic(auto)]
 
 pub mod draft;

@@ -1,4 +1,4 @@
-//! The draft that grows as the tokens of a text are read.
+//! Appends the values of a text to a draft while the tokens are read.
 ghost use Rattle.std.specs.Prelude.{◌≡◌, ◌≤◌, ◌<◌, ◌∷◌, ◌++◌, [], ℕ, List, length, IfOk, IfErr};
 ghost use Rattle.std.specs.Result.{OnOk};
 ghost use Rattle.plist_value.specs.Plist.{text as one_text, bytes, AreUnits};
@@ -22,10 +22,10 @@ use plist_draft::Draft;
 use plist_value::{MAX_DEPTH, ScalarRef, TextRef};
 use std::alloc::Global;
 
-// How many levels deep what lies in a table without braces may be.
+// The depth allowed for the values in a dictionary without braces.
 const BARE_LEVELS: u64 = MAX_DEPTH - 1;
 
-// The tokens that are to be read of an input, and what was put for those before.
+// The remaining tokens of an input, and the draft of those before.
 #[derive(Drop)]
 pub(crate) struct Reader<'a> {
     pub(crate) alloc: Global,
@@ -34,7 +34,7 @@ pub(crate) struct Reader<'a> {
 }
 
 impl<'a> Reader<'a> {
-    // Puts the value of the whole text, and answers its number.
+    // Appends the value of the complete text and returns its number.
     pub(crate) fn text(&mut self) -> Result<u32, NoDraft>
         ensures within { IfOk result (λ top. top < length (objects self.new.draft)) }
         ensures read { (octets : List ℕ) → StandsBehind octets [] self.old.tokens.cursor
@@ -47,7 +47,7 @@ impl<'a> Reader<'a> {
         }
     }
 
-    // Puts the value that is the whole text, and answers its number.
+    // Reads a text that is one value, and returns its number.
     fn whole_value(&mut self) -> Result<u32, NoDraft>
         ensures within { IfOk result (λ top. top < length (objects self.new.draft)) }
         ensures read { (octets : List ℕ) → StandsBehind octets [] self.old.tokens.cursor
@@ -61,7 +61,7 @@ impl<'a> Reader<'a> {
         Ok(top)
     }
 
-    // Puts the table without braces that is the whole text, and answers its number.
+    // Reads a text that is a dictionary without braces, and returns its number.
     fn bare_table(&mut self) -> Result<u32, NoDraft>
         ensures within { IfOk result (λ top. top < length (objects self.new.draft)) }
         ensures read { (octets : List ℕ) → StandsBehind octets [] self.old.tokens.cursor
@@ -75,7 +75,8 @@ impl<'a> Reader<'a> {
         self.put_table(&rows)
     }
 
-    // Puts the value that begins with the token, of at most so many levels, and answers its number.
+    // Appends the value that begins with this token and returns its number. `levels` is the depth
+    // allowed.
     #[cycle(value)]
     #[inline(always)]
     fn value(&mut self, first: First<'_>, levels: u64) -> Result<u32, NoDraft>
@@ -99,8 +100,8 @@ impl<'a> Reader<'a> {
         }
     }
 
-    // Puts the value that begins with the token, and answers its number; what lies in the value may
-    // have so many levels.
+    // Appends the value that begins with this token and returns its number. `levels` is the depth
+    // allowed inside the value.
     #[cycle(value)]
     fn token_value(&mut self, first: Token, levels: u64) -> Result<u32, NoDraft>
         ensures shorter { OnOk result
@@ -128,7 +129,7 @@ impl<'a> Reader<'a> {
         }
     }
 
-    // Puts the items of a list, behind its parenthesis, and reads the parenthesis that ends it.
+    // Appends the items of an array, after its `(`, and reads the `)` at its end.
     #[cycle(value)]
     fn items(&mut self, levels: u64) -> Result<Vec<u32>, NoDraft>
         ensures shorter { OnOk result
@@ -156,7 +157,7 @@ impl<'a> Reader<'a> {
         }
     }
 
-    // Puts the rows of a table, behind its brace, and reads the brace that ends it.
+    // Appends the rows of a dictionary, after its `{`, and reads the `}` at its end.
     #[cycle(value)]
     fn rows(&mut self, levels: u64) -> Result<Rows, NoDraft>
         ensures shorter { OnOk result
@@ -180,8 +181,8 @@ impl<'a> Reader<'a> {
         }
     }
 
-    // Puts a row, behind its key, which is to be a string, and answers the numbers of its key and
-    // of its value.
+    // Appends the row that begins with this key and returns the numbers of the key and the value.
+    // Fails if the key is no string.
     #[cycle(value)]
     fn row(&mut self, key: First<'_>, levels: u64) -> Result<(u32, u32), NoDraft>
         requires { IsValid key }
@@ -206,7 +207,7 @@ impl<'a> Reader<'a> {
         }
     }
 
-    // Puts the value of a row, behind its `=`, and reads the `;` behind it.
+    // Appends the value of a row, after its `=`, and reads the `;` after it.
     #[cycle(value)]
     fn row_value(&mut self, levels: u64) -> Result<u32, NoDraft>
         ensures shorter { OnOk result
@@ -226,7 +227,7 @@ impl<'a> Reader<'a> {
         }
     }
 
-    // Puts a text, and answers its number.
+    // Appends a string or finds an equal one, and returns its number.
     fn put_text(&mut self, text: TextRef<'_>) -> Result<u32, NoDraft>
         requires { AreUnits (units_of text) }
         ensures put { IfOk result (Puts (objects self.old.draft) (objects self.new.draft)
@@ -238,7 +239,7 @@ impl<'a> Reader<'a> {
         Ok(self.draft.share_scalar(&scalar)?)
     }
 
-    // Puts the text of a string as a key, and answers its number.
+    // Appends the string of a key and returns its number. Fails if the token is no string.
     #[inline(always)]
     fn put_key(&mut self, first: First<'_>) -> Result<u32, NoDraft>
         requires { IsValid first }
@@ -263,7 +264,7 @@ impl<'a> Reader<'a> {
         }
     }
 
-    // Puts data, and answers its number.
+    // Appends data and returns its number.
     fn put_data(&mut self, octets: &[u8]) -> Result<u32, NoDraft>
         ensures put { IfOk result (Puts (objects self.old.draft) (objects self.new.draft)
             (holds_scalar (bytes octets.now))) }
@@ -274,7 +275,6 @@ impl<'a> Reader<'a> {
         Ok(self.draft.put_scalar(&scalar)?)
     }
 
-    // Puts a list of these objects, and answers its number.
     fn put_list(&mut self, items: &[u32]) -> Result<u32, NoDraft>
         ensures put { IfOk result (Puts (objects self.old.draft) (objects self.new.draft)
             (holds_list items.now)) }
@@ -284,7 +284,6 @@ impl<'a> Reader<'a> {
         Ok(self.draft.put_list(items)?)
     }
 
-    // Puts a table of these objects, and answers its number.
     fn put_table(&mut self, rows: &Rows) -> Result<u32, NoDraft>
         requires { length rows.now.keys.items ≡ length rows.now.values.items }
         ensures put { IfOk result (Puts (objects self.old.draft) (objects self.new.draft)

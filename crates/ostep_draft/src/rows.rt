@@ -1,13 +1,13 @@
-//! The rows of a table, by the numbers of their objects.
+//! The rows of a dictionary, as numbers of objects.
 ghost use Rattle.std.specs.Prelude.{◌≡◌, ◌∷◌, ◌++◌, []};
 ghost use Rattle.std.specs.Result.{OnOk};
 
 use std::alloc::{AllocError, Global};
 
-/// For how many rows there is room as soon as there is one, so that small tables grow once.
+/// The capacity that is reserved at first, so that small dictionaries allocate once.
 const LEAST_ROOM: usize = 8;
 
-/// The keys and the values of rows, in the order of the text: key k goes with value k.
+/// The keys and the values of the rows, in the order of the text: key k belongs to value k.
 #[derive(Drop)]
 pub(crate) struct Rows {
     pub(crate) keys: Vec<u32>,
@@ -15,7 +15,6 @@ pub(crate) struct Rows {
 }
 
 impl Rows {
-    /// No rows.
     pub(crate) fn new(alloc: Global) -> Rows
         ensures keys { result.keys.items ≡ [] }
         ensures values { result.values.items ≡ [] }
@@ -26,7 +25,7 @@ impl Rows {
         }
     }
 
-    /// A row more, its key and its value.
+    /// Appends a row, which is a key and its value.
     pub(crate) fn push(&mut self, row: (u32, u32)) -> Result<(), AllocError>
         ensures keys { OnOk result (self.new.keys.items ≡ self.old.keys.items ++ row.0 ∷ []) }
         ensures values { OnOk result

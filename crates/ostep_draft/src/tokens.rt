@@ -1,4 +1,4 @@
-//! The tokens of a text, one after another.
+//! Reads the tokens of a text one after another.
 ghost use Rattle.std.specs.Prelude.{◌≡◌, ◌<◌, ◌∷◌, ◌++◌, [], ℕ, List, length};
 ghost use Rattle.std.specs.Prelude.{MatchOption, IfNone, IfSome, IfOk, IfErr};
 ghost use Rattle.std.specs.Result.{OnOk};
@@ -13,7 +13,7 @@ use crate::first::First;
 use ostep_lex::{Cursor, Token, TokenKind, next_mark, next_plain, next_token};
 use std::alloc::Global;
 
-// The tokens of an input from a place on.
+// The remaining tokens of an input.
 #[derive(Drop)]
 pub(crate) struct Tokens<'a> {
     pub(crate) alloc: Global,
@@ -21,15 +21,14 @@ pub(crate) struct Tokens<'a> {
 }
 
 impl<'a> Tokens<'a> {
-    // The tokens from the cursor on.
     pub(crate) fn new(alloc: Global, cursor: Cursor<'a>) -> Tokens<'a>
         ensures { result.cursor ≡ cursor.entry }
     {
         Tokens { alloc, cursor }
     }
 
-    // Whether they are those of a table without braces, by their beginning: there is none, or there
-    // are a string and one token more.
+    // Returns whether the text is a dictionary without braces. It is one if it has no tokens, or a
+    // string and another token.
     pub(crate) fn is_bare(&self) -> Result<bool, NoDraft> {
         let Some((first, behind)) = next_token(self.alloc, self.cursor)? else {
             return Ok(true);
@@ -40,7 +39,7 @@ impl<'a> Tokens<'a> {
         }
     }
 
-    // The next token, or None where the text ends.
+    // Returns the next token, or `None` at the end of the text.
     pub(crate) fn next(&mut self) -> Result<Option<Token>, NoDraft>
         ensures read { (octets : List ℕ) (tokens : List Placed)
             → StandsBehind octets tokens self.old.cursor
@@ -61,7 +60,7 @@ impl<'a> Tokens<'a> {
         }
     }
 
-    // The next token, where a text may not end.
+    // Returns the next token. Fails at the end of the text.
     pub(crate) fn expect(&mut self) -> Result<Token, NoDraft>
         ensures read { (octets : List ℕ) (tokens : List Placed)
             → StandsBehind octets tokens self.old.cursor
@@ -76,7 +75,7 @@ impl<'a> Tokens<'a> {
         }
     }
 
-    // The next token, as `expect` has it, with less work where it is the mark.
+    // Like `expect`, but faster if the next token is this mark.
     #[inline(always)]
     pub(crate) fn expect_mark(&mut self, mark: char) -> Result<Token, NoDraft>
         ensures read { (octets : List ℕ) (tokens : List Placed)
@@ -95,7 +94,8 @@ impl<'a> Tokens<'a> {
         }
     }
 
-    // The next token, or None where the text ends, with less work where it is a string.
+    // Returns the next token, or `None` at the end of the text. Borrows plain strings from the
+    // input.
     #[inline(always)]
     pub(crate) fn next_first(&mut self) -> Result<Option<First<'a>>, NoDraft>
         ensures read { IfOk result (λ found. IfSome found (λ first.
@@ -117,7 +117,7 @@ impl<'a> Tokens<'a> {
         }
     }
 
-    // The next token, as `next_first` has it, where a text may not end.
+    // Like `next_first`, but fails at the end of the text.
     #[inline(always)]
     pub(crate) fn expect_first(&mut self) -> Result<First<'a>, NoDraft>
         ensures read { IfOk result (λ first.

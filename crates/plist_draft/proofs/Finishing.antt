@@ -1,4 +1,4 @@
--- The file of a draft holds what the draft's objects hold, so it spells what they spell.
+-- The file of a draft has the contents of the draft's objects, so it encodes what they encode.
 use Rattle.std.proofs.Common.{◌≡◌, ℕ, ◌+◌, ◌*◌, ◌<◌, ◌≤◌, List, [], ◌∷◌, ◌++◌, length, get_or, zero, suc, Ok, refl, sym, ap, subst, ◌∙◌, arith, length-append, append_assoc}
 use Rattle.std.specs.List.{AllByRecursion, concat}
 use Rattle.std.proofs.lemmas.List.{length-map, get_or-map}
@@ -19,7 +19,7 @@ use Rattle.plist_draft.proofs.Storing.{object_in-kept}
 use Rattle.plist_draft.proofs.Telling.{SpellsBy-told}
 use Rattle.plist_object.proofs.Readable.{what_holds-at}
 
--- an object has an octet or more
+-- an object has at least one byte
 some_octet : (held : Held) (octets : List ℕ) → object_in 4 (octets ++ []) ≡ Ok (held, []) → 1 ≤ length octets
 some_octet held [] read = absurd (cc)
 some_octet held (x ∷ octets) read = omega arith
@@ -34,13 +34,13 @@ each_some [] i all within = absurd (omega arith)
 each_some (held ∷ helds) zero all within = some_octet held (spelling_of 4 held) (object_in-kept held [] all.0)
 each_some (held ∷ helds) (suc i) all within = each_some helds i all.1 (omega arith)
 
--- who spells a value is one of the objects
+-- what encodes a value is one of the objects
 spells_within : (helds : List Held) (i : ℕ) (v : Plist) → SpellsIn helds i v → i < length helds
 spells_within helds i (scalar s) h = slice_get_within helds i _ h
 spells_within helds i (list vs) h = slice_get_within helds i _ h.1.0
 spells_within helds i (table ps) h = slice_get_within helds i _ h.1.1.1.0
 
--- a file spells what its objects spell by what they hold
+-- a file encodes what its objects encode by their contents
 mutual
   Spells-holds : (f : List ℕ) (i : ℕ) (v : Plist) → SpellsBy (Holds f) i v → Spells f i v
   Spells-holds f i (scalar s) h = h
@@ -82,7 +82,7 @@ module _ (helds : List Held) (top : ℕ) (kept : AllByRecursion IsKept helds) (c
       let at_top : Spells f top v = Spells-holds f top v (SpellsBy-told (Tells helds) (Holds f) Holds-told top v told) in
       subst (λ (i : ℕ). Spells f i v) (sym (ap (λ (x : Trailer). x.top) (trailer_of-file 4 4 top (spellings helds) can))) at_top
 
--- the parts that are put are those of the file
+-- the appended parts are those of the file
 pub file-parts : (octets places begun f : List ℕ) (top : ℕ) → Stores octets places (helds_at octets places) → begun ≡ octets ++ references 4 places → f ≡ begun ++ trailer_with 4 4 (length places) top (length octets) → f ≡ draft_file top (helds_at octets places)
 unfolding draft_file
 file-parts octets places begun f top stored entries ended =
@@ -94,7 +94,7 @@ file-parts octets places begun f top stored entries ended =
     let front : begun ≡ header ++ (body ++ references 4 (starts 8 (spellings helds))) = entries ∙ ap (λ (xs : List ℕ). xs ++ references 4 places) stored.spelled ∙ append_assoc header body (references 4 places) ∙ ap (λ (xs : List ℕ). header ++ (body ++ references 4 xs)) stored.placed in
     ended ∙ ap (λ (xs : List ℕ). begun ++ xs) tail ∙ ap (λ (xs : List ℕ). xs ++ trailer_with 4 4 (length (spellings helds)) top (8 + length body)) front ∙ sym (before_trailer header body (references 4 (starts 8 (spellings helds))) (trailer_with 4 4 (length (spellings helds)) top (8 + length body)))
 
--- the objects of a draft can stand in a file that has one of them at its top
+-- a file may consist of the objects of a draft, with one of them at its top
 can_stand : (octets places f : List ℕ) (top : ℕ) → Stores octets places (helds_at octets places) → AllUnder 4294967296 places → length f < 18446744073709551616 → f ≡ draft_file top (helds_at octets places) → top < length (helds_at octets places) → CanStand 4 4 top (spellings (helds_at octets places))
 unfolding draft_file
 can_stand octets places f top stored short long is within =
@@ -113,7 +113,7 @@ can_stand octets places f top stored short long is within =
       table_fits = omega arith;
     }
 
--- the finished octets are a binary file of what the top spells
+-- the finished bytes are a binary file of the value that the top object encodes
 pub finished : (octets places f : List ℕ) (top : ℕ) (v : Plist) → Stores octets places (helds_at octets places) → AllUnder 4294967296 places → length f < 18446744073709551616 → f ≡ draft_file top (helds_at octets places) → AreOctets f → IsPlist v → Fits v → SpellsIn (helds_at octets places) top v → IsBinary f v
 unfolding draft_file
 finished octets places f top v stored short long is in_range valid fits told =
@@ -127,7 +127,7 @@ finished octets places f top v stored short long is in_range valid fits told =
       fits = fits;
     }
 
--- they hold what the objects hold
+-- the file contains the objects of the draft
 pub shows : (octets places f : List ℕ) (top : ℕ) → Stores octets places (helds_at octets places) → AllUnder 4294967296 places → length f < 18446744073709551616 → f ≡ draft_file top (helds_at octets places) → top < length (helds_at octets places) → Shows f top (helds_at octets places)
 unfolding draft_file
 shows octets places f top stored short long is within =

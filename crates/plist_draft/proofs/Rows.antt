@@ -1,4 +1,4 @@
--- The files of worked drafts, by computing, and what one holds.
+-- Examples: the files of small drafts, by computation, and the value of one.
 use Rattle.std.proofs.Common.{◌≡◌, ℕ, List, [], ◌∷◌, ◌++◌, replicate, Ok, refl, arith}
 use Rattle.std.proofs.lemmas.List.Sorted.{IsPermutation-swap}
 use Rattle.plist_value.specs.Plist.{text}
@@ -9,8 +9,8 @@ use Rattle.plist_object.specs.Places.{octets_at, object_at, what_holds}
 use Rattle.plist_draft.specs.Stored.{draft_file}
 use Rattle.plist_draft.specs.Told.{SpellsIn}
 
--- the end of a file of fewer than 256 octets: how many objects there are, the top one, the place of
--- the offset table
+-- the end of a file of fewer than 256 bytes: the number of objects, the top object, and the offset
+-- of the offset table
 end_of : ℕ → ℕ → ℕ → List ℕ
 end_of count top place =
     replicate 6 0 ++ (4 ∷ 4 ∷ (replicate 7 0 ++ (count ∷ (replicate 7 0 ++ (top ∷ (replicate 7 0 ++ (place ∷ [])))))))
@@ -19,7 +19,7 @@ one_text : draft_file 0 (holds_scalar (text a) ∷ []) ≡ header ++ (81 ∷ 97 
 unfolding draft_file end_of
 one_text = refl
 
--- a and b, and a table that holds a under b and then b under a
+-- a, b, and a dictionary that has a under b and then b under a
 pairs : List Held
 pairs = holds_scalar (text a) ∷ holds_scalar (text b) ∷ holds_table (1 ∷ 0 ∷ []) (0 ∷ 1 ∷ []) ∷ []
 

@@ -1,4 +1,4 @@
--- What is put behind stored objects is read back with them.
+-- Objects appended to stored objects are read back with them.
 use Rattle.std.proofs.Common.{◌≡◌, ℕ, ◌+◌, List, [], ◌∷◌, ◌++◌, length, map, suc, Ok, refl, sym, ap, subst, ◌∙◌, arith, length-append, append_assoc}
 use Rattle.std.specs.List.{AllByRecursion, concat, zip}
 use Rattle.std.specs.List.Sorted.{IsPermutation}
@@ -17,12 +17,12 @@ use Rattle.plist_draft.specs.Stored.{IsKept, spellings, held_from, helds_at, Sto
 use Rattle.plist_draft.specs.Told.{Tells, Keeps, SpellsIn, SpellItemsIn, SpellPairsIn}
 use Rattle.plist_draft.proofs.Telling.{appending_keeps, Tells-last}
 
--- numbers below 2^32 fit four octets
+-- numbers below 2^32 fit into four bytes
 fit_four : (refs : List ℕ) → AllUnder 4294967296 refs → AllFit 4 refs
 fit_four [] under = tt
 fit_four (r ∷ refs) under = (under 0, fit_four refs (λ i. under (suc i)))
 
--- what a draft may hold is read back from its spelling, whatever follows it
+-- an object that a draft may contain is read back from its encoding, whatever follows it
 pub object_in-kept : (held : Held) (rest : List ℕ) → IsKept held → object_in 4 (spelling_of 4 held ++ rest) ≡ Ok (held, rest)
 object_in-kept (holds_scalar s) rest kept = object_in-scalar 4 s rest kept.0 kept.1
 object_in-kept (holds_list refs) rest kept = object_in-list 4 refs rest kept.few (fit_four refs kept.fit)
@@ -33,7 +33,7 @@ held_from-kept : (before rest : List ℕ) (held : Held) → IsKept held → held
 held_from-kept before rest held kept =
     rw (drop_at before (spelling_of 4 held ++ rest) (length before) refl, object_in-kept held rest kept) refl
 
--- objects are read back that stand one after another, behind whatever octets
+-- objects stored one after another are read back, whatever comes before them
 read_back : (before : List ℕ) (helds : List Held) → AllByRecursion IsKept helds → map (held_from (before ++ concat (spellings helds))) (starts (length before) (spellings helds)) ≡ helds
 read_back before [] kept = refl
 read_back before (held ∷ helds) kept =
@@ -73,7 +73,7 @@ stored-last octets places helds held stored kept =
       kept = AllByRecursion-last helds held stored.kept kept;
     }
 
--- one more object that holds this was put
+-- one more object with this content was appended
 pub record PutsHeld (octets places octets_after places_after : List ℕ) (held : Held) : Type 0 where
   pub stored : Stores octets_after places_after (helds_at octets_after places_after)
   pub put : helds_at octets_after places_after ≡ helds_at octets places ++ (held ∷ [])
@@ -98,8 +98,7 @@ puts_held octets places octets_after places_after held stored kept spelled place
       keeps = rw put (appending_keeps (helds_at octets places) (held ∷ []));
     }
 
--- the scalar that was put, the list of items that were told before, and the table of pairs that
--- were
+-- an appended scalar, array or dictionary encodes its value
 module _ (octets places octets_after places_after : List ℕ) (number : ℕ) (next : number ≡ length places) where
   pub spells-scalar : (s : Scalar) → PutsHeld octets places octets_after places_after (holds_scalar s) → SpellsIn (helds_at octets_after places_after) number (scalar s)
   spells-scalar s puts = rw next puts.told
@@ -111,7 +110,7 @@ module _ (octets places octets_after places_after : List ℕ) (number : ℕ) (ne
   spells-table keys values rows ps puts moved told =
       (keys, (values, (rows, (rw next puts.told, (moved, puts.keeps.pairs rows ps told)))))
 
--- nothing is stored behind the header alone
+-- the header alone contains no objects
 pub helds_at-none : (octets places : List ℕ) → places ≡ [] → helds_at octets places ≡ []
 unfolding helds_at
 helds_at-none octets places none = rw none refl
@@ -120,7 +119,7 @@ pub stores_none : (octets places : List ℕ) → octets ≡ header → places �
 stores_none octets places begun none =
     rw (helds_at-none octets places none) (record { spelled = begun; placed = none; kept = tt })
 
--- an object that begins with the spelling of a scalar holds this
+-- an object that begins with the encoding of a scalar contains this scalar
 pub held-again : (octets places : List ℕ) (number : ℕ) (s : Scalar) → IsScalar s → IsSmall s → StandsAgain octets places number (spelling_of 4 (holds_scalar s)) → Tells (helds_at octets places) number (holds_scalar s)
 unfolding helds_at
 held-again octets places number s valid small again =

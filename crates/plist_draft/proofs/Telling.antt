@@ -1,4 +1,4 @@
--- What some objects spell, others spell too that hold at least the same.
+-- Objects encode whatever objects with the same contents encode.
 use Rattle.std.proofs.Common.{◌≡◌, ℕ, ◌<◌, List, [], ◌∷◌, ◌++◌, length, get_or, Some, refl, ap, ◌∙◌, arith, length-append}
 use Rattle.std.proofs.lemmas.List.{get_or_append_left}
 use Rattle.std.proofs.lemmas.Option.{slice_get_within, get_or_from_slice_get, slice_get-get_or}
@@ -7,7 +7,7 @@ use Rattle.plist_object.specs.Objects.{Held, holds_scalar}
 use Rattle.plist_draft.specs.Told.{SpellsBy, SpellItemsBy, SpellPairsBy, Tells}
 use Rattle.plist_draft.specs.Laws.{AppendingKeeps}
 
--- what is told in one way of each object is told in another
+-- the first description of each object implies the second
 module _ (Tells_old Tells_new : ℕ → Held → Type 0) (told : (i : ℕ) (held : Held) → Tells_old i held → Tells_new i held) where
   mutual
     pub SpellsBy-told : (i : ℕ) (v : Plist) → SpellsBy Tells_old i v → SpellsBy Tells_new i v
@@ -43,7 +43,7 @@ appending_keeps helds more =
       pairs = SpellPairsBy-told (Tells helds) (Tells (helds ++ more)) told;
     }
 
--- what is appended is at the end
+-- the appended object is the last
 pub Tells-last : (helds : List Held) (held : Held) → Tells (helds ++ (held ∷ [])) (length helds) held
 Tells-last [] held = refl
 Tells-last (first ∷ helds) held = Tells-last helds held

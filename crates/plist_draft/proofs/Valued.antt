@@ -1,4 +1,4 @@
--- What the items and the pairs that are left spell, with those that are put.
+-- What the remaining items and entries encode, together with those that were appended.
 use Rattle.std.proofs.Common.{◌≡◌, ℕ, Result, Ok, Err, IfOk, List, [], ◌∷◌, ◌++◌, length, refl, sym, ap, subst, ◌∙◌, arith, append_assoc, length-append}
 use Rattle.std.specs.List.{zip}
 use Rattle.std.specs.List.Sorted.{IsPermutation}
@@ -18,7 +18,7 @@ Keeps-both first second third a b = record {
   pairs = λ rows ps h. b.pairs rows ps (a.pairs rows ps h);
 }
 
--- Once the items that are left are spelled by the numbers that are left, all are by all.
+-- If the remaining numbers encode the remaining items, then all numbers encode all items.
 pub record ItemsLeft (helds : List Held) (done : List ℕ) (left all : Items) : Type 0 where
   pub ends : (later : List Held) (rest : List ℕ) → Keeps helds later → SpellItemsIn later rest left → SpellItemsIn later (done ++ rest) all
 
@@ -42,7 +42,7 @@ zip-last [] (z ∷ zs) x y same = absurd (omega arith)
 zip-last (z ∷ zs) [] x y same = absurd (omega arith)
 zip-last (w ∷ ws) (z ∷ zs) x y same = ap (λ (rows : List (ℕ × ℕ)). (w, z) ∷ rows) (zip-last ws zs x y (omega arith))
 
--- once the pairs that are left are spelled behind those that were put, all are
+-- if the remaining numbers encode the remaining entries, then all numbers encode all entries
 pub record PairsLeft (helds : List Held) (keys values : List ℕ) (left all : Pairs) : Type 0 where
   pub same : length keys ≡ length values
   pub ends : (later : List Held) (rest : List (ℕ × ℕ)) → Keeps helds later → SpellPairsIn later rest left → SpellPairsIn later (zip keys values ++ rest) all
@@ -66,7 +66,7 @@ pairs-end helds keys values left all none begun =
     let told : SpellPairsIn helds [] left = rw none refl in
     subst (λ (rows : List (ℕ × ℕ)). SpellPairsIn helds rows all) (append-nil (zip keys values)) (begun.ends helds [] (Keeps-itself helds) told)
 
--- a table is put whose pairs are spelled in their order
+-- a dictionary of entries in order
 pub table-put : {E : Type 0} (helds after : List Held) (keys values : List ℕ) (ps : Pairs) (put : Result ℕ E) → SpellPairsIn helds (zip keys values) ps → IfOk put (λ number. (rows : List (ℕ × ℕ)) (qs : Pairs) → IsPermutation (zip keys values) rows → SpellPairsIn helds rows qs → SpellsIn after number (table qs)) → IfOk put (λ number. SpellsIn after number (table ps))
 table-put helds after keys values ps (Ok number) told spells = spells (zip keys values) ps (IsPermutation-refl (zip keys values)) told
 table-put helds after keys values ps (Err error) told spells = tt

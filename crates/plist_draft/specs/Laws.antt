@@ -1,8 +1,8 @@
--- What holds of all drafts.
+-- A law of all drafts.
 use Rattle.std.specs.Prelude.{List, ◌++◌}
 use Rattle.plist_object.specs.Objects.{Held}
 use Rattle.plist_draft.specs.Told.{Keeps}
 
--- a value that was spelled stays spelled, whatever objects are appended
+-- a value that is encoded stays encoded when objects are appended
 abbrev pub AppendingKeeps : Type 0
 AppendingKeeps = (helds more : List Held) → Keeps helds (helds ++ more)

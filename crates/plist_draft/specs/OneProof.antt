@@ -1,4 +1,4 @@
--- That octets are those of stored objects has one proof at most, so a type may keep it.
+-- There is at most one proof that bytes are those of stored objects, so a type may contain it.
 use Rattle.std.specs.Prelude.{ℕ, ℤ, List}
 use Rattle.std.specs.Coded.{×_prop, Π_prop, Unit-prop, le_prop, Coded-set, coded_list, coded_ℕ}
 use Rattle.std.specs.Int.Signed.{◌≤ℤ◌, le_z}

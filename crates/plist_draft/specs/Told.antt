@@ -1,4 +1,4 @@
--- Which values some objects spell, by what each of them holds.
+-- The values that objects encode, by the content of each object.
 use Rattle.std.specs.Prelude.{◌≡◌, ℕ, List, [], ◌∷◌, slice_get, Some}
 use Rattle.std.specs.List.{zip}
 use Rattle.std.specs.List.Sorted.{IsPermutation}
@@ -7,8 +7,8 @@ use Rattle.plist_object.specs.Layout.{trailer_of}
 use Rattle.plist_object.specs.Objects.{Held, holds_scalar, holds_list, holds_table}
 use Rattle.plist_object.specs.Places.{Holds}
 
--- The object i spells the value, where `Tells i held` says that the object i holds this. Of a table
--- it holds the pairs in any order.
+-- The object i encodes the value, if `Tells i held` means that the object i has this content. A
+-- dictionary has its entries in any order.
 abbrev mutual
   pub SpellsBy : (ℕ → Held → Type 0) → ℕ → Plist → Type 0
   SpellsBy Tells i (scalar s) = Tells i (holds_scalar s)
@@ -16,42 +16,42 @@ abbrev mutual
   SpellsBy Tells i (table ps) =
       (keys : List ℕ) × ((values : List ℕ) × ((rows : List (ℕ × ℕ)) × (Tells i (holds_table keys values) × (IsPermutation (zip keys values) rows × SpellPairsBy Tells rows ps))))
 
-  -- the references spell the items in turn
+  -- the references encode the items in order
   pub SpellItemsBy : (ℕ → Held → Type 0) → List ℕ → Items → Type 0
   SpellItemsBy Tells refs no_items = refs ≡ []
   SpellItemsBy Tells [] (item v vs) = ⊥
   SpellItemsBy Tells (i ∷ refs) (item v vs) = SpellsBy Tells i v × SpellItemsBy Tells refs vs
 
-  -- each row's references spell a key and its value, in turn
+  -- the references of each row encode a key and its value, in order
   pub SpellPairsBy : (ℕ → Held → Type 0) → List (ℕ × ℕ) → Pairs → Type 0
   SpellPairsBy Tells rows no_pairs = rows ≡ []
   SpellPairsBy Tells [] (pair key v ps) = ⊥
   SpellPairsBy Tells (row ∷ rows) (pair key v ps) =
       Tells row.0 (holds_scalar (text key)) × SpellsBy Tells row.1 v × SpellPairsBy Tells rows ps
 
--- the object i of these holds this
+-- the object i of these objects has this content
 abbrev pub Tells : List Held → ℕ → Held → Type 0
 Tells helds i held = slice_get helds i ≡ Some held
 
--- of these objects the object i spells the value
+-- among these objects, object i encodes the value
 abbrev pub SpellsIn : List Held → ℕ → Plist → Type 0
 SpellsIn helds = SpellsBy (Tells helds)
 
--- of these objects those that are referred to spell the items in turn
+-- among these objects, those that the references point to encode the items in order
 abbrev pub SpellItemsIn : List Held → List ℕ → Items → Type 0
 SpellItemsIn helds = SpellItemsBy (Tells helds)
 
--- of these objects those that are referred to spell the keys and values in turn
+-- among these objects, those that the rows point to encode the keys and values in order
 abbrev pub SpellPairsIn : List Held → List (ℕ × ℕ) → Pairs → Type 0
 SpellPairsIn helds = SpellPairsBy (Tells helds)
 
--- whatever the old objects spell, the new ones spell under the same numbers
+-- whatever the old objects encode, the new ones encode under the same numbers
 pub record Keeps (old new : List Held) : Type 0 where
   pub value : (i : ℕ) (v : Plist) → SpellsIn old i v → SpellsIn new i v
   pub items : (refs : List ℕ) (vs : Items) → SpellItemsIn old refs vs → SpellItemsIn new refs vs
   pub pairs : (rows : List (ℕ × ℕ)) (ps : Pairs) → SpellPairsIn old rows ps → SpellPairsIn new rows ps
 
--- the file holds each of the objects under its number, and has this one at its top
+-- the file contains each of the objects under its number, and this one is at its top
 pub record Shows (f : List ℕ) (top : ℕ) (helds : List Held) : Type 0 where
   pub topmost : (trailer_of f).top ≡ top
   pub holds : (i : ℕ) (held : Held) → Tells helds i held → Holds f i held

@@ -22,9 +22,9 @@ use plist_object::{HEADER, put_scalar, put_short_list, put_short_table, put_trai
 use plist_value::ScalarRef;
 use std::alloc::{AllocError, Global};
 
-/// The header of a binary file and objects behind it, each reference in four octets. Objects are
-/// numbered from 0 in the order in which they are put, so an object is put behind those that it
-/// refers to.
+/// The header of a binary file followed by objects, each reference in four bytes. Objects are
+/// numbered from 0 in the order in which they are appended, so an object follows the objects that
+/// it refers to.
 #[derive(Drop)]
 pub struct Draft {
     octets: Vec<u8>,
@@ -36,11 +36,11 @@ pub struct Draft {
 impl Draft {
     ghost use Rattle.plist_draft.specs.View.{objects};
 
-    /// A draft without objects.
+    /// Creates a draft without objects.
     ///
     /// # Errors
     ///
-    /// Where there is no memory for the header.
+    /// [`AllocError`] if out of memory.
     pub fn new(alloc: Global) -> Result<Draft, AllocError>
         ensures { IfOk result (λ draft. objects draft ≡ []) }
     {
@@ -52,12 +52,12 @@ impl Draft {
         })
     }
 
-    /// Puts a scalar behind the objects, and answers its number.
+    /// Appends a scalar and returns its number.
     ///
     /// # Errors
     ///
-    /// Where there is no memory, or where there are 2^32 objects, or octets of them, or units or
-    /// octets of the scalar. The draft is then as it was.
+    /// [`AllocError`] if out of memory. Also if there are 2^32 objects, or if the objects have 2^32
+    /// bytes, or the scalar 2^32 units or bytes. The draft is then unchanged.
     pub fn put_scalar(&mut self, scalar: &ScalarRef) -> Result<u32, AllocError>
         requires { IsScalar (content_of scalar.now) }
         ensures number { IfOk result (λ number. number ≡ length (objects self.old)) }
@@ -74,13 +74,13 @@ impl Draft {
         Ok(number)
     }
 
-    /// Puts a scalar as [`Draft::put_scalar`] does, or answers the number of an equal one that was
-    /// put before. Most scalars that are put often have one object.
+    /// Appends a scalar like [`Draft::put_scalar`], or returns the number of an equal scalar
+    /// appended before. Most scalars that are appended often have one object.
     ///
     /// # Errors
     ///
-    /// Those of [`Draft::put_scalar`], and where there is no memory for the table of scalars. The
-    /// draft is then as it was.
+    /// Fails like [`Draft::put_scalar`], or if out of memory for the table of scalars. The draft is
+    /// then unchanged.
     pub fn share_scalar(&mut self, scalar: &ScalarRef) -> Result<u32, AllocError>
         requires { IsScalar (content_of scalar.now) }
         ensures put { OnOk result ((objects self.new ≡ objects self.old) ⊎ (objects self.new
@@ -104,12 +104,12 @@ impl Draft {
         Ok(number)
     }
 
-    /// Puts a list of the objects with these numbers behind the objects, and answers its number.
+    /// Appends an array of the objects with these numbers and returns its number.
     ///
     /// # Errors
     ///
-    /// Where there is no memory, or where there are 2^32 objects, or octets of them, or items. The
-    /// draft is then as it was.
+    /// [`AllocError`] if out of memory. Also if there are 2^32 objects, or if the objects have 2^32
+    /// bytes, or the array 2^32 items. The draft is then unchanged.
     pub fn put_list(&mut self, items: &[u32]) -> Result<u32, AllocError>
         ensures number { IfOk result (λ number. number ≡ length (objects self.old)) }
         ensures put { OnOk result
@@ -127,13 +127,13 @@ impl Draft {
         Ok(number)
     }
 
-    /// Puts a table behind the objects, and answers its number. Its keys and its values are the
-    /// objects with these numbers, as many of the one as of the other: key k goes with value k.
+    /// Appends a dictionary and returns its number. Its keys and values are the objects with these
+    /// numbers: key k belongs to value k.
     ///
     /// # Errors
     ///
-    /// Where there is no memory, or where there are 2^32 objects, or octets of them, or keys. The
-    /// draft is then as it was.
+    /// [`AllocError`] if out of memory. Also if there are 2^32 objects, or if the objects have 2^32
+    /// bytes, or the dictionary 2^32 keys. The draft is then unchanged.
     pub fn put_table(&mut self, keys: &[u32], values: &[u32]) -> Result<u32, AllocError>
         requires { length keys.now ≡ length values.now }
         ensures number { IfOk result (λ number. number ≡ length (objects self.old)) }
@@ -154,11 +154,11 @@ impl Draft {
         Ok(number)
     }
 
-    /// The binary file of the objects, with this one at its top.
+    /// Returns the binary file of the objects, with object `top` at its top.
     ///
     /// # Errors
     ///
-    /// Where there is no memory for the offset table and the trailer.
+    /// [`AllocError`] if out of memory.
     pub fn finish(self, top: u32) -> Result<Vec<u8>, AllocError>
         ensures file { IfOk result (λ octets. octets.items ≡ draft_file top (objects self)) }
         ensures spells { IfOk result (λ octets. (v : Plist) → IsPlist v → Fits v
@@ -180,7 +180,7 @@ impl Draft {
         Ok(octets)
     }
 
-    // The number and the place of the next object, and room for the place.
+    // Returns the number and the offset of the next object, and reserves capacity for the offset.
     fn begin(&mut self) -> Result<(u32, u32), AllocError>
         ensures octets { self.new.octets.items ≡ self.old.octets.items }
         ensures places { self.new.places.items ≡ self.old.places.items }
@@ -195,7 +195,7 @@ impl Draft {
     }
 }
 
-// Whether there are below 2^32 references, each of which has four octets.
+// Fails unless there are fewer than 2^32 references. Each of them has four bytes by its type.
 fn are_kept(refs: &[u32]) -> Result<(), AllocError>
     ensures { IsOk result ↔ AreKept refs.now }
 {
@@ -203,7 +203,7 @@ fn are_kept(refs: &[u32]) -> Result<(), AllocError>
     Ok(())
 }
 
-// Puts the spelling of a scalar that is small behind the octets.
+// Appends the encoding of a scalar, if it is small.
 fn spell(octets: &mut Vec<u8>, scalar: &ScalarRef) -> Result<(), AllocError>
     ensures small { OnOk result (IsSmall (content_of scalar.now)) }
     ensures ok { OnOk result
@@ -214,7 +214,7 @@ fn spell(octets: &mut Vec<u8>, scalar: &ScalarRef) -> Result<(), AllocError>
     put_scalar(octets, scalar)
 }
 
-// Whether a text has below 2^32 units, and data below 2^32 octets.
+// Fails unless a string has fewer than 2^32 units, and data fewer than 2^32 bytes.
 fn is_small(scalar: &ScalarRef) -> Result<(), AllocError>
     ensures { IsOk result ↔ IsSmall (content_of scalar.now) }
 {

@@ -1,4 +1,4 @@
-//! What stands in a file behind its objects, and what their type says of octets.
+//! What follows the objects of a file, and the range of its bytes.
 ghost use Rattle.std.specs.Prelude.{◌≡◌, ◌++◌, OnOk};
 ghost use Rattle.plist_value.specs.Plist.{AllUnder, AreOctets};
 ghost use Rattle.plist_object.specs.Spelling.{references};
@@ -6,7 +6,7 @@ ghost use Rattle.plist_object.specs.Spelling.{references};
 use plist_object::put_number;
 use std::alloc::AllocError;
 
-/// The places where objects begin, in four octets each, behind the octets of `out`.
+/// Appends the offsets of the objects to `out`, in four bytes each.
 pub(crate) fn put_places(out: &mut Vec<u8>, places: &[u32]) -> Result<(), AllocError>
     ensures put { OnOk result (out.new.items ≡ out.old.items ++ references 4 places.now) }
     ensures fit { AllUnder 4294967296 places.now }
@@ -17,7 +17,8 @@ pub(crate) fn put_places(out: &mut Vec<u8>, places: &[u32]) -> Result<(), AllocE
     Ok(())
 }
 
-/// Does nothing when it runs: it carries what the type says of octets to the proofs.
+/// Does nothing at run time. It tells the proofs that bytes are below 256, which their type
+/// implies.
 pub(crate) fn are_octets(octets: &[u8])
     ensures { AreOctets octets.now }
 {}

@@ -1,5 +1,5 @@
-//! A binary file that grows object by object: each object is put once, behind those that it refers
-//! to.
+//! A binary file that grows object by object: each object is appended once, after the objects that
+//! it refers to.
 #![tactic(auto)]
 
 pub mod draft;

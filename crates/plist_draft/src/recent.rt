@@ -1,4 +1,4 @@
-//! Finds scalars that were put before.
+//! Finds scalars that were appended before.
 ghost use Rattle.std.specs.Prelude.{IfSome};
 ghost use Rattle.std.specs.Bool.{OnTrue};
 ghost use Rattle.plist_draft.specs.Stored.{StandsAgain};
@@ -7,40 +7,41 @@ use plist_value::FixedHasher;
 use std::alloc::{AllocError, Global};
 use std::hash::{BuildHasher, Hasher};
 
-/// The number of slots at first, and at most: 512 KiB of them, which a processor keeps near.
+/// The number of slots at first and at most. The largest table has 512 KiB, which fits a
+/// processor's cache.
 const LEAST: usize = 64;
 
 const MOST: usize = 65_536;
 
-/// In a slot that was never filled: no object has this number.
+/// The entry of an empty slot: no object has this number.
 const NOTHING: Entry = Entry {
     number: u32::MAX,
     hash: 0,
 };
 
-// The number of a scalar, and its hash.
+// The number of a scalar, with its hash.
 #[derive(Clone, Copy)]
 struct Entry {
     number: u32,
     hash: u32,
 }
 
-/// A table with the last scalar of each slot, which its hash gives. A scalar that was put long ago
-/// may not be found, and no scalars make a lookup slow.
+/// A table of the scalar appended last in each slot; the hash determines the slot. A scalar
+/// appended long ago may not be found, but no input makes a lookup slow.
 #[derive(Drop)]
 pub(crate) struct Recent {
     slots: Vec<Entry>,
 }
 
 impl Recent {
-    /// Makes an empty table, without slots.
+    /// Creates an empty table, without slots.
     pub(crate) fn new(alloc: Global) -> Recent {
         Recent {
             slots: Vec::new(alloc),
         }
     }
 
-    /// Empties the table and makes it larger, if there are more objects than slots.
+    /// Clears and enlarges the table if there are at least as many objects as slots.
     pub(crate) fn prepare(&mut self, objects: usize) -> Result<(), AllocError> {
         let slots = self.slots.len();
         if objects < slots || slots >= MOST {
@@ -54,7 +55,8 @@ impl Recent {
         hash as usize & self.slots.len().wrapping_sub(1)
     }
 
-    /// Returns the number of an object that is spelled so, or `None` if the table has none.
+    /// Returns the number of an object that begins with this encoding, or `None` if the table has
+    /// none.
     pub(crate) fn find(
         &self,
         hash: u32,
@@ -73,7 +75,7 @@ impl Recent {
         }
     }
 
-    /// Keeps the number of a scalar with this hash, in place of the one before in its slot.
+    /// Replaces the entry in the slot of this hash.
     pub(crate) fn keep(&mut self, hash: u32, number: u32) {
         let slot = self.slot_of(hash);
         if slot < self.slots.len() {
@@ -82,14 +84,14 @@ impl Recent {
     }
 }
 
-/// Returns the hash of a scalar that these octets tell.
+/// Returns the hash of a scalar from its encoding.
 pub(crate) fn hash_of(octets: &[u8]) -> u32 {
     let mut hasher = FixedHasher::new().build_hasher();
     hasher.write(octets);
     (hasher.finish() >> 32) as u32
 }
 
-// Returns whether the object with the number is spelled so.
+// Returns whether the object with this number begins with this encoding.
 fn stands_again(octets: &[u8], places: &[u32], number: u32, spelled: &[u8]) -> bool
     ensures { OnTrue result (StandsAgain octets.now places.now number spelled.now) }
 {

@@ -1,4 +1,4 @@
-//! Values put into a draft.
+//! Appends values to a draft.
 ghost use Rattle.std.specs.Prelude.{◌≡◌, IfOk, OnOk, length};
 ghost use Rattle.std.specs.List.{zip};
 ghost use Rattle.plist_value.specs.Plist.{AreItems, ArePairs, IsPlist, list, table};
@@ -11,13 +11,13 @@ use plist_value::{ScalarRef, TextRef, Utf16, Value};
 use std::alloc::{AllocError, Global};
 use std::collections::BTreeMap;
 
-/// Puts the value behind the objects of the draft, each list and table behind what it holds, and
-/// answers the number of its object. Equal values become objects of their own.
+/// Appends the value and returns the number of its object. Arrays and dictionaries follow their
+/// contents. Each value gets its own object, even if values are equal.
 ///
 /// # Errors
 ///
-/// Where there is no memory, or where the draft refuses one of the objects. The draft then has
-/// those that were put before, behind those that it had.
+/// [`AllocError`] if out of memory, or if the draft refuses one of the objects. Objects appended
+/// before the failure stay in the draft.
 #[cycle(values)]
 pub fn put_value(alloc: Global, draft: &mut Draft, value: &Value) -> Result<u32, AllocError>
     ensures spells { IfOk result
@@ -32,7 +32,6 @@ pub fn put_value(alloc: Global, draft: &mut Draft, value: &Value) -> Result<u32,
     }
 }
 
-// A list, behind its items.
 #[cycle(values)]
 fn put_list(alloc: Global, draft: &mut Draft, items: &Vec<Value>) -> Result<u32, AllocError>
     ensures spells { IfOk result
@@ -44,7 +43,6 @@ fn put_list(alloc: Global, draft: &mut Draft, items: &Vec<Value>) -> Result<u32,
     draft.put_list(&items)
 }
 
-// A table, behind its keys and its values.
 #[cycle(values)]
 fn put_table(
     alloc: Global,
@@ -60,7 +58,7 @@ fn put_table(
     draft.put_table(&keys, &values)
 }
 
-// The numbers of the items.
+// Appends the items and returns their numbers.
 #[cycle(values)]
 fn put_items(alloc: Global, draft: &mut Draft, items: &Vec<Value>) -> Result<Vec<u32>, AllocError>
     ensures spells { IfOk result (λ numbers.
@@ -75,7 +73,7 @@ fn put_items(alloc: Global, draft: &mut Draft, items: &Vec<Value>) -> Result<Vec
     Ok(numbers)
 }
 
-// The numbers of the keys, and those of their values.
+// Appends the entries and returns the numbers of the keys and of the values.
 #[cycle(values)]
 fn put_pairs(
     alloc: Global,

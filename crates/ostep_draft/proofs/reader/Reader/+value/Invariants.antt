@@ -6,7 +6,7 @@ use Rattle.ostep_draft.specs.Held.{AllRemain}
 use Rattle.ostep_draft.specs.Drafted.{DraftsItems, DraftsRows}
 use Rattle.ostep_draft.proofs.reader.Reader.+value.Given as goal
 
--- by the levels, with what calls before what is called
+-- the levels decrease, and each caller comes before what it calls
 abbrev pub decreases-value : goal.decreases-value
 decreases-value l = 5 * l.levels
 
@@ -31,7 +31,6 @@ decreases-items-loop-items l = length (ahead l.self.tokens.cursor)
 abbrev pub decreases-rows-loop-rows : goal.decreases-rows-loop-rows
 decreases-rows-loop-rows l = length (ahead l.self.tokens.cursor)
 
--- items so far
 abbrev pub invariant-items-loop-items : goal.invariant-items-loop-items
 invariant-items-loop-items l =
     record {
@@ -41,7 +40,6 @@ invariant-items-loop-items l =
           → DraftsItems octets tokens [] l.items.items (objects l.self.draft) l.self.tokens.cursor;
     }
 
--- rows so far
 abbrev pub invariant-rows-loop-rows : goal.invariant-rows-loop-rows
 invariant-rows-loop-rows l =
     record {

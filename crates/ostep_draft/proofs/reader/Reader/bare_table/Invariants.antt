@@ -7,7 +7,6 @@ use Rattle.ostep_draft.proofs.reader.Reader.bare_table.Given as goal
 abbrev pub decreases-loop-rows : goal.decreases-loop-rows
 decreases-loop-rows l = length (ahead l.self.tokens.cursor)
 
--- rows so far
 abbrev pub invariant-loop-rows : goal.invariant-loop-rows
 invariant-loop-rows l =
     record {
