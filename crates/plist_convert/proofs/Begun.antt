@@ -1,4 +1,4 @@
--- A run over a disk and streams that were made for it.
+-- A run on a disk and streams that were created for it.
 use Rattle.std.proofs.Common.{ℕ, ◌≡◌, List, Option, None}
 use Rattle.clap.specs.Words.{Text}
 use Rattle.plist_convert.specs.Program.{IsHostRun, IsRun}

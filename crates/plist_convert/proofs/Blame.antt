@@ -1,4 +1,4 @@
--- The program ends with 4 only where a device failed.
+-- The exit status is 4 only if a device failed.
 use Rattle.std.proofs.Common.{arith, inl, inr, sym, Err, List, None, Ok, Option, Result, Some, ℕ, ◌∙◌, ◌≡◌, ◌⊎◌}
 use Rattle.std.specs.Prelude.{◌≢◌, ◌<◌, ◌≤◌, Bool, true, false}
 use Rattle.std.proofs.lemmas.Bool.{cases_lt}
@@ -56,7 +56,7 @@ no_3 e = omega (arith, e)
 no_5 : ◌≢◌ {A = ℕ} 5 4
 no_5 e = omega (arith, e)
 
--- no refusal of octets has the status of a device
+-- no refusal of the bytes has the status of a failed device
 
 binary_quiet : (fault : BinaryFault) → status_for (fault_code fault) ≢ 4
 binary_quiet binary.TooShort = no_2
@@ -107,7 +107,7 @@ stands_quiet octets (WriteFailed sent) stands = absurd stands
 stands_quiet octets InputTooLarge stands = absurd stands
 stands_quiet octets (OutOfMemory sent) stands = no_5
 
--- no answer to octets has it
+-- no result for the bytes has the status of a failed device
 
 says_quiet : (s t : Said) → Says s t → t.status ≢ 4 → s.status ≢ 4
 says_quiet s t says quiet four = quiet (sym says.1 ∙ four)
@@ -166,7 +166,7 @@ kind_quiet kind.DisplayVersion = no_0
 kind_quiet kind.OutOfMemory = no_5
 kind_quiet _ = no_3
 
--- a line that is printed ends with it only where its own status is that, or printing failed
+-- after a printed line the status is 4 only if it is the line's own, or if printing failed
 
 failed_once : (before after : ℕ) → after ≡ one_more before → HaveFailed before after
 failed_once before after once = elim (cases_lt before 18446744073709551615) [
@@ -250,7 +250,7 @@ convert_blamed form from to before after status (inr (inl refused)) four = answe
 convert_blamed form from to before after status (inr (inr run)) four =
     stored_by from to run.file before after status run.stored.result run.stored.stored run.stored.ends four
 
--- without words
+-- no arguments
 
 unloaded_by : (input rest : Input) (before after : State) (status : ℕ) (fault : Fault) → IsInputFault input rest fault
     → Ending before after (refusal standard fault) status → status ≡ 4 → DeviceFailed input rest before after
@@ -275,7 +275,7 @@ failed_twice before middle after once more = elim (cases_lt before 1844674407370
   | inr top ↦ inr (latest before middle after once top more)
 ]
 
--- a failure of printing stands, whatever became of the line of that
+-- a failure of printing is counted, whatever happens to the line that reports it
 line_failed : (old new : Option (List ℕ)) (before middle after : ℕ) (s : Said) (status : ℕ) → middle ≡ one_more before
     → Ends old new middle after s status → HaveFailed before after
 line_failed old new before middle after s status failed (inl (inl usual)) = failed_twice before middle after failed (inl usual.2)
@@ -325,7 +325,7 @@ asked_blamed (Checks path) input rest before after status run four = inr (check_
 asked_blamed (asked.Prints path) input rest before after status run four = inr (print_blamed path before after status run.1 four)
 asked_blamed (asked.Explains what) input rest before after status run four = inr (explain_blamed what before after status run.1.1 four)
 
--- words that are refused
+-- refused arguments
 
 explains_blamed : (old new : Option (List ℕ)) (before after : ℕ) (error : ErrorKind) (status : ℕ) → Explains error old new before after status
     → status ≡ 4 → HaveFailed before after
@@ -334,7 +334,7 @@ explains_blamed old new before after error status (inl told) four =
 explains_blamed old new before after error status (inr memory) four =
     prints_blamed old new before after no_memory status no_5 memory four
 
--- 4 is the status only where a device failed
+-- the exit status is 4 only if a device failed
 pub blamed : (words : List Text) (input rest : Input) (before after : State) (status : ℕ) → IsRun words input rest before after status
     → status ≡ 4 → DeviceFailed input rest before after
 blamed words input rest before after status (inl obeyed) four = asked_blamed obeyed.it input rest before after status obeyed.done four

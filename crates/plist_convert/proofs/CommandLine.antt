@@ -1,4 +1,4 @@
--- What clap's words say of the program's command line.
+-- What the contracts of `clap` say of the program's command line.
 use Rattle.std.proofs.Common.{ℕ, ap, codes, refl, true, List, [], ◌∷◌, ◌∙◌, ◌≡◌}
 use Rattle.std.specs.Borrow.{Bor}
 use Rattle.clap.specs.Words.{App, Text, is_simple, is_simple_and_free}
@@ -19,7 +19,7 @@ program_simple a p = ap is_simple p.is ∙ simple_forms p.forms
 pub program_free : (a : App) → IsProgram a → is_simple_and_free a ≡ true
 program_free a p = ap is_simple_and_free p.is ∙ free_forms p.forms
 
--- the names of forms at these addresses
+-- the names of the forms, at these addresses
 abbrev pub forms_at : ℕ × ℕ → ℕ × ℕ → ℕ × ℕ → Bor (List (Bor Text))
 forms_at p q r = record {
   ref_ptr = p;

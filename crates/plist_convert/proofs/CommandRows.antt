@@ -1,4 +1,4 @@
--- Worked rows of the command line: what these words ask for, and the kinds of error of others.
+-- Examples of command lines: the request of some arguments, and the kinds of error of others.
 use Rattle.std.proofs.Common.{ℕ, ap, codes, map, refl, List, Option, None, Some, [], ◌∷◌, ◌∙◌, ◌≡◌}
 use Rattle.std.specs.Borrow.{Bor}
 use Rattle.clap.specs.Words.{Kinds, Text, fault_of, subcommand_of}
@@ -34,11 +34,11 @@ named_forms forms named = go forms.now refl named
         let no : x.now ∷ (y.now ∷ (z.now ∷ map (λ name. name.now) ns)) ≡ codes "binary1" ∷ (codes "openstep" ∷ []) = e in
         cc
 
--- the words are taken, and ask for this
+-- the arguments are taken, and are this request
 abbrev pub AsksFor : List Text → Asked → Type 0
 AsksFor words it = (kinds : Kinds) (asked : Option Asked) → IsParse words kinds asked → (kinds ≡ []) × (asked ≡ Some it)
 
--- the words are refused with an error of one of these kinds
+-- the arguments are refused with an error of one of these kinds
 abbrev pub FailsAs : List Text → Kinds → Type 0
 FailsAs words expected = (kinds : Kinds) (asked : Option Asked) → IsParse words kinds asked → kinds ≡ expected
 

@@ -1,4 +1,4 @@
--- From what a load and a store ensure to a conversion.
+-- Derives a conversion from the contracts of a load and a store.
 use Rattle.std.proofs.Common.{inl, inr, refl, Err, List, Ok, Option, Result, ℕ, ◌∙◌, ◌≡◌}
 use Rattle.plist_forms.specs.Fault.{write_fault_for}
 use Rattle.plist_forms.specs.Refusals.{IsRefused}
@@ -14,13 +14,13 @@ use Rattle.plist_convert.specs.Runs.{EndsSending, IsConverted, IsConvertRun, pat
 use Rattle.plist_convert.specs.State.{State}
 use Rattle.plist_convert.proofs.FilesBefore.{same_trans, stored_before}
 
--- nothing more is printed behind what was stored whole
+-- nothing is printed after everything was stored
 pub stored_whole : (from to : FileName) (sent : Result ℕ WriteFault) (n : ℕ) (printed : Option (List ℕ)) (failures : ℕ) → Ok n ≡ answer_of sent
     → EndsSending printed printed failures failures (λ fault. refusal_between from to (write_fault_for fault)) sent 0
 stored_whole from to (Ok m) n printed failures is = (refl, refl, refl)
 stored_whole from to (Err fault) n printed failures is = absurd cc
 
--- the line of what was not
+-- the line of the refusal is printed after only a prefix was stored
 pub stored_front : (from to : FileName) (sent : Result ℕ WriteFault) (fault : Fault) (old new : Option (List ℕ)) (before after status : ℕ)
     → Err fault ≡ answer_of sent → Ends old new before after (refusal_between from to fault) status
     → EndsSending old new before after (λ f. refusal_between from to (write_fault_for f)) sent status
@@ -29,7 +29,7 @@ stored_front from to (Err f) fault old new before after status is ends =
     let same : fault ≡ write_fault_for f = cc in
     rw same at ends
 
--- what is stored after a load is stored from before it
+-- a store after a load is a store from the state before the load
 store_before : (form : Form) (octets : List ℕ) (from to : FileName) (before middle after : State) (status : ℕ) (result : Result ℕ Fault)
     → Holds before.files from octets → SameFiles before.files middle.files → middle.disk_failures ≡ before.disk_failures
     → (goes : IsOutputStored form octets middle.files after.files middle.disk_failures after.disk_failures to result)
@@ -59,7 +59,7 @@ converted form octets from to before middle after n stands kept unfailed printed
     inr (inr (store_before form octets from to before middle after 0 (Ok n) stands kept unfailed goes
     (rw (printed, failures) (stored_whole from to goes.sent n before.printed before.print_failures goes.is))))
 
--- a refusal of octets is told under their own path
+-- a refusal of the bytes names their own path
 pub refused_under : (octets : List ℕ) (from to : FileName) (fault : Fault) → IsRefused octets fault
     → path_of_fault from to fault ≡ from
 refused_under octets from to (WriteFailed sent) refused = absurd refused.stands

@@ -1,4 +1,4 @@
--- What is stored in a file that is created at its first write.
+-- Storing in a file that is created at its first write.
 use Rattle.std.proofs.Common.{refl, sym, ap, inl, inr, Err, List, None, Ok, Option, Result, Some, [], ◌∷◌, ◌++◌, ℕ, ◌≡◌, ◌∙◌}
 use Rattle.std.specs.Prelude.{◌≢◌, Bool, cond, false, true}
 use Rattle.plist_object.specs.Layout.{header}
@@ -33,7 +33,7 @@ output_some Binary1 octets output of none = absurd (let is : Some (canon of.valu
 output_some OpenStep octets output of none =
     ends_some (written of.value) 10 (chosen (is_writable of.value) _ _ of.written ∙ none)
 
--- what is delivered where nothing is told
+-- what is delivered if the contents are unknown
 untold : (form : Form) (octets : List ℕ) (new : Option (List ℕ)) (result : Result ℕ Fault) → Delivers form octets None new result
     → Delivers form octets None None result
 untold form octets new result (inl unsent) = inl (record { fault = unsent.fault; is = unsent.is; cause = unsent.cause; kept = tt })
@@ -53,7 +53,7 @@ untold form octets new result (inr goes) = inr (record {
   untold_sent output new failures (Err fault) written =
       record { count = tt; whole = tt; within = written.within; front = (tt, written.front.1) }
 
--- a file that told goes on to tell
+-- contents that are known stay known
 told : (form : Form) (octets : List ℕ) (result : Result ℕ Fault) → Delivers form octets (Some []) None result → ⊥
 told form octets result (inl unsent) = unsent.kept
 told form octets result (inr goes) = told_sent goes.output goes.failures goes.sent goes.written where
@@ -92,7 +92,7 @@ kept form octets (Some old) (Some new) before after path (Some (x ∷ xs)) resul
       (sent_count goes.sent before after (rw goes.is at counts));
 })
 
--- nothing went out of an output
+-- nothing was sent of an output
 none_out : (old new : Files) (before after failures : ℕ) (path : FileName) (output : List ℕ) (sent : Result ℕ WriteFault) → output ≢ []
     → IsWritten output (Some []) (Some []) 0 failures sent → ((other : FileName) → new other ≡ old other)
     → CountsFailure before after (answer_of sent) → IsStored (Some old) (Some new) before after path output sent

@@ -1,4 +1,4 @@
--- What a device takes of an output that was gathered on its way.
+-- What a device takes of an output that is buffered on its way.
 use Rattle.std.proofs.Common.{arith, refl, sym, ap, Err, List, None, Ok, Option, Result, Some, [], ◌∷◌, ◌++◌, ℕ, ◌+◌, inl, inr, ◌∙◌, ◌≡◌, append_assoc, length-append}
 use Rattle.std.specs.Prelude.{◌≢◌, ◌<◌, ◌≤◌, ◌-◌, ◌==◌, Bool, cond, false, true, length, take, drop}
 use Rattle.std.specs.Io.KnownBytes.{Appends, Keeps}
@@ -16,7 +16,7 @@ use Rattle.plist_forms.specs.Sent.{answer_of}
 use Rattle.plist_forms.specs.Transfer.{NeedsNoMemory, Writes}
 use Rattle.plist_convert.specs.Delivery.{Delivers, Finishes, IsDelivered, IsEmpty, Leaves, reached}
 
--- the octets before those that are left
+-- the bytes before those left in the buffer
 front : (output held rest : List ℕ) (n left : ℕ) → n ≤ length output → held ++ rest ≡ take n output → length rest ≡ left
     → held ≡ take (n - left) output
 front output held rest n left within is size =
@@ -26,7 +26,7 @@ front output held rest n left within is size =
     sym (append_assoc held rest (drop n output)) ∙ ap (λ xs. xs ++ drop n output) is ∙ take-append-drop n output in
     sym (take_at held (rest ++ drop n output) (n - left) reach) ∙ ap (λ xs. take (n - left) xs) whole
 
--- the device took the octets before those that are left
+-- the device took the bytes before those left in the buffer
 pub held_front : (old taken held : Option (List ℕ)) (output : List ℕ) (n left : ℕ) → IsEmpty old → n ≤ length output
     → Appends old taken (take n output) → Leaves taken held left → Appends old held (take (n - left) output)
 held_front None taken held output n left empty within went leaves = tt
@@ -49,7 +49,7 @@ held_nothing (Some xs) taken (Some hs) left empty same leaves =
     let all : hs ++ leaves.0 ≡ xs = rw same at leaves.2 in
     nothing hs leaves.0 (all ∙ empty) ∙ sym empty
 
--- a failure of the device is no want of memory
+-- a failure of the device is not out of memory
 needs_none : (form : Form) (n : ℕ) → NeedsNoMemory form (Err (write.WriteFailed n))
 needs_none Binary1 n = tt
 needs_none OpenStep n = tt
@@ -59,7 +59,7 @@ needs_same Binary1 m n needs = tt
 needs_same OpenStep m n needs = needs
 
 module _ (form : Form) (octets : List ℕ) (old taken held : Option (List ℕ)) (left : ℕ) (empty : IsEmpty old) (leaves : Leaves taken held left) where
-  -- a refusal of octets is answered as it is
+  -- a refusal of the bytes is returned unchanged
   refusal_kept : (fault : Fault) → IsOutputFault form octets fault → reached left (Err fault) ≡ Err fault
   refusal_kept (WriteFailed sent) (inl refused) = absurd refused.stands
   refusal_kept (WriteFailed sent) (inr none) = absurd (let is = none.is in cc)
@@ -73,7 +73,8 @@ module _ (form : Form) (octets : List ℕ) (old taken held : Option (List ℕ)) 
   refusal_kept InputTooLarge cause = refl
 
   module _ (output : List ℕ) (of : IsOutput form octets output) (result : Result ℕ Fault) where
-    -- so many octets went out, and those before the last of them reached the device, which failed
+    -- n bytes were sent, but only those before the last `left` of them reached the device, which
+    -- failed
     device_failed : (n : ℕ) → n ≤ length output → n - left < length output → Appends old taken (take n output)
         → result ≡ Err (WriteFailed (n - left)) → IsDelivered form octets old held result
     device_failed n within short went is = record {
@@ -86,7 +87,7 @@ module _ (form : Form) (octets : List ℕ) (old taken held : Option (List ℕ)) 
       written = record { count = tt; whole = tt; within = short; front = (held_front old taken held output n left empty within went leaves, refl) };
     }
 
-    -- all went out
+    -- everything was sent
     all_out : (n : ℕ) → n ≡ length output → Appends old taken output → Appends old taken (take n output)
     all_out n all went = rw (take_all n output (omega arith)) went
 
@@ -138,7 +139,7 @@ module _ (form : Form) (octets : List ℕ) (old taken held : Option (List ℕ)) 
   delivered x y sent result (inr goes) is =
       inr (sent_on goes.output goes.of result x y goes.sent goes.memory goes.written (is ∙ ap (reached left) goes.is))
 
--- the same through a stream on the device
+-- likewise through a stream to the device
 pub delivered_through : (form : Form) (octets : List ℕ) (old start taken seen held : Option (List ℕ)) (x y : ℕ) (sent result : Result ℕ Fault)
     → IsEmpty old → start ≡ old → taken ≡ seen → Writes form octets start taken x y sent → Finishes seen held sent result
     → Delivers form octets old held result

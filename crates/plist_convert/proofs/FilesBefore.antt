@@ -1,4 +1,4 @@
--- What is said of the files after a load, said of the files before it.
+-- Facts about the files after a load are true of the files before it.
 use Rattle.std.proofs.Common.{subst, sym, Err, List, None, Ok, Option, Result, Some, ℕ, ◌∙◌, ◌≡◌, ◌⊎◌, inl, inr}
 use Rattle.std.specs.Prelude.{◌≢◌, ◌<◌, IfSome, length, take}
 use Rattle.plist_devices.specs.Count.{one_more}
@@ -9,7 +9,7 @@ use Rattle.plist_engine.specs.declared.faults.WriteFault.{WriteFault}
 use Rattle.plist_engine.specs.Sending.{IsBlamed, sent_of}
 use Rattle.plist_convert.specs.Files.{FileName, Files, Holds, IsStored, IsUnloaded, Lacks, SameBeside, SameFiles, Turns}
 
--- what turns from the files in between turns from those before
+-- a change from the files in between is a change from those before
 turns_before : (P Q : Files → Files → Type 0)
     → ((old mid new : Files) → ((name : FileName) → mid name ≡ old name) → P mid new → Q old new)
     → (f m n : Option Files) → SameFiles f m → Turns m n P → Turns f n Q
@@ -18,7 +18,7 @@ turns_before P Q k (Some old) None n same t = absurd same
 turns_before P Q k (Some old) (Some mid) None same t = absurd t
 turns_before P Q k (Some old) (Some mid) (Some new) same t = k old mid new same t
 
--- what holds of the files in between holds of those before
+-- what is true of the files in between is true of those before
 told_before : (P : Files → Type 0) → ((old mid : Files) → ((name : FileName) → mid name ≡ old name) → P mid → P old)
     → (f m : Option Files) → SameFiles f m → IfSome m P → IfSome f P
 told_before P k None m same t = tt

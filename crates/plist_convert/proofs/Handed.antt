@@ -1,4 +1,4 @@
--- What storing leaves at a disk that tells nothing.
+-- Storing at a disk that does not know its files.
 use Rattle.std.proofs.Common.{Err, List, None, Ok, Option, Result, ℕ, inl, inr}
 use Rattle.plist_forms.specs.declared.faults.Fault.{Fault}
 use Rattle.plist_forms.specs.declared.forms.Form.{Form}
@@ -10,7 +10,7 @@ use Rattle.plist_convert.specs.Delivery.{Delivers}
 use Rattle.plist_convert.specs.Files.{CountsFailure, FileName, Files, IsStored, Stores}
 use Rattle.plist_convert.proofs.Stored.{unstored}
 
--- what went to the file
+-- what was written to the file
 handed : (rest : Option Files) (output : List ℕ) (before after x y : ℕ) (path : FileName) (sent : Result ℕ WriteFault) → IsWritten output None None x y sent
     → CountsFailure before after (answer_of sent) → IsStored None rest before after path output sent
 handed rest output before after x y path (Ok n) written counts =
@@ -20,7 +20,7 @@ handed rest output before after x y path (Err (write.WriteFailed n)) written cou
 handed rest output before after x y path (Err (write.OutOfMemory n)) written counts =
     record { others = tt; count = tt; whole = tt; within = written.within; front = (tt, counts) }
 
--- what was delivered to a file that tells nothing
+-- what was delivered to a file whose contents are unknown
 pub handed_over : (form : Form) (octets : List ℕ) (rest : Option Files) (before after : ℕ) (path : FileName) (result : Result ℕ Fault)
     → Delivers form octets None None result → CountsFailure before after result → Stores form octets None rest before after path result
 handed_over form octets rest before after path result (inl unsent) counts =

@@ -12,7 +12,7 @@ use Rattle.plist_convert.specs.Answer.{IsCheckAnswer, said_of}
 use Rattle.plist_convert.specs.Verdicts.{verdict_status_for, verdict_text}
 use Rattle.plist_convert.specs.declared.answers.Answer.{Answer}
 
--- The line of the verdict with a line end, and its status, are what `check` answers.
+-- The line of the verdict with a line end and the exit status are the result of `check`.
 pub judged_answer : {E : Type 0} (path octets line : List ℕ) (verdict : Verdict) (status : Status) (result : Result Answer E)
     → IfOk result (λ (a : Answer). string_bytes a.text ≡ line ++ codes "\n") → IfOk result (λ (a : Answer). a.status ≡ status)
     → IsLaid octets → IsVerdict octets verdict → ((verdict ≡ Canonical) ↔ IsCanonical octets) → line ≡ verdict_text verdict

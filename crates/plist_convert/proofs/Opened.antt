@@ -1,4 +1,4 @@
--- What a load finds at a path, from what the opener and the reader ensure.
+-- What a load finds at a path, from the contracts of the opener and the reader.
 use Rattle.std.proofs.Common.{arith, refl, inl, inr, length-append, Err, List, None, Ok, Option, Result, Some, ℕ, ◌++◌, ◌≡◌, ◌∙◌}
 use Rattle.std.specs.Prelude.{◌↔◌, ◌<◌, IfErr, IfSome, IsErrOf, OnOk, length}
 use Rattle.std.specs.Io.KnownBytes.{Consumes}
@@ -10,7 +10,7 @@ use Rattle.plist_forms.specs.declared.loading.TheConstants.{MAX_INPUT}
 use Rattle.plist_convert.specs.Files.{FileName, Files, IsUnloaded}
 use Rattle.plist_convert.specs.Opens.{CountsUnread, HasFailing, IsUnfound, ReadsAll}
 
--- the file that was opened is too large
+-- the opened file is too large
 large : (files : Option Files) (path : FileName) (to_come rest : Option (List ℕ)) (taken : List ℕ) → ReadsAll files path to_come
     → Consumes to_come rest taken → MAX_INPUT < length taken
     → IfSome files (λ at. (octets : List ℕ) × ((at path ≡ Some octets) × (MAX_INPUT < length octets)))
@@ -35,7 +35,7 @@ unfound files path failures old new to_come rest (Err InputTooLarge) reads none 
 unfound files path failures old new to_come rest (Err (OutOfMemory sent)) reads none at_once takes is = is
 unfound files path failures old new to_come rest (Err _) reads none at_once takes is = absurd is
 
--- where the opener tells, no read fails
+-- no read fails if the opener knows the files
 pub steady : {R : Type 0} (files : Option Files) (failures : R → ℕ) → IfSome files (λ _. (reader : R) → failures reader ≡ 0)
     → IfSome files (λ _. HasFailing failures → ⊥)
 steady None failures none = tt

@@ -1,4 +1,4 @@
--- What a parse of the program's words says of what they ask for.
+-- The request of arguments that the program's parser takes.
 use Rattle.std.proofs.Common.{ap, inl, inr, refl, sym, Err, List, Ok, Option, None, Result, Some, [], ◌∷◌, ◌∙◌, ◌≡◌}
 use Rattle.std.specs.Prelude.{IfErr, IfOk, option_map}
 use Rattle.clap.specs.Words.{App, HasKind, HasMatchesOf, Kinds, Text, fault_of, kind_of, subcommand_of, subcommand_rows_of}
@@ -11,7 +11,7 @@ use Rattle.plist_convert.specs.Reading.{IsParse, IsReading}
 use Rattle.plist_convert.specs.declared.request.Request.{Request}
 use Rattle.plist_convert.proofs.CommandLine.{program_simple}
 
--- what the parser makes of the words
+-- the result of the parser for the arguments
 pub parse_of : (a : App) (words : List Text) → IsProgram a
     → IsParse words (fault_of a words) (asked_at (subcommand_of a words))
 parse_of a words p = record { app = a; program = p; kinds_are = refl; asked_is = refl }
@@ -21,7 +21,7 @@ only_memory kinds error none (inl memory) = memory
 only_memory [] error none (inr among) = absurd among
 only_memory (k ∷ ks) error none (inr among) = cc
 
--- the words are refused, or no memory is left
+-- the arguments are refused, or out of memory
 pub read_refused : (a : App) (words : List Text) (result : Result Request Error) → IsProgram a → IfOk result (λ _. ⊥)
     → IfErr result (λ error. HasKind (fault_of a words) error) → IsReading words result
 read_refused a words (Ok request) p failed kind = absurd failed
@@ -34,14 +34,14 @@ read_refused a words (Err error) p failed kind = record {
   nothing = λ none. inr (only_memory (fault_of a words) error none kind);
 }
 
--- what the matches of the words ask for
+-- the request of the matches of the arguments
 asked_is : (a : App) (words : List Text) (m : ArgMatches) (found : Option Request) → IsProgram a → HasMatchesOf a words m
     → option_map asked_by found ≡ asked_at (subcommand_rows_of m)
     → asked_at (subcommand_of a words) ≡ option_map asked_by found
 asked_is a words m found p matches asks =
     sym (asks ∙ ap asked_at (matches (program_simple a p)).1)
 
--- the words are taken
+-- the arguments are a request
 pub read_taken : (a : App) (words : List Text) (m : ArgMatches) (request : Request) → IsProgram a → HasMatchesOf a words m
     → fault_of a words ≡ [] → option_map asked_by (Some request) ≡ asked_at (subcommand_rows_of m)
     → IsReading words (Ok request)
@@ -54,7 +54,7 @@ read_taken a words m request p matches none asks = record {
   nothing = tt;
 }
 
--- the words are taken, and ask for nothing
+-- the arguments are taken, but are no request
 pub read_nothing : (a : App) (words : List Text) (m : ArgMatches) (result : Result Request Error) → IsProgram a → HasMatchesOf a words m
     → fault_of a words ≡ [] → option_map asked_by None ≡ asked_at (subcommand_rows_of m) → IfOk result (λ _. ⊥)
     → IsReading words result

@@ -1,4 +1,4 @@
--- From what a load and a print ensure to a run of `print`.
+-- Derives a run of `print` from the contracts of a load and a print.
 use Rattle.std.proofs.Common.{inl, inr, refl, Err, List, Ok, Option, ℕ, ◌≡◌}
 use Rattle.plist_forms.specs.Printed.{Prints}
 use Rattle.plist_forms.specs.Refusals.{IsRefused}
@@ -10,7 +10,7 @@ use Rattle.plist_convert.specs.Runs.{IsPrintRun, refusal_between, standard}
 use Rattle.plist_convert.specs.State.{State}
 use Rattle.plist_convert.proofs.Conversions.{refused_under, stored_front, stored_whole}
 
--- all of it went out
+-- everything was printed
 pub printed_whole : (octets : List ℕ) (path : FileName) (before after : State) (n : ℕ)
     → Holds before.files path octets → SameFiles before.files after.files → after.disk_failures ≡ before.disk_failures
     → Prints octets before.printed after.printed before.print_failures after.print_failures (Ok n)
@@ -31,7 +31,7 @@ printed_whole octets path before after n stands kept unfailed (inr goes) = inr (
   ends = stored_whole path standard goes.sent n after.printed after.print_failures goes.is;
 }))
 
--- a refusal, or a front of it
+-- a refusal, or only a prefix was printed
 pub unprinted : (octets : List ℕ) (path : FileName) (before after : State) (status : ℕ) (printed : Option (List ℕ)) (failures : ℕ) (fault : Fault)
     → Holds before.files path octets → SameFiles before.files after.files → after.disk_failures ≡ before.disk_failures
     → Prints octets before.printed printed before.print_failures failures (Err fault)

@@ -1,4 +1,4 @@
--- What a file takes that has so much room.
+-- What a file with a maximum size takes.
 use Rattle.std.proofs.Common.{arith, ap, Err, List, Ok, Result, Some, [], ℕ, inl, inr, ◌∙◌, ◌≡◌}
 use Rattle.std.specs.Prelude.{◌<◌, ◌≤◌, IfErr, IfOk, length}
 use Rattle.std.proofs.lemmas.List.{length-take-le}
@@ -13,13 +13,13 @@ use Rattle.plist_forms.specs.Sent.{answer_of}
 use Rattle.plist_forms.specs.Transfer.{Writes}
 use Rattle.plist_convert.specs.MemoryDisk.{IsFull, IsFullAt}
 
--- no refusal of octets is a failure of the device
+-- no refusal of the bytes is a failure of the device
 no_device : (form : Form) (octets : List ℕ) (sent : ℕ) → IsOutputFault form octets (WriteFailed sent) → ⊥
 no_device form octets sent (inl refused) = absurd refused.stands
 no_device form octets sent (inr none) = absurd (let is = none.is in cc)
 
 module _ (form : Form) (octets taken : List ℕ) (failures room : ℕ) (most : length taken ≤ room) (reached : 0 < failures → length taken ≡ room) where
-  -- it took all there was room for
+  -- it is full
   filled : (output : List ℕ) → IsOutput form octets output → (n : ℕ) (sent : Result ℕ WriteFault)
       → IsWritten output (Some []) (Some taken) 0 failures sent → Err (WriteFailed n) ≡ answer_of sent → IsFull form octets room n
   filled output of n (Ok m) written is = absurd cc
@@ -45,7 +45,7 @@ module _ (form : Form) (octets taken : List ℕ) (failures room : ℕ) (most : l
   is_full (Err InputTooLarge) writes = tt
   is_full (Err (OutOfMemory n)) writes = tt
 
-  -- all of it found room
+  -- all of it was within the maximum size
   found_room : (output : List ℕ) (n : ℕ) (sent : Result ℕ WriteFault) → IsWritten output (Some []) (Some taken) 0 failures sent
       → Ok n ≡ answer_of sent → n ≤ room
   found_room output n (Ok m) written is =

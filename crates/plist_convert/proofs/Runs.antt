@@ -1,4 +1,4 @@
--- From what the parts of a word ensure to its run.
+-- Derives the run of a command from the contracts of its parts.
 use Rattle.std.proofs.Common.{ap₂, inl, inr, refl, subst, Err, List, Ok, Result, ℕ, ◌≡◌, ◌⊎◌}
 use Rattle.std.specs.Prelude.{◌≤◌, IfOk, MatchResult, length}
 use Rattle.std.specs.declared.alloc.AllocError.{AllocError}
@@ -14,7 +14,7 @@ use Rattle.plist_convert.specs.Program.{IsRefusedRun}
 use Rattle.plist_convert.specs.Runs.{IsCompared, IsFileRun, IsWanting}
 use Rattle.plist_convert.specs.State.{Ending, Input, State}
 
--- what printing an answer ensures
+-- what printing a result ensures
 abbrev pub Gives : State → State → Result Answer AllocError → ℕ → Type 0
 Gives before after answer status = MatchResult answer
     (λ a. Prints before.printed after.printed before.print_failures after.print_failures (said_of a) status)
@@ -58,14 +58,14 @@ files_compared first second before after status a b (Err e) holds_a holds_b kept
 says_same : (s t : Said) → Says s t → s ≡ t
 says_same s t says = ap₂ (λ text status. record { text = text; status = status }) says.0 says.1
 
--- an answer that is known is printed
+-- a known result is printed
 pub answer_ends : (said : Said) (before after : State) (status : ℕ) (answer : Result Answer AllocError)
     → IfOk answer (λ a. Says (said_of a) said) → Gives before after answer status → Ending before after said status
 answer_ends said before after status (Ok a) says prints =
     inl (subst (λ s. Prints before.printed after.printed before.print_failures after.print_failures s status) (says_same (said_of a) said says) prints)
 answer_ends said before after status (Err e) says prints = inr prints
 
--- the words are refused
+-- the arguments are refused
 pub refused_run : (words : List Text) (input : Input) (before after : State) (error : Error) (status : ℕ) → 2 ≤ length words
     → IsReading words (Err error) → after.files ≡ before.files → after.disk_failures ≡ before.disk_failures
     → Explains (kind_of error) before.printed after.printed before.print_failures after.print_failures status

@@ -1,4 +1,4 @@
--- What storing a file leaves.
+-- The files after storing one.
 use Rattle.std.proofs.Common.{ap, arith, refl, sym, Err, List, Ok, Option, Result, Some, [], ◌∷◌, ℕ, inl, inr, ◌∙◌, ◌≡◌, ◌⊎◌}
 use Rattle.std.specs.Prelude.{◌≢◌, ◌≤◌, MatchResult, cond, false, length, option_map, take, true}
 use Rattle.std.specs.Bool.{◌==◌}
@@ -20,14 +20,14 @@ use Rattle.plist_forms.specs.Sent.{answer_of}
 use Rattle.plist_forms.specs.Transfer.{Writes}
 use Rattle.plist_convert.specs.Files.{CountsFailure, FileName, Files, IsStored, SameFiles, Stores}
 
--- the value of another key, where the keys' map is updated at this one
+-- the value of another key is unchanged if a map is updated at one key
 pub other_value : {X Z : Type 0} (f : X → Z) (old new : Option X) (key path other : List ℕ) (value : Option X)
     → new ≡ cond (bytes_eq key other) value old → key ≡ path → other ≢ path → option_map f new ≡ option_map f old
 other_value f old new key path other value sets key_is differs =
     let is_other : bytes_eq key other ≡ false = false_from_ne_true _ (λ same. differs (sym ((bytes_eq-Decides key other).0 same) ∙ key_is)) in
     ap (option_map f) (sets ∙ cond-false _ _ _ is_other)
 
--- a file stands at the path as far as it was sent to an empty sink
+-- the path has what an empty sink took
 pub stored : (old new : Files) (before after failures : ℕ) (path : FileName) (octets taken : List ℕ) (result : Result ℕ WriteFault)
     → IsWritten octets (Some []) (Some taken) 0 failures result → new path ≡ Some taken
     → ((other : FileName) → other ≢ path → new other ≡ old other)
@@ -48,7 +48,7 @@ stored old new before after failures path octets taken (Err fault) written stand
   front = (inr (stands ∙ ap Some written.front.0), counted);
 }
 
--- a refusal of octets is not counted
+-- a refusal of the bytes is not counted
 unsent_count : (form : Form) (octets : List ℕ) (fault : Fault) (before after : ℕ) → IsOutputFault form octets fault
     → CountsFailure before after (Err fault) → after ≡ before
 unsent_count form octets (WriteFailed sent) before after (inl refused) counts = absurd refused.stands
@@ -60,7 +60,7 @@ unsent_count form octets ReadFailed before after cause counts = counts
 unsent_count form octets InputTooLarge before after cause counts = counts
 unsent_count form octets (OutOfMemory sent) before after cause counts = counts
 
--- a failure of the device is
+-- a failure of the device is counted
 pub sent_count : (sent : Result ℕ WriteFault) (before after : ℕ) → CountsFailure before after (answer_of sent)
     → MatchResult sent (λ _. after ≡ before) (λ fault. IsBlamed fault before after)
 sent_count (Ok n) before after counts = counts
@@ -90,7 +90,7 @@ wanting form octets files rest before after path kept unfailed = inl (record {
   unfailed = unfailed;
 })
 
--- what an empty sink took stands at the path
+-- what an empty sink took is stored at the path
 pub stored_taken : (form : Form) (octets : List ℕ) (old new : Files) (before after failures : ℕ) (path : FileName) (taken : List ℕ)
     (result : Result ℕ Fault) → Writes form octets (Some []) (Some taken) 0 failures result → (true ≡ is_ok result) ⊎ (taken ≢ [])
     → new path ≡ Some taken → ((other : FileName) → other ≢ path → new other ≡ old other) → CountsFailure before after result
@@ -108,11 +108,11 @@ stored_taken form octets old new before after failures path taken result (inr go
   stored = stored old new before after failures path goes.output taken goes.sent goes.written stands others (sent_count goes.sent before after (rw goes.is at counts));
 })
 
--- it took none
+-- nothing was sent
 none_sent : (octets : List ℕ) (sent : ℕ) → sent ≤ length octets → [] ≡ take sent octets → sent ≡ 0
 none_sent octets sent within none = sym (ap length none ∙ length-take-le sent octets within)
 
--- the path is as it was, where nothing was sent to it
+-- the path is unchanged if nothing was sent to it
 pub unsent_stored : (old new : Files) (before after failures : ℕ) (path : FileName) (octets : List ℕ) (sent : Result ℕ WriteFault)
     → false ≡ is_ok (answer_of sent) → IsWritten octets (Some []) (Some []) 0 failures sent → ((other : FileName) → new other ≡ old other)
     → MatchResult sent (λ _. after ≡ before) (λ fault. IsBlamed fault before after)

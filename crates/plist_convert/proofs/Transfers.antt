@@ -1,4 +1,4 @@
--- From what a transfer ensures to a run without words.
+-- Derives a run without arguments from the contract of a transfer.
 use Rattle.std.proofs.Common.{inl, inr, refl, sym, Err, List, None, Ok, Option, Result, Some, ℕ, ◌∙◌, ◌≡◌}
 use Rattle.std.specs.Prelude.{◌↔◌, ◌<◌, IsErrOf, length}
 use Rattle.plist_devices.specs.Count.{one_more}
@@ -29,13 +29,13 @@ canonical_output octets output of = record {
   canonical = (let written : Some (canon of.value) ≡ Some output = of.written in cc);
 }
 
--- what was sent whole
+-- all of it was sent
 sent_whole : (sent : Result ℕ WriteFault) (n : ℕ) (printed : Option (List ℕ)) (failures : ℕ) → Ok n ≡ answer_of sent
     → EndsSending printed printed failures failures (λ fault. refusal standard (write_fault_for fault)) sent 0
 sent_whole (Ok m) n printed failures is = (refl, refl, refl)
 sent_whole (Err fault) n printed failures is = absurd cc
 
--- what was not
+-- only a prefix of it was sent
 sent_front : (sent : Result ℕ WriteFault) (fault : Fault) (old new : Option (List ℕ)) (before after status : ℕ) → Err fault ≡ answer_of sent
     → Ends old new before after (refusal standard fault) status
     → EndsSending old new before after (λ f. refusal standard (write_fault_for f)) sent status
@@ -71,7 +71,7 @@ filter_sent input rest before after n (inl unsent) kept = absurd (let is = unsen
 filter_sent input rest before after n (inr goes) kept =
     writes_sent input rest before after n goes.0 goes.1 (kept (λ e. cc)) goes.2
 
--- a fault that comes before anything is sent
+-- a fault before anything is sent
 unfiltered : (input rest : Input) (before after : State) (status : ℕ) (printed : Option (List ℕ)) (failures : ℕ) (fault : Fault)
     → IsInputFault input rest fault → printed ≡ before.printed → failures ≡ before.print_failures
     → Ends printed after.printed failures after.print_failures (refusal standard fault) status
@@ -83,12 +83,12 @@ unfiltered input rest before after status printed failures fault cause nothing u
   ends = rw (← nothing, ← unfailed) ends;
 })
 
--- the canonical file always is, so there is no other fault than that of the octets
+-- every value has a canonical file, so only the bytes can be at fault
 output_fault : (octets : List ℕ) (fault : Fault) → IsOutputFault Binary1 octets fault → IsRefused octets fault
 output_fault octets fault (inl refused) = refused
 output_fault octets fault (inr none) = absurd (let is : Some (canon none.value) ≡ None = none.none in cc)
 
--- a refusal of the octets is no failure of the source
+-- a refusal of the bytes is no failure of the source
 not_read : (octets : List ℕ) (fault : Fault) → IsRefused octets fault → fault ≡ ReadFailed → ⊥
 not_read octets fault refused is = absurd (let stands = rw is at refused.stands in stands)
 
@@ -100,7 +100,7 @@ not_read_answer : (sent : Result ℕ WriteFault) (fault : Fault) → Err fault �
 not_read_answer (Ok n) fault is read = absurd cc
 not_read_answer (Err f) fault is read = not_read_sent f (let same : fault ≡ write_fault_for f = cc in sym same ∙ read)
 
--- what a load ensures of its failures and of what it took, where it is refused so
+-- what a refused load ensures for its failures and for what it took
 pub record IsLoaded (input rest : Input) (fault : Fault) : Type 0 where
   pub at_once : IsErrOf {T = ℕ} (Err fault) ReadFailed → rest.failures ≡ one_more input.failures
   pub kept : (IsErrOf {T = ℕ} (Err fault) ReadFailed → ⊥) → rest.failures ≡ input.failures

@@ -1,4 +1,4 @@
--- A word that is added to the program's command line.
+-- Adding a subcommand to the program's command line.
 use Rattle.std.proofs.Common.{ap, refl, true, Err, List, Ok, Result, ◌∙◌, ◌≡◌}
 use Rattle.std.specs.Prelude.{IfOk, IsOkAnd}
 use Rattle.std.specs.Borrow.{Bor}

@@ -1,4 +1,4 @@
--- What is answered for octets that were loaded: the line that is printed, and the status.
+-- The results for bytes that were loaded: the printed text and the exit status.
 use Rattle.std.specs.Prelude.{◌≡◌, ◌↔◌, ◌⊎◌, ◌++◌, ℕ, Bool, List, Option, Some, None, codes, if◌then◌else◌, string_bytes}
 use Rattle.plist_value.specs.Plist.{Plist}
 use Rattle.plist_object.specs.Layout.{IsLaid}
@@ -22,12 +22,12 @@ use Rattle.plist_forms.specs.Output.{IsOutputFault}
 use Rattle.plist_convert.specs.Verdicts.{verdict_status_for, verdict_text}
 use Rattle.plist_convert.specs.declared.answers.Answer.{Answer}
 
--- a text that is printed, and the status with which the program ends
+-- a printed text and the exit status
 pub record Said : Type 0 where
   pub text : List ℕ
   pub status : ℕ
 
--- what an answer says
+-- the text and the status of a result
 abbrev pub said_of : Answer → Said
 said_of answer = record { text = string_bytes answer.text; status = status_code answer.status }
 
@@ -48,7 +48,7 @@ accepted_said path = said (path ++ codes ": OK") 0
 abbrev pub equality_said : Bool → Said
 equality_said equal = if equal then said (codes "equal") 0 else said (codes "different") 1
 
--- the explanation of a word, if it names something
+-- the explanation of a word, or an error if the word names nothing
 abbrev pub explanation_said : List ℕ → Option (List ℕ) → Said
 explanation_said word (Some text) = record { text = text; status = 0 }
 explanation_said word None =
@@ -57,21 +57,21 @@ explanation_said word None =
 abbrev pub word_said : List ℕ → Said
 word_said word = explanation_said word (explanation_of word)
 
--- what `explain` answers: of a word its explanation, and without one a line for each
+-- the result of `explain`: the explanation of a word, or without one a line for each subject
 abbrev pub explained_said : Option (List ℕ) → Said
 explained_said (Some word) = word_said word
 explained_said None = record { text = all_lines; status = 0 }
 
--- the refusal of one of two files, under the path of that file
+-- the refusal of one of two files, with the path of that file
 abbrev pub pair_refusal : List ℕ → List ℕ → PairFault → Said
 pair_refusal first second (First fault) = refusal first fault
 pair_refusal first second (Second fault) = refusal second fault
 
--- two that say the same
+-- equal texts and equal statuses
 abbrev pub Says : Said → Said → Type 0
 Says s t = (s.text ≡ t.text) × (s.status ≡ t.status)
 
--- the line of the verdict that holds of the octets
+-- the line of the verdict that is true of the bytes
 pub record IsJudged (octets : List ℕ) (s : Said) : Type 0 where
   pub verdict : Verdict
   pub laid : IsLaid octets
@@ -79,50 +79,50 @@ pub record IsJudged (octets : List ℕ) (s : Said) : Type 0 where
   pub canonical : (verdict ≡ Canonical) ↔ IsCanonical octets
   pub says : Says s (verdict_said verdict)
 
--- the line of a fault of the layout, or of a want of memory
+-- the line of a fault of the layout, or out of memory
 pub record IsUnchecked (octets path : List ℕ) (s : Said) : Type 0 where
   pub fault : CheckFault
   pub stands : IsCheckFault octets fault
   pub says : Says s (refusal path (check_fault_for fault))
 
--- what `check` answers
+-- the result of `check`
 abbrev pub IsCheckAnswer : List ℕ → List ℕ → Said → Type 0
 IsCheckAnswer path octets s = IsJudged octets s ⊎ IsUnchecked octets path s
 
--- the line of a refusal of the octets
+-- the line of a refusal of the bytes
 pub record IsRefusedAnswer (path octets : List ℕ) (s : Said) : Type 0 where
   pub fault : Fault
   pub refused : IsRefused octets fault
   pub says : Says s (refusal path fault)
 
--- the line of octets for which nothing can be written in this form
+-- the line of a refusal, for bytes that have no output in this form
 pub record IsOutputRefusal (form : Form) (path octets : List ℕ) (s : Said) : Type 0 where
   pub fault : Fault
   pub cause : IsOutputFault form octets fault
   pub says : Says s (refusal path fault)
 
--- the line of octets that spell a value
+-- the line of bytes that encode a value
 pub record IsAcceptedAnswer (path octets : List ℕ) (s : Said) : Type 0 where
   pub value : Plist
   pub accepted : IsAccepted octets value
   pub says : Says s (accepted_said path)
 
--- what `lint` answers
+-- the result of `lint`
 abbrev pub IsLintAnswer : List ℕ → List ℕ → Said → Type 0
 IsLintAnswer path octets s = IsAcceptedAnswer path octets s ⊎ IsRefusedAnswer path octets s
 
--- the word for two values that are equal, or are not
+-- the word for two values that are equal or different
 pub record IsComparison (a b : List ℕ) (s : Said) : Type 0 where
   pub equal : Bool
   pub pair : IsPair a b equal
   pub says : Says s (equality_said equal)
 
--- the line of a refusal of one of two octet lists
+-- the line of a refusal of one of two inputs
 pub record IsRefusedComparison (first second a b : List ℕ) (s : Said) : Type 0 where
   pub fault : PairFault
   pub refused : IsRefusedPair a b fault
   pub says : Says s (pair_refusal first second fault)
 
--- what `same` answers
+-- the result of `same`
 abbrev pub IsSameAnswer : List ℕ → List ℕ → List ℕ → List ℕ → Said → Type 0
 IsSameAnswer first second a b s = IsComparison a b s ⊎ IsRefusedComparison first second a b s

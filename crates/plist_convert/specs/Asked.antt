@@ -1,5 +1,4 @@
--- What the words on the command line ask for, by the word that was entered and what stands in its
--- places.
+-- The request of a command line, by the command and its arguments.
 use Rattle.std.specs.Prelude.{List, Option, Some, None, codes, option_and_then, option_map, if◌then◌else◌}
 use Rattle.std.specs.Str.{bytes_eq}
 use Rattle.clap.specs.Words.{Row, Text, first_of}
@@ -8,7 +7,7 @@ use Rattle.plist_forms.specs.declared.forms.Form.TheVariants.{Binary1, OpenStep}
 use Rattle.plist_convert.specs.declared.request.Request.{Request}
 use Rattle.plist_convert.specs.declared.request.Request.TheVariants as request
 
--- one thing that is asked for, with its paths
+-- a request, with its arguments
 pub data Asked : Type 0 where
   Filters : Asked
   Converts : Form → Text → Text → Asked
@@ -18,7 +17,7 @@ pub data Asked : Type 0 where
   Prints : Text → Asked
   Explains : Option Text → Asked
 
--- what a request asks for
+-- the request as a term
 abbrev pub asked_by : Request → Asked
 asked_by request.Filter = Filters
 asked_by (request.Convert form from to) = Converts form from.now to.now
@@ -43,7 +42,7 @@ abbrev pub compares : Option Text → Option Text → Option Asked
 compares (Some first) (Some second) = Some (Compares first second)
 compares _ _ = None
 
--- what each word asks for, by what stands in its places
+-- the request of each command, from its arguments
 abbrev pub convert_at : List Row → Option Asked
 convert_at rows =
     converts (option_and_then form_of (first_of (codes "FORM") rows)) (first_of (codes "IN") rows)

@@ -4,11 +4,11 @@ use Rattle.std.specs.Borrow.{Bor}
 use Rattle.clap.specs.Words.{App, Rule, Text, new_app, new_rule, with_rule, with_subcommand}
 use Rattle.clap.specs.declared.builder.ValueParser.TheVariants.{Names}
 
--- a word that has to stand in its place
+-- a required argument
 abbrev pub file_word : Text → Rule
 file_word id = record (new_rule id) { required = true }
 
--- a word with one file, as `lint IN`
+-- a command with one file, such as `lint IN`
 abbrev pub one_file : Text → App
 one_file name = with_rule (new_app name) (file_word (codes "IN"))
 
@@ -16,7 +16,7 @@ one_file name = with_rule (new_app name) (file_word (codes "IN"))
 abbrev pub same : App
 same = with_rule (with_rule (new_app (codes "same")) (file_word (codes "A"))) (file_word (codes "B"))
 
--- `convert FORM IN OUT`, where FORM is one of these
+-- `convert FORM IN OUT`, with these values of FORM
 abbrev pub convert : Bor (List (Bor Text)) → App
 convert forms =
     with_rule (with_rule (with_rule (new_app (codes "convert"))
@@ -27,7 +27,7 @@ convert forms =
 abbrev pub explain : App
 explain = with_rule (new_app (codes "explain")) (new_rule (codes "WHAT"))
 
--- one of the words has to be given
+-- a command is required
 abbrev pub program_top : App
 program_top =
     let a = new_app (codes "plistconv") in
@@ -39,11 +39,10 @@ program forms =
     program_top (convert forms).top) same.top) (one_file (codes "lint")).top)
     (one_file (codes "check")).top) (one_file (codes "print")).top) explain.top
 
--- the names of the forms, in memory somewhere
+-- the names of the forms, borrowed from anywhere
 abbrev pub NamesForms : Bor (List (Bor Text)) → Type 0
 NamesForms forms = map (λ name. name.now) forms.now ≡ codes "binary1" ∷ (codes "openstep" ∷ [])
 
--- the command `convert`
 pub record IsConvert (a : App) : Type 0 where
   pub forms : Bor (List (Bor Text))
   pub named : NamesForms forms

@@ -1,4 +1,4 @@
--- What a device holds where octets were gathered on their way to it.
+-- The contents of a device after bytes were buffered on their way to it.
 use Rattle.std.specs.Prelude.{◌≡◌, ◌⊎◌, ◌-◌, ◌==◌, ℕ, List, [], length, if◌then◌else◌, Option, IfSome, Result, Ok, Err}
 use Rattle.std.specs.Io.KnownBytes.{Keeps, append_known}
 use Rattle.plist_forms.specs.declared.faults.Fault.{Fault}
@@ -10,25 +10,24 @@ use Rattle.plist_forms.specs.Output.{IsOutput, IsOutputFault}
 use Rattle.plist_forms.specs.Sent.{answer_of}
 use Rattle.plist_forms.specs.Transfer.{NeedsNoMemory}
 
--- it holds nothing, where it tells
+-- it contains nothing, if it knows its contents
 abbrev pub IsEmpty : Option (List ℕ) → Type 0
 IsEmpty held = IfSome held (λ octets. octets ≡ [])
 
--- so many octets are left that were taken and did not reach the device: it holds those before them
+-- `left` of the bytes taken did not reach the device; it contains those before them
 abbrev pub Leaves : Option (List ℕ) → Option (List ℕ) → ℕ → Type 0
 Leaves taken held left = (rest : List ℕ) × (length rest ≡ left) × Keeps taken (append_known held rest)
 
--- what is answered in place of what the conversion answered, where so many of the octets did not
--- reach the device: it failed, if some did not, and of octets that went out only those count that
--- reached it
+-- The result of a conversion, corrected because the last `left` bytes did not reach the device. The
+-- device failed if some did not, and only bytes that reached it count as sent.
 abbrev pub reached : ℕ → Result ℕ Fault → Result ℕ Fault
 reached left (Ok count) = if count - left == count then Ok count else Err (WriteFailed (count - left))
 reached left (Err (WriteFailed count)) = Err (WriteFailed (count - left))
 reached left (Err (OutOfMemory count)) = Err (OutOfMemory (count - left))
 reached left (Err fault) = Err fault
 
--- The octets that were gathered were to be written: what was taken before, what the device holds
--- now, what the conversion answered, and what is answered.
+-- The buffered bytes were flushed: the bytes taken before, the contents of the device now, the
+-- result of the conversion, and the corrected result.
 abbrev pub Finishes : Option (List ℕ) → Option (List ℕ) → Result ℕ Fault → Result ℕ Fault → Type 0
 Finishes taken held sent result = (left : ℕ) × Leaves taken held left × (result ≡ reached left sent)
 
@@ -39,7 +38,7 @@ pub record IsUndelivered (form : Form) (octets : List ℕ) (old new : Option (Li
   pub cause : IsOutputFault form octets fault
   pub kept : Keeps old new
 
--- The device took the output for the octets, or exactly the front that the refusal tells.
+-- The device took the output for the bytes, or exactly the prefix that the refusal states.
 pub record IsDelivered (form : Form) (octets : List ℕ) (old new : Option (List ℕ)) (result : Result ℕ Fault) : Type 0 where
   pub output : List ℕ
   pub of : IsOutput form octets output
@@ -49,8 +48,8 @@ pub record IsDelivered (form : Form) (octets : List ℕ) (old new : Option (List
   pub failures : ℕ
   pub written : IsWritten output old new 0 failures sent
 
--- what a device takes of the value that the octets spell, in a form: what it holds before, the same
--- after, and what is answered
+-- what a device takes of the output for the bytes in a form: its contents before and after, and the
+-- result
 abbrev pub Delivers : Form → List ℕ → Option (List ℕ) → Option (List ℕ) → Result ℕ Fault → Type 0
 Delivers form octets old new result =
     IsUndelivered form octets old new result ⊎ IsDelivered form octets old new result

@@ -1,4 +1,4 @@
--- How the program ends where the words are refused or ask for help.
+-- How the program ends if the arguments are refused or ask for help.
 use Rattle.std.specs.Prelude.{◌≡◌, ◌≢◌, ◌⊎◌, ℕ, List, [], None, Option, codes, nat_eq, true}
 use Rattle.std.specs.List.{starts_with}
 use Rattle.clap.specs.Words.{IsAmong, Kinds, Text}
@@ -10,39 +10,39 @@ use Rattle.plist_convert.specs.Answer.{Said}
 use Rattle.plist_convert.specs.Ending.{Prints, no_memory}
 use Rattle.plist_convert.specs.State.{State}
 
--- the status for an error of this kind: help and the version are what was asked for
+-- the exit status for an error of this kind: help and the version were asked for
 abbrev pub status_of_kind : ErrorKind → ℕ
 status_of_kind kind.DisplayHelp = 0
 status_of_kind kind.DisplayVersion = 0
 status_of_kind kind.OutOfMemory = 5
 status_of_kind _ = 3
 
--- some text, with the status for an error of this kind
+-- any text, with the exit status for an error of this kind
 abbrev pub said_of_kind : List ℕ → ErrorKind → Said
 said_of_kind text error = record { text = text; status = status_of_kind error }
 
--- A text for an error with this status: some text, and for a mistake in the words one that says
--- that it is an error. There is none for a want of memory.
+-- A message for an error with this status. It is not empty, and a usage error begins with `error:
+-- `. Out of memory has no message.
 pub record IsExplanation (status : ℕ) (text : List ℕ) : Type 0 where
   pub memory : status ≢ 5
   pub some : text ≢ []
   pub mistake : status ≡ 3 → starts_with nat_eq text (codes "error: ") ≡ true
 
--- A text for the error is printed.
+-- A message for the error is printed.
 pub record IsTold (error : ErrorKind) (old new : Option (List ℕ)) (before after status : ℕ) : Type 0 where
   pub text : List ℕ
   pub explains : IsExplanation (status_of_kind error) text
   pub prints : Prints old new before after (said_of_kind text error) status
 
--- What is printed for an error: a text for it, or that no memory was left. It is that, where the
--- error is a want of memory.
+-- What is printed for an error: a message, or the line for out of memory. It is the latter if the
+-- error is out of memory.
 abbrev pub Explains : ErrorKind → Option (List ℕ) → Option (List ℕ) → ℕ → ℕ → ℕ → Type 0
 Explains error old new before after status =
     IsTold error old new before after status ⊎ Prints old new before after no_memory status
 
--- The words are refused, or ask for help, by an error of one of the kinds that the parser has for
--- them; the files are as they were. It is want of memory, where the parser takes them and they ask
--- for something.
+-- The arguments are refused or ask for help. The error has one of the kinds that the parser has for
+-- them; the files are unchanged. It is out of memory if the parser takes the arguments and they are
+-- a request.
 pub record IsExplained (words : List Text) (before after : State) (status : ℕ) : Type 0 where
   pub kinds : Kinds
   pub asked : Option Asked

@@ -1,4 +1,4 @@
--- Which path holds which octets, and what loading and storing do to that.
+-- The contents of files, and how loading and storing change them.
 use Rattle.std.specs.Prelude.{◌≡◌, ◌≢◌, ◌⊎◌, ⊤, ℕ, ◌<◌, List, length, take, None, Option, Some, Result, Err, IfErr, IfOk, IfSome}
 use Rattle.plist_devices.specs.Count.{one_more}
 use Rattle.plist_forms.specs.declared.faults.Fault.{Fault}
@@ -11,38 +11,38 @@ use Rattle.plist_forms.specs.Output.{IsOutput, IsOutputFault}
 use Rattle.plist_forms.specs.Sent.{answer_of}
 use Rattle.plist_forms.specs.Transfer.{NeedsNoMemory}
 
--- a path, as its octets
+-- a path, as bytes
 abbrev pub FileName : Type 0
 FileName = List ℕ
 
--- what stands at each path: octets, or nothing
+-- the bytes at each path, or none
 abbrev pub Files : Type 0
 Files = FileName → Option (List ℕ)
 
--- the octets stand at the path, where the disk tells
+-- the path has these bytes, if the disk knows its files
 abbrev pub Holds : Option Files → FileName → List ℕ → Type 0
 Holds files path octets = IfSome files (λ at. at path ≡ Some octets)
 
--- nothing stands at the path, where the disk tells
+-- there is no file at the path, if the disk knows its files
 abbrev pub Lacks : Option Files → FileName → Type 0
 Lacks files path = IfSome files (λ at. at path ≡ None)
 
--- a disk that tells goes on to tell, and P holds of what it told and what it tells
+-- a disk that knows its files still does, and P is true of the files before and after
 abbrev pub Turns : Option Files → Option Files → (Files → Files → Type 0) → Type 0
 Turns None after P = ⊤
 Turns (Some old) None P = ⊥
 Turns (Some old) (Some new) P = P old new
 
--- every path holds what it held
+-- every path has the same bytes as before
 abbrev pub SameFiles : Option Files → Option Files → Type 0
 SameFiles before after = Turns before after (λ old new. (path : FileName) → new path ≡ old path)
 
--- every path but one holds what it held
+-- every path but one has the same bytes as before
 abbrev pub SameBeside : FileName → Option Files → Option Files → Type 0
 SameBeside path before after = Turns before after (λ old new. (other : FileName) → other ≢ path → new other ≡ old other)
 
--- Why a file was not loaded: a device failed, and there is none where the disk tells; or it is too
--- large; or there was no memory.
+-- Why a file was not loaded: a device failed, and there is no file if the disk knows its files; or
+-- it is too large; or out of memory.
 abbrev pub IsUnloaded : Option Files → FileName → ℕ → ℕ → Fault → Type 0
 IsUnloaded files path before after ReadFailed = Lacks files path × (after ≡ one_more before)
 IsUnloaded files path before after InputTooLarge =
@@ -50,14 +50,13 @@ IsUnloaded files path before after InputTooLarge =
 IsUnloaded files path before after (OutOfMemory sent) = (sent ≡ 0) × (after ≡ before)
 IsUnloaded files path before after _ = ⊥
 
--- so many of the octets stand at the path, or it is as it was where none do
+-- the path has the first `sent` of the bytes, or is unchanged if `sent` is 0
 abbrev pub HoldsFront : Option Files → Option Files → FileName → List ℕ → ℕ → Type 0
 HoldsFront before after path octets sent =
     Turns before after (λ old new. ((sent ≡ 0) × (new path ≡ old path)) ⊎ (new path ≡ Some (take sent octets)))
 
--- Storing: the files and the count of failures before it, the same after it, the path, the octets,
--- and how many of them were sent or the refusal. It is all of them that then stand at the path, or
--- as many as the refusal tells.
+-- Storing: the files and the count of failures, before and after, the path, the bytes, and the
+-- result. The path then has all of the bytes, or as many as the refusal states.
 pub record IsStored (files rest : Option Files) (before after : ℕ) (path : FileName) (octets : List ℕ) (result : Result ℕ WriteFault) : Type 0 where
   pub others : SameBeside path files rest
   pub count : IfOk result (λ sent. (sent ≡ length octets) × (after ≡ before))
@@ -65,7 +64,7 @@ pub record IsStored (files rest : Option Files) (before after : ℕ) (path : Fil
   pub within : IfErr result (λ fault. IsShort fault (sent_of fault) (length octets))
   pub front : IfErr result (λ fault. HoldsFront files rest path octets (sent_of fault) × IsBlamed fault before after)
 
--- The count of failures after a file was sent so: one more where the device failed.
+-- The count of failures after a file was sent with this result: one more if the device failed.
 abbrev pub CountsFailure : ℕ → ℕ → Result ℕ Fault → Type 0
 CountsFailure before after (Err (WriteFailed sent)) = after ≡ one_more before
 CountsFailure before after _ = after ≡ before
@@ -78,7 +77,7 @@ pub record IsUnstored (Cause : Fault → Type 0) (files rest : Option Files) (be
   pub kept : SameFiles files rest
   pub unfailed : after ≡ before
 
--- The output for the octets is stored, as far as a refusal lets it.
+-- The output for the bytes is stored, up to a refusal if there is one.
 pub record IsOutputStored (form : Form) (octets : List ℕ) (files rest : Option Files) (before after : ℕ) (path : FileName) (result : Result ℕ Fault) : Type 0 where
   pub output : List ℕ
   pub of : IsOutput form octets output
@@ -87,7 +86,7 @@ pub record IsOutputStored (form : Form) (octets : List ℕ) (files rest : Option
   pub memory : NeedsNoMemory form sent
   pub stored : IsStored files rest before after path output sent
 
--- what is done to store the value that the octets spell, in a form
+-- storing the output for the bytes in a form
 abbrev pub Stores : Form → List ℕ → Option Files → Option Files → ℕ → ℕ → FileName → Result ℕ Fault → Type 0
 Stores form octets files rest before after path result =
     IsUnstored (IsOutputFault form octets) files rest before after result

@@ -1,4 +1,4 @@
--- What opening, creating and keeping a file means, where the opener tells which files there are.
+-- What opening, creating and keeping a file means, if the opener knows the files.
 use Rattle.std.specs.Prelude.{◌≡◌, ◌≢◌, ◌⊎◌, ⊤, ℕ, ◌<◌, Bool, true, false, List, [], ◌∷◌, length, None, Option, Some, Result, Err, IfSome}
 use Rattle.plist_devices.specs.Count.{one_more}
 use Rattle.plist_forms.specs.declared.faults.Fault.{Fault}
@@ -21,7 +21,7 @@ abbrev pub Puts : FileName → Option (List ℕ) → Option Files → Option Fil
 Puts path contents before after =
     Turns before after (λ old new. (new path ≡ contents) × ((other : FileName) → other ≢ path → new other ≡ old other))
 
--- the file at the path is what was written, if a writer was made, and every other file is what it was
+-- the file at the path is what was written, if there is a writer, and every other file is unchanged
 abbrev pub Settles : FileName → Option (Option (List ℕ)) → Option Files → Option Files → Type 0
 Settles path None before after = SameFiles before after
 Settles path (Some contents) before after = Puts path contents before after
@@ -30,7 +30,7 @@ Settles path (Some contents) before after = Puts path contents before after
 abbrev pub HasFailing : {R : Type 0} → (R → ℕ) → Type 0
 HasFailing {R = R} failures = (reader : R) × (0 < failures reader)
 
--- Why the octets at the path are not found: there is no file, or a read failed; or it is too large;
+-- Why the bytes at the path are not found: there is no file, or a read failed; or it is too large;
 -- or out of memory.
 abbrev pub IsUnfound : Option Files → FileName → Type 0 → Fault → Type 0
 IsUnfound files path Failed ReadFailed = Lacks files path ⊎ Failed
@@ -44,14 +44,14 @@ abbrev pub CountsUnread : {T : Type 0} → ℕ → ℕ → Result T Fault → Ty
 CountsUnread before after (Err ReadFailed) = after ≡ one_more before
 CountsUnread before after _ = after ≡ before
 
--- What a file holds that is created at its first write, if the opener tells: nothing before that,
--- and then what its writer holds.
+-- The contents of a file that is created at its first write, if the opener knows the files: nothing
+-- before that, and then what its writer wrote.
 abbrev pub held_by : Option Files → Option (Option (List ℕ)) → Option (List ℕ)
 held_by None contents = None
 held_by (Some at) None = Some []
 held_by (Some at) (Some contents) = contents
 
--- the writer has written something, if there is one and the opener tells
+-- the writer has written something, if there is one and the opener knows the files
 abbrev pub is_begun : Option Files → Option (Option (List ℕ)) → Bool
 is_begun None contents = true
 is_begun (Some at) None = true
@@ -59,8 +59,8 @@ is_begun (Some at) (Some None) = false
 is_begun (Some at) (Some (Some [])) = false
 is_begun (Some at) (Some (Some (octet ∷ octets))) = true
 
--- What is sent to a file that is created at its first write: the output for the octets, or the front
--- that the refusal tells, and nothing if the writer is none.
+-- What is sent to a file that is created at its first write: the output for the bytes, or the
+-- prefix that the refusal states. Nothing is sent if there is no writer.
 abbrev pub Creates : Form → List ℕ → Option Files → Option (Option (List ℕ)) → Result ℕ Fault → Type 0
 Creates form octets files contents result =
     Delivers form octets (held_by files None) (held_by files contents) result × (is_begun files contents ≡ true)

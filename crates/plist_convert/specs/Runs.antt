@@ -1,4 +1,4 @@
--- What each word of the program does, before and after.
+-- What each command does, as a relation between the states before and after.
 use Rattle.std.specs.Prelude.{◌≡◌, ◌⊎◌, ℕ, ◌<◌, List, length, Option, Result, MatchResult, codes}
 use Rattle.plist_devices.specs.Count.{one_more}
 use Rattle.plist_forms.specs.Accepted.{IsCanonicalOf}
@@ -19,14 +19,14 @@ use Rattle.plist_convert.specs.Answer.{IsCheckAnswer, IsLintAnswer, IsOutputRefu
 use Rattle.plist_convert.specs.Ending.{Ends}
 use Rattle.plist_convert.specs.State.{Ending, Input, State, Wanting}
 
--- The file at the path is not loaded, and the line of that is printed.
+-- The file at the path is not loaded, and the line of that refusal is printed.
 pub record IsUnread (path : FileName) (before after : State) (status : ℕ) : Type 0 where
   pub fault : Fault
   pub cause : IsUnloaded before.files path before.disk_failures after.disk_failures fault
   pub kept : SameFiles before.files after.files
   pub ends : Ending before after (refusal path fault) status
 
--- What is answered for the octets at the path is printed.
+-- The result for the bytes at the path is printed.
 pub record IsAnswered (Answers : List ℕ → Said → Type 0) (path : FileName) (before after : State) (status : ℕ) : Type 0 where
   pub octets : List ℕ
   pub stands : Holds before.files path octets
@@ -36,13 +36,13 @@ pub record IsAnswered (Answers : List ℕ → Said → Type 0) (path : FileName)
   pub unfailed : after.disk_failures ≡ before.disk_failures
   pub ends : Ending before after said status
 
--- No memory was left for what is answered.
+-- Out of memory for the result.
 pub record IsWanting (before after : State) (status : ℕ) : Type 0 where
   pub kept : SameFiles before.files after.files
   pub unfailed : after.disk_failures ≡ before.disk_failures
   pub ends : Wanting before after status
 
--- A word that answers for one file.
+-- A command that prints a result for one file.
 abbrev pub IsFileRun : (List ℕ → Said → Type 0) → FileName → State → State → ℕ → Type 0
 IsFileRun Answers path before after status =
     IsUnread path before after status ⊎ (IsAnswered Answers path before after status ⊎ IsWanting before after status)
@@ -61,7 +61,7 @@ pub record IsSecondUnread (first second : FileName) (before after : State) (stat
   pub stands : Holds before.files first octets
   pub unread : IsUnread second before after status
 
--- What is answered for the octets at the two paths is printed.
+-- The result for the bytes at the two paths is printed.
 pub record IsCompared (first second : FileName) (before after : State) (status : ℕ) : Type 0 where
   pub a : List ℕ
   pub b : List ℕ
@@ -79,15 +79,14 @@ IsSameRun first second before after status =
     IsUnread first before after status ⊎ (IsSecondUnread first second before after status
     ⊎ (IsCompared first second before after status ⊎ IsWanting before after status))
 
--- how the program ends when so much of a file was sent: nothing more is printed behind the whole,
--- else the line of the refusal
+-- how the program ends after a file was sent: it prints nothing more if all was sent, and otherwise
+-- the line of the refusal
 abbrev pub EndsSending : Option (List ℕ) → Option (List ℕ) → ℕ → ℕ → (WriteFault → Said) → Result ℕ WriteFault → ℕ → Type 0
 EndsSending old new before after line result status = MatchResult result
     (λ _. (status ≡ 0) × (new ≡ old) × (after ≡ before))
     (λ fault. Ends old new before after (line fault) status)
 
--- the path under which a refusal of a conversion is told: OUT where that cannot be written, and
--- else IN
+-- the path in the line of a refusal of a conversion: OUT if it cannot be written, otherwise IN
 abbrev pub path_of_fault : FileName → FileName → Fault → FileName
 path_of_fault from to (refusal_kind.WriteFailed sent) = to
 path_of_fault from to _ = from
@@ -96,13 +95,13 @@ path_of_fault from to _ = from
 abbrev pub refusal_between : FileName → FileName → Fault → Said
 refusal_between from to fault = refusal (path_of_fault from to fault) fault
 
--- The octets go to a path, as far as a refusal lets them. No other file changes.
+-- The bytes are stored at a path, up to a refusal if there is one. No other file changes.
 pub record IsStoreRun (from to : FileName) (file : List ℕ) (before after : State) (status : ℕ) : Type 0 where
   pub result : Result ℕ WriteFault
   pub stored : IsStored before.files after.files before.disk_failures after.disk_failures to file result
   pub ends : EndsSending before.printed after.printed before.print_failures after.print_failures (λ fault. refusal_between from to (write_fault_for fault)) result status
 
--- What is written for what stands at one path goes to the other.
+-- The output for the bytes at one path is stored at the other.
 pub record IsConverted (form : Form) (from to : FileName) (before after : State) (status : ℕ) : Type 0 where
   pub octets : List ℕ
   pub stands : Holds before.files from octets
@@ -117,13 +116,13 @@ IsConvertRun form from to before after status =
     IsUnread from before after status ⊎ (IsAnswered (IsOutputRefusal form from) from before after status
     ⊎ IsConverted form from to before after status)
 
--- the path that stands for standard input and standard output in a line
+-- the path of standard input and standard output in printed lines
 abbrev pub standard : FileName
 standard = codes "-"
 
--- The printed text of what stands at the path goes out, all of it or exactly a front, where
--- printing failed or memory ran out; and behind it, from what was printed and the failures of
--- printing by then, the line of that.
+-- The text of the value at the path is printed completely, or exactly a prefix if printing failed
+-- or memory ran out. After a prefix, the line of the refusal is printed, starting from what was
+-- printed and the failures of printing so far.
 pub record IsPrintedRun (path : FileName) (before after : State) (status : ℕ) : Type 0 where
   pub octets : List ℕ
   pub stands : Holds before.files path octets
@@ -147,13 +146,13 @@ IsPrintRun path before after status =
 unfoldable pub IsExplainRun : Option (List ℕ) → State → State → ℕ → Type 0
 IsExplainRun what before after status = Ending before after (explained_said what) status
 
--- The octets are all of the input, which was taken to its end without a failure.
+-- The bytes are all of the input, which was read to its end without a failure.
 pub record IsTaken (input rest : Input) (octets : List ℕ) : Type 0 where
   pub all : IsInput input.to_come rest.to_come octets
   pub unfailed : rest.failures ≡ input.failures
 
--- why the input was not loaded: a take failed, once; or more than the greatest input was taken; or
--- there was no memory
+-- why the input was not loaded: a take failed, once; or the input is longer than the limit; or out
+-- of memory
 abbrev pub IsUntaken : Input → Input → Fault → Type 0
 IsUntaken input rest refusal_kind.ReadFailed = rest.failures ≡ one_more input.failures
 IsUntaken input rest refusal_kind.InputTooLarge =
@@ -166,15 +165,15 @@ abbrev pub IsInputFault : Input → Input → Fault → Type 0
 IsInputFault input rest fault =
     IsUntaken input rest fault ⊎ ((octets : List ℕ) × IsTaken input rest octets × IsRefused octets fault)
 
--- The input is refused, and the line of that is all that is printed.
+-- The input is refused, and only the line of the refusal is printed.
 pub record IsUnfiltered (input rest : Input) (before after : State) (status : ℕ) : Type 0 where
   pub fault : Fault
   pub cause : IsInputFault input rest fault
   pub ends : Ending before after (refusal standard fault) status
 
--- The canonical file of the input goes out, all of it or exactly a front, where printing failed or
--- memory was wanting; and behind it, from what was printed and the failures of printing by then,
--- the line of that.
+-- The canonical file of the input is written completely, or exactly a prefix if printing failed or
+-- memory ran out. After a prefix, the line of the refusal is printed, starting from what was
+-- printed and the failures of printing so far.
 pub record IsFiltered (input rest : Input) (before after : State) (status : ℕ) : Type 0 where
   pub octets : List ℕ
   pub taken : IsTaken input rest octets
@@ -186,7 +185,7 @@ pub record IsFiltered (input rest : Input) (before after : State) (status : ℕ)
   pub written : IsWritten file before.printed printed before.print_failures failures sent
   pub ends : EndsSending printed after.printed failures after.print_failures (λ fault. refusal standard (write_fault_for fault)) sent status
 
--- without words
+-- no arguments
 unfoldable pub IsFilterRun : Input → Input → State → State → ℕ → Type 0
 IsFilterRun input rest before after status =
     IsUnfiltered input rest before after status ⊎ IsFiltered input rest before after status

@@ -1,4 +1,4 @@
--- What the program sees and changes: files, standard output and the failures of both, and standard
+-- What the program reads and changes: files, standard output and the failures of both, and standard
 -- input.
 use Rattle.std.specs.Prelude.{ℕ, List, Option}
 use Rattle.plist_convert.specs.Files.{Files}
@@ -19,7 +19,7 @@ state files disk_failures printed print_failures = record {
   print_failures = print_failures;
 }
 
--- standard input: the octets to come, where it tells them, and how many takes failed
+-- standard input: the bytes to come, if they are known, and the number of takes that failed
 pub record Input : Type 0 where
   pub to_come : Option (List ℕ)
   pub failures : ℕ
@@ -27,11 +27,11 @@ pub record Input : Type 0 where
 abbrev pub input_of : Option (List ℕ) → ℕ → Input
 input_of to_come failures = record { to_come = to_come; failures = failures }
 
--- the program ends so, or no memory was left to make the line
+-- the program ends with this text and status, or memory ran out before the line was made
 abbrev pub Ending : State → State → Said → ℕ → Type 0
 Ending before after s status = Ends before.printed after.printed before.print_failures after.print_failures s status
 
--- no memory was left to make the line
+-- memory ran out before the line was made
 abbrev pub Wanting : State → State → ℕ → Type 0
 Wanting before after status =
     Prints before.printed after.printed before.print_failures after.print_failures no_memory status

@@ -1,4 +1,4 @@
--- The printed line of a verdict, and the program's status for it.
+-- The printed line of a verdict, and its exit status.
 use Rattle.std.specs.Prelude.{ℕ, List, ◌++◌, codes}
 use Rattle.std.specs.Fmt.{decimal}
 use Rattle.plist_canon.specs.declared.checking.Verdict.{Verdict}
@@ -10,7 +10,7 @@ abbrev pub verdict_text : Verdict → List ℕ
 verdict_text Canonical = codes "canonical"
 verdict_text (Broken rule object) = codes "broken C" ++ (decimal rule ++ place_text (Object object))
 
--- 0 where the file is canonical, else 1
+-- 0 if the file is canonical, otherwise 1
 abbrev pub verdict_status_for : Verdict → ℕ
 verdict_status_for Canonical = 0
 verdict_status_for (Broken _ _) = 1

@@ -1,4 +1,4 @@
-//! What is answered for octets that were loaded.
+//! The result of each command for bytes that were loaded.
 ghost use Rattle.std.specs.Prelude.{◌≡◌, ◌++◌, IfOk, codes, option_map, string_bytes};
 ghost use Rattle.plist_convert.specs.Answer.{IsCheckAnswer, IsLintAnswer, IsSameAnswer, Says};
 ghost use Rattle.plist_convert.specs.Answer.{accepted_said, equality_said, explained_said};
@@ -11,24 +11,25 @@ use plist_forms::{Fault, PairFault, Status, judge_any, line, same_files_with_has
 use std::alloc::{AllocError, Global};
 use std::hash::BuildHasher;
 
-/// A line that is printed, with its line end, and the status with which the program ends.
+/// The printed text, with its line end, and the exit status.
 #[derive(Debug, Drop)]
 pub struct Answer {
     pub text: String,
     pub status: Status,
 }
 
-/// What `check` answers for these octets, which stand at the path: `canonical` and 0 exactly for
-/// the canonical file of a value within the limits; `broken C7 at object 0` and 1 with a rule that
-/// is false; the line of a refusal where the octets do not have the layout.
+/// Returns the result of `check` for the bytes of the file at the path. It is `canonical` and 0 if
+/// and only if they are the canonical file of a value within the limits. Otherwise it is a line
+/// like `broken C7 at object 0` and 1 with a rule that is broken, or the line of a refusal if the
+/// bytes do not have the layout.
 ///
-/// Scalars are hashed by what the builder makes. Where somebody else picks the octets, hand it a
-/// [`RandomState`](std::hash::RandomState): scalars that were picked to collide under
-/// [`FixedHasher`](plist_value::FixedHasher) cost no more than others then.
+/// Scalars are hashed with the hasher of this builder. If somebody else chooses the bytes, pass a
+/// [`RandomState`](std::hash::RandomState): scalars chosen to collide under
+/// [`FixedHasher`](plist_value::FixedHasher) then cost no more than others.
 ///
 /// # Errors
 ///
-/// Where no memory is left for the line.
+/// [`AllocError`] if out of memory for the line.
 pub fn check_answer<H: BuildHasher + Copy>(
     alloc: Global,
     hasher: H,
@@ -46,12 +47,12 @@ pub fn check_answer<H: BuildHasher + Copy>(
     }
 }
 
-/// What `lint` answers for these octets, which stand at the path: `PATH: OK` and 0 where they are
-/// accepted, else the line of a fault that stands in them.
+/// Returns the result of `lint` for the bytes of the file at the path: `PATH: OK` and 0 if they are
+/// accepted, otherwise the line of a fault in them.
 ///
 /// # Errors
 ///
-/// Where no memory is left for the line.
+/// [`AllocError`] if out of memory for the line.
 pub fn lint_answer(alloc: Global, path: &str, octets: &[u8]) -> Result<Answer, AllocError>
     ensures { IfOk result (λ answer. IsLintAnswer path.now octets.now (said_of answer)) }
 {
@@ -61,14 +62,14 @@ pub fn lint_answer(alloc: Global, path: &str, octets: &[u8]) -> Result<Answer, A
     }
 }
 
-/// What `same` answers for the octets of two files: `equal` and 0 exactly where they spell equal
-/// values, `different` and 1 where they spell others, and the line of a refusal under the path of
-/// the file that is refused, the second only where the first is accepted. Scalars are hashed by
-/// what the builder makes, as [`check_answer`] says.
+/// Returns the result of `same` for the bytes of two files. It is `equal` and 0 if and only if they
+/// encode equal values, and `different` and 1 if they encode different values. Otherwise it is the
+/// line of a refusal with the path of the refused file, of the second only if the first is
+/// accepted. Scalars are hashed like in [`check_answer`].
 ///
 /// # Errors
 ///
-/// Where no memory is left for the line.
+/// [`AllocError`] if out of memory for the line.
 pub fn same_answer<H: BuildHasher + Copy>(
     alloc: Global,
     hasher: H,
@@ -87,12 +88,12 @@ pub fn same_answer<H: BuildHasher + Copy>(
     }
 }
 
-/// What `explain` answers: what the refusal or the rule means that the word names, and an error if
-/// it names none; without a word a line for each.
+/// Returns the result of `explain`: the explanation of the refusal or rule that the word names, or
+/// an error if it names none. Without a word, returns a line for each.
 ///
 /// # Errors
 ///
-/// Fails if out of memory.
+/// [`AllocError`] if out of memory.
 pub fn explain_answer(alloc: Global, what: Option<&str>) -> Result<Answer, AllocError>
     ensures { IfOk result (λ answer. Says (said_of answer)
         (explained_said (option_map (λ word. word.now) what.entry))) }
@@ -121,11 +122,11 @@ fn explained(alloc: Global, word: &str) -> Result<Answer, AllocError>
     told(line, Status::BadWords)
 }
 
-/// The line of a refusal, and its status.
+/// Returns the line of a refusal, with its exit status.
 ///
 /// # Errors
 ///
-/// Where no memory is left for the line.
+/// [`AllocError`] if out of memory for the line.
 pub fn refused(alloc: Global, path: &str, fault: &Fault) -> Result<Answer, AllocError>
     ensures { IfOk result (λ answer. Says (said_of answer) (refusal path.now fault.now)) }
 {
@@ -150,7 +151,7 @@ fn equality(alloc: Global, equal: bool) -> Result<Answer, AllocError>
     }
 }
 
-/// The line with a line end, and the status.
+/// Appends a line end.
 fn told(line: String, status: Status) -> Result<Answer, AllocError>
     ensures text { IfOk result (λ answer.
         string_bytes answer.text ≡ string_bytes line ++ codes "\n") }

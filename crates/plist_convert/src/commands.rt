@@ -1,4 +1,4 @@
-//! The command line, as `clap` is told of it.
+//! The command line, as defined for `clap`.
 ghost use Rattle.std.specs.Prelude.{◌≡◌, IfOk, IsOkAnd, codes, false};
 ghost use Rattle.clap.specs.Words.{AddsSubcommand, app_of, new_app, new_rule, rule_of};
 ghost use Rattle.plist_convert.specs.CommandLine.{IsConvert, IsProgram, file_word, one_file};
@@ -11,7 +11,7 @@ use std::alloc::{AllocError, Global};
 
 static FORMS: [&str; 2] = ["binary1", "openstep"];
 
-/// The command line of the program.
+/// Returns the command line of the program.
 pub(crate) fn program<'a>(alloc: Global) -> Result<Command<'a>, AllocError>
     ensures { IfOk result (λ command. IsProgram (app_of command)) }
 {
@@ -23,7 +23,7 @@ pub(crate) fn program<'a>(alloc: Global) -> Result<Command<'a>, AllocError>
     with_word(command, explain(alloc))
 }
 
-/// The command with one more word, where there was memory for that.
+/// Adds a subcommand.
 fn with_word<'a>(
     command: Command<'a>,
     word: Result<Command<'a>, AllocError>,
@@ -100,14 +100,14 @@ fn explain<'a>(alloc: Global) -> Result<Command<'a>, AllocError>
     ))
 }
 
-/// A word of the program, with its help.
+/// Returns a command with its help.
 fn word<'a>(alloc: Global, name: &'a str, about: &'a str, after: &'a str) -> Command<'a>
     ensures { app_of result ≡ new_app name.entry.now }
 {
     Command::new(alloc, name).about(about).after_help(after)
 }
 
-/// A word that has to stand in its place.
+/// Returns a required argument.
 fn place<'a>(alloc: Global, id: &'a str, text: &'a str) -> Arg<'a>
     ensures rule { rule_of result ≡ file_word id.entry.now }
     ensures local { result.global ≡ false }
@@ -115,7 +115,7 @@ fn place<'a>(alloc: Global, id: &'a str, text: &'a str) -> Arg<'a>
     Arg::new(alloc, id).required(true).help(text)
 }
 
-/// A word that may be left out.
+/// Returns an optional argument.
 fn optional<'a>(alloc: Global, id: &'a str, text: &'a str) -> Arg<'a>
     ensures rule { rule_of result ≡ new_rule id.entry.now }
     ensures local { result.global ≡ false }

@@ -1,4 +1,4 @@
-//! A file that is not touched before its first write.
+//! A file that is unchanged before its first write.
 ghost use Rattle.std.specs.Prelude.{◌≡◌, None, option_map, true};
 ghost use Rattle.plist_convert.specs.Opens.{held_by, is_begun};
 
@@ -6,7 +6,7 @@ use crate::opens::Opens;
 use std::io;
 use std::io::Write;
 
-/// The file at a path, which is created or emptied at the first write.
+/// The file at a path. It is created or emptied by the first write.
 #[derive(Drop)]
 pub(crate) struct CreatedFile<'a, O: Opens> {
     opener: &'a O,
@@ -16,7 +16,7 @@ pub(crate) struct CreatedFile<'a, O: Opens> {
 }
 
 impl<'a, O: Opens> CreatedFile<'a, O> {
-    /// The file at the path, as yet untouched.
+    /// Returns the file at the path, which is unchanged so far.
     pub(crate) fn new(opener: &'a O, path: &'a str) -> CreatedFile<'a, O>
         ensures opener { result.opener.now ≡ opener.entry.now }
         ensures writer { result.writer ≡ None }

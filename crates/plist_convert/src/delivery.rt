@@ -1,4 +1,4 @@
-//! From octets to a device, in long writes.
+//! Converts bytes and writes the output in large pieces.
 ghost use Rattle.std.specs.Prelude.{◌≡◌};
 ghost use Rattle.std.specs.Io.Buffered.{writer_contents};
 ghost use Rattle.plist_convert.specs.Delivery.{Delivers, Finishes, IsEmpty, reached};
@@ -9,14 +9,13 @@ use std::alloc::Global;
 use std::hash::BuildHasher;
 use std::io::{BufWriter, Write};
 
-/// Sends the value that the octets spell, in this form, to the device behind the writer, which
-/// gathers them for long writes. Gives the device back, and answers how many octets it took.
-/// Scalars are hashed by what the builder makes.
+/// Converts the bytes to this form and writes the output through the buffered writer. Returns the
+/// device and the number of bytes that it took. Scalars are hashed with the hasher of this builder.
 ///
 /// # Errors
 ///
-/// Those of [`convert_octets`](plist_forms::convert_octets). After 51 and 60 the device took
-/// exactly the first `sent` octets, and after any other it took none.
+/// Fails like [`convert_octets`](plist_forms::convert_octets). After 51 and 60 the device took
+/// exactly the first `sent` bytes, after any other fault none.
 pub(crate) fn deliver<H: BuildHasher + Copy, W: Write + Drop>(
     alloc: Global,
     hasher: H,
@@ -33,8 +32,8 @@ pub(crate) fn deliver<H: BuildHasher + Copy, W: Write + Drop>(
     finish(writer, sent)
 }
 
-// Writes all that was gathered, where all was sent, and gives the device back. The device is
-// written at once, so what could not be written is what stays in the buffer.
+// Flushes the buffer if everything was sent, and returns the device. The device is not buffered, so
+// the bytes that it did not take are those left in the buffer.
 fn finish<W: Write + Drop>(
     gathered: BufWriter<W>,
     sent: Result<u64, Fault>,
@@ -49,7 +48,7 @@ fn finish<W: Write + Drop>(
     (device, without(sent, rest.len() as u64))
 }
 
-// What is answered where so many octets did not reach the device.
+// Corrects the result if the last `left` bytes did not reach the device.
 fn without(sent: Result<u64, Fault>, left: u64) -> Result<u64, Fault>
     ensures { result ≡ reached left sent }
 {

@@ -1,4 +1,4 @@
-//! What holds files.
+//! Storage for files.
 ghost use Rattle.std.specs.Prelude.{◌≡◌, ℕ, IfErr, IfOk, OnOk, Option};
 ghost use Rattle.plist_forms.specs.Load.{octets_or};
 ghost use Rattle.plist_convert.specs.Files.{CountsFailure, Files, Holds, IsUnloaded, SameFiles};
@@ -7,24 +7,24 @@ ghost use Rattle.plist_convert.specs.Files.{Stores};
 use plist_forms::{Fault, Form};
 use std::alloc::Global;
 
-/// Files by path, and a count of the failures of their devices.
+/// Files by path, with a count of the failures of their devices.
 ///
-/// A disk in memory tells which path holds which octets. Of one that does not, as the files of the
-/// host, nothing is said of what stands at a path.
+/// A disk in memory knows the contents of each path. A disk that does not, such as the host's
+/// files, promises nothing about them.
 pub trait Disk {
-    // What stands at each path, where the disk tells it.
+    // The contents of each path, if the disk knows them.
     ghost files: { Self → Option Files };
 
-    // How many devices failed, up to `u64::MAX`.
+    // The number of devices that failed, up to `u64::MAX`.
     ghost failures: { Self → ℕ };
 
-    /// All octets of the file at the path.
+    /// Returns all bytes of the file at the path. No file is changed.
     ///
     /// # Errors
     ///
-    /// [`Fault::ReadFailed`] (50) where there is no file, or it cannot be opened or read;
-    /// [`Fault::InputTooLarge`] (52) where it has more than [`MAX_INPUT`](plist_forms::MAX_INPUT)
-    /// octets; [`Fault::OutOfMemory`] (60) where no memory is left. No file is changed.
+    /// [`Fault::ReadFailed`] (50) if there is no file, or it cannot be opened or read;
+    /// [`Fault::InputTooLarge`] (52) if it has more than [`MAX_INPUT`](plist_forms::MAX_INPUT)
+    /// bytes; [`Fault::OutOfMemory`] (60).
     fn load(&mut self, alloc: Global, path: &str) -> Result<Vec<u8>, Fault>
         ensures kept { SameFiles (files self.old) (files self.new) }
         ensures found { IfOk result (λ octets. Holds (files self.old) path.now octets.items) }
@@ -32,12 +32,12 @@ pub trait Disk {
         ensures refused { IfErr result
             (IsUnloaded (files self.old) path.now (failures self.old) (failures self.new)) };
 
-    /// All octets of the file at the path, or `None` if they are the known ones, which then take no
-    /// memory a second time.
+    /// Returns all bytes of the file at the path, or `None` if they are the known ones, which are
+    /// then not allocated a second time.
     ///
     /// # Errors
     ///
-    /// Those of [`load`](Disk::load).
+    /// Fails like [`load`](Disk::load).
     fn load_unless(
         &mut self,
         alloc: Global,
@@ -51,18 +51,17 @@ pub trait Disk {
         ensures refused { IfErr result
             (IsUnloaded (files self.old) path.now (failures self.old) (failures self.new)) };
 
-    /// Writes the value that the octets spell to the file at the path, in this form: the file is
-    /// created or emptied at the first octet that is put. Answers how many octets it has then. The
-    /// octets are given up.
+    /// Converts the bytes to this form and writes the output to the file at the path. The file is
+    /// created or emptied when the first byte is put. Returns its size. The memory of the input is
+    /// freed early.
     ///
     /// # Errors
     ///
-    /// Those of [`convert_octets`](plist_forms::convert_octets): before anything is put, where
-    /// the octets are refused or their value has no such form, and no file is changed;
-    /// [`Fault::WriteFailed`] (51) where the file cannot be created or written, and
-    /// [`Fault::OutOfMemory`] (60) where no memory is left. Exactly the first `sent` octets stand
-    /// at the path after these two; where that is none of them, the file may be as it was. No other
-    /// file is changed.
+    /// Fails like [`convert_octets`](plist_forms::convert_octets). If the bytes are refused or the
+    /// form cannot encode their value, it fails before anything is put, and no file is changed.
+    /// [`Fault::WriteFailed`] (51) if the file cannot be created or written, and
+    /// [`Fault::OutOfMemory`] (60). After these two the file has exactly the first `sent` bytes; if
+    /// `sent` is 0, it may be unchanged. No other file is changed.
     fn store(
         &mut self,
         alloc: Global,
@@ -73,12 +72,12 @@ pub trait Disk {
         ensures { Stores form octets.items (files self.old) (files self.new)
             (failures self.old) (failures self.new) path.now result };
 
-    /// How many devices failed so far. The count stays at `u64::MAX`.
+    /// Returns the number of devices that failed so far, up to `u64::MAX`.
     fn failures(&self) -> u64
         ensures { result ≡ failures self.now };
 }
 
-/// The count of failures after a file was sent so.
+/// Returns the count of failures after a file was sent with this result.
 pub(crate) fn failures_after(failures: u64, sent: &Result<u64, Fault>) -> u64
     ensures { CountsFailure failures result sent.now }
 {

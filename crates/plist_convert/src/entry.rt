@@ -1,4 +1,4 @@
-//! The whole program.
+//! The complete program.
 ghost use Rattle.std.specs.Prelude.{◌≡◌, map};
 ghost use Rattle.plist_convert.specs.Asked.{asked_by};
 ghost use Rattle.plist_convert.specs.Program.{DeviceFailed, IsAskedRun, IsHostRun, IsRun};
@@ -19,14 +19,17 @@ use std::io::{Read, Write};
 use std::random::RandomSource;
 use std::rt::Files;
 
-/// The whole program over the files of the host: reads the words, of which the first is the
-/// program's name, does what they ask, and answers the exit status: 0 where it is done, 1 where two
-/// values differ or a file that was checked is not canonical, 2 where a file is refused, 3 where
-/// the words are not understood, 4 where a file cannot be read or written or a line cannot be
-/// printed, 5 where no memory is left.
+/// Runs the complete program on the files of the host. Parses the arguments, of which the first is
+/// the program's name, executes the command, and returns the exit status:
+/// - 0: done;
+/// - 1: the values differ, or the checked file is not canonical;
+/// - 2: a file is refused;
+/// - 3: usage error;
+/// - 4: a file cannot be read or written, or a line cannot be printed;
+/// - 5: out of memory.
 ///
-/// `input` and `output` are standard input and standard output. Answers, refusals and the texts of
-/// `clap` are printed on `output`.
+/// `input` and `output` are standard input and standard output. All results, refusals and messages
+/// of `clap` are printed to `output`.
 pub fn run<R: Files, I: Read, O: Write>(
     rt: &R,
     alloc: Global,
@@ -40,9 +43,9 @@ pub fn run<R: Files, I: Read, O: Write>(
     run_last(rt, alloc, FixedHasher::new(), words, input, output)
 }
 
-/// [`run`], where scalars are hashed by a [`RandomState`] that is made once, so that nobody can
-/// pick some that collide; if the system gives no random octets, by the fixed builder. What is
-/// answered is the same. It is what `main` calls.
+/// Like [`run`], but hashes scalars with a [`RandomState`] that is created once, so that nobody can
+/// choose scalars that collide. Uses the fixed hasher if the system has no random bytes. The
+/// results are equal to those of [`run`]. `main` calls this function.
 pub fn run_to_end<R: Files + RandomSource, I: Read, O: Write>(
     rt: &R,
     alloc: Global,
@@ -59,7 +62,7 @@ pub fn run_to_end<R: Files + RandomSource, I: Read, O: Write>(
     }
 }
 
-/// A run where scalars are hashed by what the builder makes.
+/// Runs the program with the hasher of this builder.
 fn run_last<H: BuildHasher + Copy, R: Files, I: Read, O: Write>(
     rt: &R,
     alloc: Global,
@@ -77,12 +80,11 @@ fn run_last<H: BuildHasher + Copy, R: Files, I: Read, O: Write>(
     run_on(alloc, hasher, &mut disk, words, &mut source, &mut sink)
 }
 
-/// The whole program over any disk and streams, as [`run`] over the files of the host.
+/// Runs the complete program on any disk and streams, like [`run`] on the files of the host.
 ///
-/// Scalars are hashed by what the builder makes. Where somebody else picks what is converted,
-/// compared or checked, hand it a [`RandomState`]: scalars that were picked to collide under
-/// [`FixedHasher`] cost no more than others then. What is stored the disk converts, by a builder of
-/// its own.
+/// Scalars are hashed with the hasher of this builder. If somebody else chooses what is converted,
+/// compared or checked, pass a [`RandomState`]: scalars chosen to collide under [`FixedHasher`]
+/// then cost no more than others. The disk converts what it stores with a builder of its own.
 pub fn run_on<H: BuildHasher + Copy, D: Disk, S: Source, W: Sink>(
     alloc: Global,
     hasher: H,
@@ -100,7 +102,7 @@ pub fn run_on<H: BuildHasher + Copy, D: Disk, S: Source, W: Sink>(
         (W.taken output.new) (W.failures output.new))
         result }
     ensures same { W.device output.new ≡ W.device output.old }
-    // 4 comes only where a device failed.
+    // The exit status is 4 only if a device failed.
     ensures blamed { result ≡ 4 → DeviceFailed
         (input_of (S.remaining input.old) (S.failures input.old))
         (input_of (S.remaining input.new) (S.failures input.new))
@@ -112,7 +114,7 @@ pub fn run_on<H: BuildHasher + Copy, D: Disk, S: Source, W: Sink>(
     perform(alloc, hasher, disk, words, input, output)
 }
 
-/// Reads the words, and does what they ask for.
+/// Parses the arguments and executes the command.
 fn perform<H: BuildHasher + Copy, D: Disk, S: Source, W: Sink>(
     alloc: Global,
     hasher: H,
@@ -137,7 +139,7 @@ fn perform<H: BuildHasher + Copy, D: Disk, S: Source, W: Sink>(
     }
 }
 
-/// Does what was asked for.
+/// Executes the command.
 fn obey<H: BuildHasher + Copy, D: Disk, S: Source, W: Sink>(
     alloc: Global,
     hasher: H,

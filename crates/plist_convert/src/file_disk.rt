@@ -1,4 +1,4 @@
-//! A disk over files that an opener reaches.
+//! A disk with the files of an opener.
 ghost use Rattle.std.specs.Prelude.{◌≡◌, IfErr, IfOk, None, OnErr, option_map};
 ghost use Rattle.std.specs.Io.Buffered.{writer_contents};
 ghost use Rattle.plist_forms.specs.Load.{octets_or};
@@ -18,9 +18,9 @@ use std::io::BufWriter;
 /// The size of the write buffer: writes of 4,096 bytes cost several times as much per byte.
 const GATHERED: usize = 262_144;
 
-/// A disk over the files of an opener. It tells of them what the opener tells.
+/// A disk with the files of an opener. It knows their contents if the opener does.
 ///
-/// Scalars of what it stores are hashed by what the builder makes.
+/// Scalars of stored files are hashed with the hasher of this builder.
 #[derive(Drop)]
 pub struct FileDisk<O, H> {
     opener: O,
@@ -31,7 +31,7 @@ pub struct FileDisk<O, H> {
 impl<O: Opens, H: BuildHasher + Copy> FileDisk<O, H> {
     ghost use Rattle.plist_convert.specs.FileDisk.{failures_of, files_of};
 
-    /// Returns a disk over the files of this opener.
+    /// Returns a disk with the files of this opener.
     pub fn over(opener: O, hasher: H) -> FileDisk<O, H>
         ensures files { files_of O.files result ≡ O.files opener }
         ensures failures { failures_of result ≡ 0 }
@@ -123,8 +123,8 @@ fn failures_after_load(failures: u64, found: &Result<Option<Vec<u8>>, Fault>) ->
     }
 }
 
-/// Writes the value that the octets spell to the file at the path, in this form, and creates it at
-/// the first write. Returns the writer of the file if it was created. Fails like [`deliver`].
+/// Converts the bytes to this form and writes the output to the file at the path, which is created
+/// at the first write. Returns the writer of the file if it was created. Fails like [`deliver`].
 fn create<'a, O: Opens, H: BuildHasher + Copy>(
     opener: &'a O,
     alloc: Global,
@@ -141,7 +141,7 @@ fn create<'a, O: Opens, H: BuildHasher + Copy>(
     (file.writer, stored)
 }
 
-/// Closes the file at the path, if it was created. If there is no memory for that, no file changes.
+/// Closes the file at the path, if it was created. If out of memory for that, no file changes.
 fn settle<O: Opens>(opener: &mut O, path: &str, writer: Option<O::Writer>) -> Result<(), AllocError>
     ensures settles { IfOk result (λ _. Settles path.now
         (option_map O.Writer.contents writer) (O.files opener.old) (O.files opener.new)) }
@@ -153,8 +153,8 @@ fn settle<O: Opens>(opener: &mut O, path: &str, writer: Option<O::Writer>) -> Re
     }
 }
 
-/// Returns a buffer before the file at the path, which is not created. If there is no memory for
-/// it, each piece is a write.
+/// Returns a buffered writer of the file at the path, which is not created yet. If out of memory
+/// for the buffer, each piece is a write.
 fn gathering<'a, O: Opens>(
     opener: &'a O,
     alloc: Global,

@@ -1,4 +1,4 @@
-//! The program without words: from standard input to standard output.
+//! The program without arguments: from standard input to standard output.
 ghost use Rattle.std.specs.Prelude.{◌≡◌, ℕ, Option};
 ghost use Rattle.plist_convert.specs.Files.{Files};
 ghost use Rattle.plist_convert.specs.Runs.{IsFilterRun};
@@ -10,11 +10,11 @@ use plist_forms::{Form, Status, convert_with_hasher};
 use std::alloc::Global;
 use std::hash::BuildHasher;
 
-/// The path that stands for standard input and standard output in a line.
+/// The path of standard input and standard output in printed lines.
 pub(crate) const STANDARD: &str = "-";
 
-/// The canonical file of the input, to the output, object after object. All of the input is read
-/// before the first octet goes out. Scalars are hashed by what the builder makes.
+/// Writes the canonical file of the input to the output, object by object. Reads all of the input
+/// before it writes the first byte. Scalars are hashed with the hasher of this builder.
 pub(crate) fn filter<H: BuildHasher + Copy, S: Source, W: Sink>(
     alloc: Global,
     hasher: H,

@@ -1,10 +1,9 @@
-//! The texts of `--help`: what the program and each of its commands read, write and answer. No line
+//! The texts of `--help`: what the program and each of its commands read, write and print. No line
 //! is wider than 80 columns, and the help of the program has at most 30 lines.
 
-/// What the program is for.
 pub(crate) const ABOUT: &str = "Converts Apple property lists to their canonical form";
 
-/// What it does without a command, and how it ends.
+/// The program without a command, its messages and its exit statuses.
 pub(crate) const AFTER: &str = "\
 Reads binary property lists (bplist00) and OpenStep texts. XML has to be made
 binary first:
@@ -20,10 +19,8 @@ Exit status: 0 done, equal, accepted or canonical; 1 different or not canonical;
 
 `plistconv explain` lists what refusals mean, `man plistconv` says the rest.";
 
-/// What `convert` is for.
 pub(crate) const CONVERT_ABOUT: &str = "Writes the property list of one file to another";
 
-/// What `convert` reads, writes and answers.
 pub(crate) const CONVERT_AFTER: &str = "\
 Reads a property list, a binary file or an OpenStep text, from IN and writes its
 value to OUT: for binary1 as its canonical binary file, for openstep as a text.
@@ -44,10 +41,8 @@ Exit status:
   4  a file cannot be read or written, or the line cannot be printed
   5  out of memory";
 
-/// What `same` is for.
 pub(crate) const SAME_ABOUT: &str = "Compares the values of two property lists";
 
-/// What `same` reads and answers.
 pub(crate) const SAME_AFTER: &str = "\
 Reads two property lists, binary files or OpenStep texts, from A and B, and
 writes no file. Prints one line: equal or different, which tells values apart
@@ -65,10 +60,8 @@ Exit status:
   4  a file cannot be read, or the line cannot be printed
   5  out of memory";
 
-/// What `lint` is for.
 pub(crate) const LINT_ABOUT: &str = "Checks whether a file is a property list";
 
-/// What `lint` reads and answers.
 pub(crate) const LINT_AFTER: &str = "\
 Reads a property list, a binary file or an OpenStep text, from IN, and writes no
 file. Prints one line: IN: OK, or what is refused, where, and why.
@@ -89,10 +82,8 @@ Exit status:
   4  the file cannot be read, or the line cannot be printed
   5  out of memory";
 
-/// What `check` is for.
 pub(crate) const CHECK_ABOUT: &str = "Checks whether a file is already canonical";
 
-/// What `check` reads and answers.
 pub(crate) const CHECK_AFTER: &str = "\
 Reads a binary property list (bplist00) from IN, and writes no file. Prints one
 line: canonical, or a rule that is broken and the object at which this was seen,
@@ -121,10 +112,8 @@ Exit status:
   4  the file cannot be read, or the line cannot be printed
   5  out of memory";
 
-/// What `print` is for.
 pub(crate) const PRINT_ABOUT: &str = "Prints the value of a file for people to read";
 
-/// What `print` reads and prints.
 pub(crate) const PRINT_AFTER: &str = "\
 Reads a property list, a binary file or an OpenStep text, from IN, and writes no
 file. Prints its value, whatever it holds; if IN is refused, only one line that
@@ -145,10 +134,8 @@ Exit status:
   4  the file cannot be read, or its value cannot be printed
   5  out of memory";
 
-/// What `explain` is for.
 pub(crate) const EXPLAIN_ABOUT: &str = "Explains a refusal or a rule";
 
-/// What `explain` prints.
 pub(crate) const EXPLAIN_AFTER: &str = "\
 Prints what a refusal or a rule means, an example, and what to do. WHAT is the
 number or the name of a refusal, or a rule that check names. Without WHAT,

@@ -10,9 +10,9 @@ use std::hash::BuildHasher;
 use std::rt::Files;
 use std::{fs, io};
 
-/// The files of the host, by their paths. It tells nothing of what they hold.
+/// The files of the host, by path. Contracts know nothing about their contents.
 ///
-/// What it stores is converted, and scalars are hashed by what the builder makes.
+/// Scalars of stored files are hashed with the hasher of this builder.
 pub type HostDisk<'a, R, H = FixedHasher> = FileDisk<HostFiles<'a, R>, H>;
 
 /// Opens the files of the host.
@@ -51,9 +51,10 @@ impl<R: Files> Steady for HostFiles<'_, R> {
 impl<'a, R: Files, H: BuildHasher + Copy> FileDisk<HostFiles<'a, R>, H> {
     ghost use Rattle.plist_convert.specs.FileDisk.{failures_of};
 
-    /// The files that this runtime reaches. Scalars are hashed by what the builder makes: where
-    /// somebody else picks what is converted, hand it a [`RandomState`](std::hash::RandomState).
-    /// Scalars that were picked to collide under [`FixedHasher`] cost no more than others then.
+    /// Returns the files that this runtime can access. Scalars are hashed with the hasher of this
+    /// builder. If somebody else chooses what is converted, pass a
+    /// [`RandomState`](std::hash::RandomState): scalars chosen to collide under [`FixedHasher`]
+    /// then cost no more than others.
     pub fn new(rt: &'a R, hasher: H) -> FileDisk<HostFiles<'a, R>, H>
         ensures { failures_of result ≡ 0 }
     {

@@ -1,6 +1,6 @@
-//! The program `plistconv` over any files, input and output: its words, its answers and its
-//! statuses. With it all that the library offers: sources and sinks, what is loaded from them and
-//! converted between them, canonical files, refusals.
+//! The program `plistconv` on any files, input and output: its commands, their results and exit
+//! statuses. Also exports all that the library offers: sources and sinks, loading and converting,
+//! canonical files, refusals.
 #![tactic(auto)]
 
 pub mod answers;

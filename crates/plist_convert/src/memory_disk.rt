@@ -12,9 +12,9 @@ use std::alloc::{AllocError, Global};
 use std::collections::BTreeMap;
 use std::marker::Brand;
 
-/// A disk in memory, for tests and for whoever builds on it: it tells what stands at each path.
-/// Each file has room for so many octets, and takes at most `step` of them per put. 51 comes only
-/// where an output is longer than the room.
+/// A disk in memory, for tests and for other programs. The contents of each path are known. Each
+/// file has a maximum size, `room`, and takes at most `step` bytes per put. 51 occurs only if an
+/// output is longer than `room`.
 #[derive(Drop)]
 pub struct MemoryDisk {
     files: BTreeMap<String, Vec<u8>>,
@@ -27,7 +27,7 @@ pub struct MemoryDisk {
 impl MemoryDisk {
     ghost use Rattle.plist_convert.specs.MemoryDisk.{failures_of, files_of, room_of};
 
-    /// A disk with no files. The step is above 0.
+    /// Creates a disk without files. The step is above 0.
     pub fn new(alloc: Global, room: usize, step: usize) -> MemoryDisk
         requires { 0 < step }
         ensures empty { (path : FileName) → files_of result path ≡ None }
@@ -42,7 +42,7 @@ impl MemoryDisk {
         }
     }
 
-    /// Puts a file with these octets at the path.
+    /// Writes a file with these bytes to the path.
     pub fn put(&mut self, alloc: Global, path: &str, octets: Vec<u8>) -> Result<(), AllocError>
         ensures put { IfOk result (λ _. files_of self.new path.now ≡ Some octets.items) }
         ensures others { SameBeside path.now (Some (files_of self.old)) (Some (files_of self.new)) }
@@ -56,7 +56,7 @@ impl MemoryDisk {
         Ok(())
     }
 
-    /// The octets that stand at the path.
+    /// Returns the bytes of the file at the path.
     pub fn at(&self, path: &str) -> Option<&[u8]>
         ensures { option_map (λ octets. octets.now) result ≡ files_of self.now path.now }
     {
@@ -125,8 +125,7 @@ impl Disk for MemoryDisk {
             (failures_of self.old) (failures_of self.new) path.now result }
         ensures room { room_of self.new ≡ room_of self.old }
 
-        // A file takes no more than its room, and the device fails only where that does not
-        // suffice.
+        // A file never exceeds its maximum size, and the device fails only if an output does.
         ensures fits { IfOk result (λ count. count ≤ room_of self.old) }
         ensures full { IfErr result (IsFullAt form octets.items (room_of self.old)) }
     {

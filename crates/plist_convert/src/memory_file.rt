@@ -1,4 +1,4 @@
-//! A file in memory, of which it is known throughout how many octets it takes.
+//! A file in memory whose maximum size is known to its type.
 ghost use Rattle.std.specs.Prelude.{◌≡◌, ◌<◌, ℕ, [], IfOk, Some};
 ghost use Rattle.plist_devices.specs.ListSink.{failures_of, octets_taken, room_of};
 ghost use Rattle.plist_forms.specs.Transfer.{Writes};
@@ -9,9 +9,9 @@ use plist_value::FixedHasher;
 use std::alloc::{AllocError, Global};
 use std::marker::{Brand, PhantomData};
 
-/// The room of a file.
+/// The maximum size of a file.
 pub(crate) trait Room {
-    // How many octets it takes at most.
+    // The greatest number of bytes.
     ghost octets: { ℕ };
 }
 
@@ -19,7 +19,7 @@ impl Room for Brand {
     ghost octets = { 0 };
 }
 
-/// A file in memory with this room.
+/// A file in memory with this maximum size.
 #[derive(Drop)]
 struct MemoryFile<K: Room> {
     sink: ListSink,
@@ -45,12 +45,12 @@ impl<K: Room> Sink for MemoryFile<K> {
     }
 }
 
-/// Sends the value that the octets spell, in this form, to an empty file with so much room, which
-/// takes at most `step` octets per put. Answers the file, and how many octets it has then.
+/// Converts the bytes to this form and writes the output to an empty file of at most `room` bytes,
+/// which takes at most `step` bytes per put. Returns the file and its size.
 ///
 /// # Errors
 ///
-/// Where no memory is left for the room.
+/// [`AllocError`] if out of memory for the file.
 pub(crate) fn fill<K: Room>(
     alloc: Global,
     room: usize,

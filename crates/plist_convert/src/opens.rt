@@ -1,4 +1,4 @@
-//! What opens files by path.
+//! Opens files by path.
 ghost use Rattle.std.specs.Prelude.{◌≡◌, IfOk, IfSome, OnErr, Option};
 ghost use Rattle.plist_convert.specs.Files.{Files, Lacks, SameFiles};
 ghost use Rattle.plist_convert.specs.Opens.{IsNew, Puts, ReadsAll};
@@ -10,14 +10,14 @@ use std::io::Write;
 
 /// Opens and creates files by path.
 ///
-/// One over memory tells which path holds which bytes. The host's files tell nothing, but what is
-/// proved over every opener is true of the same code over them.
+/// An opener in memory knows the contents of each path. The host's files do not, but what is proved
+/// for every opener is true of the same code with them.
 pub trait Opens {
     type Reader: Source + Drop;
 
     type Writer: Write + Drop;
 
-    // What is at each path, if the opener tells.
+    // The contents of each path, if the opener knows them.
     ghost files: { Self → Option Files };
 
     /// Opens the file at the path to read it from its start. Fails if there is none.
@@ -32,15 +32,15 @@ pub trait Opens {
         ensures { IfOk result (λ writer.
             IsNew (files self.now) (Self.Writer.contents writer)) };
 
-    /// Closes the file at the path, which holds what the writer wrote. No file changes if there is
-    /// no memory to keep that.
+    /// Closes the file at the path, which contains what the writer wrote. If out of memory for
+    /// that, no file changes.
     fn keep(&mut self, path: &str, writer: Self::Writer) -> Result<(), AllocError>
         ensures kept { IfOk result (λ _.
             Puts path.now (Self.Writer.contents writer) (files self.old) (files self.new)) }
         ensures unchanged { OnErr result (SameFiles (files self.old) (files self.new)) };
 }
 
-/// An opener whose reads do not fail, if it tells which files there are.
+/// An opener whose reads never fail, if it knows the files.
 pub trait Steady: Opens {
     ghost steady: { (opener : Self) → IfSome (Self.files opener)
         (λ _. (reader : Self.Reader) → Self.Reader.failures reader ≡ 0) };

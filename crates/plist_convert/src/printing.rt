@@ -1,4 +1,4 @@
-//! Printing: lines, and how the program ends for them.
+//! Printing, and the exit status that results.
 ghost use Rattle.std.specs.Prelude.{◌≡◌, MatchResult, IsTrue};
 ghost use Rattle.clap.specs.Words.{kind_of};
 ghost use Rattle.plist_forms.specs.Status.{status_code};
@@ -12,7 +12,7 @@ use plist_devices::{Sink, put_all};
 use plist_forms::{Fault, Status};
 use std::alloc::{AllocError, Global};
 
-/// Prints the text, and answers the status, or that it could not be printed.
+/// Prints the text and returns the status, or 4 if the text cannot be printed.
 pub(crate) fn print<W: Sink>(output: &mut W, text: &str, status: Status) -> u8
     ensures ends { Prints (W.taken output.old) (W.taken output.new)
         (W.failures output.old) (W.failures output.new)
@@ -25,7 +25,7 @@ pub(crate) fn print<W: Sink>(output: &mut W, text: &str, status: Status) -> u8
     }
 }
 
-/// Prints an answer, and answers its status.
+/// Prints a result and returns its exit status.
 pub(crate) fn give<W: Sink>(output: &mut W, answer: Result<Answer, AllocError>) -> u8
     ensures ends { MatchResult answer
         (λ answer. Prints (W.taken output.old) (W.taken output.new)
@@ -40,7 +40,7 @@ pub(crate) fn give<W: Sink>(output: &mut W, answer: Result<Answer, AllocError>) 
     }
 }
 
-/// Prints the line of a refusal, and answers its status.
+/// Prints the line of a refusal and returns its exit status.
 pub(crate) fn report<W: Sink>(alloc: Global, path: &str, fault: &Fault, output: &mut W) -> u8
     ensures ends { Ends (W.taken output.old) (W.taken output.new)
         (W.failures output.old) (W.failures output.new) (refusal path.now fault.now) result }
@@ -52,7 +52,7 @@ pub(crate) fn report<W: Sink>(alloc: Global, path: &str, fault: &Fault, output: 
     }
 }
 
-/// Prints what `clap` says of the words, and answers the status.
+/// Prints the message of `clap` and returns the exit status.
 pub(crate) fn explain<W: Sink>(alloc: Global, error: &Error, output: &mut W) -> u8
     ensures ends { Explains (kind_of error.now) (W.taken output.old) (W.taken output.new)
         (W.failures output.old) (W.failures output.new) result }
@@ -65,8 +65,8 @@ pub(crate) fn explain<W: Sink>(alloc: Global, error: &Error, output: &mut W) -> 
     }
 }
 
-/// Whether the text can be one of `clap`'s for an error with this status: that of a mistake says
-/// that it is an error. Where no memory was left, there is none.
+/// Returns whether the text can be a message of `clap` with this status. A usage error begins with
+/// `error: `. There is no message if out of memory.
 fn explains(text: &str, status: Status) -> bool
     ensures { IsTrue result → IsExplanation (status_code status) text.now }
 {

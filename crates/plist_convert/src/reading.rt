@@ -1,4 +1,4 @@
-//! What the words on the command line ask for.
+//! Parses the command line.
 ghost use Rattle.std.specs.Prelude.{◌≡◌, ◌<◌, ◌≤◌, length, map, option_map, Ok};
 ghost use Rattle.clap.specs.Words.{app_of, first_of, found_of, rows_of, subcommand_rows_of};
 ghost use Rattle.plist_convert.specs.Asked.{asked_by, asked_at, check_at, convert_at};
@@ -13,12 +13,13 @@ use clap::{ArgMatches, Command, Error};
 use plist_forms::Form;
 use std::alloc::Global;
 
-/// What these words ask for, of which the first is the program's name: without another, the filter.
+/// Returns the request of these arguments, of which the first is the program's name. Without
+/// another argument, it is the filter.
 ///
 /// # Errors
 ///
-/// Words that ask for nothing, or for help, are an error with the text to print. Where no memory is
-/// left, the kind of the error is `OutOfMemory`.
+/// Arguments that are not a command, or that ask for help, are an error with the text to print. If
+/// out of memory, the kind of the error is `OutOfMemory`.
 pub fn read_words<'a>(alloc: Global, words: &'a [&'a str]) -> Result<Request<'a>, Error>
     ensures filter { length words.now < 2 → result ≡ Ok Request.Filter }
     ensures reading { 2 ≤ length words.now → IsReading (map (λ word. word.now) words.now) result }
@@ -30,7 +31,7 @@ pub fn read_words<'a>(alloc: Global, words: &'a [&'a str]) -> Result<Request<'a>
     read_by(&mut command, words)
 }
 
-/// What the words ask for, by the program's command line.
+/// Parses the arguments with the program's command line.
 fn read_by<'a>(command: &mut Command<'a>, words: &'a [&'a str]) -> Result<Request<'a>, Error>
     ensures { IsProgram (app_of command.old)
         → IsReading (map (λ word. word.now) words.now) result }
@@ -118,7 +119,7 @@ fn form_named(name: &str) -> Option<Form>
     }
 }
 
-/// The word that stands in this place.
+/// Returns the value of this argument.
 fn value<'a>(given: &ArgMatches<'a>, id: &str) -> Option<&'a str>
     ensures { option_map (λ text. text.now) result
         ≡ first_of id.now (rows_of (found_of given.now)) }

@@ -1,36 +1,36 @@
-//! What the program can be asked for.
+//! The requests that the program executes.
 
 use plist_forms::Form;
 
-/// One thing that the program can be asked for.
+/// A command with its arguments.
 #[derive(Clone, Copy, Debug, PartialEq, Eq)]
 pub enum Request<'a> {
-    /// No words: the canonical file of standard input, to standard output.
+    /// No arguments: writes the canonical file of standard input to standard output.
     Filter,
-    /// `convert FORM IN OUT`: one file, in this form, to another.
+    /// `convert FORM IN OUT`: converts a file to this form.
     Convert {
         form: Form,
         from: &'a str,
         to: &'a str,
     },
-    /// `same A B`: whether two files spell equal values.
+    /// `same A B`: compares the values of two files.
     Same {
         first: &'a str,
         second: &'a str,
     },
-    /// `lint IN`: whether a file is accepted.
+    /// `lint IN`: checks whether a file is accepted.
     Lint {
         path: &'a str,
     },
-    /// `check IN`: whether a file is canonical.
+    /// `check IN`: checks whether a file is canonical.
     Check {
         path: &'a str,
     },
-    /// `print IN`: the printed text of the value of a file, to standard output.
+    /// `print IN`: prints the value of a file to standard output.
     Print {
         path: &'a str,
     },
-    /// `explain WHAT`: what a refusal or a rule means, or a line for each.
+    /// `explain WHAT`: explains a refusal or a rule, or lists all of them.
     Explain {
         what: Option<&'a str>,
     },

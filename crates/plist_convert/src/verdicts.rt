@@ -7,7 +7,8 @@ use plist_canon::Verdict;
 use plist_forms::Status;
 use std::alloc::{AllocError, Global};
 
-/// The line of a verdict, without a line end: `canonical`, or `broken C7 at object 0`.
+/// Returns the line of a verdict, without a line end, such as `canonical` or `broken C7 at object
+/// 0`.
 pub(crate) fn verdict_line(alloc: Global, verdict: Verdict) -> Result<String, AllocError>
     ensures { IfOk result (λ text. string_bytes text ≡ verdict_text verdict) }
 {
@@ -19,7 +20,7 @@ pub(crate) fn verdict_line(alloc: Global, verdict: Verdict) -> Result<String, Al
     }
 }
 
-/// The status with which the program ends: 0 for a canonical file, and 1 for any other.
+/// Returns the exit status: 0 for a canonical file, 1 for any other.
 pub(crate) fn verdict_status(verdict: Verdict) -> Status
     ensures { status_code result ≡ verdict_status_for verdict }
 {

@@ -1,4 +1,4 @@
-//! What each word of the program does with the files that it names.
+//! Executes each command on the files of its arguments.
 ghost use Rattle.std.specs.Prelude.{◌≡◌, ℕ, Option, option_map};
 ghost use Rattle.plist_convert.specs.Files.{Files};
 ghost use Rattle.plist_convert.specs.Runs.{IsCheckRun, IsConvertRun, IsLintRun, IsPrintRun};
@@ -15,7 +15,7 @@ use plist_forms::{Fault, Form, Status, print};
 use std::alloc::Global;
 use std::hash::BuildHasher;
 
-/// `check IN`.
+/// Executes `check IN`.
 pub(crate) fn check_file<H: BuildHasher + Copy, D: Disk, W: Sink>(
     alloc: Global,
     hasher: H,
@@ -37,7 +37,7 @@ pub(crate) fn check_file<H: BuildHasher + Copy, D: Disk, W: Sink>(
     }
 }
 
-/// `lint IN`.
+/// Executes `lint IN`.
 pub(crate) fn lint_file<D: Disk, W: Sink>(
     alloc: Global,
     disk: &mut D,
@@ -58,7 +58,8 @@ pub(crate) fn lint_file<D: Disk, W: Sink>(
     }
 }
 
-/// `same A B`: loads A, then B, and only then reads them. Equal files are in memory once.
+/// Executes `same A B`. Loads both files before it reads them. Identical files are in memory only
+/// once.
 pub(crate) fn compare_files<H: BuildHasher + Copy, D: Disk, W: Sink>(
     alloc: Global,
     hasher: H,
@@ -92,8 +93,8 @@ pub(crate) fn compare_files<H: BuildHasher + Copy, D: Disk, W: Sink>(
     }
 }
 
-/// `convert FORM IN OUT`: OUT is created or emptied when the first octet goes to it, and so not
-/// where IN is refused.
+/// Executes `convert FORM IN OUT`. OUT is created or emptied when its first byte is written, so it
+/// is unchanged if IN is refused.
 pub(crate) fn convert_file<D: Disk, W: Sink>(
     alloc: Global,
     disk: &mut D,
@@ -120,8 +121,7 @@ pub(crate) fn convert_file<D: Disk, W: Sink>(
     }
 }
 
-/// `print IN`: the printed text of the value, object after object. Nothing of it goes out unless IN
-/// is accepted.
+/// Executes `print IN`. Prints object by object, and only if IN is accepted.
 pub(crate) fn print_file<D: Disk, W: Sink>(
     alloc: Global,
     disk: &mut D,
@@ -146,7 +146,7 @@ pub(crate) fn print_file<D: Disk, W: Sink>(
     }
 }
 
-/// `explain WHAT`.
+/// Executes `explain WHAT`.
 pub(crate) fn explain_what<W: Sink>(alloc: Global, what: Option<&str>, output: &mut W) -> u8
     ensures run { (disk : ℕ) (files : Option Files) → IsExplainRun
         (option_map (λ word. word.now) what.entry)
@@ -157,7 +157,7 @@ pub(crate) fn explain_what<W: Sink>(alloc: Global, what: Option<&str>, output: &
     give(output, explain_answer(alloc, what))
 }
 
-/// The path under which a refusal is told of what goes from one path to another.
+/// Returns the path that the line of a refusal names.
 fn path_of<'a>(fault: &Fault, from: &'a str, to: &'a str) -> &'a str
     ensures { result.now ≡ path_of_fault from.now to.now fault.now }
 {

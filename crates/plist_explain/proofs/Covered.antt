@@ -1,4 +1,4 @@
--- What names each refusal and each rule, looked up in the table.
+-- Looks up the names and numbers of all refusals and rules in the table.
 use Rattle.std.proofs.Common.{arith, refl, zero, suc}
 use Rattle.std.specs.Fmt.{digits}
 use Rattle.plist_value.specs.declared.refusals.Refusal.TheVariants.{TooShort, BadHeader, BadTrailer, BadOffset, BadReference, CutObject, BadMarker, NullObject, UidObject, SetObject, NotAscii, WideInteger, KeyNotText, DuplicateKey, Cycle, TooDeep, TooManyNodes, TooMuchPayload, BadUtf8, XmlForm, UnexpectedCharacter, UnclosedString, UnclosedComment, BadEscape, OctalRange, OddData, BadData, Expected, Junk, BadUtf16, NotInOpenStep, ReadFailed, WriteFailed, InputTooLarge, OutOfMemory}

@@ -1,4 +1,4 @@
--- The first row that a word names is the first entry that it names.
+-- The first row of the table that a word names gives the first entry that it names.
 use Rattle.std.proofs.Common.{ap, refl, sym, true, false, Bool, List, Option, None, Some, [], ◌∷◌, ◌∙◌, ◌≡◌, ℕ}
 use Rattle.std.specs.Prelude.{cond, find, map, option_map}
 use Rattle.std.specs.Borrow.{Bor}

@@ -1,4 +1,4 @@
--- What is explained: the words that name it, and what is printed.
+-- What can be explained, the words that name it, and what is printed.
 use Rattle.std.specs.Prelude.{◌≡◌, ◌<◌, ℕ, Bool, List, Option, Some, ◌++◌, ◌||◌, codes, find, flat_map, map, option_map}
 use Rattle.std.specs.Borrow.{Bor}
 use Rattle.std.specs.Str.{bytes_eq}
@@ -19,7 +19,7 @@ pub record Entry : Type 0 where
 abbrev pub entry_of : Subject × Bor (List ℕ) × Bor (List ℕ) → Entry
 entry_of row = record { subject = row.0; meaning = row.1.now; text = row.2.now }
 
--- the whole table
+-- the table
 unfoldable pub entries : List Entry
 entries = map (λ row. record { subject = row.0; meaning = row.1.now; text = row.2.now }) TOPICS
 
@@ -55,15 +55,15 @@ explanation_of word = option_map explained (entry_named word)
 abbrev pub all_lines : List ℕ
 all_lines = flat_map line_of entries
 
--- what the word names
+-- the subject that the word names
 abbrev pub subject_named : List ℕ → Option Subject
 subject_named word = option_map (λ entry. entry.subject) (entry_named word)
 
--- the name and the number of each refusal name it
+-- each refusal is found by its name and by its number
 abbrev pub ExplainsRefusals : Type 0
 ExplainsRefusals = (refusal : Refusal) → (subject_named (name_of refusal) ≡ Some (subject.Refusal refusal))
     × (subject_named (decimal (number_of refusal)) ≡ Some (subject.Refusal refusal))
 
--- so do those of the rules, C0 to C7
+-- each rule, C0 to C7, is found by its name
 abbrev pub ExplainsRules : Type 0
 ExplainsRules = (rule : ℕ) → rule < 8 → subject_named (codes "C" ++ decimal rule) ≡ Some (subject.Rule rule)

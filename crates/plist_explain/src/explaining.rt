@@ -1,4 +1,4 @@
-//! The printed explanations.
+//! Prints explanations.
 ghost use Rattle.std.specs.Prelude.{◌≡◌, ◌++◌, IfOk, map, option_map, string_bytes};
 ghost use Rattle.plist_explain.specs.Topics.{all_lines, entries, entry_named, entry_of};
 ghost use Rattle.plist_explain.specs.Topics.{explained, explanation_of, line_of};
@@ -7,12 +7,12 @@ use crate::table::TOPICS;
 use crate::topics::Topic;
 use std::alloc::{AllocError, Global};
 
-/// Returns what the refusal or rule means that the word names, as `14`, `DuplicateKey` or `C5`;
-/// `None` if it names none.
+/// Returns the explanation of the refusal or rule that the word names, such as `14`, `DuplicateKey`
+/// or `C5`. Returns `None` if it names none.
 ///
 /// # Errors
 ///
-/// Fails if out of memory.
+/// [`AllocError`] if out of memory.
 pub fn explanation(alloc: Global, word: &str) -> Result<Option<String>, AllocError>
     ensures { IfOk result (λ found. option_map string_bytes found ≡ explanation_of word.now) }
 {
@@ -26,7 +26,7 @@ pub fn explanation(alloc: Global, word: &str) -> Result<Option<String>, AllocErr
 ///
 /// # Errors
 ///
-/// Fails if out of memory.
+/// [`AllocError`] if out of memory.
 pub fn list(alloc: Global) -> Result<String, AllocError>
     ensures { IfOk result (λ text. string_bytes text ≡ all_lines) }
 {
@@ -38,7 +38,7 @@ pub fn list(alloc: Global) -> Result<String, AllocError>
     Ok(text)
 }
 
-/// Returns the whole table.
+/// Returns the table, of which contracts know the contents.
 fn topics() -> &'static [Topic]
     ensures { map entry_of result.now ≡ entries }
 {

@@ -1,7 +1,7 @@
-//! That the table leaves nothing out.
+//! The table is complete.
 ghost use Rattle.plist_explain.specs.Topics.{ExplainsRefusals, ExplainsRules};
 
-/// Each refusal is explained by its number and by its name, and each rule by its own.
+/// Each refusal is explained by its number and by its name, and each rule by its name.
 pub fn each_is_explained()
     ensures refusals { ExplainsRefusals }
     ensures rules { ExplainsRules }

@@ -1,5 +1,5 @@
-//! What each refusal and each rule of a canonical file means: the texts that `plistconv explain`
-//! prints.
+//! The meaning of each refusal and of each rule of canonical files: the texts that `plistconv
+//! explain` prints.
 #![tactic(auto)]
 
 pub mod explaining;

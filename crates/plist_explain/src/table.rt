@@ -1,10 +1,9 @@
-//! The texts: one for each refusal, in the order of their numbers, then one for each rule of
+//! The explanations: one for each refusal, in the order of their numbers, then one for each rule of
 //! canonical files. No line has more than 79 columns.
 
 use crate::topics::{Subject, Topic};
 use plist_value::Refusal;
 
-/// Every topic.
 pub(crate) static TOPICS: [Topic; 43] = [
     (
         Subject::Refusal(Refusal::TooShort),

@@ -8,20 +8,20 @@ use itoa::Buffer;
 use plist_value::Refusal;
 use std::fmt;
 
-/// A refusal, or a rule of canonical files by its number. It is printed as `14 DuplicateKey` or
-/// `C5`.
+/// A refusal, or a rule of canonical files by its number. Printed like `14 DuplicateKey` or `C5`.
 #[derive(Clone, Copy)]
 pub enum Subject {
     Refusal(Refusal),
     Rule(u8),
 }
 
-/// A subject, what it means in less than a line, and its explanation: what it means, an example,
-/// and what to do.
+/// A subject, its meaning in less than a line, and its explanation: the meaning in full, an
+/// example, and what to do.
 pub type Topic = (Subject, &'static str, &'static str);
 
 impl Subject {
-    /// Returns whether the word names it: `14` or `DuplicateKey` a refusal, `C5` a rule.
+    /// Returns whether the word names the subject. `14` and `DuplicateKey` name a refusal, `C5` a
+    /// rule.
     pub fn is_named(self, word: &str) -> bool
         ensures { result ≡ is_named self word.now }
     {

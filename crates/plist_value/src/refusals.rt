@@ -58,7 +58,7 @@ pub enum Refusal {
     BadEscape = 26,
     /// An octal escape is above octal 177.
     OctalRange = 27,
-    /// Data has an odd number of hexadecimal digits.
+    /// A hexadecimal digit of data has no second digit after it.
     OddData = 28,
     /// Data contains another character, or has no end.
     BadData = 29,
