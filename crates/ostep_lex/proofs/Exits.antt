@@ -1,14 +1,14 @@
--- What leaves a function by `?`.
+-- Errors returned with `?`.
 use Rattle.std.proofs.Common.{◌≡◌, Result}
 use Rattle.std.specs.Prelude.{IfOk, IfErr, IsErrAnd, Ok, Err}
 use Rattle.std.specs.Result.{OnOk}
 use Rattle.std.proofs.lemmas.Result.{err_from_is_err_and}
 
--- the fault that a callee gave, passed on as it is
+-- the fault of a callee is returned unchanged
 pub passed_on : {T E : Type 0} (P : E → Type 0) (fault : E) (r : Result T E) → IsErrAnd r (λ y. y ≡ fault) → P fault → IfErr r P
 passed_on P fault r h p = let e = err_from_is_err_and r h in rw (e.1, e.2) p
 
--- and no success
+-- there is no success
 pub no_ok : {T E : Type 0} (P : T → Type 0) (Q : E → Type 0) (r : Result T E) → IsErrAnd r Q → IfOk r P
 no_ok P Q r h = let e = err_from_is_err_and r h in rw (e.1) tt
 

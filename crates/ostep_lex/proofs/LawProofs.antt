@@ -1,4 +1,4 @@
--- The laws: one list of tokens at most, none where there is a fault, and spans that spell tokens.
+-- The laws: there is at most one list of tokens, none if there is a fault, and spans encode tokens.
 use Rattle.std.proofs.Common.{ℕ, Bool, true, false, ◌||◌, List, ◌∷◌, ◌≡◌, ◌⊎◌, inl, inr, ⊎_elim, refl, sym, subst, zero, suc, ◌+◌, ◌*◌, cond, [], ◌++◌, length, ap, ◌∙◌, arith, append_assoc, length-append}
 use Rattle.std.specs.Prelude.{codes, nat_eq}
 use Rattle.std.specs.List.{starts_with}
@@ -25,7 +25,7 @@ use Rattle.ostep_lex.specs.Spans.{StandsFirst, StandInTurn, HasSpans}
 use Rattle.ostep_lex.proofs.TokenLemmas.{GapPiece-same, IsToken-gapless, other-octets, Lexes-same, LexesTo-continue, behind-fault}
 use Rattle.ostep_lex.proofs.TextLemmas.{behind_mark, Spells-same, StopsAt-none, octets_of-append}
 
--- tokens of one text are tokens of another that the same octets spell
+-- tokens of one text are tokens of another text with the same bytes
 pub lexes_at : {octets text : List ℕ} {tokens : List Placed} → Spells octets text → HasTokens octets tokens → Lexes (places_of octets) text tokens
 lexes_at {octets} {tokens = tokens} s h = subst (λ x. Lexes (places_of octets) x tokens) (Spells-same h.spells s) h.lexes
 
@@ -40,7 +40,7 @@ tokens_continue octets tokens all rest b a =
 pub HasFault-none : {octets : List ℕ} {fault : LexFault} → HasFault octets fault → HasNoTokens octets
 HasFault-none {octets} h tokens t = behind-fault h.stands (tokens_continue octets h.tokens tokens h.rest h.before t).lexes
 
--- white at the front of a text stands before all of its tokens
+-- whitespace at the start of a text precedes all of its tokens
 white_piece : {c : ℕ} {rest behind : List ℕ} → is_white c ≡ true → GapPiece (c ∷ rest) behind → behind ≡ rest
 white_piece w g = GapPiece-same g (Gap.white w)
 
@@ -59,7 +59,7 @@ pub White-lexes : {p : Places} {text from : List ℕ} {tokens : List Placed} →
 White-lexes Stands.none l = l
 White-lexes (Stands.more w r) l = White-lexes r (behind_white w l)
 
--- no token begins as an XML property list does
+-- no token begins like an XML property list
 angle-piece : {rest behind : List ℕ} → GapPiece (less_than ∷ rest) behind → ⊥
 angle-piece (Gap.white w) = cc
 
@@ -115,7 +115,7 @@ faulty_has_none octets (OctalRange at) s n = HasFault-none s
 faulty_has_none octets (OddData at) s n = HasFault-none s
 faulty_has_none octets (BadData at) s n = HasFault-none s
 
--- a fault that reading tokens meets is one of the octets
+-- a fault that is found when tokens are read is true of the bytes
 escape-stands : {octets : List ℕ} {p : Places} {start : ℕ} {text : List ℕ} {f : LexFault} → EscapeFault p start text f → HasFault octets f → Stands octets f
 escape-stands Stands.cut_escape h = h
 escape-stands (Stands.no_digit d) h = h
@@ -141,7 +141,7 @@ behind-stands (Stands.gap g (Stands.data_token f)) h = data-stands f h
 pub stands_in : {octets : List ℕ} {fault : LexFault} → HasFault octets fault → Stands octets fault
 stands_in h = behind-stands h.stands h
 
--- a fault unless it is want of memory, of which nothing is said
+-- any fault but out of memory, of which nothing is stated
 memory_or : (octets : List ℕ) (P : LexFault → Type 0) → ((fault : LexFault) → P fault → Stands octets fault) → (fault : LexFault) → UnlessMemory P fault → Stands octets fault
 memory_or octets P h OutOfMemory u = tt
 memory_or octets P h (BadUtf8 at) u = h (BadUtf8 at) (u (λ e. cc))
@@ -158,7 +158,7 @@ memory_or octets P h (BadData at) u = h (BadData at) (u (λ e. cc))
 pub stands_unless : (octets : List ℕ) (fault : LexFault) → UnlessMemory (HasFault octets) fault → Stands octets fault
 stands_unless octets fault u = memory_or octets (HasFault octets) (λ f h. stands_in h) fault u
 
--- the rest is the end of the text
+-- the rest is a suffix of the text
 abbrev Ends : List ℕ → List ℕ → Type 0
 Ends text rest = (front : List ℕ) × (text ≡ front ++ rest)
 
@@ -230,13 +230,13 @@ token_ends (Lexeme.run {c = c} t b r) = one c (run_ends r)
 token_ends (Lexeme.quoted {c = c} q r) = one c (quoted_ends r)
 token_ends (Lexeme.data_token r) = one 60 (octets_ends r)
 
--- how far behind a place a rest begins
+-- the offset of the rest, from the offset of the text
 place_behind : (p : Places) (at : ℕ) (text front rest : List ℕ) → p.end ≡ at + length (octets_of p.encoding text) → text ≡ front ++ rest
     → place p rest ≡ at + length (octets_of p.encoding front)
 place_behind p at text front rest e t =
     omega (arith, ap length (ap (octets_of p.encoding) t ∙ octets_of-append p.encoding front rest), length-append (octets_of p.encoding front) (octets_of p.encoding rest))
 
--- where the rest of the input ends
+-- the offset of the end of the input, from that of the rest
 end_behind : (p : Places) (at : ℕ) (text front rest : List ℕ) → p.end ≡ at + length (octets_of p.encoding text) → text ≡ front ++ rest
     → p.end ≡ place p rest + length (octets_of p.encoding rest)
 end_behind p at text front rest e t =

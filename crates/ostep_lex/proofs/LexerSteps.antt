@@ -1,4 +1,4 @@
--- A step over a gap or a token, by an equation that says what comes first, and the lexer's steps.
+-- A step over a gap or a token, from an equation for the first character, and the lexer's steps.
 use Rattle.std.proofs.Common.{ℕ, ◌≤◌, true, false, List, [], ◌∷◌, ◌≡◌, length, sym, ap, subst, ◌∙◌, arith, Bool, ◌==◌, Some, inl, inr, refl, None, ◌<◌, ◌++◌, map, append-nil}
 use Rattle.std.proofs.lemmas.Bool.{cases_Bool}
 use Rattle.std.proofs.lemmas.Bool.Decides.{nat_tests}
@@ -47,7 +47,7 @@ block_close {end = end} e = subst (λ x. BlockComment x end) (sym e) Gap.close
 pub never_none : {text : List ℕ} → text ≡ [] → NeverCloses text
 never_none e = subst NeverCloses (sym e) Gap.text_end
 
--- a step of a gap is shorter by its piece
+-- a step over a gap shortens the text
 pub line_shorter : {text end : List ℕ} → LineComment text end → length end ≤ length text
 line_shorter Gap.text_end = omega arith
 line_shorter (Gap.line_end t) = omega arith
@@ -95,7 +95,7 @@ pub white_gap : {text rest : List ℕ} → White text rest → Gap text rest
 white_gap Stands.none = Gap.none
 white_gap (Stands.more w r) = Gap.piece (Gap.white w) (white_gap r)
 
--- behind white one character stands
+-- the first character that is not whitespace is unique
 white_same : {c : ℕ} {text from behind : List ℕ} → White text from → begins_white from ≡ false → is_white c ≡ false → White text (c ∷ behind) → from ≡ c ∷ behind
 unfolding begins_white
 white_same Stands.none f n Stands.none = refl
@@ -117,7 +117,7 @@ other_first : (mark c : ℕ) (rest behind : List ℕ) → (c == mark) ≡ false 
 unfolding head_or
 other_first mark c rest behind d e = unequal mark (subst (λ n. (n == mark) ≡ false) (ap head_or e) d)
 
--- the mark does not stand behind white that another character, or nothing, follows
+-- the mark does not follow whitespace if another character, or nothing, does
 lacks : {text from : List ℕ} (mark : ℕ) → White text from → begins_white from ≡ false → ((behind : List ℕ) → from ≡ mark ∷ behind → ⊥) → LacksMark mark text
 lacks mark w f other lexeme behind m r = other behind (white_same w f (not_white mark lexeme m) r)
 
@@ -189,7 +189,7 @@ token_shorter (Lexeme.run t b r) = let h = run_shorter r in omega (arith, h)
 token_shorter (Lexeme.quoted q r) = let h = quoted_shorter r in omega (arith, h)
 token_shorter (Lexeme.data_token r) = let h = octets_shorter r in omega (arith, h)
 
--- a gap and a token, which stands where it says
+-- a gap and a token with its span
 pub record PassesPlaced (token : Placed) (old new : Cursor) : Type 0 where
   pub from : List ℕ
   pub gap : Gap (ahead old) from
@@ -209,7 +209,7 @@ passes_placed lexeme old start end a b g t e f = record {
   input = t.input ∙ g.input;
 }
 
--- white and a mark
+-- whitespace and a punctuation mark
 pub mark_placed : (c : ℕ) (lexeme : Lexeme) (old start end : Cursor) (a b : ℕ) → White (ahead old) (ahead start) → SameInput old start → ahead start ≡ c ∷ ahead end → SameInput start end
     → mark_token c ≡ Some lexeme → a ≡ place_at start → b ≡ place_at end → PassesPlaced (record { lexeme = lexeme; start = a; end = b }) old end
 mark_placed c lexeme old start end a b w i t j m e f = record {
@@ -224,7 +224,7 @@ mark_placed c lexeme old start end a b w i t j m e f = record {
 pub placed_shorter : {token : Placed} {old new : Cursor} → PassesPlaced token old new → length (ahead new) < length (ahead old)
 placed_shorter p = let h = gap_shorter p.gap in let k = token_shorter p.token_at in omega (arith, h, k)
 
--- behind one token more, behind all, and before a fault
+-- one token more, all tokens, and a fault
 pub behind_more : {octets : List ℕ} {tokens : List Placed} {token : Placed} {old new : Cursor} → StandsBehind octets tokens old → PassesPlaced token old new
     → StandsBehind octets (tokens ++ token ∷ []) new
 behind_more {octets} {tokens} {token} {old} {new} b t =
@@ -261,11 +261,11 @@ pub behind_none : {octets : List ℕ} {tokens : List Placed} {cursor : Cursor} {
     → UnlessMemory (FaultBehind (places_in cursor) (ahead cursor)) fault → UnlessMemory (λ f. HasNoTokens octets) fault
 behind_none b u n = HasFault-none (behind_at b (u n))
 
--- one token more at the end of those found
+-- one token more at the end of the tokens found
 pub found_more : (found new : List Token) (token : Token) → new ≡ found ++ token ∷ [] → map placed found ++ placed token ∷ [] ≡ map placed new
 found_more found new token e = sym (ap (map placed) e ∙ map-append placed found (token ∷ []))
 
--- at the start no token stands before
+-- no token precedes the start
 pub opens_behind : {octets : List ℕ} {cursor : Cursor} → Opens octets cursor → StandsBehind octets [] cursor
 opens_behind {cursor = cursor} o = record { before = record { text = ahead cursor; spells = o.spells; lexes = here }; places = o.places }
 
@@ -297,7 +297,7 @@ no_comment : (c : ℕ) (rest : List ℕ) → (c == slash) ≡ false → begins_c
 no_comment c [] e = refl
 no_comment c (d ∷ rest) e = rw e refl
 
--- no gap begins with a run character other than a slash
+-- no gap begins with a character of an unquoted string other than a slash
 pub run_gapless : (c : ℕ) (text rest : List ℕ) → text ≡ c ∷ rest → is_run c ≡ true → (c == slash) ≡ false → begins_gap text ≡ false
 run_gapless c text rest e r s =
     let white : is_white c ≡ false = elim (cases_Bool (is_white c)) [ inl w ↦ absurd (white-run c w r) | inr n ↦ n ] in

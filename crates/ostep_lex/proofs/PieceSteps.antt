@@ -1,4 +1,4 @@
--- A step over a string, a number or data, by an equation that says what comes first.
+-- A step over a string, a number or data, from an equation for the first character.
 use Rattle.std.proofs.Common.{ℕ, zero, suc, ◌+◌, ◌-◌, ◌*◌, ◌^◌, ◌<◌, ◌≤◌, false, List, [], ◌∷◌, ◌≡◌, refl, sym, ap, ◌∙◌, arith, lit≤, le-ltb, lt-ltb, add-one, length, cond, true, Bool, ◌++◌, ◌==◌, subst, append_assoc, drop, append-nil, length-append}
 use Rattle.std.proofs.Math.Nat.{pow-zero, pow-suc, mul-le-mul}
 use Rattle.std.specs.Char.{digit_value, is_digit}
@@ -60,7 +60,7 @@ digit_limit base k value digit v d =
     let m : (value + 1) * base ≤ base ^ k * base = mul-le-mul (omega arith) (omega arith) in
     omega (arith, e, m)
 
--- one digit more, in a loop that has read some of them
+-- one more digit, in a loop that has read some of them
 pub number_step : (base count read high digit c : ℕ) (text rest : List ℕ) → text ≡ c ∷ rest → read < count → (digit_value c < base) × (digit ≡ digit_value c)
     → number_from base (count - read) high text ≡ number_from base (count - (read + 1)) (high * base + digit) rest
 number_step base count read high digit c text rest e below d =
@@ -72,7 +72,7 @@ pub number_no_digit : (base count high c : ℕ) (text rest : List ℕ) → text 
 number_no_digit base count high c text rest e d =
     number_stop base count high text (ap (begins_digit base) e ∙ le-ltb (digit_value c) base (omega arith))
 
--- a list with a piece at its end, before more
+-- a list with a piece at its end, followed by more
 pub appended : {A : Type 0} (old new piece more : List A) → new ≡ old ++ piece → old ++ (piece ++ more) ≡ new ++ more
 appended old new piece more e = sym (ap (λ w. w ++ more) e ∙ append_assoc old piece more)
 
@@ -203,7 +203,7 @@ pairs_more {octets} {found} {more} {text} {rest} {behind} {octet} a p e = record
   appended = e ∙ ap (λ w. w ++ octet ∷ []) a.appended ∙ append_assoc octets a.values (octet ∷ []);
 }
 
--- of a text, the characters of pairs of digits are their octets, and behind these stands a text
+-- the characters of pairs of digits in UTF-8 are their bytes, and a text follows them
 front_text : {digits values : List ℕ} (rest : List ℕ) → Pairs digits values → IsUtf8 (digits ++ rest) → AsciiFront digits rest
 front_text rest Pairs.none u = record { utf8 = u; characters = refl }
 front_text rest (Pairs.more {c = c} {d = d} {digits = cs} h l p) u =

@@ -1,4 +1,4 @@
--- Worked rows, shown on the definitions by computing.
+-- Examples of the definitions, by computation.
 use Rattle.std.proofs.Common.{ℕ, List, [], ◌∷◌, refl, lit<}
 use Rattle.std.specs.Prelude.{codes}
 use Rattle.std.specs.Char.{encode_utf8}
@@ -63,7 +63,7 @@ pub octal_too_high : HasFault (codes "\"\\200\"") (OctalRange 1)
 unfolding encode_utf8
 octal_too_high = first_at (codes "\"\\200\"") (record { scalars = refl; spelled = refl }) (Stands.quoted refl (Stands.escape (Stands.too_high refl (lit< tt))))
 
--- `(/usr/bin, a//b, /* c */ d)`: no comment begins inside a run
+-- `(/usr/bin, a//b, /* c */ d)`: no comment begins inside an unquoted string
 pub slashes : HasTokens (codes "(/usr/bin, a//b, /* c */ d)")
     (at paren_open 0 1 ∷ at (text (codes "/usr/bin")) 1 9 ∷ at comma 9 10 ∷ at (text (codes "a//b")) 11 15 ∷ at comma 15 16 ∷ at (text (codes "d")) 25 26 ∷ at paren_close 26 27 ∷ [])
 unfolding encode_utf8
@@ -80,7 +80,7 @@ slashes = record {
       (next Gap.none (Lexeme.mark refl) (none Gap.none)))))));
 }
 
--- `a/*c*/`: the run is `a/`
+-- `a/*c*/`: the unquoted string is `a/`
 pub star_behind_run : HasFault (codes "a/*c*/") (UnexpectedCharacter 2)
 unfolding encode_utf8
 star_behind_run = record {
@@ -94,7 +94,7 @@ star_behind_run = record {
   stands = Stands.gap Gap.none (Stands.unexpected refl refl);
 }
 
--- `fe ff 00 61 00 3b`: the mark's octets are counted
+-- `fe ff 00 61 00 3b`: offsets include the byte order mark
 pub big_endian_tokens : HasTokens (0xfe ∷ 0xff ∷ 0 ∷ 97 ∷ 0 ∷ 59 ∷ []) (at (text (97 ∷ [])) 2 4 ∷ at semicolon 4 6 ∷ [])
 big_endian_tokens = record {
   text = 97 ∷ 59 ∷ [];
@@ -102,7 +102,7 @@ big_endian_tokens = record {
   lexes = next Gap.none (Lexeme.run refl refl (Quoted.stop refl)) (next Gap.none (Lexeme.mark refl) (none Gap.none));
 }
 
--- `ff fe 22 00 3d d8 00 de 22 00`: a character past U+FFFF is its two units
+-- `ff fe 22 00 3d d8 00 de 22 00`: a character above U+FFFF is two units
 pub little_endian_pair : HasTokens (0xff ∷ 0xfe ∷ 0x22 ∷ 0 ∷ 0x3d ∷ 0xd8 ∷ 0 ∷ 0xde ∷ 0x22 ∷ 0 ∷ []) (at (text (0xd83d ∷ 0xde00 ∷ [])) 2 10 ∷ [])
 little_endian_pair = record {
   text = 0x22 ∷ 0x1f600 ∷ 0x22 ∷ [];
@@ -142,6 +142,6 @@ xml_form = record {
   stands = refl;
 }
 
--- `fe ff fe ff`: a second mark is a character
+-- `fe ff fe ff`: a second byte order mark is a character
 pub second_mark : HasFault (0xfe ∷ 0xff ∷ 0xfe ∷ 0xff ∷ []) (UnexpectedCharacter 2)
 second_mark = first_at (0xfeff ∷ []) (record { scalars = refl; spelled = refl }) (Stands.unexpected refl refl)

@@ -1,4 +1,4 @@
--- Stretches of characters of one class, in octets and in units, and what follows them.
+-- Stretches of characters of one class, in bytes and in units, and what follows them.
 use Rattle.std.proofs.Common.{ℕ, Bool, true, ◌<◌, ◌-◌, ◌&&◌, List, [], ◌∷◌, ◌++◌, length, take, drop, ◌≡◌, refl, sym, ap, subst, ◌∙◌, arith, append_assoc, length-append, ◌≤◌, append-nil, lt-ltb, false, not, ◌==◌}
 use Rattle.std.specs.Prelude.{IsUtf8, chars, nat_lt}
 use Rattle.std.proofs.lemmas.Bool.Decides.{nat_tests}
@@ -54,7 +54,7 @@ pub record AsciiFront (front rest : List ℕ) : Type 0 where
   pub utf8 : IsUtf8 rest
   pub characters : chars (front ++ rest) ≡ front ++ chars rest
 
--- of a text, the characters of a stretch are its octets, and behind it stands a text
+-- the characters of a stretch in UTF-8 are its bytes, and a text follows it
 pub ascii_front : (kind : Class) (front rest : List ℕ) → is_stretch 128 kind front ≡ true → IsUtf8 (front ++ rest) → AsciiFront front rest
 ascii_front kind [] rest a u = record { utf8 = u; characters = refl }
 ascii_front kind (o ∷ os) rest a u =
@@ -76,7 +76,7 @@ ascii_stretch kind (c ∷ cs) s =
     let more = ascii_stretch kind cs (and_right (nat_lt c 128 && belongs kind c) (is_stretch 128 kind cs) s) in
     rw (here, more) refl
 
--- where the text is cut, and what comes of it
+-- the position at which the text is split, and what follows from it
 pub record Cut (kind : Class) (text behind : List ℕ) (at : ℕ) : Type 0 where
   pub boundary : IsCharBoundary text at
   pub stretch : is_stretch 128 kind (take at text) ≡ true
@@ -128,7 +128,7 @@ units_more {kind} {order} {octets} {rest} {behind} c a e t =
           ∙ ap (λ w. w ++ behind) (sym (octets_of-append (encoding_by order) a.front (c ∷ []) ∙ ap (λ w. octets_of (encoding_by order) a.front ++ w) (append-nil (spelling (encoding_by order) c))));
     }
 
--- a stretch behind another
+-- a stretch after another
 pub units_behind : {kind : Class} {order : ByteOrder} {octets rest behind : List ℕ} → BeginsWithUnits kind order octets rest → BeginsWithUnits kind order rest behind
     → BeginsWithUnits kind order octets behind
 units_behind {kind} {order} {octets} {rest} {behind} a b =
@@ -158,7 +158,7 @@ units_of_front {kind} {order} {octets} {behind} b =
     ap (λ n. units_in order (take n octets)) at ∙ ap (λ os. units_in order (take (length front) os)) b.split
     ∙ ap (units_in order) (take-append_seam front behind) ∙ units_of_stretch kind order b.front b.stretch
 
--- of whole octets, a stretch and what is behind it
+-- a stretch of complete characters, and the bytes after it
 record Behind (order : ByteOrder) (front octets behind : List ℕ) : Type 0 where
   text : utf16_characters order octets ≡ front ++ utf16_characters order behind
   whole : WholeText (encoding_by order) (utf16_characters order behind) behind
@@ -234,7 +234,7 @@ never_front [] rest s r = r
 never_front (c ∷ cs) rest s r =
     Gap.more (goes_on c (cs ++ rest) (not_true (c == star) (here Starless c cs s))) (never_front cs rest (after Starless c cs s) r)
 
--- the same by what a cursor passes
+-- the part of an unquoted string that the cursor skips
 pub run_stretch : {old new : Cursor} {front more end : List ℕ} → PassesStretch Run old front new → RunOf (ahead new) more end → RunOf (ahead old) (front ++ more) end
 run_stretch {old} {new} {front} {more} {end} p r = subst (λ t. RunOf t (front ++ more) end) (sym p.text) (run_front front (ahead new) more end p.stretch r)
 
@@ -251,7 +251,7 @@ fault_stretch {places} {start} {mark} {old} {new} {front} {fault} p r =
 pub gap_stretch : {old new : Cursor} {front end : List ℕ} → PassesStretch White old front new → Gap (ahead new) end → Gap (ahead old) end
 gap_stretch {old} {new} {front} {end} p r = subst (λ t. Gap t end) (sym p.text) (gap_front front (ahead new) end p.stretch r)
 
--- a gap, or a fault behind one, where white stands before
+-- a gap, or a fault after one, with whitespace before it
 pub gap_behind_white : {old new end : Cursor} → SkipsStretch White old new → PassesGap new end → PassesGap old end
 gap_behind_white white passes =
     record { gap = gap_stretch white.passes passes.gap; whole = passes.whole; input = passes.input ∙ white.passes.input }

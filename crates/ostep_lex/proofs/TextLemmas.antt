@@ -1,4 +1,4 @@
--- The characters of octets, and the one text that an input spells.
+-- The characters of bytes. An input encodes only one text.
 use Rattle.std.proofs.Common.{ℕ, Bool, true, false, ◌&&◌, List, [], ◌∷◌, ◌++◌, ◌≡◌, refl, sym, ap, ◌∙◌, append_assoc, append-nil, ◌+◌, ◌-◌, ◌/◌, ◌%◌, ◌<◌, ◌≤◌, length, get_or, arith, lt-ltb, le-ltb, Some, ⊎_elim, map, subst, length-append, take, drop, length-take, length-drop}
 use Rattle.std.specs.Str.{all_scalars, encode_utf8_all, IsValidUpTo}
 use Rattle.std.proofs.lemmas.List.{append_cancel_left, take-append-drop}
@@ -47,7 +47,7 @@ FrontsOf-more {e} {octets} {rest} {behind} {c} f b = record {
       ∙ ap (λ w. w ++ behind) (sym (octets_of-append e f.before (c ∷ []) ∙ ap (λ w. octets_of e f.before ++ w) (append-nil (spelling e c))));
 }
 
--- what stands behind the first character of a whole text is a whole text
+-- what follows the first character of a text is a text
 pub record WholeText (e : Encoding) (text octets : List ℕ) : Type 0 where
   pub scalars : all_scalars text ≡ true
   pub spelled : octets_of e text ≡ octets
@@ -66,7 +66,7 @@ WholeText-behind {e} {text} {octets} {c} {rest} {behind} w t o =
     let both : spelling e c ++ octets_of e rest ≡ spelling e c ++ behind = ap (octets_of e) (sym t) ∙ w.spelled ∙ o in
     record { scalars = and_right (scalar c) (all_scalars rest) scalars; spelled = append_cancel_left (spelling e c) (octets_of e rest) behind both }
 
--- where no character begins, a whole text has none
+-- a text at whose start no character begins is empty
 pub WholeText-none : {e : Encoding} {text octets : List ℕ} → WholeText e text octets → BeginsWithNone e octets → text ≡ []
 WholeText-none {text = []} w n = refl
 WholeText-none {e} {text = c ∷ rest} {octets} w n =
@@ -80,7 +80,7 @@ utf16_characters-nil : (o : ByteOrder) → utf16_characters o [] ≡ []
 unfolding utf16_characters
 utf16_characters-nil o = ap (map (λ x. unwrap_or x 0)) utf16_chars-nil
 
--- a character of one unit, and one of two
+-- a character of one unit, and one of two units
 pub spelling_one : (o : ByteOrder) (c : ℕ) (rest : List ℕ) → c < 0x1_0000 → spelling (encoding_by o) c ++ rest ≡ unit_octets o c ++ rest
 spelling_one Big c rest h = rw (lt-ltb c 0x1_0000 h)
 spelling_one Little c rest h = rw (lt-ltb c 0x1_0000 h)
@@ -136,7 +136,7 @@ utf16_characters-spelling o c rest s = ⊎_elim
     (λ h. ap text_of_units (units_two o c rest h) ∙ text_of_units-two c (units_in o rest) s h)
     (cases_lt c 0x1_0000)
 
--- so the octets of a text of UTF-16 give this text
+-- decoding the UTF-16 bytes of a text gives the text
 pub utf16_characters-octets : (o : ByteOrder) (text : List ℕ) → all_scalars text ≡ true → utf16_characters o (octets_of (encoding_by o) text) ≡ text
 utf16_characters-octets o [] s = utf16_characters-nil o
 utf16_characters-octets o (c ∷ text) s =
@@ -146,7 +146,7 @@ utf16_characters-octets o (c ∷ text) s =
 shorter : (piece octets behind : List ℕ) → octets ≡ piece ++ behind → length behind ≤ length octets
 shorter piece octets behind e = omega (arith, length-append piece behind, ap length e)
 
--- one character of UTF-8, one of UTF-16, and none
+-- the first character in UTF-8, in UTF-16, and none
 pub Leads-utf8 : {source : Source} {text behind : Bor (List ℕ)} {c : ℕ} → source ≡ Utf8 text → IsWhole source
     → text.now ≡ spelling utf8 c ++ behind.now → chars text.now ≡ c ∷ chars behind.now → Leads source c (Utf8 behind)
 Leads-utf8 {source} {text} {behind} {c} e w o t = subst (λ s. IsWhole s → Leads s c (Utf8 behind)) (sym e)
@@ -166,7 +166,7 @@ pub Leads-none : {source : Source} {order : ByteOrder} {octets : Bor (List ℕ)}
 Leads-none {source} {order} {octets} e w n = subst (λ s. IsWhole s → characters_in s ≡ []) (sym e)
     (λ v. WholeText-none {e = encoding_by order} (record { scalars = v.scalars; spelled = v.spelled }) n) w
 
--- the units of octets, one after another
+-- the units of bytes, one after another
 pub units_in-first : (order : ByteOrder) (octets behind : List ℕ) (u : ℕ) → octets ≡ unit_octets order u ++ behind → units_in order octets ≡ u ∷ units_in order behind
 units_in-first order octets behind u e = ap (units_in order) e ∙ units_in-unit order u behind
 
@@ -178,7 +178,7 @@ units_in-few order (a ∷ b ∷ rest) = omega (arith, units_in-few order rest)
 pub whole_utf8 : (text : Bor (List ℕ)) → IsUtf8 text.now → IsWhole (Utf8 text)
 whole_utf8 text u = record { scalars = scalars-chars text.now u; spelled = octets_of-utf8 (chars text.now) ∙ encodes-chars text.now u }
 
--- one character more is no longer a front of UTF-8
+-- a valid prefix of UTF-8 is not followed by a character
 longer : (octets behind : List ℕ) (n c : ℕ) → IsValidUpTo octets n → IsScalar c → drop n octets ≡ encode c ++ behind → ⊥
 longer octets behind n c v s e =
     let front = take n octets ++ encode c in
@@ -210,7 +210,7 @@ whole_utf16 order octets rest f e =
     let text : utf16_characters order octets.now ≡ f.before = ap (utf16_characters order) all ∙ utf16_characters-octets order f.before f.whole in
     record { scalars = ap all_scalars text ∙ f.whole; spelled = ap (octets_of (encoding_by order)) text ∙ sym all }
 
--- an input that begins with a mark is the mark and the octets behind it
+-- an input that begins with a byte order mark is the mark followed by other bytes
 pub behind_mark : (octets mark : List ℕ) → starts_with nat_eq octets mark ≡ true → octets ≡ mark ++ drop (length mark) octets
 behind_mark octets mark e =
     sym (take-append-drop (length mark) octets) ∙ ap (λ w. w ++ drop (length mark) octets) (sym ((bytes_decides mark (take (length mark) octets)).0 e))
@@ -241,7 +241,7 @@ some16 o c rest p = ⊎_elim
     (λ h. unit_some o (high c) (unit_octets o (low c) ++ rest) (p ∙ spelling_two o c rest h))
     (cases_lt c 0x1_0000)
 
--- no octets are no character
+-- no character is encoded as no bytes
 pub spelling_some : (e : Encoding) (c : ℕ) (rest : List ℕ) → IsScalar c → [] ≡ spelling e c ++ rest → ⊥
 spelling_some utf8 c rest s p = absurd (omega (arith, ap length p, length-append (spelling utf8 c) rest, length-encode c, len_utf8_bounds c))
 spelling_some utf16_big c rest s p = some16 Big c rest p
@@ -261,7 +261,7 @@ Spells-same {octets} {xs} {ys} s t =
     octets_of_same (encoding_of octets) xs ys s.scalars t.scalars
     (append_cancel_left (mark_of octets) (octets_of (encoding_of octets) xs) (octets_of (encoding_of octets) ys) (sym s.spelled ∙ t.spelled))
 
--- whole characters, and then octets that begin no character, are the octets of no text
+-- complete characters followed by bytes that begin no character are not a text
 stopped : (e : Encoding) (before rest text : List ℕ) → all_scalars before ≡ true → all_scalars text ≡ true → 0 < length rest → BeginsWithNone e rest
     → octets_of e before ++ rest ≡ octets_of e text → ⊥
 stopped e [] [] [] s t o n p = absurd (omega arith)

@@ -1,5 +1,5 @@
--- A text has one list of tokens at most, and none where a fault stands in it: the classes of
--- characters exclude each other, and gaps and tokens end at one place.
+-- A text has at most one list of tokens, and none if it has a fault: the classes of characters
+-- exclude each other, and gaps and tokens have unique ends.
 use Rattle.std.proofs.Common.{ℕ, Bool, true, false, ◌≡◌, ◌||◌, Some, refl, arith, List, subst, ◌<◌, [], ◌∷◌, ◌==◌, ap, ◌++◌, sym}
 use Rattle.std.proofs.lemmas.Bool.Decides.{nat_tests}
 use Rattle.ostep_lex.specs.Character.{is_white, is_run, is_quote, is_hexadecimal, backslash, greater_than}
@@ -96,18 +96,18 @@ GapPiece-same (Gap.line r) (Gap.line s) = LineComment-same r s
 GapPiece-same (Gap.block r) (Gap.white e) = cc
 GapPiece-same (Gap.block r) (Gap.block s) = BlockComment-same r s
 
--- no white and no whole comment stands at the text
+-- no whitespace and no complete comment is at the text
 abbrev pub IsGapless : List ℕ → Type 0
 IsGapless text = (behind : List ℕ) → GapPiece text behind → ⊥
 
--- two gaps before what begins none end together
+-- two gaps that no gap follows end at the same position
 pub Gap-same : {text a b : List ℕ} → Gap text a → Gap text b → IsGapless a → IsGapless b → a ≡ b
 Gap-same Gap.none Gap.none g h = refl
 Gap-same Gap.none (Gap.piece p s) g h = absurd (g _ p)
 Gap-same (Gap.piece p r) Gap.none g h = absurd (h _ p)
 Gap-same {b = b} (Gap.piece p r) (Gap.piece q s) g h = Gap-same r (subst (λ x. Gap x b) (GapPiece-same q p) s) g h
 
--- two readings of one text agree in what they mean, and in what they leave
+-- two readings of one text agree in their meaning, and in what follows
 pub record SamePart (u v a b : List ℕ) : Type 0 where
   pub means : u ≡ v
   pub leaves : a ≡ b
@@ -136,7 +136,7 @@ Piece-same (Quoted.raw e) (Quoted.escape s) = cc
 Piece-same (Quoted.escape r) (Quoted.raw f) = cc
 Piece-same (Quoted.escape r) (Quoted.escape s) = Escape-same r s
 
--- a quote that closes is no piece
+-- a closing quote is no piece
 close-piece : {mark c : ℕ} {rest u a : List ℕ} → is_quote mark ≡ true → (c == mark) ≡ true → Piece mark (c ∷ rest) u a → ⊥
 close-piece {mark} {c} q e (Quoted.raw f) = close-raw mark c e f
 close-piece {mark} q e (Quoted.escape s) = quote-backslash mark q e
@@ -170,7 +170,7 @@ Octets-same {b = b} (Octets.piece e r) (Octets.piece {more = us} f s) =
     let h = Octets-same r (subst (λ x. Octets x us b) p.leaves s) in
     record { means = cc (p.means, h.means); leaves = h.leaves }
 
--- two tokens at one place are one
+-- two tokens at one position are equal
 pub record SameToken (l m : Lexeme) (a b : List ℕ) : Type 0 where
   pub means : l ≡ m
   pub leaves : a ≡ b
@@ -196,7 +196,7 @@ IsToken-same (Lexeme.data_token r) (Lexeme.quoted f s) = cc
 IsToken-same (Lexeme.data_token r) (Lexeme.data_token s) =
     let h = Octets-same r s in record { means = ap Lexeme.octets h.means; leaves = h.leaves }
 
--- no white and no comment begins where a token does
+-- no whitespace and no comment begins where a token does
 token-piece : {from a b : List ℕ} {l : Lexeme} → IsToken from l a → GapPiece from b → ⊥
 token-piece (Lexeme.mark {c = c} {lexeme = l} e) (Gap.white f) = mark-white c l e f
 token-piece (Lexeme.mark e) (Gap.line s) = cc
@@ -218,7 +218,7 @@ nothing-piece g = elim g [ ]
 pub nothing-gapless : IsGapless []
 nothing-gapless x g = nothing-piece g
 
--- an escape at fault is none
+-- a faulty escape is no escape
 no_digit-escape : {rest u a : List ℕ} → begins_digit 16 rest ≡ false → Escape (Quoted.unit_letter ∷ rest) u a → ⊥
 no_digit-escape d (Quoted.octal e l) = cc
 no_digit-escape d (Quoted.unit e) = cc
@@ -248,7 +248,7 @@ close-fault mark q e Stands.cut_escape = quote-backslash mark q e
 close-fault mark q e (Stands.no_digit d) = quote-backslash mark q e
 close-fault mark q e (Stands.too_high d h) = quote-backslash mark q e
 
--- a quoted string at fault is none
+-- a faulty quoted string is no quoted string
 pub Quoted-fault : {p : Places} {start mark : ℕ} {text u a : List ℕ} {f : LexFault} → is_quote mark ≡ true → QuotedFault p start mark text f → Quoted mark text u a → ⊥
 Quoted-fault q Stands.cut_string (Quoted.piece e r) = nothing-piece_of_string e
 Quoted-fault {mark = mark} q (Stands.escape d) (Quoted.close e) = close-fault mark q e d
@@ -268,7 +268,7 @@ odd-octets : {c : ℕ} {rest u a : List ℕ} → is_hexadecimal c ≡ true → b
 odd-octets {c} e d (Octets.white f) = white-hexadecimal c f e
 odd-octets e d (Octets.pair f g) = cc
 
--- a data token at fault is none
+-- a faulty data token is no data token
 pub Octets-fault : {p : Places} {text u a : List ℕ} {f : LexFault} → OctetsFault p text f → Octets text u a → ⊥
 Octets-fault Stands.cut_data (Octets.piece e r) = nothing-octets e
 Octets-fault (Stands.other e) Octets.close = cc
@@ -279,7 +279,7 @@ Octets-fault (Stands.piece e f) Octets.close = greater_than-piece e
 Octets-fault {a = a} (Stands.piece e f) (Octets.piece {more = us} g r) =
     Octets-fault f (subst (λ x. Octets x us a) (OctetsPiece-same g e).leaves r)
 
--- no token, no white and no whole comment begins where a fault stands
+-- no token, no whitespace and no complete comment begins at a fault
 pub IsToken-fault : {p : Places} {from behind : List ℕ} {l : Lexeme} {f : LexFault} → FaultAt p from f → IsToken from l behind → ⊥
 IsToken-fault (Stands.unexpected e o) (Lexeme.mark f) = cc
 IsToken-fault (Stands.unexpected {c = c} e o) (Lexeme.run f g r) = unexpected-run c o f
@@ -317,24 +317,24 @@ FaultAt-nothing e = elim e [ ]
 pub IsToken-nothing : {behind : List ℕ} {l : Lexeme} → IsToken [] l behind → ⊥
 IsToken-nothing t = elim t [ ]
 
--- two gaps before tokens end together, so the tokens are one
+-- two gaps before tokens end at the same position, so the tokens are equal
 pub next-same : {text from here a b : List ℕ} {l m : Lexeme} → Gap text from → IsToken from l a → Gap text here → IsToken here m b
     → (from ≡ here) × SameToken l m a b
 next-same {a = a} {l = l} g t h u =
     let e = Gap-same g h (IsToken-gapless t) (IsToken-gapless u) in
     (e, IsToken-same (subst (λ x. IsToken x l a) e t) u)
 
--- a gap up to the end has no token behind it
+-- no token follows a gap at the end of the text
 pub end-token : {text from behind : List ℕ} {l : Lexeme} → Gap text [] → Gap text from → IsToken from l behind → ⊥
 end-token {behind = behind} {l = l} g h t =
     IsToken-nothing (subst (λ x. IsToken x l behind) (sym (Gap-same g h nothing-gapless (IsToken-gapless t))) t)
 
--- a gap up to the end has no fault behind it
+-- no fault follows a gap at the end of the text
 pub end-fault : {p : Places} {text from : List ℕ} {f : LexFault} → Gap text [] → Gap text from → FaultAt p from f → ⊥
 end-fault {p} {f = f} g h t =
     FaultAt-nothing (subst (λ x. FaultAt p x f) (sym (Gap-same g h nothing-gapless (FaultAt-gapless t))) t)
 
--- no token begins where a fault stands behind a gap
+-- no token begins at a fault after a gap
 pub token-fault : {p : Places} {text from here behind : List ℕ} {l : Lexeme} {f : LexFault} → Gap text from → FaultAt p from f → Gap text here → IsToken here l behind → ⊥
 token-fault {behind = behind} {l = l} g t h u =
     IsToken-fault t (subst (λ x. IsToken x l behind) (sym (Gap-same g h (FaultAt-gapless t) (IsToken-gapless u))) u)
@@ -354,7 +354,7 @@ behind-fault (Stands.gap g t) (next h u s) = token-fault g t h u
 abbrev pub Continuing : Places → List ℕ → List Placed → List Placed → Type 0
 Continuing p rest tokens all = (others : List Placed) × (all ≡ tokens ++ others) × Lexes p rest others
 
--- tokens that a text begins with are the first of all its tokens
+-- the tokens at the start of a text are the first of all its tokens
 pub LexesTo-continue : {p : Places} {rest text : List ℕ} {tokens all : List Placed} → LexesTo p rest text tokens → Lexes p text all → Continuing p rest tokens all
 LexesTo-continue {all = all} here l = (all, refl, l)
 LexesTo-continue (token g t r) (none h) = absurd (end-token h g t)
@@ -363,7 +363,7 @@ LexesTo-continue {p} (token g t r) (next {tokens = us} h u s) =
     let c = LexesTo-continue r (subst (λ x. Lexes p x us) (sym e.1.leaves) s) in
     (c.0, cc (e.0, e.1.means, e.1.leaves, c.1), c.2)
 
--- a token more, and all tokens
+-- one more token, and all tokens
 pub LexesTo-more : {p : Places} {rest from behind text : List ℕ} {lexeme : Lexeme} {tokens : List Placed} → LexesTo p rest text tokens → Gap rest from → IsToken from lexeme behind
     → LexesTo p behind text (tokens ++ record { lexeme = lexeme; start = place p from; end = place p behind } ∷ [])
 LexesTo-more here g t = token g t here

@@ -1,4 +1,4 @@
--- The characters that the text form names, and their classes.
+-- The characters of the text form, and their classes.
 use Rattle.std.specs.Prelude.{ℕ, Bool, ◌||◌, ◌==◌}
 use Rattle.std.specs.Int.{is_in_range}
 use Rattle.std.specs.Char.{is_ascii_alphanumeric, is_digit}

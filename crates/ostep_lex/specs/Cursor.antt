@@ -1,4 +1,4 @@
--- What a cursor stands before.
+-- The position of a cursor.
 use Rattle.std.specs.Prelude.{◌≡◌, ℕ, ◌<◌, Bool, true, false, ◌==◌, List, [], ◌∷◌, ◌++◌, length}
 use Rattle.ostep_lex.specs.declared.cursor.Cursor.{Cursor}
 use Rattle.ostep_lex.specs.Encoding.{Encoding, Places, place, places_of, octets_of, Spells}
@@ -21,37 +21,37 @@ use Rattle.ostep_lex.specs.Pairs.{AppendsPairs}
 unfoldable pub ahead : Cursor → List ℕ
 ahead cursor = characters_in cursor.source
 
--- how the places of its input are counted
+-- what the offsets of its input depend on
 unfoldable pub places_in : Cursor → Places
 places_in cursor = record { encoding = encoding_in cursor.source; end = cursor.end }
 
--- the place of the cursor itself
+-- the offset of the cursor
 abbrev pub place_at : Cursor → ℕ
 place_at cursor = place (places_in cursor) (ahead cursor)
 
--- a later place of the same input
+-- another position in the same input
 abbrev pub SameInput : Cursor → Cursor → Type 0
 SameInput old new = places_in new ≡ places_in old
 
--- the cursor stands before all characters of the octets behind the mark, in an input of so many
--- octets
+-- the cursor is at the start of all characters of the bytes, which are the end of an input of `end`
+-- bytes
 pub record Holds (e : Encoding) (octets : List ℕ) (end : ℕ) (cursor : Cursor) : Type 0 where
   pub scalars : all_scalars (ahead cursor) ≡ true
   pub spelled : octets ≡ octets_of e (ahead cursor)
   pub places : places_in cursor ≡ record { encoding = e; end = end }
 
--- the cursor stands before the text of the input
+-- the cursor is at the start of the text of the input
 pub record Opens (octets : List ℕ) (cursor : Cursor) : Type 0 where
   pub spells : Spells octets (ahead cursor)
   pub places : places_in cursor ≡ places_of octets
 
--- the cursor stands behind these tokens of the input
+-- the cursor is after these tokens of the input
 pub record StandsBehind (octets : List ℕ) (tokens : List Placed) (cursor : Cursor) : Type 0 where
   pub before : BeginsWithTokens octets tokens (ahead cursor)
   pub places : places_in cursor ≡ places_of octets
 
--- behind whatever tokens of an input the old cursor stands, the new one stands behind one more,
--- which is this lexeme
+-- after any tokens of an input at the old cursor, there is one more at the new cursor, which is
+-- this lexeme
 pub record AddsToken (lexeme : Lexeme) (old new : Cursor) : Type 0 where
   pub token : Placed
   pub is : token.lexeme ≡ lexeme
@@ -62,13 +62,13 @@ abbrev pub begins_with : ℕ → List ℕ → Bool
 begins_with c [] = false
 begins_with c (d ∷ rest) = d == c
 
--- from the old place to the new, these characters stand, a stretch of the class
+-- these characters are between the old and the new cursor, a stretch of the class
 pub record PassesStretch (kind : Class) (old : Cursor) (front : List ℕ) (new : Cursor) : Type 0 where
   pub stretch : is_stretch 0xD800 kind front ≡ true
   pub text : ahead old ≡ front ++ ahead new
   pub input : SameInput old new
 
--- from the old place to the new, some stretch of the class stands; and its characters are appended
+-- some stretch of the class is between the old and the new cursor
 pub record SkipsStretch (kind : Class) (old new : Cursor) : Type 0 where
   pub front : List ℕ
   pub passes : PassesStretch kind old front new
@@ -78,7 +78,7 @@ pub record StretchAppends (kind : Class) (units more : List ℕ) (old new : Curs
   pub passes : PassesStretch kind old front new
   pub appended : more ≡ units ++ front
 
--- from the old place to the new, a piece of a gap stands, or a whole gap
+-- a piece of a gap is between the old and the new cursor
 pub record PassesPiece (old new : Cursor) : Type 0 where
   pub piece : GapPiece (ahead old) (ahead new)
   pub input : SameInput old new
@@ -89,7 +89,7 @@ pub record PassesGap (old new : Cursor) : Type 0 where
   pub whole : begins_gap (ahead new) ≡ false
   pub input : SameInput old new
 
--- what stands at the old place gives these units, or these octets, and the new place is behind it
+-- an escape is between the old and the new cursor, and its units are appended
 pub record EscapeAppends (units more : List ℕ) (old new : Cursor) : Type 0 where
   pub piece : List ℕ
   pub escape : Escape (ahead old) piece (ahead new)
@@ -120,12 +120,12 @@ pub record PassesOctets (old new : Cursor) (octets : List ℕ) : Type 0 where
   pub bytes : Octets (ahead old) octets (ahead new)
   pub input : SameInput old new
 
--- from the old place to the new, pairs of digits stand, and their octets are appended
+-- pairs of digits are between the old and the new cursor, and their bytes are appended
 pub record PassesPairs (octets more : List ℕ) (old new : Cursor) : Type 0 where
   pub passes : AppendsPairs octets more (ahead old) (ahead new)
   pub input : SameInput old new
 
--- a hexadecimal digit of this value
+-- a hexadecimal digit of this value is between the old and the new cursor
 pub record PassesDigit (value : ℕ) (old new : Cursor) : Type 0 where
   pub digit : ℕ
   pub first : ahead old ≡ digit ∷ ahead new
@@ -133,16 +133,16 @@ pub record PassesDigit (value : ℕ) (old new : Cursor) : Type 0 where
   pub valued : value ≡ digit_value digit
   pub input : SameInput old new
 
--- a token
+-- a token is between the old and the new cursor
 pub record PassesToken (lexeme : Lexeme) (old new : Cursor) : Type 0 where
   pub token : IsToken (ahead old) lexeme (ahead new)
   pub input : SameInput old new
 
--- the fact holds of the fault, unless memory ran out
+-- unless memory ran out, P is true of the fault
 abbrev pub UnlessMemory : (LexFault → Type 0) → LexFault → Type 0
 UnlessMemory P fault = ¬ (fault ≡ OutOfMemory) → P fault
 
--- the fault is that no character begins at a place of which the fact holds
+-- the fault is that no character begins at an offset of which P is true
 abbrev pub IsBadUtf8 : (ℕ → Type 0) → LexFault → Type 0
 IsBadUtf8 P fault = (at : ℕ) × (fault ≡ BadUtf8 at) × P at
 

@@ -1,17 +1,17 @@
--- The characters of an input, and the places of its octets.
+-- The characters of an input, and the offsets of its bytes.
 use Rattle.std.specs.Prelude.{◌≡◌, ℕ, ◌+◌, ◌-◌, ◌/◌, ◌%◌, ◌<◌, true, List, [], ◌∷◌, ◌++◌, length, nat_eq, if◌then◌else◌, encode_utf8}
 use Rattle.std.specs.List.{starts_with, flat_map}
 use Rattle.std.specs.Str.{all_scalars}
 use Rattle.std.specs.Char.{IsScalar}
 use Rattle.std.specs.Char.Escape.{encode_utf16}
 
--- how an input writes its characters
+-- how an input encodes its characters
 pub data Encoding : Type 0 where
   utf8 : Encoding
   utf16_big : Encoding
   utf16_little : Encoding
 
--- the marks that an input may begin with
+-- the byte order marks that an input may begin with
 abbrev pub big_mark : List ℕ
 big_mark = 0xfe ∷ 0xff ∷ []
 
@@ -21,14 +21,14 @@ little_mark = 0xff ∷ 0xfe ∷ []
 abbrev pub utf8_mark : List ℕ
 utf8_mark = 0xef ∷ 0xbb ∷ 0xbf ∷ []
 
--- the encoding that the first octets choose
+-- the encoding that the first bytes determine
 abbrev pub encoding_of : List ℕ → Encoding
 encoding_of octets =
     if starts_with nat_eq octets big_mark then utf16_big
     else (if starts_with nat_eq octets little_mark then utf16_little
     else utf8)
 
--- the mark that the octets begin with, or nothing
+-- the byte order mark that the bytes begin with, or nothing
 abbrev pub mark_of : List ℕ → List ℕ
 mark_of octets =
     if starts_with nat_eq octets big_mark then big_mark
@@ -36,30 +36,30 @@ mark_of octets =
     else (if starts_with nat_eq octets utf8_mark then utf8_mark
     else []))
 
--- the two octets of a UTF-16 unit
+-- the two bytes of a UTF-16 unit
 abbrev pub big_endian : ℕ → List ℕ
 big_endian unit = (unit / 256) ∷ (unit % 256) ∷ []
 
 abbrev pub little_endian : ℕ → List ℕ
 little_endian unit = (unit % 256) ∷ (unit / 256) ∷ []
 
--- the octets of one character
+-- the bytes of one character
 abbrev pub spelling : Encoding → ℕ → List ℕ
 spelling utf8 c = encode_utf8 c
 spelling utf16_big c = flat_map big_endian (encode_utf16 c)
 spelling utf16_little c = flat_map little_endian (encode_utf16 c)
 
--- the octets of a text
+-- the bytes of a text
 abbrev pub octets_of : Encoding → List ℕ → List ℕ
 octets_of e [] = []
 octets_of e (c ∷ cs) = spelling e c ++ octets_of e cs
 
--- the input is a mark or none, and behind it the characters of the text
+-- the input is a byte order mark or none, followed by the characters of the text
 pub record Spells (octets text : List ℕ) : Type 0 where
   pub scalars : all_scalars text ≡ true
   pub spelled : octets ≡ mark_of octets ++ octets_of (encoding_of octets) text
 
--- how the places of an input are counted
+-- what the offsets of an input depend on
 pub record Places : Type 0 where
   pub encoding : Encoding
   pub end : ℕ
@@ -67,11 +67,11 @@ pub record Places : Type 0 where
 abbrev pub places_of : List ℕ → Places
 places_of octets = record { encoding = encoding_of octets; end = length octets }
 
--- the place at which the rest of a text begins: as many octets from the end as the rest has
+-- the offset at which the rest of a text begins, counted from the end
 abbrev pub place : Places → List ℕ → ℕ
 place p rest = p.end - length (octets_of p.encoding rest)
 
--- at the front of the octets stands a character, and behind it the other octets; or no character
+-- the bytes are a character followed by other bytes; or no character is at their start
 pub record BeginsWith (e : Encoding) (octets : List ℕ) (c : ℕ) (behind : List ℕ) : Type 0 where
   pub scalar : IsScalar c
   pub spelled : octets ≡ spelling e c ++ behind
@@ -79,8 +79,8 @@ pub record BeginsWith (e : Encoding) (octets : List ℕ) (c : ℕ) (behind : Lis
 abbrev pub BeginsWithNone : Encoding → List ℕ → Type 0
 BeginsWithNone e octets = (c : ℕ) (behind : List ℕ) → BeginsWith e octets c behind → ⊥
 
--- Whole characters stand before the place, at it stands an octet, and no character begins there: in
--- the octets behind a mark, which end where the input does, and in the input.
+-- Complete characters precede the position, there is a byte at it, and no character begins there.
+-- The bytes are those after a byte order mark, and they end where the input ends.
 pub record StopsBehind (e : Encoding) (octets : List ℕ) (end at : ℕ) : Type 0 where
   pub before : List ℕ
   pub rest : List ℕ

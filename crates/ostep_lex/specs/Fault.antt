@@ -1,5 +1,4 @@
--- The refusals of a text's tokens: which refusal each fault is, its number, and what is printed of
--- it.
+-- The refusals of a text's tokens: their numbers, and how they are printed.
 use Rattle.std.specs.Prelude.{ℕ, List}
 use Rattle.plist_value.specs.Refusals.{number_of, reports, report_text}
 use Rattle.plist_value.specs.declared.refusals.Place.TheVariants.{Nowhere, Octet}
@@ -8,7 +7,7 @@ use Rattle.plist_value.specs.declared.refusals.Report.{Report}
 use Rattle.ostep_lex.specs.declared.fault.LexFault.{LexFault}
 use Rattle.ostep_lex.specs.declared.fault.LexFault.TheVariants.{BadUtf8, XmlForm, UnexpectedCharacter, UnclosedString, UnclosedComment, BadEscape, OctalRange, OddData, BadData, BadUtf16, OutOfMemory}
 
--- the refusal and its octet; out of memory stands nowhere
+-- the refusal and its offset; out of memory has none
 abbrev pub report_of : LexFault → Report
 report_of (BadUtf8 octet) = reports refusal.BadUtf8 (Octet octet)
 report_of (XmlForm octet) = reports refusal.XmlForm (Octet octet)

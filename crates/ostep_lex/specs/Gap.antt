@@ -1,9 +1,9 @@
--- What stands between tokens: white and comments. Each relation is between the text at a place and
--- the text behind what stands there.
+-- Whitespace and comments between tokens. Each relation is between the text at a position and the
+-- text after what is there.
 use Rattle.std.specs.Prelude.{◌≡◌, ℕ, Bool, true, false, ◌||◌, ◌&&◌, ◌==◌, List, [], ◌∷◌}
 use Rattle.ostep_lex.specs.Character.{slash, star, is_white, is_line_end}
 
--- behind `//`: up to and without a line end, or up to the end of the text
+-- after `//`: up to a line end, which is not included, or the end of the text
 pub data LineComment : List ℕ → List ℕ → Type 0 where
   text_end : LineComment [] []
   line_end : {c : ℕ} {rest : List ℕ} → is_line_end c ≡ true → LineComment (c ∷ rest) (c ∷ rest)
@@ -14,23 +14,23 @@ abbrev pub closes_comment : List ℕ → Bool
 closes_comment (a ∷ b ∷ rest) = (a == star) && (b == slash)
 closes_comment _ = false
 
--- behind `/*`: up to the first `*/`, that included
+-- after `/*`: up to the first `*/`, which is included
 pub data BlockComment : List ℕ → List ℕ → Type 0 where
   close : {rest : List ℕ} → BlockComment (star ∷ slash ∷ rest) rest
   more : {c : ℕ} {rest behind : List ℕ} → closes_comment (c ∷ rest) ≡ false → BlockComment rest behind → BlockComment (c ∷ rest) behind
 
--- behind `/*`: no `*/` up to the end of the text
+-- after `/*`: no `*/` up to the end of the text
 pub data NeverCloses : List ℕ → Type 0 where
   text_end : NeverCloses []
   more : {c : ℕ} {rest : List ℕ} → closes_comment (c ∷ rest) ≡ false → NeverCloses rest → NeverCloses (c ∷ rest)
 
--- a white character or a comment
+-- a whitespace character or a comment
 pub data GapPiece : List ℕ → List ℕ → Type 0 where
   white : {c : ℕ} {rest : List ℕ} → is_white c ≡ true → GapPiece (c ∷ rest) rest
   line : {rest behind : List ℕ} → LineComment rest behind → GapPiece (slash ∷ slash ∷ rest) behind
   block : {rest behind : List ℕ} → BlockComment rest behind → GapPiece (slash ∷ star ∷ rest) behind
 
--- white characters and comments, or nothing
+-- whitespace characters and comments, or nothing
 pub data Gap : List ℕ → List ℕ → Type 0 where
   none : {rest : List ℕ} → Gap rest rest
   piece : {text rest behind : List ℕ} → GapPiece text rest → Gap rest behind → Gap text behind
@@ -40,7 +40,7 @@ abbrev pub begins_comment : List ℕ → Bool
 begins_comment (a ∷ b ∷ rest) = (a == slash) && ((b == slash) || (b == star))
 begins_comment _ = false
 
--- whether white or a comment begins at the text
+-- whether the text begins with whitespace or a comment
 abbrev pub begins_gap : List ℕ → Bool
 begins_gap [] = false
 begins_gap (c ∷ rest) = is_white c || begins_comment (c ∷ rest)

@@ -1,4 +1,4 @@
--- What holds of the definitions alone.
+-- Laws of the definitions alone.
 use Rattle.std.specs.Prelude.{◌≡◌, ℕ, List, ◌++◌}
 use Rattle.ostep_lex.specs.declared.fault.LexFault.{LexFault}
 use Rattle.ostep_lex.specs.declared.fault.LexFault.TheVariants.{OutOfMemory}
@@ -8,16 +8,16 @@ use Rattle.ostep_lex.specs.Lexing.{HasTokens, HasNoTokens, BeginsWithTokens, Lex
 use Rattle.ostep_lex.specs.Spans.{HasSpans}
 use Rattle.ostep_lex.specs.Stands.{Stands}
 
--- no octets have two lists of tokens
+-- no bytes have two lists of tokens
 abbrev pub OneLexing : Type 0
 OneLexing = (octets : List ℕ) (tokens others : List Placed) → HasTokens octets tokens → HasTokens octets others → tokens ≡ others
 
--- octets in which a fault stands have no tokens
+-- bytes with a fault have no tokens
 abbrev pub FaultyHasNone : Type 0
 FaultyHasNone = (octets : List ℕ) (fault : LexFault) → Stands octets fault → ¬ (fault ≡ OutOfMemory) → HasNoTokens octets
 
--- the tokens that the octets begin with are the first of all their tokens, and the others stand in
--- the rest
+-- the tokens at the start of the bytes are the first of all their tokens, and the others are in the
+-- rest
 pub record Continues (octets : List ℕ) (tokens all : List Placed) (rest : List ℕ) : Type 0 where
   pub others : List Placed
   pub first : all ≡ tokens ++ others
@@ -27,7 +27,7 @@ abbrev pub TokensContinue : Type 0
 TokensContinue = (octets : List ℕ) (tokens all : List Placed) (rest : List ℕ) → BeginsWithTokens octets tokens rest → HasTokens octets all
     → Continues octets tokens all rest
 
--- Tokens stand in turn, with gaps before, between and behind them, and the octets of each span
--- spell its token.
+-- Tokens follow one another, with gaps before, between and after them, and the bytes of each span
+-- encode its token.
 abbrev pub SpansSpell : Type 0
 SpansSpell = (octets : List ℕ) (tokens : List Placed) → HasTokens octets tokens → HasSpans octets tokens

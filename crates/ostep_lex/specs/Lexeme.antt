@@ -1,4 +1,4 @@
--- What a token is, and where it stands.
+-- Tokens and their spans.
 use Rattle.std.specs.Prelude.{◌≡◌, ℕ, true, false, ◌==◌, List, ◌∷◌, Option, Some, None, if◌then◌else◌}
 use Rattle.ostep_lex.specs.declared.token.TokenKind.{TokenKind}
 use Rattle.ostep_lex.specs.declared.token.TokenKind.TheVariants.{BraceOpen, BraceClose, ParenOpen, ParenClose, Comma, Semicolon, Equals, Text, Octets as OctetsKind}
@@ -19,7 +19,7 @@ pub data Lexeme : Type 0 where
   text : List ℕ → Lexeme
   octets : List ℕ → Lexeme
 
--- the token of a single character, if it is one
+-- the punctuation token of a character, if it is one
 abbrev pub mark_token : ℕ → Option Lexeme
 mark_token c =
     if c == 123 then Some brace_open
@@ -31,7 +31,7 @@ mark_token c =
     else (if c == 61 then Some equals
     else None))))))
 
--- a token stands at the text; behind it the last list stands
+-- the text is a token, followed by the last list
 pub data IsToken : List ℕ → Lexeme → List ℕ → Type 0 where
   mark : {c : ℕ} {lexeme : Lexeme} {rest : List ℕ} → mark_token c ≡ Some lexeme → IsToken (c ∷ rest) lexeme rest
   run : {c : ℕ} {rest units behind : List ℕ} → is_run c ≡ true → begins_comment (c ∷ rest) ≡ false → Run rest units behind
@@ -40,13 +40,13 @@ pub data IsToken : List ℕ → Lexeme → List ℕ → Type 0 where
       → IsToken (c ∷ rest) (text units) behind
   data_token : {rest bytes behind : List ℕ} → Octets rest bytes behind → IsToken (less_than ∷ rest) (octets bytes) behind
 
--- a token, with its first octet and the octet after its last
+-- a token, with the offset of its first byte and the offset after its last
 pub record Placed : Type 0 where
   pub lexeme : Lexeme
   pub start : ℕ
   pub end : ℕ
 
--- a token of the code as such
+-- the token without its span
 abbrev pub lexeme_of : TokenKind → Lexeme
 lexeme_of BraceOpen = brace_open
 lexeme_of BraceClose = brace_close

@@ -3,13 +3,13 @@ use Rattle.std.specs.Prelude.{◌≡◌, ℕ, ◌+◌, ◌*◌, true, List, [], 
 use Rattle.std.specs.Char.{digit_value}
 use Rattle.ostep_lex.specs.Character.{greater_than, is_white, is_hexadecimal}
 
--- white, which gives nothing, or a pair of hexadecimal digits, which gives an octet
+-- whitespace, which gives nothing, or a pair of hexadecimal digits, which gives a byte
 pub data OctetsPiece : List ℕ → List ℕ → List ℕ → Type 0 where
   white : {c : ℕ} {rest : List ℕ} → is_white c ≡ true → OctetsPiece (c ∷ rest) [] rest
   pair : {c d : ℕ} {rest : List ℕ} → is_hexadecimal c ≡ true → is_hexadecimal d ≡ true
       → OctetsPiece (c ∷ d ∷ rest) ((digit_value c * 16 + digit_value d) ∷ []) rest
 
--- behind `<`: such pieces, and `>`
+-- after `<`: pieces, and then `>`
 pub data Octets : List ℕ → List ℕ → List ℕ → Type 0 where
   close : {rest : List ℕ} → Octets (greater_than ∷ rest) [] rest
   piece : {text octets rest more behind : List ℕ} → OctetsPiece text octets rest → Octets rest more behind

@@ -1,4 +1,4 @@
--- Pairs of hexadecimal digits, and the octets that they give.
+-- Pairs of hexadecimal digits, and the bytes that they encode.
 use Rattle.std.specs.Prelude.{◌≡◌, ℕ, ◌≤◌, ◌+◌, ◌*◌, true, List, [], ◌∷◌, ◌++◌, length, chars, IsUtf8}
 use Rattle.std.specs.Char.{digit_value}
 use Rattle.ostep_lex.specs.Character.{is_hexadecimal}
@@ -10,20 +10,20 @@ pub record IsDigitOf (c value : ℕ) : Type 0 where
   pub hexadecimal : is_hexadecimal c ≡ true
   pub valued : value ≡ digit_value c
 
--- pairs of digits, and their octets
+-- pairs of digits, and their bytes
 pub data Pairs : List ℕ → List ℕ → Type 0 where
   none : Pairs [] []
   more : {c d : ℕ} {digits octets : List ℕ} → is_hexadecimal c ≡ true → is_hexadecimal d ≡ true → Pairs digits octets
       → Pairs (c ∷ d ∷ digits) ((digit_value c * 16 + digit_value d) ∷ octets)
 
--- at the front stands a pair of this octet
+-- the text begins with the pair of this byte
 pub record IsPair (text : List ℕ) (octet : ℕ) (behind : List ℕ) : Type 0 where
   pub high : ℕ
   pub low : ℕ
   pub first : text ≡ high ∷ low ∷ behind
   pub pair : Pairs (high ∷ low ∷ []) (octet ∷ [])
 
--- pairs stand before what is behind, and their octets are appended
+-- pairs precede what follows, and their bytes are appended
 pub record AppendsPairs (octets more text behind : List ℕ) : Type 0 where
   pub digits : List ℕ
   pub values : List ℕ
@@ -31,13 +31,13 @@ pub record AppendsPairs (octets more text behind : List ℕ) : Type 0 where
   pub split : text ≡ digits ++ behind
   pub appended : more ≡ octets ++ values
 
--- pairs of digits stand at the front of a text, and their octets are appended
+-- a text begins with pairs of digits, and their bytes are appended
 pub record AppendsFront (octets more text behind : List ℕ) : Type 0 where
   pub passes : AppendsPairs octets more text behind
   pub characters : chars text ≡ passes.digits ++ chars behind
   pub utf8 : IsUtf8 behind
 
--- pairs of digits stand at the front of what is still to be read, and their octets are appended
+-- the remaining text begins with pairs of digits, and their bytes are appended
 pub record AppendsLead (octets more : List ℕ) (source behind : Source) : Type 0 where
   pub passes : AppendsPairs octets more (characters_in source) (characters_in behind)
   pub whole : IsWhole behind

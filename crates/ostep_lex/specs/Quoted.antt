@@ -1,26 +1,26 @@
--- Strings: unquoted runs, and quoted strings with their escapes. Each relation is between the text
--- at a place, the UTF-16 units that what stands there gives, and the text behind it.
+-- Strings: unquoted strings, and quoted strings with their escapes. Each relation is between the
+-- text at a position, the UTF-16 units that it encodes, and the text after them.
 use Rattle.std.specs.Prelude.{◌≡◌, ℕ, ◌≤◌, Bool, true, false, not, ◌&&◌, ◌==◌, List, [], ◌∷◌, ◌++◌, if◌then◌else◌}
 use Rattle.std.specs.Char.Escape.{encode_utf16}
 use Rattle.ostep_lex.specs.Character.{backslash, is_run, is_octal}
 use Rattle.ostep_lex.specs.Digits.{begins_digit, octal_number, hexadecimal_number}
 
--- whether a run goes on at the text
+-- whether an unquoted string continues at the text
 abbrev pub begins_run : List ℕ → Bool
 begins_run [] = false
 begins_run (c ∷ rest) = is_run c
 
--- run characters, as many as stand there
+-- characters of an unquoted string, as many as possible
 pub data Run : List ℕ → List ℕ → List ℕ → Type 0 where
   stop : {rest : List ℕ} → begins_run rest ≡ false → Run rest [] rest
   more : {c : ℕ} {rest units behind : List ℕ} → is_run c ≡ true → Run rest units behind → Run (c ∷ rest) (c ∷ units) behind
 
--- the `U` of an escape of one unit
+-- the `U` of an escape in hexadecimal digits
 abbrev pub unit_letter : ℕ
 unit_letter = 85
 
--- the units of a character that no digit and no `U` is: those of the letters a, b, f, n, r, t, v
--- are 7, 8, 12, 10, 13, 9, 11
+-- the units of an escape of one character, which is neither a digit nor `U`: those of the letters
+-- a, b, f, n, r, t, v are 7, 8, 12, 10, 13, 9, 11
 abbrev pub escaped : ℕ → List ℕ
 escaped c =
     if c == 97 then 7 ∷ []
@@ -32,8 +32,8 @@ escaped c =
     else (if c == 118 then 11 ∷ []
     else encode_utf16 c))))))
 
--- behind a backslash: one to three octal digits with a value of at most octal 177, `U` and one to
--- four hexadecimal digits, in each case as many as stand there, or any other character
+-- after a backslash: one to three octal digits with a value of at most octal 177, or `U` and one to
+-- four hexadecimal digits, as many as possible, or any other character
 pub data Escape : List ℕ → List ℕ → List ℕ → Type 0 where
   octal : {text : List ℕ} → begins_digit 8 text ≡ true → (octal_number text).value ≤ 0x7f
       → Escape text ((octal_number text).value ∷ []) (octal_number text).behind
@@ -41,16 +41,16 @@ pub data Escape : List ℕ → List ℕ → List ℕ → Type 0 where
       → Escape (unit_letter ∷ text) ((hexadecimal_number text).value ∷ []) (hexadecimal_number text).behind
   character : {c : ℕ} {rest : List ℕ} → is_octal c ≡ false → (c == unit_letter) ≡ false → Escape (c ∷ rest) (escaped c) rest
 
--- whether a character stands for itself between quotes
+-- whether a character encodes itself between quotes
 abbrev pub is_raw : ℕ → ℕ → Bool
 is_raw mark c = not (c == backslash) && not (c == mark)
 
--- one piece of a quoted string: a raw character or an escape
+-- one piece of a quoted string: an unescaped character or an escape
 pub data Piece (mark : ℕ) : List ℕ → List ℕ → List ℕ → Type 0 where
   raw : {c : ℕ} {rest : List ℕ} → is_raw mark c ≡ true → Piece mark (c ∷ rest) (encode_utf16 c) rest
   escape : {text units rest : List ℕ} → Escape text units rest → Piece mark (backslash ∷ text) units rest
 
--- behind the opening quote: pieces, and the same quote
+-- after the opening quote: pieces, and the closing quote
 pub data Quoted (mark : ℕ) : List ℕ → List ℕ → List ℕ → Type 0 where
   close : {c : ℕ} {rest : List ℕ} → (c == mark) ≡ true → Quoted mark (c ∷ rest) [] rest
   piece : {text units rest more behind : List ℕ} → Piece mark text units rest → Quoted mark rest more behind

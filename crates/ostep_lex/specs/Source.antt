@@ -1,5 +1,4 @@
--- What the code holds of an input: the octets that are still to be read, and how they write
--- characters.
+-- The representation of an input in the code: the remaining bytes, and their encoding.
 use Rattle.std.specs.Prelude.{◌≡◌, ℕ, ◌+◌, ◌*◌, List, [], ◌∷◌, ◌++◌, map, true, chars, unwrap_or, length, ◌≤◌}
 use Rattle.std.specs.Str.{all_scalars}
 use Rattle.std.specs.Char.Utf16.{utf16_chars}
@@ -13,7 +12,7 @@ abbrev pub encoding_by : ByteOrder → Encoding
 encoding_by Big = utf16_big
 encoding_by Little = utf16_little
 
--- the two octets of a unit, and the unit of two octets
+-- the two bytes of a unit, and the unit of two bytes
 abbrev pub unit_octets : ByteOrder → ℕ → List ℕ
 unit_octets Big unit = big_endian unit
 unit_octets Little unit = little_endian unit
@@ -26,13 +25,13 @@ abbrev pub units_in : ByteOrder → List ℕ → List ℕ
 units_in order (first ∷ second ∷ rest) = unit_of order first second ∷ units_in order rest
 units_in order _ = []
 
--- whole characters stand before the rest
+-- complete characters precede the rest
 pub record FrontsOf (e : Encoding) (octets rest : List ℕ) : Type 0 where
   pub before : List ℕ
   pub whole : all_scalars before ≡ true
   pub split : octets ≡ octets_of e before ++ rest
 
--- the characters of UTF-16 octets, where they are whole ones
+-- the characters of UTF-16 bytes, if they are complete
 unfoldable pub utf16_characters : ByteOrder → List ℕ → List ℕ
 utf16_characters order octets = map (λ c. unwrap_or c 0) (utf16_chars (units_in order octets))
 
@@ -48,12 +47,12 @@ abbrev pub characters_in : Source → List ℕ
 characters_in (Utf8 octets) = chars octets.now
 characters_in (Utf16 order octets) = utf16_characters order octets.now
 
--- the octets are those of the characters
+-- the bytes are those of the characters
 pub record IsWhole (source : Source) : Type 0 where
   pub scalars : all_scalars (characters_in source) ≡ true
   pub spelled : octets_of (encoding_in source) (characters_in source) ≡ octets_in source
 
--- a character stands first, and behind it whole characters of the same encoding
+-- a character is first, followed by complete characters of the same encoding
 pub record Leads (source : Source) (c : ℕ) (behind : Source) : Type 0 where
   pub text : characters_in source ≡ c ∷ characters_in behind
   pub whole : IsWhole behind

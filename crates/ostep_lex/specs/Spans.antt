@@ -1,11 +1,11 @@
--- The spans of tokens, read from the front of the octets.
+-- The spans of tokens, read from the start of the bytes.
 use Rattle.std.specs.Prelude.{◌≡◌, ℕ, ◌+◌, List, [], ◌∷◌, ◌++◌, length}
 use Rattle.ostep_lex.specs.Encoding.{Encoding, octets_of, encoding_of, mark_of}
 use Rattle.ostep_lex.specs.Gap.{Gap}
 use Rattle.ostep_lex.specs.Lexeme.{IsToken, Placed}
 
--- The octets from a place on are those of a gap, those of the token, which begins and ends where it
--- says, and others.
+-- The bytes from offset `at` on are those of a gap, of the token, which has the offsets that it
+-- states, and other bytes.
 pub record StandsFirst (e : Encoding) (at : ℕ) (octets : List ℕ) (token : Placed) (others : List ℕ) : Type 0 where
   pub gap : List ℕ
   pub piece : List ℕ
@@ -17,12 +17,12 @@ pub record StandsFirst (e : Encoding) (at : ℕ) (octets : List ℕ) (token : Pl
   pub start : token.start ≡ at + length (octets_of e gap)
   pub end : token.end ≡ token.start + length (octets_of e piece)
 
--- the octets from a place on are gaps and these tokens in turn
+-- the bytes from offset `at` on are gaps and these tokens in order
 abbrev pub StandInTurn : Encoding → ℕ → List ℕ → List Placed → Type 0
 StandInTurn e at octets [] = (gap : List ℕ) × Gap gap [] × (octets ≡ octets_of e gap)
 StandInTurn e at octets (token ∷ tokens) = (others : List ℕ) × StandsFirst e at octets token others × StandInTurn e token.end others tokens
 
--- so are the octets of an input behind its mark
+-- the bytes of an input after its byte order mark are gaps and these tokens in order
 pub record HasSpans (octets : List ℕ) (tokens : List Placed) : Type 0 where
   pub behind : List ℕ
   pub marked : octets ≡ mark_of octets ++ behind

@@ -1,5 +1,5 @@
--- Where each fault of a text stands. Each relation is between the text at a place and the fault
--- that reading on from there meets.
+-- The faults of a text. Each relation is between the text at a position and the fault that is found
+-- on reading from there.
 use Rattle.std.specs.Prelude.{◌≡◌, ℕ, ◌<◌, Bool, true, false, ◌||◌, ◌==◌, List, [], ◌∷◌, Some, None, nat_eq, codes}
 use Rattle.std.specs.List.{starts_with}
 use Rattle.ostep_lex.specs.declared.fault.LexFault.{LexFault}
@@ -13,7 +13,7 @@ use Rattle.ostep_lex.specs.Octets.{OctetsPiece}
 use Rattle.ostep_lex.specs.Lexeme.{Lexeme, mark_token, Placed}
 use Rattle.ostep_lex.specs.Lexing.{BeginsWithTokens}
 
--- an escape whose backslash stands first, in a string whose quote stands at the place start
+-- an escape, from its backslash on, in a string whose quote is at offset start
 pub data EscapeFault (p : Places) (start : ℕ) : List ℕ → LexFault → Type 0 where
   cut_escape : EscapeFault p start (backslash ∷ []) (UnclosedString start)
   no_digit : {rest : List ℕ} → begins_digit 16 rest ≡ false
@@ -21,18 +21,18 @@ pub data EscapeFault (p : Places) (start : ℕ) : List ℕ → LexFault → Type
   too_high : {rest : List ℕ} → begins_digit 8 rest ≡ true → 0x7f < (octal_number rest).value
       → EscapeFault p start (backslash ∷ rest) (OctalRange (place p (backslash ∷ rest)))
 
--- behind a quote that stands at the place start: pieces, and no end or such an escape
+-- after a quote at offset start: pieces, and then no end or a faulty escape
 pub data QuotedFault (p : Places) (start mark : ℕ) : List ℕ → LexFault → Type 0 where
   cut_string : QuotedFault p start mark [] (UnclosedString start)
   escape : {text : List ℕ} {fault : LexFault} → EscapeFault p start text fault → QuotedFault p start mark text fault
   piece : {text units rest : List ℕ} {fault : LexFault} → Piece mark text units rest → QuotedFault p start mark rest fault
       → QuotedFault p start mark text fault
 
--- whether a pair of digits, white or `>` may begin with the character
+-- whether whitespace, `>` or a pair of digits may begin with the character
 abbrev pub is_of_data : ℕ → Bool
 is_of_data c = is_white c || is_hexadecimal c || (c == greater_than)
 
--- behind a `<`: pieces, and no end, a character that is of no data, or a lone digit
+-- after `<`: pieces, and then no end, a character not allowed in data, or a single digit
 pub data OctetsFault (p : Places) : List ℕ → LexFault → Type 0 where
   cut_data : OctetsFault p [] (BadData (place p []))
   other : {c : ℕ} {rest : List ℕ} → is_of_data c ≡ false → OctetsFault p (c ∷ rest) (BadData (place p (c ∷ rest)))
@@ -41,11 +41,11 @@ pub data OctetsFault (p : Places) : List ℕ → LexFault → Type 0 where
   piece : {text octets rest : List ℕ} {fault : LexFault} → OctetsPiece text octets rest → OctetsFault p rest fault
       → OctetsFault p text fault
 
--- whether the character begins a token other than a mark, white, or a comment
+-- whether the character begins whitespace, or a token other than punctuation
 abbrev pub begins_other : ℕ → Bool
 begins_other c = is_white c || is_run c || is_quote c || (c == less_than)
 
--- where a token or a comment should begin
+-- at a position where a token or a comment should begin
 pub data FaultAt (p : Places) : List ℕ → LexFault → Type 0 where
   unexpected : {c : ℕ} {rest : List ℕ} → mark_token c ≡ None → begins_other c ≡ false
       → FaultAt p (c ∷ rest) (UnexpectedCharacter (place p (c ∷ rest)))
@@ -54,16 +54,16 @@ pub data FaultAt (p : Places) : List ℕ → LexFault → Type 0 where
       → FaultAt p (c ∷ rest) fault
   data_token : {rest : List ℕ} {fault : LexFault} → OctetsFault p rest fault → FaultAt p (less_than ∷ rest) fault
 
--- behind a gap
+-- after a gap
 pub data FaultBehind (p : Places) : List ℕ → LexFault → Type 0 where
   gap : {text from : List ℕ} {fault : LexFault} → Gap text from → FaultAt p from fault → FaultBehind p text fault
 
--- white characters, or nothing
+-- whitespace characters, or nothing
 pub data White : List ℕ → List ℕ → Type 0 where
   none : {rest : List ℕ} → White rest rest
   more : {c : ℕ} {rest behind : List ℕ} → is_white c ≡ true → White rest behind → White (c ∷ rest) behind
 
--- behind white the mark does not stand
+-- whitespace is not followed by the mark
 abbrev pub LacksMark : ℕ → List ℕ → Type 0
 LacksMark mark text = (lexeme : Lexeme) (behind : List ℕ) → mark_token mark ≡ Some lexeme → White text (mark ∷ behind) → ⊥
 
@@ -71,14 +71,14 @@ LacksMark mark text = (lexeme : Lexeme) (behind : List ℕ) → mark_token mark 
 abbrev pub begins_xml : List ℕ → Bool
 begins_xml text = starts_with nat_eq text (codes "<?xml") || starts_with nat_eq text (codes "<!DOCTYPE") || starts_with nat_eq text (codes "<plist")
 
--- the octets are those of a text in which the fault stands behind tokens and a gap
+-- the bytes are those of a text in which the fault follows tokens and a gap
 pub record HasFault (octets : List ℕ) (fault : LexFault) : Type 0 where
   pub tokens : List Placed
   pub rest : List ℕ
   pub before : BeginsWithTokens octets tokens rest
   pub stands : FaultBehind (places_of octets) rest fault
 
--- the octets are those of a text that begins, behind white, as an XML property list does
+-- the bytes are those of a text that begins, after whitespace, like an XML property list
 pub record HasXml (octets : List ℕ) (at : ℕ) : Type 0 where
   pub text : List ℕ
   pub spells : Spells octets text
@@ -87,7 +87,7 @@ pub record HasXml (octets : List ℕ) (at : ℕ) : Type 0 where
   pub begins : begins_xml from ≡ true
   pub stands : at ≡ place (places_of octets) from
 
--- the octets have the fault at its place
+-- the fault is true of the bytes, at its offset
 abbrev pub Stands : List ℕ → LexFault → Type 0
 Stands octets (BadUtf8 at) = (encoding_of octets ≡ utf8) × StopsAt octets at
 Stands octets (BadUtf16 at) = ¬ (encoding_of octets ≡ utf8) × StopsAt octets at

@@ -1,4 +1,4 @@
--- Stretches: characters of one class, of ASCII or at least below the surrogates.
+-- Stretches: characters of one class, in ASCII or below the surrogates.
 use Rattle.std.specs.Prelude.{◌≡◌, ℕ, ◌≤◌, length, Bool, true, not, ◌&&◌, ◌==◌, nat_lt, List, [], ◌∷◌, ◌++◌}
 use Rattle.ostep_lex.specs.declared.stretch.Class.{Class}
 use Rattle.ostep_lex.specs.declared.stretch.Class.TheVariants.{Run, White, Raw, Line, Starless}
@@ -22,13 +22,13 @@ abbrev pub is_stretch : ℕ → Class → List ℕ → Bool
 is_stretch limit kind [] = true
 is_stretch limit kind (c ∷ cs) = (nat_lt c limit && belongs kind c) && is_stretch limit kind cs
 
--- a stretch of ASCII characters stands before the rest
+-- a stretch of ASCII characters precedes the rest
 pub record BeginsWithStretch (kind : Class) (octets rest : List ℕ) : Type 0 where
   pub front : List ℕ
   pub stretch : is_stretch 128 kind front ≡ true
   pub split : octets ≡ front ++ rest
 
--- in UTF-16 octets the characters of a stretch stand before the rest; and these are appended
+-- the UTF-16 bytes of a stretch precede the rest
 pub record BeginsWithUnits (kind : Class) (order : ByteOrder) (octets rest : List ℕ) : Type 0 where
   pub front : List ℕ
   pub stretch : is_stretch 0xD800 kind front ≡ true
@@ -38,7 +38,7 @@ pub record AppendsUnits (kind : Class) (order : ByteOrder) (units more octets re
   pub begins : BeginsWithUnits kind order octets rest
   pub appended : more ≡ units ++ begins.front
 
--- a stretch stands first, and behind it whole characters of the same encoding
+-- a stretch is first, followed by complete characters of the same encoding
 pub record LeadsStretch (kind : Class) (source : Source) (front : List ℕ) (behind : Source) : Type 0 where
   pub stretch : is_stretch 0xD800 kind front ≡ true
   pub text : characters_in source ≡ front ++ characters_in behind
@@ -46,12 +46,12 @@ pub record LeadsStretch (kind : Class) (source : Source) (front : List ℕ) (beh
   pub encoding : encoding_in behind ≡ encoding_in source
   pub shorter : length (octets_in behind) ≤ length (octets_in source)
 
--- some stretch does so
+-- some stretch is first
 pub record PassesLead (kind : Class) (source behind : Source) : Type 0 where
   pub front : List ℕ
   pub leads : LeadsStretch kind source front behind
 
--- the same, and its characters are appended
+-- some stretch is first, and its characters are appended
 pub record AppendsStretch (kind : Class) (units more : List ℕ) (source behind : Source) : Type 0 where
   pub front : List ℕ
   pub leads : LeadsStretch kind source front behind

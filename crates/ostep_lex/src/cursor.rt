@@ -1,4 +1,4 @@
-//! A place in an input, passed by value.
+//! A position in an input.
 ghost use Rattle.std.specs.Prelude.{◌≡◌, false, [], ◌∷◌, ◌≤◌, length};
 ghost use Rattle.std.specs.Prelude.{MatchOption, IfSome, IfOk, IfErr};
 ghost use Rattle.ostep_lex.specs.Source.{IsWhole, octets_in};
@@ -9,7 +9,7 @@ use crate::stretch::Class;
 use simdutf8::compat::from_utf8;
 use std::alloc::AllocError;
 
-/// A place in an input, and the characters from there on. It is passed by value.
+/// A position in an input, with the characters after it. Passed by value.
 #[derive(Clone, Copy)]
 pub struct Cursor<'a> {
     source: Source<'a>,
@@ -26,7 +26,7 @@ impl<'a> Cursor<'a> {
     ghost use Rattle.ostep_lex.specs.Encoding.{utf8, StopsBehind};
     ghost use Rattle.ostep_lex.specs.Source.{encoding_by};
 
-    /// The place: how many octets of the input stand before it, the mark's included.
+    /// Returns the offset in the input, byte order mark included.
     #[tactic(auto, unfolding(crate::specs::Cursor::ahead, crate::specs::Cursor::places_in))]
     pub fn place(self) -> usize
         ensures { result ≡ place_at self.entry }
@@ -34,12 +34,12 @@ impl<'a> Cursor<'a> {
         self.end - self.source.len()
     }
 
-    /// Whether the input is UTF-8.
+    /// Returns whether the input is UTF-8.
     pub(crate) fn is_utf8(self) -> bool {
         matches!(self.source, Source::Utf8(_))
     }
 
-    /// The first character from the cursor on, and the cursor behind it.
+    /// Returns the first character at the cursor, and the cursor after it.
     #[inline(always)]
     #[tactic(auto, unfolding(crate::specs::Cursor::ahead, crate::specs::Cursor::places_in))]
     pub(crate) fn first(self) -> Option<(char, Cursor<'a>)>
@@ -56,7 +56,7 @@ impl<'a> Cursor<'a> {
         ))
     }
 
-    /// The cursor behind the longest stretch of the class at the cursor.
+    /// Returns the cursor after the longest stretch of the class.
     #[inline(always)]
     #[tactic(auto, unfolding(crate::specs::Cursor::ahead, crate::specs::Cursor::places_in))]
     pub(crate) fn behind_stretch(self, class: Class) -> Cursor<'a>
@@ -68,8 +68,8 @@ impl<'a> Cursor<'a> {
         }
     }
 
-    /// The octets of the longest stretch of the class at the cursor, one for each of its
-    /// characters, and the cursor behind it. None of UTF-16.
+    /// Returns the bytes of the longest stretch of the class, one for each character, and the
+    /// cursor after it. Returns `None` for UTF-16.
     #[inline(always)]
     #[tactic(auto, unfolding(crate::specs::Cursor::ahead, crate::specs::Cursor::places_in))]
     pub(crate) fn plain_stretch(self, class: Class) -> Option<(&'a [u8], Cursor<'a>)>
@@ -85,8 +85,7 @@ impl<'a> Cursor<'a> {
         ))
     }
 
-    /// Appends the characters of the longest stretch of the class at the cursor, and answers the
-    /// cursor behind it.
+    /// Appends the characters of the longest stretch of the class and returns the cursor after it.
     #[inline(always)]
     #[tactic(auto, unfolding(crate::specs::Cursor::ahead, crate::specs::Cursor::places_in))]
     pub(crate) fn push_stretch(
@@ -103,8 +102,8 @@ impl<'a> Cursor<'a> {
         })
     }
 
-    /// Appends the octets of the pairs of hexadecimal digits at the cursor, as many as stand there
-    /// of UTF-8 and none of UTF-16, and answers the cursor behind these.
+    /// Appends the bytes of the pairs of hexadecimal digits at the cursor and returns the cursor
+    /// after them. Appends nothing for UTF-16.
     #[tactic(auto, unfolding(crate::specs::Cursor::ahead, crate::specs::Cursor::places_in))]
     pub(crate) fn push_pairs(self, found: &mut Vec<u8>) -> Result<Cursor<'a>, AllocError>
         ensures { IfOk result (PassesPairs found.old.items found.new.items self.entry) }
@@ -116,7 +115,7 @@ impl<'a> Cursor<'a> {
         })
     }
 
-    /// The cursor behind the character, if it stands first.
+    /// Returns the cursor after the character, if it is the first.
     pub(crate) fn behind(self, wanted: char) -> Option<Cursor<'a>>
         ensures { MatchOption result (begins_with wanted (ahead self.entry) ≡ false) (λ behind.
             (ahead self.entry ≡ wanted ∷ ahead behind) × SameInput self.entry behind) }
@@ -127,7 +126,7 @@ impl<'a> Cursor<'a> {
         }
     }
 
-    /// The cursor before UTF-8 octets at the end of an input of `end` octets.
+    /// Returns the cursor at the start of UTF-8 bytes at the end of an input of `end` bytes.
     #[tactic(auto, unfolding(crate::specs::Cursor::ahead, crate::specs::Cursor::places_in))]
     pub(crate) fn of_utf8(octets: &'a [u8], end: usize) -> Result<Cursor<'a>, LexFault>
         requires { length octets.now ≤ end }
@@ -145,7 +144,7 @@ impl<'a> Cursor<'a> {
         }
     }
 
-    /// The cursor before UTF-16 octets at the end of an input of `end` octets.
+    /// Returns the cursor at the start of UTF-16 bytes at the end of an input of `end` bytes.
     #[tactic(auto, unfolding(crate::specs::Cursor::ahead, crate::specs::Cursor::places_in))]
     pub(crate) fn of_utf16(
         order: ByteOrder,

@@ -1,12 +1,12 @@
-//! Numbers of octal or hexadecimal digits.
+//! Numbers in octal or hexadecimal digits.
 ghost use Rattle.std.specs.Prelude.{◌≡◌, ◌<◌, ◌≤◌, ◌^◌};
 ghost use Rattle.ostep_lex.specs.Digits.{number_from, Number, begins_digit};
 ghost use Rattle.ostep_lex.specs.Cursor.{ahead, SameInput};
 
 use crate::cursor::Cursor;
 
-/// The number that the digits at the cursor spell, as many as stand there up to `count`, and the
-/// cursor behind them.
+/// Returns the number that the digits at the cursor encode, at most `count` of them, and the cursor
+/// after them.
 pub fn number(cursor: Cursor<'_>, base: u32, count: u32) -> (u32, Cursor<'_>)
     requires base { 2 ≤ base }
     requires base_limit { base ≤ 16 }
@@ -31,7 +31,7 @@ pub fn number(cursor: Cursor<'_>, base: u32, count: u32) -> (u32, Cursor<'_>)
     (value, rest)
 }
 
-/// Whether a digit of the base stands at the cursor.
+/// Returns whether a digit of the base is at the cursor.
 pub fn begins_digit(cursor: Cursor<'_>, base: u32) -> bool
     requires base { 2 ≤ base }
     requires base_limit { base ≤ 36 }

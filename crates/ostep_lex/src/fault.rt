@@ -8,44 +8,44 @@ use std::alloc::{AllocError, AllocFailed};
 use std::fmt;
 use thiserror::Error;
 
-/// Why a text has no tokens. Each place counts octets from the input's first, its mark included.
+/// Why a text has no tokens. Offsets are those in the input, byte order mark included.
 #[derive(Clone, Copy, Debug, PartialEq, Eq, Error)]
 pub enum LexFault {
-    /// No UTF-8 character begins at this octet, and whole characters stand before it. Comes before
-    /// all other faults of a text with no UTF-16 mark.
+    /// No UTF-8 character begins at this byte, after complete characters. Comes before all other
+    /// faults of a text that has no UTF-16 byte order mark.
     BadUtf8 { octet: usize },
-    /// The text begins as an XML property list does, at this octet, its `<`. Comes next.
+    /// The text begins like an XML property list, whose `<` is this byte. Comes next.
     XmlForm { octet: usize },
-    /// The character at this octet begins no token, white or comment.
+    /// The character at this byte begins no token, whitespace or comment.
     UnexpectedCharacter { octet: usize },
-    /// The string whose quote stands at this octet has no end.
+    /// The string whose quote is this byte has no end.
     UnclosedString { octet: usize },
-    /// The comment whose `/*` stands at this octet has no end.
+    /// The comment whose `/*` is at this byte has no end.
     UnclosedComment { octet: usize },
-    /// No hexadecimal digit follows the `\U` whose backslash stands at this octet.
+    /// No hexadecimal digit follows the `\U` whose backslash is this byte.
     BadEscape { octet: usize },
-    /// The octal escape whose backslash stands at this octet has a value above octal 177.
+    /// The octal escape whose backslash is this byte has a value above octal 177.
     OctalRange { octet: usize },
-    /// No second digit follows the hexadecimal digit at this octet of a data token.
+    /// No second digit follows the hexadecimal digit at this byte of a data token.
     OddData { octet: usize },
-    /// At this octet of a data token stands neither a pair of digits nor `>`, or the text ends.
+    /// At this byte of a data token there is neither a pair of digits nor `>`, or the text ends.
     BadData { octet: usize },
-    /// No UTF-16 character begins at this octet, and whole characters stand between the mark and
-    /// it. Comes before all other faults of a text with a UTF-16 mark.
+    /// No UTF-16 character begins at this byte, after complete characters. Comes before all other
+    /// faults of a text with a UTF-16 byte order mark.
     BadUtf16 { octet: usize },
-    /// There was no memory. May come before any other fault.
+    /// Out of memory. May come before any other fault.
     OutOfMemory,
 }
 
 impl LexFault {
-    /// The number of the refusal: 20, 21, 23 to 29, 32 or 60.
+    /// Returns the number of the refusal: 20, 21, 23 to 29, 32 or 60.
     pub fn code(&self) -> u8
         ensures { result ≡ code_of self.now }
     {
         self.report().0.number()
     }
 
-    // What is printed of it.
+    // Returns what is printed.
     fn report(&self) -> Report
         ensures { result ≡ report_of self.now }
     {
@@ -71,7 +71,8 @@ impl LexFault {
     }
 }
 
-/// The number, the name and the place of the refusal, as `24 UnclosedString at octet 2`.
+/// Prints the number, the name and the position of the refusal, such as `24 UnclosedString at octet
+/// 2`.
 impl fmt::Display for LexFault {
     ghost output = { λ fault. Some (text_of_fault fault) };
 

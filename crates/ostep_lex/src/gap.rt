@@ -1,4 +1,4 @@
-//! What stands between tokens: white and comments.
+//! Whitespace and comments between tokens.
 ghost use Rattle.std.specs.Prelude.{◌≡◌, false, ◌∷◌, IsTrue, MatchOption, IfOk, IfErr};
 ghost use Rattle.ostep_lex.specs.Character.{slash as slash_code, star};
 ghost use Rattle.ostep_lex.specs.Gap.{LineComment, BlockComment, NeverCloses};
@@ -11,7 +11,7 @@ use crate::cursor::Cursor;
 use crate::fault::LexFault;
 use crate::stretch::Class;
 
-/// Behind `//`: up to a line end, or the end.
+/// Returns the cursor at the end of a line comment, which is a line end or the end of the text.
 fn line_comment(cursor: Cursor<'_>) -> Cursor<'_>
     ensures comment { LineComment (ahead cursor.entry) (ahead result) }
     ensures input { SameInput cursor.entry result }
@@ -26,7 +26,7 @@ fn line_comment(cursor: Cursor<'_>) -> Cursor<'_>
     rest
 }
 
-/// Behind the `*/` that stands at the cursor, if one does.
+/// Returns the cursor after `*/`, if it is at the cursor.
 fn comment_end(cursor: Cursor<'_>) -> Option<Cursor<'_>>
     ensures { MatchOption result (closes_comment (ahead cursor.entry) ≡ false) (λ end.
         (ahead cursor.entry ≡ star ∷ slash_code ∷ ahead end) × SameInput cursor.entry end) }
@@ -34,7 +34,7 @@ fn comment_end(cursor: Cursor<'_>) -> Option<Cursor<'_>>
     cursor.behind('*')?.behind('/')
 }
 
-/// Behind `/*`: behind the first `*/`. None where there is none.
+/// Returns the cursor after the first `*/`, or `None` if there is none.
 fn block_comment(cursor: Cursor<'_>) -> Option<Cursor<'_>>
     ensures { MatchOption result (NeverCloses (ahead cursor.entry)) (λ end.
         BlockComment (ahead cursor.entry) (ahead end) × SameInput cursor.entry end) }
@@ -49,8 +49,8 @@ fn block_comment(cursor: Cursor<'_>) -> Option<Cursor<'_>>
     None
 }
 
-/// Behind the comment at the cursor, whose first slash stands before `slash`. None where no comment
-/// begins.
+/// Returns the cursor after the comment at the cursor, or `None` if there is no comment. `slash` is
+/// the cursor after the first slash.
 fn comment<'a>(cursor: Cursor<'a>, slash: Cursor<'a>) -> Result<Option<Cursor<'a>>, LexFault>
     requires slash { ahead cursor ≡ slash_code ∷ ahead slash }
     requires input { SameInput cursor slash }
@@ -72,7 +72,8 @@ fn comment<'a>(cursor: Cursor<'a>, slash: Cursor<'a>) -> Result<Option<Cursor<'a
     }
 }
 
-/// Behind the white character or the comment at the cursor. None where neither stands there.
+/// Returns the cursor after the whitespace character or the comment at the cursor, or `None` if
+/// there is neither.
 fn gap_piece(cursor: Cursor<'_>) -> Result<Option<Cursor<'_>>, LexFault>
     ensures ok { IfOk result (λ found.
         MatchOption found (begins_gap (ahead cursor.entry) ≡ false) (PassesPiece cursor.entry)) }
@@ -90,7 +91,7 @@ fn gap_piece(cursor: Cursor<'_>) -> Result<Option<Cursor<'_>>, LexFault>
     }
 }
 
-/// Whether neither a white character nor a comment stands at the cursor: `false` says nothing.
+/// Returns whether there is neither whitespace nor a comment at the cursor. `false` is only a hint.
 #[inline(always)]
 fn is_over(cursor: Cursor<'_>) -> bool
     ensures { IsTrue result → begins_gap (ahead cursor.entry) ≡ false }
@@ -101,7 +102,7 @@ fn is_over(cursor: Cursor<'_>) -> bool
     }
 }
 
-/// Behind all white and all comments at the cursor, with less work where it is white alone.
+/// Returns the cursor after all whitespace and comments. Is faster if there is only whitespace.
 #[inline(always)]
 pub fn gap(cursor: Cursor<'_>) -> Result<Cursor<'_>, LexFault>
     ensures ok { IfOk result (PassesGap cursor.entry) }
@@ -115,7 +116,7 @@ pub fn gap(cursor: Cursor<'_>) -> Result<Cursor<'_>, LexFault>
     }
 }
 
-/// Behind all white and all comments at the cursor.
+/// Returns the cursor after all whitespace and comments.
 #[inline(never)]
 fn whole_gap(cursor: Cursor<'_>) -> Result<Cursor<'_>, LexFault>
     ensures ok { IfOk result (PassesGap cursor.entry) }

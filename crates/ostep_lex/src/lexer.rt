@@ -1,4 +1,4 @@
-//! The tokens, one at a time or all of a text.
+//! Reads tokens, one at a time or all of a text.
 ghost use Rattle.std.specs.Prelude.{◌≡◌, ℕ, ◌<◌, List, [], ◌∷◌, ◌++◌, false, length};
 ghost use Rattle.std.specs.Prelude.{option_map, map, Some, MatchOption, IfSome, IfNone};
 ghost use Rattle.std.specs.Prelude.{IfOk, IfErr};
@@ -20,7 +20,7 @@ use crate::token::{Token, TokenKind};
 use plist_value::Utf16;
 use std::alloc::Global;
 
-/// The token of a single character.
+/// Returns the punctuation token of a character.
 fn mark_token(c: char) -> Option<TokenKind>
     ensures { option_map lexeme_of result ≡ mark_token c }
 {
@@ -36,7 +36,8 @@ fn mark_token(c: char) -> Option<TokenKind>
     }
 }
 
-/// The token at the cursor, where a token should begin, and the cursor behind it. None at the end.
+/// Returns the token at the cursor and the cursor after it, or `None` at the end. There is no gap
+/// at the cursor.
 fn token_here(
     alloc: Global,
     cursor: Cursor<'_>,
@@ -70,20 +71,21 @@ fn token_here(
     })
 }
 
-/// The next token behind white and comments, and the cursor behind it. None where no token follows.
+/// Returns the next token, after whitespace and comments, and the cursor after it. Returns `None`
+/// at the end of the input.
 #[inline(never)]
 pub fn next_token(
     alloc: Global,
     cursor: Cursor<'_>,
 ) -> Result<Option<(Token, Cursor<'_>)>, LexFault>
-    // Where the cursor stands behind tokens of an input, these are all of its tokens, or one more.
+    // If the cursor is after tokens of an input, these are all of its tokens, or there is one more.
     ensures ok { (octets : List ℕ) (tokens : List Placed) → StandsBehind octets tokens cursor.entry
         → IfOk result (λ found. MatchOption found (HasTokens octets tokens)
         (λ token. StandsBehind octets (tokens ++ placed token.0 ∷ []) token.1)) }
-    // Each token takes a character at least.
+    // Each token has at least one character.
     ensures shorter { IfOk result (λ found.
         IfSome found (λ token. length (ahead token.1) < length (ahead cursor.entry))) }
-    // The fault stands at its place in that input, which has no tokens.
+    // The fault is true of that input, which has no tokens.
     ensures stands { (octets : List ℕ) (tokens : List Placed)
         → StandsBehind octets tokens cursor.entry → IfErr result (Stands octets) }
     ensures refused { (octets : List ℕ) (tokens : List Placed)
@@ -104,20 +106,20 @@ pub fn next_token(
     }
 }
 
-/// The token of the mark and the cursor behind it, where this is the next token and white alone
-/// stands before it. It takes less work than `next_token`.
+/// Returns the token of this punctuation mark and the cursor after it, if it is the next token and
+/// only whitespace precedes it. Is faster than `next_token`.
 #[inline(always)]
 pub fn next_mark(cursor: Cursor<'_>, mark: char) -> Option<(Token, Cursor<'_>)>
-    // Where the cursor stands behind tokens of an input, this is one more.
+    // If the cursor is after tokens of an input, this is one more.
     ensures some { (octets : List ℕ) (tokens : List Placed)
         → StandsBehind octets tokens cursor.entry
         → IfSome result (λ token. StandsBehind octets (tokens ++ placed token.0 ∷ []) token.1) }
-    // It is that mark, and takes a character at least.
+    // It is that mark, and has at least one character.
     ensures kind { IfSome result (λ token.
         mark_token mark ≡ Some (lexeme_of token.0.kind)) }
     ensures shorter { IfSome result (λ token.
         length (ahead token.1) < length (ahead cursor.entry)) }
-    // Behind white no such mark stands.
+    // No such mark follows whitespace.
     ensures none { IfNone result (LacksMark mark (ahead cursor.entry)) }
 {
     let mut rest = cursor;
@@ -139,22 +141,21 @@ pub fn next_mark(cursor: Cursor<'_>, mark: char) -> Option<(Token, Cursor<'_>)>
     None
 }
 
-/// The tokens of a text, in turn. The places of each count octets of the input, its mark included.
-/// White and comments stand before, between and behind them.
+/// Returns the tokens of a text, in order. Offsets are those in the input, byte order mark
+/// included.
 ///
 /// # Errors
 ///
-/// `BadUtf8` or `BadUtf16` where the octets are no text; else `XmlForm` where an XML property list
-/// begins; else the first fault from the left that reading the tokens meets; `OutOfMemory` at any
-/// moment.
+/// `BadUtf8` or `BadUtf16` if the bytes are not a text. Otherwise `XmlForm` if it begins like an
+/// XML property list, and otherwise the first fault from the left. `OutOfMemory` at any time.
 pub fn tokens(alloc: Global, octets: &[u8]) -> Result<Vec<Token>, LexFault>
-    // The octets are those of a text with these tokens, which stand where they say.
+    // The bytes are those of a text with these tokens, at these offsets.
     ensures ok { IfOk result (λ tokens. HasTokens octets.now (map placed tokens.items)) }
-    // They stand in turn, with gaps before, between and behind them; each span spells its token.
+    // They follow one another, with gaps before, between and after them; each span encodes its
+    // token.
     ensures spans { IfOk result (λ tokens. HasSpans octets.now (map placed tokens.items)) }
-    // The fault stands at its place.
+    // The fault is true of the bytes.
     ensures stands { IfErr result (Stands octets.now) }
-    // There are no tokens.
     ensures refused { IfErr result (UnlessMemory (λ fault. HasNoTokens octets.now)) }
 {
     let mut found = Vec::new(alloc);

@@ -1,7 +1,8 @@
 //! The tokens of property lists in text form.
 //!
 //! The form is that of Apple's guide "Old-Style ASCII Property Lists", in our profile: the text is
-//! UTF-8, or UTF-16 of either order behind its mark; white and comments stand between tokens.
+//! UTF-8, or UTF-16 of either byte order after a byte order mark. There may be whitespace and
+//! comments between tokens.
 #![tactic(auto)]
 
 mod character;

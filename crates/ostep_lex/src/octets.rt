@@ -11,7 +11,7 @@ use crate::cursor::Cursor;
 use crate::fault::LexFault;
 use std::alloc::Global;
 
-/// The value of the hexadecimal digit at the cursor, and the cursor behind it.
+/// Returns the value of the hexadecimal digit at the cursor, and the cursor after it.
 fn digit(cursor: Cursor<'_>) -> Option<(u32, Cursor<'_>)>
     ensures { MatchOption result (begins_digit 16 (ahead cursor.entry) ≡ false)
         (λ found. PassesDigit found.0 cursor.entry found.1) }
@@ -20,8 +20,8 @@ fn digit(cursor: Cursor<'_>) -> Option<(u32, Cursor<'_>)>
     Some((c.to_digit(16)?, behind))
 }
 
-/// Passes white, or appends the octet of two hexadecimal digits. The first character is `c` and
-/// stands before `behind`.
+/// Skips whitespace, or appends the byte of two hexadecimal digits. The first character is `c`, and
+/// `behind` is the cursor after it.
 fn push_octet<'a>(
     octets: &mut Vec<u8>,
     cursor: Cursor<'a>,
@@ -52,7 +52,7 @@ fn push_octet<'a>(
     Ok(end)
 }
 
-/// The octets of the data token behind its `<`, and the cursor behind its `>`.
+/// Returns the bytes of a data token, after its `<`, and the cursor after its `>`.
 pub fn octets(alloc: Global, cursor: Cursor<'_>) -> Result<(Vec<u8>, Cursor<'_>), LexFault>
     ensures ok { IfOk result (λ found. PassesOctets cursor.entry found.1 found.0.items) }
     ensures err { IfErr result (UnlessMemory

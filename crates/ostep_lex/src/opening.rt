@@ -1,4 +1,4 @@
-//! The text of an input: its encoding, and whether it is an XML property list.
+//! Opens an input: determines its encoding, and refuses XML property lists.
 ghost use Rattle.std.specs.Prelude.{◌≡◌, [], nat_eq, IfOk, IfErr};
 ghost use Rattle.std.specs.List.{starts_with};
 ghost use Rattle.ostep_lex.specs.Lexing.{HasNoTokens};
@@ -16,7 +16,7 @@ const LITTLE_MARK: [u8; 2] = [0xff, 0xfe];
 
 const UTF8_MARK: [u8; 3] = [0xef, 0xbb, 0xbf];
 
-/// The cursor before the text of the input, in the encoding that its mark chooses.
+/// Returns the cursor at the start of the text. Its byte order mark determines the encoding.
 fn text_of(octets: &[u8]) -> Result<Cursor<'_>, LexFault>
     ensures ok { IfOk result (Opens octets.now) }
     ensures err { IfErr result (Stands octets.now) }
@@ -34,7 +34,7 @@ fn text_of(octets: &[u8]) -> Result<Cursor<'_>, LexFault>
     }
 }
 
-/// Behind all white at the cursor.
+/// Returns the cursor after all whitespace.
 fn behind_white(cursor: Cursor<'_>) -> Cursor<'_>
     ensures white { White (ahead cursor.entry) (ahead result) }
     ensures input { SameInput cursor.entry result }
@@ -49,7 +49,7 @@ fn behind_white(cursor: Cursor<'_>) -> Cursor<'_>
     rest
 }
 
-/// Whether the ASCII word stands at the cursor.
+/// Returns whether the ASCII word is at the cursor.
 fn begins_with(cursor: Cursor<'_>, word: &[u8]) -> bool
     ensures { result ≡ starts_with nat_eq (ahead cursor.entry) word.now }
 {
@@ -63,7 +63,7 @@ fn begins_with(cursor: Cursor<'_>, word: &[u8]) -> bool
     true
 }
 
-/// Whether an XML property list begins at the cursor.
+/// Returns whether an XML property list begins at the cursor.
 fn begins_xml(cursor: Cursor<'_>) -> bool
     ensures { result ≡ begins_xml (ahead cursor.entry) }
 {
@@ -72,16 +72,17 @@ fn begins_xml(cursor: Cursor<'_>) -> bool
         || begins_with(cursor, b"<plist")
 }
 
-/// The cursor before the text of an input: UTF-8, or UTF-16 behind its mark.
+/// Returns the cursor at the start of the text: UTF-8, or UTF-16 after its byte order mark.
+/// Allocates nothing.
 ///
 /// # Errors
 ///
-/// `BadUtf8` or `BadUtf16` where the octets are no text, else `XmlForm` where the text begins,
-/// behind white, with `<?xml`, `<!DOCTYPE` or `<plist`. No memory is taken.
+/// `BadUtf8` or `BadUtf16` if the bytes are not a text. Otherwise `XmlForm` if the text begins,
+/// after whitespace, with `<?xml`, `<!DOCTYPE` or `<plist`.
 pub fn open(octets: &[u8]) -> Result<Cursor<'_>, LexFault>
     ensures ok { IfOk result (StandsBehind octets.now []) }
     ensures stands { IfErr result (Stands octets.now) }
-    // There are no tokens: no memory is taken, so no refusal is for want of it.
+    // There are no tokens. This is true of every refusal, since none is out of memory.
     ensures refused { IfErr result (λ fault. HasNoTokens octets.now) }
 {
     let cursor = text_of(octets)?;

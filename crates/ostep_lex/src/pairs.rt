@@ -1,11 +1,11 @@
-//! Pairs of hexadecimal digits at the front of a text, found in its octets.
+//! Pairs of hexadecimal digits at the start of a text, found in its bytes.
 ghost use Rattle.std.specs.Prelude.{◌≡◌, false, MatchOption, IfSome, IfOk};
 ghost use Rattle.ostep_lex.specs.Pairs.{IsDigitOf, IsPair, AppendsPairs, AppendsFront};
 ghost use Rattle.ostep_lex.specs.Character.{is_hexadecimal};
 
 use std::alloc::AllocError;
 
-/// The value of the octet, if it is a hexadecimal digit.
+/// Returns the value of the byte, if it is a hexadecimal digit.
 #[inline(always)]
 fn digit_of(octet: u8) -> Option<u8>
     ensures { MatchOption result (is_hexadecimal octet ≡ false) (IsDigitOf octet) }
@@ -18,7 +18,7 @@ fn digit_of(octet: u8) -> Option<u8>
     }
 }
 
-/// The octet of the pair of digits at the front, and the octets behind the pair.
+/// Returns the byte of the pair of digits at the start, and the bytes after the pair.
 #[inline(always)]
 fn front_pair(octets: &[u8]) -> Option<(u8, &[u8])>
     ensures { IfSome result (λ found. IsPair octets.now found.0 found.1.now) }
@@ -28,7 +28,7 @@ fn front_pair(octets: &[u8]) -> Option<(u8, &[u8])>
     Some((digit_of(*high)? * 16 + digit_of(*low)?, behind))
 }
 
-/// Appends the octets of the pairs of digits at the front, and answers what stands behind these.
+/// Appends the bytes of the pairs of digits at the start, and returns what follows them.
 fn push_pairs<'a>(found: &mut Vec<u8>, octets: &'a [u8]) -> Result<&'a [u8], AllocError>
     ensures { IfOk result
         (λ behind. AppendsPairs found.old.items found.new.items octets.now behind.now) }
@@ -41,8 +41,8 @@ fn push_pairs<'a>(found: &mut Vec<u8>, octets: &'a [u8]) -> Result<&'a [u8], All
     Ok(rest)
 }
 
-/// Appends the octets of the pairs of digits at the front of the text, and answers the text behind
-/// these.
+/// Appends the bytes of the pairs of digits at the start of the text, and returns the text after
+/// them.
 pub fn push_front<'a>(found: &mut Vec<u8>, text: &'a str) -> Result<&'a str, AllocError>
     ensures { IfOk result
         (λ behind. AppendsFront found.old.items found.new.items text.now behind.now) }

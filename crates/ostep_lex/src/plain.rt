@@ -1,4 +1,4 @@
-//! Strings of ASCII characters that stand for themselves, read where they stand.
+//! Strings of ASCII characters without escapes, borrowed from the input.
 ghost use Rattle.std.specs.Prelude.{◌<◌, IfSome, length};
 ghost use Rattle.plist_value.specs.Plist.{AreUnits};
 ghost use Rattle.plist_value.specs.Texts.{units_of};
@@ -12,7 +12,7 @@ use crate::gap::gap;
 use crate::stretch::Class;
 use plist_value::TextRef;
 
-/// The octets of the run at the cursor, and the cursor behind it.
+/// Returns the bytes of the unquoted string at the cursor, and the cursor after it.
 #[inline(always)]
 fn plain_run(cursor: Cursor<'_>) -> Option<(&[u8], Cursor<'_>)>
     ensures { IfSome result (λ found. PassesRun cursor.entry found.1 found.0.now) }
@@ -24,8 +24,8 @@ fn plain_run(cursor: Cursor<'_>) -> Option<(&[u8], Cursor<'_>)>
     }
 }
 
-/// The octets of the string behind its quote, if no escape stands in it, and the cursor behind the
-/// quote that closes it.
+/// Returns the bytes of the string after its quote, if it has no escapes, and the cursor after the
+/// closing quote.
 #[inline(always)]
 fn plain_quoted(mark: char, cursor: Cursor<'_>) -> Option<(&[u8], Cursor<'_>)>
     ensures { IfSome result (λ found. PassesQuoted mark cursor.entry found.1 found.0.now) }
@@ -35,7 +35,7 @@ fn plain_quoted(mark: char, cursor: Cursor<'_>) -> Option<(&[u8], Cursor<'_>)>
     Some((octets, end))
 }
 
-/// The octets of the string at the cursor, and the cursor behind it.
+/// Returns the bytes of the string at the cursor, and the cursor after it.
 #[inline(always)]
 fn plain_here(cursor: Cursor<'_>) -> Option<(&[u8], Cursor<'_>)>
     ensures { IfSome result (λ found. PassesToken (string found.0.now) cursor.entry found.1) }
@@ -50,17 +50,16 @@ fn plain_here(cursor: Cursor<'_>) -> Option<(&[u8], Cursor<'_>)>
     }
 }
 
-/// The text of the next token and the cursor behind the token, where this is a string of ASCII
-/// characters that stand for themselves, in UTF-8. It is not copied, and takes less work than
-/// `next_token`. None says nothing: `next_token` reads on from there, and alone it reads a string
-/// that begins with `/`.
+/// Returns the next token and the cursor after it, if it is a string of ASCII characters without
+/// escapes, in UTF-8. The string is not copied, so this is faster than `next_token`. `None` is only
+/// a hint; `next_token` then reads the token, which may be a string that begins with `/`.
 #[inline(always)]
 pub fn next_plain(cursor: Cursor<'_>) -> Option<(TextRef<'_>, Cursor<'_>)>
-    // Where the cursor stands behind tokens of an input, this is one more.
+    // If the cursor is after tokens of an input, this is one more.
     ensures token { IfSome result (λ found.
         AddsToken (string (units_of found.0)) cursor.entry found.1) }
     ensures valid { IfSome result (λ found. AreUnits (units_of found.0)) }
-    // It takes a character at least.
+    // It has at least one character.
     ensures shorter { IfSome result (λ found.
         length (ahead found.1) < length (ahead cursor.entry)) }
 {

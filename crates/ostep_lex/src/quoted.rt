@@ -1,4 +1,4 @@
-//! Strings, unquoted and quoted, and their escapes.
+//! Unquoted and quoted strings, with their escapes.
 ghost use Rattle.std.specs.Prelude.{◌≡◌, ◌==◌, ◌++◌, ◌∷◌, true, false, List, ℕ, OnOk, IfOk};
 ghost use Rattle.std.specs.Prelude.{IfErr};
 ghost use Rattle.std.specs.Char.Escape.{encode_utf16};
@@ -18,8 +18,8 @@ use crate::fault::LexFault;
 use crate::stretch::Class;
 use std::alloc::{AllocError, Global};
 
-/// The units of the run at the cursor, as many run characters as stand there, and the cursor behind
-/// it.
+/// Returns the units of the unquoted string at the cursor, as long as possible, and the cursor
+/// after it.
 pub fn run(alloc: Global, cursor: Cursor<'_>) -> Result<(Vec<u16>, Cursor<'_>), AllocError>
     ensures { IfOk result (λ found. PassesRun cursor.entry found.1 found.0.items) }
 {
@@ -35,7 +35,7 @@ pub fn run(alloc: Global, cursor: Cursor<'_>) -> Result<(Vec<u16>, Cursor<'_>), 
     Ok((units, rest))
 }
 
-/// For how many units more there is room where a string has to grow by a character.
+/// The capacity that is reserved when a string has to grow by a character.
 const LEAST_ROOM: usize = 32;
 
 /// Appends the units of the character.
@@ -54,7 +54,7 @@ fn push_character(units: &mut Vec<u16>, c: char) -> Result<(), AllocError>
     units.extend_from_slice(c.encode_utf16(&mut buffer))
 }
 
-/// The character that a letter stands for behind a backslash; any other stands for itself.
+/// Returns the character that an escape of this letter encodes. Any other character encodes itself.
 fn escaped_character(c: char) -> char
     ensures { encode_utf16 result ≡ escaped c }
 {
@@ -70,8 +70,8 @@ fn escaped_character(c: char) -> char
     }
 }
 
-/// Appends the unit of an octal escape, whose backslash stands at `backslash` and whose digits
-/// stand behind it.
+/// Appends the unit of an octal escape. `backslash` is the cursor at its backslash, and `digits`
+/// the cursor at its digits.
 fn push_octal<'a>(
     units: &mut Vec<u16>,
     backslash: Cursor<'a>,
@@ -94,8 +94,8 @@ fn push_octal<'a>(
     Ok(end)
 }
 
-/// Appends the unit of an escape of hexadecimal digits, whose backslash stands at `backslash` and
-/// whose digits stand behind its `U`.
+/// Appends the unit of an escape in hexadecimal digits. `backslash` is the cursor at its backslash,
+/// and `digits` the cursor after its `U`.
 fn push_unit<'a>(
     units: &mut Vec<u16>,
     backslash: Cursor<'a>,
@@ -119,8 +119,8 @@ fn push_unit<'a>(
     Ok(end)
 }
 
-/// Appends the units of the escape at the cursor, which stands behind the backslash of a string
-/// whose quote stands at the place `start`.
+/// Appends the units of the escape at the cursor, which is after the backslash. The quote of the
+/// string is at offset `start`.
 fn push_escape<'a>(
     units: &mut Vec<u16>,
     start: usize,
@@ -146,8 +146,8 @@ fn push_escape<'a>(
     Ok(behind)
 }
 
-/// Appends the units of the piece at the cursor, whose first character is `c` and stands before
-/// `behind`.
+/// Appends the units of the piece at the cursor. The first character is `c`, and `behind` is the
+/// cursor after it.
 fn push_piece<'a>(
     units: &mut Vec<u16>,
     start: usize,
@@ -169,8 +169,8 @@ fn push_piece<'a>(
     Ok(behind)
 }
 
-/// Appends a stretch of characters that stand for themselves in a string with this quote. Its code
-/// stands where it is called, so that it fills a vector that no other code can see.
+/// Appends a stretch of unescaped characters of a string with this quote. Inlined, so that no other
+/// code can see the vector that is filled.
 #[inline(always)]
 fn push_raw<'a>(
     units: &mut Vec<u16>,
@@ -183,8 +183,8 @@ fn push_raw<'a>(
     cursor.push_stretch(Class::Raw(mark), units)
 }
 
-/// Appends what of such a stretch stands behind this character. Behind one that is not ASCII mostly
-/// another follows, so none is looked for.
+/// Appends the stretch that follows this character. Characters that are not ASCII mostly follow
+/// each other, so no stretch is looked for after one.
 #[inline(always)]
 fn push_raw_behind<'a>(
     units: &mut Vec<u16>,
@@ -202,8 +202,8 @@ fn push_raw_behind<'a>(
     }
 }
 
-/// The units of the string behind its quote, which stands at the place `start`, and the cursor
-/// behind the quote that closes it.
+/// Returns the units of the string after its opening quote, which is at offset `start`, and the
+/// cursor after the closing quote.
 pub fn quoted(
     alloc: Global,
     mark: char,

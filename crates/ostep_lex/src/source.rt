@@ -1,4 +1,4 @@
-//! The octets that are still to be read, and the characters at their front.
+//! The remaining bytes of an input, and the characters at their start.
 ghost use Rattle.std.specs.Prelude.{◌≡◌, ◌+◌, ◌++◌, [], ◌∷◌, ◌<◌, ◌≤◌, length, chars};
 ghost use Rattle.std.specs.Prelude.{MatchOption, IfSome, IfOk};
 ghost use Rattle.std.specs.Char.{IsScalar};
@@ -13,21 +13,21 @@ use crate::pairs::push_front;
 use crate::stretch::{Class, behind_units, push_octets, push_units, stretch};
 use std::alloc::AllocError;
 
-/// Which octet of a UTF-16 unit comes first.
+/// The byte order of UTF-16.
 #[derive(Clone, Copy)]
 pub enum ByteOrder {
     Big,
     Little,
 }
 
-/// The octets that are still to be read.
+/// The remaining bytes.
 #[derive(Clone, Copy)]
 pub enum Source<'a> {
     Utf8(&'a str),
     Utf16(ByteOrder, &'a [u8]),
 }
 
-/// The unit of two octets.
+/// Returns the unit of two bytes.
 fn unit(order: ByteOrder, first: u8, second: u8) -> u16
     ensures { unit_octets order result ≡ first ∷ second ∷ [] }
 {
@@ -37,7 +37,7 @@ fn unit(order: ByteOrder, first: u8, second: u8) -> u16
     }
 }
 
-/// The unit at the front of the octets, and the octets behind it.
+/// Returns the first unit of the bytes, and the bytes after it.
 pub fn front_unit(order: ByteOrder, octets: &[u8]) -> Option<(u16, &[u8])>
     ensures { MatchOption result (length octets.now < 2)
         (λ found. octets.now ≡ unit_octets order found.0 ++ found.1.now) }
@@ -48,7 +48,7 @@ pub fn front_unit(order: ByteOrder, octets: &[u8]) -> Option<(u16, &[u8])>
     }
 }
 
-/// The character at the front of UTF-16 octets, and the octets behind it.
+/// Returns the first character of UTF-16 bytes, and the bytes after it.
 #[inline(always)]
 fn front_character(order: ByteOrder, octets: &[u8]) -> Option<(char, &[u8])>
     ensures { MatchOption result (BeginsWithNone (encoding_by order) octets.now)
@@ -66,7 +66,7 @@ fn front_character(order: ByteOrder, octets: &[u8]) -> Option<(char, &[u8])>
     Some((char::from_u32(code)?, behind))
 }
 
-/// The octets from the first place on at which no UTF-16 character begins.
+/// Returns the bytes from the first position on at which no UTF-16 character begins.
 pub fn behind_characters(order: ByteOrder, octets: &[u8]) -> &[u8]
     ensures fronts { FrontsOf (encoding_by order) octets.now result.now }
     ensures none { BeginsWithNone (encoding_by order) result.now }
@@ -78,7 +78,7 @@ pub fn behind_characters(order: ByteOrder, octets: &[u8]) -> &[u8]
     rest
 }
 
-/// Like [`front_character`], but as a call: most inputs are UTF-8, and need no code for it.
+/// Like [`front_character`], but not inlined: most inputs are UTF-8 and do not need its code.
 #[inline(never)]
 fn front_character_out_of_line(order: ByteOrder, octets: &[u8]) -> Option<(char, &[u8])>
     ensures { MatchOption result (BeginsWithNone (encoding_by order) octets.now)
@@ -87,7 +87,7 @@ fn front_character_out_of_line(order: ByteOrder, octets: &[u8]) -> Option<(char,
     front_character(order, octets)
 }
 
-/// The first character of a text, and the text behind it.
+/// Returns the first character of a text, and the text after it.
 fn front_of_str(text: &str) -> Option<(char, &str)>
     ensures { MatchOption result (chars text.now ≡ []) (λ found.
         (text.now ≡ spelling utf8 found.0 ++ found.1.now)
@@ -99,7 +99,7 @@ fn front_of_str(text: &str) -> Option<(char, &str)>
 }
 
 impl<'a> Source<'a> {
-    /// How many octets are still to be read.
+    /// Returns the number of remaining bytes.
     pub fn len(self) -> usize
         ensures { result ≡ length (octets_in self.entry) }
     {
@@ -109,7 +109,7 @@ impl<'a> Source<'a> {
         }
     }
 
-    /// The first character, and what is to be read behind it.
+    /// Returns the first character, and the source after it.
     #[inline(always)]
     pub fn first(self) -> Option<(char, Source<'a>)>
         requires { IsWhole self }
@@ -128,7 +128,7 @@ impl<'a> Source<'a> {
         }
     }
 
-    /// What is to be read behind the longest stretch of the class at the front.
+    /// Returns the source after the longest stretch of the class.
     #[inline(always)]
     pub fn behind_stretch(self, class: Class) -> Source<'a>
         requires { IsWhole self }
@@ -142,8 +142,8 @@ impl<'a> Source<'a> {
         }
     }
 
-    /// The octets of the longest stretch of the class at the front of UTF-8, one for each of its
-    /// characters, and what is to be read behind it. None of UTF-16.
+    /// Returns the bytes of the longest stretch of the class, one for each character, and the
+    /// source after it. Returns `None` for UTF-16.
     #[inline(always)]
     pub fn plain_stretch(self, class: Class) -> Option<(&'a [u8], Source<'a>)>
         requires { IsWhole self }
@@ -158,8 +158,7 @@ impl<'a> Source<'a> {
         }
     }
 
-    /// Appends the characters of the longest stretch of the class at the front, and answers what is
-    /// to be read behind it.
+    /// Appends the characters of the longest stretch of the class and returns the source after it.
     #[inline(always)]
     pub fn push_stretch(self, class: Class, units: &mut Vec<u16>) -> Result<Source<'a>, AllocError>
         requires { IsWhole self }
@@ -178,8 +177,8 @@ impl<'a> Source<'a> {
         }
     }
 
-    /// Appends the octets of the pairs of hexadecimal digits at the front, as many as stand there
-    /// of UTF-8 and none of UTF-16, and answers what is to be read behind these.
+    /// Appends the bytes of the pairs of hexadecimal digits at the start and returns the source
+    /// after them. Appends nothing for UTF-16.
     pub fn push_pairs(self, found: &mut Vec<u8>) -> Result<Source<'a>, AllocError>
         requires { IsWhole self }
         ensures { IfOk result (AppendsLead found.old.items found.new.items self.entry) }

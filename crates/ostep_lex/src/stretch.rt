@@ -1,5 +1,5 @@
-//! Stretches: characters of one class at the front of a text, found in its octets. They are ASCII
-//! in UTF-8, and below the surrogates in UTF-16.
+//! Stretches: characters of one class at the start of a text, found in its bytes. They are ASCII in
+//! UTF-8, and below the surrogates in UTF-16.
 ghost use Rattle.std.specs.Prelude.{◌≡◌, ◌<◌, ◌++◌, ◌&&◌, nat_lt, true, length, chars};
 ghost use Rattle.std.specs.Prelude.{OnOk, IfOk, IfSome, IsUtf8};
 ghost use Rattle.ostep_lex.specs.Stretch.{belongs, is_stretch, BeginsWithStretch};
@@ -15,17 +15,17 @@ use std::alloc::AllocError;
 pub enum Class {
     /// The characters of an unquoted string.
     Run,
-    /// White characters.
+    /// Whitespace characters.
     White,
-    /// The characters that stand for themselves in a string with this quote.
+    /// The characters that need no escape in a string with this quote.
     Raw(char),
-    /// The characters that end no line.
+    /// All characters but line ends.
     Line,
     /// All characters but the star.
     Starless,
 }
 
-/// Whether the character is of the class.
+/// Returns whether the character is of the class.
 #[inline(always)]
 fn is_of(class: Class, c: char) -> bool
     ensures { result ≡ belongs class c }
@@ -39,7 +39,7 @@ fn is_of(class: Class, c: char) -> bool
     }
 }
 
-/// Whether the octet is an ASCII character of the class.
+/// Returns whether the byte is an ASCII character of the class.
 #[inline(always)]
 fn is_in(class: Class, octet: u8) -> bool
     ensures { result ≡ (nat_lt octet 128 && belongs class octet) }
@@ -47,7 +47,7 @@ fn is_in(class: Class, octet: u8) -> bool
     is_of(class, char::from(octet)) && octet < 0x80
 }
 
-/// Whether the unit is a character of the class, and below the surrogates.
+/// Returns whether the unit is a character of the class below the surrogates.
 #[inline(always)]
 fn is_unit_in(class: Class, unit: u16) -> bool
     ensures { result ≡ (nat_lt unit 0xD800 && belongs class unit) }
@@ -58,7 +58,7 @@ fn is_unit_in(class: Class, unit: u16) -> bool
     }
 }
 
-/// Behind the longest stretch at the front of the octets.
+/// Returns the bytes after the longest stretch at their start.
 #[inline(always)]
 fn behind_stretch(octets: &[u8], class: Class) -> &[u8]
     ensures { BeginsWithStretch class octets.now result.now }
@@ -70,7 +70,7 @@ fn behind_stretch(octets: &[u8], class: Class) -> &[u8]
     &octets[count..]
 }
 
-/// The longest stretch at the front of the text, and the text behind it.
+/// Returns the longest stretch at the start of the text, and the text after it.
 #[inline(always)]
 pub fn stretch(text: &str, class: Class) -> (&[u8], &str)
     ensures stretch { is_stretch 128 class result.0.now ≡ true }
@@ -83,7 +83,7 @@ pub fn stretch(text: &str, class: Class) -> (&[u8], &str)
     (front.as_bytes(), rest)
 }
 
-/// Appends the octets as units.
+/// Appends the bytes as units.
 pub fn push_octets(units: &mut Vec<u16>, octets: &[u8]) -> Result<(), AllocError>
     ensures { OnOk result (units.new.items ≡ units.old.items ++ octets.now) }
 {
@@ -96,7 +96,7 @@ pub fn push_octets(units: &mut Vec<u16>, octets: &[u8]) -> Result<(), AllocError
     Ok(())
 }
 
-/// Behind the unit at the front of UTF-16 octets, if it is of the class.
+/// Returns the bytes after the first unit of UTF-16, if it is of the class.
 #[inline(always)]
 fn behind_unit(class: Class, order: ByteOrder, octets: &[u8]) -> Option<&[u8]>
     ensures begins { IfSome result (λ behind. BeginsWithUnits class order octets.now behind.now) }
@@ -110,7 +110,7 @@ fn behind_unit(class: Class, order: ByteOrder, octets: &[u8]) -> Option<&[u8]>
     }
 }
 
-/// Behind the longest stretch at the front of UTF-16 octets.
+/// Returns the bytes after the longest stretch at the start of UTF-16 bytes.
 #[inline(always)]
 fn behind_units_by(class: Class, order: ByteOrder, octets: &[u8]) -> &[u8]
     ensures { BeginsWithUnits class order octets.now result.now }
@@ -122,7 +122,7 @@ fn behind_units_by(class: Class, order: ByteOrder, octets: &[u8]) -> &[u8]
     rest
 }
 
-/// Behind the longest stretch at the front of UTF-16 octets.
+/// Like `behind_units_by`, monomorphised for each byte order.
 #[inline(never)]
 pub fn behind_units(class: Class, order: ByteOrder, octets: &[u8]) -> &[u8]
     ensures { BeginsWithUnits class order octets.now result.now }
@@ -133,7 +133,7 @@ pub fn behind_units(class: Class, order: ByteOrder, octets: &[u8]) -> &[u8]
     }
 }
 
-/// Appends the units of the octets, of two octets each.
+/// Appends the units of the bytes, of two bytes each.
 #[inline(always)]
 fn push_all_units(units: &mut Vec<u16>, order: ByteOrder, octets: &[u8]) -> Result<(), AllocError>
     ensures { OnOk result
@@ -148,8 +148,8 @@ fn push_all_units(units: &mut Vec<u16>, order: ByteOrder, octets: &[u8]) -> Resu
     Ok(())
 }
 
-/// Appends the units of the longest stretch at the front of UTF-16 octets, and answers the octets
-/// behind it.
+/// Appends the units of the longest stretch at the start of UTF-16 bytes, and returns the bytes
+/// after it.
 #[inline(always)]
 pub fn push_units<'a>(
     units: &mut Vec<u16>,

@@ -1,18 +1,18 @@
-//! Tokens and where they stand.
+//! Tokens and their spans.
 use plist_value::Utf16;
 
-/// A token and where it stands: from octet `start` up to octet `end` of the input, its mark
+/// A token with its span: from offset `start` up to offset `end` of the input, byte order mark
 /// included.
 #[derive(Debug, Drop)]
 pub struct Token {
     pub kind: TokenKind,
-    /// The token's first octet.
+    /// The offset of the token's first byte.
     pub start: usize,
-    /// The octet after the token's last.
+    /// The offset after the token's last byte.
     pub end: usize,
 }
 
-/// What a token is: one of `{` `}` `(` `)` `,` `;` `=`, a string, or data.
+/// One of `{` `}` `(` `)` `,` `;` `=`, a string, or data.
 #[derive(Debug, Drop)]
 pub enum TokenKind {
     BraceOpen,
@@ -22,8 +22,8 @@ pub enum TokenKind {
     Comma,
     Semicolon,
     Equals,
-    /// The UTF-16 units of an unquoted or a quoted string.
+    /// An unquoted or a quoted string, as UTF-16 units.
     Text(Utf16),
-    /// The octets of a data token.
+    /// The bytes of a data token.
     Octets(Vec<u8>),
 }

@@ -17,7 +17,7 @@ pub returns-in_err-start-clause-refused : goal.returns-in_err-start-clause-refus
 returns-in_err-start-clause-refused c octets tokens b =
     passed_on (UnlessMemory (λ fault. HasNoTokens octets)) _ c.from_residual.result c.from_residual.ensures.1 (behind_none b (λ n. c.in_err-start.ensures.err))
 
--- the fault behind the gap
+-- the fault after the gap
 behind_gap : (c : In_err-kind) → UnlessMemory (FaultBehind (places_in c.args.cursor) (ahead c.args.cursor)) c.in_err-kind.field-0.0
 behind_gap c n =
     let g = c.in_ok-start.ensures.ok in
