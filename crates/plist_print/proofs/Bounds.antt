@@ -1,4 +1,4 @@
--- How long a print is at most, by the payload, the nodes and the depth of its value.
+-- The maximum length of a printed text, by the payload, the nodes and the depth of its value.
 use Rattle.std.proofs.Common.{◌≡◌, ℕ, suc, ◌+◌, ◌*◌, ◌≤◌, min, Bool, true, false, [], ◌∷◌, ◌++◌, length, refl, arith, length-append}
 use Rattle.std.specs.Prelude.{codes}
 use Rattle.std.proofs.Math.Nat.{mul-add}
@@ -41,8 +41,8 @@ line-long level (moment xs) h =
     omega (arith, line, inner, all)
 line-long level (bytes xs) h = let line = bytes-long level xs in omega (arith, line)
 
--- Levels up to the last are indented by at most so many levels, and each node takes at most so
--- much beside its payload.
+-- Levels up to `last` are indented by at most `most` levels, and each node takes at most `each`
+-- bytes besides its payload.
 module _ (last most each : ℕ) (is : each ≡ 70 + 4 * most) (within : (level : ℕ) → level ≤ last → min level 32 ≤ most) where
   blanks : (level : ℕ) → level ≤ last → length (indent level) ≤ 2 * most
   blanks level h = let long = indent-long level in let few = within level h in omega (arith, long, few)

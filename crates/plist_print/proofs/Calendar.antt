@@ -9,7 +9,7 @@ use Rattle.plist_print.proofs.Compared.{le-denied, le-tells}
 same-or-less : (k m : ℕ) → m ≤ k → (k ≡ m) ⊎ (m < k)
 same-or-less k m h = grind arith
 
--- a number that passes, with none above it that does
+-- the greatest number that passes
 last_such-is : (passes : ℕ → Bool) (n m : ℕ) → 0 < m → m ≤ n → passes m ≡ true → ((z : ℕ) → m < z → passes z ≡ false) → last_such passes n ≡ m
 last_such-is passes zero m some most h above = absurd (omega arith)
 last_such-is passes (suc n) m some most h above = elim (same-or-less (suc n) m most) [
@@ -56,7 +56,7 @@ months-le year m k h =
     let same : m + (k - m) ≡ k = omega arith in
     subst (λ (c : ℕ). days_of_months year m ≤ days_of_months year c) same (months-far year m (k - m))
 
--- with one month more
+-- the days up to the next month
 pub months-more : (year m : ℕ) → 1 ≤ m → days_of_months year m ≡ days_of_months year (m - 1) + days_in_month year m
 unfolding days_of_months
 months-more year zero h = absurd (omega arith)
@@ -71,7 +71,7 @@ pub no-months : (year : ℕ) → days_of_months year 0 ≡ 0
 unfolding days_of_months
 no-months year = refl
 
--- the twelve months make the year
+-- the days of the twelve months are those of the year
 leap-days : (year : ℕ) → is_leap year ≡ true → days_of_months year 12 ≡ 366
 unfolding days_of_months
 leap-days year h = rw h refl
@@ -92,7 +92,7 @@ year-long year some = elim (cases_Bool (is_leap year)) [
   | inr not ↦ common-before year some not ∙ ap (λ n. days_before year + n) (sym (common-days year not))
 ]
 
--- the day is not in this month, so there is a later one
+-- if the day is after this month, there is a later month
 pub month-most : (year day month : ℕ) → day < days_of_months year 12 → month ≤ 12 → days_of_months year month ≤ day → month + 1 ≤ 12
 month-most year day month within most begun = elim (same-or-less 12 month most) [
   | inl same ↦ absurd (let last = ap (days_of_months year) same in omega arith)

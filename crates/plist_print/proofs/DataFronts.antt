@@ -1,4 +1,4 @@
--- Lines of data are known by their front.
+-- Lines of data are determined by the start of the text.
 use Rattle.std.proofs.Common.{◌≡◌, ℕ, zero, suc, ◌+◌, ◌/◌, ◌<◌, List, [], ◌∷◌, ◌++◌, length, take, drop, refl, sym, ap, ◌∙◌, arith, length-drop}
 use Rattle.std.specs.Prelude.{flat_map}
 use Rattle.std.proofs.lemmas.List.{append_cancel_left, take-append-drop}
@@ -22,7 +22,7 @@ dropped zero xs h = h
 dropped (suc n) [] h = h
 dropped (suc n) (x ∷ xs) h = dropped n xs (λ i. h (suc i))
 
--- the rest of as many lines
+-- the rest of the lines
 less : (n : ℕ) (xs : List ℕ) → suc n ≡ (length xs + 31) / 32 → n ≡ (length (drop 32 xs) + 31) / 32
 less n xs e = let left = length-drop 32 xs in omega (arith, e, left)
 

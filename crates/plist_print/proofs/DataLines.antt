@@ -1,4 +1,4 @@
--- Data in lines of 32 octets.
+-- Data in lines of 32 bytes.
 use Rattle.std.proofs.Common.{◌≡◌, ℕ, suc, ◌+◌, ◌-◌, ◌*◌, ◌/◌, ◌<◌, ◌≤◌, min, List, ◌++◌, length, take, drop, replicate, refl, sym, ap, ◌∙◌, arith, inl, inr, append_assoc, length-drop}
 use Rattle.std.specs.Prelude.{codes, flat_map, nat_le, if◌then◌else◌}
 use Rattle.std.proofs.lemmas.Bool.{cases_lt}
@@ -8,7 +8,6 @@ use Rattle.plist_print.specs.Shown.{Puts}
 use Rattle.plist_print.specs.Printed.{indent, enclosed, data_lines, octet_lines, printed_bytes}
 use Rattle.plist_print.proofs.Compared.{le-tells, le-denied}
 
--- one line of data
 abbrev pub data_line : List ℕ → List ℕ → List ℕ
 data_line blanks xs = blanks ++ (flat_map two_digits xs ++ codes "\n")
 
@@ -16,7 +15,7 @@ pub count-more : (xs : List ℕ) → 0 < length xs → (length xs + 31) / 32 ≡
 count-more xs some =
     let left : length (drop 32 xs) ≡ length xs - 32 = length-drop 32 xs in omega (arith, left)
 
--- the first line, and the others
+-- the first line, and the other lines
 pub lines-first : (blanks xs : List ℕ) → 0 < length xs → octet_lines blanks xs ≡ data_line blanks (take 32 xs) ++ octet_lines blanks (drop 32 xs)
 lines-first blanks xs some =
     let rest = octet_lines blanks (drop 32 xs) in
@@ -42,7 +41,7 @@ drop-least xs = elim (cases_lt 32 (length xs)) [
       )
 ]
 
--- the line of the first octets was put
+-- the line of the first bytes was appended
 pub puts-line : (blanks old new xs front left : List ℕ) → 0 < length xs → front ≡ take (min (length xs) 32) xs → left ≡ drop (min (length xs) 32) xs → new ≡ old ++ data_line blanks front → Puts old new (octet_lines blanks xs) (octet_lines blanks left)
 puts-line blanks old new xs front left some is rest put = record {
   piece = data_line blanks front;
@@ -58,7 +57,7 @@ if-told xs ys a b h = rw (le-tells a b h) refl
 pub if-denied : (xs ys : List ℕ) (a b : ℕ) → b < a → (if nat_le a b then xs else ys) ≡ ys
 if-denied xs ys a b h = rw (le-denied a b h) refl
 
--- data of more than 32 octets is between brackets on lines of their own
+-- data of more than 32 bytes is printed in brackets, on separate lines
 pub bytes-enclosed : (level : ℕ) (xs : List ℕ) → 32 < length xs → enclosed level 60 62 (octet_lines (indent (min level 32 + 1)) xs) ≡ printed_bytes level xs
 bytes-enclosed level xs long =
     let same : min (min level 32 + 1) 32 ≡ min (suc level) 32 = omega arith in

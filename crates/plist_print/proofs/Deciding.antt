@@ -1,4 +1,4 @@
--- Which decimal is found for a real.
+-- The decimal that is found for a real.
 use Rattle.std.proofs.Common.{◌≡◌, ℕ, zero, suc, ◌+◌, ◌-◌, ◌*◌, ◌/◌, ◌%◌, ◌^◌, ◌<◌, ◌≤◌, true, ◌&&◌, Option, Some, None, ◌∷◌, refl, sym, ap, subst, ◌∙◌, arith, inl, inr}
 use Rattle.std.specs.Prelude.{nat_le, nat_lt, if◌then◌else◌}
 use Rattle.std.proofs.lemmas.Bool.{cases_Bool}
@@ -44,7 +44,7 @@ pub shortest-found : (x : Placed) (over digits n : ℕ) → over ≡ 10 ^ digits
 shortest-found x over digits n power h e =
     ap (λ m. shortest x m digits) (next-left digits h) ∙ found-by x (22 - (digits + 1)) digits n (e ∙ ap (tried x) power)
 
--- none is found, and one digit more is tried
+-- none is found, so one more digit is tried
 pub shortest-more : (x : Placed) (over digits : ℕ) → over ≡ 10 ^ digits → digits < 22 → None ≡ tried x over → shortest x (22 - digits) digits ≡ shortest x (22 - (digits + 1)) (digits + 1)
 shortest-more x over digits power h e =
     let next : suc digits ≡ digits + 1 = omega arith in
@@ -54,7 +54,7 @@ shortest-more x over digits power h e =
 pub shortest-none : (x : Placed) (digits : ℕ) → 22 ≤ digits → shortest x (22 - digits) digits ≡ None
 shortest-none x digits h = let none : 22 - digits ≡ 0 = omega arith in ap (λ m. shortest x m digits) none
 
--- the middle that is compared is twice the numerator over so much
+-- the number that is compared is twice the numerator, as a multiple of the unit
 pub reads-told : (x : Placed) (over total : ℕ) → 0 < x.unit → total ≡ 2 * (x.here * over) + x.unit → total < 2 ^ 128
     → reads_as x over (nearest x over) ≡ (nat_le ((x.below + x.here) * over) (total - total % (2 * x.unit)) && nat_lt (total - total % (2 * x.unit)) ((x.here + x.above) * over))
 reads-told x over total pos is short =
@@ -77,7 +77,7 @@ pub zero-single : decimal_of single 0 ≡ Some (0, 1)
 unfolding decimal_of value_of
 zero-single = refl
 
--- outside of the range of the format
+-- a real out of the range of the format
 pub decimal-low : (f : Format) (bits : ℕ) → (bits ≡ 0 → ⊥) → bits / f.hidden < f.from → decimal_of f bits ≡ None
 unfolding decimal_of
 decimal-low f bits some low = rw (is-denied bits 0 some, le-denied f.from (bits / f.hidden) low) refl
@@ -89,7 +89,7 @@ decimal-high f bits some high = elim (cases_Bool (nat_le f.from (bits / f.hidden
   | inr not ↦ rw (is-denied bits 0 some, not) refl
 ]
 
--- within it
+-- a real in the range of the format
 pub decimal-near : (f : Format) (bits exponent fraction shift : ℕ) → (bits ≡ 0 → ⊥) → 0 < f.hidden → exponent ≡ bits / f.hidden → fraction ≡ bits % f.hidden → 2 ≤ exponent → f.from ≤ exponent → exponent < f.to → shift + (exponent - 2) ≡ f.one
     → decimal_of f bits ≡ shortest (halved f.hidden fraction shift) 21 1
 unfolding decimal_of

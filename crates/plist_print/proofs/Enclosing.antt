@@ -1,4 +1,4 @@
--- Containers that are printed: their brackets and the lines between them.
+-- Printed containers: their brackets and the lines between them.
 use Rattle.std.proofs.Common.{◌≡◌, ℕ, suc, ◌+◌, ◌<◌, List, [], ◌∷◌, ◌++◌, length, Result, Ok, Err, refl, ap, subst, ◌∙◌, arith, add-one}
 use Rattle.std.specs.List.{zip}
 use Rattle.std.specs.List.Sorted.{IsPermutation}
@@ -29,7 +29,7 @@ module _ (level left right : ℕ) (lines all : List ℕ) (is : enclosed level le
   brackets_closed p q r s value done result opened filled goes =
       Goes_same (enclosed level left right lines) all p s result is (Goes_then (left ∷ 10 ∷ []) (lines ++ (indent level ++ (right ∷ 10 ∷ []))) p q s value result opened (Goes_then lines (indent level ++ (right ∷ 10 ∷ [])) q r s done result filled goes))
 
--- a list that is empty, and one that is not
+-- an empty array, and one with items
 pub list_empty : (f refs : List ℕ) (level : ℕ) (vs : Items) → length refs ≡ 0 → SpellItems f refs vs → 91 ∷ 93 ∷ 10 ∷ [] ≡ printed_at level (list vs)
 list_empty f [] level no_items h spell = refl
 list_empty f [] level (item v vs) h spell = absurd spell
@@ -44,7 +44,7 @@ pub list_brackets : (f refs : List ℕ) (level : ℕ) (vs : Items) → 0 < lengt
 list_brackets f refs level vs h spell =
     ap (λ n. enclosed level 91 93 (printed_items n vs)) (add-one level) ∙ list_filled f refs level vs h spell
 
--- a table that is empty, and one that is not
+-- an empty dictionary, and one with entries
 rows_long : (f keys values : List ℕ) (rows : List (ℕ × ℕ)) (ps : Pairs) → length keys ≡ length values → SpellTable f keys values rows ps → length rows ≡ length keys
 rows_long f keys values rows ps as_many spell =
     length-rows f rows ps spell.spell ∙ length-keys f keys values rows ps as_many spell.moved spell.spell
@@ -68,7 +68,7 @@ table_brackets f keys values rows level ps as_many h spell =
     let long = rows_long f keys values rows ps as_many spell in
     ap (λ n. enclosed level 123 125 (printed_pairs n ps)) (add-one level) ∙ table_filled f rows level ps (omega arith) spell.spell
 
--- what is spelled where a scalar, a list or a table is held
+-- the value of an object that contains a scalar, an array or a dictionary
 pub scalar_seen : (f : List ℕ) (i level : ℕ) (s : Scalar) (v : Plist) → Holds f i (holds_scalar s) → Spells f i v → printed_line level s ≡ printed_at level v
 scalar_seen f i level s (scalar t) holds spells =
     let held = same_held f i (holds_scalar s) (holds_scalar t) holds spells in
@@ -125,7 +125,7 @@ table_seen f keys values i (table ps) holds valid spells =
       };
     }
 
--- an object holds one text
+-- an object contains only one string
 pub text_seen : (f : List ℕ) (i : ℕ) (units others : List ℕ) → Holds f i (holds_scalar (text units)) → Holds f i (holds_scalar (text others)) → units ≡ others
 text_seen f i units others holds held =
     let same = same_held f i (holds_scalar (text units)) (holds_scalar (text others)) holds held in cc

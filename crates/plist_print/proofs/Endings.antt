@@ -1,12 +1,12 @@
--- What ends the lines of a container.
+-- The end of the lines of a container.
 use Rattle.std.proofs.Common.{◌≡◌, ℕ, suc, ◌+◌, ◌*◌, min, List, [], ◌∷◌, ◌++◌, replicate, ◌⊎◌, inl, inr, sym, ap, ◌∙◌, arith, append_assoc}
 use Rattle.std.proofs.lemmas.Bool.{cases_lt}
 use Rattle.std.proofs.lemmas.List.{append_cancel_left, replicate-append-replicate}
 use Rattle.plist_print.specs.Printed.{indent}
 use Rattle.plist_print.proofs.Fronts.{head_of, tail_of, heads}
 
--- What follows the blanks of a line is a blank more where a line one level deeper begins, or what
--- follows the blanks of that.
+-- If equal texts begin with the spaces of a level and with those of the next, the first continues
+-- with a space or, from 32 levels on, like the second.
 pub deeper : (level c : ℕ) (x y : List ℕ) → indent level ++ (c ∷ x) ≡ indent (suc level) ++ y → (c ≡ 32) ⊎ (c ∷ x ≡ y)
 deeper level c x y same = elim (cases_lt level 32) [
   | inl below ↦ (
@@ -29,7 +29,7 @@ pub unrolled : (a b c p q r : List ℕ) → (a ++ (b ++ (c ++ (p ++ q)))) ++ r �
 unrolled a b c p q r =
     append_assoc a (b ++ (c ++ (p ++ q))) r ∙ ap (λ t. a ++ t) (append_assoc b (c ++ (p ++ q)) r ∙ ap (λ t. b ++ t) (append_assoc c (p ++ q) r ∙ ap (λ t. c ++ t) (append_assoc p q r)))
 
--- what stands behind the rows of a container
+-- what follows the rows of a container
 abbrev pub ending : ℕ → ℕ → List ℕ → List ℕ
 ending level close r = (indent level ++ (close ∷ 10 ∷ [])) ++ r
 

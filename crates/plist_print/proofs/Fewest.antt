@@ -1,4 +1,4 @@
--- From how many digits behind the point on a decimal is looked for.
+-- The number of digits from which on a decimal is searched.
 use Rattle.std.proofs.Common.{◌≡◌, ℕ, zero, suc, ◌+◌, ◌-◌, ◌*◌, ◌/◌, ◌^◌, ◌<◌, ◌≤◌, true, None, refl, sym, ap, subst, ◌∙◌, arith, inl, inr}
 use Rattle.std.proofs.lemmas.Bool.{cases_Bool}
 use Rattle.std.proofs.lemmas.Nat.{mul-le, le-div, pow-add}
@@ -8,7 +8,7 @@ use Rattle.plist_print.specs.Shown.{IsUnread}
 use Rattle.plist_print.proofs.Neighbours.{between}
 use Rattle.plist_print.proofs.Deciding.{tried, some-power, shortest-more}
 
--- where none over more reads, none over less does
+-- if no numerator reads over a greater power of ten, none does over a smaller one
 less-unread : (x : Placed) (digits more n : ℕ) → IsUnread x (10 ^ (digits + more)) → reads_as x (10 ^ digits) n ≡ true → ⊥
 less-unread x digits more n unread reads =
     let p = between x (10 ^ digits) n reads in
@@ -40,13 +40,13 @@ skipped x k (suc more) le few unread =
     let next : d + 1 ≡ k - more = omega arith in
     shortest-more x (10 ^ d) d refl (omega arith) (unread-tried x d k (omega arith) unread) ∙ ap (λ n. shortest x (22 - n) n) next ∙ skipped x k more (omega arith) few unread
 
--- where none over so much reads, more digits are needed
+-- if no numerator over this power of ten reads, more digits are needed
 pub shortest-skipped : (x : Placed) (over digits k : ℕ) → over ≡ 10 ^ k → digits ≤ k → k < 22 → IsUnread x over → shortest x (22 - (k + 1)) (k + 1) ≡ shortest x (22 - digits) digits
 shortest-skipped x over digits k power le few unread =
     let all : k - (k - digits) ≡ digits = omega arith in
     sym (sym (ap (λ d. shortest x (22 - d) d) all) ∙ skipped x k (k - digits) (omega arith) few (subst (λ (o : ℕ). IsUnread x o) power unread))
 
--- where the last numerator below the upper middle is too small, none reads
+-- if the last numerator below the upper midpoint is too small, no numerator reads
 pub unread-last : (x : Placed) (over high last : ℕ) → 0 < x.unit → high ≡ (x.here + x.above) * over → last ≡ (high - 1) / (2 * x.unit) → last * (2 * x.unit) < (x.below + x.here) * over → IsUnread x over
 unread-last x over high last pos is near small = λ n low upper.
     let turned : n * (2 * x.unit) ≡ 2 * (n * x.unit) = grind arith in

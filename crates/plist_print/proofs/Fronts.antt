@@ -1,4 +1,4 @@
--- What two equal lists begin with.
+-- The common start of two equal lists.
 use Rattle.std.proofs.Common.{◌≡◌, ℕ, ◌<◌, ◌≤◌, false, cond, ◌||◌, List, [], ◌∷◌, ◌++◌, refl, sym, ap, subst, arith}
 use Rattle.std.specs.Prelude.{◌==◌}
 use Rattle.std.specs.Char.{digit_value}
@@ -37,7 +37,7 @@ digits-front (x ∷ ds) (y ∷ es) c d r s p q h k e =
     let rest = digits-front ds es c d r s p.1 q.1 h k (tails x y (ds ++ (c ∷ r)) (es ++ (d ∷ s)) e) in
     (rw (first, rest.0) refl, rest.1)
 
--- what kind of value the octet begins; 1 is a number, 7 none
+-- the kind of the value that begins with this byte; 1 is a number, 7 none
 abbrev pub kind_of_head : ℕ → ℕ
 kind_of_head h =
     cond (h == 93) 7 (cond (h == 34) 0 (cond (h == 116 || h == 102) 2 (cond (h == 100) 3 (cond (h == 60) 4 (cond (h == 91) 5 (cond (h == 123) 6 1))))))

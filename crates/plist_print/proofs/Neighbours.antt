@@ -1,4 +1,4 @@
--- A decimal reads as one real alone.
+-- A decimal reads as only one real.
 use Rattle.std.proofs.Common.{◌≡◌, ℕ, zero, suc, ◌+◌, ◌-◌, ◌*◌, ◌/◌, ◌%◌, ◌^◌, ◌<◌, ◌≤◌, true, false, ◌&&◌, Option, Some, None, refl, sym, ap, subst, ◌∙◌, arith, inl, inr}
 use Rattle.std.specs.Prelude.{nat_le, nat_lt}
 use Rattle.std.proofs.lemmas.Bool.{cases_Bool, and_parts, cases_lt}
@@ -16,7 +16,7 @@ past-hidden : (h b : ℕ) → h ≤ b → value_of h b ≡ (h + b % h) * 2 ^ (b 
 unfolding value_of
 past-hidden h b le = let is : nat_lt b h ≡ false = grind (arith, nat_tests) in rw is refl
 
--- by the exponent and the digits behind it
+-- the value from the exponent and the digits
 pub value-at : (h q t : ℕ) → t < h → value_of h (suc q * h + t) ≡ (h + t) * 2 ^ q
 value-at h q t lt =
     let d : (suc q * h + t) / h ≡ suc q = div-mul-add (suc q) h t lt in
@@ -25,7 +25,7 @@ value-at h q t lt =
     let one : suc q - 1 ≡ q = omega arith in
     past-hidden h (suc q * h + t) le ∙ rw (d, m, one) refl
 
--- the bits as an exponent and digits
+-- the bits, split into exponent and digits
 record Parted (h b : ℕ) : Type 0 where
   q : ℕ
   t : ℕ
@@ -110,7 +110,7 @@ value-ascends h a b pos le =
     let x = value-steps h a (b - a) pos in
     omega arith
 
--- where a decimal reads as a real, it is between the middles
+-- a decimal that reads as a real is between the midpoints to its neighbours
 pub record Between (x : Placed) (over n : ℕ) : Type 0 where
   pub short : n < 2 ^ 128
   pub from : (x.below + x.here) * over ≤ 2 * (n * x.unit)
@@ -146,7 +146,7 @@ one-real f a b over n pos x y = elim (cases_lt a b) [
   ]
 ]
 
--- what is found reads as the real
+-- the decimal found reads as the real
 pub shortest-reads : (x : Placed) (more digits n k : ℕ) → shortest x more digits ≡ Some (n, k) → reads_as x (10 ^ k) n ≡ true
 shortest-reads x zero digits n k e = absurd (cc)
 shortest-reads x (suc more) digits n k e = elim (cases_Bool (reads_as x (10 ^ digits) (nearest x (10 ^ digits)))) [

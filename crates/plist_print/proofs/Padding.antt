@@ -1,4 +1,4 @@
--- Digits that fill a field.
+-- Digits padded with zeros.
 use Rattle.std.proofs.Common.{◌≡◌, ℕ, zero, suc, ◌+◌, ◌-◌, ◌*◌, ◌/◌, ◌%◌, ◌^◌, ◌<◌, ◌≤◌, List, [], ◌∷◌, ◌++◌, length, take, drop, replicate, set, get_or, true, ◌&&◌, Bool, T, eqb, refl, sym, ap, subst, ◌∙◌, arith, inl, inr, append_assoc, length-append, add-one, eqb→eq, eq-zero-or-pos, Result, Ok, Err}
 use Rattle.std.specs.Prelude.{decimal, is_ok, OnOk, if◌then◌else◌}
 use Rattle.std.proofs.lemmas.Bool.{cases_lt}
@@ -35,7 +35,7 @@ last-back (suc k) n =
     let high : n / 10 ^ suc k ≡ n / 10 / 10 ^ k = ap (λ m. n / m) power ∙ sym (div-div-eq-div-mul n 10 (10 ^ k)) in
     ap (λ m. (48 + m % 10) ∷ last_digits (suc k) n) high ∙ ap (λ os. (48 + n / 10 / 10 ^ k % 10) ∷ os) (last-back k n)
 
--- a digit more behind a number with zeros before it
+-- one more digit after a number padded with zeros
 digit-more : (k m all low : ℕ) → low < 10 → m < 10 ^ suc k → all ≡ m * 10 + low → all < 2 ^ 64 → (replicate (suc k - length (decimal m)) 48 ++ decimal m) ++ ((48 + low) ∷ []) ≡ replicate (suc (suc k) - length (decimal all)) 48 ++ decimal all
 digit-more k m all low small fits split short = elim (cases_lt 0 m) [
   | inl some ↦ (
@@ -57,7 +57,7 @@ digit-more k m all low small fits split short = elim (cases_lt 0 m) [
       )
 ]
 
--- as a number with zeros before it
+-- the last digits are a number padded with zeros
 pub last-padded : (k n : ℕ) → 0 < k → n % 10 ^ k < 2 ^ 64 → last_digits k n ≡ replicate (k - length (decimal (n % 10 ^ k))) 48 ++ decimal (n % 10 ^ k)
 last-padded zero n some short = absurd (omega arith)
 last-padded (suc zero) n some short =
@@ -75,8 +75,8 @@ last-padded (suc (suc k)) n some short =
     let rest = last-padded (suc k) (n / 10) (omega arith) (omega arith) in
     last-back (suc k) n ∙ ap (λ os. os ++ ((48 + n % 10) ∷ [])) rest ∙ digit-more k m all (n % 10) (omega arith) within split short
 
--- Behind a field of zeros the last digits are written, before them a point, and before that the
--- whole number: that is the decimal.
+-- The last digits are written at the end of a field of zeros, before them a point, and before that
+-- the integer part: this is the decimal.
 pub written-decimal : (n k r s : ℕ) (b zeros d : List ℕ) → n < 2 ^ 64 → 0 < k → k < 20 → zeros ≡ replicate 40 48 → r + length (decimal (n % 10 ^ k)) ≡ 40 → drop r b ≡ decimal (n % 10 ^ k) ++ drop 40 zeros → take r b ≡ take r zeros
     → drop s d ≡ decimal (n / 10 ^ k) ++ drop (39 - k) (set b (39 - k) 46) → drop s d ≡ printed_decimal n k
 written-decimal n k r s b zeros d fits some few blank long last first whole =
@@ -97,7 +97,7 @@ written-decimal n k r s b zeros d fits some few blank long last first whole =
     let point : drop (39 - k) (set b (39 - k) 46) ≡ 46 ∷ last_digits k n = drop-set b (39 - k) 46 (omega arith) ∙ ap (λ i. 46 ∷ drop i b) next ∙ ap (λ t. 46 ∷ t) behind in
     whole ∙ ap (λ t. decimal (n / 10 ^ k) ++ t) point
 
--- a slice was put behind the others, and is the same octets
+-- a slice with these bytes was appended
 pub appended : {T E : Type 0} (result : Result T E) (new old slice octets : List ℕ) → slice ≡ octets → new ≡ (if is_ok result then old ++ slice else old) → OnOk result (new ≡ old ++ octets)
 appended (Ok value) new old slice octets same items = items ∙ ap (λ os. old ++ os) same
 appended (Err fault) new old slice octets same items = tt

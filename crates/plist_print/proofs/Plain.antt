@@ -1,4 +1,4 @@
--- Units that are printed as they are.
+-- Units that are printed without an escape.
 use Rattle.std.proofs.Common.{◌≡◌, ℕ, zero, suc, ◌+◌, ◌-◌, ◌/◌, ◌%◌, ◌<◌, ◌≤◌, Bool, true, false, not, ◌&&◌, T, List, [], ◌∷◌, ◌++◌, refl, ap, ◌∙◌, arith, inl, inr, eq-zero-or-pos}
 use Rattle.std.specs.Prelude.{◌==◌, codes, if◌then◌else◌}
 use Rattle.std.specs.Char.{encode_utf8}
@@ -19,14 +19,14 @@ if-false : (b : Bool) (xs ys : List ℕ) → b ≡ false → (if b then xs else 
 if-false false xs ys e = refl
 if-false true xs ys e = absurd cc
 
--- an ASCII unit that no escape stands for
+-- an ASCII unit without an escape
 pub record IsPlain (u : ℕ) : Type 0 where
   pub low : 32 ≤ u
   pub high : u < 127
   pub quote : u ≡ 34 → ⊥
   pub backslash : u ≡ 92 → ⊥
 
--- the first so many characters from the blank on are seen
+-- the first `n` characters from the space on are visible
 abbrev are_seen : ℕ → Bool
 are_seen zero = true
 are_seen (suc n) = not (is_unseen (32 + n)) && are_seen n

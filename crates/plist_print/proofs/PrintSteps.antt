@@ -1,4 +1,4 @@
--- Items and pairs that are printed one after another.
+-- Items and entries are printed one after another.
 use Rattle.std.proofs.Common.{◌≡◌, ℕ, zero, suc, ◌<◌, ◌≤◌, List, [], ◌∷◌, ◌++◌, length, map, get_or, refl, sym, ap, ◌∙◌, arith, append_assoc}
 use Rattle.std.specs.Prelude.{codes}
 use Rattle.std.proofs.lemmas.List.{append-nil}
@@ -10,13 +10,13 @@ use Rattle.plist_print.specs.Units.{printed_text}
 use Rattle.plist_print.specs.Printed.{indent, printed_at, printed_items, printed_pairs}
 use Rattle.plist_print.specs.Printing.{item_lines, pair_lines}
 
--- the lines of so many items
+-- the lines of the first items
 abbrev pub items_before : ℕ → ℕ → Items → List ℕ
 items_before level zero vs = []
 items_before level (suc k) no_items = []
 items_before level (suc k) (item v vs) = item_lines level v ++ items_before level k vs
 
--- the lines of so many pairs
+-- the lines of the first entries
 abbrev pub pairs_before : ℕ → ℕ → Pairs → List ℕ
 pairs_before level zero ps = []
 pairs_before level (suc k) no_pairs = []
@@ -32,7 +32,7 @@ items_first level v vs = sym (append_assoc (indent level) (printed_at level v) (
 pairs_first : (level : ℕ) (key : List ℕ) (v : Plist) (ps : Pairs) → printed_pairs level (pair key v ps) ≡ pair_lines level key v ++ printed_pairs level ps
 pairs_first level key v ps = regrouped (indent level) (printed_text key) (codes " => ") (printed_at level v) (printed_pairs level ps)
 
--- lines that stand behind others
+-- lines that follow others
 more_lines : (first before one : List ℕ) (all : List ℕ) → all ≡ before ++ one → first ++ all ≡ (first ++ before) ++ one
 more_lines first before one all e = ap (λ t. first ++ t) e ∙ sym (append_assoc first before one)
 
@@ -40,7 +40,7 @@ more_split : (first before one rest part all : List ℕ) → all ≡ first ++ pa
 more_split first before one rest part all begins split =
     begins ∙ more_lines first (before ++ one) rest part split ∙ ap (λ t. t ++ rest) (sym (append_assoc first before one))
 
--- the item at this place, and what is printed with it
+-- the item at this position, and what is printed with it
 pub record ItemAt (f : List ℕ) (object level k : ℕ) (vs : Items) : Type 0 where
   pub value : Plist
   pub valid : IsPlist value
@@ -84,7 +84,7 @@ items_all f (i ∷ refs) level zero (item v vs) h spell = absurd (omega arith)
 items_all f (i ∷ refs) level (suc k) (item v vs) h spell =
     ap (λ t. item_lines level v ++ t) (items_all f refs level k vs (omega arith) spell.1) ∙ sym (items_first level v vs)
 
--- the pair at this place, and what is printed with it
+-- the entry at this position, and what is printed with it
 pub record PairAt (f : List ℕ) (name object level k : ℕ) (ps : Pairs) : Type 0 where
   pub key : List ℕ
   pub value : Plist
@@ -124,7 +124,7 @@ pair_at f (row ∷ rows) level (suc k) (pair key v ps) h valid spell =
       split = more_split first before one next.rest (printed_pairs level ps) (printed_pairs level (pair key v ps)) (pairs_first level key v ps) next.split;
     }
 
--- all pairs were printed
+-- all entries were printed
 pub pairs_all : (f : List ℕ) (rows : List (ℕ × ℕ)) (level k : ℕ) (ps : Pairs) → length rows ≤ k → SpellPairs f rows ps → pairs_before level k ps ≡ printed_pairs level ps
 pairs_all f [] level zero no_pairs h spell = refl
 pairs_all f [] level (suc k) no_pairs h spell = refl

@@ -1,4 +1,4 @@
--- How long a real, a date or a whole number is at most as it is printed.
+-- The maximum length of a printed real, date or integer.
 use Rattle.std.proofs.Common.{◌≡◌, ℕ, zero, suc, ◌+◌, ◌-◌, ◌*◌, ◌/◌, ◌%◌, ◌^◌, ◌<◌, ◌≤◌, Bool, true, false, List, ◌∷◌, ◌++◌, length, Option, Some, None, refl, ap, ◌∙◌, arith, length-append}
 use Rattle.std.specs.Prelude.{codes, decimal, ◌==◌, nat_le, nat_lt, ℤ, pos, negsuc, if◌then◌else◌}
 use Rattle.std.specs.Fmt.{signed_decimal, sign_text}
@@ -17,7 +17,7 @@ use Rattle.plist_print.proofs.Deciding.{some-power}
 use Rattle.plist_print.proofs.RealFronts.{last-long}
 use Rattle.plist_print.proofs.TextBounds.{if-long, data-long}
 
--- a decimal has at most 128 bits, and 1 to 21 digits behind the point
+-- a decimal has at most 128 bits, and 1 to 21 digits after the decimal point
 abbrev Few : Option (ℕ × ℕ) → Type 0
 Few None = Unit {0}
 Few (Some d) = (d.0 < 2 ^ 128) × (1 ≤ d.1) × (d.1 ≤ 21)

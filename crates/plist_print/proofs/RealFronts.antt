@@ -1,4 +1,4 @@
--- A real or a date that is printed is known by its front.
+-- Printed reals and dates are determined by the start of the text.
 use Rattle.std.proofs.Common.{◌≡◌, ℕ, zero, suc, ◌+◌, ◌*◌, ◌/◌, ◌%◌, ◌^◌, ◌<◌, ◌≤◌, Bool, true, false, Option, Some, None, List, [], ◌∷◌, ◌++◌, length, refl, sym, ap, subst, ◌∙◌, arith, append_assoc, inl, inr}
 use Rattle.std.specs.Prelude.{nat_le, nat_lt, ◌==◌, codes, decimal, flat_map}
 use Rattle.std.specs.Char.{digit_value}
@@ -23,7 +23,7 @@ use Rattle.plist_print.proofs.UnitFronts.{data-front}
 use Rattle.plist_print.proofs.Neighbours.{between, one-real, decimal-reads}
 use Rattle.plist_print.proofs.Compared.{equal, gt-told, le-told}
 
--- how the size of a real is printed
+-- the ways to print a real without its sign
 pub data Shape : Type 0 where
   as_decimal : ℕ → ℕ → Shape
   as_octets : List ℕ → Shape
@@ -42,7 +42,8 @@ IsShape (as_octets xs) = AreOctets xs
 IsShape endless = Unit {0}
 IsShape (no_number xs) = AreOctets xs
 
--- the last digits of a number are digits, and with what stands before them they are the number
+-- the last digits of a number are digits, and together with the digits before them they are the
+-- number
 digit-low : (d : ℕ) → d < 10 → digit_value (48 + d) ≡ d
 digit-low d h = grind (arith, nat_tests)
 
@@ -91,7 +92,7 @@ whole-digits n k h =
 spread : (n k : ℕ) (x : List ℕ) → printed_decimal n k ++ x ≡ decimal (n / 10 ^ k) ++ (46 ∷ (last_digits k n ++ x))
 spread n k x = append_assoc (decimal (n / 10 ^ k)) (46 ∷ last_digits k n) x
 
--- a decimal begins as no word does
+-- a decimal does not begin like a word
 no-word : (n k h : ℕ) (x y : List ℕ) → n < 2 ^ 128 → EndsDigits h → (h ≡ 46 → ⊥) → printed_decimal n k ++ x ≡ h ∷ y → ⊥
 no-word n k h x y short ends apart same =
     let parts = digits-front (decimal (n / 10 ^ k)) [] 46 h (last_digits k n ++ x) y (whole-digits n k short).1 tt (omega arith) ends (sym (spread n k x) ∙ same) in
@@ -155,7 +156,7 @@ signed-front false true a a' c d r s h g p q same = absurd (no-minus a (c ∷ r)
 signed-front false false a a' c d r s h g p q same =
     let rest = shape-front a a' c d r s h g p q same in (refl, rest.0, rest.1)
 
--- the shape of a real, and why it has it
+-- the shape of a real, and its reason
 data Sized (f : Format) (xs : List ℕ) (bits : ℕ) : Shape → Type 0 where
   finite : (n k : ℕ) → reads_as (placed_in f bits) (10 ^ k) n ≡ true → Sized f xs bits (as_decimal n k)
   far : Sized f xs bits (as_octets xs)
@@ -234,7 +235,7 @@ same-bits f xs ys a b _ _ pos h e none (finite m j also) = absurd (let x : 3 ≡
 same-bits f xs ys a b _ _ pos h e none far = absurd (let x : 3 ≡ 1 = ap rank e in omega arith)
 same-bits f xs ys a b _ _ pos h e none (infinite was) = absurd (let x : 3 ≡ 2 = ap rank e in omega arith)
 
--- what a format has to have
+-- the properties that formats have
 pub record IsFormat (f : Format) : Type 0 where
   pub positive : 0 < f.hidden
   pub halves : (x y : ℕ) → x < 256 ^ f.octets → y < 256 ^ f.octets → nat_le f.sign x ≡ nat_le f.sign y → x % f.sign ≡ y % f.sign → x ≡ y
@@ -257,8 +258,8 @@ single-format = record { positive = omega arith; halves = halves-4 }
 pub double-format : IsFormat double
 double-format = record { positive = omega arith; halves = halves-8 }
 
--- where printed reals are equal up to what ends digits, whatever their formats, so is what stands
--- behind
+-- if printed reals are equal up to what ends their digits, whatever their formats, then what
+-- follows is equal
 record Parts (f g : Format) (xs ys : List ℕ) (x y : List ℕ) : Type 0 where
   signs : nat_le f.sign (big_number f.octets xs) ≡ nat_le g.sign (big_number g.octets ys)
   left : Shape
@@ -303,7 +304,7 @@ real-front f xs ys c d r s format h k p q same =
     let numbers = format.halves x y (big_from-lt 0 f.octets xs h.octets) (big_from-lt 0 f.octets ys k.octets) all.signs sizes in
     (octets-same f.octets xs ys h k numbers, all.behind)
 
--- a real begins as a number
+-- a real begins like a number
 shape-kind : (a : Shape) (x : List ℕ) → IsShape a → kind_of_head (head_of (text_of a ++ x)) ≡ 1
 shape-kind (as_decimal n k) x h =
     ap (λ l. kind_of_head (head_of l)) (spread n k x) ∙ digits-kind (decimal (n / 10 ^ k)) 46 (last_digits k n ++ x) (whole-digits n k h).1 refl
@@ -321,7 +322,7 @@ real-kind f xs x h =
     let minus = nat_le f.sign (big_number f.octets xs) in
     ap (λ t. kind_of_head (head_of ((sign_text minus ++ t) ++ x))) a.is ∙ signed-kind minus a.shape x a.valid
 
--- the digits of a whole number are followed by no point, and begin no word
+-- the digits of an integer are not followed by a decimal point, and begin no word
 shape-whole : (ds : List ℕ) (a : Shape) (r x : List ℕ) → AllDigits 10 ds → IsShape a → ds ++ (10 ∷ r) ≡ text_of a ++ x → ⊥
 shape-whole ds (as_decimal n k) r x h g same =
     let both = digits-front ds (decimal (n / 10 ^ k)) 10 46 r (last_digits k n ++ x) h (whole-digits n k g).1 (omega arith) (omega arith) (same ∙ spread n k x) in
@@ -344,14 +345,14 @@ signed-whole false true ds a r x h g same =
     absurd (let e : 10 ≡ 45 = ap head_of both.1 in omega arith)
 signed-whole false false ds a r x h g same = shape-whole ds a r x h g same
 
--- no real is printed as a whole number
+-- no real is printed like an integer
 pub real-whole : (f : Format) (negative : Bool) (ds xs r x : List ℕ) → AllDigits 10 ds → AreOctets xs → (sign_text negative ++ ds) ++ (10 ∷ r) ≡ printed_real f xs ++ x → ⊥
 real-whole f negative ds xs r x h k same =
     let a = shaped f xs (big_number f.octets xs % f.sign) k in
     let minus = nat_le f.sign (big_number f.octets xs) in
     signed-whole negative minus ds a.shape r x h a.valid (same ∙ ap (λ t. (sign_text minus ++ t) ++ x) a.is)
 
--- what stands behind the seconds begins with no digit
+-- what follows the seconds does not begin with a digit
 record Behind (moment : Option ℕ) (r : List ℕ) : Type 0 where
   head : ℕ
   rest : List ℕ
@@ -367,7 +368,7 @@ seconds-first : (xs r : List ℕ) (b : Behind (second_of xs) r) → printed_date
 seconds-first xs r b =
     append_assoc (printed_real double xs) (in_brackets (second_of xs)) (10 ∷ r) ∙ ap (λ t. printed_real double xs ++ t) b.is
 
--- the seconds tell the octets, and the octets the moment
+-- the seconds determine the bytes, and these determine date and time
 pub date-front : (xs ys r s : List ℕ) → IsOctetsOf 8 xs → IsOctetsOf 8 ys → printed_date xs ++ (10 ∷ r) ≡ printed_date ys ++ (10 ∷ s) → (xs ≡ ys) × (r ≡ s)
 date-front xs ys r s h k same =
     let a = behind (second_of xs) r in

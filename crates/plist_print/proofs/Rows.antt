@@ -1,4 +1,4 @@
--- Worked rows, shown on the definitions by computing.
+-- Examples of the definitions, by computation.
 use Rattle.std.proofs.Common.{◌≡◌, true, [], ◌∷◌, replicate, refl}
 use Rattle.std.specs.Prelude.{codes, negsuc}
 use Rattle.plist_value.specs.Plist.{text, whole, flag, real4, real8, moment, bytes, scalar, list, table, no_items, item, no_pairs, pair}
@@ -36,12 +36,12 @@ pub printed_date : printed (scalar (moment (0x41 ∷ 0xc7 ∷ 0x69 ∷ 0x26 ∷ 
 unfolding decimal_of value_of digits second_of printed_moment printed_day printed_month printed_time year_of month_of days_of_months
 printed_date = refl
 
--- no whole second
+-- not a whole second
 pub printed_date_half : printed (scalar (moment (0x3f ∷ 0xe0 ∷ 0 ∷ 0 ∷ 0 ∷ 0 ∷ 0 ∷ 0 ∷ []))) ≡ codes "date 0.5\n"
 unfolding decimal_of value_of digits second_of printed_moment printed_day printed_month printed_time year_of month_of days_of_months
 printed_date_half = refl
 
--- the first and the last moment that are in brackets, and the second behind them
+-- the first and the last second with a date in parentheses, and the next
 pub printed_date_first : printed (scalar (moment (0xc2 ∷ 0x2d ∷ 0x63 ∷ 0xc3 ∷ 0x7f ∷ 0 ∷ 0 ∷ 0 ∷ []))) ≡ codes "date -63113904000.0 (0001-01-01T00:00:00Z)\n"
 unfolding decimal_of value_of digits second_of printed_moment printed_day printed_month printed_time year_of month_of days_of_months
 printed_date_first = refl
@@ -54,7 +54,7 @@ pub printed_date_behind : printed (scalar (moment (0x42 ∷ 0x4d ∷ 0x62 ∷ 0x
 unfolding decimal_of value_of digits second_of printed_moment printed_day printed_month printed_time year_of month_of days_of_months
 printed_date_behind = refl
 
--- days of the calendar, counted from 0 for 0001-01-01
+-- days of the calendar; day 0 is 0001-01-01
 pub first_of_2001 : days_before 2001 ≡ 730485
 first_of_2001 = refl
 
@@ -74,12 +74,12 @@ pub printed_escapes : printed (scalar (text (34 ∷ 92 ∷ 10 ∷ 9 ∷ 13 ∷ 7
 unfolding printed_unit is_unseen general_category general_category_rows is_default_ignorable_code_point default_ignorable_code_point_ranges value_in in_ranges encode_utf8
 printed_escapes = refl
 
--- `é`, a pair of surrogates, a lone one, a mark that turns the direction
+-- `é`, a surrogate pair, a lone surrogate, and a mark that changes the direction
 pub printed_wide : printed (scalar (text (0xe9 ∷ 0xd83d ∷ 0xde00 ∷ 0xde00 ∷ 0x202e ∷ []))) ≡ 34 ∷ 0xc3 ∷ 0xa9 ∷ 0xf0 ∷ 0x9f ∷ 0x98 ∷ 0x80 ∷ codes "\\Ude00\\U202e\"\n"
 unfolding printed_unit is_unseen general_category general_category_rows is_default_ignorable_code_point default_ignorable_code_point_ranges value_in in_ranges encode_utf8
 printed_wide = refl
 
--- a soft hyphen, blanks, a joiner, a filler, and a tag, which is a pair that is not seen
+-- a soft hyphen, spaces, a joiner, a filler, and a tag, which is an invisible pair
 pub printed_unseen : printed (scalar (text (0xad ∷ 0xa0 ∷ 0x3000 ∷ 0x200d ∷ 0x3164 ∷ 0xdb40 ∷ 0xdc01 ∷ []))) ≡ codes "\"\\U00ad\\U00a0\\U3000\\U200d\\U3164\\Udb40\\Udc01\"\n"
 unfolding printed_unit is_unseen general_category general_category_rows is_default_ignorable_code_point default_ignorable_code_point_ranges value_in in_ranges encode_utf8
 printed_unseen = refl
@@ -88,6 +88,6 @@ pub printed_nested : printed (table (pair (codes "a") (list (item (scalar (whole
 unfolding printed_unit is_unseen general_category general_category_rows is_default_ignorable_code_point default_ignorable_code_point_ranges value_in in_ranges encode_utf8 digits
 printed_nested = refl
 
--- data of 33 octets in a list
+-- data of 33 bytes in an array
 pub printed_long : printed (list (item (scalar (bytes (replicate 33 171))) no_items)) ≡ codes "[\n  <\n    abababababababababababababababababababababababababababababababab\n    ab\n  >\n]\n"
 printed_long = refl

@@ -1,4 +1,4 @@
--- The line of a scalar is known by its front.
+-- The line of a scalar is determined by the start of the text.
 use Rattle.std.proofs.Common.{◌≡◌, ℕ, suc, ◌+◌, ◌/◌, ◌^◌, ◌<◌, Bool, true, false, List, [], ◌∷◌, ◌++◌, length, inl, inr, refl, sym, ap, ◌∙◌, arith, append_assoc}
 use Rattle.std.specs.Prelude.{codes, decimal, ℤ, pos, negsuc, flat_map}
 use Rattle.std.specs.Str.Parse.{digits_value, AllDigits}
@@ -20,7 +20,7 @@ use Rattle.plist_print.proofs.DataLines.{if-told, if-denied}
 use Rattle.plist_print.proofs.DataFronts.{lines-front}
 use Rattle.plist_print.proofs.RealFronts.{date-front, single-format, double-format, real-front, reals-part, real-kind, real-whole}
 
--- the digits of a whole number, or of its size
+-- the digits of an integer, without its sign
 abbrev size_of : ℤ → ℕ
 size_of (pos n) = n
 size_of (negsuc n) = suc n
@@ -55,7 +55,7 @@ whole-front (negsuc n) (negsuc m) c d r s h k p q u v same =
     let less : n ≡ m = let e = both.0 in omega arith in
     (ap negsuc less, both.1)
 
--- the kind of a scalar, as the first octet of its text tells it
+-- the kind of a scalar, which the first byte of its text determines
 abbrev pub kind_of : Scalar → ℕ
 kind_of (text units) = 0
 kind_of (whole z) = 1
@@ -143,7 +143,7 @@ small-kind (real8 xs) = omega arith
 small-kind (moment xs) = omega arith
 small-kind (bytes xs) = omega arith
 
--- data of more than 32 octets begins as no line of one
+-- data of more than 32 bytes does not begin like a single line
 no-line : {A : Type 0} (a : Scalar) (r y : List ℕ) → IsScalar a → printed_scalar a ++ (10 ∷ r) ≡ 60 ∷ 10 ∷ y → (kind_of a ≡ 4 → ⊥) → A
 no-line a r y h same differ =
     absurd (differ (sym (scalar-kind a r h) ∙ ap (λ l. kind_of_head (head_of l)) same))
@@ -159,7 +159,7 @@ no-long (real4 xs) r y h same = no-line (real4 xs) r y h same (λ e. omega arith
 no-long (real8 xs) r y h same = no-line (real8 xs) r y h same (λ e. omega arith)
 no-long (moment xs) r y h same = no-line (moment xs) r y h same (λ e. omega arith)
 
--- the two ways in which a scalar is printed
+-- a scalar is printed in one of two ways
 data Line (level : ℕ) : Scalar → Type 0 where
   short : (s : Scalar) → printed_line level s ≡ printed_scalar s ++ codes "\n" → Line level s
   long : (xs : List ℕ) → printed_line level (bytes xs) ≡ enclosed level 60 62 (octet_lines (indent (suc level)) xs) → Line level (bytes xs)

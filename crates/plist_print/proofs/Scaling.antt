@@ -1,4 +1,4 @@
--- How a real is printed does not depend on what it is counted in.
+-- The printed text of a real does not depend on the unit in which it is counted.
 use Rattle.std.proofs.Common.{◌≡◌, ℕ, zero, suc, ◌+◌, ◌-◌, ◌*◌, ◌/◌, ◌^◌, ◌<◌, ◌≤◌, true, false, ◌&&◌, Some, refl, sym, ap, ◌∙◌, arith, inl, inr}
 use Rattle.std.specs.Prelude.{nat_le, nat_lt, if◌then◌else◌}
 use Rattle.std.proofs.lemmas.Bool.{cases_lt}
@@ -77,8 +77,8 @@ shortest-scaled k (suc more) digits x pos =
     ∙ ap (λ m. if reads_as x (10 ^ digits) (nearest x (10 ^ digits)) then Some (m, digits) else shortest (scaled k x) more (suc digits)) n
     ∙ ap (λ o. if reads_as x (10 ^ digits) (nearest x (10 ^ digits)) then Some (nearest x (10 ^ digits), digits) else o) rest
 
--- a real by its exponent and its digits, and its neighbours, counted in half of the step to the
--- next
+-- a real from its exponent and its digits, with its neighbours, as multiples of half the distance
+-- to the next real
 two-pow : (q : ℕ) → 2 ^ suc q ≡ 2 * 2 ^ q
 two-pow q = omega arith
 

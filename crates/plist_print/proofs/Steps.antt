@@ -1,4 +1,4 @@
--- Pieces that are put one after another, up to the end.
+-- Pieces are appended one after another, up to the end.
 use Rattle.std.proofs.Common.{◌≡◌, ℕ, List, [], ◌++◌, Result, Ok, Err, sym, ap, ◌∙◌, append_assoc}
 use Rattle.plist_engine.specs.declared.faults.WriteFault.{WriteFault}
 use Rattle.plist_engine.specs.declared.faults.WriteFault.TheVariants.{OutOfMemory}
@@ -6,7 +6,7 @@ use Rattle.plist_engine.specs.Output.{State, Goes}
 use Rattle.plist_engine.proofs.Going.{Goes_then, Goes_last, Goes_rest, Goes_stop, Goes_put, Goes_out}
 use Rattle.plist_print.specs.Shown.{Puts}
 
--- a piece more is put where some are done, before what waits is settled
+-- one more piece is appended after others, before the buffer is flushed
 module _ (done whole rest all items : List ℕ) (p q : State) (split : done ++ whole ≡ all) (goes : Goes {T = Unit {0}} done p q (Ok tt)) (puts : Puts q.waiting items whole rest) where
   pub piece-split : (done ++ puts.piece) ++ rest ≡ all
   piece-split = append_assoc done puts.piece rest ∙ ap (λ os. done ++ os) (sym puts.split) ∙ split
@@ -21,7 +21,7 @@ module _ (done whole rest all items : List ℕ) (p q : State) (split : done ++ w
   piece-stops {T} {U} r fault stopped =
       Goes_rest (done ++ puts.piece) rest all p (record q { waiting = items }) r tt (Err fault) piece-split piece-goes (Goes_stop {T = T} {U = U} [] rest (record q { waiting = items }) r fault stopped)
 
--- there was no memory for the next piece
+-- out of memory for the next piece
 pub no_piece : {T : Type 0} (done whole all items : List ℕ) (p q : State) → done ++ whole ≡ all → Goes {T = Unit {0}} done p q (Ok tt) → Goes {T = T} all p (record q { waiting = items }) (Err (OutOfMemory q.sent))
 no_piece done whole all items p q split goes =
     Goes_rest done whole all p q (record q { waiting = items }) tt (Err (OutOfMemory q.sent)) split goes (Goes_out whole items q)

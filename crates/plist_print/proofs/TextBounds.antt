@@ -1,4 +1,4 @@
--- How long the print of a scalar is at most.
+-- The maximum length of a printed scalar.
 use Rattle.std.proofs.Common.{◌≡◌, ℕ, zero, suc, ◌+◌, ◌*◌, ◌/◌, ◌≤◌, min, Bool, true, false, List, [], ◌∷◌, ◌++◌, length, take, drop, refl, ap, arith, inl, inr, length-append}
 use Rattle.std.specs.Prelude.{codes, ◌==◌, flat_map, if◌then◌else◌}
 use Rattle.std.specs.Char.{encode_utf8}
@@ -11,7 +11,7 @@ use Rattle.plist_print.specs.Units.{is_unseen, is_seen_pair, printed_data, print
 use Rattle.plist_print.specs.Printed.{indent, enclosed, data_lines, octet_lines, printed_bytes}
 use Rattle.plist_print.proofs.DataLines.{if-told, if-denied}
 
--- the longer of two ways
+-- both branches are at most this long
 pub if-long : (b : Bool) (xs ys : List ℕ) (n : ℕ) → length xs ≤ n → length ys ≤ n → length (if b then xs else ys) ≤ n
 if-long true xs ys n h k = h
 if-long false xs ys n h k = k
@@ -54,7 +54,7 @@ pub data-long : (xs : List ℕ) → length (printed_data xs) ≡ 2 * length xs +
 data-long xs =
     let e = digits-long xs in let l = length-append (flat_map two_digits xs) (codes ">") in omega (arith, e, l)
 
--- lines of data behind at most 64 blanks
+-- lines of data after at most 64 spaces
 lines-long : (blanks : List ℕ) (n : ℕ) (xs : List ℕ) → length blanks ≤ 64 → length (data_lines blanks n xs) ≤ 65 * n + 2 * length xs
 lines-long blanks zero xs few = omega arith
 lines-long blanks (suc n) xs few =

@@ -1,4 +1,4 @@
--- References to keys, and then those to their values.
+-- References to keys, followed by those to their values.
 use Rattle.std.proofs.Common.{◌≡◌, ℕ, ◌+◌, ◌/◌, ◌<◌, List, ◌++◌, length, map, get_or, sym, ap, subst, ◌∙◌, arith, length-append}
 use Rattle.std.proofs.lemmas.List.{get_or_append_left, get_or-append-add, length-map}
 use Rattle.plist_engine.specs.Spelling.{SpellWithin, in_turn}

@@ -1,4 +1,4 @@
--- A text that is printed is known by its front, and so are data.
+-- Printed strings and data are determined by the start of the text.
 use Rattle.std.proofs.Common.{◌≡◌, ℕ, zero, suc, ◌/◌, ◌%◌, ◌<◌, ◌≤◌, Bool, true, false, List, [], ◌∷◌, ◌++◌, length, refl, sym, ap, subst, ◌∙◌, arith, append_assoc, inl, inr}
 use Rattle.std.specs.Prelude.{◌==◌, flat_map, if◌then◌else◌}
 use Rattle.std.specs.Char.{digit_char, digit_value, encode_utf8}
@@ -13,11 +13,11 @@ use Rattle.plist_value.specs.Digits.{two_digits}
 use Rattle.plist_print.proofs.Fronts.{heads, tails}
 use Rattle.plist_print.proofs.Compared.{equal, unlike}
 
--- the unit that an escape of one letter stands for
+-- the unit that an escape of one letter encodes
 abbrev unescaped : ℕ → ℕ
 unescaped e = if e == 110 then 10 else (if e == 116 then 9 else (if e == 114 then 13 else e))
 
--- the three ways in which a unit is printed by itself
+-- a single unit is printed in one of three ways
 data Shown : ℕ → List ℕ → Type 0 where
   letter : (e : ℕ) → (e ≡ 85 → ⊥) → Shown (unescaped e) (92 ∷ e ∷ [])
   number : (u : ℕ) → Shown u (92 ∷ 85 ∷ (two_digits (u / 256) ++ two_digits (u % 256)))
@@ -53,7 +53,7 @@ two-front x y r s h k e =
     let same_low : x % 16 ≡ y % 16 = sym c ∙ low ∙ d in
     (omega (arith, same_high, same_low), tails (digit_char (x % 16)) (digit_char (y % 16)) r s rest)
 
--- a character that begins with an ASCII octet is that
+-- a character that begins with an ASCII byte is this ASCII character
 begins : (c u : ℕ) (r s : List ℕ) → c < 128 → c ∷ r ≡ encode_utf8 u ++ s → c ≡ u
 begins c u r s h e = (encode_same c u r s (ap (λ xs. xs ++ r) (encode_ascii c h) ∙ e)).0
 
@@ -79,20 +79,20 @@ shown-front _ _ _ _ x y h k (itself u i j) (number w) same =
     absurd (j (sym (begins 92 u (85 ∷ (two_digits (w / 256) ++ two_digits (w % 256) ++ y)) x (omega arith) (sym same))))
 shown-front _ _ _ _ x y h k (itself u i j) (itself w f g) same = encode_same u w x y same
 
--- no unit begins as the closing quote
+-- no unit begins like the closing quote
 shown-quote : (u : ℕ) (p x y : List ℕ) → Shown u p → 34 ∷ x ≡ p ++ y → ⊥
 shown-quote _ _ x y (letter e g) same = let h = heads 34 92 x (e ∷ y) same in omega arith
 shown-quote _ _ x y (number u) same = let h = heads 34 92 x (85 ∷ (two_digits (u / 256) ++ two_digits (u % 256) ++ y)) same in omega arith
 shown-quote _ _ x y (itself u i j) same = i (sym (begins 34 u x y (omega arith) same))
 
--- a character of a pair is none of a single unit
+-- the character of a pair is not that of a single unit
 shown-pair : (u c : ℕ) (p x y : List ℕ) → u < 65536 → 65536 ≤ c → Shown u p → p ++ x ≡ encode_utf8 c ++ y → ⊥
 shown-pair _ c _ x y h k (letter e g) same = let is = begins 92 c (e ∷ x) y (omega arith) same in omega arith
 shown-pair _ c _ x y h k (number u) same =
     let is = begins 92 c (85 ∷ (two_digits (u / 256) ++ two_digits (u % 256) ++ x)) y (omega arith) same in omega arith
 shown-pair _ c _ x y h k (itself u i j) same = let is = (encode_same u c x y same).0 in omega arith
 
--- what comes first of a text
+-- the first character of a string
 data First : List ℕ → Type 0 where
   none : First []
   single : (u : ℕ) (us : List ℕ) → printed_units (u ∷ us) ≡ printed_unit u ++ printed_units us → First (u ∷ us)
@@ -163,11 +163,11 @@ front-by (suc n) _ _ r s long h k (double u v us high low is) (double w x ws hig
 pub units-front : (us ws r s : List ℕ) → AreUnits us → AreUnits ws → printed_units us ++ (34 ∷ r) ≡ printed_units ws ++ (34 ∷ s) → (us ≡ ws) × (r ≡ s)
 units-front us ws r s h k same = front-by (length us) us ws r s (omega arith) h k (first us) (first ws) same
 
--- an octet that is no digit
+-- a byte that is no digit
 pub digit-no_end : (e d : ℕ) → 16 ≤ digit_value e → d < 16 → digit_char d ≡ e → ⊥
 digit-no_end e d ends h is = let f = digit_value-digit_char d (omega arith) in let g = ap digit_value is in omega arith
 
--- data up to the first octet that is no digit
+-- data up to the first byte that is no digit
 pub data-front : (e : ℕ) (xs ys r s : List ℕ) → 16 ≤ digit_value e → AreOctets xs → AreOctets ys → flat_map two_digits xs ++ (e ∷ r) ≡ flat_map two_digits ys ++ (e ∷ s) → (xs ≡ ys) × (r ≡ s)
 data-front e [] [] r s ends h k same = (refl, tails e e r s same)
 data-front e [] (y ∷ ys) r s ends h k same =

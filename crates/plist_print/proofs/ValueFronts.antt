@@ -1,4 +1,4 @@
--- A value that is printed is known by its front.
+-- A printed value is determined by the start of the text.
 use Rattle.std.proofs.Common.{◌≡◌, ℕ, suc, List, [], ◌∷◌, ◌++◌, refl, sym, ap, ◌∙◌, arith, append_assoc}
 use Rattle.std.specs.Prelude.{codes}
 use Rattle.std.proofs.lemmas.List.{append_cancel_left}
@@ -9,7 +9,7 @@ use Rattle.plist_print.proofs.Fronts.{head_of, tail_of, kind_of_head}
 use Rattle.plist_print.proofs.Endings.{regrouped, unrolled, ending, endings-front, ending-no_row}
 use Rattle.plist_print.proofs.ScalarFronts.{kind_of, small-kind, text-front, line-front, line-kind}
 
--- an item of a list, and those behind it
+-- an item of an array, and the items after it
 item-front : (level : ℕ) (v w : Plist) (vs ws : Items) (r s : List ℕ)
     → ((x y : List ℕ) → printed_at level v ++ x ≡ printed_at level w ++ y → (v ≡ w) × (x ≡ y))
     → (printed_items level vs ++ r ≡ printed_items level ws ++ s → (vs ≡ ws) × (r ≡ s))
@@ -38,13 +38,13 @@ pair-front level key next v w ps qs r s h k value pairs same =
     let rest = pairs one.1 in
     (ap (λ x. pair x v ps) f.0 ∙ ap (λ x. pair next x ps) one.0 ∙ ap (pair next w) rest.0, rest.1)
 
--- the kind of a value, as the first octet of its text tells it
+-- the kind of a value, which the first byte of its text determines
 abbrev kind_of_value : Plist → ℕ
 kind_of_value (scalar s) = kind_of s
 kind_of_value (list vs) = 5
 kind_of_value (table ps) = 6
 
--- the first octet of a value tells its kind, and is no closing bracket
+-- the first byte of a value determines its kind, and is no closing bracket
 value-kind : (level : ℕ) (v : Plist) (r : List ℕ) → IsPlist v → kind_of_head (head_of (printed_at level v ++ r)) ≡ kind_of_value v
 value-kind level (scalar s) r h = line-kind level s r h
 value-kind level (list no_items) r h = refl

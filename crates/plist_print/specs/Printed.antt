@@ -11,7 +11,7 @@ abbrev pub printed_flag : Bool → List ℕ
 printed_flag true = codes "true"
 printed_flag false = codes "false"
 
--- on one line
+-- a scalar on one line
 abbrev pub printed_scalar : Scalar → List ℕ
 printed_scalar (text units) = printed_text units
 printed_scalar (whole z) = signed_decimal z
@@ -21,26 +21,26 @@ printed_scalar (real8 xs) = printed_real double xs
 printed_scalar (moment xs) = codes "date " ++ printed_date xs
 printed_scalar (bytes xs) = printed_data xs
 
--- two blanks for each level, up to 32 levels
+-- two spaces for each level, up to 32 levels
 abbrev pub indent : ℕ → List ℕ
 indent level = replicate (2 * min level 32) 32
 
--- an opening bracket, lines, and the closing bracket on a line of its own, indented as the line of
--- the opening one
+-- an opening bracket, lines, and the closing bracket on its own line, indented like the line of the
+-- opening bracket
 abbrev pub enclosed : ℕ → ℕ → ℕ → List ℕ → List ℕ
 enclosed level open_with close_with lines = open_with ∷ 10 ∷ (lines ++ (indent level ++ (close_with ∷ 10 ∷ [])))
 
--- so many lines of 32 octets behind these blanks, the last with what is left
+-- lines of 32 bytes after these spaces, the last with the rest
 abbrev pub data_lines : List ℕ → ℕ → List ℕ → List ℕ
 data_lines blanks zero xs = []
 data_lines blanks (suc lines) xs =
     blanks ++ (flat_map two_digits (take 32 xs) ++ (10 ∷ data_lines blanks lines (drop 32 xs)))
 
--- as many as the octets take
+-- as many lines as the bytes take
 abbrev pub octet_lines : List ℕ → List ℕ → List ℕ
 octet_lines blanks xs = data_lines blanks ((length xs + 31) / 32) xs
 
--- Data: up to 32 octets on one line, more in lines of their own.
+-- Data: up to 32 bytes on one line, more on separate lines.
 abbrev pub printed_bytes : ℕ → List ℕ → List ℕ
 printed_bytes level xs =
     if nat_le (length xs) 32 then printed_data xs ++ codes "\n"
@@ -51,9 +51,9 @@ abbrev pub printed_line : ℕ → Scalar → List ℕ
 printed_line level (bytes xs) = printed_bytes level xs
 printed_line level s = printed_scalar s ++ codes "\n"
 
--- A value up to the end of its last line, whose first line is indented by so many levels and has
--- begun: a list is `[`, a line for each item, `]`; a table is `{`, a line for each key and value,
--- `}`.
+-- A value up to the end of its last line. Its first line has this level, and its spaces are printed
+-- already. An array is `[`, a line for each item, and `]`; a dictionary is `{`, a line for each key
+-- and value, and `}`.
 abbrev mutual
   pub printed_at : ℕ → Plist → List ℕ
   printed_at level (scalar s) = printed_line level s
@@ -71,6 +71,6 @@ abbrev mutual
   printed_pairs level (pair key v ps) =
       indent level ++ (printed_text key ++ (codes " => " ++ (printed_at level v ++ printed_pairs level ps)))
 
--- the whole text
+-- the complete text
 abbrev pub printed : Plist → List ℕ
 printed v = printed_at 0 v

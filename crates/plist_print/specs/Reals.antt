@@ -1,12 +1,12 @@
--- Reals as they are printed: IEEE 754 in binary32 and binary64, of which the octets are given.
+-- How reals are printed: IEEE 754 binary32 and binary64, given by their bytes.
 use Rattle.std.specs.Prelude.{ℕ, zero, suc, ◌+◌, ◌-◌, ◌*◌, ◌/◌, ◌%◌, ◌^◌, Bool, ◌&&◌, ◌||◌, ◌==◌, nat_le, nat_lt, List, [], ◌∷◌, ◌++◌, Option, Some, None, codes, decimal, if◌then◌else◌}
 use Rattle.std.specs.Fmt.{sign_text}
 use Rattle.byteorder.specs.Endian.{big_number}
 use Rattle.plist_print.specs.Units.{printed_data}
 
--- A format: how many octets; the bit of the sign; the least bits of a real with all digits; the
--- bits of infinity; how many of the least reals above 0 make 1; and the exponents of the reals that
--- are printed as decimals, from the first up to but without the second.
+-- A format has `octets` bytes, the bit `sign` of the sign, the bits `hidden` of the least normal real,
+-- and the bits `infinite` of infinity. 1 is 2^`one` times the least real above 0. Reals with
+-- exponents from `from` up to but without `to` are printed as decimals.
 pub record Format : Type 0 where
   pub octets : ℕ
   pub sign : ℕ
@@ -16,38 +16,38 @@ pub record Format : Type 0 where
   pub from : ℕ
   pub to : ℕ
 
--- four octets; decimals from 2^-73 up to 2^25
+-- four bytes; decimals from 2^-73 up to 2^25
 abbrev pub single : Format
 single = record { octets = 4; sign = 2 ^ 31; hidden = 2 ^ 23; infinite = 0x7f80_0000; one = 149; from = 54; to = 152 }
 
--- eight octets; decimals from 2^-73 up to 2^54
+-- eight bytes; decimals from 2^-73 up to 2^54
 abbrev pub double : Format
 double = record { octets = 8; sign = 2 ^ 63; hidden = 2 ^ 52; infinite = 0x7ff0_0000_0000_0000; one = 1074; from = 950; to = 1077 }
 
--- The real above 0 with these bits, counted in the least real above 0.
+-- The real above 0 with these bits, as a multiple of the least real above 0.
 unfoldable pub value_of : ℕ → ℕ → ℕ
 value_of hidden bits = if nat_lt bits hidden then bits else (hidden + bits % hidden) * 2 ^ (bits / hidden - 1)
 
--- A real among its neighbours: the next below it, itself, the next above it, and 1, each as a
--- multiple of the same.
+-- A real with its neighbours: the next below it, itself, the next above it, and 1, as multiples of
+-- the same number.
 pub record Placed : Type 0 where
   pub below : ℕ
   pub here : ℕ
   pub above : ℕ
   pub unit : ℕ
 
--- the numerator over so much that is nearest to the real, the upper of two
+-- the numerator over `over` that is nearest to the real; the greater one if there are two
 abbrev pub nearest : Placed → ℕ → ℕ
 nearest x over = (2 * (x.here * over) + x.unit) / (2 * x.unit)
 
--- n / over lies between the middles to the neighbours, so that it reads as the real, and n has at
--- most 128 bits
+-- n / over reads as the real: it is between the midpoints to the neighbours, the lower one included;
+-- and n has at most 128 bits
 abbrev pub reads_as : Placed → ℕ → ℕ → Bool
 reads_as x over n =
     nat_lt n (2 ^ 128) && (nat_le ((x.below + x.here) * over) (2 * (n * x.unit)) && nat_lt (2 * (n * x.unit)) ((x.here + x.above) * over))
 
--- The decimal of the fewest digits behind the point that reads as the real, as its numerator and
--- how many these are: of the next so many numbers of digits, from the one given on.
+-- The decimal with the fewest digits after the decimal point that reads as the real, as its
+-- numerator and the number of these digits. The numbers of digits are tried from the given one on.
 abbrev pub shortest : Placed → ℕ → ℕ → Option (ℕ × ℕ)
 shortest x zero digits = None
 shortest x (suc more) digits =
@@ -62,29 +62,29 @@ placed_in f bits = record {
   unit = 2 ^ f.one;
 }
 
--- 0, or one whose exponent lies in the range of the format
+-- 0, or a real whose exponent is in the range of the format
 abbrev pub is_moderate : Format → ℕ → Bool
 is_moderate f bits = bits == 0 || (nat_le f.from (bits / f.hidden) && nat_lt (bits / f.hidden) f.to)
 
--- one digit behind the point to 21
+-- with 1 to 21 digits after the decimal point
 unfoldable pub decimal_of : Format → ℕ → Option (ℕ × ℕ)
 decimal_of f bits = if is_moderate f bits then shortest (placed_in f bits) 21 1 else None
 
--- the last so many decimal digits of n
+-- the last k decimal digits of n
 abbrev pub last_digits : ℕ → ℕ → List ℕ
 last_digits zero n = []
 last_digits (suc k) n = (48 + n / 10 ^ k % 10) ∷ last_digits k n
 
--- n / 10^k with k digits behind the point
+-- n / 10^k with k digits after the decimal point
 abbrev pub printed_decimal : ℕ → ℕ → List ℕ
 printed_decimal n k = decimal (n / 10 ^ k) ++ (46 ∷ last_digits k n)
 
--- a finite real: as its decimal, or its octets where it has none
+-- a finite real: as its decimal, or as its bytes if it has none
 abbrev pub printed_finite : List ℕ → Option (ℕ × ℕ) → List ℕ
 printed_finite xs (Some d) = printed_decimal d.0 d.1
 printed_finite xs None = codes "real " ++ printed_data xs
 
--- without its sign
+-- a real without its sign
 abbrev pub printed_size : Format → List ℕ → ℕ → List ℕ
 printed_size f xs bits =
     if nat_lt bits f.infinite then printed_finite xs (decimal_of f bits)

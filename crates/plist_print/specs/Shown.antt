@@ -1,19 +1,19 @@
--- What the values of the code stand for.
+-- What the types of the code represent.
 use Rattle.std.specs.Prelude.{◌≡◌, ℕ, ◌+◌, ◌-◌, ◌*◌, ◌^◌, ◌<◌, ◌≤◌, Bool, true, false, List, ◌++◌, nat_lt, if◌then◌else◌}
 use Rattle.plist_value.specs.Plist.{Scalar, text, bytes}
 use Rattle.plist_print.specs.Reals.{Placed}
 use Rattle.plist_print.specs.declared.kept.Decimal.{Decimal}
 use Rattle.plist_print.specs.declared.kept.Neighbours.{Neighbours}
 
--- the numerator and how many digits stand behind the point
+-- the numerator and the number of digits after the decimal point
 abbrev pub decimal_in : Decimal → ℕ × ℕ
 decimal_in d = (d.numerator, d.digits)
 
 abbrev pub placed_of : Neighbours → Placed
 placed_of x = record { below = x.below; here = x.here; above = x.above; unit = x.unit }
 
--- a real by its exponent and its digits, and its neighbours, counted in half of the step to the
--- next
+-- a real from its exponent and its digits, with its neighbours, as multiples of half the distance
+-- to the next real
 abbrev pub halved : ℕ → ℕ → ℕ → Placed
 halved hidden t shift = record {
   below = if nat_lt 0 t then 2 * (hidden + t) - 2 else 2 * (hidden + t) - 1;
@@ -22,19 +22,18 @@ halved hidden t shift = record {
   unit = 2 ^ shift;
 }
 
--- No multiple of 1 / over lies between the middles to the neighbours, so that none reads as the
--- real.
+-- No multiple of 1 / over is between the midpoints to the neighbours, so none reads as the real.
 abbrev pub IsUnread : Placed → ℕ → Type 0
 IsUnread x over =
     (n : ℕ) → (x.below + x.here) * over ≤ 2 * (n * x.unit) → 2 * (n * x.unit) < (x.here + x.above) * over → ⊥
 
--- neither a text nor data
+-- neither a string nor data
 abbrev pub is_short : Scalar → Bool
 is_short (text units) = false
 is_short (bytes xs) = false
 is_short _ = true
 
--- a piece was put behind the old octets, and of all that was to be put the rest is left
+-- a piece was appended to the old bytes, and the rest is still to be appended
 pub record Puts (old new all rest : List ℕ) : Type 0 where
   pub piece : List ℕ
   pub put : new ≡ old ++ piece

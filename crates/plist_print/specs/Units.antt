@@ -1,4 +1,4 @@
--- Texts as they are printed.
+-- How strings are printed.
 use Rattle.std.specs.Prelude.{ℕ, ◌/◌, ◌%◌, Bool, true, false, not, ◌&&◌, ◌||◌, ◌==◌, List, [], ◌∷◌, ◌++◌, codes, flat_map, if◌then◌else◌}
 use Rattle.std.specs.Char.{encode_utf8}
 use Rattle.std.specs.Char.Utf16.{is_high_surrogate, is_low_surrogate, surrogate_pair_char}
@@ -9,7 +9,7 @@ use Rattle.ucd_category.specs.GeneralCategory.{general_category}
 use Rattle.ucd_derived.specs.Binary.{is_default_ignorable_code_point}
 use Rattle.plist_value.specs.Digits.{two_digits}
 
--- `<`, the octets, `>`
+-- `<`, the bytes, `>`
 abbrev pub printed_data : List ℕ → List ℕ
 printed_data xs = 60 ∷ (flat_map two_digits xs ++ codes ">")
 
@@ -22,15 +22,15 @@ is_blank Control = true
 is_blank Format = true
 is_blank _ = false
 
--- A character that shows nothing, or changes how others are shown: a lone surrogate, one of the
+-- A character that is invisible, or changes how others are displayed: a lone surrogate, one of the
 -- categories above other than U+0020, or one with the property Default_Ignorable_Code_Point.
 unfoldable pub is_unseen : ℕ → Bool
 is_unseen c =
     is_in_range 0xd800 0xdfff c
     || (not (c == 32) && (is_blank (general_category c) || is_default_ignorable_code_point c))
 
--- A unit that is in no pair: as an escape, as `\U` and four lower-case hexadecimal digits where it
--- is not seen, else as itself in UTF-8.
+-- A unit that is not part of a visible pair: as an escape, or as `\U` and four lower-case
+-- hexadecimal digits if it is invisible, or as itself in UTF-8.
 unfoldable pub printed_unit : ℕ → List ℕ
 printed_unit unit =
     if unit == 34 then codes "\\\""
@@ -41,7 +41,7 @@ printed_unit unit =
     else (if is_unseen unit then codes "\\U" ++ (two_digits (unit / 256) ++ two_digits (unit % 256))
     else encode_utf8 unit)))))
 
--- two units that are a pair of surrogates whose character is seen
+-- two units that are a surrogate pair of a visible character
 abbrev pub is_seen_pair : ℕ → ℕ → Bool
 is_seen_pair unit next =
     is_high_surrogate unit && (is_low_surrogate next && not (is_unseen (surrogate_pair_char unit next)))
@@ -55,6 +55,6 @@ printed_units (unit ∷ next ∷ units) =
     then encode_utf8 (surrogate_pair_char unit next) ++ printed_units units
     else printed_unit unit ++ printed_units (next ∷ units)
 
--- the units between quotes
+-- the units in quotes
 abbrev pub printed_text : List ℕ → List ℕ
 printed_text units = 34 ∷ (printed_units units ++ codes "\"")

@@ -1,4 +1,4 @@
-//! Data on its way to a sink.
+//! Prints data to a sink.
 ghost use Rattle.std.specs.Prelude.{◌≡◌, ◌<◌, ◌++◌, codes, flat_map, length, IfOk, OnOk};
 ghost use Rattle.plist_value.specs.Digits.{two_digits};
 ghost use Rattle.plist_engine.specs.Output.{Goes, state_of};
@@ -12,11 +12,10 @@ use plist_engine::{Output, Sink, WriteFault};
 use plist_value::put_digits;
 use std::alloc::AllocError;
 
-// The most octets of data on a line.
+// The number of bytes of data on a full line.
 const LINE: usize = 32;
 
-/// Sends data up to the end of its last line, or has it wait. `level` is that of the line that it
-/// begins on.
+/// Writes data up to the end of its last line. `level` is the level of the line that it begins on.
 pub(crate) fn print_data<W: Sink>(
     octets: &[u8],
     level: u64,
@@ -34,7 +33,7 @@ pub(crate) fn print_data<W: Sink>(
     settle(out)
 }
 
-// The line of data between brackets.
+// Appends the line of data in angle brackets.
 fn put_short_data(out: &mut Vec<u8>, octets: &[u8]) -> Result<(), AllocError>
     ensures { OnOk result (out.new.items
         ≡ out.old.items ++ (printed_data octets.now ++ codes "\n")) }
@@ -44,7 +43,7 @@ fn put_short_data(out: &mut Vec<u8>, octets: &[u8]) -> Result<(), AllocError>
     out.extend_from_slice(b">\n")
 }
 
-// Sends data that takes several lines.
+// Writes data that takes several lines.
 fn print_long_data<W: Sink>(
     octets: &[u8],
     level: u64,
@@ -59,7 +58,7 @@ fn print_long_data<W: Sink>(
     end_lines(level, b'>', out)
 }
 
-// Sends the lines between the brackets of data, or has them wait.
+// Writes the lines between the brackets of data.
 fn print_lines<W: Sink>(octets: &[u8], level: u64, out: &mut Output<W>) -> Result<(), WriteFault>
     ensures goes { Goes (octet_lines (indent level) octets.now)
         (state_of W.Sink out.old) (state_of W.Sink out.new) result }
@@ -75,7 +74,7 @@ fn print_lines<W: Sink>(octets: &[u8], level: u64, out: &mut Output<W>) -> Resul
     Ok(())
 }
 
-// Puts the line of the first octets, and returns the octets after them.
+// Appends the line of the first bytes, and returns the bytes after them.
 fn put_front<'a>(out: &mut Vec<u8>, level: u64, octets: &'a [u8]) -> Result<&'a [u8], AllocError>
     requires { 0 < length octets.now }
     ensures octets { IfOk result (λ left. Puts out.old.items out.new.items
@@ -87,7 +86,6 @@ fn put_front<'a>(out: &mut Vec<u8>, level: u64, octets: &'a [u8]) -> Result<&'a 
     Ok(left)
 }
 
-// A line of data.
 fn put_line(out: &mut Vec<u8>, level: u64, octets: &[u8]) -> Result<(), AllocError>
     ensures { OnOk result (out.new.items
         ≡ out.old.items ++ (indent level ++ (flat_map two_digits octets.now ++ codes "\n"))) }

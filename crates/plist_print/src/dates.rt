@@ -1,4 +1,4 @@
-//! Dates as they are printed: the seconds since 2001 and, in brackets, the moment in UTC.
+//! How dates are printed: the seconds since 2001 and, in parentheses, date and time in UTC.
 ghost use Rattle.std.specs.Prelude.{◌≡◌, ◌+◌, ◌-◌, ◌*◌, ◌<◌, ◌≤◌, ◌++◌, ◌%◌, IfSome, OnOk, Some};
 ghost use Rattle.std.specs.Option.{option_map};
 ghost use Rattle.plist_print.specs.Dates.{is_leap, days_in_month, days_of_months, days_before};
@@ -13,7 +13,7 @@ use crate::reals::{decimal_of_double, put_double};
 use byteorder::{BigEndian, ByteOrder};
 use std::alloc::AllocError;
 
-// Seconds of a day, and from 0001-01-01T00:00:00Z to 2001-01-01T00:00:00Z and to
+// The number of seconds of a day, from 0001-01-01T00:00:00Z to 2001-01-01T00:00:00Z, and to
 // 10000-01-01T00:00:00Z.
 const DAY: u64 = 86_400;
 
@@ -21,7 +21,7 @@ const UNTIL_2001: u64 = 63_113_904_000;
 
 const UNTIL_10000: u64 = 315_537_897_600;
 
-/// Appends the seconds of a date, and the moment in brackets if it has one.
+/// Appends the seconds of a date, and date and time in parentheses if it has them.
 pub(crate) fn put_date(out: &mut Vec<u8>, octets: &[u8; 8]) -> Result<(), AllocError>
     ensures { OnOk result (out.new.items ≡ out.old.items ++ printed_date octets.now) }
 {
@@ -29,7 +29,7 @@ pub(crate) fn put_date(out: &mut Vec<u8>, octets: &[u8; 8]) -> Result<(), AllocE
     put_brackets(out, octets)
 }
 
-// Appends the moment in brackets, if the date is a whole second of the years 1 to 9999.
+// Appends date and time in parentheses, if the date is a whole second in the years 1 to 9999.
 fn put_brackets(out: &mut Vec<u8>, octets: &[u8; 8]) -> Result<(), AllocError>
     ensures { OnOk result (out.new.items ≡ out.old.items ++ in_brackets (second_of octets.now)) }
 {
@@ -41,8 +41,8 @@ fn put_brackets(out: &mut Vec<u8>, octets: &[u8; 8]) -> Result<(), AllocError>
     Ok(out.push(b')')?)
 }
 
-// The seconds from 0001-01-01T00:00:00Z to a date, if they are whole and it lies in the years 1 to
-// 9999.
+// Returns the number of seconds from 0001-01-01T00:00:00Z to a date, if it is a whole second in the
+// years 1 to 9999.
 fn second_of(octets: &[u8; 8]) -> Option<u64>
     ensures value { result ≡ second_of octets.now }
     ensures within { IfSome result (λ second. second < until_10000) }
@@ -52,7 +52,7 @@ fn second_of(octets: &[u8; 8]) -> Option<u64>
     whole_second(bits >= 0x8000_0000_0000_0000, decimal)
 }
 
-// The same, from the sign and the decimal of the date.
+// Like [`second_of`], from the sign and the decimal of the date.
 fn whole_second(negative: bool, decimal: Decimal) -> Option<u64>
     ensures value { result ≡ whole_second negative (Some (decimal_in decimal)) }
     ensures within { IfSome result (λ second. second < until_10000) }
@@ -64,7 +64,7 @@ fn whole_second(negative: bool, decimal: Decimal) -> Option<u64>
     }
 }
 
-// The same, from the whole seconds before 2001, or since.
+// Like [`second_of`], from the number of whole seconds before 2001, or since.
 fn second_at(negative: bool, seconds: u128) -> Option<u64>
     ensures value { result ≡ second_at negative seconds }
     ensures within { IfSome result (λ second. second < until_10000) }
@@ -84,7 +84,7 @@ fn second_at(negative: bool, seconds: u128) -> Option<u64>
     }
 }
 
-// Appends the moment this many seconds after 0001-01-01T00:00:00Z.
+// Appends date and time of this second after 0001-01-01T00:00:00Z.
 #[tactic(auto, unfolding(crate::specs::Dates::printed_moment))]
 fn put_moment(out: &mut Vec<u8>, second: u64) -> Result<(), AllocError>
     requires { second < until_10000 }
@@ -96,7 +96,7 @@ fn put_moment(out: &mut Vec<u8>, second: u64) -> Result<(), AllocError>
     Ok(out.push(b'Z')?)
 }
 
-// Appends a date, given as its number of days since 0001-01-01.
+// Appends the date of the day, which is counted from 0001-01-01 as day 0.
 #[tactic(auto, unfolding(crate::specs::Dates::printed_day))]
 fn put_day(out: &mut Vec<u8>, day: u64) -> Result<(), AllocError>
     requires { day < days_before 10_000 }
@@ -108,7 +108,7 @@ fn put_day(out: &mut Vec<u8>, day: u64) -> Result<(), AllocError>
     put_month(out, year, day - days_before(year))
 }
 
-// The year of that day.
+// Returns the year of the day.
 fn year_of(day: u64) -> u64
     requires { day < days_before 10_000 }
     ensures value { result ≡ year_of day }
@@ -124,7 +124,7 @@ fn year_of(day: u64) -> u64
     year
 }
 
-// How many days the years have from 1 to the one before this.
+// Returns the number of days from year 1 to the start of this year.
 fn days_before(year: u64) -> u64
     requires some { 1 ≤ year }
     requires most { year ≤ 10_000 }
@@ -134,7 +134,7 @@ fn days_before(year: u64) -> u64
     365 * years + years / 4 - years / 100 + years / 400
 }
 
-// Appends month and day of the month, given the number of days since 1 January.
+// Appends month and day of the month. `day` is the number of days since 1 January.
 #[tactic(auto, unfolding(crate::specs::Dates::printed_month))]
 fn put_month(out: &mut Vec<u8>, year: u64, day: u64) -> Result<(), AllocError>
     requires { day < days_of_months year 12 }

@@ -1,4 +1,4 @@
-//! Decimal digits as they are printed.
+//! Prints decimal digits.
 ghost use Rattle.std.specs.Prelude.{◌≡◌, ◌+◌, ◌*◌, ◌/◌, ◌%◌, ◌^◌, ◌<◌, ◌≤◌, ◌++◌, OnOk};
 ghost use Rattle.plist_print.specs.Reals.{last_digits, printed_decimal};
 
@@ -6,7 +6,7 @@ use crate::kept::Decimal;
 use itoa::{Buffer, write_digits};
 use std::alloc::AllocError;
 
-// 10 to the number of each place.
+// The powers of ten, by exponent.
 static POWERS: [u128; 22] = [
     1,
     10,
@@ -32,7 +32,7 @@ static POWERS: [u128; 22] = [
     1_000_000_000_000_000_000_000,
 ];
 
-/// 10 to so many.
+/// Returns 10 to the power of `digits`.
 pub(crate) fn power_of_ten(digits: u32) -> u128
     requires { digits ≤ 21 }
     ensures value { result ≡ 10 ^ digits }
@@ -42,7 +42,7 @@ pub(crate) fn power_of_ten(digits: u32) -> u128
     POWERS[digits as usize]
 }
 
-/// The decimal, behind what `out` has.
+/// Appends the decimal to `out`.
 pub(crate) fn put_decimal(out: &mut Vec<u8>, decimal: Decimal) -> Result<(), AllocError>
     ensures { OnOk result (out.new.items
         ≡ out.old.items ++ printed_decimal decimal.numerator decimal.digits) }
@@ -53,7 +53,7 @@ pub(crate) fn put_decimal(out: &mut Vec<u8>, decimal: Decimal) -> Result<(), All
     put_long(out, decimal)
 }
 
-// A decimal whose numerator has at most 64 bits.
+// Appends a decimal whose numerator has at most 64 bits.
 fn put_short(out: &mut Vec<u8>, numerator: u64, digits: u32) -> Result<(), AllocError>
     requires some { 0 < digits }
     requires few { digits < 20 }
@@ -68,7 +68,6 @@ fn put_short(out: &mut Vec<u8>, numerator: u64, digits: u32) -> Result<(), Alloc
     out.extend_from_slice(&octets[start..])
 }
 
-// Any decimal.
 fn put_long(out: &mut Vec<u8>, decimal: Decimal) -> Result<(), AllocError>
     ensures { OnOk result (out.new.items
         ≡ out.old.items ++ printed_decimal decimal.numerator decimal.digits) }
@@ -80,7 +79,7 @@ fn put_long(out: &mut Vec<u8>, decimal: Decimal) -> Result<(), AllocError>
     put_last_digits(out, decimal.numerator, decimal.digits)
 }
 
-// The last decimal digits of the number, so many.
+// Appends the last `digits` decimal digits of the number.
 fn put_last_digits(out: &mut Vec<u8>, number: u128, digits: u32) -> Result<(), AllocError>
     requires { digits ≤ 21 }
     ensures { OnOk result (out.new.items ≡ out.old.items ++ last_digits digits number) }
@@ -94,14 +93,14 @@ fn put_last_digits(out: &mut Vec<u8>, number: u128, digits: u32) -> Result<(), A
     Ok(())
 }
 
-/// The last digit but one of the number.
+/// Returns the second last digit of the number.
 pub(crate) fn tens(number: u64) -> u8
     ensures { result ≡ 48 + number / 10 ^ 1 % 10 }
 {
     b'0' + (number / 10 % 10) as u8
 }
 
-/// The last digit of the number.
+/// Returns the last digit of the number.
 pub(crate) fn ones(number: u64) -> u8
     ensures { result ≡ 48 + number / 10 ^ 0 % 10 }
 {

@@ -1,4 +1,4 @@
-//! The parts of lines that stand before a value, and behind the lines of a container.
+//! Prints what precedes a value on its line, and the last line of a container.
 ghost use Rattle.std.specs.Prelude.{◌≡◌, ◌∷◌, ◌++◌, [], codes, OnOk};
 ghost use Rattle.plist_value.specs.Texts.{units_of};
 ghost use Rattle.plist_engine.specs.Output.{Goes, state_of};
@@ -12,10 +12,10 @@ use plist_engine::{Output, Sink, WriteFault};
 use plist_value::TextRef;
 use std::alloc::AllocError;
 
-// Two blanks for each of 32 levels.
+// Two spaces for each of 32 levels.
 static BLANKS: [u8; 64] = [b' '; 64];
 
-/// Sends what stands before a value of a table, or has it wait.
+/// Writes what precedes a value of a dictionary.
 pub(crate) fn begin_pair<W: Sink>(
     key: &TextRef,
     level: u64,
@@ -33,7 +33,7 @@ pub(crate) fn begin_pair<W: Sink>(
     Ok(())
 }
 
-// Begins a pair whose key is too long for one piece.
+// Begins the line of an entry whose key is too long for one piece.
 fn begin_long_pair<W: Sink>(
     key: &TextRef,
     level: u64,
@@ -46,7 +46,7 @@ fn begin_long_pair<W: Sink>(
     print_key(key, out)
 }
 
-// The blanks, the key, and what stands behind it.
+// Appends the spaces, the key, and the arrow after it.
 fn put_pair_head(out: &mut Vec<u8>, key: &TextRef, level: u64) -> Result<(), AllocError>
     ensures { OnOk result (out.new.items
         ≡ out.old.items ++ pair_head level (units_of key.now)) }
@@ -56,7 +56,7 @@ fn put_pair_head(out: &mut Vec<u8>, key: &TextRef, level: u64) -> Result<(), All
     out.extend_from_slice(b" => ")
 }
 
-/// Sends the closing bracket on a line of its own, or has it wait.
+/// Writes the closing bracket on its own line.
 pub(crate) fn end_lines<W: Sink>(
     level: u64,
     close: u8,
@@ -71,7 +71,6 @@ pub(crate) fn end_lines<W: Sink>(
     settle(out)
 }
 
-// The blanks, and the closing bracket.
 fn put_end(out: &mut Vec<u8>, level: u64, close: u8) -> Result<(), AllocError>
     ensures { OnOk result (out.new.items
         ≡ out.old.items ++ (indent level ++ (close ∷ 10 ∷ []))) }
@@ -80,7 +79,7 @@ fn put_end(out: &mut Vec<u8>, level: u64, close: u8) -> Result<(), AllocError>
     out.extend_from_slice(&[close, b'\n'])
 }
 
-/// Sends the blanks of a line, or has them wait.
+/// Writes the spaces at the start of a line.
 pub(crate) fn begin_line<W: Sink>(level: u64, out: &mut Output<W>) -> Result<(), WriteFault>
     ensures goes { Goes (indent level)
         (state_of W.Sink out.old) (state_of W.Sink out.new) result }
@@ -91,7 +90,7 @@ pub(crate) fn begin_line<W: Sink>(level: u64, out: &mut Output<W>) -> Result<(),
     settle(out)
 }
 
-// Sends a key and what stands between it and its value, or has them wait.
+// Writes a key and the arrow after it.
 fn print_key<W: Sink>(key: &TextRef, out: &mut Output<W>) -> Result<(), WriteFault>
     ensures goes { Goes (printed_text (units_of key.now) ++ codes " => ")
         (state_of W.Sink out.old) (state_of W.Sink out.new) result }
@@ -100,7 +99,7 @@ fn print_key<W: Sink>(key: &TextRef, out: &mut Output<W>) -> Result<(), WriteFau
     put(b" => ", out)
 }
 
-/// The blanks before a line of this level.
+/// Appends the spaces at the start of a line of this level.
 pub(crate) fn put_indent(out: &mut Vec<u8>, level: u64) -> Result<(), AllocError>
     ensures { OnOk result (out.new.items ≡ out.old.items ++ indent level) }
 {

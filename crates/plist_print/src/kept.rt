@@ -1,7 +1,7 @@
-//! What is known of a real while it is printed.
+//! The numbers from which a real or a date is printed.
 ghost use Rattle.std.specs.Prelude.{◌≡◌, ◌<◌, ◌≤◌, ◌^◌};
 
-// A decimal: its numerator, and how many digits stand behind the point.
+// A decimal: its numerator, and the number of digits after the decimal point.
 #[derive(Clone, Copy)]
 pub(crate) struct Decimal {
     pub(crate) numerator: u128,
@@ -9,7 +9,8 @@ pub(crate) struct Decimal {
     ghost few: { digits ≤ 21 },
 }
 
-// A real among its neighbours, and 1, each as a multiple of one number: 1 is 2 to the shift.
+// A real, its neighbours and 1, each as a multiple of the same number. In this unit 1 is 2 to the
+// power of `shift`.
 #[derive(Clone, Copy)]
 pub(crate) struct Neighbours {
     pub(crate) below: u64,
@@ -26,7 +27,7 @@ pub(crate) struct Neighbours {
     ghost below_small: { below ≤ 2 ^ 54 },
 }
 
-// Month and day of the month, each counted from 1.
+// Month and day of the month, both counted from 1.
 #[derive(Clone, Copy)]
 pub(crate) struct DayOfMonth {
     pub(crate) month: u64,

@@ -1,6 +1,6 @@
-//! The printed text of each property list: for people to read, and such that two values print the
-//! same exactly if they are equal. Here are its laws, and the printing to a sink, piece by piece,
-//! of scalars and of the value that a binary file spells.
+//! Prints property lists for people to read. Two values have equal printed texts if and only if
+//! they are equal. Contains the laws of printed texts, and prints scalars and the values of binary
+//! files to a sink, piece by piece.
 #![tactic(auto)]
 
 mod data;

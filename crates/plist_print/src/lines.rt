@@ -1,4 +1,4 @@
-//! Scalars on their way to a sink.
+//! Prints scalars to a sink.
 ghost use Rattle.std.specs.Prelude.{◌≡◌, ◌+◌, ◌≤◌, ◌^◌, ◌++◌, [], codes, length, true};
 ghost use Rattle.std.specs.Prelude.{IfErr, OnOk};
 ghost use Rattle.plist_value.specs.Scalars.{content_of};
@@ -19,19 +19,19 @@ use plist_engine::{Output, Sink, WriteFault};
 use plist_value::{ScalarRef, TextRef};
 use std::alloc::AllocError;
 
-/// So many octets go out at once.
+/// The number of buffered bytes from which on the buffer is flushed.
 const PIECE: usize = 4096;
 
-/// Texts of at most this many units are put into a piece whole.
+/// Strings of at most this many units are put into one piece.
 pub(crate) const SHORT: usize = 256;
 
-/// Sends a scalar up to the end of its last line, or has it wait. `level` is that of the line that
-/// it begins on. No piece is much longer than 4,096 octets.
+/// Writes a scalar up to the end of its last line. `level` is the level of the line that it begins
+/// on. No piece is much longer than 4,096 bytes.
 ///
 /// # Errors
 ///
-/// [`WriteFault::WriteFailed`] (51) where the sink fails, and [`WriteFault::OutOfMemory`] (60)
-/// where there is no memory for a piece, or where more than `u64::MAX` octets would go out.
+/// [`WriteFault::WriteFailed`] (51) if the sink fails, and [`WriteFault::OutOfMemory`] (60) if out
+/// of memory for a piece, or if the output would exceed `u64::MAX` bytes.
 pub fn print_scalar<W: Sink>(
     scalar: &ScalarRef,
     level: u64,
@@ -47,7 +47,7 @@ pub fn print_scalar<W: Sink>(
     }
 }
 
-// Sends the line of a scalar that is neither a text nor data, or has it wait.
+// Writes the line of a scalar that is neither a string nor data.
 fn print_short<W: Sink>(scalar: &ScalarRef, out: &mut Output<W>) -> Result<(), WriteFault>
     requires short { is_short (content_of scalar.now) ≡ true }
     ensures goes { Goes (printed_scalar (content_of scalar.now) ++ codes "\n")
@@ -59,7 +59,7 @@ fn print_short<W: Sink>(scalar: &ScalarRef, out: &mut Output<W>) -> Result<(), W
     settle(out)
 }
 
-// The line of a scalar that is neither a text nor data.
+// Appends the line of a scalar that is neither a string nor data.
 fn put_short_line(out: &mut Vec<u8>, scalar: &ScalarRef) -> Result<(), AllocError>
     requires { is_short (content_of scalar.now) ≡ true }
     ensures { OnOk result (out.new.items
@@ -69,7 +69,7 @@ fn put_short_line(out: &mut Vec<u8>, scalar: &ScalarRef) -> Result<(), AllocErro
     Ok(out.push(b'\n')?)
 }
 
-// A scalar that is neither a text nor data.
+// Appends a scalar that is neither a string nor data.
 fn put_short(out: &mut Vec<u8>, scalar: &ScalarRef) -> Result<(), AllocError>
     requires { is_short (content_of scalar.now) ≡ true }
     ensures { OnOk result (out.new.items
@@ -95,7 +95,7 @@ fn put_short(out: &mut Vec<u8>, scalar: &ScalarRef) -> Result<(), AllocError>
     }
 }
 
-// Sends the line of a text, or has it wait.
+// Writes the line of a string.
 fn print_text_line<W: Sink>(text: &TextRef, out: &mut Output<W>) -> Result<(), WriteFault>
     ensures goes { Goes (printed_text (units_of text.now) ++ codes "\n")
         (state_of W.Sink out.old) (state_of W.Sink out.new) result }
@@ -109,7 +109,6 @@ fn print_text_line<W: Sink>(text: &TextRef, out: &mut Output<W>) -> Result<(), W
     settle(out)
 }
 
-// The line of a text.
 fn put_text_line(out: &mut Vec<u8>, text: &TextRef) -> Result<(), AllocError>
     ensures { OnOk result (out.new.items
         ≡ out.old.items ++ (printed_text (units_of text.now) ++ codes "\n")) }
@@ -118,7 +117,7 @@ fn put_text_line(out: &mut Vec<u8>, text: &TextRef) -> Result<(), AllocError>
     Ok(out.push(b'\n')?)
 }
 
-// Sends the line of a text that is too long for one piece.
+// Writes the line of a string that is too long for one piece.
 fn print_long_text<W: Sink>(text: &TextRef, out: &mut Output<W>) -> Result<(), WriteFault>
     ensures goes { Goes (printed_text (units_of text.now) ++ codes "\n")
         (state_of W.Sink out.old) (state_of W.Sink out.new) result }
@@ -127,11 +126,11 @@ fn print_long_text<W: Sink>(text: &TextRef, out: &mut Output<W>) -> Result<(), W
     put(b"\n", out)
 }
 
-/// Sends the text between quotes, or has it wait.
+/// Writes the string in quotes.
 ///
 /// # Errors
 ///
-/// As of [`print_scalar`].
+/// Fails like [`print_scalar`].
 pub fn print_text<W: Sink>(text: &TextRef, out: &mut Output<W>) -> Result<(), WriteFault>
     ensures goes { Goes (printed_text (units_of text.now))
         (state_of W.Sink out.old) (state_of W.Sink out.new) result }
@@ -140,7 +139,7 @@ pub fn print_text<W: Sink>(text: &TextRef, out: &mut Output<W>) -> Result<(), Wr
     print_units(text, out)
 }
 
-// The units, and the quote behind them.
+// Writes the units, and the quote after them.
 fn print_units<W: Sink>(text: &TextRef, out: &mut Output<W>) -> Result<(), WriteFault>
     ensures goes { Goes (printed_units (units_of text.now) ++ codes "\"")
         (state_of W.Sink out.old) (state_of W.Sink out.new) result }
@@ -156,7 +155,7 @@ fn print_units<W: Sink>(text: &TextRef, out: &mut Output<W>) -> Result<(), Write
     put(b"\"", out)
 }
 
-/// Sends a few octets, or has them wait.
+/// Writes a few bytes through the buffer.
 pub(crate) fn put<W: Sink>(octets: &[u8], out: &mut Output<W>) -> Result<(), WriteFault>
     ensures goes { Goes octets.now
         (state_of W.Sink out.old) (state_of W.Sink out.new) result }
@@ -167,7 +166,7 @@ pub(crate) fn put<W: Sink>(octets: &[u8], out: &mut Output<W>) -> Result<(), Wri
     settle(out)
 }
 
-/// Sends what waits, if it is long.
+/// Flushes the buffer if it is long.
 pub(crate) fn settle<W: Sink>(out: &mut Output<W>) -> Result<(), WriteFault>
     ensures goes { Goes [] (state_of W.Sink out.old) (state_of W.Sink out.new) result }
     ensures cause { IfErr result (λ fault. fault ≡ OutOfMemory (sent_of fault)
@@ -179,7 +178,7 @@ pub(crate) fn settle<W: Sink>(out: &mut Output<W>) -> Result<(), WriteFault>
     send_all(out)
 }
 
-/// Sends all that waits.
+/// Flushes the buffer.
 pub(crate) fn send_all<W: Sink>(out: &mut Output<W>) -> Result<(), WriteFault>
     ensures goes { Goes [] (state_of W.Sink out.old) (state_of W.Sink out.new) result }
     ensures none { OnOk result (out.new.waiting.now.items ≡ []) }

@@ -1,4 +1,4 @@
-//! The printed text of the value that a file spells, on its way to a sink.
+//! Prints the value of a binary file to a sink.
 ghost use Rattle.std.specs.Prelude.{◌≡◌, ◌<◌, ◌+◌, ◌-◌, ℕ, List, [], IfOk, OnOk};
 ghost use Rattle.plist_value.specs.Plist.{Plist, Items, Pairs, list, table, text};
 ghost use Rattle.plist_value.specs.Plist.{IsPlist, AreItems, ArePairs};
@@ -23,15 +23,15 @@ use plist_engine::{Output, Sink, WriteFault};
 use plist_object::{BinFile, KeyOrder, Object, Refs, text_of};
 use std::alloc::{AllocError, Global};
 
-/// Sends the printed text of the value that the file spells, object after object, and answers how
-/// many octets it has. Neither that value nor the text is in memory: what is kept is the order of
-/// the keys of each dictionary that is being printed, and one piece.
+/// Writes the printed text of the file's value, object by object, and returns its length in bytes.
+/// Neither the value nor the text is in memory: only the key order of each dictionary that is being
+/// printed, and one piece.
 ///
 /// # Errors
 ///
-/// [`WriteFault::WriteFailed`] (51) where the sink fails, and [`WriteFault::OutOfMemory`] (60)
-/// where there is no memory for the order of a table's keys or for a piece, or where more than
-/// `u64::MAX` octets would go out. Exactly the first `sent` octets of the text went out then.
+/// [`WriteFault::WriteFailed`] (51) if the sink fails. [`WriteFault::OutOfMemory`] (60) if out of
+/// memory for a key order or for a piece, or if the output would exceed `u64::MAX` bytes. In both
+/// cases exactly the first `sent` bytes of the text were written.
 pub fn print_of<W: Sink>(alloc: Global, file: &BinFile, out: &mut W) -> Result<u64, WriteFault>
     requires { (v : Plist) × IsBinary (octets_of file.now) v }
     ensures written { (v : Plist) → IsBinary (octets_of file.now) v
@@ -76,8 +76,8 @@ struct Printer<'a> {
 }
 
 impl<'a> Printer<'a> {
-    // Sends the value that the object spells, or has it wait. Its first line is indented by so many
-    // levels, and has begun.
+    // Writes the value of the object. The spaces of its first line are written already, and `level`
+    // is the level of that line.
     #[cycle(print)]
     fn value<W: Sink>(
         &self,
@@ -101,7 +101,7 @@ impl<'a> Printer<'a> {
         }
     }
 
-    // Sends the list of the items that the references spell, or has it wait.
+    // Writes the array of the items that the references point to.
     #[cycle(print)]
     fn list<W: Sink>(
         &self,
@@ -129,7 +129,7 @@ impl<'a> Printer<'a> {
         end_lines(level, b']', out)
     }
 
-    // Sends the lines of the items that the references spell, or has them wait.
+    // Writes the lines of the items that the references point to.
     #[cycle(print)]
     fn items<W: Sink>(
         &self,
@@ -154,7 +154,7 @@ impl<'a> Printer<'a> {
         Ok(())
     }
 
-    // Sends the lines of an item, or has them wait.
+    // Writes the lines of an item.
     #[cycle(print)]
     fn item<W: Sink>(
         &self,
@@ -175,7 +175,7 @@ impl<'a> Printer<'a> {
         self.value(order, object, level, out)
     }
 
-    // Sends the table of the keys and values that the references spell, or has it wait.
+    // Writes the dictionary of the keys and values that the references point to.
     #[cycle(print)]
     fn table<W: Sink>(
         &self,
@@ -208,8 +208,8 @@ impl<'a> Printer<'a> {
         end_lines(level, b'}', out)
     }
 
-    // The references to the keys in the order of their texts, and then those to their values in the
-    // same order.
+    // Returns the references to the keys in ascending order of the keys, and then the references to
+    // the values in the same order.
     fn in_turn(
         &self,
         order: &mut KeyOrder<'a>,
@@ -231,8 +231,7 @@ impl<'a> Printer<'a> {
         Ok(references)
     }
 
-    // Sends the lines of the pairs that the references spell, those to keys and then those to
-    // values, or has them wait.
+    // Writes the lines of the entries. The references point to the keys, and then to the values.
     #[cycle(print)]
     fn pairs<W: Sink>(
         &self,
@@ -259,7 +258,7 @@ impl<'a> Printer<'a> {
         Ok(())
     }
 
-    // Sends the lines of a key and its value, or has them wait.
+    // Writes the lines of a key and its value.
     #[cycle(print)]
     fn pair<W: Sink>(
         &self,

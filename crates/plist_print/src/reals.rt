@@ -1,4 +1,4 @@
-//! Reals as they are printed.
+//! Prints reals.
 ghost use Rattle.std.specs.Prelude.{◌≡◌, ◌+◌, ◌-◌, ◌*◌, ◌^◌, ◌<◌, ◌≤◌, ◌++◌, ◌==◌, ◌&&◌};
 ghost use Rattle.std.specs.Prelude.{IsFalse, OnOk, None, Some};
 ghost use Rattle.std.specs.Prelude.{codes, if◌then◌else◌, nat_le, nat_lt};
@@ -14,7 +14,8 @@ use byteorder::{BigEndian, ByteOrder};
 use plist_value::put_digits;
 use std::alloc::AllocError;
 
-// The decimal of the fewest digits behind the point that reads as the real, of at most 21.
+// Returns the decimal with the fewest digits after the decimal point that reads as the real, with
+// at most 21.
 fn shortest(real: &Neighbours) -> Option<Decimal>
     ensures { option_map decimal_in result ≡ shortest (placed_of real.now) 21 1 }
 {
@@ -27,7 +28,8 @@ fn shortest(real: &Neighbours) -> Option<Decimal>
     None
 }
 
-// So many digits behind the point to begin with: no decimal of fewer reads as the real.
+// Returns the number of digits after the decimal point to begin with. No decimal with fewer digits
+// reads as the real.
 fn first_digits(real: &Neighbours) -> u32
     ensures some { 1 ≤ result }
     ensures few { result ≤ 21 }
@@ -44,8 +46,8 @@ fn first_digits(real: &Neighbours) -> u32
     first_within(real, likely)
 }
 
-// Most reals of this shift have so many digits behind the point and one or two more, if they were
-// not short decimals before they were rounded.
+// Returns an estimate of the number of digits. Most reals of this shift take one or two digits
+// more, unless they are rounded from short decimals.
 fn likely_digits(shift: u32) -> u32
     requires { shift ≤ 126 }
     ensures some { 1 ≤ result }
@@ -54,7 +56,7 @@ fn likely_digits(shift: u32) -> u32
     (shift * 77 / 256).clamp(2, 21) - 1
 }
 
-// The same as `first_digits`, where it is known that so many are enough.
+// Like [`first_digits`], if `enough` digits are known to be enough.
 fn first_within(real: &Neighbours, enough: u32) -> u32
     requires some { 1 ≤ enough }
     requires few { enough ≤ 21 }
@@ -76,8 +78,8 @@ fn first_within(real: &Neighbours, enough: u32) -> u32
     least
 }
 
-// Whether a numerator over so much can read as the real: where it is false, none does over less
-// either.
+// Returns whether a numerator over `over` can read as the real. If `false`, no numerator does, and
+// none over a smaller power of ten does either.
 fn can_read(real: &Neighbours, over: u128) -> bool
     requires { over ≤ 10 ^ 21 }
     ensures { IsFalse result → IsUnread (placed_of real.now) over }
@@ -86,7 +88,7 @@ fn can_read(real: &Neighbours, over: u128) -> bool
     product(real.below + real.here, over) <= last * (2 * real.unit)
 }
 
-// The numerator that is nearest to the real, if it reads as the real.
+// Returns the numerator nearest to the real, if it reads as the real.
 fn numerator_at(real: &Neighbours, over: u128) -> Option<u128>
     requires { over ≤ 10 ^ 21 }
     ensures { result ≡ (if reads_as (placed_of real.now) over (nearest (placed_of real.now) over)
@@ -119,7 +121,8 @@ fn is_between(low: u128, middle: u128, high: u128) -> bool
     low <= middle && middle < high
 }
 
-// A real by its digits and the exponent, counted in half of the step to the next.
+// Returns a real from its digits and its exponent, with its neighbours, as multiples of half the
+// distance to the next real.
 fn placed(hidden: u64, fraction: u64, shift: u32) -> Neighbours
     requires hidden { hidden ≤ 2 ^ 52 }
     requires least { 0 < hidden }
@@ -137,8 +140,8 @@ fn placed(hidden: u64, fraction: u64, shift: u32) -> Neighbours
     }
 }
 
-// The next real below one with these digits behind the first: it is half as far where there are
-// none.
+// Returns the next real below. `fraction` is the real's digits after the first; if it is 0, the
+// distance is only half as large.
 fn below(here: u64, fraction: u64) -> u64
     requires { 2 ≤ here }
     ensures value { result ≡ (if nat_lt 0 fraction then here - 2 else here - 1) }
@@ -165,7 +168,7 @@ fn zero() -> Decimal
     }
 }
 
-// The decimal of a real of eight octets, without its sign.
+// Returns the decimal of a real of eight bytes, without its sign.
 pub(crate) fn decimal_of_double(bits: u64) -> Option<Decimal>
     ensures { option_map decimal_in result ≡ decimal_of double bits }
 {
@@ -184,7 +187,7 @@ pub(crate) fn decimal_of_double(bits: u64) -> Option<Decimal>
     shortest(&placed(0x10_0000_0000_0000, fraction, shift))
 }
 
-// The decimal of a real of four octets, without its sign.
+// Returns the decimal of a real of four bytes, without its sign.
 fn decimal_of_single(bits: u32) -> Option<Decimal>
     ensures { option_map decimal_in result ≡ decimal_of single bits }
 {
@@ -203,7 +206,7 @@ fn decimal_of_single(bits: u32) -> Option<Decimal>
     shortest(&placed(0x80_0000, fraction, shift))
 }
 
-/// A real of eight octets, behind what `out` has.
+/// Appends a real of eight bytes to `out`.
 pub(crate) fn put_double(out: &mut Vec<u8>, octets: &[u8; 8]) -> Result<(), AllocError>
     ensures { OnOk result (out.new.items ≡ out.old.items ++ printed_real double octets.now) }
 {
@@ -221,7 +224,7 @@ pub(crate) fn put_double(out: &mut Vec<u8>, octets: &[u8; 8]) -> Result<(), Allo
     )
 }
 
-/// A real of four octets, behind what `out` has.
+/// Appends a real of four bytes to `out`.
 pub(crate) fn put_single(out: &mut Vec<u8>, octets: &[u8; 4]) -> Result<(), AllocError>
     ensures { OnOk result (out.new.items ≡ out.old.items ++ printed_real single octets.now) }
 {
@@ -239,7 +242,7 @@ pub(crate) fn put_single(out: &mut Vec<u8>, octets: &[u8; 4]) -> Result<(), Allo
     )
 }
 
-// A real without its sign, by its bits and those of infinity.
+// Appends a real without its sign. `bits` are its bits, and `infinite` those of infinity.
 fn put_size(
     out: &mut Vec<u8>,
     octets: &[u8],
@@ -264,7 +267,7 @@ fn put_size(
     put_octets(out, b"nan ", octets)
 }
 
-// The word and then the octets.
+// Appends the word and then the bytes.
 fn put_octets(out: &mut Vec<u8>, word: &[u8], octets: &[u8]) -> Result<(), AllocError>
     ensures { OnOk result (out.new.items ≡ out.old.items ++ word.now ++ printed_data octets.now) }
 {

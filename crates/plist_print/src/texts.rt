@@ -1,4 +1,4 @@
-//! Texts as they are printed.
+//! Prints strings.
 ghost use Rattle.std.specs.Prelude.{◌≡◌, ◌+◌, ◌*◌, ◌<◌, ◌≤◌, ◌∷◌, ◌++◌, ◌/◌, ◌%◌, ◌==◌, ℕ, List, codes};
 ghost use Rattle.std.specs.Prelude.{false, IsTrue, IfOk, OnOk, length, take, drop};
 ghost use Rattle.std.specs.Char.{encode_utf8};
@@ -11,7 +11,7 @@ use crate::unseen::{seen_pair, seen_unit};
 use plist_value::{TextRef, digits_of};
 use std::alloc::AllocError;
 
-/// The text between quotes, behind what `out` has.
+/// Appends the string in quotes to `out`.
 pub(crate) fn put_text(out: &mut Vec<u8>, text: &TextRef) -> Result<(), AllocError>
     ensures { OnOk result (out.new.items ≡ out.old.items ++ printed_text (units_of text.now)) }
 {
@@ -20,7 +20,7 @@ pub(crate) fn put_text(out: &mut Vec<u8>, text: &TextRef) -> Result<(), AllocErr
     Ok(out.push(b'"')?)
 }
 
-// All units, behind what `out` has.
+// Appends all units to `out`.
 fn put_units(out: &mut Vec<u8>, text: &TextRef) -> Result<(), AllocError>
     ensures { OnOk result (out.new.items ≡ out.old.items ++ printed_units (units_of text.now)) }
 {
@@ -31,9 +31,9 @@ fn put_units(out: &mut Vec<u8>, text: &TextRef) -> Result<(), AllocError>
     Ok(())
 }
 
-/// Some of the units from the place on, behind what `out` has: a run of those that are printed as
-/// they are, if the text is kept as ASCII, else one unit, or the two of a pair. It answers the
-/// place behind them.
+/// Appends some of the units from position `place` on to `out`, and returns the position after
+/// them. This is a sequence of characters that need no escape if the string is stored as ASCII.
+/// Otherwise, it is one unit, or the two units of a surrogate pair.
 pub(crate) fn put_some(out: &mut Vec<u8>, text: &TextRef, place: usize) -> Result<usize, AllocError>
     requires { place < length (units_of text.now) }
     ensures octets { IfOk result (λ next. Puts out.old.items out.new.items
@@ -54,10 +54,10 @@ pub(crate) fn put_some(out: &mut Vec<u8>, text: &TextRef, place: usize) -> Resul
     Ok(place + run)
 }
 
-// The most octets of a run that are printed at once.
+// The maximum number of bytes that are appended at once.
 const RUN: usize = 4096;
 
-// Returns how many octets at the front are printed as they are, at most `RUN`.
+// Returns the number of leading bytes that need no escape, at most `RUN`.
 fn plain_length(octets: &[u8]) -> usize
     ensures within { result ≤ length octets.now }
     ensures same { printed_units octets.now
@@ -71,7 +71,7 @@ fn plain_length(octets: &[u8]) -> usize
     length
 }
 
-// Whether the octet, as a unit, is printed as it is.
+// Returns whether the byte, as a unit, needs no escape.
 fn is_plain(octet: u8) -> bool
     ensures { IsTrue result → (units : List ℕ)
         → printed_units (octet ∷ units) ≡ octet ∷ printed_units units }
@@ -85,8 +85,8 @@ fn is_plain(octet: u8) -> bool
     true
 }
 
-// The unit at the place, with the one behind it if the two are a pair that is seen, behind what
-// `out` has. It answers the place behind them.
+// Appends the unit at position `place` to `out`, together with the next if both are a visible
+// surrogate pair. Returns the position after them.
 fn put_unit(out: &mut Vec<u8>, text: &TextRef, place: usize) -> Result<usize, AllocError>
     requires { place < length (units_of text.now) }
     ensures octets { IfOk result (λ next. Puts out.old.items out.new.items
@@ -108,7 +108,7 @@ fn put_unit(out: &mut Vec<u8>, text: &TextRef, place: usize) -> Result<usize, Al
     Ok(place + 1)
 }
 
-// A unit that is in no pair.
+// Appends a unit that is not part of a visible pair.
 #[tactic(auto, using(crate::proofs::Plain::ascii_shown), unfolding(crate::specs::Units::printed_unit))]
 fn put_single(out: &mut Vec<u8>, unit: u16) -> Result<(), AllocError>
     ensures { OnOk result (out.new.items ≡ out.old.items ++ printed_unit unit) }
@@ -124,7 +124,7 @@ fn put_single(out: &mut Vec<u8>, unit: u16) -> Result<(), AllocError>
     }
 }
 
-// A unit that no escape of one letter stands for.
+// Appends a unit that has no escape of one letter.
 #[tactic(auto, unfolding(crate::specs::Units::printed_unit))]
 fn put_other(out: &mut Vec<u8>, unit: u16) -> Result<(), AllocError>
     requires quote { (unit == 34) ≡ false }
@@ -140,7 +140,7 @@ fn put_other(out: &mut Vec<u8>, unit: u16) -> Result<(), AllocError>
     }
 }
 
-// A unit as `\U` and four digits.
+// Appends a unit as `\U` and four digits.
 fn put_number(out: &mut Vec<u8>, unit: u16) -> Result<(), AllocError>
     ensures { OnOk result (out.new.items ≡ out.old.items
         ++ (codes "\\U" ++ (two_digits (unit / 256) ++ two_digits (unit % 256)))) }
@@ -150,7 +150,7 @@ fn put_number(out: &mut Vec<u8>, unit: u16) -> Result<(), AllocError>
     out.extend_from_slice(&digits_of((unit % 256) as u8))
 }
 
-// A character in UTF-8.
+// Appends a character in UTF-8.
 fn put_character(out: &mut Vec<u8>, character: char) -> Result<(), AllocError>
     ensures { OnOk result (out.new.items ≡ out.old.items ++ encode_utf8 character) }
 {

@@ -1,4 +1,4 @@
-//! Characters that are not seen, as Unicode 18.0 has them.
+//! Invisible characters, according to Unicode 18.0.
 ghost use Rattle.std.specs.Prelude.{◌≡◌, ◌<◌, ◌≤◌, Some, None, if◌then◌else◌};
 ghost use Rattle.std.specs.Char.Utf16.{is_high_surrogate, is_low_surrogate, surrogate_pair_char};
 ghost use Rattle.ucd_category.specs.GeneralCategory.{general_category};
@@ -7,7 +7,7 @@ ghost use Rattle.plist_print.specs.Units.{is_blank, is_seen_pair, is_unseen};
 use ucd_category::GeneralCategory;
 use ucd_derived::is_default_ignorable_code_point;
 
-/// Returns the character of a pair of surrogates, if it is seen.
+/// Returns the character of a surrogate pair, if it is visible.
 pub(crate) fn seen_pair(high: u16, low: u16) -> Option<char>
     ensures { result ≡ (if is_seen_pair high low then Some (surrogate_pair_char high low)
         else None) }
@@ -25,7 +25,7 @@ pub(crate) fn seen_pair(high: u16, low: u16) -> Option<char>
     Some(character)
 }
 
-/// Returns the character of a unit by itself, if it is seen.
+/// Returns the character of a single unit, if it is visible.
 #[tactic(auto, unfolding(crate::specs::Units::is_unseen))]
 pub(crate) fn seen_unit(unit: u16) -> Option<char>
     ensures { result ≡ (if is_unseen unit then None else Some unit) }
@@ -49,7 +49,7 @@ fn is_low(unit: u16) -> bool
     unit >= 0xdc00 && unit < 0xe000
 }
 
-// Returns whether the character shows nothing, or changes how others are shown.
+// Returns whether the character is invisible, or changes how others are displayed.
 #[tactic(auto, unfolding(crate::specs::Units::is_unseen))]
 fn is_unseen(character: char) -> bool
     ensures { result ≡ is_unseen character }
@@ -57,7 +57,7 @@ fn is_unseen(character: char) -> bool
     character != ' ' && (is_blank(character) || is_default_ignorable_code_point(character))
 }
 
-// Returns whether the character is a blank, a separator, a control or a format character: Zs, Zl,
+// Returns whether the character is a space, a separator, a control or a format character: Zs, Zl,
 // Zp, Cc or Cf.
 fn is_blank(character: char) -> bool
     ensures { result ≡ is_blank (general_category character) }

@@ -3,7 +3,7 @@ use Rattle.plist_engine.specs.Output.{Goes, state_of}
 use Rattle.plist_print.specs.Printed.{indent, octet_lines}
 use Rattle.plist_print.proofs.data.print_lines.Given as goal
 
--- those that are done and those that are left are all
+-- the lines written and the remaining ones are all lines
 abbrev pub invariant-loop-left : goal.invariant-loop-left
 invariant-loop-left g l = record {
   done : List ℕ;

@@ -2,7 +2,7 @@ use Rattle.std.proofs.Common.{◌≡◌, ◌≤◌, ◌++◌}
 use Rattle.plist_print.specs.Reals.{last_digits}
 use Rattle.plist_print.proofs.digits.put_last_digits.Given as goal
 
--- with the digits that are left, all is written
+-- the digits written and the remaining ones are all digits
 abbrev pub invariant-loop-left : goal.invariant-loop-left
 invariant-loop-left l = record {
   few : l.left ≤ 21;

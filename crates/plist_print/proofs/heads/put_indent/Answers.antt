@@ -4,7 +4,7 @@ use Rattle.plist_print.specs.Printed.{indent}
 use Rattle.plist_print.proofs.Padding.{appended}
 use Rattle.plist_print.proofs.heads.put_indent.Goals as goal
 
--- so many of the 64 blanks are those of the line
+-- two spaces for each level are a prefix of the 64 spaces
 blanks : (n level : ℕ) → n ≡ min level 32 → take (2 * n) (replicate 64 32) ≡ indent level
 blanks n level is =
     ap (λ m. take (2 * m) (replicate 64 32)) is ∙ take-replicate (2 * min level 32) 64 32 (omega arith)

@@ -4,7 +4,7 @@ use Rattle.plist_engine.specs.Output.{Goes, state_of}
 use Rattle.plist_print.specs.Units.{printed_units}
 use Rattle.plist_print.proofs.lines.print_units.Given as goal
 
--- those that are done and those that are left are all
+-- the printed units and the remaining ones are all units
 abbrev pub invariant-loop-place : goal.invariant-loop-place
 invariant-loop-place g l = record {
   within : l.place ≤ length (units_of l.text);

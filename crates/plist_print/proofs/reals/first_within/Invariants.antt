@@ -3,7 +3,7 @@ use Rattle.plist_print.specs.Reals.{shortest}
 use Rattle.plist_print.specs.Shown.{placed_of}
 use Rattle.plist_print.proofs.reals.first_within.Given as goal
 
--- none of fewer digits reads
+-- no decimal with fewer digits reads as the real
 abbrev pub invariant-loop-least : goal.invariant-loop-least
 invariant-loop-least l = record {
   some : 1 ≤ l.least;

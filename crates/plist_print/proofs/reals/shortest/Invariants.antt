@@ -3,6 +3,6 @@ use Rattle.plist_print.specs.Reals.{shortest}
 use Rattle.plist_print.specs.Shown.{placed_of}
 use Rattle.plist_print.proofs.reals.shortest.Given as goal
 
--- from these digits on it is the same
+-- the result is equal if the search begins at these digits
 abbrev pub invariant-loop-digits : goal.invariant-loop-digits
 invariant-loop-digits l = shortest (placed_of l.real) (22 - l.digits) l.digits ≡ shortest (placed_of l.real) 21 1

@@ -3,7 +3,7 @@ use Rattle.plist_value.specs.Texts.{units_of}
 use Rattle.plist_print.specs.Units.{printed_units}
 use Rattle.plist_print.proofs.texts.put_units.Given as goal
 
--- with the units that are left, all are there
+-- the appended units and the remaining ones are all units
 abbrev pub invariant-loop-place : goal.invariant-loop-place
 invariant-loop-place l = record {
   within : l.place ≤ length (units_of l.text);

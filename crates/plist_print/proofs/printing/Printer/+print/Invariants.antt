@@ -9,7 +9,7 @@ use Rattle.plist_engine.specs.Spelling.{in_turn}
 use Rattle.plist_print.proofs.PrintSteps.{items_before, pairs_before}
 use Rattle.plist_print.proofs.printing.Printer.+print.Given as goal
 
--- by the levels that are left, with what calls before what is called
+-- the remaining levels decrease, and each caller comes before what it calls
 abbrev pub decreases-value : goal.decreases-value
 decreases-value g l = 4 * (MAX_DEPTH - l.level)
 
@@ -31,7 +31,7 @@ decreases-list g l = 4 * (MAX_DEPTH - l.level) - 1
 abbrev pub decreases-table : goal.decreases-table
 decreases-table g l = 4 * (MAX_DEPTH - l.level) - 1
 
--- the lines of the items before this one went
+-- the lines of the items before this one were written
 abbrev pub invariant-items-loop-i : goal.invariant-items-loop-i
 invariant-items-loop-i g l = record {
   goes : (vs : Items) → AreItems vs → SpellItems (octets_of l.self.file) (numbers_of l.items) vs → Goes {T = Unit {0}} (items_before l.level l.i vs) (state_of g.W.Sink l.fn.out) (state_of g.W.Sink l.out) (Ok tt);
@@ -39,7 +39,7 @@ invariant-items-loop-i g l = record {
   ready : IsReady (octets_of l.self.file) l.order;
 }
 
--- the lines of the pairs before this one went
+-- the lines of the entries before this one were written
 abbrev pub invariant-pairs-loop-i : goal.invariant-pairs-loop-i
 invariant-pairs-loop-i g l = record {
   goes : (rows : List (ℕ × ℕ)) (ps : Pairs) → l.references ≡ in_turn rows → ArePairs ps → SpellPairs (octets_of l.self.file) rows ps → Goes {T = Unit {0}} (pairs_before l.level l.i ps) (state_of g.W.Sink l.fn.out) (state_of g.W.Sink l.out) (Ok tt);
