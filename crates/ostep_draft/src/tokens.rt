@@ -27,8 +27,8 @@ impl<'a> Tokens<'a> {
         Tokens { alloc, cursor }
     }
 
-    // Returns whether the text is a dictionary without braces. It is one if it has no tokens, or a
-    // string and another token.
+    // Returns whether the text is a dictionary without braces. It is one if it has no tokens, or
+    // begins with a string that another token follows.
     pub(crate) fn is_bare(&self) -> Result<bool, NoDraft> {
         let Some((first, behind)) = next_token(self.alloc, self.cursor)? else {
             return Ok(true);

@@ -178,7 +178,7 @@ units_in-few order (a ∷ b ∷ rest) = omega (arith, units_in-few order rest)
 pub whole_utf8 : (text : Bor (List ℕ)) → IsUtf8 text.now → IsWhole (Utf8 text)
 whole_utf8 text u = record { scalars = scalars-chars text.now u; spelled = octets_of-utf8 (chars text.now) ∙ encodes-chars text.now u }
 
--- a valid prefix of UTF-8 is not followed by a character
+-- no character follows the longest valid prefix of UTF-8
 longer : (octets behind : List ℕ) (n c : ℕ) → IsValidUpTo octets n → IsScalar c → drop n octets ≡ encode c ++ behind → ⊥
 longer octets behind n c v s e =
     let front = take n octets ++ encode c in

@@ -11,7 +11,7 @@ use crate::cursor::Cursor;
 use crate::fault::LexFault;
 use crate::stretch::Class;
 
-/// Returns the cursor at the end of a line comment, which is a line end or the end of the text.
+/// Takes the cursor after `//`. Returns the cursor at the line end, or at the end of the text.
 fn line_comment(cursor: Cursor<'_>) -> Cursor<'_>
     ensures comment { LineComment (ahead cursor.entry) (ahead result) }
     ensures input { SameInput cursor.entry result }
@@ -34,7 +34,8 @@ fn comment_end(cursor: Cursor<'_>) -> Option<Cursor<'_>>
     cursor.behind('*')?.behind('/')
 }
 
-/// Returns the cursor after the first `*/`, or `None` if there is none.
+/// Takes the cursor after `/*`. Returns the cursor after the first `*/`, or `None` if there is no
+/// `*/`.
 fn block_comment(cursor: Cursor<'_>) -> Option<Cursor<'_>>
     ensures { MatchOption result (NeverCloses (ahead cursor.entry)) (λ end.
         BlockComment (ahead cursor.entry) (ahead end) × SameInput cursor.entry end) }

@@ -85,8 +85,8 @@ pub(crate) fn judge_top(alloc: Global, file: BinFile) -> Result<(), BinaryFault>
     }
 }
 
-// Returns a budget of four times as much payload as the file has bytes. A file that exceeds it may
-// still encode a value within the limits.
+// Returns a budget of at most four times as much payload as the file has bytes. A file that exceeds
+// it may still encode a value within the limits.
 fn short_budget(file: &BinFile) -> Budget
     ensures { IsWithinLimits result }
 {

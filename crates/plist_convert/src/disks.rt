@@ -52,8 +52,8 @@ pub trait Disk {
             (IsUnloaded (files self.old) path.now (failures self.old) (failures self.new)) };
 
     /// Converts the bytes to this form and writes the output to the file at the path. The file is
-    /// created or emptied when the first byte is put. Returns its size. The memory of the input is
-    /// freed early.
+    /// created or emptied when the first byte is put. Returns its size. Takes ownership
+    /// of the bytes, so that their memory can be freed early.
     ///
     /// # Errors
     ///

@@ -27,7 +27,7 @@ pub struct MemoryDisk {
 impl MemoryDisk {
     ghost use Rattle.plist_convert.specs.MemoryDisk.{failures_of, files_of, room_of};
 
-    /// Creates a disk without files. The step is above 0.
+    /// Creates a disk without files. `step` must be above 0.
     pub fn new(alloc: Global, room: usize, step: usize) -> MemoryDisk
         requires { 0 < step }
         ensures empty { (path : FileName) → files_of result path ≡ None }

@@ -41,7 +41,7 @@ impl Recent {
         }
     }
 
-    /// Clears and enlarges the table if there are at least as many objects as slots.
+    /// Clears and enlarges the table if there are at least as many objects as slots, up to `MOST`.
     pub(crate) fn prepare(&mut self, objects: usize) -> Result<(), AllocError> {
         let slots = self.slots.len();
         if objects < slots || slots >= MOST {

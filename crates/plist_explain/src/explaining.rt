@@ -38,7 +38,7 @@ pub fn list(alloc: Global) -> Result<String, AllocError>
     Ok(text)
 }
 
-/// Returns the table, of which contracts know the contents.
+/// Returns all topics.
 fn topics() -> &'static [Topic]
     ensures { map entry_of result.now ≡ entries }
 {

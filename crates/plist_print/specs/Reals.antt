@@ -4,9 +4,9 @@ use Rattle.std.specs.Fmt.{sign_text}
 use Rattle.byteorder.specs.Endian.{big_number}
 use Rattle.plist_print.specs.Units.{printed_data}
 
--- A format has `octets` bytes, the bit `sign` of the sign, the bits `hidden` of the least normal real,
--- and the bits `infinite` of infinity. 1 is 2^`one` times the least real above 0. Reals with
--- exponents from `from` up to but without `to` are printed as decimals.
+-- A format: the number of bytes, the sign bit, the bits of the least normal real and those of
+-- infinity. 1 is 2^`one` times the least real above 0. Reals with exponents from `from` up to but
+-- without `to` are printed as decimals.
 pub record Format : Type 0 where
   pub octets : ℕ
   pub sign : ℕ
@@ -40,8 +40,8 @@ pub record Placed : Type 0 where
 abbrev pub nearest : Placed → ℕ → ℕ
 nearest x over = (2 * (x.here * over) + x.unit) / (2 * x.unit)
 
--- n / over reads as the real: it is between the midpoints to the neighbours, the lower one included;
--- and n has at most 128 bits
+-- n / over reads as the real: it is between the midpoints to the neighbours, the lower one
+-- included; and n has at most 128 bits
 abbrev pub reads_as : Placed → ℕ → ℕ → Bool
 reads_as x over n =
     nat_lt n (2 ^ 128) && (nat_le ((x.below + x.here) * over) (2 * (n * x.unit)) && nat_lt (2 * (n * x.unit)) ((x.here + x.above) * over))
