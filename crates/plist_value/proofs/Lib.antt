@@ -4,7 +4,6 @@ pub mod WideUnits
 pub mod Pairs
 pub mod Items
 pub mod Hashes
-pub mod Orders
 pub mod Shown
 pub mod Rows
 pub mod BelowAscii

@@ -1,8 +1,5 @@
 -- What a string feeds a hasher: units below 256 eight at a time, and others four at a time.
-use Rattle.std.specs.Prelude.{ℕ, ◌+◌, ◌-◌, ◌*◌, if◌then◌else◌, List, [], ◌∷◌, ◌++◌, length, replicate, slice_index, drop}
-use Rattle.std.specs.declared.cmp.Ordering.{Ordering}
-use Rattle.std.specs.Ordering.{nat_cmp}
-use Rattle.std.specs.Cmp.Lexicographic.{slice_cmp}
+use Rattle.std.specs.Prelude.{ℕ, ◌+◌, ◌-◌, ◌*◌, if◌then◌else◌, List, [], ◌∷◌, ◌++◌, length, replicate, slice_index}
 use Rattle.std.specs.Hash as fed
 use Rattle.plist_value.specs.Narrow.{are_narrow}
 
@@ -47,7 +44,3 @@ fed_text units = if are_narrow units then fed_narrow units else fed_wide units
 abbrev pub seven_and : List ℕ → ℕ → List ℕ
 seven_and xs last =
     slice_index xs 0 ∷ slice_index xs 1 ∷ slice_index xs 2 ∷ slice_index xs 3 ∷ slice_index xs 4 ∷ slice_index xs 5 ∷ slice_index xs 6 ∷ last ∷ []
-
--- the order of two lists from position i on
-abbrev pub order_from : ℕ → List ℕ → List ℕ → Ordering
-order_from i units others = slice_cmp nat_cmp (drop i units) (drop i others)

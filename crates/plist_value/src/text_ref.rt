@@ -14,7 +14,7 @@ ghost use Rattle.plist_value.specs.Texts.{is_ascii_kept, is_units_kept, is_wide_
 
 use crate::ascii::Ascii;
 use crate::text_hash::feed_text;
-use crate::words::{compare, feed_octets};
+use crate::words::feed_octets;
 use std::cmp::Ordering;
 use std::hash::{Hash, Hasher};
 
@@ -224,7 +224,7 @@ impl<'a> Ord for TextRef<'a> {
 
     fn cmp(&self, other: &Self) -> Ordering {
         match (self.kept, other.kept) {
-            (Kept::Units(units), Kept::Units(others)) => compare(units, others),
+            (Kept::Units(units), Kept::Units(others)) => units.cmp(others),
             (Kept::Ascii(ascii), Kept::Ascii(other)) => ascii.text.cmp(other.text),
             _ => compare_units(self, other),
         }

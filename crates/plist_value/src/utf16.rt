@@ -9,7 +9,6 @@ ghost use Rattle.plist_value.specs.Hashes.{fed_text};
 ghost use Rattle.std.proofs.Common.{rules};
 
 use crate::TextRef;
-use crate::words::compare;
 use std::alloc::{AllocError, Global};
 use std::cmp::Ordering;
 use std::hash::{Hash, Hasher};
@@ -80,7 +79,7 @@ impl Ord for Utf16 {
     ghost matches_eq = { Prim.search (comparing, rules) };
 
     fn cmp(&self, other: &Utf16) -> Ordering {
-        compare(self.units(), other.units())
+        self.units().cmp(other.units())
     }
 }
 
