@@ -76,8 +76,8 @@ fn equal_scalars_are_one_object(rt: HostRuntime) -> Result<(), Fail> {
 #[test]
 fn equal_scalars_are_found_behind_others(rt: HostRuntime) -> Result<(), Fail> {
     let mut draft = Draft::new(rt.alloc())?;
-    for i in 0..70_000u32 {
-        share_text(&mut draft, &[(i / 256) as u16, (i % 256) as u16])?;
+    for i in 0..5_000u16 {
+        share_text(&mut draft, &[i, 0x61])?;
     }
     let a = share_text(&mut draft, &[0x61])?;
     assert_eq!(rt; share_text(&mut draft, &[0x61])?, a);
