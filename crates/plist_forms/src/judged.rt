@@ -11,8 +11,8 @@ use crate::canonicals::{read_any, refusal};
 use crate::laws::{canonical_is_accepted, one_value};
 use ostep_draft::{NoDraft, draft_text};
 use plist_binary::judge_file;
-use plist_object::BinFile;
 use plist_canon::canonical;
+use plist_object::BinFile;
 use std::alloc::Global;
 
 /// Validates the bytes as a binary file of a value within the limits.
