@@ -1,8 +1,8 @@
 -- Rows of keys that are sorted by their numbers are in the order of their strings.
-use Rattle.std.proofs.Common.{◌≡◌, ℕ, ◌+◌, ◌<◌, List, [], ◌∷◌, ◌++◌, length, get_or, map, slice_index, refl, sym, ap, ◌∙◌, subst, arith, inl, inr, Ok}
+use Rattle.std.proofs.Common.{◌≡◌, ℕ, ◌+◌, ◌-◌, ◌<◌, ◌≤◌, List, [], ◌∷◌, ◌++◌, length, get_or, map, slice_index, refl, sym, ap, ◌∙◌, subst, arith, inl, inr, Ok}
 use Rattle.std.specs.Prelude.{All, true, false, Bool}
 use Rattle.std.specs.declared.cmp.Ordering.{Ordering}
-use Rattle.std.specs.declared.cmp.Ordering.TheVariants.{Less, Equal}
+use Rattle.std.specs.declared.cmp.Ordering.TheVariants.{Less, Equal, Greater}
 use Rattle.std.specs.Ordering.{nat_cmp, ordering_then, on, is_lt}
 use Rattle.std.specs.Cmp.{nat_cmp_is}
 use Rattle.std.specs.Cmp.Lexicographic.{slice_cmp}
@@ -10,13 +10,13 @@ use Rattle.std.specs.List.{AllByRecursion, range_with_len}
 use Rattle.std.specs.List.Sorted.{IsPermutation, IsSorted}
 use Rattle.std.proofs.lemmas.Bool.{cases_lt, true≢false, false_from_ne_true}
 use Rattle.std.proofs.lemmas.Cmp.{nat_list_cmp_total}
-use Rattle.std.proofs.lemmas.List.{get_or-map, length-map, map-append}
+use Rattle.std.proofs.lemmas.List.{get_or_default, get_or-map, length-map, map-append}
 use Rattle.std.proofs.lemmas.List.FromFn.{map-range_with_len_more}
 use Rattle.std.proofs.lemmas.List.Elements.{recursion_from_All}
 use Rattle.std.proofs.lemmas.List.Sorted.{All-permutation, IsPermutation-map, IsPermutation-refl, IsPermutation-trans}
 use Rattle.plist_object.specs.declared.order.Row.{Row}
 use Rattle.plist_object.specs.declared.ranks.Ranks.{Ranks}
-use Rattle.plist_object.specs.KeyOrder.{AreRows, HoldsRow, IsRankedRow, TellsOrder, place_of, units_at}
+use Rattle.plist_object.specs.KeyOrder.{AreRows, HoldsRow, IsRankedRow, TellsOrder, by_number, place_of, units_at}
 use Rattle.plist_object.specs.Order.{IsInOrder, strings_at, units_in}
 use Rattle.plist_object.specs.Places.{what_holds}
 use Rattle.plist_object.specs.Ranks.{AreRanks, texts_of}
@@ -65,11 +65,6 @@ moved_rows f keys rows sorted moved are =
       held = All-permutation (HoldsRow f keys) rows sorted moved are.held;
       tell = All-permutation (λ row. All (TellsOrder row) sorted) rows sorted moved to_each;
     }
-
--- by numbers, and by strings if these are equal
-abbrev pub by_number : Row → Row → Ordering
-by_number row other =
-    ordering_then (nat_cmp row.number other.number) (slice_cmp nat_cmp (units_at row) (units_at other))
 
 -- a row with a lower string comes first
 lower_first : (row other : Row) → TellsOrder other row → slice_cmp nat_cmp (units_at row) (units_at other) ≡ Less → is_lt (by_number row other) ≡ true
@@ -121,3 +116,30 @@ IsInOrder-rows f keys rows sorted are moved order =
       moved = now.moved;
       sorted = subst (λ (ts : List (List ℕ)). IsSorted (slice_cmp nat_cmp) ts) (sym (strings-rows f keys sorted now.held)) (texts_in_order f keys sorted now order);
     }
+
+-- each of the first n numbers is below the next
+abbrev pub NumbersAscend : ℕ → List Row → Type 0
+NumbersAscend n rows =
+    (k : ℕ) (d : Row) → k + 1 < n → (get_or rows k d).number < (get_or rows (k + 1) d).number
+
+-- one number more
+pub numbers_more : (i : ℕ) (rows : List Row) (d e : Row) → 1 ≤ i → i < length rows → (get_or rows (i - 1) d).number < (get_or rows i e).number → NumbersAscend i rows → NumbersAscend (i + 1) rows
+numbers_more i rows d e some within last before k b h =
+    elim (cases_lt (k + 1) i) [
+      | inl under ↦ before k b under
+      | inr here ↦ (
+          let at : i ≡ k + 1 = omega arith in
+          let prior : i - 1 ≡ k = omega arith in
+          let low : get_or rows k b ≡ get_or rows (i - 1) d = ap (λ (n : ℕ). get_or rows n b) (sym prior) ∙ get_or_default rows (i - 1) b d (omega arith) in
+          let high : get_or rows (k + 1) b ≡ get_or rows i e = ap (λ (n : ℕ). get_or rows n b) (sym at) ∙ get_or_default rows i b e within in
+          let less = ap (λ (r : Row). r.number) low in
+          let more = ap (λ (r : Row). r.number) high in
+          omega (arith, last, less, more))
+    ]
+
+-- rows whose numbers ascend are sorted
+pub sorted_by_numbers : (rows : List Row) → NumbersAscend (length rows) rows → IsSorted by_number rows
+sorted_by_numbers rows ascend k d low high =
+    let row = get_or rows k d in
+    let next = get_or rows (k + 1) d in
+    ap (λ first. is_lt (ordering_then first (slice_cmp nat_cmp (units_at next) (units_at row)))) (sym (nat_cmp_is next.number row.number Greater (ascend k d high)))

@@ -1,7 +1,8 @@
 -- What the key order keeps of dictionaries, and the rows that it sorts.
 use Rattle.std.specs.Prelude.{◌≡◌, ◌↔◌, ℕ, ◌<◌, Bool, IsTrue, List, [], All, IfSome, length, map, slice_index, slice_index_or}
+use Rattle.std.specs.declared.cmp.Ordering.{Ordering}
 use Rattle.std.specs.declared.cmp.Ordering.TheVariants.{Less}
-use Rattle.std.specs.Ordering.{nat_cmp}
+use Rattle.std.specs.Ordering.{nat_cmp, ordering_then}
 use Rattle.std.specs.Cmp.Lexicographic.{slice_cmp}
 use Rattle.std.specs.List.{range_with_len}
 use Rattle.std.specs.List.Sorted.{IsPermutation}
@@ -33,6 +34,11 @@ IsRankedRow ranks row = (row.number < length (texts_of ranks)) × (slice_index_o
 -- a lower number means a lower string
 abbrev pub TellsOrder : Row → Row → Type 0
 TellsOrder row other = row.number < other.number → slice_cmp nat_cmp (units_at row) (units_at other) ≡ Less
+
+-- by numbers, and by strings if these are equal
+abbrev pub by_number : Row → Row → Ordering
+by_number row other =
+    ordering_then (nat_cmp row.number other.number) (slice_cmp nat_cmp (units_at row) (units_at other))
 
 -- one row for each of the keys, with numbers that agree with their order
 pub record AreRows (f keys : List ℕ) (rows : List Row) : Type 0 where

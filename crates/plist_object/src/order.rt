@@ -1,7 +1,7 @@
 //! The order of the keys of dictionaries.
 ghost use Rattle.std.specs.Ordering.{nat_cmp};
 ghost use Rattle.std.specs.Cmp.Lexicographic.{slice_cmp};
-ghost use Rattle.std.specs.List.Sorted.{IsStrictlySortedBy};
+ghost use Rattle.std.specs.List.Sorted.{IsPermutation, IsSorted, IsStrictlySortedBy};
 ghost use Rattle.std.specs.Prelude.{◌≡◌, ◌↔◌, IsTrue, ℕ, List, All, IfOk, OnOk, IfSome, map, length};
 ghost use Rattle.plist_value.specs.Plist.{text};
 ghost use Rattle.plist_value.specs.Texts.{units_of};
@@ -10,7 +10,7 @@ ghost use Rattle.plist_object.specs.Places.{Holds, HoldsText};
 ghost use Rattle.plist_object.specs.Views.{numbers_of, octets_of};
 ghost use Rattle.plist_object.specs.Order.{Ascend, IsInOrder, NameTexts};
 ghost use Rattle.plist_object.specs.KeyOrder.{AreRows, IsRankedRow, IsReady, TellsOrder};
-ghost use Rattle.plist_object.specs.KeyOrder.{place_of, units_at};
+ghost use Rattle.plist_object.specs.KeyOrder.{by_number, place_of, units_at};
 ghost use Rattle.plist_object.specs.Ranks.{AreRanks};
 
 use crate::keys::Keys;
@@ -98,7 +98,7 @@ impl<'a> KeyOrder<'a> {
             return Ok(self.distinct);
         }
         let mut rows = self.rows(alloc, file, keys)?;
-        rows.sort_unstable_by_key(|row| (row.number, row.text));
+        sort_rows(&mut rows);
         self.distinct = ascend(&rows);
         self.places = places_in_turn(alloc, &rows)?;
         self.last = Some(*keys);
@@ -196,6 +196,32 @@ fn number(rows: &mut Vec<Row>)
     let first = rows[0].text;
     let front = prefixes::shared(&*rows, &first);
     prefixes::fill(rows.as_mut_slice(), front);
+}
+
+// Sorts the rows. The numbers of many keys usually suffice.
+fn sort_rows(rows: &mut Vec<Row>)
+    ensures moved { IsPermutation rows.old.items rows.new.items }
+    ensures sorted { IsSorted by_number rows.new.items }
+{
+    if rows.len() > FEW_KEYS {
+        rows.sort_unstable_by_key(|row| row.number);
+        if numbers_ascend(&*rows) {
+            return;
+        }
+    }
+    rows.sort_unstable_by_key(|row| (row.number, row.text));
+}
+
+// Returns whether each number is below the next.
+fn numbers_ascend(rows: &[Row]) -> bool
+    ensures { IsTrue result → IsSorted by_number rows.now }
+{
+    for i in 1..rows.len() {
+        if rows[i - 1].number >= rows[i].number {
+            return false;
+        }
+    }
+    true
 }
 
 // Returns whether each string is below the next.
