@@ -154,7 +154,7 @@ def quotes(size):
     return joined([head(0x50, size) + b'"' * size], 1)
 
 
-def backslashes_wide(size):
+def unseen_units(size):
     """A string of UTF-16 that no print shows as it is."""
     return joined([head(0x60, size // 2) + b"\x20\x0e" * (size // 2)], 1)
 
@@ -170,9 +170,8 @@ COMMANDS = {
 ROWS = [
     ("check", shared_keys), ("check", overlapping_keys), ("check", unordered_keys), ("check", one_table_often),
     ("check", one_text_often), ("lint", shared_keys), ("lint", one_key),
-    *((word, make) for make in (reordered_16, reordered_256, lists_in_turn, three_in_turn)
-      for word in ("lint", "binary1", "print")),
-    ("print", quotes), ("print", backslashes_wide),
+    *((word, make) for make in (reordered_16, reordered_256, lists_in_turn, three_in_turn) for word in ("lint", "binary1")),
+    *(("print", make) for make in (lists_in_turn, quotes, unseen_units)),
 ]
 
 
