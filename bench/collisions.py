@@ -127,9 +127,9 @@ def whole_object(word):
 
 
 def list_of(objects):
-    """Returns the file of an array of these objects."""
-    count = len(objects)
-    return joined([head(0xA0, count) + b"".join(number(n, 3) for n in range(1, count + 1)), *objects], 3)
+    """Returns the file of an array of these objects, each of them twice: what occurs once need not be compared."""
+    count = 2 * len(objects)
+    return joined([head(0xA0, count) + b"".join(number(n, 3) for n in range(1, count + 1)), *objects, *objects], 3)
 
 
 def keys(count):
