@@ -42,7 +42,7 @@ extern "C" {
 /* The version of this header, also as a number (10,000 * major + 100 * minor + patch). plistconv_version() returns the
  * number of the linked library. */
 #define PLISTCONV_VERSION "0.3.0"
-#define PLISTCONV_VERSION_NUMBER 200
+#define PLISTCONV_VERSION_NUMBER 300
 uint32_t plistconv_version(void);
 
 /* The refusals by number. docs/FORMATS.md says what each means, and which place it names. */

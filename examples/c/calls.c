@@ -60,7 +60,7 @@ static void allocated(void) {
         else number = plistconv_print_alloc(nested, count, &out, &length, &refusal);
         must(refusal.number == number && (number != 0 ? !out && length == 0 : out != line));
         if (number == 60) _exit(5);
-        must(number == 0 && length == (const size_t[]){133, 152, 2074}[call]);
+        must(number == 0 && length == (const size_t[]){133, 152, 1924}[call]);
         plistconv_free(out);
     }
 }
