@@ -141,12 +141,12 @@ def growth(measure, words, made, name, turns):
 def targets(figures, growths):
     """Prints each target, and returns how many are missed."""
     said = Targets(figures, growths)
-    for name, time, memory in (("mixed", .09, 3.5), ("keys", .3, 4), ("numbers", .2, 4)):
+    for name, time, memory in (("mixed", .1, 3), ("keys", .22, 3.5), ("numbers", .12, 4)):
         said.time(name, CRATE, time)
         said.memory(name, memory)
     said.time("data", COPY, 1.1)
     said.memory("data", 1.1)
-    for name, time in (("project", .12), ("strings", .14), ("strings16", .14)):
+    for name, time in (("project", .13), ("strings", .15), ("strings16", .18)):
         said.time(name, OPENSTEP, time)
         said.memory(name, 4)
     for name in files.BINARY:
