@@ -103,7 +103,7 @@ impl<'a> Keys<'a> {
 
     // Adds the keys that are strings. For a key that is none, reading may have gone as far as the
     // offset table.
-    fn look_at_all(&mut self, file: &BinFile<'a>, keys: &Refs) -> Result<(), AllocError>
+    pub(crate) fn look_at_all(&mut self, file: &BinFile<'a>, keys: &Refs) -> Result<(), AllocError>
         requires { AreKeys (octets_of file.now) self.old }
         ensures { OnOk result (AreKeys (octets_of file.now) self.new) }
     {
@@ -150,17 +150,6 @@ impl<'a> Keys<'a> {
             }
         }
         Ok(true)
-    }
-
-    // Adds each key that is a string.
-    pub(crate) fn add_each(&mut self, file: &BinFile<'a>, keys: &Refs) -> Result<(), AllocError>
-        requires { AreKeys (octets_of file.now) self.old }
-        ensures { OnOk result (AreKeys (octets_of file.now) self.new) }
-    {
-        for k in 0..keys.len() {
-            self.add(file, keys.get(k))?;
-        }
-        Ok(())
     }
 
     // Adds the string that the object contains. Returns `false` if it contains none or if objects

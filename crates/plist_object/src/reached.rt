@@ -58,7 +58,7 @@ fn visit<'a>(
     match file.object(object) {
         Ok(Object::List(items)) => reached.meet_all(file, &items),
         Ok(Object::Table(names, values)) => {
-            keys.add_each(file, &names)?;
+            keys.look_at_all(file, &names)?;
             reached.meet_all(file, &values)
         }
         _ => Ok(()),
