@@ -149,6 +149,27 @@ def three_in_turn(size):
     return tables_of([[*reversed(one)] for one in lists], keys, size // 2)
 
 
+def overlapping_later(size):
+    """Dictionaries of the same long keys in many orders, and then one whose keys all reach into one run of bytes."""
+    count, many, length, width, tables = 16, size // 40, size // 2, 3, 40
+    first = tables + 2
+    value, over = first + count, first + count + 1
+    keys = [wide(size // 8 // count, n) for n in range(count)]
+
+    def table(names):
+        return head(0xD0, len(names)) + b"".join(number(n, width) for n in names) + number(value, width) * len(names)
+
+    top = head(0xA0, tables + 1) + b"".join(number(n, width) for n in range(1, tables + 2))
+    objects = [top, *(table([first + (i + turn) % count for i in range(count)]) for turn in range(1, tables + 1)),
+               table(range(over, over + many)), *keys, b"\x09",
+               *[b"\x5f\x12" + bytes(octet & 0x7F for octet in number(length, 4))] * many]
+    places, place = [], 8
+    for one in objects:
+        places.append(place)
+        place += len(one)
+    return file(b"".join(objects) + b"a" * (length + 100), places, width)
+
+
 def quotes(size):
     """A string of quotes."""
     return joined([head(0x50, size) + b'"' * size], 1)
@@ -169,7 +190,7 @@ COMMANDS = {
 
 ROWS = [
     ("check", shared_keys), ("check", overlapping_keys), ("check", unordered_keys), ("check", one_table_often),
-    ("check", one_text_often), ("lint", shared_keys), ("lint", one_key),
+    ("check", one_text_often), ("lint", shared_keys), ("lint", one_key), ("lint", overlapping_later),
     *((word, make) for make in (reordered_16, reordered_256, lists_in_turn, three_in_turn) for word in ("lint", "binary1")),
     *(("print", make) for make in (lists_in_turn, quotes, unseen_units)),
 ]
