@@ -135,11 +135,15 @@ def reordered_256(size):
 
 def lists_in_turn(size):
     """Two long lists of keys, in turn."""
-    count = 4100
+    return lists_of(4100, max(size - 400_000, 1))
+
+
+def lists_of(count, size):
+    """Dictionaries up to this size whose keys are two lists, in turn."""
     keys = [head(0x50, 40) + b"%040d" % n for n in range(2 * count)]
     pick = random.Random(0)
     lists = [pick.sample(range(1 + part, 1 + part + count), count) for part in (0, count)]
-    return tables_of(lists, keys, max(size - 400_000, 1))
+    return tables_of(lists, keys, size)
 
 
 def three_in_turn(size):

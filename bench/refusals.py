@@ -10,6 +10,8 @@ is processor time, the least of three runs, and memory is the greatest resident 
 callgrind is installed (Debian's valgrind), the instructions of a refusal, less those of an empty run, must not grow
 more than 1.2 times as much as the bytes of its input. A row that fails ends with a cross, and the status is 1.
 
+The last table is of memory beside the length of the input, the input included, each row with the most it may take.
+
 Files are made in separate processes (--make).
 """
 import os
@@ -17,7 +19,7 @@ import subprocess
 import sys
 import tempfile
 
-from hostile import file, head, joined, number
+from hostile import COMMANDS, file, head, joined, lists_of, number
 from measure import Measure, instructions
 
 MIB = 1 << 20
@@ -97,9 +99,61 @@ ACCEPTED = {
 }
 
 
+# Files and texts whose memory is measured.
+
+
+def often(part, size, before=b"(", after=b")="):
+    """Returns a text that repeats one part, and by default ends with a fault."""
+    return before + part * (size // len(part)) + after
+
+
+def strings_file(size):
+    """Returns pairs without braces whose last key repeats the first."""
+    names = [b"k%07d" % n for n in range(size // 16)]
+    return b"".join(b'%s = "v";\n' % name for name in [*names, names[0]])
+
+
+def shared_tables(levels):
+    """Returns dictionaries that each have the next one for two long keys, down to an empty one."""
+    tables = [b"\xd2" + bytes([levels + 2 * n, levels + 2 * n + 1, n + 1, n + 1]) for n in range(levels - 1)]
+    keys = [head(0x50, 105) + b"%0105d" % n for n in range(2 * levels - 2)]
+    return joined([*tables, b"\xd0", *keys], 1)
+
+
+def narrow_offsets(size):
+    """Returns a file with an offset of one byte for each of its many objects, of which few are reached."""
+    objects = head(0xA0, 90) + b"\x01" * 90 + head(0x50, 100) + b"a" * 100
+    body = b"bplist00" + objects + b"\x09"
+    places = [8, 8 + len(head(0xA0, 90)) + 90, *[len(body) - 1] * (size - 2)]
+    trailer = bytes([0] * 6 + [1, 1]) + number(size, 8) + number(0, 8) + number(len(body), 8)
+    return body + bytes(places) + trailer
+
+
+def two_lists(count):
+    """Returns two long lists of keys in turn, with a boolean for value."""
+    return lists_of(count, 2_300_000 * 4)
+
+
+# The command, the input, the beginning of the answer, and the most memory: bytes for each byte of input, or MB in all.
+MEMORY = {
+    "short dictionaries, then an error": ("lint", lambda: often(b"{a;},", 4_000_000), "refused 31", 12, None),
+    "empty arrays, then an error": ("lint", lambda: often(b"(),", 4_000_000), "refused 31", 12, None),
+    "short strings, then an error": ("lint", lambda: often(b"a,", 4_000_000), "refused 31", 12, None),
+    "the last key repeats the first": ("lint", lambda: strings_file(16_000_000), "refused 14", 12, None),
+    "short dictionaries": ("openstep", lambda: often(b"{a;},", 4_000_000, after=b")"), "", 16, None),
+    "short strings": ("openstep", lambda: often(b"a,", 4_000_000, after=b")"), "", 16, None),
+    "shared dictionaries": ("openstep", lambda: shared_tables(20), "", None, 32),
+    "two long lists of keys": ("openstep", lambda: two_lists(65_000), "refused 40", 12, None),
+    "offsets of one byte": ("lint", lambda: narrow_offsets(16_000_000), "OK", 14, None),
+}
+
+
 def make(name, size, path):
     with open(path, "wb") as target:
-        target.write(REFUSED[name][0](int(size)) if name in REFUSED else ACCEPTED[name][0]())
+        if name in REFUSED:
+            target.write(REFUSED[name][0](int(size)))
+        else:
+            target.write(ACCEPTED[name][0]() if name in ACCEPTED else MEMORY[name][1]())
 
 
 def made(name, size, path):
@@ -170,6 +224,24 @@ def accepted(measure, program, source, target):
     return wrong
 
 
+def memory(measure, program, source):
+    """Prints the rows of memory, and returns how many fail."""
+    wrong = 0
+    print("| command | input | bytes | answer | seconds | MB | bytes of memory for each byte |")
+    print("|---|---|---|---|---|---|---|")
+    for name, (word, _, answer, most, megabytes) in MEMORY.items():
+        octets = made(name, 0, source)
+        run = measure.run([program, *(source if part == "IN" else part for part in COMMANDS[word])])
+        told = run.printed.removeprefix(source + ": ")
+        each = run.octets / octets
+        good = told.startswith(answer) and run.status == (2 if answer.startswith("refused") else 0)
+        good = good and (each <= most if most else run.octets <= megabytes * 1e6)
+        wrong += not good
+        print(f"| {word} | {name} | {octets:,} | {told} | {run.processor:.2f} | {run.octets / 1e6:.0f} | {each:.1f} |"
+              + ("" if good else " ✗"), flush=True)
+    return wrong
+
+
 def main():
     if sys.argv[1:2] == ["--make"]:
         make(*sys.argv[2:])
@@ -184,6 +256,8 @@ def main():
         wrong = refused(measure, program, source, target)
         print()
         wrong += accepted(measure, program, source, target)
+        print()
+        wrong += memory(measure, program, source)
     return 1 if wrong else 0
 
 

@@ -22,8 +22,8 @@ use Rattle.ostep_lex.specs.Quoted
 use Rattle.ostep_lex.specs.Quoted.{Run, Escape, Piece, Quoted}
 use Rattle.ostep_lex.specs.Octets
 use Rattle.ostep_lex.specs.Spans.{StandsFirst, StandInTurn, HasSpans}
-use Rattle.ostep_lex.proofs.TokenLemmas.{GapPiece-same, IsToken-gapless, other-octets, Lexes-same, LexesTo-continue, behind-fault}
-use Rattle.ostep_lex.proofs.TextLemmas.{behind_mark, Spells-same, StopsAt-none, octets_of-append}
+use Rattle.ostep_lex.proofs.TokenLemmas.{GapPiece-same, IsToken-gapless, other-octets, Lexes-same, LexesTo-continue, after-fault}
+use Rattle.ostep_lex.proofs.TextLemmas.{after_mark, Spells-same, StopsAt-none, octets_of-append}
 
 -- tokens of one text are tokens of another text with the same bytes
 pub lexes_at : {octets text : List ℕ} {tokens : List Placed} → Spells octets text → HasTokens octets tokens → Lexes (places_of octets) text tokens
@@ -38,36 +38,36 @@ tokens_continue octets tokens all rest b a =
     record { others = c.0; first = c.1; lexes = c.2 }
 
 pub HasFault-none : {octets : List ℕ} {fault : LexFault} → HasFault octets fault → HasNoTokens octets
-HasFault-none {octets} h tokens t = behind-fault h.stands (tokens_continue octets h.tokens tokens h.rest h.before t).lexes
+HasFault-none {octets} h tokens t = after-fault h.stands (tokens_continue octets h.tokens tokens h.rest h.before t).lexes
 
 -- whitespace at the start of a text precedes all of its tokens
-white_piece : {c : ℕ} {rest behind : List ℕ} → is_white c ≡ true → GapPiece (c ∷ rest) behind → behind ≡ rest
+white_piece : {c : ℕ} {rest after : List ℕ} → is_white c ≡ true → GapPiece (c ∷ rest) after → after ≡ rest
 white_piece w g = GapPiece-same g (Gap.white w)
 
 white_gap : {c : ℕ} {rest end : List ℕ} → is_white c ≡ true → Gap (c ∷ rest) end → Gap rest end ⊎ (end ≡ c ∷ rest)
 white_gap w Gap.none = inr refl
 white_gap {end = end} w (Gap.piece g s) = inl (subst (λ x. Gap x end) (white_piece w g) s)
 
-no_white : {c : ℕ} {text rest behind : List ℕ} {l : Lexeme} → is_white c ≡ true → IsToken text l behind → text ≡ c ∷ rest → ⊥
+no_white : {c : ℕ} {text rest after : List ℕ} {l : Lexeme} → is_white c ≡ true → IsToken text l after → text ≡ c ∷ rest → ⊥
 no_white {rest = rest} w t e = IsToken-gapless t rest (subst (λ x. GapPiece x rest) (sym e) (Gap.white w))
 
-behind_white : {p : Places} {c : ℕ} {rest : List ℕ} {tokens : List Placed} → is_white c ≡ true → Lexes p (c ∷ rest) tokens → Lexes p rest tokens
-behind_white w (none g) = ⊎_elim (λ h. none h) (λ e. cc) (white_gap w g)
-behind_white w (next g t r) = ⊎_elim (λ h. next h t r) (λ e. absurd (no_white w t e)) (white_gap w g)
+after_white : {p : Places} {c : ℕ} {rest : List ℕ} {tokens : List Placed} → is_white c ≡ true → Lexes p (c ∷ rest) tokens → Lexes p rest tokens
+after_white w (none g) = ⊎_elim (λ h. none h) (λ e. cc) (white_gap w g)
+after_white w (next g t r) = ⊎_elim (λ h. next h t r) (λ e. absurd (no_white w t e)) (white_gap w g)
 
 pub White-lexes : {p : Places} {text from : List ℕ} {tokens : List Placed} → White text from → Lexes p text tokens → Lexes p from tokens
 White-lexes Stands.none l = l
-White-lexes (Stands.more w r) l = White-lexes r (behind_white w l)
+White-lexes (Stands.more w r) l = White-lexes r (after_white w l)
 
 -- no token begins like an XML property list
-angle-piece : {rest behind : List ℕ} → GapPiece (less_than ∷ rest) behind → ⊥
+angle-piece : {rest after : List ℕ} → GapPiece (less_than ∷ rest) after → ⊥
 angle-piece (Gap.white w) = cc
 
-angle-octets : {c : ℕ} {rest octets behind : List ℕ} → is_of_data c ≡ false → Octets (c ∷ rest) octets behind → ⊥
+angle-octets : {c : ℕ} {rest octets after : List ℕ} → is_of_data c ≡ false → Octets (c ∷ rest) octets after → ⊥
 angle-octets d Octets.close = cc
 angle-octets d (Octets.piece e r) = other-octets d e
 
-angle-token : {c : ℕ} {rest behind : List ℕ} {l : Lexeme} → is_of_data c ≡ false → IsToken (less_than ∷ c ∷ rest) l behind → ⊥
+angle-token : {c : ℕ} {rest after : List ℕ} {l : Lexeme} → is_of_data c ≡ false → IsToken (less_than ∷ c ∷ rest) l after → ⊥
 angle-token d (Lexeme.mark m) = cc
 angle-token d (Lexeme.run t b r) = cc
 angle-token d (Lexeme.quoted q r) = cc
@@ -79,7 +79,7 @@ angle-gap (Gap.piece g s) = absurd (angle-piece g)
 
 angle-lexes : {p : Places} {c : ℕ} {rest : List ℕ} {tokens : List Placed} → is_of_data c ≡ false → Lexes p (less_than ∷ c ∷ rest) tokens → ⊥
 angle-lexes d (none g) = cc (angle-gap g)
-angle-lexes d (next {behind = behind} {lexeme = l} g t r) = angle-token d (subst (λ x. IsToken x l behind) (angle-gap g) t)
+angle-lexes d (next {after = after} {lexeme = l} g t r) = angle-token d (subst (λ x. IsToken x l after) (angle-gap g) t)
 
 begins-lexes : {p : Places} {text : List ℕ} {tokens : List Placed} (c : ℕ) (rest : List ℕ) → text ≡ less_than ∷ c ∷ rest → is_of_data c ≡ false → Lexes p text tokens → ⊥
 begins-lexes {p} {tokens = tokens} c rest e d l = angle-lexes d (subst (λ x. Lexes p x tokens) e l)
@@ -91,9 +91,9 @@ either false b e = inr e
 xml-lexes : {p : Places} {text : List ℕ} {tokens : List Placed} → begins_xml text ≡ true → Lexes p text tokens → ⊥
 xml-lexes {text = text} e l =
     ⊎_elim
-    (λ f. ⊎_elim (λ g. begins-lexes 63 _ (behind_mark text (codes "<?xml") g) refl l) (λ g. begins-lexes 33 _ (behind_mark text (codes "<!DOCTYPE") g) refl l)
+    (λ f. ⊎_elim (λ g. begins-lexes 63 _ (after_mark text (codes "<?xml") g) refl l) (λ g. begins-lexes 33 _ (after_mark text (codes "<!DOCTYPE") g) refl l)
     (either (starts_with nat_eq text (codes "<?xml")) (starts_with nat_eq text (codes "<!DOCTYPE")) f))
-    (λ f. begins-lexes 112 _ (behind_mark text (codes "<plist") f) refl l)
+    (λ f. begins-lexes 112 _ (after_mark text (codes "<plist") f) refl l)
     (either (starts_with nat_eq text (codes "<?xml") || starts_with nat_eq text (codes "<!DOCTYPE")) (starts_with nat_eq text (codes "<plist")) e)
 
 pub HasXml-none : {octets : List ℕ} {at : ℕ} → HasXml octets at → HasNoTokens octets
@@ -132,14 +132,14 @@ data-stands (Stands.other d) h = h
 data-stands (Stands.odd d e) h = h
 data-stands (Stands.piece e f) h = data-stands f h
 
-behind-stands : {octets : List ℕ} {p : Places} {text : List ℕ} {f : LexFault} → FaultBehind p text f → HasFault octets f → Stands octets f
-behind-stands (Stands.gap g (Stands.unexpected m o)) h = h
-behind-stands (Stands.gap g (Stands.comment n)) h = h
-behind-stands (Stands.gap g (Stands.quoted q f)) h = quoted-stands f h
-behind-stands (Stands.gap g (Stands.data_token f)) h = data-stands f h
+after-stands : {octets : List ℕ} {p : Places} {text : List ℕ} {f : LexFault} → FaultBehind p text f → HasFault octets f → Stands octets f
+after-stands (Stands.gap g (Stands.unexpected m o)) h = h
+after-stands (Stands.gap g (Stands.comment n)) h = h
+after-stands (Stands.gap g (Stands.quoted q f)) h = quoted-stands f h
+after-stands (Stands.gap g (Stands.data_token f)) h = data-stands f h
 
 pub stands_in : {octets : List ℕ} {fault : LexFault} → HasFault octets fault → Stands octets fault
-stands_in h = behind-stands h.stands h
+stands_in h = after-stands h.stands h
 
 -- any fault but out of memory, of which nothing is stated
 memory_or : (octets : List ℕ) (P : LexFault → Type 0) → ((fault : LexFault) → P fault → Stands octets fault) → (fault : LexFault) → UnlessMemory P fault → Stands octets fault
@@ -193,13 +193,13 @@ run_ends : {text units rest : List ℕ} → Run text units rest → Ends text re
 run_ends (Quoted.stop {rest = rest} e) = whole rest
 run_ends (Quoted.more {c = c} e r) = one c (run_ends r)
 
-number_ends : (base count high : ℕ) (text : List ℕ) → Ends text (number_from base count high text).behind
+number_ends : (base count high : ℕ) (text : List ℕ) → Ends text (number_from base count high text).after
 number_ends base zero high text = whole text
 number_ends base (suc count) high [] = whole []
 number_ends base (suc count) high (c ∷ rest) = either (is_digit c base) (number_ends base count (high * base + digit_value c) rest)
   where
-    either : (b : Bool) → Ends rest (number_from base count (high * base + digit_value c) rest).behind
-        → Ends (c ∷ rest) (cond b (number_from base count (high * base + digit_value c) rest) (record { value = high; behind = c ∷ rest })).behind
+    either : (b : Bool) → Ends rest (number_from base count (high * base + digit_value c) rest).after
+        → Ends (c ∷ rest) (cond b (number_from base count (high * base + digit_value c) rest) (record { value = high; after = c ∷ rest })).after
     either true h = one c h
     either false h = whole (c ∷ rest)
 
@@ -231,48 +231,48 @@ token_ends (Lexeme.quoted {c = c} q r) = one c (quoted_ends r)
 token_ends (Lexeme.data_token r) = one 60 (octets_ends r)
 
 -- the offset of the rest, from the offset of the text
-place_behind : (p : Places) (at : ℕ) (text front rest : List ℕ) → p.end ≡ at + length (octets_of p.encoding text) → text ≡ front ++ rest
+place_after : (p : Places) (at : ℕ) (text front rest : List ℕ) → p.end ≡ at + length (octets_of p.encoding text) → text ≡ front ++ rest
     → place p rest ≡ at + length (octets_of p.encoding front)
-place_behind p at text front rest e t =
+place_after p at text front rest e t =
     omega (arith, ap length (ap (octets_of p.encoding) t ∙ octets_of-append p.encoding front rest), length-append (octets_of p.encoding front) (octets_of p.encoding rest))
 
 -- the offset of the end of the input, from that of the rest
-end_behind : (p : Places) (at : ℕ) (text front rest : List ℕ) → p.end ≡ at + length (octets_of p.encoding text) → text ≡ front ++ rest
+end_after : (p : Places) (at : ℕ) (text front rest : List ℕ) → p.end ≡ at + length (octets_of p.encoding text) → text ≡ front ++ rest
     → p.end ≡ place p rest + length (octets_of p.encoding rest)
-end_behind p at text front rest e t =
+end_after p at text front rest e t =
     omega (arith, ap length (ap (octets_of p.encoding) t ∙ octets_of-append p.encoding front rest), length-append (octets_of p.encoding front) (octets_of p.encoding rest))
 
-first : (p : Places) (at : ℕ) (text from behind : List ℕ) (l : Lexeme) → p.end ≡ at + length (octets_of p.encoding text) → Gap text from → IsToken from l behind
-    → StandsFirst p.encoding at (octets_of p.encoding text) (record { lexeme = l; start = place p from; end = place p behind }) (octets_of p.encoding behind)
-first p at text from behind l e g t =
+first : (p : Places) (at : ℕ) (text from after : List ℕ) (l : Lexeme) → p.end ≡ at + length (octets_of p.encoding text) → Gap text from → IsToken from l after
+    → StandsFirst p.encoding at (octets_of p.encoding text) (record { lexeme = l; start = place p from; end = place p after }) (octets_of p.encoding after)
+first p at text from after l e g t =
     let front = gap_ends g in
     let piece = token_ends t in
-    let from_is : from ≡ piece.0 ++ behind = piece.1 in
-    let text_is : text ≡ front.0 ++ (piece.0 ++ behind) = front.1 ∙ ap (λ w. front.0 ++ w) from_is in
-    let gap : Gap (front.0 ++ (piece.0 ++ behind)) (piece.0 ++ behind) = subst (λ x. Gap x (piece.0 ++ behind)) text_is (subst (λ x. Gap text x) from_is g) in
+    let from_is : from ≡ piece.0 ++ after = piece.1 in
+    let text_is : text ≡ front.0 ++ (piece.0 ++ after) = front.1 ∙ ap (λ w. front.0 ++ w) from_is in
+    let gap : Gap (front.0 ++ (piece.0 ++ after)) (piece.0 ++ after) = subst (λ x. Gap x (piece.0 ++ after)) text_is (subst (λ x. Gap text x) from_is g) in
     record {
       gap = front.0;
       piece = piece.0;
-      behind = behind;
+      after = after;
       is_gap = gap;
-      is_token = subst (λ x. IsToken x l behind) from_is t;
-      spelled = ap (octets_of p.encoding) text_is ∙ octets_of-append p.encoding front.0 (piece.0 ++ behind)
-          ∙ ap (λ w. octets_of p.encoding front.0 ++ w) (octets_of-append p.encoding piece.0 behind);
+      is_token = subst (λ x. IsToken x l after) from_is t;
+      spelled = ap (octets_of p.encoding) text_is ∙ octets_of-append p.encoding front.0 (piece.0 ++ after)
+          ∙ ap (λ w. octets_of p.encoding front.0 ++ w) (octets_of-append p.encoding piece.0 after);
       others_are = refl;
-      start = place_behind p at text front.0 from e front.1;
-      end = place_behind p (place p from) from piece.0 behind (end_behind p at text front.0 from e front.1) from_is;
+      start = place_after p at text front.0 from e front.1;
+      end = place_after p (place p from) from piece.0 after (end_after p at text front.0 from e front.1) from_is;
     }
 
 in_turn : (p : Places) (at : ℕ) {text : List ℕ} {tokens : List Placed} → p.end ≡ at + length (octets_of p.encoding text) → Lexes p text tokens
     → StandInTurn p.encoding at (octets_of p.encoding text) tokens
 in_turn p at {text} e (none g) = (text, g, refl)
-in_turn p at {text} e (next {from = from} {behind = behind} {lexeme = l} g t r) =
+in_turn p at {text} e (next {from = from} {after = after} {lexeme = l} g t r) =
     let both = chain (gap_ends g) (token_ends t) in
-    (octets_of p.encoding behind, first p at text from behind l e g t, in_turn p (place p behind) (end_behind p at text both.0 behind e both.1) r)
+    (octets_of p.encoding after, first p at text from after l e g t, in_turn p (place p after) (end_after p at text both.0 after e both.1) r)
 
 pub HasTokens-spans : {octets : List ℕ} {tokens : List Placed} → HasTokens octets tokens → HasSpans octets tokens
 HasTokens-spans {octets} {tokens} h = record {
-  behind = octets_of (encoding_of octets) h.text;
+  after = octets_of (encoding_of octets) h.text;
   marked = h.spells.spelled;
   in_turn = in_turn (places_of octets) (length (mark_of octets))
       (ap length h.spells.spelled ∙ length-append (mark_of octets) (octets_of (encoding_of octets) h.text)) h.lexes;

@@ -96,7 +96,7 @@ white_gap Stands.none = Gap.none
 white_gap (Stands.more w r) = Gap.piece (Gap.white w) (white_gap r)
 
 -- the first character that is not whitespace is unique
-white_same : {c : ℕ} {text from behind : List ℕ} → White text from → begins_white from ≡ false → is_white c ≡ false → White text (c ∷ behind) → from ≡ c ∷ behind
+white_same : {c : ℕ} {text from after : List ℕ} → White text from → begins_white from ≡ false → is_white c ≡ false → White text (c ∷ after) → from ≡ c ∷ after
 unfolding begins_white
 white_same Stands.none f n Stands.none = refl
 white_same Stands.none f n (Stands.more w r) = cc
@@ -113,21 +113,21 @@ head_or : List ℕ → ℕ
 head_or [] = 0
 head_or (c ∷ rest) = c
 
-other_first : (mark c : ℕ) (rest behind : List ℕ) → (c == mark) ≡ false → c ∷ rest ≡ mark ∷ behind → ⊥
+other_first : (mark c : ℕ) (rest after : List ℕ) → (c == mark) ≡ false → c ∷ rest ≡ mark ∷ after → ⊥
 unfolding head_or
-other_first mark c rest behind d e = unequal mark (subst (λ n. (n == mark) ≡ false) (ap head_or e) d)
+other_first mark c rest after d e = unequal mark (subst (λ n. (n == mark) ≡ false) (ap head_or e) d)
 
 -- the mark does not follow whitespace if another character, or nothing, does
-lacks : {text from : List ℕ} (mark : ℕ) → White text from → begins_white from ≡ false → ((behind : List ℕ) → from ≡ mark ∷ behind → ⊥) → LacksMark mark text
-lacks mark w f other lexeme behind m r = other behind (white_same w f (not_white mark lexeme m) r)
+lacks : {text from : List ℕ} (mark : ℕ) → White text from → begins_white from ≡ false → ((after : List ℕ) → from ≡ mark ∷ after → ⊥) → LacksMark mark text
+lacks mark w f other lexeme after m r = other after (white_same w f (not_white mark lexeme m) r)
 
 pub lacks_other : {text from rest : List ℕ} (mark c : ℕ) → White text from → from ≡ c ∷ rest → is_white c ≡ false → (c == mark) ≡ false → LacksMark mark text
 unfolding begins_white
-lacks_other {from = from} mark c w e n d = lacks mark w (subst (λ t. begins_white t ≡ false) (sym e) n) (λ behind s. other_first mark c _ behind d (sym e ∙ s))
+lacks_other {from = from} mark c w e n d = lacks mark w (subst (λ t. begins_white t ≡ false) (sym e) n) (λ after s. other_first mark c _ after d (sym e ∙ s))
 
 pub lacks_all : {text from : List ℕ} (mark : ℕ) → White text from → from ≡ [] → LacksMark mark text
 unfolding begins_white
-lacks_all mark w e = lacks mark w (subst (λ t. begins_white t ≡ false) (sym e) refl) (λ behind s. cc (sym e ∙ s))
+lacks_all mark w e = lacks mark w (subst (λ t. begins_white t ≡ false) (sym e) refl) (λ after s. cc (sym e ∙ s))
 
 pub token_mark : (c : ℕ) (l : Lexeme) (text rest : List ℕ) → text ≡ c ∷ rest → mark_token c ≡ Some l → IsToken text l rest
 token_mark c l text rest e m = subst (λ x. IsToken x l rest) (sym e) (Lexeme.mark m)
@@ -225,9 +225,9 @@ pub placed_shorter : {token : Placed} {old new : Cursor} → PassesPlaced token 
 placed_shorter p = let h = gap_shorter p.gap in let k = token_shorter p.token_at in omega (arith, h, k)
 
 -- one token more, all tokens, and a fault
-pub behind_more : {octets : List ℕ} {tokens : List Placed} {token : Placed} {old new : Cursor} → StandsBehind octets tokens old → PassesPlaced token old new
+pub after_more : {octets : List ℕ} {tokens : List Placed} {token : Placed} {old new : Cursor} → StandsBehind octets tokens old → PassesPlaced token old new
     → StandsBehind octets (tokens ++ token ∷ []) new
-behind_more {octets} {tokens} {token} {old} {new} b t =
+after_more {octets} {tokens} {token} {old} {new} b t =
     let p = places_of octets in
     let start : token.start ≡ place p t.from = t.start ∙ ap (λ q. place q t.from) b.places in
     let end : token.end ≡ place p (ahead new) = t.end ∙ ap (λ q. place q (ahead new)) b.places in
@@ -241,43 +241,43 @@ behind_more {octets} {tokens} {token} {old} {new} b t =
       places = t.input ∙ b.places;
     }
 
-pub behind_all : {octets : List ℕ} {tokens : List Placed} {cursor : Cursor} → StandsBehind octets tokens cursor → Gap (ahead cursor) [] → HasTokens octets tokens
-behind_all b g = record { text = b.before.text; spells = b.before.spells; lexes = LexesTo-all b.before.lexes g }
+pub after_all : {octets : List ℕ} {tokens : List Placed} {cursor : Cursor} → StandsBehind octets tokens cursor → Gap (ahead cursor) [] → HasTokens octets tokens
+after_all b g = record { text = b.before.text; spells = b.before.spells; lexes = LexesTo-all b.before.lexes g }
 
-behind_at : {octets : List ℕ} {tokens : List Placed} {cursor : Cursor} {fault : LexFault} → StandsBehind octets tokens cursor
+after_at : {octets : List ℕ} {tokens : List Placed} {cursor : Cursor} {fault : LexFault} → StandsBehind octets tokens cursor
     → FaultBehind (places_in cursor) (ahead cursor) fault → HasFault octets fault
-behind_at {tokens = tokens} {cursor = cursor} {fault = fault} b f = record {
+after_at {tokens = tokens} {cursor = cursor} {fault = fault} b f = record {
   tokens = tokens;
   rest = ahead cursor;
   before = b.before;
   stands = subst (λ p. FaultBehind p (ahead cursor) fault) b.places f;
 }
 
-pub behind_stands : {octets : List ℕ} {tokens : List Placed} {cursor : Cursor} {fault : LexFault} → StandsBehind octets tokens cursor
+pub after_stands : {octets : List ℕ} {tokens : List Placed} {cursor : Cursor} {fault : LexFault} → StandsBehind octets tokens cursor
     → UnlessMemory (FaultBehind (places_in cursor) (ahead cursor)) fault → Stands octets fault
-behind_stands {octets} {fault = fault} b u = stands_unless octets fault (λ n. behind_at b (u n))
+after_stands {octets} {fault = fault} b u = stands_unless octets fault (λ n. after_at b (u n))
 
-pub behind_none : {octets : List ℕ} {tokens : List Placed} {cursor : Cursor} {fault : LexFault} → StandsBehind octets tokens cursor
+pub after_none : {octets : List ℕ} {tokens : List Placed} {cursor : Cursor} {fault : LexFault} → StandsBehind octets tokens cursor
     → UnlessMemory (FaultBehind (places_in cursor) (ahead cursor)) fault → UnlessMemory (λ f. HasNoTokens octets) fault
-behind_none b u n = HasFault-none (behind_at b (u n))
+after_none b u n = HasFault-none (after_at b (u n))
 
 -- one token more at the end of the tokens found
 pub found_more : (found new : List Token) (token : Token) → new ≡ found ++ token ∷ [] → map placed found ++ placed token ∷ [] ≡ map placed new
 found_more found new token e = sym (ap (map placed) e ∙ map-append placed found (token ∷ []))
 
 -- no token precedes the start
-pub opens_behind : {octets : List ℕ} {cursor : Cursor} → Opens octets cursor → StandsBehind octets [] cursor
-opens_behind {cursor = cursor} o = record { before = record { text = ahead cursor; spells = o.spells; lexes = here }; places = o.places }
+pub opens_after : {octets : List ℕ} {cursor : Cursor} → Opens octets cursor → StandsBehind octets [] cursor
+opens_after {cursor = cursor} o = record { before = record { text = ahead cursor; spells = o.spells; lexes = here }; places = o.places }
 
-pub opens_xml : {octets : List ℕ} (cursor behind : Cursor) {at : ℕ} → Opens octets cursor → White (ahead cursor) (ahead behind) → SameInput cursor behind
-    → begins_xml (ahead behind) ≡ true → at ≡ place_at behind → HasXml octets at
-opens_xml {octets} cursor behind {at} o w i b a = record {
+pub opens_xml : {octets : List ℕ} (cursor after : Cursor) {at : ℕ} → Opens octets cursor → White (ahead cursor) (ahead after) → SameInput cursor after
+    → begins_xml (ahead after) ≡ true → at ≡ place_at after → HasXml octets at
+opens_xml {octets} cursor after {at} o w i b a = record {
   text = ahead cursor;
   spells = o.spells;
-  from = ahead behind;
+  from = ahead after;
   white = w;
   begins = b;
-  stands = a ∙ ap (λ p. place p (ahead behind)) (i ∙ o.places);
+  stands = a ∙ ap (λ p. place p (ahead after)) (i ∙ o.places);
 }
 
 pub plain_run : {old new : Cursor} {front : List ℕ} → PassesStretch RunClass old front new → Run (ahead new) [] (ahead new) → PassesRun old new front
@@ -312,7 +312,7 @@ pub adds_token : (lexeme : Lexeme) (old start end : Cursor) → Gap (ahead old) 
 adds_token lexeme old start end g i t = record {
   token = record { lexeme = lexeme; start = place (places_in old) (ahead start); end = place (places_in old) (ahead end) };
   is = refl;
-  stands = λ octets tokens b. behind_more b (passes lexeme old start end g i t);
+  stands = λ octets tokens b. after_more b (passes lexeme old start end g i t);
 }
 
 pub adds_shorter : (lexeme : Lexeme) (old start end : Cursor) → Gap (ahead old) (ahead start) → SameInput old start → PassesToken lexeme start end → length (ahead end) < length (ahead old)

@@ -30,7 +30,7 @@ use Rattle.ostep_lex.specs.Cursor.{ahead, PassesPairs}
 use Rattle.ostep_lex.proofs.TextLemmas.{whole_utf8}
 use Rattle.ostep_lex.proofs.StretchLemmas.{AsciiFront}
 
-pub number_stop : (base count high : ℕ) (text : List ℕ) → begins_digit base text ≡ false → number_from base count high text ≡ record { value = high; behind = text }
+pub number_stop : (base count high : ℕ) (text : List ℕ) → begins_digit base text ≡ false → number_from base count high text ≡ record { value = high; after = text }
 number_stop base zero high text e = refl
 number_stop base (suc count) high [] e = refl
 number_stop base (suc count) high (c ∷ rest) e = rw e refl
@@ -68,7 +68,7 @@ number_step base count read high digit c text rest e below d =
     ap (λ n. number_from base n high text) left ∙ number_more base (count - (read + 1)) high c text rest e d.0
     ∙ ap (λ v. number_from base (count - (read + 1)) (high * base + v) rest) (sym d.1)
 
-pub number_no_digit : (base count high c : ℕ) (text rest : List ℕ) → text ≡ c ∷ rest → ¬ (digit_value c < base) → number_from base count high text ≡ record { value = high; behind = text }
+pub number_no_digit : (base count high c : ℕ) (text rest : List ℕ) → text ≡ c ∷ rest → ¬ (digit_value c < base) → number_from base count high text ≡ record { value = high; after = text }
 number_no_digit base count high c text rest e d =
     number_stop base count high text (ap (begins_digit base) e ∙ le-ltb (digit_value c) base (omega arith))
 
@@ -85,22 +85,22 @@ run_stop e t = Quoted.stop (ap begins_run e ∙ t)
 pub run_none : {text : List ℕ} → text ≡ [] → Run text [] text
 run_none e = Quoted.stop (ap begins_run e)
 
-pub escape_octal : (text end : List ℕ) (value : ℕ) → begins_digit 8 text ≡ true → octal_number text ≡ record { value = value; behind = end } → value ≤ 0x7f
+pub escape_octal : (text end : List ℕ) (value : ℕ) → begins_digit 8 text ≡ true → octal_number text ≡ record { value = value; after = end } → value ≤ 0x7f
     → Escape text (value ∷ []) end
 escape_octal text end value d n low =
     let limit : (octal_number text).value ≤ 0x7f = rw n low in
-    subst (λ (m : Number). Escape text (m.value ∷ []) m.behind) n (Quoted.octal d limit)
+    subst (λ (m : Number). Escape text (m.value ∷ []) m.after) n (Quoted.octal d limit)
 
 pub escape_unit : (text digits end : List ℕ) (value : ℕ) → text ≡ unit_letter ∷ digits → begins_digit 16 digits ≡ true
-    → hexadecimal_number digits ≡ record { value = value; behind = end } → Escape text (value ∷ []) end
+    → hexadecimal_number digits ≡ record { value = value; after = end } → Escape text (value ∷ []) end
 escape_unit text digits end value e d n =
-    subst (λ x. Escape x (value ∷ []) end) (sym e) (subst (λ (m : Number). Escape (unit_letter ∷ digits) (m.value ∷ []) m.behind) n (Quoted.unit d))
+    subst (λ x. Escape x (value ∷ []) end) (sym e) (subst (λ (m : Number). Escape (unit_letter ∷ digits) (m.value ∷ []) m.after) n (Quoted.unit d))
 
 pub escape_character : (text rest : List ℕ) (c : ℕ) → text ≡ c ∷ rest → is_octal c ≡ false → (c == unit_letter) ≡ false → Escape text (escaped c) rest
 escape_character text rest c e o u = subst (λ x. Escape x (escaped c) rest) (sym e) (Quoted.character o u)
 
 pub octal_fault : (p : Places) (start at value : ℕ) (text rest end : List ℕ) → text ≡ backslash ∷ rest → begins_digit 8 rest ≡ true
-    → octal_number rest ≡ record { value = value; behind = end } → 0x7f < value → at ≡ place p text → EscapeFault p start text (OctalRange at)
+    → octal_number rest ≡ record { value = value; after = end } → 0x7f < value → at ≡ place p text → EscapeFault p start text (OctalRange at)
 octal_fault p start at value text rest end e d n high a =
     let limit : 0x7f < (octal_number rest).value = rw n high in
     rw (a, e) (Stands.too_high d limit)
@@ -112,13 +112,13 @@ unit_fault p start at text letter rest e l d a = rw (a, e, l) (Stands.no_digit d
 pub cut_fault : (p : Places) (start : ℕ) (text rest : List ℕ) → text ≡ backslash ∷ rest → rest ≡ [] → EscapeFault p start text (UnclosedString start)
 cut_fault p start text rest e r = rw (e, r) Stands.cut_escape
 
-number_shorter : (base count high : ℕ) (text : List ℕ) → length (number_from base count high text).behind ≤ length text
+number_shorter : (base count high : ℕ) (text : List ℕ) → length (number_from base count high text).after ≤ length text
 number_shorter base zero high text = omega arith
 number_shorter base (suc count) high [] = omega arith
 number_shorter base (suc count) high (c ∷ rest) = either (is_digit c base) (number_shorter base count (high * base + digit_value c) rest)
   where
-    either : (b : Bool) → length (number_from base count (high * base + digit_value c) rest).behind ≤ length rest
-        → length (cond b (number_from base count (high * base + digit_value c) rest) (record { value = high; behind = c ∷ rest })).behind ≤ length (c ∷ rest)
+    either : (b : Bool) → length (number_from base count (high * base + digit_value c) rest).after ≤ length rest
+        → length (cond b (number_from base count (high * base + digit_value c) rest) (record { value = high; after = c ∷ rest })).after ≤ length (c ∷ rest)
     either true h = omega arith
     either false h = omega arith
 
@@ -177,9 +177,9 @@ cut_data_fault p at text e a = rw (a, e) Stands.cut_data
 ascii : (c : ℕ) → is_hexadecimal c ≡ true → c < 128
 ascii c h = grind (arith, nat_tests)
 
-pub one_pair : {text second behind : List ℕ} {c d high low : ℕ} → text ≡ c ∷ second → second ≡ d ∷ behind → IsDigitOf c high → IsDigitOf d low
-    → IsPair text (high * 16 + low) behind
-one_pair {text} {second} {behind} {c} {d} {high} {low} e f h l = record {
+pub one_pair : {text second after : List ℕ} {c d high low : ℕ} → text ≡ c ∷ second → second ≡ d ∷ after → IsDigitOf c high → IsDigitOf d low
+    → IsPair text (high * 16 + low) after
+one_pair {text} {second} {after} {c} {d} {high} {low} e f h l = record {
   high = c;
   low = d;
   first = e ∙ ap (λ w. c ∷ w) f;
@@ -193,13 +193,13 @@ pairs-append (Pairs.more h l p) q = Pairs.more h l (pairs-append p q)
 pub pairs_none : (octets text : List ℕ) → AppendsPairs octets octets text text
 pairs_none octets text = record { digits = []; values = []; pairs = Pairs.none; split = refl; appended = sym (append-nil octets) }
 
-pub pairs_more : {octets found more text rest behind : List ℕ} {octet : ℕ} → AppendsPairs octets found text rest → IsPair rest octet behind → more ≡ found ++ octet ∷ []
-    → AppendsPairs octets more text behind
-pairs_more {octets} {found} {more} {text} {rest} {behind} {octet} a p e = record {
+pub pairs_more : {octets found more text rest after : List ℕ} {octet : ℕ} → AppendsPairs octets found text rest → IsPair rest octet after → more ≡ found ++ octet ∷ []
+    → AppendsPairs octets more text after
+pairs_more {octets} {found} {more} {text} {rest} {after} {octet} a p e = record {
   digits = a.digits ++ p.high ∷ p.low ∷ [];
   values = a.values ++ octet ∷ [];
   pairs = pairs-append a.pairs p.pair;
-  split = a.split ∙ ap (λ w. a.digits ++ w) p.first ∙ sym (append_assoc a.digits (p.high ∷ p.low ∷ []) behind);
+  split = a.split ∙ ap (λ w. a.digits ++ w) p.first ∙ sym (append_assoc a.digits (p.high ∷ p.low ∷ []) after);
   appended = e ∙ ap (λ w. w ++ octet ∷ []) a.appended ∙ append_assoc octets a.values (octet ∷ []);
 }
 
@@ -217,29 +217,29 @@ front_text rest (Pairs.more {c = c} {d = d} {digits = cs} h l p) u =
           ∙ ap (λ w. c ∷ w) (chars_past_char (d ∷ (cs ++ rest)) (cs ++ rest) d v f ∙ ap (λ w. d ∷ w) r.characters);
     }
 
-pub pairs_text : {octets more text behind : List ℕ} → AppendsPairs octets more text behind → IsUtf8 text → AppendsFront octets more text behind
-pairs_text {octets} {more} {text} {behind} a u =
-    let r = front_text behind a.pairs (subst IsUtf8 a.split u) in
+pub pairs_text : {octets more text after : List ℕ} → AppendsPairs octets more text after → IsUtf8 text → AppendsFront octets more text after
+pairs_text {octets} {more} {text} {after} a u =
+    let r = front_text after a.pairs (subst IsUtf8 a.split u) in
     record { passes = a; characters = ap chars a.split ∙ r.characters; utf8 = r.utf8 }
 
-pub pairs_boundary : {octets more text behind : List ℕ} → AppendsPairs octets more text behind → IsUtf8 text → IsCharBoundary text (length text - length behind)
-pairs_boundary {octets} {more} {text} {behind} a u =
-    let at : length a.digits ≡ length text - length behind = omega (arith, length-append a.digits behind, ap length a.split) in
-    subst (IsCharBoundary text) at (IsCharBoundary-at_seam text a.digits behind a.split (pairs_text a u).utf8)
+pub pairs_boundary : {octets more text after : List ℕ} → AppendsPairs octets more text after → IsUtf8 text → IsCharBoundary text (length text - length after)
+pairs_boundary {octets} {more} {text} {after} a u =
+    let at : length a.digits ≡ length text - length after = omega (arith, length-append a.digits after, ap length a.split) in
+    subst (IsCharBoundary text) at (IsCharBoundary-at_seam text a.digits after a.split (pairs_text a u).utf8)
 
-pub pairs_dropped : {octets more text behind : List ℕ} → AppendsPairs octets more text behind → drop (length text - length behind) text ≡ behind
-pairs_dropped {octets} {more} {text} {behind} a =
-    let at : length text - length behind ≡ length a.digits = omega (arith, length-append a.digits behind, ap length a.split) in
-    ap (λ n. drop n text) at ∙ ap (drop (length a.digits)) a.split ∙ drop-append_seam a.digits behind
+pub pairs_dropped : {octets more text after : List ℕ} → AppendsPairs octets more text after → drop (length text - length after) text ≡ after
+pairs_dropped {octets} {more} {text} {after} a =
+    let at : length text - length after ≡ length a.digits = omega (arith, length-append a.digits after, ap length a.split) in
+    ap (λ n. drop n text) at ∙ ap (drop (length a.digits)) a.split ∙ drop-append_seam a.digits after
 
-pub pairs_lead : {octets more : List ℕ} {source : Source} {text behind : Bor (List ℕ)} → source ≡ Utf8 text → AppendsFront octets more text.now behind.now
-    → AppendsLead octets more source (Utf8 behind)
-pairs_lead {octets} {more} {source} {text} {behind} e f = subst (λ x. AppendsLead octets more x (Utf8 behind)) (sym e)
+pub pairs_lead : {octets more : List ℕ} {source : Source} {text after : Bor (List ℕ)} → source ≡ Utf8 text → AppendsFront octets more text.now after.now
+    → AppendsLead octets more source (Utf8 after)
+pairs_lead {octets} {more} {source} {text} {after} e f = subst (λ x. AppendsLead octets more x (Utf8 after)) (sym e)
     (let a = f.passes in record {
       passes = record { digits = a.digits; values = a.values; pairs = a.pairs; split = f.characters; appended = a.appended };
-      whole = whole_utf8 behind f.utf8;
+      whole = whole_utf8 after f.utf8;
       encoding = refl;
-      shorter = omega (arith, length-append a.digits behind.now, ap length a.split);
+      shorter = omega (arith, length-append a.digits after.now, ap length a.split);
     })
 
 pub no_lead : {octets : List ℕ} {source : Source} → IsWhole source → AppendsLead octets octets source source
@@ -253,13 +253,13 @@ fault_front : {digits values : List ℕ} (places : Places) (rest : List ℕ) (fa
 fault_front places rest fault Pairs.none r = r
 fault_front places rest fault (Pairs.more h l p) r = Stands.piece (Octets.pair h l) (fault_front places rest fault p r)
 
-pub octets_pairs : {octets appended text behind : List ℕ} {more end : List ℕ} (a : AppendsPairs octets appended text behind) → Octets behind more end
+pub octets_pairs : {octets appended text after : List ℕ} {more end : List ℕ} (a : AppendsPairs octets appended text after) → Octets after more end
     → Octets text (a.values ++ more) end
-octets_pairs {behind = behind} {more} {end} a r = subst (λ t. Octets t (a.values ++ more) end) (sym a.split) (octets_front behind more end a.pairs r)
+octets_pairs {after = after} {more} {end} a r = subst (λ t. Octets t (a.values ++ more) end) (sym a.split) (octets_front after more end a.pairs r)
 
-pub fault_pairs : {places : Places} {octets appended text behind : List ℕ} {fault : LexFault} → AppendsPairs octets appended text behind
-    → OctetsFault places behind fault → OctetsFault places text fault
-fault_pairs {places} {behind = behind} {fault} a r = subst (λ t. OctetsFault places t fault) (sym a.split) (fault_front places behind fault a.pairs r)
+pub fault_pairs : {places : Places} {octets appended text after : List ℕ} {fault : LexFault} → AppendsPairs octets appended text after
+    → OctetsFault places after fault → OctetsFault places text fault
+fault_pairs {places} {after = after} {fault} a r = subst (λ t. OctetsFault places t fault) (sym a.split) (fault_front places after fault a.pairs r)
 
 pub pairs_shorter : {octets more : List ℕ} {old new : Cursor} → PassesPairs octets more old new → length (ahead new) ≤ length (ahead old)
 pairs_shorter {octets} {more} {old} {new} p = omega (arith, length-append p.passes.digits (ahead new), ap length p.passes.split)

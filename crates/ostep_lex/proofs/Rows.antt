@@ -81,9 +81,9 @@ slashes = record {
 }
 
 -- `a/*c*/`: the unquoted string is `a/`
-pub star_behind_run : HasFault (codes "a/*c*/") (UnexpectedCharacter 2)
+pub star_after_run : HasFault (codes "a/*c*/") (UnexpectedCharacter 2)
 unfolding encode_utf8
-star_behind_run = record {
+star_after_run = record {
   tokens = at (text (codes "a/")) 0 2 ∷ [];
   rest = codes "*c*/";
   before = record {
@@ -119,9 +119,9 @@ pub comma_in_data : HasFault (codes "<0f,>") (BadData 3)
 unfolding encode_utf8
 comma_in_data = first_at (codes "<0f,>") (record { scalars = refl; spelled = refl }) (Stands.data_token (Stands.piece (Octets.pair refl refl) (Stands.other refl)))
 
-pub no_digit_behind_letter : HasFault (codes "\"\\Ug\"") (BadEscape 1)
+pub no_digit_after_letter : HasFault (codes "\"\\Ug\"") (BadEscape 1)
 unfolding encode_utf8
-no_digit_behind_letter = first_at (codes "\"\\Ug\"") (record { scalars = refl; spelled = refl }) (Stands.quoted refl (Stands.escape (Stands.no_digit refl)))
+no_digit_after_letter = first_at (codes "\"\\Ug\"") (record { scalars = refl; spelled = refl }) (Stands.quoted refl (Stands.escape (Stands.no_digit refl)))
 
 pub string_cut : HasFault (codes "\"a") (UnclosedString 0)
 unfolding encode_utf8

@@ -27,7 +27,7 @@ use Rattle.ostep_lex.specs.Quoted.{Run as RunOf, Quoted, Piece, is_raw}
 use Rattle.ostep_lex.specs.Stands
 use Rattle.ostep_lex.specs.Stands.{QuotedFault, FaultBehind}
 use Rattle.ostep_lex.specs.Cursor.{ahead, places_in, PassesStretch, SkipsStretch, PassesGap}
-use Rattle.ostep_lex.proofs.TextLemmas.{and_left, and_right, whole_utf8, octets_of-append, WholeText, WholeText-behind, spelling_one, utf16_characters-spelling, units_in-first}
+use Rattle.ostep_lex.proofs.TextLemmas.{and_left, and_right, whole_utf8, octets_of-append, WholeText, WholeText-after, spelling_one, utf16_characters-spelling, units_in-first}
 
 pub stretch_none : (kind : Class) (octets : List ℕ) → BeginsWithStretch kind octets octets
 stretch_none kind octets = record { front = []; stretch = refl; split = refl }
@@ -39,12 +39,12 @@ is_stretch-append limit kind (x ∷ xs) ys a b =
     let more = is_stretch-append limit kind xs ys (and_right (nat_lt x limit && belongs kind x) (is_stretch limit kind xs) a) b in
     rw (here, more) refl
 
-pub stretch_more : {kind : Class} {octets rest behind : List ℕ} {c : ℕ} → BeginsWithStretch kind octets rest → rest ≡ c ∷ behind → (nat_lt c 128 && belongs kind c) ≡ true
-    → BeginsWithStretch kind octets behind
-stretch_more {kind} {octets} {rest} {behind} {c} f e t = record {
+pub stretch_more : {kind : Class} {octets rest after : List ℕ} {c : ℕ} → BeginsWithStretch kind octets rest → rest ≡ c ∷ after → (nat_lt c 128 && belongs kind c) ≡ true
+    → BeginsWithStretch kind octets after
+stretch_more {kind} {octets} {rest} {after} {c} f e t = record {
   front = f.front ++ c ∷ [];
   stretch = is_stretch-append 128 kind f.front (c ∷ []) f.stretch (rw t refl);
-  split = f.split ∙ ap (λ w. f.front ++ w) e ∙ sym (append_assoc f.front (c ∷ []) behind);
+  split = f.split ∙ ap (λ w. f.front ++ w) e ∙ sym (append_assoc f.front (c ∷ []) after);
 }
 
 below_128 : (c : ℕ) (b : Bool) → (nat_lt c 128 && b) ≡ true → c < 128
@@ -77,33 +77,33 @@ ascii_stretch kind (c ∷ cs) s =
     rw (here, more) refl
 
 -- the position at which the text is split, and what follows from it
-pub record Cut (kind : Class) (text behind : List ℕ) (at : ℕ) : Type 0 where
+pub record Cut (kind : Class) (text after : List ℕ) (at : ℕ) : Type 0 where
   pub boundary : IsCharBoundary text at
   pub stretch : is_stretch 128 kind (take at text) ≡ true
   pub characters : chars text ≡ take at text ++ chars (drop at text)
   pub split : text ≡ take at text ++ drop at text
   pub utf8 : IsUtf8 (drop at text)
 
-cut_seam : (kind : Class) (front behind : List ℕ) → is_stretch 128 kind front ≡ true → IsUtf8 (front ++ behind) → Cut kind (front ++ behind) behind (length front)
-cut_seam kind front behind s u =
-    let h = ascii_front kind front behind s u in
+cut_seam : (kind : Class) (front after : List ℕ) → is_stretch 128 kind front ≡ true → IsUtf8 (front ++ after) → Cut kind (front ++ after) after (length front)
+cut_seam kind front after s u =
+    let h = ascii_front kind front after s u in
     record {
-      boundary = IsCharBoundary-at_seam (front ++ behind) front behind refl h.utf8;
+      boundary = IsCharBoundary-at_seam (front ++ after) front after refl h.utf8;
       stretch = rw take-append_seam s;
       characters = rw (take-append_seam, drop-append_seam) h.characters;
       split = rw (take-append_seam, drop-append_seam) refl;
       utf8 = rw drop-append_seam h.utf8;
     }
 
-pub cut : {kind : Class} {text behind : List ℕ} → BeginsWithStretch kind text behind → IsUtf8 text → Cut kind text behind (length text - length behind)
-cut {kind} {text} {behind} f u =
-    let at : length f.front ≡ length text - length behind = omega (arith, length-append f.front behind, ap length f.split) in
-    subst (λ n. Cut kind text behind n) at (subst (λ t. Cut kind t behind (length f.front)) (sym f.split) (cut_seam kind f.front behind f.stretch (subst IsUtf8 f.split u)))
+pub cut : {kind : Class} {text after : List ℕ} → BeginsWithStretch kind text after → IsUtf8 text → Cut kind text after (length text - length after)
+cut {kind} {text} {after} f u =
+    let at : length f.front ≡ length text - length after = omega (arith, length-append f.front after, ap length f.split) in
+    subst (λ n. Cut kind text after n) at (subst (λ t. Cut kind t after (length f.front)) (sym f.split) (cut_seam kind f.front after f.stretch (subst IsUtf8 f.split u)))
 
-pub leads_stretch : {kind : Class} {source : Source} {text behind : Bor (List ℕ)} {front : List ℕ} → source ≡ Utf8 text → is_stretch 128 kind front ≡ true
-    → chars text.now ≡ front ++ chars behind.now → text.now ≡ front ++ behind.now → IsUtf8 behind.now → LeadsStretch kind source front (Utf8 behind)
-leads_stretch {kind} {source} {text} {behind} {front} e s t o u = subst (λ x. LeadsStretch kind x front (Utf8 behind)) (sym e)
-    (record { stretch = ascii_stretch kind front s; text = t; whole = whole_utf8 behind u; encoding = refl; shorter = omega (arith, length-append front behind.now, ap length o) })
+pub leads_stretch : {kind : Class} {source : Source} {text after : Bor (List ℕ)} {front : List ℕ} → source ≡ Utf8 text → is_stretch 128 kind front ≡ true
+    → chars text.now ≡ front ++ chars after.now → text.now ≡ front ++ after.now → IsUtf8 after.now → LeadsStretch kind source front (Utf8 after)
+leads_stretch {kind} {source} {text} {after} {front} e s t o u = subst (λ x. LeadsStretch kind x front (Utf8 after)) (sym e)
+    (record { stretch = ascii_stretch kind front s; text = t; whole = whole_utf8 after u; encoding = refl; shorter = omega (arith, length-append front after.now, ap length o) })
 
 low : (c : ℕ) (b : Bool) → (nat_lt c 0xD800 && b) ≡ true → c < 0xD800
 low c b e = grind (arith, nat_tests, and_left (nat_lt c 0xD800) b e)
@@ -114,31 +114,31 @@ low_scalar c h = rw (lt-ltb c 0xD800 h) refl
 pub units_none : (kind : Class) (order : ByteOrder) (octets : List ℕ) → BeginsWithUnits kind order octets octets
 units_none kind order octets = record { front = []; stretch = refl; split = refl }
 
-pub units_more : {kind : Class} {order : ByteOrder} {octets rest behind : List ℕ} (c : ℕ) → BeginsWithUnits kind order octets rest
-    → rest ≡ unit_octets order c ++ behind → (nat_lt c 0xD800 && belongs kind c) ≡ true → BeginsWithUnits kind order octets behind
-units_more {kind} {order} {octets} {rest} {behind} c a e t =
+pub units_more : {kind : Class} {order : ByteOrder} {octets rest after : List ℕ} (c : ℕ) → BeginsWithUnits kind order octets rest
+    → rest ≡ unit_octets order c ++ after → (nat_lt c 0xD800 && belongs kind c) ≡ true → BeginsWithUnits kind order octets after
+units_more {kind} {order} {octets} {rest} {after} c a e t =
     let small : c < 0xD800 = low c (belongs kind c) t in
     let one : c < 0x1_0000 = omega arith in
-    let first : rest ≡ spelling (encoding_by order) c ++ behind = e ∙ sym (spelling_one order c behind one) in
+    let first : rest ≡ spelling (encoding_by order) c ++ after = e ∙ sym (spelling_one order c after one) in
     record {
       front = a.front ++ c ∷ [];
       stretch = is_stretch-append 0xD800 kind a.front (c ∷ []) a.stretch (rw t refl);
       split = a.split ∙ ap (λ w. octets_of (encoding_by order) a.front ++ w) first
-          ∙ sym (append_assoc (octets_of (encoding_by order) a.front) (spelling (encoding_by order) c) behind)
-          ∙ ap (λ w. w ++ behind) (sym (octets_of-append (encoding_by order) a.front (c ∷ []) ∙ ap (λ w. octets_of (encoding_by order) a.front ++ w) (append-nil (spelling (encoding_by order) c))));
+          ∙ sym (append_assoc (octets_of (encoding_by order) a.front) (spelling (encoding_by order) c) after)
+          ∙ ap (λ w. w ++ after) (sym (octets_of-append (encoding_by order) a.front (c ∷ []) ∙ ap (λ w. octets_of (encoding_by order) a.front ++ w) (append-nil (spelling (encoding_by order) c))));
     }
 
--- a stretch after another
-pub units_behind : {kind : Class} {order : ByteOrder} {octets rest behind : List ℕ} → BeginsWithUnits kind order octets rest → BeginsWithUnits kind order rest behind
-    → BeginsWithUnits kind order octets behind
-units_behind {kind} {order} {octets} {rest} {behind} a b =
+-- a stretch rest_of another
+pub units_after : {kind : Class} {order : ByteOrder} {octets rest after : List ℕ} → BeginsWithUnits kind order octets rest → BeginsWithUnits kind order rest after
+    → BeginsWithUnits kind order octets after
+units_after {kind} {order} {octets} {rest} {after} a b =
     let e = encoding_by order in
     record {
       front = a.front ++ b.front;
       stretch = is_stretch-append 0xD800 kind a.front b.front a.stretch b.stretch;
       split = a.split ∙ ap (λ w. octets_of e a.front ++ w) b.split
-          ∙ sym (append_assoc (octets_of e a.front) (octets_of e b.front) behind)
-          ∙ ap (λ w. w ++ behind) (sym (octets_of-append e a.front b.front));
+          ∙ sym (append_assoc (octets_of e a.front) (octets_of e b.front) after)
+          ∙ ap (λ w. w ++ after) (sym (octets_of-append e a.front b.front));
     }
 
 -- the units of a stretch are its characters
@@ -150,44 +150,44 @@ units_of_stretch kind order (c ∷ cs) s =
     units_in-first order _ _ c (spelling_one order c (octets_of (encoding_by order) cs) (omega arith))
     ∙ ap (λ us. c ∷ us) (units_of_stretch kind order cs (and_right (nat_lt c 0xD800 && belongs kind c) (is_stretch 0xD800 kind cs) s))
 
-pub units_of_front : {kind : Class} {order : ByteOrder} {octets behind : List ℕ} (b : BeginsWithUnits kind order octets behind)
-    → units_in order (take (length octets - length behind) octets) ≡ b.front
-units_of_front {kind} {order} {octets} {behind} b =
+pub units_of_front : {kind : Class} {order : ByteOrder} {octets after : List ℕ} (b : BeginsWithUnits kind order octets after)
+    → units_in order (take (length octets - length after) octets) ≡ b.front
+units_of_front {kind} {order} {octets} {after} b =
     let front = octets_of (encoding_by order) b.front in
-    let at : length octets - length behind ≡ length front = omega (arith, length-append front behind, ap length b.split) in
+    let at : length octets - length after ≡ length front = omega (arith, length-append front after, ap length b.split) in
     ap (λ n. units_in order (take n octets)) at ∙ ap (λ os. units_in order (take (length front) os)) b.split
-    ∙ ap (units_in order) (take-append_seam front behind) ∙ units_of_stretch kind order b.front b.stretch
+    ∙ ap (units_in order) (take-append_seam front after) ∙ units_of_stretch kind order b.front b.stretch
 
--- a stretch of complete characters, and the bytes after it
-record Behind (order : ByteOrder) (front octets behind : List ℕ) : Type 0 where
-  text : utf16_characters order octets ≡ front ++ utf16_characters order behind
-  whole : WholeText (encoding_by order) (utf16_characters order behind) behind
-  shorter : length behind ≤ length octets
+-- a stretch of complete characters, and the bytes rest_of it
+record Behind (order : ByteOrder) (front octets after : List ℕ) : Type 0 where
+  text : utf16_characters order octets ≡ front ++ utf16_characters order after
+  whole : WholeText (encoding_by order) (utf16_characters order after) after
+  shorter : length after ≤ length octets
 
-behind_front : (kind : Class) (order : ByteOrder) (front octets behind : List ℕ) → is_stretch 0xD800 kind front ≡ true → octets ≡ octets_of (encoding_by order) front ++ behind
-    → WholeText (encoding_by order) (utf16_characters order octets) octets → Behind order front octets behind
-behind_front kind order [] octets behind s e w = subst (λ b. Behind order [] octets b) e (record { text = refl; whole = w; shorter = omega arith })
-behind_front kind order (c ∷ cs) octets behind s e w =
+after_front : (kind : Class) (order : ByteOrder) (front octets after : List ℕ) → is_stretch 0xD800 kind front ≡ true → octets ≡ octets_of (encoding_by order) front ++ after
+    → WholeText (encoding_by order) (utf16_characters order octets) octets → Behind order front octets after
+after_front kind order [] octets after s e w = subst (λ b. Behind order [] octets b) e (record { text = refl; whole = w; shorter = omega arith })
+after_front kind order (c ∷ cs) octets after s e w =
     let o = encoding_by order in
     let here : (nat_lt c 0xD800 && belongs kind c) ≡ true = and_left (nat_lt c 0xD800 && belongs kind c) (is_stretch 0xD800 kind cs) s in
-    let mid : List ℕ = octets_of o cs ++ behind in
-    let first : octets ≡ spelling o c ++ mid = e ∙ append_assoc (spelling o c) (octets_of o cs) behind in
+    let mid : List ℕ = octets_of o cs ++ after in
+    let first : octets ≡ spelling o c ++ mid = e ∙ append_assoc (spelling o c) (octets_of o cs) after in
     let t : utf16_characters order octets ≡ c ∷ utf16_characters order mid =
     ap (utf16_characters order) first ∙ utf16_characters-spelling order c mid (low_scalar c (low c (belongs kind c) here)) in
-    let r = behind_front kind order cs mid behind (and_right (nat_lt c 0xD800 && belongs kind c) (is_stretch 0xD800 kind cs) s) refl (WholeText-behind w t first) in
+    let r = after_front kind order cs mid after (and_right (nat_lt c 0xD800 && belongs kind c) (is_stretch 0xD800 kind cs) s) refl (WholeText-after w t first) in
     record { text = t ∙ ap (λ w. c ∷ w) r.text; whole = r.whole; shorter = omega (arith, r.shorter, length-append (spelling o c) mid, ap length first) }
 
-pub leads_units : {kind : Class} {order : ByteOrder} {source : Source} {octets behind : Bor (List ℕ)} → source ≡ Utf16 order octets → IsWhole source
-    → (a : BeginsWithUnits kind order octets.now behind.now) → LeadsStretch kind source a.front (Utf16 order behind)
-leads_units {kind} {order} {source} {octets} {behind} e w a = subst (λ s. IsWhole s → LeadsStretch kind s a.front (Utf16 order behind)) (sym e)
-    (λ v. let b = behind_front kind order a.front octets.now behind.now a.stretch a.split (record { scalars = v.scalars; spelled = v.spelled }) in
+pub leads_units : {kind : Class} {order : ByteOrder} {source : Source} {octets after : Bor (List ℕ)} → source ≡ Utf16 order octets → IsWhole source
+    → (a : BeginsWithUnits kind order octets.now after.now) → LeadsStretch kind source a.front (Utf16 order after)
+leads_units {kind} {order} {source} {octets} {after} e w a = subst (λ s. IsWhole s → LeadsStretch kind s a.front (Utf16 order after)) (sym e)
+    (λ v. let b = after_front kind order a.front octets.now after.now a.stretch a.split (record { scalars = v.scalars; spelled = v.spelled }) in
     record { stretch = a.stretch; text = b.text; whole = record { scalars = b.whole.scalars; spelled = b.whole.spelled }; encoding = refl; shorter = b.shorter }) w
 
 here : (kind : Class) (c : ℕ) (cs : List ℕ) → is_stretch 0xD800 kind (c ∷ cs) ≡ true → belongs kind c ≡ true
 here kind c cs s = and_right (nat_lt c 0xD800) (belongs kind c) (and_left (nat_lt c 0xD800 && belongs kind c) (is_stretch 0xD800 kind cs) s)
 
-after : (kind : Class) (c : ℕ) (cs : List ℕ) → is_stretch 0xD800 kind (c ∷ cs) ≡ true → is_stretch 0xD800 kind cs ≡ true
-after kind c cs s = and_right (nat_lt c 0xD800 && belongs kind c) (is_stretch 0xD800 kind cs) s
+rest_of : (kind : Class) (c : ℕ) (cs : List ℕ) → is_stretch 0xD800 kind (c ∷ cs) ≡ true → is_stretch 0xD800 kind cs ≡ true
+rest_of kind c cs s = and_right (nat_lt c 0xD800 && belongs kind c) (is_stretch 0xD800 kind cs) s
 
 not_true : (b : Bool) → not b ≡ true → b ≡ false
 not_true true e = sym e
@@ -198,27 +198,27 @@ one_unit c h = let w : c < 0x1_0000 = omega arith in rw (lt-ltb c 0x1_0000 w) re
 
 run_front : (front rest more end : List ℕ) → is_stretch 0xD800 Run front ≡ true → RunOf rest more end → RunOf (front ++ rest) (front ++ more) end
 run_front [] rest more end s r = r
-run_front (c ∷ cs) rest more end s r = Quoted.more (here Run c cs s) (run_front cs rest more end (after Run c cs s) r)
+run_front (c ∷ cs) rest more end s r = Quoted.more (here Run c cs s) (run_front cs rest more end (rest_of Run c cs s) r)
 
 quoted_front : (mark : ℕ) (front rest more end : List ℕ) → is_stretch 0xD800 (Raw mark) front ≡ true → Quoted mark rest more end → Quoted mark (front ++ rest) (front ++ more) end
 quoted_front mark [] rest more end s r = r
 quoted_front mark (c ∷ cs) rest more end s r =
-    let h = quoted_front mark cs rest more end (after (Raw mark) c cs s) r in
+    let h = quoted_front mark cs rest more end (rest_of (Raw mark) c cs s) r in
     let small = low c (is_raw mark c) (and_left (nat_lt c 0xD800 && is_raw mark c) (is_stretch 0xD800 (Raw mark) cs) s) in
     subst (λ us. Quoted mark (c ∷ (cs ++ rest)) (us ++ (cs ++ more)) end) (one_unit c small) (Quoted.piece (Quoted.raw (here (Raw mark) c cs s)) h)
 
 fault_front : (p : Places) (start mark : ℕ) (front rest : List ℕ) (fault : LexFault) → is_stretch 0xD800 (Raw mark) front ≡ true → QuotedFault p start mark rest fault
     → QuotedFault p start mark (front ++ rest) fault
 fault_front p start mark [] rest fault s r = r
-fault_front p start mark (c ∷ cs) rest fault s r = Stands.piece (Quoted.raw (here (Raw mark) c cs s)) (fault_front p start mark cs rest fault (after (Raw mark) c cs s) r)
+fault_front p start mark (c ∷ cs) rest fault s r = Stands.piece (Quoted.raw (here (Raw mark) c cs s)) (fault_front p start mark cs rest fault (rest_of (Raw mark) c cs s) r)
 
 gap_front : (front rest end : List ℕ) → is_stretch 0xD800 White front ≡ true → Gap rest end → Gap (front ++ rest) end
 gap_front [] rest end s r = r
-gap_front (c ∷ cs) rest end s r = Gap.piece (Gap.white (here White c cs s)) (gap_front cs rest end (after White c cs s) r)
+gap_front (c ∷ cs) rest end s r = Gap.piece (Gap.white (here White c cs s)) (gap_front cs rest end (rest_of White c cs s) r)
 
 line_front : (front rest end : List ℕ) → is_stretch 0xD800 Line front ≡ true → LineComment rest end → LineComment (front ++ rest) end
 line_front [] rest end s r = r
-line_front (c ∷ cs) rest end s r = Gap.more (not_true (is_line_end c) (here Line c cs s)) (line_front cs rest end (after Line c cs s) r)
+line_front (c ∷ cs) rest end s r = Gap.more (not_true (is_line_end c) (here Line c cs s)) (line_front cs rest end (rest_of Line c cs s) r)
 
 goes_on : (c : ℕ) (rest : List ℕ) → (c == star) ≡ false → closes_comment (c ∷ rest) ≡ false
 goes_on c [] e = refl
@@ -227,12 +227,12 @@ goes_on c (d ∷ rest) e = rw e refl
 block_front : (front rest end : List ℕ) → is_stretch 0xD800 Starless front ≡ true → BlockComment rest end → BlockComment (front ++ rest) end
 block_front [] rest end s r = r
 block_front (c ∷ cs) rest end s r =
-    Gap.more (goes_on c (cs ++ rest) (not_true (c == star) (here Starless c cs s))) (block_front cs rest end (after Starless c cs s) r)
+    Gap.more (goes_on c (cs ++ rest) (not_true (c == star) (here Starless c cs s))) (block_front cs rest end (rest_of Starless c cs s) r)
 
 never_front : (front rest : List ℕ) → is_stretch 0xD800 Starless front ≡ true → NeverCloses rest → NeverCloses (front ++ rest)
 never_front [] rest s r = r
 never_front (c ∷ cs) rest s r =
-    Gap.more (goes_on c (cs ++ rest) (not_true (c == star) (here Starless c cs s))) (never_front cs rest (after Starless c cs s) r)
+    Gap.more (goes_on c (cs ++ rest) (not_true (c == star) (here Starless c cs s))) (never_front cs rest (rest_of Starless c cs s) r)
 
 -- the part of an unquoted string that the cursor skips
 pub run_stretch : {old new : Cursor} {front more end : List ℕ} → PassesStretch Run old front new → RunOf (ahead new) more end → RunOf (ahead old) (front ++ more) end
@@ -251,16 +251,16 @@ fault_stretch {places} {start} {mark} {old} {new} {front} {fault} p r =
 pub gap_stretch : {old new : Cursor} {front end : List ℕ} → PassesStretch White old front new → Gap (ahead new) end → Gap (ahead old) end
 gap_stretch {old} {new} {front} {end} p r = subst (λ t. Gap t end) (sym p.text) (gap_front front (ahead new) end p.stretch r)
 
--- a gap, or a fault after one, with whitespace before it
-pub gap_behind_white : {old new end : Cursor} → SkipsStretch White old new → PassesGap new end → PassesGap old end
-gap_behind_white white passes =
+-- a gap, or a fault rest_of one, with whitespace before it
+pub gap_after_white : {old new end : Cursor} → SkipsStretch White old new → PassesGap new end → PassesGap old end
+gap_after_white white passes =
     record { gap = gap_stretch white.passes passes.gap; whole = passes.whole; input = passes.input ∙ white.passes.input }
 
 fault_in_gap : {old new : Cursor} {front : List ℕ} {p : Places} {fault : LexFault} → PassesStretch White old front new → FaultBehind p (ahead new) fault → FaultBehind p (ahead old) fault
-fault_in_gap white (Stands.gap behind at) = Stands.gap (gap_stretch white behind) at
+fault_in_gap white (Stands.gap after at) = Stands.gap (gap_stretch white after) at
 
-pub fault_behind_white : {old new : Cursor} {fault : LexFault} → SkipsStretch White old new → FaultBehind (places_in new) (ahead new) fault → FaultBehind (places_in old) (ahead old) fault
-fault_behind_white {old} {new} {fault} white stands =
+pub fault_after_white : {old new : Cursor} {fault : LexFault} → SkipsStretch White old new → FaultBehind (places_in new) (ahead new) fault → FaultBehind (places_in old) (ahead old) fault
+fault_after_white {old} {new} {fault} white stands =
     subst (λ p. FaultBehind p (ahead old) fault) white.passes.input (fault_in_gap white.passes stands)
 
 pub line_stretch : {old new : Cursor} {front end : List ℕ} → PassesStretch Line old front new → LineComment (ahead new) end → LineComment (ahead old) end

@@ -39,12 +39,12 @@ all_scalars-append (x ∷ xs) ys = ap (λ b. scalar x && b) (all_scalars-append 
 pub FrontsOf-none : (e : Encoding) (octets : List ℕ) → FrontsOf e octets octets
 FrontsOf-none e octets = record { before = []; whole = refl; split = refl }
 
-pub FrontsOf-more : {e : Encoding} {octets rest behind : List ℕ} {c : ℕ} → FrontsOf e octets rest → BeginsWith e rest c behind → FrontsOf e octets behind
-FrontsOf-more {e} {octets} {rest} {behind} {c} f b = record {
+pub FrontsOf-more : {e : Encoding} {octets rest after : List ℕ} {c : ℕ} → FrontsOf e octets rest → BeginsWith e rest c after → FrontsOf e octets after
+FrontsOf-more {e} {octets} {rest} {after} {c} f b = record {
   before = f.before ++ c ∷ [];
   whole = rw (all_scalars-append, f.whole, b.scalar) refl;
-  split = f.split ∙ ap (λ w. octets_of e f.before ++ w) b.spelled ∙ sym (append_assoc (octets_of e f.before) (spelling e c) behind)
-      ∙ ap (λ w. w ++ behind) (sym (octets_of-append e f.before (c ∷ []) ∙ ap (λ w. octets_of e f.before ++ w) (append-nil (spelling e c))));
+  split = f.split ∙ ap (λ w. octets_of e f.before ++ w) b.spelled ∙ sym (append_assoc (octets_of e f.before) (spelling e c) after)
+      ∙ ap (λ w. w ++ after) (sym (octets_of-append e f.before (c ∷ []) ∙ ap (λ w. octets_of e f.before ++ w) (append-nil (spelling e c))));
 }
 
 -- what follows the first character of a text is a text
@@ -60,11 +60,11 @@ pub and_right : (a b : Bool) → (a && b) ≡ true → b ≡ true
 and_right true b e = e
 and_right false b e = cc
 
-pub WholeText-behind : {e : Encoding} {text octets : List ℕ} {c : ℕ} {rest behind : List ℕ} → WholeText e text octets → text ≡ c ∷ rest → octets ≡ spelling e c ++ behind → WholeText e rest behind
-WholeText-behind {e} {text} {octets} {c} {rest} {behind} w t o =
+pub WholeText-after : {e : Encoding} {text octets : List ℕ} {c : ℕ} {rest after : List ℕ} → WholeText e text octets → text ≡ c ∷ rest → octets ≡ spelling e c ++ after → WholeText e rest after
+WholeText-after {e} {text} {octets} {c} {rest} {after} w t o =
     let scalars : (scalar c && all_scalars rest) ≡ true = ap all_scalars (sym t) ∙ w.scalars in
-    let both : spelling e c ++ octets_of e rest ≡ spelling e c ++ behind = ap (octets_of e) (sym t) ∙ w.spelled ∙ o in
-    record { scalars = and_right (scalar c) (all_scalars rest) scalars; spelled = append_cancel_left (spelling e c) (octets_of e rest) behind both }
+    let both : spelling e c ++ octets_of e rest ≡ spelling e c ++ after = ap (octets_of e) (sym t) ∙ w.spelled ∙ o in
+    record { scalars = and_right (scalar c) (all_scalars rest) scalars; spelled = append_cancel_left (spelling e c) (octets_of e rest) after both }
 
 -- a text at whose start no character begins is empty
 pub WholeText-none : {e : Encoding} {text octets : List ℕ} → WholeText e text octets → BeginsWithNone e octets → text ≡ []
@@ -143,23 +143,23 @@ utf16_characters-octets o (c ∷ text) s =
     utf16_characters-spelling o c (octets_of (encoding_by o) text) (and_left (scalar c) (all_scalars text) s)
     ∙ ap (λ w. c ∷ w) (utf16_characters-octets o text (and_right (scalar c) (all_scalars text) s))
 
-shorter : (piece octets behind : List ℕ) → octets ≡ piece ++ behind → length behind ≤ length octets
-shorter piece octets behind e = omega (arith, length-append piece behind, ap length e)
+shorter : (piece octets after : List ℕ) → octets ≡ piece ++ after → length after ≤ length octets
+shorter piece octets after e = omega (arith, length-append piece after, ap length e)
 
 -- the first character in UTF-8, in UTF-16, and none
-pub Leads-utf8 : {source : Source} {text behind : Bor (List ℕ)} {c : ℕ} → source ≡ Utf8 text → IsWhole source
-    → text.now ≡ spelling utf8 c ++ behind.now → chars text.now ≡ c ∷ chars behind.now → Leads source c (Utf8 behind)
-Leads-utf8 {source} {text} {behind} {c} e w o t = subst (λ s. IsWhole s → Leads s c (Utf8 behind)) (sym e)
-    (λ v. let b = WholeText-behind {e = utf8} (record { scalars = v.scalars; spelled = v.spelled }) t o in
-    record { text = t; whole = record { scalars = b.scalars; spelled = b.spelled }; encoding = refl; shorter = shorter (spelling utf8 c) text.now behind.now o }) w
+pub Leads-utf8 : {source : Source} {text after : Bor (List ℕ)} {c : ℕ} → source ≡ Utf8 text → IsWhole source
+    → text.now ≡ spelling utf8 c ++ after.now → chars text.now ≡ c ∷ chars after.now → Leads source c (Utf8 after)
+Leads-utf8 {source} {text} {after} {c} e w o t = subst (λ s. IsWhole s → Leads s c (Utf8 after)) (sym e)
+    (λ v. let b = WholeText-after {e = utf8} (record { scalars = v.scalars; spelled = v.spelled }) t o in
+    record { text = t; whole = record { scalars = b.scalars; spelled = b.spelled }; encoding = refl; shorter = shorter (spelling utf8 c) text.now after.now o }) w
 
-pub Leads-utf16 : {source : Source} {order : ByteOrder} {octets behind : Bor (List ℕ)} {c : ℕ} → source ≡ Utf16 order octets → IsWhole source
-    → BeginsWith (encoding_by order) octets.now c behind.now → Leads source c (Utf16 order behind)
-Leads-utf16 {source} {order} {octets} {behind} {c} e w o = subst (λ s. IsWhole s → Leads s c (Utf16 order behind)) (sym e)
-    (λ v. let t : utf16_characters order octets.now ≡ c ∷ utf16_characters order behind.now =
-    ap (utf16_characters order) o.spelled ∙ utf16_characters-spelling order c behind.now o.scalar in
-    let b = WholeText-behind {e = encoding_by order} (record { scalars = v.scalars; spelled = v.spelled }) t o.spelled in
-    record { text = t; whole = record { scalars = b.scalars; spelled = b.spelled }; encoding = refl; shorter = shorter (spelling (encoding_by order) c) octets.now behind.now o.spelled }) w
+pub Leads-utf16 : {source : Source} {order : ByteOrder} {octets after : Bor (List ℕ)} {c : ℕ} → source ≡ Utf16 order octets → IsWhole source
+    → BeginsWith (encoding_by order) octets.now c after.now → Leads source c (Utf16 order after)
+Leads-utf16 {source} {order} {octets} {after} {c} e w o = subst (λ s. IsWhole s → Leads s c (Utf16 order after)) (sym e)
+    (λ v. let t : utf16_characters order octets.now ≡ c ∷ utf16_characters order after.now =
+    ap (utf16_characters order) o.spelled ∙ utf16_characters-spelling order c after.now o.scalar in
+    let b = WholeText-after {e = encoding_by order} (record { scalars = v.scalars; spelled = v.spelled }) t o.spelled in
+    record { text = t; whole = record { scalars = b.scalars; spelled = b.spelled }; encoding = refl; shorter = shorter (spelling (encoding_by order) c) octets.now after.now o.spelled }) w
 
 pub Leads-none : {source : Source} {order : ByteOrder} {octets : Bor (List ℕ)} → source ≡ Utf16 order octets → IsWhole source
     → BeginsWithNone (encoding_by order) octets.now → characters_in source ≡ []
@@ -167,8 +167,8 @@ Leads-none {source} {order} {octets} e w n = subst (λ s. IsWhole s → characte
     (λ v. WholeText-none {e = encoding_by order} (record { scalars = v.scalars; spelled = v.spelled }) n) w
 
 -- the units of bytes, one after another
-pub units_in-first : (order : ByteOrder) (octets behind : List ℕ) (u : ℕ) → octets ≡ unit_octets order u ++ behind → units_in order octets ≡ u ∷ units_in order behind
-units_in-first order octets behind u e = ap (units_in order) e ∙ units_in-unit order u behind
+pub units_in-first : (order : ByteOrder) (octets after : List ℕ) (u : ℕ) → octets ≡ unit_octets order u ++ after → units_in order octets ≡ u ∷ units_in order after
+units_in-first order octets after u e = ap (units_in order) e ∙ units_in-unit order u after
 
 pub units_in-few : (order : ByteOrder) (octets : List ℕ) → length (units_in order octets) ≤ length octets / 2
 units_in-few order [] = omega arith
@@ -179,12 +179,12 @@ pub whole_utf8 : (text : Bor (List ℕ)) → IsUtf8 text.now → IsWhole (Utf8 t
 whole_utf8 text u = record { scalars = scalars-chars text.now u; spelled = octets_of-utf8 (chars text.now) ∙ encodes-chars text.now u }
 
 -- no character follows the longest valid prefix of UTF-8
-longer : (octets behind : List ℕ) (n c : ℕ) → IsValidUpTo octets n → IsScalar c → drop n octets ≡ encode c ++ behind → ⊥
-longer octets behind n c v s e =
+longer : (octets after : List ℕ) (n c : ℕ) → IsValidUpTo octets n → IsScalar c → drop n octets ≡ encode c ++ after → ⊥
+longer octets after n c v s e =
     let front = take n octets ++ encode c in
-    let split : octets ≡ front ++ behind =
-    sym (take-append-drop n octets) ∙ ap (λ w. take n octets ++ w) e ∙ sym (append_assoc (take n octets) (encode c) behind) in
-    let taken : take (length front) octets ≡ front = ap (take (length front)) split ∙ take-append_seam front behind in
+    let split : octets ≡ front ++ after =
+    sym (take-append-drop n octets) ∙ ap (λ w. take n octets ++ w) e ∙ sym (append_assoc (take n octets) (encode c) after) in
+    let taken : take (length front) octets ≡ front = ap (take (length front)) split ∙ take-append_seam front after in
     let short = v.short in
     let more : n < length front = omega (arith, length-append (take n octets) (encode c), length-take n octets, length-encode c, len_utf8_bounds c) in
     v.longest (length front) more (subst IsUtf8 (sym taken) (IsUtf8-append (take n octets) (encode c) v.front (IsUtf8-encode c s)))
@@ -197,7 +197,7 @@ stops_utf8 octets end n fits v = record {
   split = sym (ap (λ w. w ++ drop n octets) (octets_of-utf8 v.front.0 ∙ v.front.1.1) ∙ take-append-drop n octets);
   counted = let s = v.short in omega (arith, length-drop n octets);
   octet = let s = v.short in omega (arith, length-drop n octets);
-  none = λ c behind b. longer octets behind n c v b.scalar b.spelled;
+  none = λ c after b. longer octets after n c v b.scalar b.spelled;
 }
 
 nothing : (xs : List ℕ) → length xs ≡ 0 → xs ≡ []
@@ -211,23 +211,23 @@ whole_utf16 order octets rest f e =
     record { scalars = ap all_scalars text ∙ f.whole; spelled = ap (octets_of (encoding_by order)) text ∙ sym all }
 
 -- an input that begins with a byte order mark is the mark followed by other bytes
-pub behind_mark : (octets mark : List ℕ) → starts_with nat_eq octets mark ≡ true → octets ≡ mark ++ drop (length mark) octets
-behind_mark octets mark e =
+pub after_mark : (octets mark : List ℕ) → starts_with nat_eq octets mark ≡ true → octets ≡ mark ++ drop (length mark) octets
+after_mark octets mark e =
     sym (take-append-drop (length mark) octets) ∙ ap (λ w. w ++ drop (length mark) octets) (sym ((bytes_decides mark (take (length mark) octets)).0 e))
 
 pub record SameFirst (c d : ℕ) (a b : List ℕ) : Type 0 where
   pub first : c ≡ d
-  pub behind : a ≡ b
+  pub after : a ≡ b
 
 spelling_same16 : (o : ByteOrder) (c d : ℕ) (a b : List ℕ) → IsScalar c → IsScalar d → spelling (encoding_by o) c ++ a ≡ spelling (encoding_by o) d ++ b → SameFirst c d a b
 spelling_same16 o c d a b s t e =
     let texts : c ∷ utf16_characters o a ≡ d ∷ utf16_characters o b =
     sym (utf16_characters-spelling o c a s) ∙ ap (utf16_characters o) e ∙ utf16_characters-spelling o d b t in
     let first : c ≡ d = cc in
-    record { first = first; behind = append_cancel_left (spelling (encoding_by o) d) a b (subst (λ x. spelling (encoding_by o) x ++ a ≡ spelling (encoding_by o) d ++ b) first e) }
+    record { first = first; after = append_cancel_left (spelling (encoding_by o) d) a b (subst (λ x. spelling (encoding_by o) x ++ a ≡ spelling (encoding_by o) d ++ b) first e) }
 
 pub spelling_same : (e : Encoding) (c d : ℕ) (a b : List ℕ) → IsScalar c → IsScalar d → spelling e c ++ a ≡ spelling e d ++ b → SameFirst c d a b
-spelling_same utf8 c d a b s t p = let h = encode_same c d a b p in record { first = h.0; behind = h.1 }
+spelling_same utf8 c d a b s t p = let h = encode_same c d a b p in record { first = h.0; after = h.1 }
 spelling_same utf16_big c d a b s t p = spelling_same16 Big c d a b s t p
 spelling_same utf16_little c d a b s t p = spelling_same16 Little c d a b s t p
 
@@ -253,7 +253,7 @@ octets_of_same e [] (y ∷ ys) s t p = absurd (spelling_some e y (octets_of e ys
 octets_of_same e (x ∷ xs) [] s t p = absurd (spelling_some e x (octets_of e xs) (and_left (scalar x) (all_scalars xs) s) (sym p))
 octets_of_same e (x ∷ xs) (y ∷ ys) s t p =
     let h = spelling_same e x y (octets_of e xs) (octets_of e ys) (and_left (scalar x) (all_scalars xs) s) (and_left (scalar y) (all_scalars ys) t) p in
-    let rest = octets_of_same e xs ys (and_right (scalar x) (all_scalars xs) s) (and_right (scalar y) (all_scalars ys) t) h.behind in
+    let rest = octets_of_same e xs ys (and_right (scalar x) (all_scalars xs) s) (and_right (scalar y) (all_scalars ys) t) h.after in
     cc (h.first, rest)
 
 pub Spells-same : {octets xs ys : List ℕ} → Spells octets xs → Spells octets ys → xs ≡ ys
@@ -272,7 +272,7 @@ stopped e (b ∷ before) rest [] s t o n p =
 stopped e (b ∷ before) rest (c ∷ text) s t o n p =
     let h = spelling_same e b c (octets_of e before ++ rest) (octets_of e text) (and_left (scalar b) (all_scalars before) s) (and_left (scalar c) (all_scalars text) t)
     (sym (append_assoc (spelling e b) (octets_of e before) rest) ∙ p) in
-    stopped e before rest text (and_right (scalar b) (all_scalars before) s) (and_right (scalar c) (all_scalars text) t) o n h.behind
+    stopped e before rest text (and_right (scalar b) (all_scalars before) s) (and_right (scalar c) (all_scalars text) t) o n h.after
 
 pub StopsAt-none : {octets : List ℕ} {at : ℕ} {text : List ℕ} → StopsAt octets at → Spells octets text → ⊥
 StopsAt-none {octets} {at} {text} s t =

@@ -98,7 +98,7 @@ GapPiece-same (Gap.block r) (Gap.block s) = BlockComment-same r s
 
 -- no whitespace and no complete comment is at the text
 abbrev pub IsGapless : List ℕ → Type 0
-IsGapless text = (behind : List ℕ) → GapPiece text behind → ⊥
+IsGapless text = (after : List ℕ) → GapPiece text after → ⊥
 
 -- two gaps that no gap follows end at the same position
 pub Gap-same : {text a b : List ℕ} → Gap text a → Gap text b → IsGapless a → IsGapless b → a ≡ b
@@ -209,7 +209,7 @@ token-piece (Lexeme.quoted e r) (Gap.line s) = cc
 token-piece (Lexeme.quoted e r) (Gap.block s) = cc
 token-piece (Lexeme.data_token r) (Gap.white f) = cc
 
-pub IsToken-gapless : {from behind : List ℕ} {l : Lexeme} → IsToken from l behind → IsGapless from
+pub IsToken-gapless : {from after : List ℕ} {l : Lexeme} → IsToken from l after → IsGapless from
 IsToken-gapless t x g = token-piece t g
 
 nothing-piece : {b : List ℕ} → GapPiece [] b → ⊥
@@ -280,7 +280,7 @@ Octets-fault {a = a} (Stands.piece e f) (Octets.piece {more = us} g r) =
     Octets-fault f (subst (λ x. Octets x us a) (OctetsPiece-same g e).leaves r)
 
 -- no token, no whitespace and no complete comment begins at a fault
-pub IsToken-fault : {p : Places} {from behind : List ℕ} {l : Lexeme} {f : LexFault} → FaultAt p from f → IsToken from l behind → ⊥
+pub IsToken-fault : {p : Places} {from after : List ℕ} {l : Lexeme} {f : LexFault} → FaultAt p from f → IsToken from l after → ⊥
 IsToken-fault (Stands.unexpected e o) (Lexeme.mark f) = cc
 IsToken-fault (Stands.unexpected {c = c} e o) (Lexeme.run f g r) = unexpected-run c o f
 IsToken-fault (Stands.unexpected {c = c} e o) (Lexeme.quoted f r) = unexpected-quote c o f
@@ -314,7 +314,7 @@ FaultAt-gapless e x g = fault-piece e g
 pub FaultAt-nothing : {p : Places} {f : LexFault} → FaultAt p [] f → ⊥
 FaultAt-nothing e = elim e [ ]
 
-pub IsToken-nothing : {behind : List ℕ} {l : Lexeme} → IsToken [] l behind → ⊥
+pub IsToken-nothing : {after : List ℕ} {l : Lexeme} → IsToken [] l after → ⊥
 IsToken-nothing t = elim t [ ]
 
 -- two gaps before tokens end at the same position, so the tokens are equal
@@ -325,9 +325,9 @@ next-same {a = a} {l = l} g t h u =
     (e, IsToken-same (subst (λ x. IsToken x l a) e t) u)
 
 -- no token follows a gap at the end of the text
-pub end-token : {text from behind : List ℕ} {l : Lexeme} → Gap text [] → Gap text from → IsToken from l behind → ⊥
-end-token {behind = behind} {l = l} g h t =
-    IsToken-nothing (subst (λ x. IsToken x l behind) (sym (Gap-same g h nothing-gapless (IsToken-gapless t))) t)
+pub end-token : {text from after : List ℕ} {l : Lexeme} → Gap text [] → Gap text from → IsToken from l after → ⊥
+end-token {after = after} {l = l} g h t =
+    IsToken-nothing (subst (λ x. IsToken x l after) (sym (Gap-same g h nothing-gapless (IsToken-gapless t))) t)
 
 -- no fault follows a gap at the end of the text
 pub end-fault : {p : Places} {text from : List ℕ} {f : LexFault} → Gap text [] → Gap text from → FaultAt p from f → ⊥
@@ -335,9 +335,9 @@ end-fault {p} {f = f} g h t =
     FaultAt-nothing (subst (λ x. FaultAt p x f) (sym (Gap-same g h nothing-gapless (FaultAt-gapless t))) t)
 
 -- no token begins at a fault after a gap
-pub token-fault : {p : Places} {text from here behind : List ℕ} {l : Lexeme} {f : LexFault} → Gap text from → FaultAt p from f → Gap text here → IsToken here l behind → ⊥
-token-fault {behind = behind} {l = l} g t h u =
-    IsToken-fault t (subst (λ x. IsToken x l behind) (sym (Gap-same g h (FaultAt-gapless t) (IsToken-gapless u))) u)
+pub token-fault : {p : Places} {text from here after : List ℕ} {l : Lexeme} {f : LexFault} → Gap text from → FaultAt p from f → Gap text here → IsToken here l after → ⊥
+token-fault {after = after} {l = l} g t h u =
+    IsToken-fault t (subst (λ x. IsToken x l after) (sym (Gap-same g h (FaultAt-gapless t) (IsToken-gapless u))) u)
 
 pub Lexes-same : {p : Places} {text : List ℕ} {ts us : List Placed} → Lexes p text ts → Lexes p text us → ts ≡ us
 Lexes-same (none g) (none h) = refl
@@ -347,9 +347,9 @@ Lexes-same {p} (next g t r) (next {tokens = us} h u s) =
     let e = next-same g t h u in
     cc (e.0, e.1.means, e.1.leaves, Lexes-same r (subst (λ x. Lexes p x us) (sym e.1.leaves) s))
 
-pub behind-fault : {p q : Places} {text : List ℕ} {f : LexFault} {ts : List Placed} → FaultBehind p text f → Lexes q text ts → ⊥
-behind-fault (Stands.gap g t) (none h) = end-fault h g t
-behind-fault (Stands.gap g t) (next h u s) = token-fault g t h u
+pub after-fault : {p q : Places} {text : List ℕ} {f : LexFault} {ts : List Placed} → FaultBehind p text f → Lexes q text ts → ⊥
+after-fault (Stands.gap g t) (none h) = end-fault h g t
+after-fault (Stands.gap g t) (next h u s) = token-fault g t h u
 
 abbrev pub Continuing : Places → List ℕ → List Placed → List Placed → Type 0
 Continuing p rest tokens all = (others : List Placed) × (all ≡ tokens ++ others) × Lexes p rest others
@@ -364,8 +364,8 @@ LexesTo-continue {p} (token g t r) (next {tokens = us} h u s) =
     (c.0, cc (e.0, e.1.means, e.1.leaves, c.1), c.2)
 
 -- one more token, and all tokens
-pub LexesTo-more : {p : Places} {rest from behind text : List ℕ} {lexeme : Lexeme} {tokens : List Placed} → LexesTo p rest text tokens → Gap rest from → IsToken from lexeme behind
-    → LexesTo p behind text (tokens ++ record { lexeme = lexeme; start = place p from; end = place p behind } ∷ [])
+pub LexesTo-more : {p : Places} {rest from after text : List ℕ} {lexeme : Lexeme} {tokens : List Placed} → LexesTo p rest text tokens → Gap rest from → IsToken from lexeme after
+    → LexesTo p after text (tokens ++ record { lexeme = lexeme; start = place p from; end = place p after } ∷ [])
 LexesTo-more here g t = token g t here
 LexesTo-more (token h u r) g t = token h u (LexesTo-more r g t)
 

@@ -72,12 +72,12 @@ abbrev pub place : Places → List ℕ → ℕ
 place p rest = p.end - length (octets_of p.encoding rest)
 
 -- the bytes are a character followed by other bytes; or no character is at their start
-pub record BeginsWith (e : Encoding) (octets : List ℕ) (c : ℕ) (behind : List ℕ) : Type 0 where
+pub record BeginsWith (e : Encoding) (octets : List ℕ) (c : ℕ) (after : List ℕ) : Type 0 where
   pub scalar : IsScalar c
-  pub spelled : octets ≡ spelling e c ++ behind
+  pub spelled : octets ≡ spelling e c ++ after
 
 abbrev pub BeginsWithNone : Encoding → List ℕ → Type 0
-BeginsWithNone e octets = (c : ℕ) (behind : List ℕ) → BeginsWith e octets c behind → ⊥
+BeginsWithNone e octets = (c : ℕ) (after : List ℕ) → BeginsWith e octets c after → ⊥
 
 -- Complete characters precede the position, there is a byte at it, and no character begins there.
 -- The bytes are those after a byte order mark, and they end where the input ends.

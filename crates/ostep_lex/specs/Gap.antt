@@ -7,7 +7,7 @@ use Rattle.ostep_lex.specs.Character.{slash, star, is_white, is_line_end}
 pub data LineComment : List ℕ → List ℕ → Type 0 where
   text_end : LineComment [] []
   line_end : {c : ℕ} {rest : List ℕ} → is_line_end c ≡ true → LineComment (c ∷ rest) (c ∷ rest)
-  more : {c : ℕ} {rest behind : List ℕ} → is_line_end c ≡ false → LineComment rest behind → LineComment (c ∷ rest) behind
+  more : {c : ℕ} {rest after : List ℕ} → is_line_end c ≡ false → LineComment rest after → LineComment (c ∷ rest) after
 
 -- whether the text begins with the end of a block comment
 abbrev pub closes_comment : List ℕ → Bool
@@ -17,7 +17,7 @@ closes_comment _ = false
 -- after `/*`: up to the first `*/`, which is included
 pub data BlockComment : List ℕ → List ℕ → Type 0 where
   close : {rest : List ℕ} → BlockComment (star ∷ slash ∷ rest) rest
-  more : {c : ℕ} {rest behind : List ℕ} → closes_comment (c ∷ rest) ≡ false → BlockComment rest behind → BlockComment (c ∷ rest) behind
+  more : {c : ℕ} {rest after : List ℕ} → closes_comment (c ∷ rest) ≡ false → BlockComment rest after → BlockComment (c ∷ rest) after
 
 -- after `/*`: no `*/` up to the end of the text
 pub data NeverCloses : List ℕ → Type 0 where
@@ -27,13 +27,13 @@ pub data NeverCloses : List ℕ → Type 0 where
 -- a whitespace character or a comment
 pub data GapPiece : List ℕ → List ℕ → Type 0 where
   white : {c : ℕ} {rest : List ℕ} → is_white c ≡ true → GapPiece (c ∷ rest) rest
-  line : {rest behind : List ℕ} → LineComment rest behind → GapPiece (slash ∷ slash ∷ rest) behind
-  block : {rest behind : List ℕ} → BlockComment rest behind → GapPiece (slash ∷ star ∷ rest) behind
+  line : {rest after : List ℕ} → LineComment rest after → GapPiece (slash ∷ slash ∷ rest) after
+  block : {rest after : List ℕ} → BlockComment rest after → GapPiece (slash ∷ star ∷ rest) after
 
 -- whitespace characters and comments, or nothing
 pub data Gap : List ℕ → List ℕ → Type 0 where
   none : {rest : List ℕ} → Gap rest rest
-  piece : {text rest behind : List ℕ} → GapPiece text rest → Gap rest behind → Gap text behind
+  piece : {text rest after : List ℕ} → GapPiece text rest → Gap rest after → Gap text after
 
 -- whether the text begins with `//` or `/*`
 abbrev pub begins_comment : List ℕ → Bool

@@ -34,11 +34,11 @@ mark_token c =
 -- the text is a token, followed by the last list
 pub data IsToken : List ℕ → Lexeme → List ℕ → Type 0 where
   mark : {c : ℕ} {lexeme : Lexeme} {rest : List ℕ} → mark_token c ≡ Some lexeme → IsToken (c ∷ rest) lexeme rest
-  run : {c : ℕ} {rest units behind : List ℕ} → is_run c ≡ true → begins_comment (c ∷ rest) ≡ false → Run rest units behind
-      → IsToken (c ∷ rest) (text (c ∷ units)) behind
-  quoted : {c : ℕ} {rest units behind : List ℕ} → is_quote c ≡ true → Quoted c rest units behind
-      → IsToken (c ∷ rest) (text units) behind
-  data_token : {rest bytes behind : List ℕ} → Octets rest bytes behind → IsToken (less_than ∷ rest) (octets bytes) behind
+  run : {c : ℕ} {rest units after : List ℕ} → is_run c ≡ true → begins_comment (c ∷ rest) ≡ false → Run rest units after
+      → IsToken (c ∷ rest) (text (c ∷ units)) after
+  quoted : {c : ℕ} {rest units after : List ℕ} → is_quote c ≡ true → Quoted c rest units after
+      → IsToken (c ∷ rest) (text units) after
+  data_token : {rest bytes after : List ℕ} → Octets rest bytes after → IsToken (less_than ∷ rest) (octets bytes) after
 
 -- a token, with the offset of its first byte and the offset after its last
 pub record Placed : Type 0 where

@@ -17,29 +17,29 @@ pub data Pairs : List ℕ → List ℕ → Type 0 where
       → Pairs (c ∷ d ∷ digits) ((digit_value c * 16 + digit_value d) ∷ octets)
 
 -- the text begins with the pair of this byte
-pub record IsPair (text : List ℕ) (octet : ℕ) (behind : List ℕ) : Type 0 where
+pub record IsPair (text : List ℕ) (octet : ℕ) (after : List ℕ) : Type 0 where
   pub high : ℕ
   pub low : ℕ
-  pub first : text ≡ high ∷ low ∷ behind
+  pub first : text ≡ high ∷ low ∷ after
   pub pair : Pairs (high ∷ low ∷ []) (octet ∷ [])
 
 -- pairs precede what follows, and their bytes are appended
-pub record AppendsPairs (octets more text behind : List ℕ) : Type 0 where
+pub record AppendsPairs (octets more text after : List ℕ) : Type 0 where
   pub digits : List ℕ
   pub values : List ℕ
   pub pairs : Pairs digits values
-  pub split : text ≡ digits ++ behind
+  pub split : text ≡ digits ++ after
   pub appended : more ≡ octets ++ values
 
 -- a text begins with pairs of digits, and their bytes are appended
-pub record AppendsFront (octets more text behind : List ℕ) : Type 0 where
-  pub passes : AppendsPairs octets more text behind
-  pub characters : chars text ≡ passes.digits ++ chars behind
-  pub utf8 : IsUtf8 behind
+pub record AppendsFront (octets more text after : List ℕ) : Type 0 where
+  pub passes : AppendsPairs octets more text after
+  pub characters : chars text ≡ passes.digits ++ chars after
+  pub utf8 : IsUtf8 after
 
 -- the remaining text begins with pairs of digits, and their bytes are appended
-pub record AppendsLead (octets more : List ℕ) (source behind : Source) : Type 0 where
-  pub passes : AppendsPairs octets more (characters_in source) (characters_in behind)
-  pub whole : IsWhole behind
-  pub encoding : encoding_in behind ≡ encoding_in source
-  pub shorter : length (octets_in behind) ≤ length (octets_in source)
+pub record AppendsLead (octets more : List ℕ) (source after : Source) : Type 0 where
+  pub passes : AppendsPairs octets more (characters_in source) (characters_in after)
+  pub whole : IsWhole after
+  pub encoding : encoding_in after ≡ encoding_in source
+  pub shorter : length (octets_in after) ≤ length (octets_in source)

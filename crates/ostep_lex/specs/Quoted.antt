@@ -13,7 +13,7 @@ begins_run (c ∷ rest) = is_run c
 -- characters of an unquoted string, as many as possible
 pub data Run : List ℕ → List ℕ → List ℕ → Type 0 where
   stop : {rest : List ℕ} → begins_run rest ≡ false → Run rest [] rest
-  more : {c : ℕ} {rest units behind : List ℕ} → is_run c ≡ true → Run rest units behind → Run (c ∷ rest) (c ∷ units) behind
+  more : {c : ℕ} {rest units after : List ℕ} → is_run c ≡ true → Run rest units after → Run (c ∷ rest) (c ∷ units) after
 
 -- the `U` of an escape in hexadecimal digits
 abbrev pub unit_letter : ℕ
@@ -36,9 +36,9 @@ escaped c =
 -- four hexadecimal digits, as many as possible, or any other character
 pub data Escape : List ℕ → List ℕ → List ℕ → Type 0 where
   octal : {text : List ℕ} → begins_digit 8 text ≡ true → (octal_number text).value ≤ 0x7f
-      → Escape text ((octal_number text).value ∷ []) (octal_number text).behind
+      → Escape text ((octal_number text).value ∷ []) (octal_number text).after
   unit : {text : List ℕ} → begins_digit 16 text ≡ true
-      → Escape (unit_letter ∷ text) ((hexadecimal_number text).value ∷ []) (hexadecimal_number text).behind
+      → Escape (unit_letter ∷ text) ((hexadecimal_number text).value ∷ []) (hexadecimal_number text).after
   character : {c : ℕ} {rest : List ℕ} → is_octal c ≡ false → (c == unit_letter) ≡ false → Escape (c ∷ rest) (escaped c) rest
 
 -- whether a character encodes itself between quotes
@@ -53,5 +53,5 @@ pub data Piece (mark : ℕ) : List ℕ → List ℕ → List ℕ → Type 0 wher
 -- after the opening quote: pieces, and the closing quote
 pub data Quoted (mark : ℕ) : List ℕ → List ℕ → List ℕ → Type 0 where
   close : {c : ℕ} {rest : List ℕ} → (c == mark) ≡ true → Quoted mark (c ∷ rest) [] rest
-  piece : {text units rest more behind : List ℕ} → Piece mark text units rest → Quoted mark rest more behind
-      → Quoted mark text (units ++ more) behind
+  piece : {text units rest more after : List ℕ} → Piece mark text units rest → Quoted mark rest more after
+      → Quoted mark text (units ++ more) after

@@ -53,8 +53,8 @@ pub record IsWhole (source : Source) : Type 0 where
   pub spelled : octets_of (encoding_in source) (characters_in source) ≡ octets_in source
 
 -- a character is first, followed by complete characters of the same encoding
-pub record Leads (source : Source) (c : ℕ) (behind : Source) : Type 0 where
-  pub text : characters_in source ≡ c ∷ characters_in behind
-  pub whole : IsWhole behind
-  pub encoding : encoding_in behind ≡ encoding_in source
-  pub shorter : length (octets_in behind) ≤ length (octets_in source)
+pub record Leads (source : Source) (c : ℕ) (after : Source) : Type 0 where
+  pub text : characters_in source ≡ c ∷ characters_in after
+  pub whole : IsWhole after
+  pub encoding : encoding_in after ≡ encoding_in source
+  pub shorter : length (octets_in after) ≤ length (octets_in source)

@@ -9,11 +9,11 @@ use Rattle.ostep_lex.specs.Lexeme.{IsToken, Placed}
 pub record StandsFirst (e : Encoding) (at : ℕ) (octets : List ℕ) (token : Placed) (others : List ℕ) : Type 0 where
   pub gap : List ℕ
   pub piece : List ℕ
-  pub behind : List ℕ
-  pub is_gap : Gap (gap ++ (piece ++ behind)) (piece ++ behind)
-  pub is_token : IsToken (piece ++ behind) token.lexeme behind
+  pub after : List ℕ
+  pub is_gap : Gap (gap ++ (piece ++ after)) (piece ++ after)
+  pub is_token : IsToken (piece ++ after) token.lexeme after
   pub spelled : octets ≡ octets_of e gap ++ (octets_of e piece ++ others)
-  pub others_are : others ≡ octets_of e behind
+  pub others_are : others ≡ octets_of e after
   pub start : token.start ≡ at + length (octets_of e gap)
   pub end : token.end ≡ token.start + length (octets_of e piece)
 
@@ -24,6 +24,6 @@ StandInTurn e at octets (token ∷ tokens) = (others : List ℕ) × StandsFirst 
 
 -- the bytes of an input after its byte order mark are gaps and these tokens in order
 pub record HasSpans (octets : List ℕ) (tokens : List Placed) : Type 0 where
-  pub behind : List ℕ
-  pub marked : octets ≡ mark_of octets ++ behind
-  pub in_turn : StandInTurn (encoding_of octets) (length (mark_of octets)) behind tokens
+  pub after : List ℕ
+  pub marked : octets ≡ mark_of octets ++ after
+  pub in_turn : StandInTurn (encoding_of octets) (length (mark_of octets)) after tokens

@@ -61,11 +61,11 @@ pub data FaultBehind (p : Places) : List ℕ → LexFault → Type 0 where
 -- whitespace characters, or nothing
 pub data White : List ℕ → List ℕ → Type 0 where
   none : {rest : List ℕ} → White rest rest
-  more : {c : ℕ} {rest behind : List ℕ} → is_white c ≡ true → White rest behind → White (c ∷ rest) behind
+  more : {c : ℕ} {rest after : List ℕ} → is_white c ≡ true → White rest after → White (c ∷ rest) after
 
 -- whitespace is not followed by the mark
 abbrev pub LacksMark : ℕ → List ℕ → Type 0
-LacksMark mark text = (lexeme : Lexeme) (behind : List ℕ) → mark_token mark ≡ Some lexeme → White text (mark ∷ behind) → ⊥
+LacksMark mark text = (lexeme : Lexeme) (after : List ℕ) → mark_token mark ≡ Some lexeme → White text (mark ∷ after) → ⊥
 
 -- whether an XML property list begins at the text
 abbrev pub begins_xml : List ℕ → Bool

@@ -39,20 +39,20 @@ pub record AppendsUnits (kind : Class) (order : ByteOrder) (units more octets re
   pub appended : more ≡ units ++ begins.front
 
 -- a stretch is first, followed by complete characters of the same encoding
-pub record LeadsStretch (kind : Class) (source : Source) (front : List ℕ) (behind : Source) : Type 0 where
+pub record LeadsStretch (kind : Class) (source : Source) (front : List ℕ) (after : Source) : Type 0 where
   pub stretch : is_stretch 0xD800 kind front ≡ true
-  pub text : characters_in source ≡ front ++ characters_in behind
-  pub whole : IsWhole behind
-  pub encoding : encoding_in behind ≡ encoding_in source
-  pub shorter : length (octets_in behind) ≤ length (octets_in source)
+  pub text : characters_in source ≡ front ++ characters_in after
+  pub whole : IsWhole after
+  pub encoding : encoding_in after ≡ encoding_in source
+  pub shorter : length (octets_in after) ≤ length (octets_in source)
 
 -- some stretch is first
-pub record PassesLead (kind : Class) (source behind : Source) : Type 0 where
+pub record PassesLead (kind : Class) (source after : Source) : Type 0 where
   pub front : List ℕ
-  pub leads : LeadsStretch kind source front behind
+  pub leads : LeadsStretch kind source front after
 
 -- some stretch is first, and its characters are appended
-pub record AppendsStretch (kind : Class) (units more : List ℕ) (source behind : Source) : Type 0 where
+pub record AppendsStretch (kind : Class) (units more : List ℕ) (source after : Source) : Type 0 where
   pub front : List ℕ
-  pub leads : LeadsStretch kind source front behind
+  pub leads : LeadsStretch kind source front after
   pub appended : more ≡ units ++ front

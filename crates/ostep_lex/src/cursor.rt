@@ -4,7 +4,7 @@ ghost use Rattle.std.specs.Prelude.{MatchOption, IfSome, IfOk, IfErr};
 ghost use Rattle.ostep_lex.specs.Source.{IsWhole, octets_in};
 
 use crate::fault::LexFault;
-use crate::source::{ByteOrder, Source, behind_characters};
+use crate::source::{ByteOrder, Source, after_characters};
 use crate::stretch::Class;
 use simdutf8::compat::from_utf8;
 use std::alloc::AllocError;
@@ -59,11 +59,11 @@ impl<'a> Cursor<'a> {
     /// Returns the cursor after the longest stretch of the class.
     #[inline(always)]
     #[tactic(auto, unfolding(crate::specs::Cursor::ahead, crate::specs::Cursor::places_in))]
-    pub(crate) fn behind_stretch(self, class: Class) -> Cursor<'a>
+    pub(crate) fn after_stretch(self, class: Class) -> Cursor<'a>
         ensures { SkipsStretch class self.entry result }
     {
         Cursor {
-            source: self.source.behind_stretch(class),
+            source: self.source.after_stretch(class),
             end: self.end,
         }
     }
@@ -116,12 +116,12 @@ impl<'a> Cursor<'a> {
     }
 
     /// Returns the cursor after the character, if it is the first.
-    pub(crate) fn behind(self, wanted: char) -> Option<Cursor<'a>>
-        ensures { MatchOption result (begins_with wanted (ahead self.entry) ≡ false) (λ behind.
-            (ahead self.entry ≡ wanted ∷ ahead behind) × SameInput self.entry behind) }
+    pub(crate) fn after(self, wanted: char) -> Option<Cursor<'a>>
+        ensures { MatchOption result (begins_with wanted (ahead self.entry) ≡ false) (λ after.
+            (ahead self.entry ≡ wanted ∷ ahead after) × SameInput self.entry after) }
     {
         match self.first() {
-            Some((c, behind)) if c == wanted => Some(behind),
+            Some((c, after)) if c == wanted => Some(after),
             _ => None,
         }
     }
@@ -155,7 +155,7 @@ impl<'a> Cursor<'a> {
         ensures ok { IfOk result (Holds (encoding_by order) octets.now end) }
         ensures err { IfErr result (IsBadUtf16 (StopsBehind (encoding_by order) octets.now end)) }
     {
-        let rest = behind_characters(order, octets);
+        let rest = after_characters(order, octets);
         if !rest.is_empty() {
             return Err(LexFault::BadUtf16 {
                 octet: end - rest.len(),

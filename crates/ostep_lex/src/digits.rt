@@ -12,21 +12,21 @@ pub fn number(cursor: Cursor<'_>, base: u32, count: u32) -> (u32, Cursor<'_>)
     requires base_limit { base ≤ 16 }
     requires count_limit { count ≤ 4 }
     ensures value { number_from base count 0 (ahead cursor.entry)
-        ≡ record { value = result.0; behind = ahead result.1 } }
+        ≡ record { value = result.0; after = ahead result.1 } }
     ensures input { SameInput cursor.entry result.1 }
     ensures limit { result.0 < 2 ^ 16 }
 {
     let mut value = 0;
     let mut rest = cursor;
     for _ in 0..count {
-        let Some((c, behind)) = rest.first() else {
+        let Some((c, after)) = rest.first() else {
             return (value, rest);
         };
         let Some(digit) = c.to_digit(base) else {
             return (value, rest);
         };
         value = value * base + digit;
-        rest = behind;
+        rest = after;
     }
     (value, rest)
 }

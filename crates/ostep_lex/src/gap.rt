@@ -16,12 +16,12 @@ fn line_comment(cursor: Cursor<'_>) -> Cursor<'_>
     ensures comment { LineComment (ahead cursor.entry) (ahead result) }
     ensures input { SameInput cursor.entry result }
 {
-    let mut rest = cursor.behind_stretch(Class::Line);
-    while let Some((c, behind)) = rest.first() {
+    let mut rest = cursor.after_stretch(Class::Line);
+    while let Some((c, after)) = rest.first() {
         if is_line_end(c) {
             break;
         }
-        rest = behind.behind_stretch(Class::Line);
+        rest = after.after_stretch(Class::Line);
     }
     rest
 }
@@ -31,7 +31,7 @@ fn comment_end(cursor: Cursor<'_>) -> Option<Cursor<'_>>
     ensures { MatchOption result (closes_comment (ahead cursor.entry) ≡ false) (λ end.
         (ahead cursor.entry ≡ star ∷ slash_code ∷ ahead end) × SameInput cursor.entry end) }
 {
-    cursor.behind('*')?.behind('/')
+    cursor.after('*')?.after('/')
 }
 
 /// Takes the cursor after `/*`. Returns the cursor after the first `*/`, or `None` if there is no
@@ -40,12 +40,12 @@ fn block_comment(cursor: Cursor<'_>) -> Option<Cursor<'_>>
     ensures { MatchOption result (NeverCloses (ahead cursor.entry)) (λ end.
         BlockComment (ahead cursor.entry) (ahead end) × SameInput cursor.entry end) }
 {
-    let mut rest = cursor.behind_stretch(Class::Starless);
-    while let Some((_, behind)) = rest.first() {
+    let mut rest = cursor.after_stretch(Class::Starless);
+    while let Some((_, after)) = rest.first() {
         if let Some(end) = comment_end(rest) {
             return Some(end);
         }
-        rest = behind.behind_stretch(Class::Starless);
+        rest = after.after_stretch(Class::Starless);
     }
     None
 }
@@ -59,10 +59,10 @@ fn comment<'a>(cursor: Cursor<'a>, slash: Cursor<'a>) -> Result<Option<Cursor<'a
         MatchOption found (begins_gap (ahead cursor.entry) ≡ false) (PassesPiece cursor.entry)) }
     ensures err { IfErr result (FaultAt (places_in cursor.entry) (ahead cursor.entry)) }
 {
-    if let Some(text) = slash.behind('/') {
+    if let Some(text) = slash.after('/') {
         return Ok(Some(line_comment(text)));
     }
-    let Some(text) = slash.behind('*') else {
+    let Some(text) = slash.after('*') else {
         return Ok(None);
     };
     match block_comment(text) {
@@ -80,13 +80,13 @@ fn gap_piece(cursor: Cursor<'_>) -> Result<Option<Cursor<'_>>, LexFault>
         MatchOption found (begins_gap (ahead cursor.entry) ≡ false) (PassesPiece cursor.entry)) }
     ensures err { IfErr result (FaultAt (places_in cursor.entry) (ahead cursor.entry)) }
 {
-    let Some((c, behind)) = cursor.first() else {
+    let Some((c, after)) = cursor.first() else {
         return Ok(None);
     };
     if c == '/' {
-        comment(cursor, behind)
+        comment(cursor, after)
     } else if is_white(c) {
-        Ok(Some(behind))
+        Ok(Some(after))
     } else {
         Ok(None)
     }
@@ -109,7 +109,7 @@ pub fn gap(cursor: Cursor<'_>) -> Result<Cursor<'_>, LexFault>
     ensures ok { IfOk result (PassesGap cursor.entry) }
     ensures err { IfErr result (FaultBehind (places_in cursor.entry) (ahead cursor.entry)) }
 {
-    let rest = cursor.behind_stretch(Class::White);
+    let rest = cursor.after_stretch(Class::White);
     if is_over(rest) {
         Ok(rest)
     } else {
@@ -124,8 +124,8 @@ fn whole_gap(cursor: Cursor<'_>) -> Result<Cursor<'_>, LexFault>
     ensures err { IfErr result (FaultBehind (places_in cursor.entry) (ahead cursor.entry)) }
 {
     let mut rest = cursor;
-    while let Some(behind) = gap_piece(rest)? {
-        rest = behind.behind_stretch(Class::White);
+    while let Some(after) = gap_piece(rest)? {
+        rest = after.after_stretch(Class::White);
     }
     Ok(rest)
 }

@@ -48,22 +48,22 @@ fn token_here(
     ensures err { IfErr result (UnlessMemory
         (FaultAt (places_in cursor.entry) (ahead cursor.entry))) }
 {
-    let Some((c, behind)) = cursor.first() else {
+    let Some((c, after)) = cursor.first() else {
         return Ok(None);
     };
     if let Some(kind) = mark_token(c) {
-        return Ok(Some((kind, behind)));
+        return Ok(Some((kind, after)));
     }
     if is_run(c) {
         let (units, end) = run(alloc, cursor)?;
         return Ok(Some((TokenKind::Text(Utf16::from_units(units)), end)));
     }
     if is_quote(c) {
-        let (units, end) = quoted(alloc, c, cursor.place(), behind)?;
+        let (units, end) = quoted(alloc, c, cursor.place(), after)?;
         return Ok(Some((TokenKind::Text(Utf16::from_units(units)), end)));
     }
     if c == '<' {
-        let (octets, end) = octets(alloc, behind)?;
+        let (octets, end) = octets(alloc, after)?;
         return Ok(Some((TokenKind::Octets(octets), end)));
     }
     Err(LexFault::UnexpectedCharacter {
@@ -123,20 +123,20 @@ pub fn next_mark(cursor: Cursor<'_>, mark: char) -> Option<(Token, Cursor<'_>)>
     ensures none { IfNone result (LacksMark mark (ahead cursor.entry)) }
 {
     let mut rest = cursor;
-    while let Some((c, behind)) = rest.first() {
+    while let Some((c, after)) = rest.first() {
         if c == mark {
             let kind = mark_token(mark)?;
             let token = Token {
                 kind,
                 start: rest.place(),
-                end: behind.place(),
+                end: after.place(),
             };
-            return Some((token, behind));
+            return Some((token, after));
         }
         if !is_white(c) {
             break;
         }
-        rest = behind;
+        rest = after;
     }
     None
 }
@@ -160,9 +160,9 @@ pub fn tokens(alloc: Global, octets: &[u8]) -> Result<Vec<Token>, LexFault>
 {
     let mut found = Vec::new(alloc);
     let mut rest = open(octets)?;
-    while let Some((token, behind)) = next_token(alloc, rest)? {
+    while let Some((token, after)) = next_token(alloc, rest)? {
         found.push(token)?;
-        rest = behind;
+        rest = after;
     }
     Ok(found)
 }

@@ -16,27 +16,27 @@ fn digit(cursor: Cursor<'_>) -> Option<(u32, Cursor<'_>)>
     ensures { MatchOption result (begins_digit 16 (ahead cursor.entry) ≡ false)
         (λ found. PassesDigit found.0 cursor.entry found.1) }
 {
-    let (c, behind) = cursor.first()?;
-    Some((c.to_digit(16)?, behind))
+    let (c, after) = cursor.first()?;
+    Some((c.to_digit(16)?, after))
 }
 
 /// Skips whitespace, or appends the byte of two hexadecimal digits. The first character is `c`, and
-/// `behind` is the cursor after it.
+/// `after` is the cursor after it.
 fn push_octet<'a>(
     octets: &mut Vec<u8>,
     cursor: Cursor<'a>,
     c: char,
-    behind: Cursor<'a>,
+    after: Cursor<'a>,
 ) -> Result<Cursor<'a>, LexFault>
-    requires first { ahead cursor ≡ c ∷ ahead behind }
+    requires first { ahead cursor ≡ c ∷ ahead after }
     requires open { c ≢ greater_than }
-    requires input { SameInput cursor behind }
+    requires input { SameInput cursor after }
     ensures ok { IfOk result (OctetsAppends octets.old.items octets.new.items cursor.entry) }
     ensures err { IfErr result (UnlessMemory
         (OctetsFault (places_in cursor.entry) (ahead cursor.entry))) }
 {
     if is_white(c) {
-        return Ok(behind);
+        return Ok(after);
     }
     let Some((high, second)) = digit(cursor) else {
         return Err(LexFault::BadData {
@@ -60,11 +60,11 @@ pub fn octets(alloc: Global, cursor: Cursor<'_>) -> Result<(Vec<u8>, Cursor<'_>)
 {
     let mut octets = Vec::new(alloc);
     let mut rest = cursor.push_pairs(&mut octets)?;
-    while let Some((c, behind)) = rest.first() {
+    while let Some((c, after)) = rest.first() {
         if c == '>' {
-            return Ok((octets, behind));
+            return Ok((octets, after));
         }
-        let end = push_octet(&mut octets, rest, c, behind)?;
+        let end = push_octet(&mut octets, rest, c, after)?;
         rest = end.push_pairs(&mut octets)?;
     }
     Err(LexFault::BadData {

@@ -35,16 +35,16 @@ fn text_of(octets: &[u8]) -> Result<Cursor<'_>, LexFault>
 }
 
 /// Returns the cursor after all whitespace.
-fn behind_white(cursor: Cursor<'_>) -> Cursor<'_>
+fn after_white(cursor: Cursor<'_>) -> Cursor<'_>
     ensures white { White (ahead cursor.entry) (ahead result) }
     ensures input { SameInput cursor.entry result }
 {
     let mut rest = cursor;
-    while let Some((c, behind)) = rest.first() {
+    while let Some((c, after)) = rest.first() {
         if !is_white(c) {
             break;
         }
-        rest = behind;
+        rest = after;
     }
     rest
 }
@@ -55,10 +55,10 @@ fn begins_with(cursor: Cursor<'_>, word: &[u8]) -> bool
 {
     let mut rest = cursor;
     for octet in word {
-        let Some(behind) = rest.behind(char::from(*octet)) else {
+        let Some(after) = rest.after(char::from(*octet)) else {
             return false;
         };
-        rest = behind;
+        rest = after;
     }
     true
 }
@@ -86,7 +86,7 @@ pub fn open(octets: &[u8]) -> Result<Cursor<'_>, LexFault>
     ensures refused { IfErr result (λ fault. HasNoTokens octets.now) }
 {
     let cursor = text_of(octets)?;
-    let text = behind_white(cursor);
+    let text = after_white(cursor);
     if begins_xml(text) {
         return Err(LexFault::XmlForm {
             octet: text.place(),

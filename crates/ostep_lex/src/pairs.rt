@@ -24,19 +24,19 @@ fn front_pair(octets: &[u8]) -> Option<(u8, &[u8])>
     ensures { IfSome result (λ found. IsPair octets.now found.0 found.1.now) }
 {
     let (high, second) = octets.split_first()?;
-    let (low, behind) = second.split_first()?;
-    Some((digit_of(*high)? * 16 + digit_of(*low)?, behind))
+    let (low, after) = second.split_first()?;
+    Some((digit_of(*high)? * 16 + digit_of(*low)?, after))
 }
 
 /// Appends the bytes of the pairs of digits at the start, and returns what follows them.
 fn push_pairs<'a>(found: &mut Vec<u8>, octets: &'a [u8]) -> Result<&'a [u8], AllocError>
     ensures { IfOk result
-        (λ behind. AppendsPairs found.old.items found.new.items octets.now behind.now) }
+        (λ after. AppendsPairs found.old.items found.new.items octets.now after.now) }
 {
     let mut rest = octets;
-    while let Some((octet, behind)) = front_pair(rest) {
+    while let Some((octet, after)) = front_pair(rest) {
         found.push(octet)?;
-        rest = behind;
+        rest = after;
     }
     Ok(rest)
 }
@@ -45,8 +45,8 @@ fn push_pairs<'a>(found: &mut Vec<u8>, octets: &'a [u8]) -> Result<&'a [u8], All
 /// them.
 pub fn push_front<'a>(found: &mut Vec<u8>, text: &'a str) -> Result<&'a str, AllocError>
     ensures { IfOk result
-        (λ behind. AppendsFront found.old.items found.new.items text.now behind.now) }
+        (λ after. AppendsFront found.old.items found.new.items text.now after.now) }
 {
-    let behind = push_pairs(found, text.as_bytes())?;
-    Ok(text.split_at(text.len() - behind.len()).1)
+    let after = push_pairs(found, text.as_bytes())?;
+    Ok(text.split_at(text.len() - after.len()).1)
 }

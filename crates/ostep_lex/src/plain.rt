@@ -17,10 +17,10 @@ use plist_value::TextRef;
 fn plain_run(cursor: Cursor<'_>) -> Option<(&[u8], Cursor<'_>)>
     ensures { IfSome result (λ found. PassesRun cursor.entry found.1 found.0.now) }
 {
-    let (octets, behind) = cursor.plain_stretch(Class::Run)?;
-    match behind.first() {
+    let (octets, after) = cursor.plain_stretch(Class::Run)?;
+    match after.first() {
         Some((c, _)) if is_run(c) => None,
-        _ => Some((octets, behind)),
+        _ => Some((octets, after)),
     }
 }
 
@@ -30,8 +30,8 @@ fn plain_run(cursor: Cursor<'_>) -> Option<(&[u8], Cursor<'_>)>
 fn plain_quoted(mark: char, cursor: Cursor<'_>) -> Option<(&[u8], Cursor<'_>)>
     ensures { IfSome result (λ found. PassesQuoted mark cursor.entry found.1 found.0.now) }
 {
-    let (octets, behind) = cursor.plain_stretch(Class::Raw(mark))?;
-    let end = behind.behind(mark)?;
+    let (octets, after) = cursor.plain_stretch(Class::Raw(mark))?;
+    let end = after.after(mark)?;
     Some((octets, end))
 }
 
@@ -40,9 +40,9 @@ fn plain_quoted(mark: char, cursor: Cursor<'_>) -> Option<(&[u8], Cursor<'_>)>
 fn plain_here(cursor: Cursor<'_>) -> Option<(&[u8], Cursor<'_>)>
     ensures { IfSome result (λ found. PassesToken (string found.0.now) cursor.entry found.1) }
 {
-    let (c, behind) = cursor.first()?;
+    let (c, after) = cursor.first()?;
     if is_quote(c) {
-        plain_quoted(c, behind)
+        plain_quoted(c, after)
     } else if is_run(c) && c != '/' {
         plain_run(cursor)
     } else {

@@ -25,12 +25,12 @@ pub fn run(alloc: Global, cursor: Cursor<'_>) -> Result<(Vec<u16>, Cursor<'_>), 
 {
     let mut units = Vec::new(alloc);
     let mut rest = cursor.push_stretch(Class::Run, &mut units)?;
-    while let Some((c, behind)) = rest.first() {
+    while let Some((c, after)) = rest.first() {
         if !is_run(c) {
             break;
         }
         units.push(c as u16)?;
-        rest = behind;
+        rest = after;
     }
     Ok((units, rest))
 }
@@ -133,40 +133,40 @@ fn push_escape<'a>(
     ensures err { IfErr result (UnlessMemory
         (EscapeFault (places_in backslash.entry) start (ahead backslash.entry))) }
 {
-    let Some((c, behind)) = cursor.first() else {
+    let Some((c, after)) = cursor.first() else {
         return Err(LexFault::UnclosedString { octet: start });
     };
     if c.is_digit(8) {
         return push_octal(units, backslash, cursor);
     }
     if c == 'U' {
-        return push_unit(units, backslash, cursor, behind);
+        return push_unit(units, backslash, cursor, after);
     }
     push_character(units, escaped_character(c))?;
-    Ok(behind)
+    Ok(after)
 }
 
-/// Appends the units of the piece at the cursor. The first character is `c`, and `behind` is the
+/// Appends the units of the piece at the cursor. The first character is `c`, and `after` is the
 /// cursor after it.
 fn push_piece<'a>(
     units: &mut Vec<u16>,
     start: usize,
     cursor: Cursor<'a>,
     c: char,
-    behind: Cursor<'a>,
+    after: Cursor<'a>,
 ) -> Result<Cursor<'a>, LexFault>
-    requires first { ahead cursor ≡ c ∷ ahead behind }
-    requires input { SameInput cursor behind }
+    requires first { ahead cursor ≡ c ∷ ahead after }
+    requires input { SameInput cursor after }
     ensures ok { (mark : ℕ) → (c == mark) ≡ false
         → IfOk result (PieceAppends mark units.old.items units.new.items cursor.entry) }
     ensures err { IfErr result (UnlessMemory
         (EscapeFault (places_in cursor.entry) start (ahead cursor.entry))) }
 {
     if c == '\\' {
-        return push_escape(units, start, cursor, behind);
+        return push_escape(units, start, cursor, after);
     }
     push_character(units, c)?;
-    Ok(behind)
+    Ok(after)
 }
 
 /// Appends a stretch of unescaped characters of a string with this quote. Inlined, so that no other
@@ -186,7 +186,7 @@ fn push_raw<'a>(
 /// Appends the stretch that follows this character. Characters that are not ASCII mostly follow
 /// each other, so no stretch is looked for after one.
 #[inline(always)]
-fn push_raw_behind<'a>(
+fn push_raw_after<'a>(
     units: &mut Vec<u16>,
     mark: char,
     c: char,
@@ -216,12 +216,12 @@ pub fn quoted(
 {
     let mut units = Vec::new(alloc);
     let mut rest = push_raw(&mut units, mark, cursor)?;
-    while let Some((c, behind)) = rest.first() {
+    while let Some((c, after)) = rest.first() {
         if c == mark {
-            return Ok((units, behind));
+            return Ok((units, after));
         }
-        let end = push_piece(&mut units, start, rest, c, behind)?;
-        rest = push_raw_behind(&mut units, mark, c, end)?;
+        let end = push_piece(&mut units, start, rest, c, after)?;
+        rest = push_raw_after(&mut units, mark, c, end)?;
     }
     Err(LexFault::UnclosedString { octet: start })
 }

@@ -10,7 +10,7 @@ ghost use Rattle.ostep_lex.specs.Stretch.{LeadsStretch, PassesLead, AppendsStret
 ghost use Rattle.ostep_lex.specs.Pairs.{AppendsLead};
 
 use crate::pairs::push_front;
-use crate::stretch::{Class, behind_units, push_octets, push_units, stretch};
+use crate::stretch::{Class, after_units, push_octets, push_units, stretch};
 use std::alloc::AllocError;
 
 /// The byte order of UTF-16.
@@ -43,7 +43,7 @@ pub fn front_unit(order: ByteOrder, octets: &[u8]) -> Option<(u16, &[u8])>
         (λ found. octets.now ≡ unit_octets order found.0 ++ found.1.now) }
 {
     match octets {
-        [first, second, behind @ ..] => Some((unit(order, *first, *second), behind)),
+        [first, second, after @ ..] => Some((unit(order, *first, *second), after)),
         _ => None,
     }
 }
@@ -54,26 +54,26 @@ fn front_character(order: ByteOrder, octets: &[u8]) -> Option<(char, &[u8])>
     ensures { MatchOption result (BeginsWithNone (encoding_by order) octets.now)
         (λ found. BeginsWith (encoding_by order) octets.now found.0 found.1.now) }
 {
-    let (high, behind) = front_unit(order, octets)?;
+    let (high, after) = front_unit(order, octets)?;
     if !(0xd800..0xdc00).contains(&high) {
-        return Some((char::from_u32(u32::from(high))?, behind));
+        return Some((char::from_u32(u32::from(high))?, after));
     }
-    let (low, behind) = front_unit(order, behind)?;
+    let (low, after) = front_unit(order, after)?;
     if !(0xdc00..0xe000).contains(&low) {
         return None;
     }
     let code = 0x1_0000 + (u32::from(high) - 0xd800) * 0x400 + (u32::from(low) - 0xdc00);
-    Some((char::from_u32(code)?, behind))
+    Some((char::from_u32(code)?, after))
 }
 
 /// Returns the bytes from the first position on at which no UTF-16 character begins.
-pub fn behind_characters(order: ByteOrder, octets: &[u8]) -> &[u8]
+pub fn after_characters(order: ByteOrder, octets: &[u8]) -> &[u8]
     ensures fronts { FrontsOf (encoding_by order) octets.now result.now }
     ensures none { BeginsWithNone (encoding_by order) result.now }
 {
     let mut rest = octets;
-    while let Some((_, behind)) = front_character(order, rest) {
-        rest = behind;
+    while let Some((_, after)) = front_character(order, rest) {
+        rest = after;
     }
     rest
 }
@@ -118,26 +118,26 @@ impl<'a> Source<'a> {
     {
         match self {
             Source::Utf8(text) => {
-                let (first, behind) = front_of_str(text)?;
-                Some((first, Source::Utf8(behind)))
+                let (first, after) = front_of_str(text)?;
+                Some((first, Source::Utf8(after)))
             }
             Source::Utf16(order, octets) => {
-                let (first, behind) = front_character_out_of_line(order, octets)?;
-                Some((first, Source::Utf16(order, behind)))
+                let (first, after) = front_character_out_of_line(order, octets)?;
+                Some((first, Source::Utf16(order, after)))
             }
         }
     }
 
     /// Returns the source after the longest stretch of the class.
     #[inline(always)]
-    pub fn behind_stretch(self, class: Class) -> Source<'a>
+    pub fn after_stretch(self, class: Class) -> Source<'a>
         requires { IsWhole self }
         ensures { PassesLead class self.entry result }
     {
         match self {
             Source::Utf8(text) => Source::Utf8(stretch(text, class).1),
             Source::Utf16(order, octets) => {
-                Source::Utf16(order, behind_units(class, order, octets))
+                Source::Utf16(order, after_units(class, order, octets))
             }
         }
     }
@@ -151,8 +151,8 @@ impl<'a> Source<'a> {
     {
         match self {
             Source::Utf8(text) => {
-                let (front, behind) = stretch(text, class);
-                Some((front, Source::Utf8(behind)))
+                let (front, after) = stretch(text, class);
+                Some((front, Source::Utf8(after)))
             }
             Source::Utf16(..) => None,
         }
@@ -166,13 +166,13 @@ impl<'a> Source<'a> {
     {
         match self {
             Source::Utf8(text) => {
-                let (front, behind) = stretch(text, class);
+                let (front, after) = stretch(text, class);
                 push_octets(units, front)?;
-                Ok(Source::Utf8(behind))
+                Ok(Source::Utf8(after))
             }
             Source::Utf16(order, octets) => {
-                let behind = push_units(units, class, order, octets)?;
-                Ok(Source::Utf16(order, behind))
+                let after = push_units(units, class, order, octets)?;
+                Ok(Source::Utf16(order, after))
             }
         }
     }
@@ -185,8 +185,8 @@ impl<'a> Source<'a> {
     {
         match self {
             Source::Utf8(text) => {
-                let behind = push_front(found, text)?;
-                Ok(Source::Utf8(behind))
+                let after = push_front(found, text)?;
+                Ok(Source::Utf8(after))
             }
             Source::Utf16(..) => Ok(self),
         }

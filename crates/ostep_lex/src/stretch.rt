@@ -60,7 +60,7 @@ fn is_unit_in(class: Class, unit: u16) -> bool
 
 /// Returns the bytes after the longest stretch at their start.
 #[inline(always)]
-fn behind_stretch(octets: &[u8], class: Class) -> &[u8]
+fn after_stretch(octets: &[u8], class: Class) -> &[u8]
     ensures { BeginsWithStretch class octets.now result.now }
 {
     let mut count = 0;
@@ -78,8 +78,8 @@ pub fn stretch(text: &str, class: Class) -> (&[u8], &str)
     ensures split { text.now ≡ result.0.now ++ result.1.now }
     ensures utf8 { IsUtf8 result.1.now }
 {
-    let behind = behind_stretch(text.as_bytes(), class);
-    let (front, rest) = text.split_at(text.len() - behind.len());
+    let after = after_stretch(text.as_bytes(), class);
+    let (front, rest) = text.split_at(text.len() - after.len());
     (front.as_bytes(), rest)
 }
 
@@ -89,22 +89,22 @@ pub fn push_octets(units: &mut Vec<u16>, octets: &[u8]) -> Result<(), AllocError
 {
     units.reserve(octets.len())?;
     let mut rest = octets;
-    while let [octet, behind @ ..] = rest {
+    while let [octet, after @ ..] = rest {
         units.push_reserved(u16::from(*octet));
-        rest = behind;
+        rest = after;
     }
     Ok(())
 }
 
 /// Returns the bytes after the first unit of UTF-16, if it is of the class.
 #[inline(always)]
-fn behind_unit(class: Class, order: ByteOrder, octets: &[u8]) -> Option<&[u8]>
-    ensures begins { IfSome result (λ behind. BeginsWithUnits class order octets.now behind.now) }
-    ensures shorter { IfSome result (λ behind. length behind.now < length octets.now) }
+fn after_unit(class: Class, order: ByteOrder, octets: &[u8]) -> Option<&[u8]>
+    ensures begins { IfSome result (λ after. BeginsWithUnits class order octets.now after.now) }
+    ensures shorter { IfSome result (λ after. length after.now < length octets.now) }
 {
-    let (unit, behind) = front_unit(order, octets)?;
+    let (unit, after) = front_unit(order, octets)?;
     if is_unit_in(class, unit) {
-        Some(behind)
+        Some(after)
     } else {
         None
     }
@@ -112,24 +112,24 @@ fn behind_unit(class: Class, order: ByteOrder, octets: &[u8]) -> Option<&[u8]>
 
 /// Returns the bytes after the longest stretch at the start of UTF-16 bytes.
 #[inline(always)]
-fn behind_units_by(class: Class, order: ByteOrder, octets: &[u8]) -> &[u8]
+fn after_units_by(class: Class, order: ByteOrder, octets: &[u8]) -> &[u8]
     ensures { BeginsWithUnits class order octets.now result.now }
 {
     let mut rest = octets;
-    while let Some(behind) = behind_unit(class, order, rest) {
-        rest = behind;
+    while let Some(after) = after_unit(class, order, rest) {
+        rest = after;
     }
     rest
 }
 
-/// Like `behind_units_by`, monomorphised for each byte order.
+/// Like `after_units_by`, monomorphised for each byte order.
 #[inline(never)]
-pub fn behind_units(class: Class, order: ByteOrder, octets: &[u8]) -> &[u8]
+pub fn after_units(class: Class, order: ByteOrder, octets: &[u8]) -> &[u8]
     ensures { BeginsWithUnits class order octets.now result.now }
 {
     match order {
-        ByteOrder::Big => behind_units_by(class, ByteOrder::Big, octets),
-        ByteOrder::Little => behind_units_by(class, ByteOrder::Little, octets),
+        ByteOrder::Big => after_units_by(class, ByteOrder::Big, octets),
+        ByteOrder::Little => after_units_by(class, ByteOrder::Little, octets),
     }
 }
 
@@ -141,9 +141,9 @@ fn push_all_units(units: &mut Vec<u16>, order: ByteOrder, octets: &[u8]) -> Resu
 {
     units.reserve(octets.len() / 2)?;
     let mut rest = octets;
-    while let Some((unit, behind)) = front_unit(order, rest) {
+    while let Some((unit, after)) = front_unit(order, rest) {
         units.push_reserved(unit);
-        rest = behind;
+        rest = after;
     }
     Ok(())
 }
@@ -157,10 +157,10 @@ pub fn push_units<'a>(
     order: ByteOrder,
     octets: &'a [u8],
 ) -> Result<&'a [u8], AllocError>
-    ensures { IfOk result (λ behind.
-        AppendsUnits class order units.old.items units.new.items octets.now behind.now) }
+    ensures { IfOk result (λ after.
+        AppendsUnits class order units.old.items units.new.items octets.now after.now) }
 {
-    let behind = behind_units(class, order, octets);
-    push_all_units(units, order, &octets[..octets.len() - behind.len()])?;
-    Ok(behind)
+    let after = after_units(class, order, octets);
+    push_all_units(units, order, &octets[..octets.len() - after.len()])?;
+    Ok(after)
 }

@@ -5,17 +5,17 @@ use Rattle.ostep_lex.proofs.gap.block_comment.Goals as goal
 
 pub returns-in-Some-comment_end : goal.returns-in-Some-comment_end
 returns-in-Some-comment_end c =
-    (c.loop-behind.invariant.0 _ (block_close c.in-Some-comment_end.ensures.0), c.in-Some-comment_end.ensures.1 ∙ c.loop-behind.invariant.2)
+    (c.loop-after.invariant.0 _ (block_close c.in-Some-comment_end.ensures.0), c.in-Some-comment_end.ensures.1 ∙ c.loop-after.invariant.2)
 
-pub loop-behind-init : goal.loop-behind-init
-loop-behind-init c = (λ end r. block_stretch c.behind_stretch-rest.ensures.passes r, λ n. never_stretch c.behind_stretch-rest.ensures.passes n, c.behind_stretch-rest.ensures.passes.input)
+pub loop-after-init : goal.loop-after-init
+loop-after-init c = (λ end r. block_stretch c.after_stretch-rest.ensures.passes r, λ n. never_stretch c.after_stretch-rest.ensures.passes n, c.after_stretch-rest.ensures.passes.input)
 
-pub loop-behind-preserved : goal.loop-behind-preserved
-loop-behind-preserved c = (
-  λ end r. c.loop-behind.invariant.0 end (block_more c.in-Some.ensures.0 c.in_default-comment_end.ensures (block_stretch c.behind_stretch-rest-in-Some.ensures.passes r)),
-  λ n. c.loop-behind.invariant.1 (never_more c.in-Some.ensures.0 c.in_default-comment_end.ensures (never_stretch c.behind_stretch-rest-in-Some.ensures.passes n)),
-  c.behind_stretch-rest-in-Some.ensures.passes.input ∙ c.in-Some.ensures.1 ∙ c.loop-behind.invariant.2,
+pub loop-after-preserved : goal.loop-after-preserved
+loop-after-preserved c = (
+  λ end r. c.loop-after.invariant.0 end (block_more c.in-Some.ensures.0 c.in_default-comment_end.ensures (block_stretch c.after_stretch-rest-in-Some.ensures.passes r)),
+  λ n. c.loop-after.invariant.1 (never_more c.in-Some.ensures.0 c.in_default-comment_end.ensures (never_stretch c.after_stretch-rest-in-Some.ensures.passes n)),
+  c.after_stretch-rest-in-Some.ensures.passes.input ∙ c.in-Some.ensures.1 ∙ c.loop-after.invariant.2,
 )
 
 pub returns : goal.returns
-returns c = c.loop-behind.invariant.1 (never_none c.in_default.ensures)
+returns c = c.loop-after.invariant.1 (never_none c.in_default.ensures)

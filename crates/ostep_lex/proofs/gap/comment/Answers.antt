@@ -9,8 +9,8 @@ returns-in-Some-clause-ok c =
 
 pub returns-in-Some-block_comment-clause-ok : goal.returns-in-Some-block_comment-clause-ok
 returns-in-Some-block_comment-clause-ok c =
-    piece_block _ _ _ (c.requires.slash ∙ ap (λ t. slash ∷ t) c.in-Some-behind.ensures.0) c.in-Some-block_comment.ensures.0 (c.in-Some-block_comment.ensures.1 ∙ c.in-Some-behind.ensures.1 ∙ c.requires.input)
+    piece_block _ _ _ (c.requires.slash ∙ ap (λ t. slash ∷ t) c.in-Some-after.ensures.0) c.in-Some-block_comment.ensures.0 (c.in-Some-block_comment.ensures.1 ∙ c.in-Some-after.ensures.1 ∙ c.requires.input)
 
 pub returns-in-None-clause-err : goal.returns-in-None-clause-err
 returns-in-None-clause-err c =
-    comment_fault _ _ _ (c.requires.slash ∙ ap (λ t. slash ∷ t) c.in-Some-behind.ensures.0) c.in-None.ensures c.place.ensures
+    comment_fault _ _ _ (c.requires.slash ∙ ap (λ t. slash ∷ t) c.in-Some-after.ensures.0) c.in-None.ensures c.place.ensures

@@ -4,12 +4,12 @@ use Rattle.ostep_lex.proofs.StretchLemmas.{line_stretch}
 use Rattle.ostep_lex.proofs.gap.line_comment.Goals as goal
 
 pub loop-c-init : goal.loop-c-init
-loop-c-init c = (λ end r. line_stretch c.behind_stretch-rest.ensures.passes r, c.behind_stretch-rest.ensures.passes.input)
+loop-c-init c = (λ end r. line_stretch c.after_stretch-rest.ensures.passes r, c.after_stretch-rest.ensures.passes.input)
 
 pub loop-c-preserved : goal.loop-c-preserved
 loop-c-preserved c = (
-  λ end r. c.loop-c.invariant.0 end (line_more c.in-Some.ensures.0 (sym c.if-is_line_end.ensures) (line_stretch c.behind_stretch-rest-in-Some.ensures.passes r)),
-  c.behind_stretch-rest-in-Some.ensures.passes.input ∙ c.in-Some.ensures.1 ∙ c.loop-c.invariant.1,
+  λ end r. c.loop-c.invariant.0 end (line_more c.in-Some.ensures.0 (sym c.if-is_line_end.ensures) (line_stretch c.after_stretch-rest-in-Some.ensures.passes r)),
+  c.after_stretch-rest-in-Some.ensures.passes.input ∙ c.in-Some.ensures.1 ∙ c.loop-c.invariant.1,
 )
 
 pub returns-then-is_line_end-clause-comment : goal.returns-then-is_line_end-clause-comment

@@ -4,7 +4,7 @@ use Rattle.ostep_lex.specs.Character.{is_white}
 use Rattle.ostep_lex.specs.Lexeme.{lexeme_of}
 use Rattle.ostep_lex.specs.Stands.{none}
 use Rattle.ostep_lex.specs.Cursor.{ahead}
-use Rattle.ostep_lex.proofs.LexerSteps.{white_more, lacks_other, lacks_all, mark_placed, placed_shorter, behind_more}
+use Rattle.ostep_lex.proofs.LexerSteps.{white_more, lacks_other, lacks_all, mark_placed, placed_shorter, after_more}
 use Rattle.ostep_lex.proofs.lexer.next_mark.Goals as goal
 use Rattle.ostep_lex.proofs.lexer.next_mark.Goals.{in-Some+else-c-mark+then-not-is_white, in_default}
 
@@ -16,22 +16,22 @@ loop-c-preserved c =
 pub returns-then-c-mark-clause-some : goal.returns-then-c-mark-clause-some
 returns-then-c-mark-clause-some c octets tokens b =
     let same : c.in-Some.c ≡ c.args.mark = grind (arith, nat_tests) in
-    let first : ahead c.loop-c.rest ≡ c.args.mark ∷ ahead c.in-Some.behind = subst (λ d. ahead c.loop-c.rest ≡ d ∷ ahead c.in-Some.behind) same c.in-Some.ensures.0 in
-    behind_more b (mark_placed c.args.mark (lexeme_of c.in_ok-kind.kind) c.args.cursor c.loop-c.rest c.in-Some.behind c.place.result c.place-then-c-mark.result
+    let first : ahead c.loop-c.rest ≡ c.args.mark ∷ ahead c.in-Some.after = subst (λ d. ahead c.loop-c.rest ≡ d ∷ ahead c.in-Some.after) same c.in-Some.ensures.0 in
+    after_more b (mark_placed c.args.mark (lexeme_of c.in_ok-kind.kind) c.args.cursor c.loop-c.rest c.in-Some.after c.place.result c.place-then-c-mark.result
     (c.loop-c.invariant.0 _ none) c.loop-c.invariant.1 first c.in-Some.ensures.1 (sym c.in_ok-kind.ensures) c.place.ensures c.place-then-c-mark.ensures)
 
 pub returns-then-c-mark-clause-shorter : goal.returns-then-c-mark-clause-shorter
 returns-then-c-mark-clause-shorter c =
     let same : c.in-Some.c ≡ c.args.mark = grind (arith, nat_tests) in
-    let first : ahead c.loop-c.rest ≡ c.args.mark ∷ ahead c.in-Some.behind = subst (λ d. ahead c.loop-c.rest ≡ d ∷ ahead c.in-Some.behind) same c.in-Some.ensures.0 in
-    placed_shorter (mark_placed c.args.mark (lexeme_of c.in_ok-kind.kind) c.args.cursor c.loop-c.rest c.in-Some.behind c.place.result c.place-then-c-mark.result
+    let first : ahead c.loop-c.rest ≡ c.args.mark ∷ ahead c.in-Some.after = subst (λ d. ahead c.loop-c.rest ≡ d ∷ ahead c.in-Some.after) same c.in-Some.ensures.0 in
+    placed_shorter (mark_placed c.args.mark (lexeme_of c.in_ok-kind.kind) c.args.cursor c.loop-c.rest c.in-Some.after c.place.result c.place-then-c-mark.result
     (c.loop-c.invariant.0 _ none) c.loop-c.invariant.1 first c.in-Some.ensures.1 (sym c.in_ok-kind.ensures) c.place.ensures c.place-then-c-mark.ensures)
 
 pub returns-clause-none : goal.returns-clause-none
-returns-clause-none c lexeme behind m r = elim c.match-first.branch [
+returns-clause-none c lexeme after m r = elim c.match-first.branch [
   | in-Some+else-c-mark+then-not-is_white w ↦ (
       let n : is_white w.in-Some.c ≡ false = cc in
       let other : (w.in-Some.c == c.args.mark) ≡ false = grind (arith, nat_tests) in
-      lacks_other c.args.mark w.in-Some.c (c.loop-c.invariant.0 _ none) w.in-Some.ensures.0 n other lexeme behind m r)
-  | in_default w ↦ lacks_all c.args.mark (c.loop-c.invariant.0 _ none) w.in_default.ensures lexeme behind m r
+      lacks_other c.args.mark w.in-Some.c (c.loop-c.invariant.0 _ none) w.in-Some.ensures.0 n other lexeme after m r)
+  | in_default w ↦ lacks_all c.args.mark (c.loop-c.invariant.0 _ none) w.in_default.ensures lexeme after m r
 ]

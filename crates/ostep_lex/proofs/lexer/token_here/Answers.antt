@@ -26,7 +26,7 @@ pub returns-in_err-units-2-clause-err : goal.returns-in_err-units-2-clause-err
 returns-in_err-units-2-clause-err c =
     passed_on (UnlessMemory (FaultAt (places_in c.args.cursor) (ahead c.args.cursor))) _ c.from_residual-in_err-units-2.result c.from_residual-in_err-units-2.ensures.1
     (λ n. quoted_fault _ _ _ _ _ _ c.in-Some.ensures.0 (sym c.if-is_quote.ensures) c.place.ensures
-    (subst (λ p. QuotedFault p c.place.result c.in-Some.c (ahead c.in-Some.behind) c.in_err-units-2.field-0.0) c.in-Some.ensures.1 (c.in_err-units-2.ensures.err n)))
+    (subst (λ p. QuotedFault p c.place.result c.in-Some.c (ahead c.in-Some.after) c.in_err-units-2.field-0.0) c.in-Some.ensures.1 (c.in_err-units-2.ensures.err n)))
 
 pub returns-then-is_quote-clause-ok : goal.returns-then-is_quote-clause-ok
 returns-then-is_quote-clause-ok c = record {
@@ -39,7 +39,7 @@ pub returns-in_err-octets-clause-err : goal.returns-in_err-octets-clause-err
 returns-in_err-octets-clause-err c =
     passed_on (UnlessMemory (FaultAt (places_in c.args.cursor) (ahead c.args.cursor))) _ c.from_residual-in_err-octets.result c.from_residual-in_err-octets.ensures.1
     (λ n. data_fault _ _ _ _ _ c.in-Some.ensures.0 c.if-c-eq60.true
-    (subst (λ p. OctetsFault p (ahead c.in-Some.behind) c.in_err-octets.field-0.0) c.in-Some.ensures.1 (c.in_err-octets.ensures.err n)))
+    (subst (λ p. OctetsFault p (ahead c.in-Some.after) c.in_err-octets.field-0.0) c.in-Some.ensures.1 (c.in_err-octets.ensures.err n)))
 
 pub returns-then-c-eq60-clause-ok : goal.returns-then-c-eq60-clause-ok
 returns-then-c-eq60-clause-ok c = record {

@@ -24,9 +24,9 @@ returns-in_err-token-clause-refused c =
 
 pub loop-found-preserved : goal.loop-found-preserved
 loop-found-preserved c =
-    let b : StandsBehind c.args.octets.now (map placed c.loop-found.found.items ++ placed c.in-Some.token ∷ []) c.in-Some.behind =
+    let b : StandsBehind c.args.octets.now (map placed c.loop-found.found.items ++ placed c.in-Some.token ∷ []) c.in-Some.after =
     rw c.in-Some.is at (c.in_ok-token.ensures.ok _ _ c.loop-found.invariant) in
-    subst (λ ts. StandsBehind c.args.octets.now ts c.in-Some.behind) (found_more c.loop-found.found.items c.push.new.self.items c.in-Some.token c.in_ok-push.ensures.items) b
+    subst (λ ts. StandsBehind c.args.octets.now ts c.in-Some.after) (found_more c.loop-found.found.items c.push.new.self.items c.in-Some.token c.in_ok-push.ensures.items) b
 
 pub returns-clause-spans : goal.returns-clause-spans
 returns-clause-spans c =

@@ -8,7 +8,7 @@ use Rattle.ostep_lex.proofs.octets.octets.Goals as goal
 
 pub returns-then-c-eq62-clause-ok : goal.returns-then-c-eq62-clause-ok
 returns-then-c-eq62-clause-ok c = record {
-  bytes = subst (λ os. Octets (ahead c.args.cursor) os (ahead c.in-Some.behind)) (append-nil c.loop-c.octets.items)
+  bytes = subst (λ os. Octets (ahead c.args.cursor) os (ahead c.in-Some.after)) (append-nil c.loop-c.octets.items)
       (c.loop-c.invariant.0 [] _ (octets_close _ _ _ c.in-Some.ensures.0 c.if-c-eq62.true));
   input = c.in-Some.ensures.1 ∙ c.loop-c.invariant.2;
 }

@@ -3,13 +3,13 @@ use Rattle.ostep_lex.specs.Lexing.{HasNoTokens}
 use Rattle.ostep_lex.specs.Stands.{HasXml}
 use Rattle.ostep_lex.proofs.Exits.{passed_on}
 use Rattle.ostep_lex.proofs.LawProofs.{faulty_has_none, HasXml-none}
-use Rattle.ostep_lex.proofs.LexerSteps.{opens_behind, opens_xml}
+use Rattle.ostep_lex.proofs.LexerSteps.{opens_after, opens_xml}
 use Rattle.ostep_lex.proofs.opening.open.Goals as goal
 use Rattle.ostep_lex.proofs.opening.open.Goals.{After-place}
 
 -- an XML property list begins
 xml : (c : After-place) → HasXml c.args.octets.now c.place.result
-xml c = opens_xml _ _ c.in_ok-cursor.ensures.ok c.behind_white-text.ensures.white c.behind_white-text.ensures.input (sym c.if-begins_xml.ensures) c.place.ensures
+xml c = opens_xml _ _ c.in_ok-cursor.ensures.ok c.after_white-text.ensures.white c.after_white-text.ensures.input (sym c.if-begins_xml.ensures) c.place.ensures
 
 pub returns-in_err-cursor-clause-refused : goal.returns-in_err-cursor-clause-refused
 returns-in_err-cursor-clause-refused c =
@@ -23,4 +23,4 @@ pub returns-then-begins_xml-clause-refused : goal.returns-then-begins_xml-clause
 returns-then-begins_xml-clause-refused c = HasXml-none (xml (goal.at.returns-then-begins_xml-clause-refused c).After-place)
 
 pub returns-clause-ok : goal.returns-clause-ok
-returns-clause-ok c = opens_behind c.in_ok-cursor.ensures.ok
+returns-clause-ok c = opens_after c.in_ok-cursor.ensures.ok

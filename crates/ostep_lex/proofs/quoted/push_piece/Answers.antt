@@ -9,7 +9,7 @@ use Rattle.ostep_lex.proofs.quoted.push_piece.Goals as goal
 pub returns-then-c-eq92-clause-ok : goal.returns-then-c-eq92-clause-ok
 returns-then-c-eq92-clause-ok c mark m =
     IfOk-weaker c.push_escape.result
-    (λ end. EscapeAppends c.args.units.now.items c.push_escape.new.units.items c.args.behind end)
+    (λ end. EscapeAppends c.args.units.now.items c.push_escape.new.units.items c.args.after end)
     (λ end. PieceAppends mark c.args.units.now.items c.push_escape.new.units.items c.args.cursor end)
     (λ end e. record {
       units_of = _;

@@ -13,7 +13,7 @@ pub returns-then-c-mark-clause-ok : goal.returns-then-c-mark-clause-ok
 returns-then-c-mark-clause-ok c =
     let close : (c.in-Some.c == c.args.mark) ≡ true = grind (arith, nat_tests) in
     record {
-      quoted = subst (λ us. Quoted c.args.mark (ahead c.args.cursor) us (ahead c.in-Some.behind)) (append-nil c.loop-c.units.items)
+      quoted = subst (λ us. Quoted c.args.mark (ahead c.args.cursor) us (ahead c.in-Some.after)) (append-nil c.loop-c.units.items)
           (c.loop-c.invariant.0 [] _ (quoted_close c.args.mark _ _ _ c.in-Some.ensures.0 close));
       input = c.in-Some.ensures.1 ∙ c.loop-c.invariant.2;
     }

@@ -11,7 +11,7 @@ loop-unit-init c = record {
 
 pub loop-unit-preserved : goal.loop-unit-preserved
 loop-unit-preserved c =
-    let us = units_in c.args.order c.in-Some.behind.now in
+    let us = units_in c.args.order c.in-Some.after.now in
     let first : units_in c.args.order c.loop-unit.rest.now ≡ c.in-Some.unit ∷ us = units_in-first c.args.order _ _ c.in-Some.unit c.in-Some.ensures in
     record {
       items = ap (λ w. w ++ us) c.push_reserved.ensures.items ∙ append_assoc c.loop-unit.units.items (c.in-Some.unit ∷ []) us

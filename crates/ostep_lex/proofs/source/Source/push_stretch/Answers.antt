@@ -8,9 +8,9 @@ returns-in_ok-push_octets-in-Utf8 c = record {
   appended = c.in_ok-push_octets-in-Utf8.ensures;
 }
 
-pub returns-in_ok-behind-in-Utf16 : goal.returns-in_ok-behind-in-Utf16
-returns-in_ok-behind-in-Utf16 c = record {
-  front = c.in_ok-behind-in-Utf16.ensures.begins.front;
-  leads = leads_units c.in-Utf16.is c.requires c.in_ok-behind-in-Utf16.ensures.begins;
-  appended = c.in_ok-behind-in-Utf16.ensures.appended;
+pub returns-in_ok-after-in-Utf16 : goal.returns-in_ok-after-in-Utf16
+returns-in_ok-after-in-Utf16 c = record {
+  front = c.in_ok-after-in-Utf16.ensures.begins.front;
+  leads = leads_units c.in-Utf16.is c.requires c.in_ok-after-in-Utf16.ensures.begins;
+  appended = c.in_ok-after-in-Utf16.ensures.appended;
 }

@@ -2,7 +2,7 @@ use Rattle.std.proofs.Common.{◌≡◌, true, ◌∙◌}
 use Rattle.ostep_lex.specs.Character.{is_white}
 use Rattle.ostep_lex.specs.Stands.{none}
 use Rattle.ostep_lex.proofs.LexerSteps.{white_more}
-use Rattle.ostep_lex.proofs.opening.behind_white.Goals as goal
+use Rattle.ostep_lex.proofs.opening.after_white.Goals as goal
 
 pub loop-c-preserved : goal.loop-c-preserved
 loop-c-preserved c =

@@ -1,7 +1,7 @@
 use Rattle.std.proofs.Common.{◌≡◌, ◌&&◌, nat_lt, true}
 use Rattle.ostep_lex.specs.Stretch.{belongs}
 use Rattle.ostep_lex.proofs.StretchLemmas.{units_none, units_more}
-use Rattle.ostep_lex.proofs.stretch.behind_unit.Goals as goal
+use Rattle.ostep_lex.proofs.stretch.after_unit.Goals as goal
 
 pub returns-then-is_unit_in-clause-begins : goal.returns-then-is_unit_in-clause-begins
 returns-then-is_unit_in-clause-begins c =

@@ -2,7 +2,7 @@ use Rattle.std.proofs.Common.{◌≡◌, ◌&&◌, nat_lt, true, get_or, arith}
 use Rattle.std.proofs.lemmas.List.{drop_more}
 use Rattle.ostep_lex.specs.Stretch.{belongs}
 use Rattle.ostep_lex.proofs.StretchLemmas.{stretch_none, stretch_more}
-use Rattle.ostep_lex.proofs.stretch.behind_stretch.Goals as goal
+use Rattle.ostep_lex.proofs.stretch.after_stretch.Goals as goal
 
 pub loop-count-init : goal.loop-count-init
 loop-count-init c = record { within = omega arith; begins = stretch_none _ _ }

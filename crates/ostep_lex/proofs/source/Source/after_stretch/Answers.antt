@@ -1,5 +1,5 @@
 use Rattle.ostep_lex.proofs.StretchLemmas.{leads_stretch, leads_units}
-use Rattle.ostep_lex.proofs.source.Source.behind_stretch.Goals as goal
+use Rattle.ostep_lex.proofs.source.Source.after_stretch.Goals as goal
 
 pub returns-in-Utf8 : goal.returns-in-Utf8
 returns-in-Utf8 c = record {
@@ -8,4 +8,4 @@ returns-in-Utf8 c = record {
 }
 
 pub returns-in-Utf16 : goal.returns-in-Utf16
-returns-in-Utf16 c = record { front = c.behind_units.ensures.front; leads = leads_units c.in-Utf16.is c.requires c.behind_units.ensures }
+returns-in-Utf16 c = record { front = c.after_units.ensures.front; leads = leads_units c.in-Utf16.is c.requires c.after_units.ensures }

@@ -1,6 +1,6 @@
 use Rattle.std.proofs.Common.{◌-◌, ◌≤◌, length, drop}
 use Rattle.ostep_lex.specs.Stretch.{BeginsWithStretch}
-use Rattle.ostep_lex.proofs.stretch.behind_stretch.Given as goal
+use Rattle.ostep_lex.proofs.stretch.after_stretch.Given as goal
 
 abbrev pub invariant-loop-count : goal.invariant-loop-count
 invariant-loop-count l = record {
