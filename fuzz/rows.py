@@ -139,18 +139,24 @@ def lines(name):
         return held.read().splitlines()
 
 
+def named(answers):
+    """Returns the answers by the names of their rows."""
+    return dict(answer.split(': ', 1) for answer in answers)
+
+
 def main():
     answers = [answer(line) for line in lines('stdin') if line and not line.startswith('#')]
     if sys.argv[1:] == ['--print']:
         print('\n'.join(answers))
         return 0
-    told = lines('stdout')
-    differences = [pair for pair in zip(told, answers) if pair[0] != pair[1]]
-    for pair in differences:
-        print('stdout: %s\nsecond reading: %s' % pair)
-    if len(told) != len(answers):
-        print('stdout has %d lines for %d rows' % (len(told), len(answers)))
-    return 1 if differences or len(told) != len(answers) else 0
+    expected, computed = named(lines('stdout')), named(answers)
+    wrong = [name for name in dict.fromkeys([*computed, *expected]) if expected.get(name) != computed.get(name)]
+    for name in wrong:
+        print('%s\n  stdout: %s\n  second reading: %s' % (name, expected.get(name), computed.get(name)))
+    in_order = [*expected] == [*computed]
+    if not wrong and not in_order:
+        print('the lines of stdout are not in the order of the rows')
+    return 0 if in_order and not wrong and len(answers) == len(computed) else 1
 
 
 if __name__ == '__main__':

@@ -203,7 +203,8 @@ def main(arguments: list[str], top: Path = Path(__file__).resolve().parent.paren
         return 1
     stale = [f"PROOFS.md:{number}: {line.rpartition(' | ')[2] or line}" for number, (line, other)
              in enumerate(zip(new.splitlines(), text.splitlines()), 1) if line != other]
-    print("\n".join([*stale, f"claims: {len(found)} promises, {len(stale)} with other numbers"]))
+    remedy = " (scripts/claims.py --counts writes them)" if stale else ""
+    print("\n".join([*stale, f"claims: {len(found)} promises, {len(stale)} with other numbers{remedy}"]))
     return 1 if stale else 0
 
 
