@@ -15,7 +15,6 @@ pub mod ReadReferences
 pub mod ReadScalars
 pub mod SameOctets
 pub mod Ranked
-pub mod Orders
 pub mod KeyOrders
 pub mod PrefixSteps
 pub mod Ascents

@@ -1,15 +1,13 @@
 -- The keys of a dictionary in the order of their strings.
-use Rattle.std.specs.Prelude.{◌≡◌, ℕ, ◌<◌, List, Option, All, EachIndex, IfSome, Result, Ok, Err, [], length, map, slice_index}
+use Rattle.std.specs.Prelude.{ℕ, List, EachIndex, Result, Ok, Err, [], length, map, slice_index}
 use Rattle.std.specs.Ordering.{nat_cmp}
 use Rattle.std.specs.Cmp.Lexicographic.{slice_cmp}
-use Rattle.std.specs.List.{range_with_len, zip}
+use Rattle.std.specs.List.{range_with_len}
 use Rattle.std.specs.List.Sorted.{IsPermutation, IsSorted, IsStrictlySortedBy}
 use Rattle.plist_value.specs.Plist.{text}
 use Rattle.plist_object.specs.Objects.{Held, holds_scalar, holds_list, holds_table}
 use Rattle.plist_object.specs.declared.object.ObjectFault.{ObjectFault}
 use Rattle.plist_object.specs.Places.{what_holds, HoldsText}
-use Rattle.plist_object.specs.Views.{numbers_of}
-use Rattle.plist_object.specs.declared.sorted.SortedKeys.{SortedKeys}
 
 -- each of the references points to a string
 abbrev pub NameTexts : List ℕ → List ℕ → Type 0
@@ -39,22 +37,3 @@ Ascend f keys places = IsStrictlySortedBy (slice_cmp nat_cmp) (strings_at f keys
 -- the key and the value at a position
 abbrev pub pair_of : List ℕ → List ℕ → ℕ → ℕ × ℕ
 pair_of keys values place = (slice_index keys place, slice_index values place)
-
--- the positions are those of all keys, each once, whatever the values are
-pub record ArePlaces (keys places : List ℕ) : Type 0 where
-  pub within : All (λ place. place < length keys) places
-  pub moved : (values : List ℕ) → length keys ≡ length values → IsPermutation (zip keys values) (map (pair_of keys values) places)
-
--- the positions of the keys in the order of their strings, each of which is below the next
-pub record IsOrder (f keys places : List ℕ) : Type 0 where
-  pub texts : List (List ℕ)
-  pub placed : ArePlaces keys places
-  pub held : map (λ place. what_holds f (slice_index keys place)) places ≡ map (λ units. Ok (holds_scalar (text units))) texts
-  pub ascend : IsStrictlySortedBy (slice_cmp nat_cmp) texts
-
-abbrev pub AreSorted : List ℕ → SortedKeys → Type 0
-AreSorted f keys = IsOrder f (numbers_of keys.refs) keys.places.items
-
--- the keys, if there are any, are sorted
-abbrev pub AreSortedIfAny : List ℕ → Option SortedKeys → Type 0
-AreSortedIfAny f keys = IfSome keys (AreSorted f)

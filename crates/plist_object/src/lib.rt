@@ -17,7 +17,6 @@ mod reached;
 mod reading;
 pub mod refs;
 pub mod shortest;
-pub mod sorted;
 mod texts;
 
 pub use keys::Keys;
@@ -33,4 +32,3 @@ pub use puts::{
 pub use ranks::Ranks;
 pub use refs::Refs;
 pub use shortest::begins_canonically;
-pub use sorted::SortedKeys;
