@@ -19,10 +19,9 @@ use Rattle.std.specs.Prelude.{◌≢◌}
 use Rattle.std.proofs.Math.Dec.{eqb}
 use Rattle.std.proofs.lemmas.Bool.Decides.{eqb_tells}
 use Rattle.plist_object.proofs.Ascending.{Among, Contains-among, Among-contains}
-use Rattle.plist_binary.specs.declared.memos.Memo.{Memo}
 use Rattle.plist_binary.specs.declared.memos.State.{State}
-use Rattle.plist_binary.specs.declared.memos.State.TheVariants.{Unseen, Open, Passed}
-use Rattle.plist_binary.specs.Memos.{IsMemo, IsState, state_of, AreStates, AreStatesBut, IsMarked}
+use Rattle.plist_binary.specs.declared.memos.State.TheVariants.{Unseen, Open, Passed, Key}
+use Rattle.plist_binary.specs.Memos.{IsState, state_of, AreStates, AreStatesBut, IsMarked}
 use Rattle.plist_value.specs.declared.TheConstants.{MAX_DEPTH}
 
 pub Reads-scalar : (f : List ℕ) (i levels : ℕ) (before left after : Budget) (s : Scalar) → i < (trailer_of f).count → what_holds f i ≡ Ok (holds_scalar s) → IsScalar s → 1 ≤ levels → Spends before 1 0 left → Spends left 0 (payload_of_scalar s) after → Reads f i levels before (scalar s) after
@@ -141,6 +140,7 @@ wider : (f path : List ℕ) (j i : ℕ) (state : State) → IsState f path i sta
 wider f path j i Unseen is = tt
 wider f path j i Open is = Contains-among i (j ∷ path) (inr (Among-contains i path is))
 wider f path j i (Passed deep n size) is = is
+wider f path j i (Key size) is = is
 
 -- another container on the path is one before the last
 earlier : (i j : ℕ) (path : List ℕ) → i ≢ j → Contains (j ∷ path) i → Contains path i
@@ -155,6 +155,7 @@ narrower : (f path : List ℕ) (j i : ℕ) (state : State) → i ≢ j → IsSta
 narrower f path j i Unseen apart is = tt
 narrower f path j i Open apart is = earlier i j path apart is
 narrower f path j i (Passed deep n size) apart is = is
+narrower f path j i (Key size) apart is = is
 
 -- the object itself, or another one
 marked : (P : ℕ → State → Type 0) (before after : List State) (j : ℕ) (state : State) (i : ℕ) → IsMarked before j state after → P j state → (i ≢ j → P i (state_of before i)) → P i (state_of after i)
@@ -177,10 +178,10 @@ AreStates-open f path before after j mark are = record {
       (eqb_tells i j);
 }
 
--- the object was visited, and leaves the path
-pub AreStates-passed : (f path : List ℕ) (before after : List State) (j : ℕ) (memo : Memo) → IsMarked before j (Passed memo.depth memo.nodes memo.payload) after → IsMemo f j memo → ¬ Contains path j → AreStatesBut f path j before → AreStates f path after
-AreStates-passed f path before after j memo mark is new are = record {
-  each = λ i. marked (IsState f path) before after j (Passed memo.depth memo.nodes memo.payload) i mark is (are.each i);
+-- the object was visited, and is not on the path
+pub AreStates-visited : (f path : List ℕ) (before after : List State) (j : ℕ) (state : State) → IsMarked before j state after → IsState f path j state → ¬ Contains path j → AreStatesBut f path j before → AreStates f path after
+AreStates-visited f path before after j state mark is new are = record {
+  each = λ i. marked (IsState f path) before after j state i mark is (are.each i);
   opened = λ i among.
       let apart : i ≢ j = λ same. new (subst (Contains path) same among) in
       mark.elsewhere i apart ∙ are.opened i apart among;
@@ -201,7 +202,3 @@ AreStates-last f path states j are = record {
 pub Open-among : (f path : List ℕ) (states : List State) (i : ℕ) → AreStates f path states → state_of states i ≡ Open → Among i path
 Open-among f path states i are is =
     Among-contains i path (subst (IsState f path i) is (are.each i))
-
--- a visited object has its memo
-pub Passed-memo : (f path : List ℕ) (states : List State) (i : ℕ) (memo : Memo) → AreStates f path states → state_of states i ≡ Passed memo.depth memo.nodes memo.payload → IsMemo f i memo
-Passed-memo f path states i memo are is = subst (IsState f path i) is (are.each i)

@@ -1,22 +1,21 @@
 -- What is passed, from its content, its items or its pairs, or from what was known of it.
-use Rattle.std.proofs.Common.{◌≡◌, ℕ, ◌+◌, ◌-◌, ◌<◌, ◌≤◌, refl, max, List, [], ◌∷◌, ◌++◌, length, take, slice_index, Ok, sym, subst, arith}
+use Rattle.std.proofs.Common.{◌≡◌, ℕ, ◌+◌, ◌<◌, ◌≤◌, refl, max, List, [], ◌∷◌, ◌++◌, length, take, slice_index, Ok, sym, subst, arith}
 use Rattle.std.specs.Ordering.{nat_cmp}
 use Rattle.std.specs.Cmp.Lexicographic.{slice_cmp}
 use Rattle.std.specs.List.{zip}
 use Rattle.std.specs.List.Sorted.{IsPermutation, IsStrictlySortedBy}
 use Rattle.plist_value.specs.declared.budget.Budget.{Budget}
 use Rattle.plist_value.specs.Budget.{Spends}
-use Rattle.plist_value.specs.declared.TheConstants.{MAX_NODES, MAX_PAYLOAD, MAX_DEPTH}
-use Rattle.plist_value.specs.Plist.{Scalar, Plist, scalar, list, table, Items, IsScalar}
+use Rattle.plist_value.specs.Plist.{Scalar, Plist, scalar, text, list, table, Items, IsScalar}
 use Rattle.plist_value.specs.Limits.{payload_of_scalar}
 use Rattle.plist_value.specs.View.{items_of, pairs_of}
 use Rattle.plist_object.specs.Layout.{trailer_of}
 use Rattle.plist_object.specs.Objects.{holds_scalar, holds_list, holds_table}
 use Rattle.plist_object.specs.Places.{what_holds}
 use Rattle.plist_binary.specs.declared.memos.Memo.{Memo}
-use Rattle.plist_binary.specs.Memos.{IsMemo}
-use Rattle.plist_binary.specs.Passing.{Passes, PassesItems, PassesPairs, PassesTop, limits}
-use Rattle.plist_binary.specs.Readings.{ReadsItems, texts}
+use Rattle.plist_binary.specs.Memos.{IsKey, IsMemo}
+use Rattle.plist_binary.specs.Passing.{Passes, PassesItems, PassesPairs}
+use Rattle.plist_binary.specs.Readings.{Reads, ReadsItems, ReadsKey, texts}
 use Rattle.plist_binary.proofs.Ascents.{zip-firsts}
 use Rattle.plist_binary.proofs.ItemSteps.{ReadsItems-next}
 use Rattle.plist_binary.proofs.Making.{Reads-scalar, Reads-list, Reads-table}
@@ -103,16 +102,36 @@ PassesPairs-sorted f keys values levels before left after us sorted deep long re
       within = passed.within;
     }
 
--- what passes in a part of the limits passes in all of them
-pub PassesTop-short : (f : List ℕ) (short left : Budget) (deep : ℕ) → short.nodes ≤ MAX_NODES → short.payload ≤ MAX_PAYLOAD → Passes f (trailer_of f).top MAX_DEPTH short deep left → PassesTop f
-PassesTop-short f short left deep nodes_most payload_most passed =
-    let top = (trailer_of f).top in
-    let spent = passed.reads.spent in
-    let memo : Memo = record { nodes = short.nodes - left.nodes; payload = short.payload - left.payload; depth = deep } in
-    let after : Budget = record { nodes = MAX_NODES - memo.nodes; payload = MAX_PAYLOAD - memo.payload } in
-    let is = IsMemo-passed f top MAX_DEPTH short left deep memo passed (omega (arith, spent.nodes_left)) (omega (arith, spent.payload_left)) refl in
-    record {
-      deep = deep;
-      after = after;
-      passes = Passes-memo f top MAX_DEPTH limits after memo is passed.within record { nodes_left = omega (arith, nodes_most); payload_left = omega (arith, payload_most) };
-    }
+-- Keys: a string that was read, and one that is known.
+
+pub IsKey-read : (f : List ℕ) (i levels : ℕ) (before after : Budget) (units : List ℕ) (size : ℕ) → Reads f i levels before (scalar (text units)) after → after.payload + size ≡ before.payload → IsKey f i size
+IsKey-read f i levels before after units size reads gone = record {
+  units = units;
+  spells = reads.spells;
+  valid = reads.valid;
+  payload_is = omega (arith, gone, reads.spent.payload_left);
+}
+
+pub IsMemo-key : (f : List ℕ) (i size : ℕ) → IsKey f i size → IsMemo f i record { depth = 1; nodes = 1; payload = size }
+IsMemo-key f i size key = record {
+  value = scalar (text key.units);
+  spells = key.spells;
+  valid = key.valid;
+  nodes_are = refl;
+  payload_is = key.payload_is;
+  deep = omega arith;
+}
+
+pub ReadsKey-known : (f : List ℕ) (i levels size : ℕ) (before after : Budget) → IsKey f i size → 1 ≤ levels → Spends before 1 size after → ReadsKey f i levels before after
+ReadsKey-known f i levels size before after key deep spent = record {
+  units = key.units;
+  reads = record {
+    spells = key.spells;
+    valid = key.valid;
+    deep = deep;
+    spent = record {
+      nodes_left = omega (arith, spent.nodes_left);
+      payload_left = omega (arith, spent.payload_left, key.payload_is);
+    };
+  };
+}

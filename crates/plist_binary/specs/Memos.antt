@@ -1,12 +1,12 @@
 -- What is known of the objects of a file while it is validated.
-use Rattle.std.specs.Prelude.{◌≡◌, ◌≢◌, ℕ, ◌≤◌, List, slice_index_or, ⊤}
+use Rattle.std.specs.Prelude.{◌≡◌, ◌≢◌, ℕ, ◌*◌, ◌≤◌, List, length, slice_index_or, ⊤}
 use Rattle.std.specs.List.{Contains}
-use Rattle.plist_value.specs.Plist.{Plist, IsPlist}
+use Rattle.plist_value.specs.Plist.{Plist, scalar, text, AreUnits, IsPlist}
 use Rattle.plist_value.specs.Limits.{nodes, depth, payload}
 use Rattle.plist_object.specs.Spelled.{Spells}
 use Rattle.plist_binary.specs.declared.memos.Memo.{Memo}
 use Rattle.plist_binary.specs.declared.memos.State.{State}
-use Rattle.plist_binary.specs.declared.memos.State.TheVariants.{Unseen, Open, Passed}
+use Rattle.plist_binary.specs.declared.memos.State.TheVariants.{Unseen, Open, Passed, Key}
 
 -- the object encodes a value of exactly this many nodes and this much payload, and at most this
 -- depth
@@ -18,11 +18,19 @@ pub record IsMemo (f : List ℕ) (i : ℕ) (memo : Memo) : Type 0 where
   pub payload_is : payload value ≡ memo.payload
   pub deep : depth value ≤ memo.depth
 
+-- the object contains a string of this payload
+pub record IsKey (f : List ℕ) (i size : ℕ) : Type 0 where
+  pub units : List ℕ
+  pub spells : Spells f i (scalar (text units))
+  pub valid : AreUnits units
+  pub payload_is : 2 * length units ≡ size
+
 -- the state of the object is correct, if these containers lead to the current object
 abbrev pub IsState : List ℕ → List ℕ → ℕ → State → Type 0
 IsState f path i Unseen = ⊤
 IsState f path i Open = Contains path i
 IsState f path i (Passed deep n size) = IsMemo f i (record { depth = deep; nodes = n; payload = size })
+IsState f path i (Key size) = IsKey f i size
 
 abbrev pub state_of : List State → ℕ → State
 state_of states i = slice_index_or states i Unseen

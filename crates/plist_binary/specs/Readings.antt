@@ -41,6 +41,11 @@ abbrev pub texts : List (List ℕ) → Items
 texts [] = no_items
 texts (units ∷ keys) = item (scalar (text units)) (texts keys)
 
+-- the object contains a string, and takes the difference of the budgets
+pub record ReadsKey (f : List ℕ) (i levels : ℕ) (before after : Budget) : Type 0 where
+  pub units : List ℕ
+  pub reads : Reads f i levels before (scalar (text units)) after
+
 -- the fault is true, and the object is not a string within the budget
 pub record RefusesKey (f : List ℕ) (whole : Budget) (i levels : ℕ) (left : Budget) (fault : BinaryFault) : Type 0 where
   pub stands : StandsWithin f whole.nodes whole.payload fault

@@ -1,5 +1,4 @@
--- What is known of keys that were read and sorted: those of the last dictionary, and the order of
--- the longest dictionary.
+-- What is known of the keys of the last dictionary.
 use Rattle.std.specs.Prelude.{◌≡◌, ℕ, List, Option, IfSome}
 use Rattle.std.specs.Ordering.{nat_cmp}
 use Rattle.std.specs.Cmp.Lexicographic.{slice_cmp}

@@ -5,22 +5,21 @@ ghost use Rattle.plist_value.specs.Plist.{Plist};
 ghost use Rattle.plist_object.specs.Layout.{IsLaid, trailer_of};
 ghost use Rattle.plist_object.specs.Spelled.{IsBinary};
 ghost use Rattle.plist_object.specs.Views.{octets_of};
-ghost use Rattle.plist_object.specs.Ranks.{AreRanks};
 ghost use Rattle.plist_binary.specs.Faults.{Stands};
-ghost use Rattle.plist_binary.specs.Passing.{IsWithinLimits, PassesTop, limits};
+ghost use Rattle.plist_binary.specs.Passing.{PassesTop, limits};
 ghost use Rattle.plist_binary.specs.Readings.{Refuses};
 
 use crate::BinaryFault;
 use crate::visiting::Visitor;
 use crate::walking::Walker;
-use plist_object::{BinFile, Keys, Ranks};
-use plist_value::{Budget, MAX_DEPTH};
+use plist_object::BinFile;
+use plist_value::MAX_DEPTH;
 use std::alloc::Global;
 
 /// Validates a binary property list: returns the fault that `read` would return, without building
-/// the value. Each object is validated once, even if several references point to it, and a key that
-/// several dictionaries share is read at most twice. So time and memory grow with the file, not
-/// with the value. Only if objects overlap are keys read again for each dictionary.
+/// the value. Each object is validated once, even if several references point to it, and once more
+/// if it is also a key. So time and memory grow with the file, not with the value. Only if objects
+/// overlap are keys read again for each dictionary, to sort them.
 ///
 /// # Errors
 ///
@@ -64,53 +63,13 @@ pub fn judge_file(alloc: Global, octets: &[u8]) -> Result<BinFile<'_>, BinaryFau
     Ok(file)
 }
 
-// Validates the top object of the file. If the payload exceeds the short budget, the file shares
-// strings; its keys are then ranked, so that no key is read again for each dictionary.
+// Validates the top object of the file.
 pub(crate) fn judge_top(alloc: Global, file: BinFile) -> Result<(), BinaryFault>
     requires { IsLaid (octets_of file) }
     ensures passed { OnOk result (PassesTop (octets_of file.entry)) }
     ensures refused { IfErr result (Refuses (octets_of file.entry) limits
         (trailer_of (octets_of file.entry)).top MAX_DEPTH limits) }
 {
-    let none = Ranks::none(alloc);
-    let whole = Budget::whole();
-    match judge_within(alloc, file, &none, short_budget(&file)) {
-        Ok(()) => Ok(()),
-        Err(BinaryFault::OutOfMemory) => Err(BinaryFault::OutOfMemory),
-        Err(BinaryFault::TooMuchPayload { .. }) => {
-            let ranks = Keys::of_file(alloc, &file)?.ranks(alloc, &file)?;
-            judge_within(alloc, file, &ranks, whole)
-        }
-        Err(_) => judge_within(alloc, file, &none, whole),
-    }
-}
-
-// Returns a budget of at most four times as much payload as the file has bytes. A file that exceeds
-// it may still encode a value within the limits.
-fn short_budget(file: &BinFile) -> Budget
-    ensures { IsWithinLimits result }
-{
-    let whole = Budget::whole();
-    Budget {
-        nodes: whole.nodes,
-        payload: whole.payload.min(file.table().saturating_mul(4)),
-    }
-}
-
-// Validates the top object of the file, within this budget.
-fn judge_within<'a>(
-    alloc: Global,
-    file: BinFile<'a>,
-    ranks: &Ranks<'a>,
-    whole: Budget,
-) -> Result<(), BinaryFault>
-    requires laid { IsLaid (octets_of file) }
-    requires ranked { AreRanks (octets_of file) ranks.now }
-    requires limits { IsWithinLimits whole }
-    ensures passed { OnOk result (PassesTop (octets_of file.entry)) }
-    ensures refused { IfErr result (Refuses (octets_of file.entry) whole
-        (trailer_of (octets_of file.entry)).top MAX_DEPTH whole) }
-{
-    let visitor = Visitor { file, ranks, whole };
+    let visitor = Visitor { file };
     Walker { alloc, visitor }.top()
 }

@@ -1,9 +1,9 @@
 //! What is known of the objects of a file while it is validated.
-ghost use Rattle.std.specs.Prelude.{◌≡◌, ◌+◌, ◌<◌, ◌≤◌, IfSome, OnOk};
+ghost use Rattle.std.specs.Prelude.{◌≡◌, ◌+◌, ◌<◌, ◌≤◌, ℕ, List, IfSome, OnOk};
 ghost use Rattle.plist_value.specs.declared.TheConstants.{MAX_NODES, MAX_DEPTH, MAX_PAYLOAD};
 ghost use Rattle.plist_value.specs.Budget.{Spends};
-ghost use Rattle.plist_binary.specs.Memos.{IsMarked, state_of};
-ghost use Rattle.plist_binary.specs.declared.memos.State.TheVariants.{Passed};
+ghost use Rattle.plist_binary.specs.Memos.{IsMarked, IsMemo, IsState, state_of};
+ghost use Rattle.plist_binary.specs.declared.memos.State.TheVariants.{Key, Passed};
 
 use plist_value::Budget;
 use std::alloc::AllocError;
@@ -30,6 +30,33 @@ pub(crate) enum State {
         nodes: u32,
         payload: u32,
     },
+    // Visited as a key, and found to contain a string of this payload.
+    Key {
+        payload: u32,
+    },
+}
+
+impl State {
+    // Returns what the value of the object takes of the limits, if it was visited.
+    pub(crate) fn memo(self) -> Option<Memo>
+        ensures { IfSome result (λ memo. (f path : List ℕ) (i : ℕ) → IsState f path i self
+            → IsMemo f i memo) }
+    {
+        match self {
+            State::Unseen => None,
+            State::Open => None,
+            State::Passed {
+                depth,
+                nodes,
+                payload,
+            } => Some(Memo {
+                depth,
+                nodes,
+                payload,
+            }),
+            State::Key { payload } => Some(Memo::of_key(payload)),
+        }
+    }
 }
 
 impl Memo {
@@ -51,6 +78,17 @@ impl Memo {
         }
     }
 
+    // Returns what a string of this payload takes.
+    pub(crate) fn of_key(payload: u32) -> Memo
+        ensures { result ≡ record { depth = 1; nodes = 1; payload = payload } }
+    {
+        Memo {
+            depth: 1,
+            nodes: 1,
+            payload,
+        }
+    }
+
     // Returns the state of a visited object whose value takes this much.
     pub(crate) fn passed(self) -> State
         ensures { result ≡ Passed self.depth self.nodes self.payload }
@@ -58,6 +96,15 @@ impl Memo {
         State::Passed {
             depth: self.depth,
             nodes: self.nodes,
+            payload: self.payload,
+        }
+    }
+
+    // Returns the state of a key whose string takes this much.
+    pub(crate) fn key(self) -> State
+        ensures { result ≡ Key self.payload }
+    {
+        State::Key {
             payload: self.payload,
         }
     }

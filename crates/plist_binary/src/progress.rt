@@ -1,7 +1,8 @@
 //! The progress of a walk.
 ghost use Rattle.std.specs.Prelude.{◌≡◌, ℕ, List, [], IfSome};
 ghost use Rattle.plist_binary.specs.Memos.{AreStates};
-ghost use Rattle.plist_binary.specs.Passing.{IsWithinLimits, Passes};
+ghost use Rattle.plist_binary.specs.Passing.{Passes, limits};
+ghost use Rattle.plist_binary.specs.Readings.{ReadsKey};
 ghost use Rattle.plist_binary.specs.Progress.{IsProgress};
 
 use crate::known_keys::LastKeys;
@@ -20,17 +21,16 @@ pub(crate) struct Progress<'a> {
 }
 
 impl<'a> Progress<'a> {
-    // Creates the state before the walk: nothing is known, and the whole budget is left.
-    pub(crate) fn none(alloc: Global, file: &BinFile<'a>, whole: Budget) -> Progress<'a>
-        requires { IsWithinLimits whole }
-        ensures left { result.left ≡ whole }
+    // Creates the state before the walk: nothing is known, and all of the limits is left.
+    pub(crate) fn none(alloc: Global, file: &BinFile<'a>) -> Progress<'a>
+        ensures left { result.left ≡ limits }
         ensures progress { (f : List ℕ) → IsProgress f [] result }
     {
         Progress {
             states: Vec::new(alloc),
             last: None,
             order: KeyOrder::new(alloc, file),
-            left: whole,
+            left: Budget::whole(),
         }
     }
 
@@ -40,23 +40,27 @@ impl<'a> Progress<'a> {
         ensures { IfSome result (λ known. (f path : List ℕ) → AreStates f path self.now.states.items
             → Passes f object levels self.now.left known.0 known.1) }
     {
-        let State::Passed {
-            depth,
-            nodes,
-            payload,
-        } = state_at(&self.states, object)
-        else {
-            return None;
-        };
-        let memo = Memo {
-            depth,
-            nodes,
-            payload,
-        };
+        let memo = state_at(&self.states, object).memo()?;
         let deep = u64::from(memo.depth);
         if levels < deep {
             return None;
         }
         Some((deep, memo.take(self.left)?))
+    }
+
+    // Returns the budget left after an object that was a key before, or `None` if it was none or
+    // does not fit.
+    pub(crate) fn recall_key(&self, object: u64, levels: u64) -> Option<Budget>
+        ensures { IfSome result (λ rest. (f path : List ℕ) → AreStates f path self.now.states.items
+            → ReadsKey f object levels self.now.left rest) }
+    {
+        let State::Key { payload } = state_at(&self.states, object) else {
+            return None;
+        };
+        if levels == 0 {
+            return None;
+        }
+        let rest = Memo::of_key(payload).take(self.left)?;
+        Some(rest)
     }
 }

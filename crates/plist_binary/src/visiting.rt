@@ -2,8 +2,7 @@
 ghost use Rattle.std.specs.Prelude.{◌≡◌, ◌+◌, ◌<◌, ◌≤◌, ◌∷◌, length, IfOk, IfErr, OnOk, IfSome};
 ghost use Rattle.std.specs.Prelude.{IfNone};
 ghost use Rattle.std.specs.List.{Contains};
-ghost use Rattle.std.proofs.Props.{props};
-ghost use Rattle.plist_value.specs.Plist.{scalar as scalar_value, text};
+ghost use Rattle.plist_value.specs.Plist.{text};
 ghost use Rattle.plist_value.specs.declared.TheConstants.{MAX_DEPTH};
 ghost use Rattle.plist_value.specs.Budget.{Spends};
 ghost use Rattle.plist_value.specs.Limits.{payload_of_scalar};
@@ -12,35 +11,31 @@ ghost use Rattle.plist_value.specs.Texts.{units_of};
 ghost use Rattle.plist_object.specs.Layout.{IsLaid, trailer_of};
 ghost use Rattle.plist_object.specs.Objects.{IsHeld, holds_scalar};
 ghost use Rattle.plist_object.specs.Places.{what_holds};
-ghost use Rattle.plist_object.specs.Views.{octets_of, Gives, held_of};
-ghost use Rattle.plist_object.specs.Ranks.{AreRanks};
+ghost use Rattle.plist_object.specs.Views.{octets_of, held_of};
 ghost use Rattle.plist_binary.specs.Begins.{IsBegun};
 ghost use Rattle.plist_binary.specs.Faults.{IsText};
 ghost use Rattle.plist_binary.specs.Memos.{AreStates};
+ghost use Rattle.plist_binary.specs.Passing.{limits};
 ghost use Rattle.plist_binary.specs.Progress.{IsProgress};
 ghost use Rattle.plist_binary.specs.Paths.{containers_of, IsKeyOf};
-ghost use Rattle.plist_binary.specs.Readings.{Refuses, Reads, RefusesKey};
+ghost use Rattle.plist_binary.specs.Readings.{Refuses, ReadsKey, RefusesKey};
 
 use crate::BinaryFault;
-use crate::memos::{State, state_at};
+use crate::memos::{Memo, State, mark, state_at};
 use crate::path::Path;
 use crate::progress::Progress;
-use plist_object::{BinFile, Object, ObjectFault, Ranks};
+use plist_object::{BinFile, Object};
 use plist_value::{Budget, ScalarRef, TextRef};
 
 // Visits the objects of a file, each as a node of the value, and perhaps as a key.
 #[derive(Clone, Copy)]
-pub(crate) struct Visitor<'a, 'r> {
+pub(crate) struct Visitor<'a> {
     pub(crate) file: BinFile<'a>,
-    pub(crate) ranks: &'r Ranks<'a>,
-    // What a value may take in total.
-    pub(crate) whole: Budget,
     ghost laid: { IsLaid (octets_of file) },
-    ghost ranked: { AreRanks (octets_of file) ranks.now } by { Prim.hlevel props },
 }
 
-impl<'a, 'r> Visitor<'a, 'r> {
-    // Visits a key of the dictionary and returns its string.
+impl<'a> Visitor<'a> {
+    // Visits a key of the dictionary. A string that was a key before is not decoded again.
     pub(crate) fn key(
         &self,
         progress: &mut Progress<'a>,
@@ -48,27 +43,34 @@ impl<'a, 'r> Visitor<'a, 'r> {
         before: &Path,
         object: u64,
         levels: u64,
-    ) -> Result<TextRef<'a>, BinaryFault>
+    ) -> Result<(), BinaryFault>
         requires listed { object < (trailer_of (octets_of self.now.file)).count }
         requires begun { IsBegun (octets_of self.now.file) (table ∷ containers_of before.now) object
-            self.now.whole progress.old.left }
+            limits progress.old.left }
         requires key { IsKeyOf (octets_of self.now.file) table object }
         requires depth { length (containers_of before.now) + 1 + levels ≡ MAX_DEPTH }
         requires progress { IsProgress (octets_of self.now.file)
             (table ∷ containers_of before.now) progress.old }
-        ensures read { IfOk result (λ key. Reads (octets_of self.now.file) object levels
-            progress.old.left (scalar_value (text (units_of key))) progress.new.left) }
-        ensures refused { IfErr result (RefusesKey (octets_of self.now.file) self.now.whole object
+        ensures read { OnOk result (ReadsKey (octets_of self.now.file) object levels
+            progress.old.left progress.new.left) }
+        ensures refused { IfErr result (RefusesKey (octets_of self.now.file) limits object
             levels progress.old.left) }
         ensures progress { OnOk result (IsProgress (octets_of self.now.file)
             (table ∷ containers_of before.now) progress.new) }
     {
+        if let Some(rest) = progress.recall_key(object, levels) {
+            progress.left = rest;
+            return Ok(());
+        }
         let path = Path::In(table, &*before);
+        let start = progress.left;
         let Some(key) = text_in(self.enter(progress, &path, object, levels)?) else {
             return Err(BinaryFault::KeyNotText { object: table });
         };
         take_payload(&mut progress.left, object, ScalarRef::Text(key))?;
-        Ok(key)
+        let memo = Memo::of(start, progress.left, 1);
+        mark(&mut progress.states, self.file.count(), object, memo.key())?;
+        Ok(())
     }
 
     // Returns the reference, or fails if it is not one to an object.
@@ -96,7 +98,7 @@ impl<'a, 'r> Visitor<'a, 'r> {
     ) -> Result<Object<'a>, BinaryFault>
         requires listed { object < (trailer_of (octets_of self.now.file)).count }
         requires begun { IsBegun (octets_of self.now.file) (containers_of path.now) object
-            self.now.whole progress.old.left }
+            limits progress.old.left }
         requires depth { length (containers_of path.now) + levels ≡ MAX_DEPTH }
         requires progress { IsProgress (octets_of self.now.file) (containers_of path.now)
             progress.old }
@@ -106,7 +108,7 @@ impl<'a, 'r> Visitor<'a, 'r> {
         ensures new { OnOk result (¬ Contains (containers_of path.now) object) }
         ensures deep { OnOk result (1 ≤ levels) }
         ensures spent { OnOk result (Spends progress.old.left 1 0 progress.new.left) }
-        ensures refused { IfErr result (Refuses (octets_of self.now.file) self.now.whole object
+        ensures refused { IfErr result (Refuses (octets_of self.now.file) limits object
             levels progress.old.left) }
         ensures progress { OnOk result (IsProgress (octets_of self.now.file)
             (containers_of path.now) progress.new) }
@@ -116,7 +118,7 @@ impl<'a, 'r> Visitor<'a, 'r> {
         if levels == 0 {
             return Err(BinaryFault::TooDeep { object });
         }
-        match self.object(object) {
+        match self.file.object(object) {
             Ok(held) => Ok(held),
             Err(fault) => Err(BinaryFault::of_object(object, fault)),
         }
@@ -132,37 +134,22 @@ impl<'a, 'r> Visitor<'a, 'r> {
         levels: u64,
     ) -> Result<(), BinaryFault>
         requires begun { IsBegun (octets_of self.now.file) (containers_of path.now) object
-            self.now.whole progress.now.left }
+            limits progress.now.left }
         requires states { AreStates (octets_of self.now.file) (containers_of path.now)
             progress.now.states.items }
         ensures new { OnOk result (¬ Contains (containers_of path.now) object) }
-        ensures refused { IfErr result (Refuses (octets_of self.now.file) self.now.whole object
+        ensures refused { IfErr result (Refuses (octets_of self.now.file) limits object
             levels progress.now.left) }
     {
         match state_at(&progress.states, object) {
             State::Unseen => Ok(()),
             State::Passed { .. } => Ok(()),
+            State::Key { .. } => Ok(()),
             State::Open => match path {
                 Path::Above => Ok(()),
                 Path::In(container, _) => Err(BinaryFault::Cycle { object: *container }),
             },
         }
-    }
-
-    // Returns the content of the object. A string with a sort position was decoded before and is
-    // not decoded again.
-    fn object(&self, object: u64) -> Result<Object<'a>, ObjectFault>
-        requires listed { object < (trailer_of (octets_of self.now.file)).count }
-        ensures read { Gives held_of result (what_holds (octets_of self.now.file) object) }
-        ensures valid { IfOk result (λ held. IsHeld (held_of held)) }
-    {
-        let Some(rank) = self.ranks.get(object) else {
-            return self.file.object(object);
-        };
-        let Some(text) = self.ranks.text(rank) else {
-            return self.file.object(object);
-        };
-        Ok(Object::Scalar(ScalarRef::Text(text)))
     }
 }
 

@@ -1,12 +1,11 @@
 //! The traversal of the objects of a file.
 ghost use Rattle.std.specs.Prelude.{◌≡◌, ◌+◌, ◌<◌, ◌∷◌, ℕ, List, length, max, IfOk, IfErr, OnOk};
 ghost use Rattle.std.specs.List.{Contains};
-ghost use Rattle.plist_value.specs.Texts.{units_of};
 ghost use Rattle.plist_object.specs.Layout.{trailer_of};
 ghost use Rattle.plist_object.specs.Views.{numbers_of, octets_of};
 ghost use Rattle.plist_binary.specs.Begins.{AreNext, IsBegun, IsEntered};
 ghost use Rattle.plist_binary.specs.Progress.{IsProgress, IsProgressBut};
-ghost use Rattle.plist_binary.specs.Passing.{IsWithinLimits, Passes, PassesItems, PassesTop};
+ghost use Rattle.plist_binary.specs.Passing.{Passes, PassesItems, PassesTop, limits};
 ghost use Rattle.plist_binary.specs.Paths.{containers_of, HasKeys};
 ghost use Rattle.plist_binary.specs.Readings.{Refuses, RefusesItems};
 ghost use Rattle.plist_binary.specs.Readings.{ReadsItems, texts, RefusesKeys};
@@ -24,21 +23,20 @@ use std::alloc::Global;
 
 // Traverses the objects of a file. The visitor reads each of them.
 #[derive(Clone, Copy)]
-pub(crate) struct Walker<'a, 'r> {
+pub(crate) struct Walker<'a> {
     pub(crate) alloc: Global,
-    pub(crate) visitor: Visitor<'a, 'r>,
+    pub(crate) visitor: Visitor<'a>,
 }
 
-impl<'a, 'r> Walker<'a, 'r> {
-    // Validates the top object within the whole budget.
+impl<'a> Walker<'a> {
+    // Validates the top object within the limits.
     pub(crate) fn top(&self) -> Result<(), BinaryFault>
-        requires { IsWithinLimits self.now.visitor.whole }
         ensures passed { OnOk result (PassesTop (octets_of self.now.visitor.file)) }
         ensures refused { IfErr result (Refuses (octets_of self.now.visitor.file)
-            self.now.visitor.whole (trailer_of (octets_of self.now.visitor.file)).top MAX_DEPTH
-            self.now.visitor.whole) }
+            limits (trailer_of (octets_of self.now.visitor.file)).top MAX_DEPTH
+            limits) }
     {
-        let mut progress = Progress::none(self.alloc, &self.visitor.file, self.visitor.whole);
+        let mut progress = Progress::none(self.alloc, &self.visitor.file);
         let top = self.visitor.file.top();
         self.pass(&mut progress, &Path::Above, top, MAX_DEPTH)?;
         Ok(())
@@ -57,14 +55,14 @@ impl<'a, 'r> Walker<'a, 'r> {
     ) -> Result<u64, BinaryFault>
         requires listed { object < (trailer_of (octets_of self.now.visitor.file)).count }
         requires begun { IsBegun (octets_of self.now.visitor.file) (containers_of path.now) object
-            self.now.visitor.whole progress.old.left }
+            limits progress.old.left }
         requires depth { length (containers_of path.now) + levels ≡ MAX_DEPTH }
         requires progress { IsProgress (octets_of self.now.visitor.file) (containers_of path.now)
             progress.old }
         ensures passed { IfOk result (λ deep. Passes (octets_of self.now.visitor.file) object levels
             progress.old.left deep progress.new.left) }
         ensures refused { IfErr result (Refuses (octets_of self.now.visitor.file)
-            self.now.visitor.whole object levels progress.old.left) }
+            limits object levels progress.old.left) }
         ensures progress { OnOk result (IsProgress (octets_of self.now.visitor.file)
             (containers_of path.now) progress.new) }
     {
@@ -87,14 +85,14 @@ impl<'a, 'r> Walker<'a, 'r> {
     ) -> Result<u64, BinaryFault>
         requires listed { object < (trailer_of (octets_of self.now.visitor.file)).count }
         requires begun { IsBegun (octets_of self.now.visitor.file) (containers_of path.now) object
-            self.now.visitor.whole progress.old.left }
+            limits progress.old.left }
         requires depth { length (containers_of path.now) + levels ≡ MAX_DEPTH }
         requires progress { IsProgress (octets_of self.now.visitor.file) (containers_of path.now)
             progress.old }
         ensures passed { IfOk result (λ deep. Passes (octets_of self.now.visitor.file) object levels
             progress.old.left deep progress.new.left) }
         ensures refused { IfErr result (Refuses (octets_of self.now.visitor.file)
-            self.now.visitor.whole object levels progress.old.left) }
+            limits object levels progress.old.left) }
         ensures progress { OnOk result (IsProgress (octets_of self.now.visitor.file)
             (containers_of path.now) progress.new) }
     {
@@ -118,14 +116,14 @@ impl<'a, 'r> Walker<'a, 'r> {
     ) -> Result<u64, BinaryFault>
         requires listed { object < (trailer_of (octets_of self.now.visitor.file)).count }
         requires begun { IsBegun (octets_of self.now.visitor.file) (containers_of path.now) object
-            self.now.visitor.whole progress.old.left }
+            limits progress.old.left }
         requires depth { length (containers_of path.now) + levels ≡ MAX_DEPTH }
         requires progress { IsProgress (octets_of self.now.visitor.file) (containers_of path.now)
             progress.old }
         ensures passed { IfOk result (λ deep. Passes (octets_of self.now.visitor.file) object levels
             progress.old.left deep progress.new.left) }
         ensures refused { IfErr result (Refuses (octets_of self.now.visitor.file)
-            self.now.visitor.whole object levels progress.old.left) }
+            limits object levels progress.old.left) }
         ensures new { OnOk result (¬ Contains (containers_of path.now) object) }
         ensures progress { OnOk result (IsProgressBut (octets_of self.now.visitor.file)
             (containers_of path.now) object progress.new) }
@@ -161,14 +159,14 @@ impl<'a, 'r> Walker<'a, 'r> {
         levels: u64,
     ) -> Result<u64, BinaryFault>
         requires next { AreNext (octets_of self.now.visitor.file) (containers_of before.now)
-            container (numbers_of refs) self.now.visitor.whole progress.old.left }
+            container (numbers_of refs) limits progress.old.left }
         requires depth { length (containers_of before.now) + 1 + levels ≡ MAX_DEPTH }
         requires progress { IsProgress (octets_of self.now.visitor.file)
             (container ∷ containers_of before.now) progress.old }
         ensures passed { IfOk result (λ deep. PassesItems (octets_of self.now.visitor.file)
             (numbers_of refs.entry) levels progress.old.left deep progress.new.left) }
         ensures refused { IfErr result (RefusesItems (octets_of self.now.visitor.file)
-            self.now.visitor.whole (numbers_of refs.entry) levels progress.old.left) }
+            limits (numbers_of refs.entry) levels progress.old.left) }
         ensures progress { OnOk result (IsProgress (octets_of self.now.visitor.file)
             (container ∷ containers_of before.now) progress.new) }
     {
@@ -193,7 +191,7 @@ impl<'a, 'r> Walker<'a, 'r> {
         levels: u64,
     ) -> Result<(), BinaryFault>
         requires entered { IsEntered (octets_of self.now.visitor.file) (containers_of before.now)
-            table self.now.visitor.whole progress.old.left }
+            table limits progress.old.left }
         requires keys { HasKeys (octets_of self.now.visitor.file) table (numbers_of refs) }
         requires depth { length (containers_of before.now) + 1 + levels ≡ MAX_DEPTH }
         requires progress { IsProgress (octets_of self.now.visitor.file)
@@ -201,7 +199,7 @@ impl<'a, 'r> Walker<'a, 'r> {
         ensures read { OnOk result (ReadsApart (octets_of self.now.visitor.file)
             (numbers_of refs.entry) levels progress.old.left progress.new.left) }
         ensures refused { IfErr result (RefusesTable (octets_of self.now.visitor.file)
-            self.now.visitor.whole table (numbers_of refs.entry) levels progress.old.left) }
+            limits table (numbers_of refs.entry) levels progress.old.left) }
         ensures progress { OnOk result (IsProgress (octets_of self.now.visitor.file)
             (table ∷ containers_of before.now) progress.new) }
     {
@@ -224,7 +222,7 @@ impl<'a, 'r> Walker<'a, 'r> {
         levels: u64,
     ) -> Result<(), BinaryFault>
         requires entered { IsEntered (octets_of self.now.visitor.file) (containers_of before.now)
-            table self.now.visitor.whole progress.old.left }
+            table limits progress.old.left }
         requires keys { HasKeys (octets_of self.now.visitor.file) table (numbers_of refs) }
         requires depth { length (containers_of before.now) + 1 + levels ≡ MAX_DEPTH }
         requires progress { IsProgress (octets_of self.now.visitor.file)
@@ -232,7 +230,7 @@ impl<'a, 'r> Walker<'a, 'r> {
         ensures read { OnOk result (ReadsApart (octets_of self.now.visitor.file)
             (numbers_of refs.entry) levels progress.old.left progress.new.left) }
         ensures refused { IfErr result (RefusesTable (octets_of self.now.visitor.file)
-            self.now.visitor.whole table (numbers_of refs.entry) levels progress.old.left) }
+            limits table (numbers_of refs.entry) levels progress.old.left) }
         ensures progress { OnOk result (IsProgress (octets_of self.now.visitor.file)
             (table ∷ containers_of before.now) progress.new) }
     {
@@ -256,7 +254,7 @@ impl<'a, 'r> Walker<'a, 'r> {
         levels: u64,
     ) -> Result<(), BinaryFault>
         requires entered { IsEntered (octets_of self.now.visitor.file) (containers_of before.now)
-            table self.now.visitor.whole progress.old.left }
+            table limits progress.old.left }
         requires keys { HasKeys (octets_of self.now.visitor.file) table (numbers_of refs) }
         requires depth { length (containers_of before.now) + 1 + levels ≡ MAX_DEPTH }
         requires progress { IsProgress (octets_of self.now.visitor.file)
@@ -265,7 +263,7 @@ impl<'a, 'r> Walker<'a, 'r> {
             (octets_of self.now.visitor.file) (numbers_of refs.entry) levels progress.old.left
             (texts keys) progress.new.left) }
         ensures refused { IfErr result (RefusesKeys (octets_of self.now.visitor.file)
-            self.now.visitor.whole (numbers_of refs.entry) levels progress.old.left) }
+            limits (numbers_of refs.entry) levels progress.old.left) }
         ensures progress { OnOk result (IsProgress (octets_of self.now.visitor.file)
             (table ∷ containers_of before.now) progress.new) }
     {

@@ -8,11 +8,11 @@ ghost use Rattle.plist_object.specs.Ranks.{AreKeys, AreRanks, HoldsUnits};
 
 use crate::layout::BinFile;
 use crate::markers::TABLE;
-use crate::object::{Object, ObjectFault};
+use crate::object::Object;
 use crate::ranks::{Ranks, ranks_in_order};
 use crate::reached::reached_keys;
 use crate::refs::Refs;
-use plist_value::{ScalarRef, TextRef};
+use plist_value::TextRef;
 use std::alloc::{AllocError, Global};
 
 // A string and the object that contains it.
@@ -40,26 +40,11 @@ impl<'a> Keys<'a> {
     pub fn of_tables(alloc: Global, file: &BinFile<'a>, last: u64) -> Result<Keys<'a>, AllocError>
         ensures { IfOk result (λ keys. AreKeys (octets_of file.now) keys) }
     {
-        let mut keys = Keys::none(alloc, file, file.table())?;
+        let mut keys = Keys::none(alloc, file)?;
         for i in 0..file.count() {
             if i > last || !keys.add_table(file, i)? {
                 return Ok(keys);
             }
-        }
-        Ok(keys)
-    }
-
-    /// Collects the keys of all dictionaries that can be read. Stops early once so much was read
-    /// that objects must overlap.
-    pub fn of_file(alloc: Global, file: &BinFile<'a>) -> Result<Keys<'a>, AllocError>
-        ensures { IfOk result (λ keys. AreKeys (octets_of file.now) keys) }
-    {
-        let mut keys = Keys::none(alloc, file, file.table().saturating_mul(4))?;
-        for i in 0..file.count() {
-            if keys.overlap() {
-                return Ok(keys);
-            }
-            keys.look(file, i)?;
         }
         Ok(keys)
     }
@@ -71,8 +56,8 @@ impl<'a> Keys<'a> {
         reached_keys(alloc, file)
     }
 
-    // Creates an empty collection; `room` is the number of bytes that may be read.
-    pub(crate) fn none(alloc: Global, file: &BinFile<'a>, room: u64) -> Result<Keys<'a>, AllocError>
+    // Creates an empty collection.
+    pub(crate) fn none(alloc: Global, file: &BinFile<'a>) -> Result<Keys<'a>, AllocError>
         ensures { IfOk result (λ keys. AreKeys (octets_of file.now) keys) }
     {
         let mut seen = Vec::new(alloc);
@@ -80,25 +65,9 @@ impl<'a> Keys<'a> {
         Ok(Keys {
             entries: Vec::new(alloc),
             seen,
-            room: Some(room),
+            room: Some(file.table()),
             named: file.table(),
         })
-    }
-
-    // Adds the keys of the object, if it is a dictionary.
-    fn look(&mut self, file: &BinFile<'a>, i: u64) -> Result<(), AllocError>
-        requires listed { i < (trailer_of (octets_of file.now)).count }
-        requires keys { AreKeys (octets_of file.now) self.old }
-        ensures { OnOk result (AreKeys (octets_of file.now) self.new) }
-    {
-        let read = match file.object(i) {
-            Ok(Object::Table(keys, _)) => return self.look_at_all(file, &keys),
-            Ok(Object::Scalar(ScalarRef::Text(text))) => text.len() as u64,
-            Err(ObjectFault::NotAscii) => file.table() / 8,
-            _ => 0,
-        };
-        self.room = less(self.room, read);
-        Ok(())
     }
 
     // Adds the keys that are strings. For a key that is none, reading may have gone as far as the

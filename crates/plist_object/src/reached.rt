@@ -25,7 +25,7 @@ pub(crate) struct Reached {
 pub(crate) fn reached_keys<'a>(alloc: Global, file: &BinFile<'a>) -> Result<Keys<'a>, AllocError>
     ensures { IfOk result (λ keys. AreKeys (octets_of file.now) keys) }
 {
-    let mut keys = Keys::none(alloc, file, file.table())?;
+    let mut keys = Keys::none(alloc, file)?;
     let mut reached = Reached::none(alloc, file)?;
     reached.meet(file, file.top())?;
     for i in 0..file.count() {

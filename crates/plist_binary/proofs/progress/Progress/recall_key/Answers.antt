@@ -1,0 +1,15 @@
+use Rattle.std.proofs.Common.{◌∙◌, sym, subst, arith}
+use Rattle.plist_value.specs.Budget.{Spends}
+use Rattle.plist_binary.specs.declared.memos.Memo.{Memo}
+use Rattle.plist_binary.specs.Memos.{IsState}
+use Rattle.plist_binary.proofs.PassSteps.{ReadsKey-known}
+use Rattle.plist_binary.proofs.progress.Progress.recall_key.Goals as goal
+
+pub returns : goal.returns
+returns c = λ f path are.
+    let object = c.args.object in
+    let left = c.args.self.now.left in
+    let rest = c.in_ok-rest.rest in
+    let known = subst (IsState f path object) (sym c.state_at.ensures ∙ c.in-Key.is) (are.each object) in
+    let spent = subst (λ (memo : Memo). Spends left memo.nodes memo.payload rest) c.of_key.ensures c.in_ok-rest.ensures in
+    ReadsKey-known f object c.args.levels c.in-Key.payload left rest known (omega arith) spent
