@@ -1,5 +1,5 @@
 -- Ranks: the sort positions of the strings that are keys of dictionaries.
-use Rattle.std.specs.Prelude.{◌≡◌, ℕ, ◌<◌, length, List, [], Option, Some, None, slice_index_or, slice_get, map, All}
+use Rattle.std.specs.Prelude.{◌≡◌, ℕ, zero, suc, ◌<◌, length, List, [], Option, Some, None, slice_index_or, slice_get, map, All}
 use Rattle.std.specs.declared.cmp.Ordering.{Ordering}
 use Rattle.std.specs.Ordering.{nat_cmp, ordering_then}
 use Rattle.std.specs.Cmp.Lexicographic.{slice_cmp}
@@ -36,9 +36,14 @@ pub record AreKeys (f : List ℕ) (keys : Keys) : Type 0 where
 abbrev pub AreMarked : List ℕ → Reached → Type 0
 AreMarked f reached = length reached.marks.items ≡ (trailer_of f).count
 
+-- the rank that is one less than the number, and none for 0
+abbrev pub rank_in : ℕ → Option ℕ
+rank_in zero = None
+rank_in (suc rank) = Some rank
+
 -- the rank of the object, if it has one
 abbrev pub rank_of : Ranks → ℕ → Option ℕ
-rank_of ranks i = slice_index_or ranks.of_objects.items i None
+rank_of ranks i = rank_in (slice_index_or ranks.of_objects.items i 0)
 
 -- the string with the rank, if there is one
 abbrev pub text_of_rank : Ranks → ℕ → Option TextRef

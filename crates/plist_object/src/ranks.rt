@@ -13,7 +13,8 @@ use std::alloc::{AllocError, Global};
 /// string has a lower rank. This is a cache: which objects have a rank is not specified.
 #[derive(Drop)]
 pub struct Ranks<'a> {
-    of_objects: Vec<Option<u64>>,
+    // One more than the rank of each object, or 0 if it has none: 4 bytes for an object.
+    of_objects: Vec<u32>,
     texts: Vec<TextRef<'a>>,
 }
 
@@ -33,7 +34,7 @@ impl<'a> Ranks<'a> {
         ensures { result ≡ rank_of self.now object }
     {
         if object < self.of_objects.len() as u64 {
-            self.of_objects[object as usize]
+            u64::from(self.of_objects[object as usize]).checked_sub(1)
         } else {
             None
         }
@@ -47,6 +48,9 @@ impl<'a> Ranks<'a> {
     }
 }
 
+// From this number of keys on none has a rank, because ranks have 32 bits.
+const TOO_MANY_KEYS: usize = u32::MAX as usize;
+
 /// Returns the ranks of keys that are sorted by their strings.
 pub(crate) fn ranks_in_order<'a>(
     alloc: Global,
@@ -57,13 +61,13 @@ pub(crate) fn ranks_in_order<'a>(
     requires sorted { IsSorted in_order keys.now }
     ensures { IfOk result (λ ranks. AreRanks (octets_of file.now) ranks) }
 {
-    if keys.is_empty() {
+    if keys.is_empty() || keys.len() >= TOO_MANY_KEYS {
         return Ok(Ranks::none(alloc));
     }
     let mut of_objects = Vec::new(alloc);
-    of_objects.resize(file.count() as usize, None)?;
+    of_objects.resize(file.count() as usize, 0)?;
     let mut texts = Vec::new(alloc);
-    let mut rank = 0;
+    let mut rank: u64 = 0;
     let mut before = keys[0].text;
     texts.push(before)?;
     for key in keys {
@@ -71,7 +75,7 @@ pub(crate) fn ranks_in_order<'a>(
             rank += 1;
             texts.push(key.text)?;
         }
-        of_objects[key.object as usize] = Some(rank);
+        of_objects[key.object as usize] = (rank + 1) as u32;
         before = key.text;
     }
     Ok(Ranks { of_objects, texts })

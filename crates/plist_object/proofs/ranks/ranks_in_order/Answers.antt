@@ -1,4 +1,4 @@
-use Rattle.std.proofs.Common.{◌∙◌, arith, sym, ap, refl, length}
+use Rattle.std.proofs.Common.{◌∙◌, add-one, arith, sym, ap, refl, length}
 use Rattle.std.proofs.lemmas.List.{length-set, get_or_default}
 use Rattle.plist_object.specs.Views.{octets_of}
 use Rattle.plist_object.specs.declared.keys.Key.{Key}
@@ -23,8 +23,8 @@ loop-key-preserved c =
       ];
       at = λ d. at_last keys i key d c.key-item.is c.loop-key-test.true;
       ranked = elim c.if-lt.branch [
-        | then-lt+in_ok-push-2 w ↦ ranked_above f numbers c.loop-key.texts.items c.if-lt.texts.items keys i c.loop-key.rank c.if-lt.rank before key c.lt.result c.key-item.is invariant.counted c.requires.held c.loop-key-test.true invariant.ranked c.lt.ensures w.if-lt.true w.rank-is (rw w.texts-is w.in_ok-push-2.ensures.items)
-        | else-lt w ↦ ranked_level f numbers c.loop-key.texts.items c.if-lt.texts.items keys i c.loop-key.rank c.if-lt.rank before key c.lt.result c.key-item.is invariant.counted c.requires.held c.requires.sorted invariant.at c.loop-key-test.true invariant.ranked c.lt.ensures w.if-lt.false w.rank-is (rw w.texts-is refl)
+        | then-lt+in_ok-push-2 w ↦ ranked_above f numbers c.loop-key.texts.items c.if-lt.texts.items keys i c.loop-key.rank c.if-lt.rank _ before key c.lt.result c.key-item.is invariant.counted c.requires.held c.loop-key-test.true invariant.ranked c.lt.ensures w.if-lt.true w.rank-is (add-one c.if-lt.rank) (rw w.texts-is w.in_ok-push-2.ensures.items)
+        | else-lt w ↦ ranked_level f numbers c.loop-key.texts.items c.if-lt.texts.items keys i c.loop-key.rank c.if-lt.rank _ before key c.lt.result c.key-item.is invariant.counted c.requires.held c.requires.sorted invariant.at c.loop-key-test.true invariant.ranked c.lt.ensures w.if-lt.false w.rank-is (add-one c.if-lt.rank) (rw w.texts-is refl)
       ];
     }
 
