@@ -19,7 +19,7 @@ use Rattle.std.proofs.lemmas.Map.Keys.{sorted_head, sorted_tail, IsDistinct-head
 pub use Rattle.plist_object.proofs.Ascents.{AscendTo, ascend_next, ascend_more, not_ascending, sorted_from_ascent, same_key, ascent_from_distinct, distinct_from_ascent, distinct_moved}
 use Rattle.plist_value.specs.declared.value.Value.{Value}
 use Rattle.plist_value.specs.declared.value.Value.TheVariants.{Flag}
-use Rattle.plist_binary.specs.declared.tables.Key.{Key}
+use Rattle.plist_binary.specs.declared.dictionary.Key.{Key}
 use Rattle.plist_binary.specs.Keys.{units_at, place_of, pair_at}
 use Rattle.plist_value.proofs.Keys.{turned}
 

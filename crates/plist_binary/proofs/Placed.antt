@@ -10,7 +10,7 @@ use Rattle.std.proofs.lemmas.List.Sorted.{IsPermutation-map, All-permutation}
 use Rattle.std.proofs.lemmas.Map.Keys.{IsDistinct-from_apart, IsDistinct-IsPermutation}
 use Rattle.plist_value.specs.declared.value.Value.{Value}
 use Rattle.plist_value.specs.declared.value.Value.TheVariants.{Flag}
-use Rattle.plist_binary.specs.declared.tables.Key.{Key}
+use Rattle.plist_binary.specs.declared.dictionary.Key.{Key}
 use Rattle.plist_binary.specs.Keys.{units_at, place_of, AreInPlace, pair_at}
 
 pub AreInPlace-push : (keys : List Key) (key : Key) → key.place ≡ length keys → AreInPlace keys → AreInPlace (keys ++ key ∷ [])

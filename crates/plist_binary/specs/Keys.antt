@@ -3,7 +3,7 @@ use Rattle.std.specs.Prelude.{◌≡◌, ℕ, ◌<◌, List, length, slice_index
 use Rattle.plist_value.specs.Texts.{units_of}
 use Rattle.plist_value.specs.declared.value.Value.{Value}
 use Rattle.plist_value.specs.declared.value.Value.TheVariants.{Flag}
-use Rattle.plist_binary.specs.declared.tables.Key.{Key}
+use Rattle.plist_binary.specs.declared.dictionary.Key.{Key}
 
 abbrev pub units_at : Key → List ℕ
 units_at key = units_of key.text

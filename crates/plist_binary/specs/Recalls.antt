@@ -11,7 +11,7 @@ use Rattle.plist_object.specs.Places.{Holds}
 use Rattle.plist_object.specs.Spelled.{SpellItems}
 use Rattle.plist_object.specs.Views.{numbers_of}
 use Rattle.plist_binary.specs.declared.fault.BinaryFault.{BinaryFault}
-use Rattle.plist_binary.specs.declared.known_keys.LastKeys.{LastKeys}
+use Rattle.plist_binary.specs.declared.last_keys.LastKeys.{LastKeys}
 use Rattle.plist_binary.specs.Readings.{ReadsItems, RefusesPairs, texts}
 
 -- strings no two of which are equal: once sorted, each is below the next

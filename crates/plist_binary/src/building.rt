@@ -12,9 +12,9 @@ ghost use Rattle.plist_binary.specs.Building.{AllSpellTexts, SpellsPairsWithin, 
 ghost use Rattle.plist_binary.specs.Building.{IsSpelled, AreSpelled, AreTexts, PairsSpelled};
 ghost use Rattle.plist_binary.specs.Building.{SpellsUnits};
 
-use crate::tables::Key;
+use crate::dictionary::Key;
 use crate::visiting::text_in;
-use crate::{scalars, tables};
+use crate::{copies, dictionary};
 use plist_object::{BinFile, Object, Refs};
 use plist_value::{TextRef, Utf16, Value};
 use std::alloc::{AllocError, Global};
@@ -34,7 +34,7 @@ impl<'a> Builder<'a> {
         ensures { IfOk result (λ value. IsSpelled (octets_of self.now.file) object (view value)) }
     {
         match self.held(object) {
-            Object::Scalar(scalar) => scalars::value(self.alloc, scalar),
+            Object::Scalar(scalar) => copies::value(self.alloc, scalar),
             Object::List(items) => Ok(Value::List(self.items(items, levels - 1)?)),
             Object::Table(keys, values) => {
                 Ok(Value::Table(self.pairs(keys, values, levels - 1)?))
@@ -70,10 +70,10 @@ impl<'a> Builder<'a> {
             (numbers_of keys.entry) (numbers_of values.entry) (view_pairs pairs.entries)) }
     {
         let mut keys = self.keys(keys)?;
-        let distinct = tables::sort(keys.as_mut_slice());
+        let distinct = dictionary::sort(keys.as_mut_slice());
         prove!(distinct);
         let values = self.items(values, levels)?;
-        tables::table(self.alloc, keys, values)
+        dictionary::table(self.alloc, keys, values)
     }
 
     // Returns the strings that the references point to, each with its index as its place.

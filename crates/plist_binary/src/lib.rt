@@ -2,15 +2,15 @@
 #![tactic(auto)]
 
 mod building;
+mod copies;
+mod dictionary;
 pub mod fault;
 mod judging;
-mod known_keys;
+mod last_keys;
 mod memos;
 mod path;
 mod progress;
 mod reader;
-mod scalars;
-mod tables;
 mod visiting;
 mod walking;
 

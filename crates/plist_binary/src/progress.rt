@@ -5,7 +5,7 @@ ghost use Rattle.plist_binary.specs.Passing.{Passes, limits};
 ghost use Rattle.plist_binary.specs.Readings.{ReadsKey};
 ghost use Rattle.plist_binary.specs.Progress.{IsProgress};
 
-use crate::known_keys::LastKeys;
+use crate::last_keys::LastKeys;
 use crate::memos::{Memo, State, state_at};
 use plist_object::{BinFile, KeyOrder};
 use plist_value::Budget;

@@ -12,7 +12,7 @@ ghost use Rattle.plist_binary.specs.Readings.{ReadsItems, texts, RefusesKeys};
 ghost use Rattle.plist_binary.specs.Recalls.{ReadsApart, RefusesTable};
 
 use crate::BinaryFault;
-use crate::known_keys::{LastKeys, recall_keys};
+use crate::last_keys::{LastKeys, recall_keys};
 use crate::memos::{Memo, State, mark};
 use crate::path::Path;
 use crate::progress::Progress;

@@ -15,7 +15,7 @@ use Rattle.plist_object.specs.Places.{Holds}
 use Rattle.plist_object.specs.Spelled.{SpellItems}
 use Rattle.plist_object.specs.Views.{octets_of, numbers_of}
 use Rattle.plist_binary.specs.Building.{AreSpelled, IsSpelled, PairsSpelled}
-use Rattle.plist_binary.specs.declared.tables.Key.{Key}
+use Rattle.plist_binary.specs.declared.dictionary.Key.{Key}
 use Rattle.plist_binary.specs.Keys.{units_at, pair_at}
 use Rattle.plist_binary.specs.Readings.{texts}
 use Rattle.plist_binary.proofs.BuildSteps.{HoldsSome-within, AllSpellWithin-list, SpellsPairsWithin-table, AllSpellTexts-keys, AllSpellWithin-values, IsSpelled-table, AreSpelled-next, distinct_texts, valid_texts}

@@ -2,7 +2,7 @@ use Rattle.std.proofs.Common.{map, rules}
 use Rattle.std.proofs.lemmas.List.Sorted.{IsPermutation-sym, answers_always}
 use Rattle.plist_binary.specs.Keys.{units_at}
 use Rattle.plist_binary.proofs.Ascents.{ascent_from_distinct, distinct_from_ascent, distinct_moved}
-use Rattle.plist_binary.proofs.tables.sort.Goals as goal
+use Rattle.plist_binary.proofs.dictionary.sort.Goals as goal
 
 pub returns : goal.returns
 returns c =

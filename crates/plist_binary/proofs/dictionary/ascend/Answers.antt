@@ -2,7 +2,7 @@ use Rattle.std.proofs.Common.{◌-◌, map, refl, arith}
 use Rattle.std.proofs.lemmas.List.{length-map}
 use Rattle.plist_binary.specs.Keys.{units_at}
 use Rattle.plist_binary.proofs.Ascents.{ascend_more, not_ascending, sorted_from_ascent}
-use Rattle.plist_binary.proofs.tables.ascend.Goals as goal
+use Rattle.plist_binary.proofs.dictionary.ascend.Goals as goal
 
 pub returns-then-not-is_below : goal.returns-then-not-is_below
 returns-then-not-is_below c =

@@ -7,7 +7,7 @@ ghost use Rattle.std.specs.List.Sorted.{IsPermutation, IsStrictlySortedBy};
 ghost use Rattle.std.specs.Map.{keys_of};
 ghost use Rattle.plist_binary.specs.Keys.{units_at, place_of, pair_at};
 
-use crate::scalars;
+use crate::copies;
 use plist_value::{TextRef, Utf16, Value};
 use std::alloc::{AllocError, Global};
 use std::cmp::Ordering;
@@ -72,7 +72,7 @@ pub(crate) fn table(
     let mut pairs = BTreeMap::new(alloc);
     while let Some(key) = keys.pop() {
         let value = mem::replace(&mut values[key.place], Value::Flag(false));
-        drop(pairs.insert(scalars::utf16(alloc, key.text)?, value)?);
+        drop(pairs.insert(copies::utf16(alloc, key.text)?, value)?);
     }
     Ok(pairs)
 }

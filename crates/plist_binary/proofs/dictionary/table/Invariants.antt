@@ -1,7 +1,7 @@
 use Rattle.std.proofs.Common.{◌≡◌, ◌<◌, ◌==◌, ◌++◌, length, map, vec_len}
 use Rattle.std.specs.List.{All, IsDistinct}
 use Rattle.plist_binary.specs.Keys.{place_of, pair_at}
-use Rattle.plist_binary.proofs.tables.table.Given as goal
+use Rattle.plist_binary.proofs.dictionary.table.Given as goal
 
 abbrev pub decreases-loop-key : goal.decreases-loop-key
 decreases-loop-key l = vec_len l.keys

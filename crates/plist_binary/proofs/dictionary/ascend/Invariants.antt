@@ -3,7 +3,7 @@ use Rattle.std.specs.declared.cmp.Ordering.TheVariants.{Less}
 use Rattle.std.specs.Ordering.{nat_cmp}
 use Rattle.std.specs.Cmp.Lexicographic.{slice_cmp}
 use Rattle.plist_binary.specs.Keys.{units_at}
-use Rattle.plist_binary.proofs.tables.ascend.Given as goal
+use Rattle.plist_binary.proofs.dictionary.ascend.Given as goal
 
 abbrev pub invariant-loop-i : goal.invariant-loop-i
 invariant-loop-i l =

@@ -2,7 +2,7 @@ use Rattle.std.proofs.Common.{List, ℕ, ◌≡◌, arith, subst}
 use Rattle.plist_object.specs.Views.{numbers_of}
 use Rattle.plist_binary.specs.Recalls.{IsKnownLast, SpellApart}
 use Rattle.plist_binary.proofs.Sorting.{ReadsApart-known}
-use Rattle.plist_binary.proofs.known_keys.recall_keys.Goals as goal
+use Rattle.plist_binary.proofs.last_keys.recall_keys.Goals as goal
 
 pub returns : goal.returns
 returns c =

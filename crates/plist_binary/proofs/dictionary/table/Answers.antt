@@ -5,10 +5,10 @@ use Rattle.std.specs.Cmp.Lexicographic.{slice_cmp}
 use Rattle.std.specs.List.{All, IsDistinct}
 use Rattle.std.specs.List.Sorted.{IsStrictlySortedBy}
 use Rattle.std.specs.Map.{keys_of}
-use Rattle.plist_binary.specs.declared.tables.Key.{Key}
+use Rattle.plist_binary.specs.declared.dictionary.Key.{Key}
 use Rattle.plist_binary.specs.Keys.{place_of, pair_at}
 use Rattle.plist_binary.proofs.Ascents.{keys-pairs, left_apart, last_within, left_within, moved_more}
-use Rattle.plist_binary.proofs.tables.table.Goals as goal
+use Rattle.plist_binary.proofs.dictionary.table.Goals as goal
 
 pub loop-key-preserved : goal.loop-key-preserved
 loop-key-preserved c =
