@@ -36,12 +36,12 @@ Begins-leads f (j ∷ before) i nodes payload begins = (
   Begins-leads f before j begins.nodes_above begins.payload_above begins.above,
 )
 
-pub IsBegun-leads : (f before : List ℕ) (i : ℕ) (whole left : Budget) → IsBegun f before i whole left → Leads f before i
-IsBegun-leads f before i whole left begun = Begins-leads f before i begun.nodes begun.payload begun.begins
+pub IsBegun-leads : (f before : List ℕ) (i : ℕ) (left : Budget) → IsBegun f before i left → Leads f before i
+IsBegun-leads f before i left begun = Begins-leads f before i begun.nodes begun.payload begun.begins
 
 -- taking the node of the container itself
-pub IsEntered-begun : (f before : List ℕ) (j : ℕ) (whole left after : Budget) → IsBegun f before j whole left → ¬ Contains before j → length before < MAX_DEPTH → Spends left 1 0 after → IsEntered f before j whole after
-IsEntered-begun f before j whole left after begun new shallow node = record {
+pub IsEntered-begun : (f before : List ℕ) (j : ℕ) (left after : Budget) → IsBegun f before j left → ¬ Contains before j → length before < MAX_DEPTH → Spends left 1 0 after → IsEntered f before j after
+IsEntered-begun f before j left after begun new shallow node = record {
   nodes = begun.nodes;
   payload = begun.payload;
   begins = begun.begins;
@@ -53,15 +53,15 @@ IsEntered-begun f before j whole left after begun new shallow node = record {
   };
 }
 
-pub IsEntered-leads : (f before : List ℕ) (j : ℕ) (whole left : Budget) → IsEntered f before j whole left → Leads f before j
-IsEntered-leads f before j whole left entered = Begins-leads f before j entered.nodes entered.payload entered.begins
+pub IsEntered-leads : (f before : List ℕ) (j : ℕ) (left : Budget) → IsEntered f before j left → Leads f before j
+IsEntered-leads f before j left entered = Begins-leads f before j entered.nodes entered.payload entered.begins
 
 no_more : (xs : List ℕ) → xs ≡ xs ++ []
 no_more [] = refl
 no_more (x ∷ xs) = ap (λ l. x ∷ l) (no_more xs)
 
-pub AreNext-items : (f before : List ℕ) (j : ℕ) (refs : List ℕ) (whole left : Budget) → IsEntered f before j whole left → Holds f j (holds_list refs) → AreNext f before j refs whole left
-AreNext-items f before j refs whole left entered holds = record {
+pub AreNext-items : (f before : List ℕ) (j : ℕ) (refs : List ℕ) (left : Budget) → IsEntered f before j left → Holds f j (holds_list refs) → AreNext f before j refs left
+AreNext-items f before j refs left entered holds = record {
   nodes = entered.nodes;
   payload = entered.payload;
   begins = entered.begins;
@@ -81,8 +81,8 @@ AreNext-items f before j refs whole left entered holds = record {
   };
 }
 
-pub AreNext-keys : (f before : List ℕ) (j : ℕ) (keys : List ℕ) (whole left : Budget) → IsEntered f before j whole left → HasKeys f j keys → AreNext f before j keys whole left
-AreNext-keys f before j keys whole left entered table = record {
+pub AreNext-keys : (f before : List ℕ) (j : ℕ) (keys : List ℕ) (left : Budget) → IsEntered f before j left → HasKeys f j keys → AreNext f before j keys left
+AreNext-keys f before j keys left entered table = record {
   nodes = entered.nodes;
   payload = entered.payload;
   begins = entered.begins;
@@ -103,8 +103,8 @@ AreNext-keys f before j keys whole left entered table = record {
 }
 
 -- the values of a dictionary, after its keys
-pub AreNext-values : (f before : List ℕ) (j : ℕ) (keys values : List ℕ) (levels : ℕ) (whole left after : Budget) (vs : Items) → IsEntered f before j whole left → Holds f j (holds_table keys values) → length before + 1 + levels ≡ MAX_DEPTH → ReadsItems f keys levels left vs after → AreNext f before j values whole after
-AreNext-values f before j keys values levels whole left after vs entered holds levels_are read = record {
+pub AreNext-values : (f before : List ℕ) (j : ℕ) (keys values : List ℕ) (levels : ℕ) (left after : Budget) (vs : Items) → IsEntered f before j left → Holds f j (holds_table keys values) → length before + 1 + levels ≡ MAX_DEPTH → ReadsItems f keys levels left vs after → AreNext f before j values after
+AreNext-values f before j keys values levels left after vs entered holds levels_are read = record {
   nodes = entered.nodes;
   payload = entered.payload;
   begins = entered.begins;
@@ -124,8 +124,8 @@ AreNext-values f before j keys values levels whole left after vs entered holds l
   };
 }
 
-pub AreNext-leads : (f before : List ℕ) (j : ℕ) (refs : List ℕ) (whole left : Budget) → AreNext f before j refs whole left → Leads f before j
-AreNext-leads f before j refs whole left next = Begins-leads f before j next.nodes next.payload next.begins
+pub AreNext-leads : (f before : List ℕ) (j : ℕ) (refs : List ℕ) (left : Budget) → AreNext f before j refs left → Leads f before j
+AreNext-leads f before j refs left next = Begins-leads f before j next.nodes next.payload next.begins
 
 -- the references before one of them, and those after it
 around_next : (front refs behind : List ℕ) (k i : ℕ) → k < length refs → i ≡ slice_index refs k → front ++ (refs ++ behind) ≡ (front ++ take k refs) ++ i ∷ (drop (suc k) refs ++ behind)
@@ -135,8 +135,8 @@ around_next front refs behind k i within is =
     ∙ sym (append_assoc front (take k refs) (i ∷ (drop (suc k) refs ++ behind)))
 
 -- the reference after those that were followed
-pub IsBegun-next : (f before : List ℕ) (j : ℕ) (refs : List ℕ) (k i levels : ℕ) (whole left after : Budget) (vs : Items) → AreNext f before j refs whole left → length before + 1 + levels ≡ MAX_DEPTH → k < length refs → i ≡ slice_index refs k → ReadsItems f (take k refs) levels left vs after → IsBegun f (j ∷ before) i whole after
-IsBegun-next f before j refs k i levels whole left after vs next levels_are within is read =
+pub IsBegun-next : (f before : List ℕ) (j : ℕ) (refs : List ℕ) (k i levels : ℕ) (left after : Budget) (vs : Items) → AreNext f before j refs left → length before + 1 + levels ≡ MAX_DEPTH → k < length refs → i ≡ slice_index refs k → ReadsItems f (take k refs) levels left vs after → IsBegun f (j ∷ before) i after
+IsBegun-next f before j refs k i levels left after vs next levels_are within is read =
     let values = join next.values vs in
     let nodes_sum = nodes-join next.values vs in
     let payload_sum = payload-join next.values vs in
@@ -170,8 +170,8 @@ IsBegun-next f before j refs k i levels whole left after vs next levels_are with
     }
 
 -- the container contains each of them
-pub Refers-next : (f before : List ℕ) (j i : ℕ) (refs : List ℕ) (whole left : Budget) → AreNext f before j refs whole left → Contains refs i → Refers f j i
-Refers-next f before j i refs whole left next among = record {
+pub Refers-next : (f before : List ℕ) (j i : ℕ) (refs : List ℕ) (left : Budget) → AreNext f before j refs left → Contains refs i → Refers f j i
+Refers-next f before j i refs left next among = record {
   held = next.held;
   holds = next.holds;
   among = Contains-among i (references_of next.held) (subst (Among i) (sym next.all) (among_right i next.front (refs ++ next.behind) (among_left i refs next.behind (Among-contains i refs among))));

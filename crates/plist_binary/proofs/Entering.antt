@@ -15,6 +15,7 @@ use Rattle.plist_object.specs.Spelled.{Spells, SpellItems, SpellPairs}
 use Rattle.plist_object.proofs.Ascending.{Among, Among-contains, Among-permutation, Contains-among}
 use Rattle.plist_object.proofs.Uniqueness.{same_held, same_value}
 use Rattle.plist_object.specs.References.{references_of}
+use Rattle.plist_binary.specs.Budgets.{limits}
 use Rattle.plist_binary.specs.Paths.{Refers, Leads}
 use Rattle.plist_value.specs.declared.TheConstants.{MAX_DEPTH}
 use Rattle.plist_object.specs.declared.object.ObjectFault.TheVariants as object
@@ -276,8 +277,8 @@ cycle_spells_none f containers i v leads among valid spells =
     let fewer : nodes v ≤ nodes v - 1 = subst (λ (w : Plist). nodes w ≤ nodes v - 1) (sym same) below.few in
     omega arith
 
-pub Refuses-cycle : (f : List ℕ) (whole : Budget) (before : List ℕ) (container i levels : ℕ) (left : Budget) → IsLaid f → Leads f (container ∷ before) i → Among i (container ∷ before) → Refuses f whole i levels left (Cycle container)
-Refuses-cycle f whole before container i levels left laid leads among =
+pub Refuses-cycle : (f before : List ℕ) (container i levels : ℕ) (left : Budget) → IsLaid f → Leads f (container ∷ before) i → Among i (container ∷ before) → Refuses f i levels left (Cycle container)
+Refuses-cycle f before container i levels left laid leads among =
     record {
       stands = record {
         ends = record {
@@ -292,9 +293,9 @@ Refuses-cycle f whole before container i levels left laid leads among =
       none = λ _ v valid spells deep affords. cycle_spells_none f (container ∷ before) i v leads among valid spells;
     }
 
-pub Refuses-nodes : (f : List ℕ) (whole : Budget) (before : List ℕ) (i levels : ℕ) (left : Budget) → IsLaid f → i < (trailer_of f).count → IsBegun f before i whole left → ¬ Contains before i → left.nodes ≡ 0 → Refuses f whole i levels left (TooManyNodes i)
-Refuses-nodes f whole before i levels left laid listed begun new none_left =
-    let all : begun.nodes ≡ whole.nodes = omega (arith, begun.spent.nodes_left) in
+pub Refuses-nodes : (f before : List ℕ) (i levels : ℕ) (left : Budget) → IsLaid f → i < (trailer_of f).count → IsBegun f before i left → ¬ Contains before i → left.nodes ≡ 0 → Refuses f i levels left (TooManyNodes i)
+Refuses-nodes f before i levels left laid listed begun new none_left =
+    let all : begun.nodes ≡ limits.nodes = omega (arith, begun.spent.nodes_left) in
     record {
       stands = record {
         laid = laid;
@@ -308,8 +309,8 @@ Refuses-nodes f whole before i levels left laid listed begun new none_left =
       none = λ _ v valid spells deep affords. omega (arith, some_node v, affords.nodes_there);
     }
 
-pub Refuses-depth : (f : List ℕ) (whole : Budget) (before : List ℕ) (i levels : ℕ) (left : Budget) → IsLaid f → Leads f before i → length before + levels ≡ MAX_DEPTH → levels ≡ 0 → Refuses f whole i levels left (TooDeep i)
-Refuses-depth f whole before i levels left laid leads depth_left none_left =
+pub Refuses-depth : (f before : List ℕ) (i levels : ℕ) (left : Budget) → IsLaid f → Leads f before i → length before + levels ≡ MAX_DEPTH → levels ≡ 0 → Refuses f i levels left (TooDeep i)
+Refuses-depth f before i levels left laid leads depth_left none_left =
     record {
       stands = record {
         ends = record {
@@ -338,8 +339,8 @@ stands-of_object f i nodes payload object.SetObject faulty = faulty
 stands-of_object f i nodes payload object.NotAscii faulty = faulty
 stands-of_object f i nodes payload object.WideInteger faulty = faulty
 
-pub Refuses-object : (f : List ℕ) (whole : Budget) (before : List ℕ) (i levels : ℕ) (left : Budget) (e : ObjectFault) → IsLaid f → i < (trailer_of f).count → Leads f before i → what_holds f i ≡ Err e → Refuses f whole i levels left (of_object i e)
-Refuses-object f whole before i levels left e laid listed leads fails =
+pub Refuses-object : (f before : List ℕ) (i levels : ℕ) (left : Budget) (e : ObjectFault) → IsLaid f → i < (trailer_of f).count → Leads f before i → what_holds f i ≡ Err e → Refuses f i levels left (of_object i e)
+Refuses-object f before i levels left e laid listed leads fails =
     record {
       stands = stands-of_object f i _ _ e (record {
         ends = record {

@@ -142,8 +142,8 @@ refused_at f refs i rest levels before left vs ws items valid spell deep affords
     }
 
 -- if one reference points to nothing that fits, the items do not fit
-pub RefusesItems-at : (f : List ℕ) (whole : Budget) (refs : List ℕ) (i : ℕ) (rest : List ℕ) (levels : ℕ) (before left : Budget) (vs : Items) (fault : BinaryFault) → i < (trailer_of f).count → ReadsItems f refs levels before vs left → Refuses f whole i levels left fault → RefusesItems f whole (refs ++ i ∷ rest) levels before fault
-RefusesItems-at f whole refs i rest levels before left vs fault listed items one =
+pub RefusesItems-at : (f refs : List ℕ) (i : ℕ) (rest : List ℕ) (levels : ℕ) (before left : Budget) (vs : Items) (fault : BinaryFault) → i < (trailer_of f).count → ReadsItems f refs levels before vs left → Refuses f i levels left fault → RefusesItems f (refs ++ i ∷ rest) levels before fault
+RefusesItems-at f refs i rest levels before left vs fault listed items one =
     record {
       stands = one.stands;
       none = λ unless ws valid spell deep affords. refused_at f refs i rest levels before left vs ws items valid spell deep affords (one.none unless);
@@ -156,8 +156,8 @@ first_nowhere f i rest (item w ws) above spell =
     omega (arith, held.1.listed)
 
 -- a reference to no object
-pub RefusesItems-nowhere : (f : List ℕ) (whole : Budget) (before refs : List ℕ) (container i : ℕ) (rest : List ℕ) (levels : ℕ) (left : Budget) → IsLaid f → Leads f before container → Refers f container i → (trailer_of f).count ≤ i → RefusesItems f whole (refs ++ i ∷ rest) levels left (BadReference container)
-RefusesItems-nowhere f whole before refs container i rest levels left laid leads refers above = record {
+pub RefusesItems-nowhere : (f before refs : List ℕ) (container i : ℕ) (rest : List ℕ) (levels : ℕ) (left : Budget) → IsLaid f → Leads f before container → Refers f container i → (trailer_of f).count ≤ i → RefusesItems f (refs ++ i ∷ rest) levels left (BadReference container)
+RefusesItems-nowhere f before refs container i rest levels left laid leads refers above = record {
   stands = record {
     ends = record { laid = laid; before = before; leads = leads };
     reference = i;
@@ -188,14 +188,14 @@ Refers-key f j i key = record {
 }
 
 -- what refuses every value refuses every string
-pub RefusesKey-value : (f : List ℕ) (whole : Budget) (i levels : ℕ) (left : Budget) (fault : BinaryFault) → Refuses f whole i levels left fault → RefusesKey f whole i levels left fault
-RefusesKey-value f whole i levels left fault refused = record {
+pub RefusesKey-value : (f : List ℕ) (i levels : ℕ) (left : Budget) (fault : BinaryFault) → Refuses f i levels left fault → RefusesKey f i levels left fault
+RefusesKey-value f i levels left fault refused = record {
   stands = refused.stands;
   none = λ unless units valid spells deep affords. refused.none unless (scalar (text units)) valid spells deep affords;
 }
 
-pub RefusesKey-other : (f : List ℕ) (whole : Budget) (before : List ℕ) (table i levels : ℕ) (left : Budget) (held : Held) → IsLaid f → Leads f before table → IsKeyOf f table i → i < (trailer_of f).count → what_holds f i ≡ Ok held → (¬ IsText held) → RefusesKey f whole i levels left (KeyNotText table)
-RefusesKey-other f whole before owner i levels left held laid leads key listed reads no_text = record {
+pub RefusesKey-other : (f before : List ℕ) (table i levels : ℕ) (left : Budget) (held : Held) → IsLaid f → Leads f before table → IsKeyOf f table i → i < (trailer_of f).count → what_holds f i ≡ Ok held → (¬ IsText held) → RefusesKey f i levels left (KeyNotText table)
+RefusesKey-other f before owner i levels left held laid leads key listed reads no_text = record {
   stands = record {
     ends = record { laid = laid; before = before; leads = leads };
     keys = key.keys;
@@ -254,16 +254,16 @@ refused_key_at f refs i rest levels before left vs keys items valid spell deep a
       payload_there = omega (arith, affords.payload_there, items.spent.payload_left);
     }
 
-pub RefusesKeys-at : (f : List ℕ) (whole : Budget) (refs : List ℕ) (i : ℕ) (rest : List ℕ) (levels : ℕ) (before left : Budget) (vs : Items) (fault : BinaryFault) → i < (trailer_of f).count → ReadsItems f refs levels before vs left → RefusesKey f whole i levels left fault → RefusesKeys f whole (refs ++ i ∷ rest) levels before fault
-RefusesKeys-at f whole refs i rest levels before left vs fault listed items one =
+pub RefusesKeys-at : (f refs : List ℕ) (i : ℕ) (rest : List ℕ) (levels : ℕ) (before left : Budget) (vs : Items) (fault : BinaryFault) → i < (trailer_of f).count → ReadsItems f refs levels before vs left → RefusesKey f i levels left fault → RefusesKeys f (refs ++ i ∷ rest) levels before fault
+RefusesKeys-at f refs i rest levels before left vs fault listed items one =
     record {
       stands = one.stands;
       none = λ unless keys valid spell deep affords. refused_key_at f refs i rest levels before left vs keys items valid spell deep affords (one.none unless);
     }
 
 -- what refuses all items refuses strings
-pub RefusesKeys-items : (f : List ℕ) (whole : Budget) (refs : List ℕ) (levels : ℕ) (left : Budget) (fault : BinaryFault) → RefusesItems f whole refs levels left fault → RefusesKeys f whole refs levels left fault
-RefusesKeys-items f whole refs levels left fault refused = record {
+pub RefusesKeys-items : (f refs : List ℕ) (levels : ℕ) (left : Budget) (fault : BinaryFault) → RefusesItems f refs levels left fault → RefusesKeys f refs levels left fault
+RefusesKeys-items f refs levels left fault refused = record {
   stands = refused.stands;
   none = λ unless keys. refused.none unless (texts keys);
 }
@@ -287,22 +287,22 @@ pub ReadsItems-next : (f refs : List ℕ) (k i levels : ℕ) (before left after 
 ReadsItems-next f refs k i levels before left after vs v within is listed items one =
     subst (λ (xs : List ℕ). ReadsItems f xs levels before (push vs v) after) (next refs k i within is) (ReadsItems-push f (take k refs) i levels before left after vs v listed items one)
 
-pub RefusesItems-next : (f : List ℕ) (whole : Budget) (refs : List ℕ) (k i levels : ℕ) (before left : Budget) (vs : Items) (fault : BinaryFault) → k < length refs → i ≡ slice_index refs k → i < (trailer_of f).count → ReadsItems f (take k refs) levels before vs left → Refuses f whole i levels left fault → RefusesItems f whole refs levels before fault
-RefusesItems-next f whole refs k i levels before left vs fault within is listed items one =
-    subst (λ (xs : List ℕ). RefusesItems f whole xs levels before fault) (around refs k i within is) (RefusesItems-at f whole (take k refs) i (drop (suc k) refs) levels before left vs fault listed items one)
+pub RefusesItems-next : (f refs : List ℕ) (k i levels : ℕ) (before left : Budget) (vs : Items) (fault : BinaryFault) → k < length refs → i ≡ slice_index refs k → i < (trailer_of f).count → ReadsItems f (take k refs) levels before vs left → Refuses f i levels left fault → RefusesItems f refs levels before fault
+RefusesItems-next f refs k i levels before left vs fault within is listed items one =
+    subst (λ (xs : List ℕ). RefusesItems f xs levels before fault) (around refs k i within is) (RefusesItems-at f (take k refs) i (drop (suc k) refs) levels before left vs fault listed items one)
 
-pub RefusesItems-none : (f : List ℕ) (whole : Budget) (containers refs : List ℕ) (container k i levels : ℕ) (before : Budget) → IsLaid f → Leads f containers container → Refers f container i → k < length refs → i ≡ slice_index refs k → (trailer_of f).count ≤ i → RefusesItems f whole refs levels before (BadReference container)
-RefusesItems-none f whole containers refs container k i levels before laid leads refers within is above =
-    subst (λ (xs : List ℕ). RefusesItems f whole xs levels before (BadReference container)) (around refs k i within is) (RefusesItems-nowhere f whole containers (take k refs) container i (drop (suc k) refs) levels before laid leads refers above)
+pub RefusesItems-none : (f containers refs : List ℕ) (container k i levels : ℕ) (before : Budget) → IsLaid f → Leads f containers container → Refers f container i → k < length refs → i ≡ slice_index refs k → (trailer_of f).count ≤ i → RefusesItems f refs levels before (BadReference container)
+RefusesItems-none f containers refs container k i levels before laid leads refers within is above =
+    subst (λ (xs : List ℕ). RefusesItems f xs levels before (BadReference container)) (around refs k i within is) (RefusesItems-nowhere f containers (take k refs) container i (drop (suc k) refs) levels before laid leads refers above)
 
 pub ReadsKeys-next : (f refs : List ℕ) (k i levels : ℕ) (before left after : Budget) (keys : List (List ℕ)) (units : List ℕ) → k < length refs → i ≡ slice_index refs k → i < (trailer_of f).count → ReadsItems f (take k refs) levels before (texts keys) left → Reads f i levels left (scalar (text units)) after → ReadsItems f (take (k + 1) refs) levels before (texts (keys ++ units ∷ [])) after
 ReadsKeys-next f refs k i levels before left after keys units within is listed items one =
     subst (λ (xs : List ℕ). ReadsItems f xs levels before (texts (keys ++ units ∷ [])) after) (next refs k i within is) (ReadsKeys-push f (take k refs) i levels before left after keys units listed items one)
 
-pub RefusesKeys-next : (f : List ℕ) (whole : Budget) (refs : List ℕ) (k i levels : ℕ) (before left : Budget) (vs : Items) (fault : BinaryFault) → k < length refs → i ≡ slice_index refs k → i < (trailer_of f).count → ReadsItems f (take k refs) levels before vs left → RefusesKey f whole i levels left fault → RefusesKeys f whole refs levels before fault
-RefusesKeys-next f whole refs k i levels before left vs fault within is listed items one =
-    subst (λ (xs : List ℕ). RefusesKeys f whole xs levels before fault) (around refs k i within is) (RefusesKeys-at f whole (take k refs) i (drop (suc k) refs) levels before left vs fault listed items one)
+pub RefusesKeys-next : (f refs : List ℕ) (k i levels : ℕ) (before left : Budget) (vs : Items) (fault : BinaryFault) → k < length refs → i ≡ slice_index refs k → i < (trailer_of f).count → ReadsItems f (take k refs) levels before vs left → RefusesKey f i levels left fault → RefusesKeys f refs levels before fault
+RefusesKeys-next f refs k i levels before left vs fault within is listed items one =
+    subst (λ (xs : List ℕ). RefusesKeys f xs levels before fault) (around refs k i within is) (RefusesKeys-at f (take k refs) i (drop (suc k) refs) levels before left vs fault listed items one)
 
-pub RefusesKeys-none : (f : List ℕ) (whole : Budget) (containers refs : List ℕ) (table k i levels : ℕ) (before : Budget) → IsLaid f → Leads f containers table → HasKeys f table refs → k < length refs → i ≡ slice_index refs k → (trailer_of f).count ≤ i → RefusesKeys f whole refs levels before (BadReference table)
-RefusesKeys-none f whole containers refs owner k i levels before laid leads keys within is above =
-    RefusesKeys-items f whole refs levels before (BadReference owner) (RefusesItems-none f whole containers refs owner k i levels before laid leads (Refers-key f owner i record { keys = refs; table = keys; among = Contains-at refs k i within is }) within is above)
+pub RefusesKeys-none : (f containers refs : List ℕ) (table k i levels : ℕ) (before : Budget) → IsLaid f → Leads f containers table → HasKeys f table refs → k < length refs → i ≡ slice_index refs k → (trailer_of f).count ≤ i → RefusesKeys f refs levels before (BadReference table)
+RefusesKeys-none f containers refs owner k i levels before laid leads keys within is above =
+    RefusesKeys-items f refs levels before (BadReference owner) (RefusesItems-none f containers refs owner k i levels before laid leads (Refers-key f owner i record { keys = refs; table = keys; among = Contains-at refs k i within is }) within is above)

@@ -47,8 +47,8 @@ scalar_refused f i levels before left s (list ws) holds node over spells affords
 scalar_refused f i levels before left s (table ps) holds node over spells affords =
     let held = same_held f i (holds_scalar s) (holds_table spells.0 spells.1.0) holds spells.1.1.1.0 in cc
 
-pub Refuses-payload : (f : List ℕ) (whole : Budget) (containers : List ℕ) (i levels : ℕ) (before left : Budget) (s : Scalar) → IsLaid f → IsBegun f containers i whole before → i < (trailer_of f).count → what_holds f i ≡ Ok (holds_scalar s) → length containers + levels ≡ MAX_DEPTH → 1 ≤ levels → Spends before 1 0 left → left.payload < payload_of_scalar s → Refuses f whole i levels before (TooMuchPayload i)
-Refuses-payload f whole containers i levels before left s laid begun listed reads levels_are some node over =
+pub Refuses-payload : (f containers : List ℕ) (i levels : ℕ) (before left : Budget) (s : Scalar) → IsLaid f → IsBegun f containers i before → i < (trailer_of f).count → what_holds f i ≡ Ok (holds_scalar s) → length containers + levels ≡ MAX_DEPTH → 1 ≤ levels → Spends before 1 0 left → left.payload < payload_of_scalar s → Refuses f i levels before (TooMuchPayload i)
+Refuses-payload f containers i levels before left s laid begun listed reads levels_are some node over =
     let payload_is : payload_read (what_holds f i) ≡ payload_of_scalar s = ap payload_read reads in
     record {
       stands = record {
@@ -78,10 +78,10 @@ Reads-list f refs i levels below before left after vs levels_is listed reads nod
       };
     }
 
-list_refused : (f : List ℕ) (whole : Budget) (refs : List ℕ) (i levels below : ℕ) (before left : Budget) (fault : BinaryFault) (v : Plist) → 1 + below ≡ levels → Holds f i (holds_list refs) → Spends before 1 0 left → RefusesItems f whole refs below left fault → (fault ≡ OutOfMemory → ⊥) → IsPlist v → Spells f i v → depth v ≤ levels → Affords before (nodes v) (payload v) → ⊥
-list_refused f whole refs i levels below before left fault (scalar s) levels_is holds node refused unless valid spells deep affords =
+list_refused : (f refs : List ℕ) (i levels below : ℕ) (before left : Budget) (fault : BinaryFault) (v : Plist) → 1 + below ≡ levels → Holds f i (holds_list refs) → Spends before 1 0 left → RefusesItems f refs below left fault → (fault ≡ OutOfMemory → ⊥) → IsPlist v → Spells f i v → depth v ≤ levels → Affords before (nodes v) (payload v) → ⊥
+list_refused f refs i levels below before left fault (scalar s) levels_is holds node refused unless valid spells deep affords =
     let held = same_held f i (holds_list refs) (holds_scalar s) holds spells in cc
-list_refused f whole refs i levels below before left fault (list ws) levels_is holds node refused unless valid spells deep affords =
+list_refused f refs i levels below before left fault (list ws) levels_is holds node refused unless valid spells deep affords =
     let held = same_held f i (holds_list refs) (holds_list spells.0) holds spells.1.0 in
     let same : spells.0 ≡ refs = cc in
     refused.none unless ws valid (subst (λ (r : List ℕ). SpellItems f r ws) same spells.1.1) (omega arith)
@@ -89,14 +89,14 @@ list_refused f whole refs i levels below before left fault (list ws) levels_is h
       nodes_there = omega (arith, node.nodes_left, affords.nodes_there);
       payload_there = omega (arith, node.payload_left, affords.payload_there);
     }
-list_refused f whole refs i levels below before left fault (table ps) levels_is holds node refused unless valid spells deep affords =
+list_refused f refs i levels below before left fault (table ps) levels_is holds node refused unless valid spells deep affords =
     let held = same_held f i (holds_list refs) (holds_table spells.0 spells.1.0) holds spells.1.1.1.0 in cc
 
-pub Refuses-list : (f : List ℕ) (whole : Budget) (refs : List ℕ) (i levels below : ℕ) (before left : Budget) (fault : BinaryFault) → 1 + below ≡ levels → i < (trailer_of f).count → what_holds f i ≡ Ok (holds_list refs) → Spends before 1 0 left → RefusesItems f whole refs below left fault → Refuses f whole i levels before fault
-Refuses-list f whole refs i levels below before left fault levels_is listed reads node refused =
+pub Refuses-list : (f refs : List ℕ) (i levels below : ℕ) (before left : Budget) (fault : BinaryFault) → 1 + below ≡ levels → i < (trailer_of f).count → what_holds f i ≡ Ok (holds_list refs) → Spends before 1 0 left → RefusesItems f refs below left fault → Refuses f i levels before fault
+Refuses-list f refs i levels below before left fault levels_is listed reads node refused =
     record {
       stands = refused.stands;
-      none = λ unless v valid spells deep affords. list_refused f whole refs i levels below before left fault v levels_is record { listed = listed; reads = reads } node refused unless valid spells deep affords;
+      none = λ unless v valid spells deep affords. list_refused f refs i levels below before left fault v levels_is record { listed = listed; reads = reads } node refused unless valid spells deep affords;
     }
 
 -- a dictionary, from its pairs, which may be one level less deep
@@ -112,12 +112,12 @@ Reads-table f keys values i levels below before left after ps levels_is listed r
       };
     }
 
-table_refused : (f : List ℕ) (whole : Budget) (keys values : List ℕ) (i levels below : ℕ) (before left : Budget) (fault : BinaryFault) (v : Plist) → 1 + below ≡ levels → Holds f i (holds_table keys values) → Spends before 1 0 left → RefusesPairs f whole keys values below left fault → (fault ≡ OutOfMemory → ⊥) → IsPlist v → Spells f i v → depth v ≤ levels → Affords before (nodes v) (payload v) → ⊥
-table_refused f whole keys values i levels below before left fault (scalar s) levels_is holds node refused unless valid spells deep affords =
+table_refused : (f keys values : List ℕ) (i levels below : ℕ) (before left : Budget) (fault : BinaryFault) (v : Plist) → 1 + below ≡ levels → Holds f i (holds_table keys values) → Spends before 1 0 left → RefusesPairs f keys values below left fault → (fault ≡ OutOfMemory → ⊥) → IsPlist v → Spells f i v → depth v ≤ levels → Affords before (nodes v) (payload v) → ⊥
+table_refused f keys values i levels below before left fault (scalar s) levels_is holds node refused unless valid spells deep affords =
     let held = same_held f i (holds_table keys values) (holds_scalar s) holds spells in cc
-table_refused f whole keys values i levels below before left fault (list ws) levels_is holds node refused unless valid spells deep affords =
+table_refused f keys values i levels below before left fault (list ws) levels_is holds node refused unless valid spells deep affords =
     let held = same_held f i (holds_table keys values) (holds_list spells.0) holds spells.1.0 in cc
-table_refused f whole keys values i levels below before left fault (table ps) levels_is holds node refused unless valid spells deep affords =
+table_refused f keys values i levels below before left fault (table ps) levels_is holds node refused unless valid spells deep affords =
     let held = same_held f i (holds_table keys values) (holds_table spells.0 spells.1.0) holds spells.1.1.1.0 in
     let same : zip spells.0 spells.1.0 ≡ zip keys values = cc in
     refused.none unless spells.1.1.0 ps (subst (λ (rows : List (ℕ × ℕ)). IsPermutation rows spells.1.1.0) same spells.1.1.1.1.0) spells.1.1.1.1.1 valid (omega arith)
@@ -126,11 +126,11 @@ table_refused f whole keys values i levels below before left fault (table ps) le
       payload_there = omega (arith, node.payload_left, affords.payload_there);
     }
 
-pub Refuses-table : (f : List ℕ) (whole : Budget) (keys values : List ℕ) (i levels below : ℕ) (before left : Budget) (fault : BinaryFault) → 1 + below ≡ levels → i < (trailer_of f).count → what_holds f i ≡ Ok (holds_table keys values) → Spends before 1 0 left → RefusesPairs f whole keys values below left fault → Refuses f whole i levels before fault
-Refuses-table f whole keys values i levels below before left fault levels_is listed reads node refused =
+pub Refuses-table : (f keys values : List ℕ) (i levels below : ℕ) (before left : Budget) (fault : BinaryFault) → 1 + below ≡ levels → i < (trailer_of f).count → what_holds f i ≡ Ok (holds_table keys values) → Spends before 1 0 left → RefusesPairs f keys values below left fault → Refuses f i levels before fault
+Refuses-table f keys values i levels below before left fault levels_is listed reads node refused =
     record {
       stands = refused.stands;
-      none = λ unless v valid spells deep affords. table_refused f whole keys values i levels below before left fault v levels_is record { listed = listed; reads = reads } node refused unless valid spells deep affords;
+      none = λ unless v valid spells deep affords. table_refused f keys values i levels below before left fault v levels_is record { listed = listed; reads = reads } node refused unless valid spells deep affords;
     }
 
 -- What is known of the objects of a file, after one of them is marked.

@@ -72,8 +72,8 @@ unsort f keys values levels rows ps long moved spell valid deep =
       distinct = distinct_moved (λ (p : List ℕ × Plist). p.0) (listed ps) (map shown rs) pairs_moved (keys_distinct ps valid);
     }
 
-pub RefusesPairs-keys : (f : List ℕ) (whole : Budget) (keys values : List ℕ) (levels : ℕ) (left : Budget) (fault : BinaryFault) → length keys ≡ length values → RefusesKeys f whole keys levels left fault → RefusesPairs f whole keys values levels left fault
-RefusesPairs-keys f whole keys values levels left fault long refused = record {
+pub RefusesPairs-keys : (f keys values : List ℕ) (levels : ℕ) (left : Budget) (fault : BinaryFault) → length keys ≡ length values → RefusesKeys f keys levels left fault → RefusesPairs f keys values levels left fault
+RefusesPairs-keys f keys values levels left fault long refused = record {
   stands = refused.stands;
   none = λ unless rows ps moved spell valid deep affords.
       let apart = unsort f keys values levels rows ps long moved spell valid deep in
@@ -84,8 +84,8 @@ RefusesPairs-keys f whole keys values levels left fault long refused = record {
 }
 
 -- the values are refused, after keys that were read
-pub RefusesPairs-values : (f : List ℕ) (whole : Budget) (keys values : List ℕ) (levels : ℕ) (before left : Budget) (us : List (List ℕ)) (fault : BinaryFault) → length keys ≡ length values → ReadsItems f keys levels before (texts us) left → RefusesItems f whole values levels left fault → RefusesPairs f whole keys values levels before fault
-RefusesPairs-values f whole keys values levels before left us fault long read refused =
+pub RefusesPairs-values : (f keys values : List ℕ) (levels : ℕ) (before left : Budget) (us : List (List ℕ)) (fault : BinaryFault) → length keys ≡ length values → ReadsItems f keys levels before (texts us) left → RefusesItems f values levels left fault → RefusesPairs f keys values levels before fault
+RefusesPairs-values f keys values levels before left us fault long read refused =
     record {
       stands = refused.stands;
       none = λ unless rows ps moved spell valid deep affords.
@@ -181,8 +181,8 @@ texts_same (u ∷ us) (w ∷ ws) same =
     let first : u ≡ w = cc in
     cc
 
-pub RefusesPairs-twice : (f : List ℕ) (whole : Budget) (containers keys values : List ℕ) (table levels : ℕ) (before left : Budget) (us : List (List ℕ)) → IsLaid f → Leads f containers table → Holds f table (holds_table keys values) → length keys ≡ length values → ReadsItems f keys levels before (texts us) left → (IsDistinct same_key us → ⊥) → RefusesPairs f whole keys values levels before (DuplicateKey table)
-RefusesPairs-twice f whole containers keys values table levels before left us laid leads holds long read not_distinct =
+pub RefusesPairs-twice : (f containers keys values : List ℕ) (table levels : ℕ) (before left : Budget) (us : List (List ℕ)) → IsLaid f → Leads f containers table → Holds f table (holds_table keys values) → length keys ≡ length values → ReadsItems f keys levels before (texts us) left → (IsDistinct same_key us → ⊥) → RefusesPairs f keys values levels before (DuplicateKey table)
+RefusesPairs-twice f containers keys values table levels before left us laid leads holds long read not_distinct =
     let found = twice us not_distinct in
     record {
       stands = record {

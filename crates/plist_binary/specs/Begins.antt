@@ -13,6 +13,7 @@ use Rattle.plist_object.specs.Objects.{Held, holds_scalar, holds_list, holds_tab
 use Rattle.plist_object.specs.Places.{Holds}
 use Rattle.plist_object.specs.Spelled.{SpellItems}
 use Rattle.plist_object.specs.References.{references_of}
+use Rattle.plist_binary.specs.Budgets.{limits}
 
 -- the payload of the string or data that was decoded
 abbrev pub payload_read : Result Held ObjectFault → ℕ
@@ -50,26 +51,26 @@ abbrev pub Begins : List ℕ → List ℕ → ℕ → ℕ → ℕ → Type 0
 Begins f [] i nodes payload = (i ≡ (trailer_of f).top) × (nodes ≡ 0) × (payload ≡ 0)
 Begins f (j ∷ before) i nodes payload = BeginsIn f before (Begins f before j) j i nodes payload
 
--- what comes before i is what was taken from the whole budget
-pub record IsBegun (f before : List ℕ) (i : ℕ) (whole left : Budget) : Type 0 where
+-- what comes before i is what was taken from the limits
+pub record IsBegun (f before : List ℕ) (i : ℕ) (left : Budget) : Type 0 where
   pub nodes : ℕ
   pub payload : ℕ
   pub begins : Begins f before i nodes payload
-  pub spent : Spends whole nodes payload left
+  pub spent : Spends limits nodes payload left
 
--- what comes before the container j, and j itself, is what was taken from the whole budget; j is
+-- what comes before the container j, and j itself, is what was taken from the limits; j is
 -- not on its own path nor too deep
-pub record IsEntered (f before : List ℕ) (j : ℕ) (whole left : Budget) : Type 0 where
+pub record IsEntered (f before : List ℕ) (j : ℕ) (left : Budget) : Type 0 where
   pub nodes : ℕ
   pub payload : ℕ
   pub begins : Begins f before j nodes payload
   pub new : ¬ Contains before j
   pub shallow : length before < MAX_DEPTH
-  pub spent : Spends whole (1 + nodes) payload left
+  pub spent : Spends limits (1 + nodes) payload left
 
 -- what comes before these references, which the container j contains one after the other, is what
--- was taken from the whole budget
-pub record AreNext (f before : List ℕ) (j : ℕ) (refs : List ℕ) (whole left : Budget) : Type 0 where
+-- was taken from the limits
+pub record AreNext (f before : List ℕ) (j : ℕ) (refs : List ℕ) (left : Budget) : Type 0 where
   pub nodes : ℕ
   pub payload : ℕ
   pub begins : Begins f before j nodes payload
@@ -83,4 +84,4 @@ pub record AreNext (f before : List ℕ) (j : ℕ) (refs : List ℕ) (whole left
   pub spell : SpellItems f front values
   pub valid : AreItems values
   pub deep : length before + 1 + depth_of_items values ≤ MAX_DEPTH
-  pub spent : Spends whole (nodes + 1 + nodes_of_items values) (payload + payload_of_items values) left
+  pub spent : Spends limits (nodes + 1 + nodes_of_items values) (payload + payload_of_items values) left

@@ -7,6 +7,7 @@ use Rattle.plist_value.specs.View.{items_of}
 use Rattle.plist_value.specs.declared.budget.Budget.{Budget}
 use Rattle.plist_value.specs.declared.TheConstants.{MAX_NODES, MAX_DEPTH, MAX_PAYLOAD}
 use Rattle.plist_object.specs.Layout.{trailer_of}
+use Rattle.plist_binary.specs.Budgets.{limits}
 use Rattle.plist_binary.specs.Readings.{Reads, ReadsItems, ReadsPairs}
 
 -- the object encodes a value, at most `levels` deep, that takes the difference of the budgets
@@ -34,9 +35,6 @@ pub record PassesPairs (f keys values : List ℕ) (levels : ℕ) (before : Budge
 pub record IsWithinLimits (left : Budget) : Type 0 where
   pub nodes_most : left.nodes ≤ MAX_NODES
   pub payload_most : left.payload ≤ MAX_PAYLOAD
-
-abbrev pub limits : Budget
-limits = record { nodes = MAX_NODES; payload = MAX_PAYLOAD }
 
 -- the top object encodes a value within the limits
 pub record PassesTop (f : List ℕ) : Type 0 where

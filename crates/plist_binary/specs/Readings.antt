@@ -9,7 +9,7 @@ use Rattle.plist_value.specs.declared.budget.Budget.{Budget}
 use Rattle.plist_binary.specs.declared.fault.BinaryFault.{BinaryFault}
 use Rattle.plist_value.specs.Budget.{Spends, Affords}
 use Rattle.plist_binary.specs.Budgets.{UnlessMemory}
-use Rattle.plist_binary.specs.Faults.{StandsWithin}
+use Rattle.plist_binary.specs.Faults.{Stands}
 
 -- the object encodes the value, which is at most `levels` deep and takes the difference of the
 -- budgets
@@ -19,10 +19,10 @@ pub record Reads (f : List ℕ) (i levels : ℕ) (before : Budget) (v : Plist) (
   pub deep : depth v ≤ levels
   pub spent : Spends before (nodes v) (payload v) after
 
--- the fault is true for the whole budget, and the object encodes no value of at most `levels`
+-- the fault is true, and the object encodes no value of at most `levels`
 -- levels within the budget left
-pub record Refuses (f : List ℕ) (whole : Budget) (i levels : ℕ) (left : Budget) (fault : BinaryFault) : Type 0 where
-  pub stands : StandsWithin f whole.nodes whole.payload fault
+pub record Refuses (f : List ℕ) (i levels : ℕ) (left : Budget) (fault : BinaryFault) : Type 0 where
+  pub stands : Stands f fault
   pub none : UnlessMemory fault ((v : Plist) → IsPlist v → Spells f i v → depth v ≤ levels → Affords left (nodes v) (payload v) → ⊥)
 
 -- the references point to the items, in order
@@ -32,8 +32,8 @@ pub record ReadsItems (f refs : List ℕ) (levels : ℕ) (before : Budget) (vs :
   pub deep : depth_of_items vs ≤ levels
   pub spent : Spends before (nodes_of_items vs) (payload_of_items vs) after
 
-pub record RefusesItems (f : List ℕ) (whole : Budget) (refs : List ℕ) (levels : ℕ) (left : Budget) (fault : BinaryFault) : Type 0 where
-  pub stands : StandsWithin f whole.nodes whole.payload fault
+pub record RefusesItems (f refs : List ℕ) (levels : ℕ) (left : Budget) (fault : BinaryFault) : Type 0 where
+  pub stands : Stands f fault
   pub none : UnlessMemory fault ((vs : Items) → AreItems vs → SpellItems f refs vs → depth_of_items vs ≤ levels → Affords left (nodes_of_items vs) (payload_of_items vs) → ⊥)
 
 -- strings as items
@@ -47,13 +47,13 @@ pub record ReadsKey (f : List ℕ) (i levels : ℕ) (before after : Budget) : Ty
   pub reads : Reads f i levels before (scalar (text units)) after
 
 -- the fault is true, and the object is not a string within the budget
-pub record RefusesKey (f : List ℕ) (whole : Budget) (i levels : ℕ) (left : Budget) (fault : BinaryFault) : Type 0 where
-  pub stands : StandsWithin f whole.nodes whole.payload fault
+pub record RefusesKey (f : List ℕ) (i levels : ℕ) (left : Budget) (fault : BinaryFault) : Type 0 where
+  pub stands : Stands f fault
   pub none : UnlessMemory fault ((units : List ℕ) → IsPlist (scalar (text units)) → Spells f i (scalar (text units)) → 1 ≤ levels → Affords left 1 (2 * length units) → ⊥)
 
 -- the fault is true, and the references do not point to strings within the budget
-pub record RefusesKeys (f : List ℕ) (whole : Budget) (refs : List ℕ) (levels : ℕ) (left : Budget) (fault : BinaryFault) : Type 0 where
-  pub stands : StandsWithin f whole.nodes whole.payload fault
+pub record RefusesKeys (f refs : List ℕ) (levels : ℕ) (left : Budget) (fault : BinaryFault) : Type 0 where
+  pub stands : Stands f fault
   pub none : UnlessMemory fault ((keys : List (List ℕ)) → AreItems (texts keys) → SpellItems f refs (texts keys) → depth_of_items (texts keys) ≤ levels → Affords left (nodes_of_items (texts keys)) (payload_of_items (texts keys)) → ⊥)
 
 -- the references to keys and to values give the pairs, which are in the order of the keys
@@ -65,6 +65,6 @@ pub record ReadsPairs (f refs others : List ℕ) (levels : ℕ) (before : Budget
   pub deep : depth_of_pairs ps ≤ levels
   pub spent : Spends before (nodes_of_pairs ps) (payload_of_pairs ps) after
 
-pub record RefusesPairs (f : List ℕ) (whole : Budget) (refs others : List ℕ) (levels : ℕ) (left : Budget) (fault : BinaryFault) : Type 0 where
-  pub stands : StandsWithin f whole.nodes whole.payload fault
+pub record RefusesPairs (f refs others : List ℕ) (levels : ℕ) (left : Budget) (fault : BinaryFault) : Type 0 where
+  pub stands : Stands f fault
   pub none : UnlessMemory fault ((rows : List (ℕ × ℕ)) (ps : Pairs) → IsPermutation (zip refs others) rows → SpellPairs f rows ps → ArePairs ps → depth_of_pairs ps ≤ levels → Affords left (nodes_of_pairs ps) (payload_of_pairs ps) → ⊥)

@@ -6,7 +6,8 @@ ghost use Rattle.plist_object.specs.Layout.{IsLaid, trailer_of};
 ghost use Rattle.plist_object.specs.Spelled.{IsBinary};
 ghost use Rattle.plist_object.specs.Views.{octets_of};
 ghost use Rattle.plist_binary.specs.Faults.{Stands};
-ghost use Rattle.plist_binary.specs.Passing.{PassesTop, limits};
+ghost use Rattle.plist_binary.specs.Budgets.{limits};
+ghost use Rattle.plist_binary.specs.Passing.{PassesTop};
 ghost use Rattle.plist_binary.specs.Readings.{Refuses};
 
 use crate::BinaryFault;
@@ -67,7 +68,7 @@ pub fn judge_file(alloc: Global, octets: &[u8]) -> Result<BinFile<'_>, BinaryFau
 pub(crate) fn judge_top(alloc: Global, file: BinFile) -> Result<(), BinaryFault>
     requires { IsLaid (octets_of file) }
     ensures passed { OnOk result (PassesTop (octets_of file.entry)) }
-    ensures refused { IfErr result (Refuses (octets_of file.entry) limits
+    ensures refused { IfErr result (Refuses (octets_of file.entry)
         (trailer_of (octets_of file.entry)).top MAX_DEPTH limits) }
 {
     let visitor = Visitor { file };

@@ -1,7 +1,8 @@
 //! The progress of a walk.
 ghost use Rattle.std.specs.Prelude.{◌≡◌, ℕ, List, [], IfSome};
 ghost use Rattle.plist_binary.specs.Memos.{AreStates};
-ghost use Rattle.plist_binary.specs.Passing.{Passes, limits};
+ghost use Rattle.plist_binary.specs.Budgets.{limits};
+ghost use Rattle.plist_binary.specs.Passing.{Passes};
 ghost use Rattle.plist_binary.specs.Readings.{ReadsKey};
 ghost use Rattle.plist_binary.specs.Progress.{IsProgress};
 

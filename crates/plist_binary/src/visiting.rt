@@ -15,7 +15,6 @@ ghost use Rattle.plist_object.specs.Views.{octets_of, held_of};
 ghost use Rattle.plist_binary.specs.Begins.{IsBegun};
 ghost use Rattle.plist_binary.specs.Faults.{IsText};
 ghost use Rattle.plist_binary.specs.Memos.{AreStates};
-ghost use Rattle.plist_binary.specs.Passing.{limits};
 ghost use Rattle.plist_binary.specs.Progress.{IsProgress};
 ghost use Rattle.plist_binary.specs.Paths.{containers_of, IsKeyOf};
 ghost use Rattle.plist_binary.specs.Readings.{Refuses, ReadsKey, RefusesKey};
@@ -46,14 +45,14 @@ impl<'a> Visitor<'a> {
     ) -> Result<(), BinaryFault>
         requires listed { object < (trailer_of (octets_of self.now.file)).count }
         requires begun { IsBegun (octets_of self.now.file) (table ∷ containers_of before.now) object
-            limits progress.old.left }
+            progress.old.left }
         requires key { IsKeyOf (octets_of self.now.file) table object }
         requires depth { length (containers_of before.now) + 1 + levels ≡ MAX_DEPTH }
         requires progress { IsProgress (octets_of self.now.file)
             (table ∷ containers_of before.now) progress.old }
         ensures read { OnOk result (ReadsKey (octets_of self.now.file) object levels
             progress.old.left progress.new.left) }
-        ensures refused { IfErr result (RefusesKey (octets_of self.now.file) limits object
+        ensures refused { IfErr result (RefusesKey (octets_of self.now.file) object
             levels progress.old.left) }
         ensures progress { OnOk result (IsProgress (octets_of self.now.file)
             (table ∷ containers_of before.now) progress.new) }
@@ -98,7 +97,7 @@ impl<'a> Visitor<'a> {
     ) -> Result<Object<'a>, BinaryFault>
         requires listed { object < (trailer_of (octets_of self.now.file)).count }
         requires begun { IsBegun (octets_of self.now.file) (containers_of path.now) object
-            limits progress.old.left }
+            progress.old.left }
         requires depth { length (containers_of path.now) + levels ≡ MAX_DEPTH }
         requires progress { IsProgress (octets_of self.now.file) (containers_of path.now)
             progress.old }
@@ -108,7 +107,7 @@ impl<'a> Visitor<'a> {
         ensures new { OnOk result (¬ Contains (containers_of path.now) object) }
         ensures deep { OnOk result (1 ≤ levels) }
         ensures spent { OnOk result (Spends progress.old.left 1 0 progress.new.left) }
-        ensures refused { IfErr result (Refuses (octets_of self.now.file) limits object
+        ensures refused { IfErr result (Refuses (octets_of self.now.file) object
             levels progress.old.left) }
         ensures progress { OnOk result (IsProgress (octets_of self.now.file)
             (containers_of path.now) progress.new) }
@@ -134,11 +133,11 @@ impl<'a> Visitor<'a> {
         levels: u64,
     ) -> Result<(), BinaryFault>
         requires begun { IsBegun (octets_of self.now.file) (containers_of path.now) object
-            limits progress.now.left }
+            progress.now.left }
         requires states { AreStates (octets_of self.now.file) (containers_of path.now)
             progress.now.states.items }
         ensures new { OnOk result (¬ Contains (containers_of path.now) object) }
-        ensures refused { IfErr result (Refuses (octets_of self.now.file) limits object
+        ensures refused { IfErr result (Refuses (octets_of self.now.file) object
             levels progress.now.left) }
     {
         match state_at(&progress.states, object) {

@@ -5,7 +5,8 @@ ghost use Rattle.plist_object.specs.Layout.{trailer_of};
 ghost use Rattle.plist_object.specs.Views.{numbers_of, octets_of};
 ghost use Rattle.plist_binary.specs.Begins.{AreNext, IsBegun, IsEntered};
 ghost use Rattle.plist_binary.specs.Progress.{IsProgress, IsProgressBut};
-ghost use Rattle.plist_binary.specs.Passing.{Passes, PassesItems, PassesTop, limits};
+ghost use Rattle.plist_binary.specs.Budgets.{limits};
+ghost use Rattle.plist_binary.specs.Passing.{Passes, PassesItems, PassesTop};
 ghost use Rattle.plist_binary.specs.Paths.{containers_of, HasKeys};
 ghost use Rattle.plist_binary.specs.Readings.{Refuses, RefusesItems};
 ghost use Rattle.plist_binary.specs.Readings.{ReadsItems, texts, RefusesKeys};
@@ -33,7 +34,7 @@ impl<'a> Walker<'a> {
     pub(crate) fn top(&self) -> Result<(), BinaryFault>
         ensures passed { OnOk result (PassesTop (octets_of self.now.visitor.file)) }
         ensures refused { IfErr result (Refuses (octets_of self.now.visitor.file)
-            limits (trailer_of (octets_of self.now.visitor.file)).top MAX_DEPTH
+            (trailer_of (octets_of self.now.visitor.file)).top MAX_DEPTH
             limits) }
     {
         let mut progress = Progress::none(self.alloc, &self.visitor.file);
@@ -55,14 +56,14 @@ impl<'a> Walker<'a> {
     ) -> Result<u64, BinaryFault>
         requires listed { object < (trailer_of (octets_of self.now.visitor.file)).count }
         requires begun { IsBegun (octets_of self.now.visitor.file) (containers_of path.now) object
-            limits progress.old.left }
+            progress.old.left }
         requires depth { length (containers_of path.now) + levels ≡ MAX_DEPTH }
         requires progress { IsProgress (octets_of self.now.visitor.file) (containers_of path.now)
             progress.old }
         ensures passed { IfOk result (λ deep. Passes (octets_of self.now.visitor.file) object levels
             progress.old.left deep progress.new.left) }
         ensures refused { IfErr result (Refuses (octets_of self.now.visitor.file)
-            limits object levels progress.old.left) }
+            object levels progress.old.left) }
         ensures progress { OnOk result (IsProgress (octets_of self.now.visitor.file)
             (containers_of path.now) progress.new) }
     {
@@ -85,14 +86,14 @@ impl<'a> Walker<'a> {
     ) -> Result<u64, BinaryFault>
         requires listed { object < (trailer_of (octets_of self.now.visitor.file)).count }
         requires begun { IsBegun (octets_of self.now.visitor.file) (containers_of path.now) object
-            limits progress.old.left }
+            progress.old.left }
         requires depth { length (containers_of path.now) + levels ≡ MAX_DEPTH }
         requires progress { IsProgress (octets_of self.now.visitor.file) (containers_of path.now)
             progress.old }
         ensures passed { IfOk result (λ deep. Passes (octets_of self.now.visitor.file) object levels
             progress.old.left deep progress.new.left) }
         ensures refused { IfErr result (Refuses (octets_of self.now.visitor.file)
-            limits object levels progress.old.left) }
+            object levels progress.old.left) }
         ensures progress { OnOk result (IsProgress (octets_of self.now.visitor.file)
             (containers_of path.now) progress.new) }
     {
@@ -116,14 +117,14 @@ impl<'a> Walker<'a> {
     ) -> Result<u64, BinaryFault>
         requires listed { object < (trailer_of (octets_of self.now.visitor.file)).count }
         requires begun { IsBegun (octets_of self.now.visitor.file) (containers_of path.now) object
-            limits progress.old.left }
+            progress.old.left }
         requires depth { length (containers_of path.now) + levels ≡ MAX_DEPTH }
         requires progress { IsProgress (octets_of self.now.visitor.file) (containers_of path.now)
             progress.old }
         ensures passed { IfOk result (λ deep. Passes (octets_of self.now.visitor.file) object levels
             progress.old.left deep progress.new.left) }
         ensures refused { IfErr result (Refuses (octets_of self.now.visitor.file)
-            limits object levels progress.old.left) }
+            object levels progress.old.left) }
         ensures new { OnOk result (¬ Contains (containers_of path.now) object) }
         ensures progress { OnOk result (IsProgressBut (octets_of self.now.visitor.file)
             (containers_of path.now) object progress.new) }
@@ -159,14 +160,14 @@ impl<'a> Walker<'a> {
         levels: u64,
     ) -> Result<u64, BinaryFault>
         requires next { AreNext (octets_of self.now.visitor.file) (containers_of before.now)
-            container (numbers_of refs) limits progress.old.left }
+            container (numbers_of refs) progress.old.left }
         requires depth { length (containers_of before.now) + 1 + levels ≡ MAX_DEPTH }
         requires progress { IsProgress (octets_of self.now.visitor.file)
             (container ∷ containers_of before.now) progress.old }
         ensures passed { IfOk result (λ deep. PassesItems (octets_of self.now.visitor.file)
             (numbers_of refs.entry) levels progress.old.left deep progress.new.left) }
         ensures refused { IfErr result (RefusesItems (octets_of self.now.visitor.file)
-            limits (numbers_of refs.entry) levels progress.old.left) }
+            (numbers_of refs.entry) levels progress.old.left) }
         ensures progress { OnOk result (IsProgress (octets_of self.now.visitor.file)
             (container ∷ containers_of before.now) progress.new) }
     {
@@ -191,7 +192,7 @@ impl<'a> Walker<'a> {
         levels: u64,
     ) -> Result<(), BinaryFault>
         requires entered { IsEntered (octets_of self.now.visitor.file) (containers_of before.now)
-            table limits progress.old.left }
+            table progress.old.left }
         requires keys { HasKeys (octets_of self.now.visitor.file) table (numbers_of refs) }
         requires depth { length (containers_of before.now) + 1 + levels ≡ MAX_DEPTH }
         requires progress { IsProgress (octets_of self.now.visitor.file)
@@ -199,7 +200,7 @@ impl<'a> Walker<'a> {
         ensures read { OnOk result (ReadsApart (octets_of self.now.visitor.file)
             (numbers_of refs.entry) levels progress.old.left progress.new.left) }
         ensures refused { IfErr result (RefusesTable (octets_of self.now.visitor.file)
-            limits table (numbers_of refs.entry) levels progress.old.left) }
+            table (numbers_of refs.entry) levels progress.old.left) }
         ensures progress { OnOk result (IsProgress (octets_of self.now.visitor.file)
             (table ∷ containers_of before.now) progress.new) }
     {
@@ -222,7 +223,7 @@ impl<'a> Walker<'a> {
         levels: u64,
     ) -> Result<(), BinaryFault>
         requires entered { IsEntered (octets_of self.now.visitor.file) (containers_of before.now)
-            table limits progress.old.left }
+            table progress.old.left }
         requires keys { HasKeys (octets_of self.now.visitor.file) table (numbers_of refs) }
         requires depth { length (containers_of before.now) + 1 + levels ≡ MAX_DEPTH }
         requires progress { IsProgress (octets_of self.now.visitor.file)
@@ -230,7 +231,7 @@ impl<'a> Walker<'a> {
         ensures read { OnOk result (ReadsApart (octets_of self.now.visitor.file)
             (numbers_of refs.entry) levels progress.old.left progress.new.left) }
         ensures refused { IfErr result (RefusesTable (octets_of self.now.visitor.file)
-            limits table (numbers_of refs.entry) levels progress.old.left) }
+            table (numbers_of refs.entry) levels progress.old.left) }
         ensures progress { OnOk result (IsProgress (octets_of self.now.visitor.file)
             (table ∷ containers_of before.now) progress.new) }
     {
@@ -254,7 +255,7 @@ impl<'a> Walker<'a> {
         levels: u64,
     ) -> Result<(), BinaryFault>
         requires entered { IsEntered (octets_of self.now.visitor.file) (containers_of before.now)
-            table limits progress.old.left }
+            table progress.old.left }
         requires keys { HasKeys (octets_of self.now.visitor.file) table (numbers_of refs) }
         requires depth { length (containers_of before.now) + 1 + levels ≡ MAX_DEPTH }
         requires progress { IsProgress (octets_of self.now.visitor.file)
@@ -263,7 +264,7 @@ impl<'a> Walker<'a> {
             (octets_of self.now.visitor.file) (numbers_of refs.entry) levels progress.old.left
             (texts keys) progress.new.left) }
         ensures refused { IfErr result (RefusesKeys (octets_of self.now.visitor.file)
-            limits (numbers_of refs.entry) levels progress.old.left) }
+            (numbers_of refs.entry) levels progress.old.left) }
         ensures progress { OnOk result (IsProgress (octets_of self.now.visitor.file)
             (table ∷ containers_of before.now) progress.new) }
     {

@@ -1,6 +1,5 @@
 use Rattle.std.proofs.Common.{◌≡◌, ◌∷◌, ℕ, List, rules, subst, sym, ap, ◌∙◌}
 use Rattle.plist_object.specs.Views.{octets_of}
-use Rattle.plist_binary.specs.Passing.{limits}
 use Rattle.plist_binary.specs.declared.fault.BinaryFault.TheVariants.{TooManyNodes}
 use Rattle.plist_binary.specs.Paths.{containers_of}
 use Rattle.plist_binary.specs.Readings.{Refuses}
@@ -11,17 +10,17 @@ use Rattle.plist_binary.proofs.visiting.Visitor.enter.Goals as goal
 pub returns-in_err-take_node-clause-refused : goal.returns-in_err-take_node-clause-refused
 returns-in_err-take_node-clause-refused c =
     let f = octets_of c.args.self.now.file in
-    let refused : Refuses f limits c.args.object c.args.levels c.args.progress.now.left (TooManyNodes c.args.object) = Refuses-nodes f limits (containers_of c.args.path.now) c.args.object c.args.levels c.args.progress.now.left c.args.self.now.laid c.requires.listed c.requires.begun c.in_ok-refuse_cycle.ensures.new c.in_err-take_node.ensures.over.1 in
+    let refused : Refuses f c.args.object c.args.levels c.args.progress.now.left (TooManyNodes c.args.object) = Refuses-nodes f (containers_of c.args.path.now) c.args.object c.args.levels c.args.progress.now.left c.args.self.now.laid c.requires.listed c.requires.begun c.in_ok-refuse_cycle.ensures.new c.in_err-take_node.ensures.over.1 in
     search rules
 
 pub returns-then-levels-eq0-clause-refused : goal.returns-then-levels-eq0-clause-refused
 returns-then-levels-eq0-clause-refused c =
     let f = octets_of c.args.self.now.file in
-    Refuses-depth f limits (containers_of c.args.path.now) c.args.object c.args.levels c.args.progress.now.left c.args.self.now.laid (IsBegun-leads f (containers_of c.args.path.now) c.args.object limits c.args.progress.now.left c.requires.begun) c.requires.depth c.if-levels-eq0.true
+    Refuses-depth f (containers_of c.args.path.now) c.args.object c.args.levels c.args.progress.now.left c.args.self.now.laid (IsBegun-leads f (containers_of c.args.path.now) c.args.object c.args.progress.now.left c.requires.begun) c.requires.depth c.if-levels-eq0.true
 
 pub returns-in-Err-clause-refused : goal.returns-in-Err-clause-refused
 returns-in-Err-clause-refused c =
     let f = octets_of c.args.self.now.file in
     let left = c.args.progress.now.left in
-    subst (Refuses f limits c.args.object c.args.levels left) (sym c.of_object.ensures)
-    (Refuses-object f limits (containers_of c.args.path.now) c.args.object c.args.levels c.args.progress.now.left c.in-Err.fault c.args.self.now.laid c.requires.listed (IsBegun-leads f (containers_of c.args.path.now) c.args.object limits c.args.progress.now.left c.requires.begun) c.in-Err.ensures.read)
+    subst (Refuses f c.args.object c.args.levels left) (sym c.of_object.ensures)
+    (Refuses-object f (containers_of c.args.path.now) c.args.object c.args.levels c.args.progress.now.left c.in-Err.fault c.args.self.now.laid c.requires.listed (IsBegun-leads f (containers_of c.args.path.now) c.args.object c.args.progress.now.left c.requires.begun) c.in-Err.ensures.read)

@@ -7,7 +7,6 @@ use Rattle.plist_object.specs.Views.{octets_of, held_of}
 use Rattle.plist_binary.specs.declared.memos.State.{State}
 use Rattle.plist_binary.specs.declared.memos.State.TheVariants.{Key}
 use Rattle.plist_binary.specs.Memos.{IsMarked}
-use Rattle.plist_binary.specs.Passing.{limits}
 use Rattle.plist_binary.specs.declared.fault.BinaryFault.TheVariants.{TooMuchPayload}
 use Rattle.plist_binary.specs.Paths.{containers_of}
 use Rattle.plist_binary.specs.Readings.{RefusesKey}
@@ -20,15 +19,15 @@ use Rattle.plist_binary.proofs.visiting.Visitor.key.Goals as goal
 pub returns-in_err-enter-clause-refused : goal.returns-in_err-enter-clause-refused
 returns-in_err-enter-clause-refused c =
     let f = octets_of c.args.self.now.file in
-    let refused : RefusesKey f limits c.args.object c.args.levels c.args.progress.now.left c.in_err-enter.field-0.0 = RefusesKey-value f limits c.args.object c.args.levels c.args.progress.now.left c.in_err-enter.field-0.0 c.in_err-enter.ensures.refused in
+    let refused : RefusesKey f c.args.object c.args.levels c.args.progress.now.left c.in_err-enter.field-0.0 = RefusesKey-value f c.args.object c.args.levels c.args.progress.now.left c.in_err-enter.field-0.0 c.in_err-enter.ensures.refused in
     search rules
 
 pub returns-in_default-text_in-clause-refused : goal.returns-in_default-text_in-clause-refused
 returns-in_default-text_in-clause-refused c =
     let f = octets_of c.args.self.now.file in
     let held = held_of c.in_ok-enter.field-0 in
-    let leads = IsBegun-leads f (c.args.table ∷ containers_of c.args.before.now) c.args.object limits c.args.progress.now.left c.requires.begun in
-    RefusesKey-other f limits (containers_of c.args.before.now) c.args.table c.args.object c.args.levels c.args.progress.now.left held c.args.self.now.laid leads.1 c.requires.key c.requires.listed c.in_ok-enter.ensures.held c.in_default-text_in.ensures.other
+    let leads = IsBegun-leads f (c.args.table ∷ containers_of c.args.before.now) c.args.object c.args.progress.now.left c.requires.begun in
+    RefusesKey-other f (containers_of c.args.before.now) c.args.table c.args.object c.args.levels c.args.progress.now.left held c.args.self.now.laid leads.1 c.requires.key c.requires.listed c.in_ok-enter.ensures.held c.in_default-text_in.ensures.other
 
 pub returns-in_err-take_payload-clause-refused : goal.returns-in_err-take_payload-clause-refused
 returns-in_err-take_payload-clause-refused c =
@@ -36,7 +35,7 @@ returns-in_err-take_payload-clause-refused c =
     let units = units_of c.in-Some-text_in.key in
     let reads : what_holds f c.args.object ≡ Ok (holds_scalar (text units)) = c.in_ok-enter.ensures.held ∙ ap Ok c.in-Some-text_in.ensures.text in
     let over : c.enter.new.progress.left.payload < 2 * length units = c.in_err-take_payload.ensures.over.1 in
-    let refused : RefusesKey f limits c.args.object c.args.levels c.args.progress.now.left (TooMuchPayload c.args.object) = RefusesKey-value f limits c.args.object c.args.levels c.args.progress.now.left (TooMuchPayload c.args.object) (Refuses-payload f limits (c.args.table ∷ containers_of c.args.before.now) c.args.object c.args.levels c.args.progress.now.left c.enter.new.progress.left (text units) c.args.self.now.laid c.requires.begun c.requires.listed reads (omega (arith, c.requires.depth)) c.in_ok-enter.ensures.deep c.in_ok-enter.ensures.spent over) in
+    let refused : RefusesKey f c.args.object c.args.levels c.args.progress.now.left (TooMuchPayload c.args.object) = RefusesKey-value f c.args.object c.args.levels c.args.progress.now.left (TooMuchPayload c.args.object) (Refuses-payload f (c.args.table ∷ containers_of c.args.before.now) c.args.object c.args.levels c.args.progress.now.left c.enter.new.progress.left (text units) c.args.self.now.laid c.requires.begun c.requires.listed reads (omega (arith, c.requires.depth)) c.in_ok-enter.ensures.deep c.in_ok-enter.ensures.spent over) in
     search rules
 
 pub returns-in-Some-clause-read : goal.returns-in-Some-clause-read

@@ -9,7 +9,7 @@ use Rattle.plist_binary.specs.declared.memos.State.{State}
 use Rattle.plist_binary.specs.declared.memos.State.TheVariants.{Passed}
 use Rattle.plist_binary.specs.Memos.{IsMarked}
 use Rattle.plist_binary.specs.declared.fault.BinaryFault.TheVariants.{BadReference, TooMuchPayload}
-use Rattle.plist_binary.specs.Passing.{PassesItems, limits}
+use Rattle.plist_binary.specs.Passing.{PassesItems}
 use Rattle.plist_binary.specs.Paths.{containers_of}
 use Rattle.plist_binary.specs.Readings.{Refuses, RefusesItems, texts}
 use Rattle.plist_binary.proofs.Beginning.{AreNext-items, AreNext-leads, AreNext-values, IsBegun-next, IsEntered-begun, Refers-next}
@@ -28,7 +28,7 @@ content-returns-in_err-take_payload-in-Scalar-clause-refused t c =
     let f = octets_of c.args.self.now.visitor.file in
     let s = content_of c.in-Scalar.scalar in
     let reads : what_holds f c.args.object ≡ Ok (holds_scalar s) = rw c.in-Scalar.is at c.in_ok-scalar.ensures.held in
-    let refused : Refuses f limits c.args.object c.args.levels c.args.progress.now.left (TooMuchPayload c.args.object) = Refuses-payload f limits (containers_of c.args.path.now) c.args.object c.args.levels c.args.progress.now.left c.enter.new.progress.left s c.args.self.now.visitor.laid c.requires.begun c.requires.listed reads c.requires.depth c.in_ok-scalar.ensures.deep c.in_ok-scalar.ensures.spent c.in_err-take_payload-in-Scalar.ensures.over.1 in
+    let refused : Refuses f c.args.object c.args.levels c.args.progress.now.left (TooMuchPayload c.args.object) = Refuses-payload f (containers_of c.args.path.now) c.args.object c.args.levels c.args.progress.now.left c.enter.new.progress.left s c.args.self.now.visitor.laid c.requires.begun c.requires.listed reads c.requires.depth c.in_ok-scalar.ensures.deep c.in_ok-scalar.ensures.spent c.in_err-take_payload-in-Scalar.ensures.over.1 in
     search rules
 
 pub content-returns-in_ok-take_payload-in-Scalar-clause-passed : goal.content-returns-in_ok-take_payload-in-Scalar-clause-passed
@@ -60,8 +60,8 @@ content-items-requires t c =
     let reads : what_holds f c.args.object ≡ Ok (holds_list refs) = rw c.in-List.is at c.in_ok-scalar.ensures.held in
     let some = c.in_ok-scalar.ensures.deep in
     let path = containers_of c.args.path.now in
-    let entered = IsEntered-begun f path c.args.object limits c.args.progress.now.left c.enter.new.progress.left c.requires.begun c.in_ok-scalar.ensures.new (omega (arith, c.requires.depth, some)) c.in_ok-scalar.ensures.spent in
-    let next = AreNext-items f path c.args.object refs limits c.enter.new.progress.left entered record { listed = c.requires.listed; reads = reads } in
+    let entered = IsEntered-begun f path c.args.object c.args.progress.now.left c.enter.new.progress.left c.requires.begun c.in_ok-scalar.ensures.new (omega (arith, c.requires.depth, some)) c.in_ok-scalar.ensures.spent in
+    let next = AreNext-items f path c.args.object refs c.enter.new.progress.left entered record { listed = c.requires.listed; reads = reads } in
     let so_far = c.in_ok-scalar.ensures.progress in
     let open_now = AreStates-open f path c.enter.new.progress.states.items c.mark.new.states.items c.args.object c.in_ok-mark-in-List.ensures so_far.states in
     (search rules, (next, (omega arith, record { states = open_now; last = so_far.last; ready = so_far.ready; within = so_far.within })))
@@ -71,7 +71,7 @@ content-returns-in_err-deep-in-List-clause-refused t c =
     let f = octets_of c.args.self.now.visitor.file in
     let refs = numbers_of c.in-List.items in
     let reads : what_holds f c.args.object ≡ Ok (holds_list refs) = rw c.in-List.is at c.in_ok-scalar.ensures.held in
-    let refused : Refuses f limits c.args.object c.args.levels c.args.progress.now.left c.in_err-deep-in-List.field-0.0 = Refuses-list f limits refs c.args.object c.args.levels (c.args.levels - 1) c.args.progress.now.left c.enter.new.progress.left c.in_err-deep-in-List.field-0.0 (one_less c.args.levels c.in_ok-scalar.ensures.deep) c.requires.listed reads c.in_ok-scalar.ensures.spent c.in_err-deep-in-List.ensures.refused in
+    let refused : Refuses f c.args.object c.args.levels c.args.progress.now.left c.in_err-deep-in-List.field-0.0 = Refuses-list f refs c.args.object c.args.levels (c.args.levels - 1) c.args.progress.now.left c.enter.new.progress.left c.in_err-deep-in-List.field-0.0 (one_less c.args.levels c.in_ok-scalar.ensures.deep) c.requires.listed reads c.in_ok-scalar.ensures.spent c.in_err-deep-in-List.ensures.refused in
     search rules
 
 pub content-returns-in_ok-deep-in-List-clause-passed : goal.content-returns-in_ok-deep-in-List-clause-passed
@@ -99,7 +99,7 @@ content-returns-in_err-keys_apart-in-Table-clause-refused t c =
     let reads : what_holds f c.args.object ≡ Ok (holds_table keys values) = rw c.in-Table.is at c.in_ok-scalar.ensures.held in
     let fault = c.in_err-keys_apart-in-Table.field-0.0 in
     let pairs = c.in_err-keys_apart-in-Table.ensures.refused.each values record { listed = c.requires.listed; reads = reads } in
-    let refused : Refuses f limits c.args.object c.args.levels c.args.progress.now.left fault = Refuses-table f limits keys values c.args.object c.args.levels (c.args.levels - 1) c.args.progress.now.left c.enter.new.progress.left fault (one_less c.args.levels c.in_ok-scalar.ensures.deep) c.requires.listed reads c.in_ok-scalar.ensures.spent pairs in
+    let refused : Refuses f c.args.object c.args.levels c.args.progress.now.left fault = Refuses-table f keys values c.args.object c.args.levels (c.args.levels - 1) c.args.progress.now.left c.enter.new.progress.left fault (one_less c.args.levels c.in_ok-scalar.ensures.deep) c.requires.listed reads c.in_ok-scalar.ensures.spent pairs in
     search rules
 
 pub content-items-requires-in-Table : goal.content-items-requires-in-Table
@@ -110,9 +110,9 @@ content-items-requires-in-Table t c =
     let reads : what_holds f c.args.object ≡ Ok (holds_table keys values) = rw c.in-Table.is at c.in_ok-scalar.ensures.held in
     let some = c.in_ok-scalar.ensures.deep in
     let path = containers_of c.args.path.now in
-    let entered = IsEntered-begun f path c.args.object limits c.args.progress.now.left c.enter.new.progress.left c.requires.begun c.in_ok-scalar.ensures.new (omega (arith, c.requires.depth, some)) c.in_ok-scalar.ensures.spent in
+    let entered = IsEntered-begun f path c.args.object c.args.progress.now.left c.enter.new.progress.left c.requires.begun c.in_ok-scalar.ensures.new (omega (arith, c.requires.depth, some)) c.in_ok-scalar.ensures.spent in
     let read = c.in_ok-keys_apart-in-Table.ensures.read in
-    let next = AreNext-values f path c.args.object keys values (c.args.levels - 1) limits c.enter.new.progress.left c.keys_apart.new.progress.left (texts read.keys) entered record { listed = c.requires.listed; reads = reads } (omega (arith, c.requires.depth, some)) read.reads in
+    let next = AreNext-values f path c.args.object keys values (c.args.levels - 1) c.enter.new.progress.left c.keys_apart.new.progress.left (texts read.keys) entered record { listed = c.requires.listed; reads = reads } (omega (arith, c.requires.depth, some)) read.reads in
     (search rules, (next, (omega arith, c.in_ok-keys_apart-in-Table.ensures.progress)))
 
 pub content-returns-in_err-deep-in-Table-clause-refused : goal.content-returns-in_err-deep-in-Table-clause-refused
@@ -124,8 +124,8 @@ content-returns-in_err-deep-in-Table-clause-refused t c =
     let fault = c.in_err-deep-in-Table.field-0.0 in
     let long = length-values f c.args.object keys values record { listed = c.requires.listed; reads = reads } in
     let read = c.in_ok-keys_apart-in-Table.ensures.read in
-    let pairs = RefusesPairs-values f limits keys values (c.args.levels - 1) c.enter.new.progress.left c.keys_apart.new.progress.left read.keys fault long read.reads c.in_err-deep-in-Table.ensures.refused in
-    let refused : Refuses f limits c.args.object c.args.levels c.args.progress.now.left fault = Refuses-table f limits keys values c.args.object c.args.levels (c.args.levels - 1) c.args.progress.now.left c.enter.new.progress.left fault (one_less c.args.levels c.in_ok-scalar.ensures.deep) c.requires.listed reads c.in_ok-scalar.ensures.spent pairs in
+    let pairs = RefusesPairs-values f keys values (c.args.levels - 1) c.enter.new.progress.left c.keys_apart.new.progress.left read.keys fault long read.reads c.in_err-deep-in-Table.ensures.refused in
+    let refused : Refuses f c.args.object c.args.levels c.args.progress.now.left fault = Refuses-table f keys values c.args.object c.args.levels (c.args.levels - 1) c.args.progress.now.left c.enter.new.progress.left fault (one_less c.args.levels c.in_ok-scalar.ensures.deep) c.requires.listed reads c.in_ok-scalar.ensures.spent pairs in
     search rules
 
 pub content-returns-in_ok-deep-in-Table-clause-passed : goal.content-returns-in_ok-deep-in-Table-clause-passed
@@ -144,21 +144,21 @@ items-returns-in_err-object-clause-refused t c =
     let f = octets_of c.args.self.now.visitor.file in
     let refs = numbers_of c.args.refs in
     let before = containers_of c.args.before.now in
-    let refused : RefusesItems f limits refs c.args.levels c.args.progress.now.left (BadReference c.args.container) = RefusesItems-none f limits before refs c.args.container c.loop-i.i c.get.result c.args.levels c.args.progress.now.left c.args.self.now.visitor.laid (AreNext-leads f before c.args.container refs limits c.args.progress.now.left c.requires.next) (Refers-next f before c.args.container c.get.result refs limits c.args.progress.now.left c.requires.next (Contains-at refs c.loop-i.i c.get.result (omega arith) c.get.ensures)) (omega arith) c.get.ensures c.in_err-object.ensures.above.1 in
+    let refused : RefusesItems f refs c.args.levels c.args.progress.now.left (BadReference c.args.container) = RefusesItems-none f before refs c.args.container c.loop-i.i c.get.result c.args.levels c.args.progress.now.left c.args.self.now.visitor.laid (AreNext-leads f before c.args.container refs c.args.progress.now.left c.requires.next) (Refers-next f before c.args.container c.get.result refs c.args.progress.now.left c.requires.next (Contains-at refs c.loop-i.i c.get.result (omega arith) c.get.ensures)) (omega arith) c.get.ensures c.in_err-object.ensures.above.1 in
     search rules
 
 pub items-pass-requires : goal.items-pass-requires
 items-pass-requires t c =
     let f = octets_of c.args.self.now.visitor.file in
     let refs = numbers_of c.args.refs in
-    let begun = IsBegun-next f (containers_of c.args.before.now) c.args.container refs c.loop-i.i c.in_ok-object.object c.args.levels limits c.args.progress.now.left c.loop-i.progress.left (items_of c.loop-i.invariant.passed.values) c.requires.next c.requires.depth (omega arith) (c.in_ok-object.ensures.same ∙ c.get.ensures) c.loop-i.invariant.passed.reads in
+    let begun = IsBegun-next f (containers_of c.args.before.now) c.args.container refs c.loop-i.i c.in_ok-object.object c.args.levels c.args.progress.now.left c.loop-i.progress.left (items_of c.loop-i.invariant.passed.values) c.requires.next c.requires.depth (omega arith) (c.in_ok-object.ensures.same ∙ c.get.ensures) c.loop-i.invariant.passed.reads in
     (search rules, (c.in_ok-object.ensures.below, (begun, (omega arith, c.loop-i.invariant.progress))))
 
 pub items-returns-in_err-deep-clause-refused : goal.items-returns-in_err-deep-clause-refused
 items-returns-in_err-deep-clause-refused t c =
     let f = octets_of c.args.self.now.visitor.file in
     let refs = numbers_of c.args.refs in
-    let refused : RefusesItems f limits refs c.args.levels c.args.progress.now.left c.in_err-deep.field-0.0 = RefusesItems-next f limits refs c.loop-i.i c.in_ok-object.object c.args.levels c.args.progress.now.left c.loop-i.progress.left (items_of c.loop-i.invariant.passed.values) c.in_err-deep.field-0.0 (omega arith) (c.in_ok-object.ensures.same ∙ c.get.ensures) c.in_ok-object.ensures.below c.loop-i.invariant.passed.reads c.in_err-deep.ensures.refused in
+    let refused : RefusesItems f refs c.args.levels c.args.progress.now.left c.in_err-deep.field-0.0 = RefusesItems-next f refs c.loop-i.i c.in_ok-object.object c.args.levels c.args.progress.now.left c.loop-i.progress.left (items_of c.loop-i.invariant.passed.values) c.in_err-deep.field-0.0 (omega arith) (c.in_ok-object.ensures.same ∙ c.get.ensures) c.in_ok-object.ensures.below c.loop-i.invariant.passed.reads c.in_err-deep.ensures.refused in
     search rules
 
 pub items-loop-i-preserved : goal.items-loop-i-preserved

@@ -3,7 +3,6 @@ use Rattle.std.specs.List.{IsDistinct}
 use Rattle.plist_object.specs.Views.{numbers_of, octets_of}
 use Rattle.plist_object.specs.Order.{strings_at}
 use Rattle.plist_object.proofs.Ascents.{same_key}
-use Rattle.plist_binary.specs.Passing.{limits}
 use Rattle.plist_binary.specs.Paths.{containers_of}
 use Rattle.plist_binary.specs.Recalls.{RefusesTable}
 use Rattle.plist_binary.proofs.Beginning.{IsEntered-leads}
@@ -20,8 +19,8 @@ pub returns-in_err-keys-clause-refused : goal.returns-in_err-keys-clause-refused
 returns-in_err-keys-clause-refused c =
     let f = octets_of c.args.self.now.visitor.file in
     let refs = numbers_of c.args.refs in
-    let refused : RefusesTable f limits c.args.table refs c.args.levels c.args.progress.now.left c.in_err-keys.field-0.0 = record {
-      each = λ values holds. RefusesPairs-keys f limits refs values c.args.levels c.args.progress.now.left c.in_err-keys.field-0.0 (length-values f c.args.table refs values holds) c.in_err-keys.ensures.refused;
+    let refused : RefusesTable f c.args.table refs c.args.levels c.args.progress.now.left c.in_err-keys.field-0.0 = record {
+      each = λ values holds. RefusesPairs-keys f refs values c.args.levels c.args.progress.now.left c.in_err-keys.field-0.0 (length-values f c.args.table refs values holds) c.in_err-keys.ensures.refused;
     } in
     search rules
 
@@ -36,7 +35,7 @@ returns-then-not-branch-clause-refused c =
     let said = c.if-not-branch.true in
     cc in
     record {
-      each = λ values holds. RefusesPairs-twice f limits (containers_of c.args.before.now) refs values c.args.table c.args.levels before c.keys.new.progress.left read.0 c.args.self.now.visitor.laid (IsEntered-leads f (containers_of c.args.before.now) c.args.table limits before c.requires.entered) holds (length-values f c.args.table refs values holds) read.1 not_distinct;
+      each = λ values holds. RefusesPairs-twice f (containers_of c.args.before.now) refs values c.args.table c.args.levels before c.keys.new.progress.left read.0 c.args.self.now.visitor.laid (IsEntered-leads f (containers_of c.args.before.now) c.args.table before c.requires.entered) holds (length-values f c.args.table refs values holds) read.1 not_distinct;
     }
 
 pub returns-clause-read : goal.returns-clause-read
