@@ -18,3 +18,4 @@ pub mod Ranked
 pub mod KeyOrders
 pub mod PrefixSteps
 pub mod Ascents
+pub mod KeysInTurn

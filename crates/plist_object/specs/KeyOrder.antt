@@ -12,6 +12,7 @@ use Rattle.plist_object.specs.Objects.{holds_scalar}
 use Rattle.plist_object.specs.Places.{Holds}
 use Rattle.plist_object.specs.Views.{numbers_of}
 use Rattle.plist_object.specs.Order.{Ascend, IsInOrder}
+use Rattle.plist_object.specs.Ascending.{AreAscending}
 use Rattle.plist_object.specs.Ranks.{AreRanks, texts_of}
 use Rattle.plist_object.specs.declared.ranks.Ranks.{Ranks}
 use Rattle.plist_object.specs.declared.order.Row.{Row}
@@ -55,4 +56,5 @@ pub record IsLast (f keys places : List ℕ) (distinct : Bool) : Type 0 where
 -- what is kept of the last dictionary is correct, and the ranks are those of this file
 pub record IsReady (f : List ℕ) (order : KeyOrder) : Type 0 where
   pub last : IfSome order.last (λ keys. IsLast f (numbers_of keys) order.places.items order.distinct)
+  pub ascending : IfSome order.ascending (λ keys. AreAscending f (numbers_of keys))
   pub ranks : AreRanks f order.ranks

@@ -20,5 +20,6 @@ pub mod Shortest
 pub mod Heads
 pub mod Ranks
 pub mod Order
+pub mod Ascending
 pub mod KeyOrder
 pub mod Prefixes

@@ -3,6 +3,7 @@
 #![tactic(auto)]
 
 mod digits;
+mod in_order;
 pub mod keys;
 pub mod laws;
 pub mod layout;

@@ -45,9 +45,11 @@ pub struct KeyOrder<'a> {
     places: Vec<u64>,
     // Whether no two of these keys are equal.
     distinct: bool,
+    // The keys that were last found to ascend in the order of the file.
+    pub(crate) ascending: Option<Refs<'a>>,
     // The number of UTF-16 units that may still be compared; `None` once the keys are ranked.
-    left: Option<u64>,
-    ranks: Ranks<'a>,
+    pub(crate) left: Option<u64>,
+    pub(crate) ranks: Ranks<'a>,
 }
 
 impl<'a> KeyOrder<'a> {
@@ -59,6 +61,7 @@ impl<'a> KeyOrder<'a> {
             last: None,
             places: Vec::new(alloc),
             distinct: true,
+            ascending: None,
             left: Some(file.table()),
             ranks: Ranks::none(alloc),
         }
@@ -116,7 +119,7 @@ impl<'a> KeyOrder<'a> {
         requires ready { IsReady (octets_of file.now) self.old }
         ensures rows { IfOk result (λ rows. AreRows (octets_of file.now) (numbers_of keys.now)
             rows.items) }
-        ensures ranks { OnOk result (AreRanks (octets_of file.now) self.new.ranks) }
+        ensures ready { OnOk result (IsReady (octets_of file.now) self.new) }
     {
         if let Some(left) = self.left {
             let rows = text_rows(alloc, file, keys)?;

@@ -35,5 +35,6 @@ returns-2-clause-distinct c =
 pub returns-2-clause-ready : goal.returns-2-clause-ready
 returns-2-clause-ready c = record {
   last = record { order = returns-2-clause-order c; tells = returns-2-clause-distinct c };
-  ranks = c.in_ok-rows.ensures.ranks;
+  ascending = c.in_ok-rows.ensures.ready.ascending;
+  ranks = c.in_ok-rows.ensures.ready.ranks;
 }
