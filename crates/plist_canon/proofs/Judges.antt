@@ -20,17 +20,15 @@ use Rattle.plist_object.specs.Places.{Holds, object_at, place_of, what_holds, sp
 use Rattle.plist_object.proofs.Readable.{Holds-reads}
 use Rattle.plist_object.proofs.Uniqueness.{same_held}
 use Rattle.plist_canon.specs.Rules.{HoldTexts, IsWellRead, HasAscendingKeys, Adjoins}
-use Rattle.plist_canon.specs.Checking.{RefersWell, AreInOrder, AscendInTurn, IsEndBefore, Follows}
+use Rattle.plist_object.specs.Ascending.{AscendInTurn}
+use Rattle.plist_object.proofs.KeysInTurn.{same_text}
+use Rattle.plist_canon.specs.Checking.{RefersWell, IsEndBefore, Follows}
 
 pub every_append : {X : Type 0} (P : X → Type 0) (xs ys : List X) → AllByRecursion P xs → AllByRecursion P ys → AllByRecursion P (xs ++ ys)
 every_append P [] ys each others = others
 every_append P (x ∷ xs) ys each others = (each.0, every_append P xs ys each.1 others)
 
 -- What is validated of one object.
-
--- a test that returns false refutes what it tests
-pub refuted : (P : Type 0) (b : Bool) → IsTrue b ↔ P → b ≡ false → ¬ P
-refuted P b test refused holds = true≢false (sym (test.1 holds) ∙ refused)
 
 pub all_from_each : (P : ℕ → Type 0) (xs : List ℕ) → EachIndex xs (λ k. P (slice_index xs k)) → AllByRecursion P xs
 all_from_each P [] each = tt
@@ -75,11 +73,6 @@ texts_of f [] all = ([], refl)
 texts_of f (i ∷ keys) all =
     let rest = texts_of f keys all.1 in
     (all.0.0 ∷ rest.0, (all.0.1, rest.1))
-
--- an object contains only one string
-pub same_text : (f : List ℕ) (i : ℕ) (units others : List ℕ) → Holds f i (holds_scalar (text units)) → Holds f i (holds_scalar (text others)) → units ≡ others
-same_text f i units others a b =
-    let e = same_held f i (holds_scalar (text units)) (holds_scalar (text others)) a b in cc
 
 -- strings that ascend pairwise are below all later ones
 above_all : (units : List ℕ) (next : List ℕ) (texts : List (List ℕ)) → slice_cmp nat_cmp units next ≡ Less → AllByRecursion (λ later. slice_cmp nat_cmp next later ≡ Less) texts → AllByRecursion (λ later. slice_cmp nat_cmp units later ≡ Less) texts
@@ -179,14 +172,6 @@ pub unspanned : (f : List ℕ) (i : ℕ) (fault : ObjectFault) → span_of f i �
 unspanned f i fault fails read =
     true≢false (sym (subst (λ (span : Result (ℕ × ℕ) ObjectFault). IsOk span) fails (Holds-span f i read.held read.holds)))
 
--- a property of all numbers below k, and of k
-pub below_or_last : (P : ℕ → Type 0) (k : ℕ) → ((j : ℕ) → j < k → P j) → P k → (j : ℕ) → j < k + 1 → P j
-below_or_last P k before last j below =
-    elim (cases_lt j k) [
-      | inl earlier ↦ before j earlier
-      | inr late ↦ (let is : k ≡ j = omega arith in subst P is last)
-    ]
-
 pub RefersWell-list : (f refs : List ℕ) → EachIndex refs (λ k. slice_index refs k < (trailer_of f).count) ↔ RefersWell f (holds_list refs)
 RefersWell-list f refs = (
   λ each. record { numbers = all_from_each (λ i. i < (trailer_of f).count) refs each; texts = tt },
@@ -210,16 +195,6 @@ values_below f keys values refers =
 pub keys_named : (f keys values : List ℕ) → RefersWell f (holds_table keys values) → EachIndex keys (λ k. HoldsText f (slice_index keys k))
 keys_named f keys values refers = each_from_all (HoldsText f) keys refers.texts
 
-pub turns_more : (f keys : List ℕ) (k : ℕ) → 1 ≤ k → ((j : ℕ) → suc j < k → AreInOrder f (slice_index keys j) (slice_index keys (suc j))) → AreInOrder f (slice_index keys (k - 1)) (slice_index keys k) → (j : ℕ) → suc j < k + 1 → AreInOrder f (slice_index keys j) (slice_index keys (suc j))
-turns_more f keys k some before last j below =
-    elim (cases_lt (suc j) k) [
-      | inl earlier ↦ before j earlier
-      | inr late ↦ (
-          let is : k ≡ suc j = omega arith in
-          let one_less : k - 1 ≡ j = omega arith in
-          subst (λ (n : ℕ). AreInOrder f (slice_index keys j) (slice_index keys n)) is (subst (λ (n : ℕ). AreInOrder f (slice_index keys n) (slice_index keys k)) one_less last))
-    ]
-
 pub no_scalar : (object : Object) → ((x : ScalarRef) → object ≢ shown.Scalar x) → (s : Scalar) → held_of object ≢ holds_scalar s
 no_scalar (shown.Scalar x) other s e = other x refl
 no_scalar (shown.List items) other s e = absurd cc
@@ -238,17 +213,6 @@ all-adjoin f n end all before is follows i below =
     let here : n ≡ suc i = omega arith in
     let ends : IsEndBefore f (suc i) end = subst (λ (k : ℕ). IsEndBefore f k end) here before in
     (same_span f i start last ends.0 end span ends.1).1 ∙ is)
-
--- two or more keys that ascend are strings
-pub ascending_name : (f keys : List ℕ) → 1 < length keys → AscendInTurn f keys → EachIndex keys (λ k. HoldsText f (slice_index keys k))
-ascending_name f keys several ascend k below =
-    elim (cases_lt (suc k) (length keys)) [
-      | inl before ↦ (let turn = ascend k before in (turn.first, turn.holds_first))
-      | inr last ↦ (
-          let far : suc (k - 1) ≡ k = omega arith in
-          let turn = ascend (k - 1) (omega arith) in
-          subst (λ (n : ℕ). HoldsText f (slice_index keys n)) far (turn.second, turn.holds_second))
-    ]
 
 -- the keys of a dictionary ascend pairwise if and only if rule 5 holds of it
 pub ascend-both : (f : List ℕ) (i : ℕ) (keys values : List ℕ) (b : Bool) → Holds f i (holds_table keys values) → EachIndex keys (λ k. HoldsText f (slice_index keys k)) → IsTrue b ↔ AscendInTurn f keys → IsTrue b ↔ HasAscendingKeys f i

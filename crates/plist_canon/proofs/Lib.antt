@@ -10,7 +10,6 @@ pub mod FileRules
 pub mod Followed
 mod Rows
 pub mod Visiting
-pub mod Turning
 pub mod Meeting
 pub mod TableParts
 pub mod Spending

@@ -4,7 +4,7 @@ use Rattle.std.specs.Prelude.{Option}
 use Rattle.plist_value.specs.Plist.{AreOctets, Scalar, Plist, scalar, list, table, Items, no_items, item, Pairs, IsPlist, AreItems, ArePairs}
 use Rattle.plist_value.specs.Limits.{Fits, nodes, depth, payload, payload_of_scalar, nodes_of_items, depth_of_items, payload_of_items, nodes_of_pairs, depth_of_pairs, payload_of_pairs}
 use Rattle.plist_value.specs.declared.TheConstants.{MAX_NODES, MAX_DEPTH, MAX_PAYLOAD}
-use Rattle.plist_canon.specs.declared.weights.TheConstants.{MOST_TOLD}
+use Rattle.plist_canon.specs.declared.weights.TheConstants.{MOST_KEPT}
 use Rattle.plist_object.specs.Objects.{IsHeld, Held, holds_scalar, holds_list, holds_table}
 use Rattle.plist_object.specs.Places.{Holds, HoldsScalar}
 use Rattle.plist_object.specs.Spelled.{Spells, SpellItems}
@@ -100,7 +100,7 @@ record ScalarCosts (weight : Weight) (v : Plist) : Type 0 where
 
 scalar_costs : (f : List ℕ) (i : ℕ) (weight : Weight) (s : Scalar) → Weighs f i weight → Holds f i (holds_scalar s) → payload_of_weight weight ≤ MAX_PAYLOAD → (v : Plist) → Spells f i v → ScalarCosts weight v
 scalar_costs f i weight s weighs holds most v spells =
-    let told : payload_of_weight weight ≡ suc (min (payload_of_scalar s) MOST_TOLD) - 1 = ap payload_of_weight (Weighs-held f i weight (holds_scalar s) weighs holds) in
+    let told : payload_of_weight weight ≡ suc (min (payload_of_scalar s) MOST_KEPT) - 1 = ap payload_of_weight (Weighs-held f i weight (holds_scalar s) weighs holds) in
     let same : payload_of_scalar s ≡ payload_of_weight weight = omega arith in
     by_scalar f i s (ScalarCosts weight) holds (record { nodes_are = refl; payload_is = same; depth_is = refl }) v spells
 

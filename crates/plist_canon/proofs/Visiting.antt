@@ -6,7 +6,7 @@ use Rattle.plist_value.specs.Limits.{payload_of_scalar}
 use Rattle.plist_object.specs.Objects.{Held, holds_scalar, holds_list, holds_table}
 use Rattle.plist_object.specs.Places.{Holds, HoldsScalar}
 use Rattle.plist_object.proofs.Uniqueness.{same_held}
-use Rattle.plist_canon.specs.declared.weights.TheConstants.{MOST_TOLD}
+use Rattle.plist_canon.specs.declared.weights.TheConstants.{MOST_KEPT}
 use Rattle.plist_canon.specs.declared.weights.Weight.{Weight}
 use Rattle.plist_canon.specs.Weights.{container, weight_of, is_scalar_weight, Weighs, AreWeights}
 use Rattle.std.specs.Prelude.{◌↔◌, ◌⊎◌}
@@ -30,7 +30,7 @@ Weighs-scalar f i weight weighs is = scalar-holds f i weighs.held weighs.holds (
 pub scalar-Weighs : (f : List ℕ) (i : ℕ) (weight : Weight) → Weighs f i weight → HoldsScalar f i → is_scalar_weight weight ≡ true
 scalar-Weighs f i weight weighs scalar =
     let is = Weighs-held f i weight (holds_scalar scalar.0) weighs scalar.1 in
-    ap is_scalar_weight is ∙ lt-ltb 0 (suc (min (payload_of_scalar scalar.0) MOST_TOLD)) (omega arith)
+    ap is_scalar_weight is ∙ lt-ltb 0 (suc (min (payload_of_scalar scalar.0) MOST_KEPT)) (omega arith)
 
 weights-more : (f : List ℕ) (weights : List Weight) (number : ℕ) (weight : Weight) → AreWeights f weights → length weights ≡ number → Weighs f number weight → AreWeights f (weights ++ (weight ∷ []))
 weights-more f weights number weight weighed counted weighs i below =

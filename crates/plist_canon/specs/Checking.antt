@@ -1,14 +1,10 @@
 -- The result of a check, and of its parts.
-use Rattle.std.specs.Prelude.{◌≡◌, ℕ, zero, suc, ◌<◌, nat_lt, if◌then◌else◌, length, slice_index, EachIndex, List, Ok, ⊤}
+use Rattle.std.specs.Prelude.{◌≡◌, ℕ, zero, suc, ◌<◌, nat_lt, if◌then◌else◌, List, Ok, ⊤}
 use Rattle.std.specs.List.{AllByRecursion}
-use Rattle.std.specs.declared.cmp.Ordering.TheVariants.{Less}
-use Rattle.std.specs.Ordering.{nat_cmp}
-use Rattle.std.specs.Cmp.Lexicographic.{slice_cmp}
-use Rattle.plist_value.specs.Plist.{text}
 use Rattle.plist_object.specs.Layout.{trailer_of, IsLayoutFault}
-use Rattle.plist_object.specs.Objects.{Held, holds_scalar}
+use Rattle.plist_object.specs.Objects.{Held}
 use Rattle.plist_object.specs.declared.layout.LayoutFault.TheVariants as layout
-use Rattle.plist_object.specs.Places.{Holds, span_of, HoldsText}
+use Rattle.plist_object.specs.Places.{span_of, HoldsText}
 use Rattle.plist_object.specs.References.{references_of}
 use Rattle.plist_canon.specs.Rules.{keys_of, IsWellRead, IsSpelledCanonically, HasAscendingKeys, FollowsRules, IsBroken}
 use Rattle.plist_canon.specs.declared.checking.CheckFault.{CheckFault}
@@ -17,6 +13,8 @@ use Rattle.plist_canon.specs.declared.checking.Verdict.{Verdict}
 use Rattle.plist_canon.specs.declared.checking.Verdict.TheVariants as verdict
 use Rattle.plist_canon.specs.declared.judging.Flaw.{Flaw}
 use Rattle.plist_canon.specs.declared.judging.Flaw.TheVariants as flaw
+use Rattle.plist_canon.specs.declared.rule.Rule.{Rule}
+use Rattle.plist_canon.specs.declared.rule.Rule.TheVariants as rules
 
 -- every error but out of memory is one of the layout
 abbrev pub IsCheckFault : List ℕ → CheckFault → Type 0
@@ -30,9 +28,19 @@ abbrev pub IsVerdict : List ℕ → Verdict → Type 0
 IsVerdict f verdict.Canonical = FollowsRules f
 IsVerdict f (verdict.Broken rule object) = IsBroken f rule object
 
+abbrev pub number_of : Rule → ℕ
+number_of rules.Readable = 0
+number_of rules.PlainTrailer = 1
+number_of rules.LeastWidths = 2
+number_of rules.Adjoining = 3
+number_of rules.CanonicalEncoding = 4
+number_of rules.AscendingKeys = 5
+number_of rules.DistinctScalars = 6
+number_of rules.Preorder = 7
+
 -- a rule is broken, or memory ran out
 abbrev pub IsFlaw : List ℕ → Flaw → Type 0
-IsFlaw f (flaw.Broken rule object) = IsBroken f rule object
+IsFlaw f (flaw.Broken rule object) = IsBroken f (number_of rule) object
 IsFlaw f flaw.NoMemory = ⊤
 
 -- The flaw to report of two: out of memory if either is, else the one at the earlier object, and
@@ -55,23 +63,6 @@ AllAscend f = (i : ℕ) → i < (trailer_of f).count → HasAscendingKeys f i
 pub record RefersWell (f : List ℕ) (held : Held) : Type 0 where
   pub numbers : AllByRecursion (λ reference. reference < (trailer_of f).count) (references_of held)
   pub texts : AllByRecursion (HoldsText f) (keys_of held)
-
--- each reference is the number of an object that is a string
-pub record NameTexts (f keys : List ℕ) : Type 0 where
-  pub numbers : EachIndex keys (λ k. slice_index keys k < (trailer_of f).count)
-  pub texts : EachIndex keys (λ k. HoldsText f (slice_index keys k))
-
--- both objects are strings, the first below the second
-pub record AreInOrder (f : List ℕ) (i j : ℕ) : Type 0 where
-  pub first : List ℕ
-  pub second : List ℕ
-  pub holds_first : Holds f i (holds_scalar (text first))
-  pub holds_second : Holds f j (holds_scalar (text second))
-  pub below : slice_cmp nat_cmp first second ≡ Less
-
--- each reference points to a string that is below the next
-abbrev pub AscendInTurn : List ℕ → List ℕ → Type 0
-AscendInTurn f keys = (k : ℕ) → suc k < length keys → AreInOrder f (slice_index keys k) (slice_index keys (suc k))
 
 -- the end of the object before i, or of the header
 abbrev pub IsEndBefore : List ℕ → ℕ → ℕ → Type 0

@@ -9,10 +9,9 @@ pub use Rattle.plist_engine.specs.Laws
 pub mod Rules
 pub mod Locality
 pub mod Checking
-pub mod KnownKeys
 pub mod Codes
 pub mod Weights
-pub mod Turns
+pub mod Visited
 pub mod Met
 pub mod Preorders
 pub mod Owing

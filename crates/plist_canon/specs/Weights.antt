@@ -4,14 +4,14 @@ use Rattle.plist_value.specs.Limits.{payload_of_scalar}
 use Rattle.plist_object.specs.Objects.{Held, holds_scalar, holds_list, holds_table}
 use Rattle.plist_object.specs.Places.{Holds}
 use Rattle.plist_canon.specs.declared.weights.Weight.{Weight}
-use Rattle.plist_canon.specs.declared.weights.TheConstants.{MOST_TOLD}
+use Rattle.plist_canon.specs.declared.weights.TheConstants.{MOST_KEPT}
 
 abbrev pub container : Weight
-container = record { told = 0 }
+container = record { payload_and_one = 0 }
 
 -- the weight of a scalar: 1 plus its payload, which is capped above the limit
 abbrev pub of_payload : ℕ → Weight
-of_payload n = record { told = suc (min n MOST_TOLD) }
+of_payload n = record { payload_and_one = suc (min n MOST_KEPT) }
 
 abbrev pub weight_of : Held → Weight
 weight_of (holds_scalar s) = of_payload (payload_of_scalar s)
@@ -19,11 +19,11 @@ weight_of (holds_list refs) = container
 weight_of (holds_table keys values) = container
 
 abbrev pub is_scalar_weight : Weight → Bool
-is_scalar_weight weight = nat_lt 0 weight.told
+is_scalar_weight weight = nat_lt 0 weight.payload_and_one
 
 -- the payload of the object, which is 0 for a container
 abbrev pub payload_of_weight : Weight → ℕ
-payload_of_weight weight = weight.told - 1
+payload_of_weight weight = weight.payload_and_one - 1
 
 -- the object can be decoded, and has this weight
 pub record Weighs (f : List ℕ) (i : ℕ) (weight : Weight) : Type 0 where

@@ -150,7 +150,10 @@ pub fn check_with_hasher<S: BuildHasher + Copy>(
     let file = BinFile::of(octets)?;
     match judge(alloc, hasher, octets, &file) {
         Ok(()) => Ok(Verdict::Canonical),
-        Err(Flaw::Broken { rule, object }) => Ok(Verdict::Broken { rule, object }),
+        Err(Flaw::Broken { rule, object }) => Ok(Verdict::Broken {
+            rule: rule.number(),
+            object,
+        }),
         Err(Flaw::NoMemory) => Err(CheckFault::OutOfMemory),
     }
 }

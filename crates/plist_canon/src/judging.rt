@@ -1,39 +1,39 @@
 //! The rules about the trailer and about each object.
 ghost use Rattle.std.specs.Prelude.{◌≡◌, ◌↔◌, ◌<◌, ◌≤◌, ℕ, IsTrue, Ok, length};
 ghost use Rattle.std.specs.Prelude.{IfOk, IfErr, OnOk, take};
+ghost use Rattle.plist_object.specs.KeyOrder.{IsReady};
 ghost use Rattle.plist_object.specs.Layout.{trailer_of};
 ghost use Rattle.plist_object.specs.Objects.{IsHeld};
 ghost use Rattle.plist_object.specs.Places.{Holds, span_of};
 ghost use Rattle.plist_object.specs.Views.{held_of, octets_of};
 ghost use Rattle.plist_canon.specs.Rules.{HasPlainTrailer, HasLeastWidths, Adjoins};
-ghost use Rattle.plist_canon.specs.Rules.{IsSpelledCanonically, HasAscendingKeys, IsNoRepeat};
-ghost use Rattle.plist_canon.specs.Checking.{IsFlaw, earlier, RefersWell, IsEndBefore};
+ghost use Rattle.plist_canon.specs.Rules.{IsSpelledCanonically, IsNoRepeat};
+ghost use Rattle.plist_canon.specs.Checking.{IsFlaw, earlier, IsEndBefore};
 ghost use Rattle.plist_canon.specs.Checking.{Follows, IsJudged};
-ghost use Rattle.plist_canon.specs.KnownKeys.{AreKnown};
 ghost use Rattle.plist_engine.specs.Sieve.{AreNoted};
 ghost use Rattle.plist_canon.specs.Steps.{Walked};
 
-use crate::known_keys::KnownKeys;
 use crate::preorder::Walk;
-use crate::references::object_keys_ascend;
+use crate::references::judge_references;
 use crate::repeats::judge_repeats;
-use crate::turns::{Turns, take_keys};
+use crate::rule::Rule;
+use crate::visited::Visited;
 use plist_engine::Notes;
-use plist_object::{BinFile, Object, Spanned, begins_canonically, width_of};
+use plist_object::{BinFile, KeyOrder, Spanned, begins_canonically, width_of};
 use std::alloc::{AllocError, AllocFailed, Global};
 use std::hash::BuildHasher;
 
 /// A broken rule and the object that breaks it, or out of memory.
 #[derive(Clone, Copy)]
 pub(crate) enum Flaw {
-    Broken { rule: u8, object: u64 },
+    Broken { rule: Rule, object: u64 },
     NoMemory,
 }
 
 impl Flaw {
     ghost use Rattle.plist_canon.specs.declared.judging.Flaw.TheVariants.{Broken};
 
-    pub(crate) fn at(rule: u8, object: u64) -> Flaw
+    pub(crate) fn at(rule: Rule, object: u64) -> Flaw
         ensures { result ≡ Broken rule object }
     {
         Flaw::Broken { rule, object }
@@ -79,10 +79,10 @@ pub(crate) fn judge_trailer(file: &BinFile) -> Result<(), Flaw>
     ensures err { IfErr result (IsFlaw (octets_of file.now)) }
 {
     if !has_plain_trailer(file) {
-        return Err(Flaw::at(1, 0));
+        return Err(Flaw::at(Rule::PlainTrailer, 0));
     }
     if !has_least_widths(file) {
-        return Err(Flaw::at(2, 0));
+        return Err(Flaw::at(Rule::LeastWidths, 0));
     }
     Ok(())
 }
@@ -121,23 +121,17 @@ pub(crate) fn judge_objects<'a, S: BuildHasher + Copy>(
         (Walked (octets_of file.now) (trailer_of (octets_of file.now)).count) }
     ensures err { IfErr result (IsFlaw (octets_of file.now)) }
 {
-    let mut turns = Turns::new(alloc, &hasher, file)?;
-    let mut known = KnownKeys::new(alloc, file);
-    while turns.done() < file.count() {
-        let (i, place) = (turns.done(), turns.end);
-        let read = file.spanned(i);
-        let Ok(read) = &read else {
-            return Err(first_flaw(alloc, hasher, file, turns.notes, Flaw::at(0, i)));
-        };
-        turns.take(read)?;
-        take_keys(objects, file, &mut turns, &mut known, &read.object)?;
-        if let Err(flaw) = judge_object(alloc, objects, file, i, place, read, &mut known) {
-            return Err(first_flaw(alloc, hasher, file, turns.notes, flaw));
+    let mut visited = Visited::new(alloc, &hasher, file)?;
+    let mut order = KeyOrder::new(alloc, file);
+    for i in 0..file.count() {
+        match judge_object(alloc, objects, file, &mut order, i, visited.end) {
+            Ok(read) => visited.take(&read)?,
+            Err(flaw) => return Err(first_flaw(alloc, hasher, file, visited.notes, flaw)),
         }
     }
-    judge_repeats(alloc, hasher, file, turns.notes)?;
-    judge_table(file, turns.end)?;
-    Ok(turns.walk)
+    judge_repeats(alloc, hasher, file, visited.notes)?;
+    judge_table(file, visited.end)?;
+    Ok(visited.walk)
 }
 
 // Returns `flaw`, or a breach of rule 6 at an earlier object if there is one.
@@ -170,45 +164,48 @@ fn judge_table(file: &BinFile, end: u64) -> Result<(), Flaw>
     ensures err { IfErr result (IsFlaw (octets_of file.now)) }
 {
     if end != file.table() {
-        return Err(Flaw::at(3, file.count() - 1));
+        return Err(Flaw::at(Rule::Adjoining, file.count() - 1));
     }
     Ok(())
 }
 
-// Validates all rules but 6 for object `i`, decoded as `read`; `place` is the end of its
+// Validates all rules but 6 for object `i` and returns its content; `place` is the end of its
 // predecessor.
+#[inline(always)]
 fn judge_object<'a>(
     alloc: Global,
     objects: &[u8],
     file: &BinFile<'a>,
+    order: &mut KeyOrder<'a>,
     i: u64,
     place: u64,
-    read: &Spanned<'a>,
-    known: &mut KnownKeys<'a>,
-) -> Result<(), Flaw>
+) -> Result<Spanned<'a>, Flaw>
     requires objects { objects.now
         ≡ take (trailer_of (octets_of file.now)).table (octets_of file.now) }
+    requires ready { IsReady (octets_of file.now) order.old }
+    requires listed { i < (trailer_of (octets_of file.now)).count }
     requires before { IsEndBefore (octets_of file.now) i place }
-    requires holds { Holds (octets_of file.now) i (held_of read.now.object) }
-    requires span { span_of (octets_of file.now) i ≡ Ok (read.now.start, read.now.end) }
-    requires valid { IsHeld (held_of read.now.object) }
-    requires known { AreKnown (octets_of file.now) known.old }
     ensures judged { OnOk result (IsJudged (octets_of file.now) i) }
-    ensures known { OnOk result (AreKnown (octets_of file.now) known.new) }
+    ensures holds { IfOk result (λ read. Holds (octets_of file.now) i (held_of read.object)) }
+    ensures span { IfOk result
+        (λ read. span_of (octets_of file.now) i ≡ Ok (read.start, read.end)) }
+    ensures ready { OnOk result (IsReady (octets_of file.now) order.new) }
     ensures err { IfErr result (IsFlaw (octets_of file.now)) }
 {
-    let ascend = judge_references(alloc, file, known, i, &read.object)?;
-    judge_standing(objects, file, i, place, read)?;
+    let Ok(read) = file.spanned(i) else {
+        return Err(Flaw::at(Rule::Readable, i));
+    };
+    let ascend = judge_references(alloc, file, order, i, &read.object)?;
+    judge_encoding(objects, file, i, place, &read)?;
     if !ascend {
-        return Err(Flaw::at(5, i));
+        return Err(Flaw::at(Rule::AscendingKeys, i));
     }
-    Ok(())
+    Ok(read)
 }
 
-/// Validates rules 3 and 4 for object `i`, decoded as `read`; `place` is the end of its
-/// predecessor.
+// Validates rules 3 and 4 for object `i`, decoded as `read`; `place` is the end of its predecessor.
 #[inline(always)]
-pub(crate) fn judge_standing(
+fn judge_encoding(
     objects: &[u8],
     file: &BinFile,
     i: u64,
@@ -226,33 +223,10 @@ pub(crate) fn judge_standing(
     ensures err { IfErr result (IsFlaw (octets_of file.now)) }
 {
     if read.start != place {
-        return Err(Flaw::at(3, i));
+        return Err(Flaw::at(Rule::Adjoining, i));
     }
     if !begins_canonically(&objects[place as usize..], &read.object) {
-        return Err(Flaw::at(4, i));
+        return Err(Flaw::at(Rule::CanonicalEncoding, i));
     }
     Ok(())
-}
-
-// Validates rule 0 for the references of object `i` and returns whether rule 5 holds.
-#[inline(always)]
-fn judge_references<'a>(
-    alloc: Global,
-    file: &BinFile<'a>,
-    known: &mut KnownKeys<'a>,
-    i: u64,
-    object: &Object<'a>,
-) -> Result<bool, Flaw>
-    requires known { AreKnown (octets_of file.now) known.old }
-    requires holds { Holds (octets_of file.now) i (held_of object.now) }
-    ensures refers { OnOk result (RefersWell (octets_of file.now) (held_of object.now)) }
-    ensures ascend { IfOk result
-        (λ ascend. IsTrue ascend ↔ HasAscendingKeys (octets_of file.now) i) }
-    ensures known { OnOk result (AreKnown (octets_of file.now) known.new) }
-    ensures err { IfErr result (IsFlaw (octets_of file.now)) }
-{
-    match object_keys_ascend(alloc, file, known, i, object)? {
-        Some(ascend) => Ok(ascend),
-        None => Err(Flaw::at(0, i)),
-    }
 }

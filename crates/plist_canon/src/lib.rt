@@ -4,15 +4,14 @@
 
 pub mod checking;
 mod judging;
-mod known_keys;
 pub mod laws;
-mod naming;
 mod objects;
+mod places;
 mod preorder;
-mod ranking;
 mod references;
 mod repeats;
-mod turns;
+mod rule;
+mod visited;
 mod weights;
 mod writing;
 

@@ -11,6 +11,7 @@ ghost use Rattle.plist_canon.specs.Steps.{Awaits, ComesToNext, FrameGoesOn, Pass
 ghost use Rattle.plist_canon.specs.Steps.{StandsAfter, Walked, WalkedAll, WalksWithinLimits};
 
 use crate::judging::Flaw;
+use crate::rule::Rule;
 use crate::weights::Weight;
 use plist_object::{Object, Refs};
 use plist_value::{Budget, MAX_DEPTH, MAX_NODES};
@@ -38,7 +39,7 @@ struct Visit {
 /// The walk in preorder from object 0, which visits the objects in the order of their numbers.
 #[derive(Drop)]
 pub(crate) struct Walk<'a> {
-    // One for each object visited so far.
+    // One for each object visited.
     weights: Vec<Weight>,
     path: Vec<Frame<'a>>,
     // What is left of the limits, `None` once one is exceeded.
@@ -51,8 +52,7 @@ pub(crate) struct Walk<'a> {
 impl<'a> Walk<'a> {
     /// Creates a walk before object 0, in a file of `count` objects.
     pub(crate) fn new(alloc: Global, count: u64) -> Result<Walk<'a>, AllocError>
-        ensures none { IfOk result (λ walk. length walk.weights.items ≡ 0) }
-        ensures walked { IfOk result (λ walk. (f : List ℕ) → Walked f 0 walk) }
+        ensures { IfOk result (λ walk. (f : List ℕ) → Walked f 0 walk) }
     {
         Ok(Walk {
             weights: Vec::with_capacity(alloc, count.min(MAX_NODES) as usize)?,
@@ -62,34 +62,23 @@ impl<'a> Walk<'a> {
         })
     }
 
-    /// Returns how many objects were visited.
-    pub(crate) fn done(&self) -> u64
-        ensures { result ≡ length self.now.weights.items }
-    {
-        self.weights.len() as u64
-    }
-
     /// Visits the next object, which contains `object`.
     #[inline(always)]
     pub(crate) fn meet(&mut self, object: &Object<'a>) -> Result<(), AllocError>
-        ensures one { OnOk result
-            (length self.new.weights.items ≡ length self.old.weights.items + 1) }
-        ensures walked { OnOk result ((f : List ℕ) (i : ℕ) → Holds f i (held_of object.now)
+        ensures { OnOk result ((f : List ℕ) (i : ℕ) → Holds f i (held_of object.now)
             → Walked f i self.old → Walked f (suc i) self.new) }
     {
-        let weight = Weight::of(object);
         if self.broken_at.is_some() {
-            self.weights.push(weight)?;
             return Ok(());
         }
         let levels = match next_levels(&mut self.path, &mut self.left, &self.weights) {
             Ok(levels) => levels,
             Err(owner) => {
                 self.broken_at = Some(owner);
-                self.weights.push(weight)?;
                 return Ok(());
             }
         };
+        let weight = Weight::of(object);
         let number = self.weights.len() as u64;
         self.left = spend(self.left, weight, levels);
         self.weights.push(weight)?;
@@ -111,14 +100,14 @@ impl<'a> Walk<'a> {
             broken_at,
         } = self;
         if let Some(owner) = broken_at {
-            return Err(Flaw::at(7, owner));
+            return Err(Flaw::at(Rule::Preorder, owner));
         }
         if let Some(visit) = next_visit(&mut path, &mut left, &weights) {
-            return Err(Flaw::at(7, visit.owner));
+            return Err(Flaw::at(Rule::Preorder, visit.owner));
         }
         match left {
             Some(_) => Ok(()),
-            None => Err(Flaw::at(0, 0)),
+            None => Err(Flaw::at(Rule::Readable, 0)),
         }
     }
 }

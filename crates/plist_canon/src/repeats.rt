@@ -9,6 +9,7 @@ ghost use Rattle.plist_canon.specs.Met.{HasMet};
 
 use crate::judging::Flaw;
 use crate::objects::scalar_of;
+use crate::rule::Rule;
 use plist_engine::{Notes, Scalars, Sieve};
 use plist_object::BinFile;
 use std::alloc::Global;
@@ -63,7 +64,7 @@ fn judge_repeat<'a, S: BuildHasher + Copy>(
     };
     let earlier = met.enter(scalar, object.min(MOST) as u32)?;
     if earlier.is_some() {
-        return Err(Flaw::at(6, object));
+        return Err(Flaw::at(Rule::DistinctScalars, object));
     }
     Ok(())
 }

@@ -10,15 +10,15 @@ use plist_value::{Budget, ScalarRef};
 
 // The largest payload that is kept exactly. It is above `MAX_PAYLOAD`, so larger ones need no
 // telling apart.
-const MOST_TOLD: u64 = 4_294_967_294;
+const MOST_KEPT: u64 = 4_294_967_294;
 
 /// What an object without its references counts against the limits. There is one for each object of
 /// a file, so it has only four bytes.
 #[derive(Clone, Copy)]
 pub(crate) struct Weight {
     // 0 for an array or dictionary. For a scalar, 1 plus its payload in bytes (2 for each unit of a
-    // string), which is capped at `MOST_TOLD`.
-    told: u32,
+    // string), which is capped at `MOST_KEPT`.
+    payload_and_one: u32,
 }
 
 impl Weight {
@@ -32,7 +32,7 @@ impl Weight {
             }
             Object::Scalar(ScalarRef::Bytes(octets)) => Weight::of_payload(octets.len() as u64),
             Object::Scalar(_) => Weight::of_payload(0),
-            Object::List(_) | Object::Table(_, _) => Weight { told: 0 },
+            Object::List(_) | Object::Table(_, _) => Weight { payload_and_one: 0 },
         }
     }
 
@@ -41,7 +41,7 @@ impl Weight {
         ensures { result ≡ of_payload payload }
     {
         Weight {
-            told: payload.min(MOST_TOLD) as u32 + 1,
+            payload_and_one: payload.min(MOST_KEPT) as u32 + 1,
         }
     }
 
@@ -51,13 +51,13 @@ impl Weight {
         ensures left { IfSome result (Spends left 1 (payload_of_weight self)) }
         ensures over { IfNone result (IsOver left 1 (payload_of_weight self)) }
     {
-        left.spend(u128::from(self.told.saturating_sub(1)))
+        left.spend(u128::from(self.payload_and_one.saturating_sub(1)))
     }
 
     /// Returns whether the object is a scalar.
     pub(crate) fn is_scalar(self) -> bool
         ensures { result ≡ is_scalar_weight self }
     {
-        self.told != 0
+        self.payload_and_one != 0
     }
 }

@@ -12,7 +12,14 @@ returns-in-Ok-clause-canonical g c =
 
 pub returns-in-Err-Broken-clause-canonical : goal.returns-in-Err-Broken-clause-canonical
 returns-in-Err-Broken-clause-canonical g c =
-    let rule = c.in-Err-Broken.rule in
     let object = c.in-Err-Broken.object in
     let flawed = subst (IsFlaw (octets_of c.in_ok-file.file)) c.in-Err-Broken.field-0-is c.in-Err-Broken.ensures.err in
-    verdict_decides c.args.octets.now (λ i. omega (arith, c.type_inv.octets i)) c.in_ok-file.ensures.ok (verdict.Broken rule object) (subst (λ f. IsBroken f rule object) c.in_ok-file.ensures.laid flawed)
+    let broken : IsBroken (octets_of c.in_ok-file.file) c.number.result object = rw c.number.ensures flawed in
+    verdict_decides c.args.octets.now (λ i. omega (arith, c.type_inv.octets i)) c.in_ok-file.ensures.ok (verdict.Broken c.number.result object) (subst (λ f. IsBroken f c.number.result object) c.in_ok-file.ensures.laid broken)
+
+pub returns-in-Err-Broken-clause-verdict : goal.returns-in-Err-Broken-clause-verdict
+returns-in-Err-Broken-clause-verdict g c =
+    let object = c.in-Err-Broken.object in
+    let flawed = subst (IsFlaw (octets_of c.in_ok-file.file)) c.in-Err-Broken.field-0-is c.in-Err-Broken.ensures.err in
+    let broken : IsBroken (octets_of c.in_ok-file.file) c.number.result object = rw c.number.ensures flawed in
+    subst (λ f. IsBroken f c.number.result object) c.in_ok-file.ensures.laid broken

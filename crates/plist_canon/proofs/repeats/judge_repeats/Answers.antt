@@ -4,7 +4,7 @@ use Rattle.plist_object.specs.Views.{octets_of}
 use Rattle.plist_canon.specs.Rules.{IsNoRepeat}
 use Rattle.plist_engine.specs.Sieve.{HasNoted}
 use Rattle.plist_canon.specs.Met.{HasMet}
-use Rattle.plist_canon.proofs.Judges.{below_or_last}
+use Rattle.plist_object.proofs.KeysInTurn.{below_or_last}
 use Rattle.plist_canon.proofs.repeats.judge_repeats.Goals as goal
 
 pub loop-i-init : goal.loop-i-init

@@ -3,25 +3,16 @@ use Rattle.std.specs.Option.{is_some}
 use Rattle.plist_object.specs.Layout.{trailer_of}
 use Rattle.plist_object.specs.Views.{held_of}
 use Rattle.plist_canon.specs.declared.preorder.Walk.{Walk}
-use Rattle.plist_canon.proofs.Visiting.{length-more}
 use Rattle.plist_canon.proofs.Paths.{MetInTurn-more, Walked-broken, Walked-met}
 use Rattle.plist_canon.proofs.preorder.Walk.meet.Goals as goal
 
-pub returns-then-is_some-clause-one : goal.returns-then-is_some-clause-one
-returns-then-is_some-clause-one c =
-    length-more c.args.self.now.weights.items c.push.new.self.items (length c.args.self.now.weights.items) c.of-weight.result c.in_ok-push.ensures.items refl
-
-pub returns-then-is_some-clause-walked : goal.returns-then-is_some-clause-walked
-returns-then-is_some-clause-walked c =
+pub returns-then-is_some : goal.returns-then-is_some
+returns-then-is_some c =
     let broken : is_some c.args.self.now.broken_at ≡ true = cc in
     λ f i holds. Walked-broken f i c.args.self.now _ refl broken
 
-pub returns-in-Err-clause-one : goal.returns-in-Err-clause-one
-returns-in-Err-clause-one c =
-    length-more c.args.self.now.weights.items c.push-in-Err.new.self.items (length c.args.self.now.weights.items) c.of-weight.result c.in_ok-push-in-Err.ensures.items refl
-
-pub returns-in-Err-clause-walked : goal.returns-in-Err-clause-walked
-returns-in-Err-clause-walked c = λ f i holds walked.
+pub returns-in-Err : goal.returns-in-Err
+returns-in-Err c = λ f i holds walked.
     let whole : is_some c.args.self.now.broken_at ≡ false = cc in
     let met = (Walked-met f i c.args.self.now whole).0 walked in
     let counted = met.counted in
@@ -29,17 +20,13 @@ returns-in-Err-clause-walked c = λ f i holds walked.
     let below : length c.args.self.now.weights.items < (trailer_of f).count = omega arith in
     (rw c.deref.ensures.value at c.in-Err.ensures) f met.weighed met.stands below
 
-pub returns-clause-one : goal.returns-clause-one
-returns-clause-one c =
-    length-more c.args.self.now.weights.items c.push-2.new.self.items (length c.args.self.now.weights.items) c.of-weight.result c.in_ok-push-2.ensures.items refl
-
-pub returns-clause-walked : goal.returns-clause-walked
-returns-clause-walked c = λ f i holds walked.
+pub returns : goal.returns
+returns c = λ f i holds walked.
     let old = c.args.self.now in
-    let new : Walk = record { weights = c.push-2.new.self; path = c.enter.new.path; left = c.spend-self.result; broken_at = old.broken_at } in
+    let new : Walk = record { weights = c.push.new.self; path = c.enter.new.path; left = c.spend-self.result; broken_at = old.broken_at } in
     let whole : is_some old.broken_at ≡ false = cc in
     let number_is : c.len-number.result ≡ length old.weights.items = omega (arith, old.weights.ok.0) in
     let met = (Walked-met f i old whole).0 walked in
     let awaits = (rw c.deref.ensures.value at c.in-Ok.ensures) f met.weighed met.stands in
     let held = held_of c.args.object.now in
-    (Walked-met f (suc i) new whole).1 (MetInTurn-more f i c.len-number.result c.in-Ok.levels held old new c.of-weight.result c.next_levels.new.left _ holds met c.of-weight.ensures awaits c.spend-self.ensures c.in_ok-push-2.ensures.items number_is c.in_ok-enter.ensures)
+    (Walked-met f (suc i) new whole).1 (MetInTurn-more f i c.len-number.result c.in-Ok.levels held old new c.of-weight.result c.next_levels.new.left _ holds met c.of-weight.ensures awaits c.spend-self.ensures c.in_ok-push.ensures.items number_is c.in_ok-enter.ensures)

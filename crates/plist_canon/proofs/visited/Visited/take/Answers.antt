@@ -1,0 +1,9 @@
+use Rattle.std.proofs.Common.{add-one}
+use Rattle.plist_canon.proofs.visited.Visited.take.Goals as goal
+
+pub returns : goal.returns
+returns c = λ f i holds span before. record {
+  noted = rw add-one (c.in_ok-note.ensures f i holds before.noted);
+  walked = rw add-one (c.in_ok-meet.ensures f i holds before.walked);
+  ends = rw add-one (c.args.read.now.start, span);
+}
