@@ -164,9 +164,5 @@ fn string_of<'a>(file: &BinFile<'a>, n: u64) -> Option<TextRef<'a>>
         (λ t. Holds (octets_of file.now) n (holds_scalar (text (units_of t)))) }
     ensures none { IfNone result (¬ HoldsText (octets_of file.now) n) }
 {
-    if n < file.count() {
-        file.text(n)
-    } else {
-        None
-    }
+    if n < file.count() { file.text(n) } else { None }
 }
