@@ -2,7 +2,6 @@
 //! The input is any binary file that encodes the list; the list itself is not built.
 #![tactic(auto)]
 
-mod ahead;
 mod bits;
 mod ends;
 pub mod faults;

@@ -61,14 +61,6 @@ impl Memo {
         self.numbers.get(object as usize) == Some(&SINGLE)
     }
 
-    /// Returns whether the object was visited or is known to be single.
-    #[inline(always)]
-    pub(crate) fn is_met(&self, object: u64) -> bool {
-        self.numbers
-            .get(object as usize)
-            .is_some_and(|number| *number != NO_NUMBER)
-    }
-
     #[inline(always)]
     pub(crate) fn keep(&mut self, object: u64, number: u32)
         ensures { KeepsNumber object number self.old self.new }

@@ -16,7 +16,6 @@ ghost use Rattle.plist_engine.specs.Parts.{AreSound, helds_of, octets_planned};
 ghost use Rattle.plist_engine.specs.Output.{CanTake, Goes, KeepsShort, LeavesRoom};
 ghost use Rattle.plist_engine.specs.Output.{Stays, state_of};
 
-use crate::ahead::Ahead;
 use crate::ends::send_end;
 use crate::outputs::PIECE;
 use crate::parts::part_of;
@@ -157,9 +156,7 @@ fn send_objects<W: Sink>(
     };
     let mut numbers = objects.references.as_slice();
     let mut place = 8;
-    let mut ahead = Ahead::new();
     for original in &objects.originals {
-        ahead.look(file, objects.originals.as_slice(), places.len());
         let (part, behind) = part_of(file, u64::from(*original), numbers);
         let size = part_length(width, &part);
         places.push_reserved(place);

@@ -8,7 +8,6 @@ ghost use Rattle.plist_object.specs.KeyOrder.{IsReady};
 ghost use Rattle.plist_engine.specs.Plan.{AreObjectsOf, AreWalked, IsWalked, KnowsScalars};
 ghost use Rattle.plist_engine.specs.Memo.{kept};
 
-use crate::ahead::Ahead;
 use crate::memo::SINGLE;
 use crate::objects::object_of;
 use crate::plan::{Objects, Plan};
@@ -29,16 +28,7 @@ pub(crate) fn objects_of<'a, S: BuildHasher + Copy>(
 {
     let mut plan = Plan::new(alloc, hasher, file)?;
     let mut order = KeyOrder::new(alloc, file);
-    let mut ahead = Ahead::new();
-    walk(
-        alloc,
-        file,
-        &mut plan,
-        &mut order,
-        &mut ahead,
-        file.top(),
-        MAX_DEPTH,
-    )?;
+    walk(alloc, file, &mut plan, &mut order, file.top(), MAX_DEPTH)?;
     Ok(plan.into_objects())
 }
 
@@ -51,7 +41,6 @@ fn walk<'a, S: BuildHasher + Copy>(
     file: &BinFile<'a>,
     plan: &mut Plan<'a, S>,
     order: &mut KeyOrder<'a>,
-    ahead: &mut Ahead,
     object: u64,
     levels: u64,
 ) -> Result<u32, AllocError>
@@ -68,7 +57,7 @@ fn walk<'a, S: BuildHasher + Copy>(
     if plan.memo.is_single(object) {
         return plan.single(object);
     }
-    walk_object(alloc, file, plan, order, ahead, object, levels)
+    walk_object(alloc, file, plan, order, object, levels)
 }
 
 // Like `walk`, for an object that was not visited as a scalar.
@@ -78,7 +67,6 @@ fn walk_object<'a, S: BuildHasher + Copy>(
     file: &BinFile<'a>,
     plan: &mut Plan<'a, S>,
     order: &mut KeyOrder<'a>,
-    ahead: &mut Ahead,
     object: u64,
     levels: u64,
 ) -> Result<u32, AllocError>
@@ -95,13 +83,13 @@ fn walk_object<'a, S: BuildHasher + Copy>(
         Object::List(items) => {
             let first = plan.references.len();
             let number = plan.begin_list(object, &items)?;
-            walk_children(alloc, file, plan, order, ahead, first, levels - 1)?;
+            walk_children(alloc, file, plan, order, first, levels - 1)?;
             Ok(number)
         }
         Object::Table(keys, values) => {
             let first = plan.references.len();
             let number = plan.begin_table(alloc, file, order, object, &keys, &values)?;
-            walk_children(alloc, file, plan, order, ahead, first, levels - 1)?;
+            walk_children(alloc, file, plan, order, first, levels - 1)?;
             Ok(number)
         }
     }
@@ -115,7 +103,6 @@ fn walk_children<'a, S: BuildHasher + Copy>(
     file: &BinFile<'a>,
     plan: &mut Plan<'a, S>,
     order: &mut KeyOrder<'a>,
-    ahead: &mut Ahead,
     first: usize,
     levels: u64,
 ) -> Result<(), AllocError>
@@ -129,9 +116,8 @@ fn walk_children<'a, S: BuildHasher + Copy>(
     ensures ready { OnOk result (IsReady (octets_of file.now) order.new) }
 {
     for i in first..plan.references.len() {
-        ahead.look_unmet(file, &plan.memo, plan.references.as_slice(), i);
         let object = plan.references[i];
-        let number = walk(alloc, file, plan, order, ahead, u64::from(object), levels)?;
+        let number = walk(alloc, file, plan, order, u64::from(object), levels)?;
         plan.references[i] = number;
     }
     Ok(())

@@ -134,6 +134,7 @@ walk_object-returns-in-Scalar-clause-knows g t c =
 
 pub walk_children-loop-i-init : goal.walk_children-loop-i-init
 walk_children-loop-i-init g t c = record {
+  within = c.requires.first;
   done = [];
   filling = filling-start c.args.first c.args.plan.now.references.items c.requires.first;
   more = λ new numbers w. w;
@@ -186,6 +187,7 @@ walk_children-loop-i-preserved g t c =
     let stands = filling-object first i start now done c.requires.first filling x below in
     let long = filling-long first i start now done c.requires.first filling in
     record {
+      within = omega (arith, below);
       done = done ++ (n ∷ []);
       filling = filling-next first i start now done c.requires.first filling mid.references.items one.references n below one.references_added;
       more = λ new numbers w.
@@ -208,10 +210,11 @@ walk_children-returns-clause-walked g t c =
     let whole = c.loop-i.invariant.more plan [] (walked-none f start i plan past) in
     let left = length-drop first start in
     let as_many = filling.as_many in
+    let within = c.loop-i.invariant.within in
     record {
       numbers = done;
       behind = filling.behind;
       walked = subst (λ (ns : List ℕ). ItemsWalked f (length start) (drop first start) c.args.plan.now plan ns) (append-nil done) whole;
-      as_many = omega arith;
+      as_many = omega (arith, left, as_many, within, past);
       filled = filling-end first i start plan.references.items done c.requires.first filling past;
     }

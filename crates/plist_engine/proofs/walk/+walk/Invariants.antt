@@ -1,4 +1,4 @@
-use Rattle.std.proofs.Common.{ℕ, ◌+◌, ◌*◌, List, ◌++◌, length, drop}
+use Rattle.std.proofs.Common.{ℕ, ◌+◌, ◌*◌, ◌≤◌, List, ◌++◌, length, drop}
 use Rattle.plist_object.specs.KeyOrder.{IsReady}
 use Rattle.plist_object.specs.Views.{octets_of}
 use Rattle.plist_engine.specs.declared.plan.Plan.{Plan}
@@ -20,6 +20,7 @@ abbrev pub invariant-walk_children-loop-i : goal.invariant-walk_children-loop-i
 invariant-walk_children-loop-i g l =
     let start = l.fn.plan.references.items in
     record {
+      within : l.i ≤ length start;
       done : List ℕ;
       filling : IsFilling l.first l.i start l.plan.references.items done;
       more : (new : Plan _ _) (numbers : List ℕ) → ItemsWalked (octets_of l.file) (length start) (drop l.i start) l.plan new numbers → ItemsWalked (octets_of l.file) (length start) (drop l.first start) l.fn.plan new (done ++ numbers);
