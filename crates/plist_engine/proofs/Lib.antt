@@ -10,13 +10,9 @@ pub mod Octets
 pub mod Reading
 pub mod Binary
 pub mod Counting
-pub mod Held
 pub mod Found
 pub mod Going
 pub mod FileSteps
-pub mod Keys
-pub mod Numbers
-pub mod Small
 pub mod Storing
 pub mod SetBits
 pub mod Growing

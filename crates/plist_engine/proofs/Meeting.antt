@@ -9,7 +9,7 @@ use Rattle.plist_object.specs.Objects.{holds_scalar, holds_list, holds_table}
 use Rattle.plist_object.specs.Places.{Holds, what_holds}
 use Rattle.plist_engine.specs.declared.plan.Plan.{Plan}
 use Rattle.plist_engine.specs.Plan.{is_held, number_from, number_met}
-use Rattle.plist_engine.proofs.Keys.{or_none}
+use Rattle.plist_engine.proofs.Storing.{or_none}
 
 pub cases_Option : (o : Option ℕ) → (o ≡ None) ⊎ ((n : ℕ) × (o ≡ Some n))
 cases_Option None = inl refl

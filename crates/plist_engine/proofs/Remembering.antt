@@ -14,9 +14,8 @@ use Rattle.plist_object.specs.Spelled.{Spells, SpellsWithin}
 use Rattle.plist_object.proofs.Uniqueness.{same_held}
 use Rattle.plist_engine.specs.declared.plan.Plan.{Plan}
 use Rattle.plist_engine.specs.declared.scalars.Scalars.{Scalars}
-use Rattle.plist_engine.specs.Naturals.{no_number}
 use Rattle.plist_engine.specs.Scalars.{AreNew, EntersScalar, number_stored}
-use Rattle.plist_engine.specs.Memo.{single, kept, IsNumber, IsAlone, IsSingle, KeepsNumber, Sifts}
+use Rattle.plist_engine.specs.Memo.{no_number, single, kept, IsNumber, IsAlone, IsSingle, KeepsNumber, Sifts}
 use Rattle.plist_engine.specs.Plan.{is_held, number_from, number_met, IsRemembered, IsMet, IsUnmet, KnowsScalars, MeetsScalar, IsWalked, Begins}
 use Rattle.plist_engine.proofs.Meeting.{cases_Option, met-added, met-beside, met-now, met-still}
 use Rattle.plist_engine.proofs.Storing.{entered-had, entered-kept, entered-unknown, entered-added}

@@ -4,8 +4,7 @@ use Rattle.std.proofs.lemmas.Bool.{cases_eq, cases_lt}
 use Rattle.std.proofs.lemmas.List.{length-set, get_or-set_same, get_or-set_other}
 use Rattle.plist_value.specs.Plist.{Scalar}
 use Rattle.plist_object.specs.Layout.{trailer_of}
-use Rattle.plist_engine.specs.Memo.{single, kept_at, IsAlone, IsSingle, Marks, Sifts}
-use Rattle.plist_engine.specs.Naturals.{no_number}
+use Rattle.plist_engine.specs.Memo.{no_number, single, kept_at, IsAlone, IsSingle, Marks, Sifts}
 use Rattle.plist_engine.specs.declared.memo.Memo.{Memo}
 use Rattle.plist_engine.specs.Sieve.{HasNoted, HoldsIt, IsUnlike, MayRepeat}
 use Rattle.plist_engine.specs.declared.sieve.Sieve.{Sieve}

@@ -1,27 +1,140 @@
--- The numbers of scalars, in the map of non-negative integers and in that of all others.
-use Rattle.std.proofs.Common.{◌≡◌, ◌⊎◌, ℕ, pos, negsuc, Option, cond, false, Some, None, refl, sym, ap, ◌∙◌, inl, inr, nat_eq}
-use Rattle.std.specs.Cmp.{unsigned_Decides}
-use Rattle.std.proofs.lemmas.Bool.{cases_Bool, true≢false}
-use Rattle.plist_value.specs.Plist.{Scalar, text, whole, flag, real4, real8, moment, bytes}
+-- The numbers of scalars, in a list and in a hash map.
+use Rattle.std.proofs.Common.{◌≡◌, ℕ, suc, ◌+◌, Bool, Option, cond, true, false, arith, List, [], ◌∷◌, ◌++◌, Some, None, refl, sym, ap, ◌∙◌, inl, inr}
+use Rattle.std.specs.Option.{option_or}
+use Rattle.std.specs.List.{position_or_len}
+use Rattle.std.specs.Map.{lookup, keys_of}
+use Rattle.indexmap.specs.IndexMap.{insert_entry, set_value_at}
+use Rattle.std.proofs.lemmas.Bool.{true≢false, cases_Bool}
+use Rattle.plist_value.specs.Plist.{Scalar}
 use Rattle.plist_value.specs.Equality.{scalar_eq}
 use Rattle.plist_value.specs.EqualityLaws.{scalar_eq-Decides}
 use Rattle.plist_value.specs.Scalars.{content_of}
 use Rattle.plist_value.specs.declared.scalar_ref.ScalarRef.{ScalarRef}
+use Rattle.plist_engine.specs.declared.scalars.Listed.{Listed}
 use Rattle.plist_engine.specs.declared.scalars.Scalars.{Scalars}
-use Rattle.plist_engine.specs.Naturals.{number_of_natural, EntersNatural}
-use Rattle.plist_engine.specs.Numbered.{number_held}
-use Rattle.plist_engine.specs.Scalars.{natural_in, number_by, number_stored, AreNumbered, EntersScalar}
-use Rattle.plist_engine.proofs.Keys.{or_none}
-use Rattle.plist_engine.proofs.Numbers.{is_same, same-number}
+use Rattle.plist_engine.specs.Scalars.{is_long, number_listed, number_hashed, number_stored, IsLong, IsShort, HasRoom, AreNumbered, IsUnlisted, EntersScalar}
+
+pub or_none : (o : Option ℕ) → option_or o None ≡ o
+or_none None = refl
+or_none (Some n) = refl
+
+or_or : (o p q : Option ℕ) → option_or o (option_or p q) ≡ option_or (option_or o p) q
+or_or None p q = refl
+or_or (Some n) p q = refl
+
+-- the next number, if r is the scalar
+abbrev next_of : ScalarRef → ℕ → ScalarRef → Option ℕ
+next_of shown next r = cond (scalar_eq (content_of shown) (content_of r)) (Some next) None
+
+is_same : (r q : ScalarRef) → scalar_eq (content_of r) (content_of q) ≡ true → content_of r ≡ content_of q
+is_same r q e = (scalar_eq-Decides (content_of r) (content_of q)).0 e
 
 -- equal scalars have the same number
-same-by : {S H : Type 0} → (known : Scalars S H) (r q : ScalarRef) (natural : Option ℕ) → content_of r ≡ content_of q → number_by known q natural ≡ number_by known r natural
-same-by known r q (Some n) same = refl
-same-by known r q None same = same-number known.others r q same
+same-hashed : {S H : Type 0} → (known : Scalars S H) (r q : ScalarRef) → content_of r ≡ content_of q → number_hashed known q ≡ number_hashed known r
+same-hashed known r q same = ap (λ s. lookup (λ k. scalar_eq s (content_of k)) known.hashed.entries) (sym same)
 
-same-stored : {S H : Type 0} → (known : Scalars S H) (r q : ScalarRef) → content_of r ≡ content_of q → number_stored known q ≡ number_stored known r
-same-stored known r q same =
-    ap (number_by known q) (ap natural_in (sym same)) ∙ same-by known r q (natural_in (content_of r)) same
+same-number : {S H : Type 0} → (known : Scalars S H) (r q : ScalarRef) → content_of r ≡ content_of q → number_stored known q ≡ number_stored known r
+same-number known r q same = ap (λ s. option_or (number_listed known.listed.items s) (lookup (λ k. scalar_eq s (content_of k)) known.hashed.entries)) (sym same)
+
+-- nothing changes if the scalar has a number
+pub enters-again : {S H : Type 0} → (shown : ScalarRef) (next n : ℕ) (known : Scalars S H) → AreNumbered known → number_stored known shown ≡ Some n → EntersScalar shown next known known (Some n)
+enters-again shown next n known numbered had = record {
+  numbered = numbered;
+  had_is = sym had;
+  each = λ r. elim (cases_Bool (scalar_eq (content_of shown) (content_of r))) [
+    | inl same ↦ (let one : number_stored known r ≡ Some n = same-number known shown r (is_same shown r same) ∙ had in rw one refl)
+    | inr apart ↦ rw apart (sym (or_none (number_stored known r)))
+  ];
+}
+
+-- a key that is in the map gets its value back
+pub restored : {K : Type 0} → (eq : K → K → Bool) (es : List (K × ℕ)) (k : K) (next n : ℕ) → lookup (eq k) es ≡ Some n → set_value_at (insert_entry eq es k next) (position_or_len (eq k) (keys_of es)) n ≡ es
+restored eq [] k next n has = absurd (cc)
+restored eq (e ∷ es) k next n has = elim (cases_Bool (eq k e.0)) [
+  | inl is ↦ (let one : Some e.1 ≡ Some n = rw is at has in let same : e.1 ≡ n = cc in rw is (ap (λ m. (e.0, m) ∷ es) (sym same)))
+  | inr apart ↦ (let more : 1 + position_or_len (eq k) (keys_of es) ≡ suc (position_or_len (eq k) (keys_of es)) = omega arith in rw (apart, more) (ap (λ rest. e ∷ rest) (restored eq es k next n (rw apart at has))))
+]
+
+-- a list with one more entry
+listed-pushed : (ls : List Listed) (one : Listed) (s : Scalar) → number_listed (ls ++ (one ∷ [])) s ≡ option_or (number_listed ls s) (cond (scalar_eq (content_of one.scalar) s) (Some one.number) None)
+listed-pushed [] one s = refl
+listed-pushed (l ∷ ls) one s = elim (cases_Bool (scalar_eq (content_of l.scalar) s)) [
+  | inl is ↦ rw is refl
+  | inr apart ↦ rw apart (listed-pushed ls one s)
+]
+
+-- long data equals no scalar that is not
+differ : (r q : ScalarRef) → (is_long (content_of r) ≡ is_long (content_of q) → ⊥) → scalar_eq (content_of r) (content_of q) ≡ false
+differ r q other = elim (cases_Bool (scalar_eq (content_of r) (content_of q))) [
+  | inl same ↦ absurd (other (ap is_long (is_same r q same)))
+  | inr apart ↦ apart
+]
+
+short_long : (r q : ScalarRef) → IsShort r → IsLong q → scalar_eq (content_of r) (content_of q) ≡ false
+short_long r q short long = differ r q (λ e. true≢false (sym long ∙ sym e ∙ short))
+
+long_short : (r q : ScalarRef) → IsLong r → IsShort q → scalar_eq (content_of r) (content_of q) ≡ false
+long_short r q long short = differ r q (λ e. true≢false (sym long ∙ e ∙ short))
+
+-- long data that was added to the list
+module _ {S H : Type 0} (shown : ScalarRef) (next : ℕ) (old new : Scalars S H) (numbered : AreNumbered old) (long : IsLong shown) (missed : number_listed old.listed.items (content_of shown) ≡ None) (room : HasRoom old) (same_hashed : new.hashed ≡ old.hashed) (pushed : new.listed.items ≡ old.listed.items ++ (record { scalar = shown; number = next } ∷ [])) where
+  listed_now : (r : ScalarRef) → number_listed new.listed.items (content_of r) ≡ option_or (number_listed old.listed.items (content_of r)) (next_of shown next r)
+  listed_now r = rw pushed (listed-pushed old.listed.items (record { scalar = shown; number = next }) (content_of r))
+
+  hashed_still : (r : ScalarRef) → number_hashed new r ≡ number_hashed old r
+  hashed_still r = rw same_hashed refl
+
+  none_hashed : number_hashed old shown ≡ None
+  none_hashed = numbered.long_listed room shown long
+
+  unknown : number_stored old shown ≡ None
+  unknown = rw missed none_hashed
+
+  pub enters-pushed : EntersScalar shown next old new None
+  enters-pushed = record {
+    numbered = record {
+      short_hashed = λ r short. listed_now r ∙ rw (numbered.short_hashed r short, long_short shown r long short) refl;
+      long_listed = λ still r far. hashed_still r ∙ numbered.long_listed room r far;
+    };
+    had_is = sym unknown;
+    each = λ r. elim (cases_Bool (scalar_eq (content_of shown) (content_of r))) [
+      | inl same ↦ (let not_listed : number_listed old.listed.items (content_of r) ≡ None = rw (is_same shown r same) at missed in let not_hashed : number_hashed old r ≡ None = same-hashed old shown r (is_same shown r same) ∙ none_hashed in rw (listed_now r, not_listed, not_hashed, same) refl)
+      | inr apart ↦ rw (listed_now r, hashed_still r, apart, or_none (number_listed old.listed.items (content_of r)), or_none (number_stored old r)) refl
+    ];
+  }
+
+-- a scalar that is not in the list is looked up in the hash map
+module _ {S H : Type 0} (shown : ScalarRef) (next : ℕ) (old new : Scalars S H) (unlisted : IsUnlisted old shown) (same_listed : new.listed ≡ old.listed) where
+  listed_still : (r : ScalarRef) → number_listed new.listed.items (content_of r) ≡ number_listed old.listed.items (content_of r)
+  listed_still r = rw same_listed refl
+
+  -- the hash map has one more entry, if the scalar had none
+  module _ (had : Option ℕ) (had_is : had ≡ number_hashed old shown) (hashed_now : (r : ScalarRef) → number_hashed new r ≡ option_or (number_hashed old r) (next_of shown next r)) where
+    pub enters-hashed : EntersScalar shown next old new had
+    enters-hashed =
+        let numbered = unlisted.numbered in
+        record {
+          numbered = record {
+            short_hashed = λ r short. rw same_listed (numbered.short_hashed r short);
+            long_listed = λ room r long. hashed_now r ∙ rw (short_long shown r (unlisted.refused (rw same_listed at room)) long, or_none (number_hashed old r)) (numbered.long_listed (rw same_listed at room) r long);
+          };
+          had_is = rw unlisted.missed had_is;
+          each = λ r. rw (listed_still r, hashed_now r) (or_or (number_listed old.listed.items (content_of r)) (number_hashed old r) (next_of shown next r));
+        }
+
+  -- the scalar is in the hash map, which is unchanged
+  pub enters-known : (n : ℕ) → Some n ≡ number_hashed old shown → ((r : ScalarRef) → number_hashed new r ≡ number_hashed old r) → EntersScalar shown next old new (Some n)
+  enters-known n had still = enters-hashed (Some n) had (λ r. elim (cases_Bool (scalar_eq (content_of shown) (content_of r))) [
+    | inl same ↦ (let one : number_hashed old r ≡ Some n = same-hashed old shown r (is_same shown r same) ∙ sym had in still r ∙ rw one refl)
+    | inr apart ↦ still r ∙ rw apart (sym (or_none (number_hashed old r)))
+  ])
+
+  -- the scalar is added to the hash map
+  pub enters-added : None ≡ number_hashed old shown → ((r : ScalarRef) → number_hashed new r ≡ cond (scalar_eq (content_of shown) (content_of r)) (Some next) (number_hashed old r)) → EntersScalar shown next old new None
+  enters-added had now = enters-hashed None had (λ r. elim (cases_Bool (scalar_eq (content_of shown) (content_of r))) [
+    | inl same ↦ (let one : number_hashed old r ≡ None = same-hashed old shown r (is_same shown r same) ∙ sym had in now r ∙ rw (one, same) refl)
+    | inr apart ↦ now r ∙ rw apart (sym (or_none (number_hashed old r)))
+  ])
 
 -- a scalar that has a number
 module _ {S H : Type 0} (shown : ScalarRef) (next n : ℕ) (old new : Scalars S H) (enters : EntersScalar shown next old new (Some n)) where
@@ -30,7 +143,7 @@ module _ {S H : Type 0} (shown : ScalarRef) (next n : ℕ) (old new : Scalars S 
 
   pub entered-kept : (r : ScalarRef) → number_stored new r ≡ number_stored old r
   entered-kept r = elim (cases_Bool (scalar_eq (content_of shown) (content_of r))) [
-    | inl same ↦ (let had : number_stored old r ≡ Some n = same-stored old shown r (is_same shown r same) ∙ entered-had in enters.each r ∙ rw had refl)
+    | inl same ↦ (let had : number_stored old r ≡ Some n = same-number old shown r (is_same shown r same) ∙ entered-had in enters.each r ∙ rw had refl)
     | inr apart ↦ enters.each r ∙ rw apart (or_none (number_stored old r))
   ]
 
@@ -41,67 +154,6 @@ module _ {S H : Type 0} (shown : ScalarRef) (next : ℕ) (old new : Scalars S H)
 
   pub entered-added : (r : ScalarRef) → number_stored new r ≡ cond (scalar_eq (content_of shown) (content_of r)) (Some next) (number_stored old r)
   entered-added r = elim (cases_Bool (scalar_eq (content_of shown) (content_of r))) [
-    | inl same ↦ (let had : number_stored old r ≡ None = same-stored old shown r (is_same shown r same) ∙ entered-unknown in enters.each r ∙ rw (had, same) refl)
+    | inl same ↦ (let had : number_stored old r ≡ None = same-number old shown r (is_same shown r same) ∙ entered-unknown in enters.each r ∙ rw (had, same) refl)
     | inr apart ↦ enters.each r ∙ rw apart (or_none (number_stored old r))
   ]
-
--- nothing changes if the scalar has a number
-pub enters-again : {S H : Type 0} → (shown : ScalarRef) (next n : ℕ) (known : Scalars S H) → AreNumbered known → number_stored known shown ≡ Some n → EntersScalar shown next known known (Some n)
-enters-again shown next n known numbered had = record {
-  numbered = numbered;
-  had_is = sym had;
-  each = λ r. elim (cases_Bool (scalar_eq (content_of shown) (content_of r))) [
-    | inl same ↦ (let one : number_stored known r ≡ Some n = same-stored known shown r (is_same shown r same) ∙ had in rw one refl)
-    | inr apart ↦ rw apart (sym (or_none (number_stored known r)))
-  ];
-}
-
--- a scalar is determined by its integer
-natural-is : (s : Scalar) (n : ℕ) → natural_in s ≡ Some n → s ≡ whole (pos n)
-natural-is (whole (pos m)) n e = let same : m ≡ n = cc in ap (λ k. whole (pos k)) same
-natural-is (whole (negsuc m)) n e = absurd (cc)
-natural-is (text xs) n e = absurd (cc)
-natural-is (flag b) n e = absurd (cc)
-natural-is (real4 xs) n e = absurd (cc)
-natural-is (real8 xs) n e = absurd (cc)
-natural-is (moment xs) n e = absurd (cc)
-natural-is (bytes xs) n e = absurd (cc)
-
--- scalars of different kinds
-differ : (r q : ScalarRef) → (natural_in (content_of r) ≡ natural_in (content_of q) → ⊥) → scalar_eq (content_of r) (content_of q) ≡ false
-differ r q other = elim (cases_Bool (scalar_eq (content_of r) (content_of q))) [
-  | inl same ↦ absurd (other (ap natural_in (is_same r q same)))
-  | inr apart ↦ apart
-]
-
--- two integers are equal if and only if their scalars are
-naturals-same : (r q : ScalarRef) (m n : ℕ) → natural_in (content_of r) ≡ Some m → natural_in (content_of q) ≡ Some n → scalar_eq (content_of r) (content_of q) ≡ nat_eq m n
-naturals-same r q m n first second = elim (cases_Bool (nat_eq m n)) [
-  | inl is ↦ (let e : m ≡ n = (unsigned_Decides m n).0 is in (scalar_eq-Decides (content_of r) (content_of q)).1 (natural-is (content_of r) m first ∙ ap (λ k. whole (pos k)) e ∙ sym (natural-is (content_of q) n second)) ∙ sym is)
-  | inr apart ↦ differ r q (λ e. let same : m ≡ n = let t : Some m ≡ Some n = sym first ∙ e ∙ second in cc in true≢false (sym ((unsigned_Decides m n).1 same) ∙ apart)) ∙ sym apart
-]
-
--- the number of a scalar that is known to be this integer, or no such integer
-by-natural : {S H : Type 0} → (known : Scalars S H) (r : ScalarRef) (n : ℕ) → natural_in (content_of r) ≡ Some n → number_stored known r ≡ number_of_natural known.naturals n
-by-natural known r n e = ap (number_by known r) e
-
-by-other : {S H : Type 0} → (known : Scalars S H) (r : ScalarRef) → natural_in (content_of r) ≡ None → number_stored known r ≡ number_held known.others r
-by-other known r e = ap (number_by known r) e
-
-cases-natural : (o : Option ℕ) → (o ≡ None) ⊎ ((n : ℕ) × (o ≡ Some n))
-cases-natural None = inl refl
-cases-natural (Some n) = inr (n, refl)
-
--- an integer was entered
-pub enters-natural : {S H : Type 0} → (shown : ScalarRef) (n next : ℕ) (old new : Scalars S H) (had : Option ℕ) → natural_in (content_of shown) ≡ Some n → AreNumbered old → new.others ≡ old.others → EntersNatural n next old.naturals new.naturals had → EntersScalar shown next old new had
-enters-natural shown n next old new had natural numbered same_others enters = record {
-  numbered = record {
-    naturals = enters.numbered;
-    others = rw same_others numbered.others;
-  };
-  had_is = enters.had_is ∙ sym (by-natural old shown n natural);
-  each = λ r. elim (cases-natural (natural_in (content_of r))) [
-    | inl none ↦ (let apart : scalar_eq (content_of shown) (content_of r) ≡ false = differ shown r (λ e. let t : Some n ≡ None = sym natural ∙ e ∙ none in cc) in rw (by-other new r none, by-other old r none, same_others, apart) (sym (or_none (number_held old.others r))))
-    | inr some ↦ rw (by-natural new r some.0 some.1, by-natural old r some.0 some.1, naturals-same shown r n some.0 natural some.1) (enters.each some.0)
-  ];
-}

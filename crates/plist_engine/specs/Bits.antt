@@ -1,13 +1,12 @@
 -- A bit for each scalar, which several may share.
-use Rattle.std.specs.Prelude.{◌≡◌, ℕ, ◌≤◌, ◌/◌, ◌%◌, List, slice_index_or, bit_and, fold, max, nat_le, if◌then◌else◌, Option, Some, None}
+use Rattle.std.specs.Prelude.{◌≡◌, ℕ, pos, ◌≤◌, ◌/◌, ◌%◌, List, slice_index_or, bit_and, fold, max, nat_le, if◌then◌else◌, Option, Some, None}
 use Rattle.std.specs.Int.{bit_at}
 use Rattle.std.specs.Hash as fed
 use Rattle.std.specs.Hash.FoldHasher as folding
 use Rattle.std.specs.Hash.DefaultHasher as sip
-use Rattle.plist_value.specs.Plist.{Scalar, bytes}
+use Rattle.plist_value.specs.Plist.{Scalar, bytes, whole}
 use Rattle.plist_value.specs.Equality.{fed_scalar}
-use Rattle.plist_engine.specs.Numbered.{is_long}
-use Rattle.plist_engine.specs.Scalars.{natural_in}
+use Rattle.plist_engine.specs.Scalars.{is_long}
 use Rattle.plist_engine.specs.declared.bits.Bits.{Bits}
 
 -- the bit is set in the words; bits past the end count as set
@@ -38,6 +37,11 @@ strong_hash seed s = sip.finish (fold sip.write (fold sip.write sip.initial (fed
 abbrev pub hash_of : ℕ → Scalar → ℕ
 hash_of seed (bytes xs) = if is_long (bytes xs) then 0 else strong_hash seed (bytes xs)
 hash_of seed s = fast_hash seed s
+
+-- the integer that the scalar contains, if it is one that is not negative
+abbrev pub natural_in : Scalar → Option ℕ
+natural_in (whole (pos n)) = Some n
+natural_in s = None
 
 -- the number if there is one and it is at most `most`, else `other`
 abbrev pub up_to : ℕ → ℕ → Option ℕ → ℕ

@@ -12,9 +12,6 @@ pub mod Pieces
 pub mod Sending
 pub mod Output
 pub mod Spelling
-pub mod Hashed
-pub mod Naturals
-pub mod Numbered
 pub mod Scalars
 pub mod Bits
 pub mod Sieve

@@ -6,10 +6,13 @@ use Rattle.plist_value.specs.Scalars.{content_of}
 use Rattle.plist_value.specs.declared.scalar_ref.ScalarRef.{ScalarRef}
 use Rattle.plist_object.specs.Objects.{holds_scalar}
 use Rattle.plist_object.specs.Places.{Holds}
-use Rattle.plist_engine.specs.Naturals.{no_number}
 use Rattle.plist_engine.specs.Sieve.{IsUnlike}
 use Rattle.plist_engine.specs.declared.memo.Memo.{Memo}
 use Rattle.plist_engine.specs.declared.sieve.Sieve.{Sieve}
+
+-- marks an object that has no number
+abbrev pub no_number : ℕ
+no_number = 2 ^ 32 - 1
 
 -- marks an object that has no number, and whose scalar no other object contains
 abbrev pub single : ℕ

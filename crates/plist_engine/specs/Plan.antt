@@ -112,7 +112,7 @@ pub record IsRemembered {S H : Type 0} (f : List ℕ) (plan : Plan S H) (i numbe
   pub holds : Holds f i (holds_scalar shown)
   pub met : number_met f plan shown ≡ Some number
 
--- The scalar was visited in an object whose number is kept. The set contains it, or no other object
+-- The scalar was visited in an object whose number is kept. The map contains it, or no other object
 -- does.
 pub record IsMet {S H : Type 0} (f : List ℕ) (plan : Plan S H) (s : Scalar) (number : ℕ) : Type 0 where
   pub object : ℕ
@@ -121,7 +121,7 @@ pub record IsMet {S H : Type 0} (f : List ℕ) (plan : Plan S H) (s : Scalar) (n
   pub some : IsNumber number
   pub found : ((r : ScalarRef) → content_of r ≡ s → number_stored plan.scalars r ≡ Some number) ⊎ IsAlone f object
 
--- The memo and the set contain only numbers of the objects so far, and each scalar among these
+-- The memo and the map contain only numbers of the objects so far, and each scalar among these
 -- objects was visited.
 pub record KnowsScalars {S H : Type 0} (f : List ℕ) (plan : Plan S H) : Type 0 where
   pub listed : length plan.memo.numbers.items ≡ (trailer_of f).count
@@ -137,7 +137,7 @@ pub record IsUnmet {S H : Type 0} (f : List ℕ) (i : ℕ) (s : Scalar) (plan : 
   pub holds : Holds f i (holds_scalar s)
   pub unmet : single ≤ kept plan.memo i
 
--- The scalar of the object was entered in the set, or nothing was, since no other object contains
+-- The scalar of the object was entered in the map, or nothing was, since no other object contains
 -- it.
 abbrev pub MeetsScalar : {S H : Type 0} → Memo → ℕ → ScalarRef → ℕ → Scalars S H → Scalars S H → Option ℕ → Type 0
 MeetsScalar memo i r next old new had =

@@ -1,37 +1,59 @@
--- A map from scalars to numbers, which keeps non-negative integers apart from all others.
-use Rattle.std.specs.Prelude.{◌≡◌, ℕ, pos, if◌then◌else◌, Option, Some, None}
+-- A map from scalars to numbers: some long data is in a list, and all others are in a hash map.
+use Rattle.std.specs.Prelude.{◌≡◌, ℕ, ◌<◌, nat_le, Bool, true, false, if◌then◌else◌, List, [], ◌∷◌, length, Option, Some, None}
 use Rattle.std.specs.Option.{option_or}
-use Rattle.plist_value.specs.Plist.{Scalar, whole}
+use Rattle.std.specs.Ordering.{on}
+use Rattle.indexmap.specs.IndexMap.{get}
+use Rattle.plist_value.specs.Plist.{Scalar, bytes}
 use Rattle.plist_value.specs.Equality.{scalar_eq}
 use Rattle.plist_value.specs.Scalars.{content_of}
 use Rattle.plist_value.specs.declared.scalar_ref.ScalarRef.{ScalarRef}
-use Rattle.plist_engine.specs.Naturals.{number_of_natural, AreCounted}
-use Rattle.plist_engine.specs.Numbered.{number_held, IsNumbered}
+use Rattle.plist_engine.specs.declared.scalars.Listed.{Listed}
 use Rattle.plist_engine.specs.declared.scalars.Scalars.{Scalars}
 
--- the integer that the scalar contains, if it is one that is not negative
-abbrev pub natural_in : Scalar → Option ℕ
-natural_in (whole (pos n)) = Some n
-natural_in s = None
+-- the number of the first entry that equals the scalar, if one does
+abbrev pub number_listed : List Listed → Scalar → Option ℕ
+number_listed [] s = None
+number_listed (one ∷ others) s =
+    if scalar_eq (content_of one.scalar) s then Some one.number else number_listed others s
 
--- the number of the integer in the scalar, or else of the scalar itself
-abbrev pub number_by : {S H : Type 0} → Scalars S H → ScalarRef → Option ℕ → Option ℕ
-number_by known r (Some n) = number_of_natural known.naturals n
-number_by known r None = number_held known.others r
+-- the number of the scalar in the hash map, if it has one
+abbrev pub number_hashed : {S H : Type 0} → Scalars S H → ScalarRef → Option ℕ
+number_hashed known r = get (on content_of scalar_eq) known.hashed r
 
--- the number of a scalar, if it has one
+-- the number of a scalar, if it has one: that in the list, or else that in the hash map
 abbrev pub number_stored : {S H : Type 0} → Scalars S H → ScalarRef → Option ℕ
-number_stored known r = number_by known r (natural_in (content_of r))
+number_stored known r = option_or (number_listed known.listed.items (content_of r)) (number_hashed known r)
 
--- there is a number for each scalar of each set
+-- data of at least 65,536 bytes
+abbrev pub is_long : Scalar → Bool
+is_long (bytes xs) = nat_le 65536 (length xs)
+is_long s = false
+
+abbrev pub IsLong : ScalarRef → Type 0
+IsLong r = is_long (content_of r) ≡ true
+
+abbrev pub IsShort : ScalarRef → Type 0
+IsShort r = is_long (content_of r) ≡ false
+
+-- the list has space for one more
+abbrev pub HasRoom : {S H : Type 0} → Scalars S H → Type 0
+HasRoom known = length known.listed.items < 8
+
+-- The list contains only long data, and the hash map contains none while the list has space.
 pub record AreNumbered {S H : Type 0} (known : Scalars S H) : Type 0 where
-  pub naturals : AreCounted known.naturals
-  pub others : IsNumbered known.others
+  pub short_hashed : (r : ScalarRef) → IsShort r → number_listed known.listed.items (content_of r) ≡ None
+  pub long_listed : HasRoom known → (r : ScalarRef) → IsLong r → number_hashed known r ≡ None
 
 -- no scalar has a number
 pub record AreNew {S H : Type 0} (known : Scalars S H) : Type 0 where
   pub numbered : AreNumbered known
   pub unknown : (r : ScalarRef) → number_stored known r ≡ None
+
+-- the scalar is not in the list and will not be added to it
+pub record IsUnlisted {S H : Type 0} (known : Scalars S H) (r : ScalarRef) : Type 0 where
+  pub numbered : AreNumbered known
+  pub missed : number_listed known.listed.items (content_of r) ≡ None
+  pub refused : HasRoom known → IsShort r
 
 -- The scalar has the number that it had, or the next one if it had none. All others are unchanged.
 pub record EntersScalar {S H : Type 0} (shown : ScalarRef) (next : ℕ) (old new : Scalars S H) (had : Option ℕ) : Type 0 where

@@ -3,10 +3,9 @@
 ghost use Rattle.std.specs.Prelude.{◌≡◌, ◌≤◌, ◌↔◌, ℕ, IsTrue, IfOk, bit_and};
 ghost use Rattle.plist_value.specs.Scalars.{content_of};
 ghost use Rattle.plist_engine.specs.Bits.{HasBit, IsClear, IsSet, KeepsBits};
-ghost use Rattle.plist_engine.specs.Bits.{any_bit_of, bit_of, fast_hash, hash_of, strong_hash};
+ghost use Rattle.plist_engine.specs.Bits.{any_bit_of, bit_of, fast_hash, hash_of, natural_in, strong_hash};
 
-use crate::numbered::is_long_data;
-use crate::scalars::natural_in;
+use crate::scalars::is_long_data;
 use plist_value::ScalarRef;
 use std::alloc::{AllocError, Global};
 use std::hash::{DefaultHasher, FoldHasher, Hash, Hasher};
@@ -116,6 +115,16 @@ fn any_bit_of(mask: u32, seed: u64, scalar: &ScalarRef) -> u32
     match natural_in(*scalar) {
         Some(natural) if natural <= u64::from(mask) => natural as u32,
         _ => (hash_of(seed, scalar) & u64::from(mask)) as u32,
+    }
+}
+
+/// Returns the integer that the scalar contains, or `None` if the scalar is negative or no integer.
+pub fn natural_in(scalar: ScalarRef) -> Option<u64>
+    ensures { result ≡ natural_in (content_of scalar.entry) }
+{
+    match scalar {
+        ScalarRef::Whole(whole) => u64::try_from(whole.get()).ok(),
+        _ => None,
     }
 }
 

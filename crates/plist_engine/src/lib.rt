@@ -5,12 +5,9 @@
 mod bits;
 mod ends;
 pub mod faults;
-mod hashed;
 pub mod laws;
 mod making;
 mod memo;
-mod naturals;
-mod numbered;
 pub mod objects;
 pub mod order;
 pub mod outputs;
@@ -23,10 +20,11 @@ pub mod sieve;
 mod sifting;
 mod walk;
 
+pub use bits::natural_in;
 pub use faults::WriteFault;
 pub use making::canonical_of;
 pub use outputs::Output;
 pub use plist_devices::{DeviceFault, ListSink, Sink};
-pub use scalars::{Scalars, natural_in};
+pub use scalars::Scalars;
 pub use sending::write_canonical_of;
 pub use sieve::{Notes, Sieve};

@@ -3,18 +3,20 @@ ghost use Rattle.std.specs.Prelude.{◌≡◌, ◌≤◌, ℕ, length, true, IfO
 ghost use Rattle.plist_object.specs.Views.{octets_of};
 ghost use Rattle.plist_engine.specs.Memo.{IsNumber, KeepsNumber, Marks, Sifts, kept};
 
-use crate::naturals::NO_NUMBER;
 use crate::sieve::Sieve;
 use crate::sifting::sift;
 use plist_object::BinFile;
 use std::alloc::{AllocError, Global};
 use std::hash::BuildHasher;
 
+// Marks an object that has no number.
+const NO_NUMBER: u32 = u32::MAX;
+
 /// Marks an object that has no number, and whose scalar no other object contains. All smaller
 /// values are numbers.
 pub(crate) const SINGLE: u32 = NO_NUMBER - 1;
 
-// With fewer scalars than this in the sets, looking for single objects does not pay.
+// With fewer scalars than this in the map, looking for single objects does not pay.
 const MANY: usize = 4_096;
 
 /// The number of each object of the file that was visited as a scalar.
@@ -72,7 +74,7 @@ impl Memo {
     }
 
     /// Looks for single objects, unless that was already done or there are too few scalars in the
-    /// sets for it to pay.
+    /// map for it to pay.
     #[inline(always)]
     pub(crate) fn sift<S: BuildHasher>(
         &mut self,

@@ -26,7 +26,7 @@ pub(crate) struct Objects {
 }
 
 /// The objects so far, and a memo with the number of each input object that was visited as a
-/// scalar. A set contains these scalars, except those that are known to occur in one object only.
+/// scalar. A map contains these scalars, except those that are known to occur in one object only.
 #[derive(Drop)]
 pub(crate) struct Plan<'a, S: BuildHasher> {
     hasher: S,
@@ -102,7 +102,7 @@ impl<'a, S: BuildHasher + Copy> Plan<'a, S> {
         Ok(number)
     }
 
-    /// Keeps only the objects, and frees the sets and the memo.
+    /// Keeps only the objects, and frees the map and the memo.
     pub(crate) fn into_objects(self) -> Objects
         ensures originals { result.originals ≡ self.entry.originals }
         ensures references { result.references ≡ self.entry.references }
@@ -165,7 +165,7 @@ impl<'a, S: BuildHasher + Copy> Plan<'a, S> {
 }
 
 // Returns the number of an equal scalar that was visited before. If there is none, gives the scalar
-// the number `next` in the set, unless no other object contains an equal one.
+// the number `next` in the map, unless no other object contains an equal one.
 fn meet<'a, S: BuildHasher + Copy>(
     memo: &Memo,
     scalars: &mut Scalars<'a, S>,

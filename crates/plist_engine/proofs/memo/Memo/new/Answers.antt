@@ -2,7 +2,7 @@ use Rattle.std.proofs.Common.{◌≡◌, ◌-◌, ◌++◌, ℕ, length, get_or,
 use Rattle.std.proofs.Math.Seq.{take-nil}
 use Rattle.std.proofs.lemmas.Bool.{cases_lt}
 use Rattle.std.proofs.lemmas.List.{get_or-replicate, get_or_past, length-replicate}
-use Rattle.plist_engine.specs.Naturals.{no_number}
+use Rattle.plist_engine.specs.Memo.{no_number}
 use Rattle.plist_engine.proofs.memo.Memo.new.Goals as goal
 
 none_kept : (count i : ℕ) → get_or (replicate count no_number) i no_number ≡ no_number

@@ -1,8 +1,13 @@
-use Rattle.std.proofs.Common.{◌∙◌, refl, sym}
-use Rattle.std.proofs.lemmas.Result.{IfOk-weaker}
-use Rattle.plist_engine.proofs.Storing.{enters-natural}
+use Rattle.std.proofs.Common.{◌≡◌, None, rules, refl, arith}
+use Rattle.plist_value.specs.Scalars.{content_of}
+use Rattle.plist_engine.specs.Scalars.{number_listed, IsLong, HasRoom}
+use Rattle.plist_engine.proofs.Storing.{enters-pushed}
 use Rattle.plist_engine.proofs.scalars.Scalars.enter.Goals as goal
 
-pub returns-in-Some : goal.returns-in-Some
-returns-in-Some g c =
-    IfOk-weaker c.enter.result _ _ (λ had enters numbered. enters-natural c.args.scalar c.in-Some.natural c.args.next c.args.self.now _ had (sym c.natural_in.ensures ∙ c.in-Some.is) numbered refl (enters numbered.naturals)) c.enter.ensures
+pub returns : goal.returns
+returns g c = λ numbered.
+    let known = c.args.self.now in
+    let long : IsLong c.args.scalar = search rules in
+    let room : HasRoom known = omega (arith, c.len.ensures) in
+    let missed : number_listed known.listed.items (content_of c.args.scalar) ≡ None = search rules in
+    enters-pushed c.args.scalar c.args.next known _ numbered long missed room refl c.in_ok-push.ensures.items

@@ -1,7 +1,7 @@
 use Rattle.std.proofs.Common.{◌≡◌, drop}
 use Rattle.plist_value.specs.Scalars.{content_of}
-use Rattle.plist_engine.specs.Numbered.{number_listed}
-use Rattle.plist_engine.proofs.numbered.Numbered.number_of_listed.Given as goal
+use Rattle.plist_engine.specs.Scalars.{number_listed}
+use Rattle.plist_engine.proofs.scalars.Scalars.number_of_listed.Given as goal
 
 -- a lookup in the entries that remain gives the same as one in all
 abbrev pub invariant-loop-one : goal.invariant-loop-one
