@@ -18,8 +18,8 @@ use Rattle.plist_engine.proofs.Trees.{length-preorder}
 use Rattle.plist_engine.proofs.Widths.{least_width-holds}
 use Rattle.plist_engine.specs.declared.plan.Objects.{Objects}
 use Rattle.plist_engine.specs.Plan.{AreObjectsOf}
-use Rattle.plist_engine.specs.Parts.{helds_of, AreSound, octets_for}
-use Rattle.plist_engine.proofs.Parting.{helds-are, sound-are, length-helds}
+use Rattle.plist_engine.specs.Renumbering.{helds_of, AreSound, octets_for}
+use Rattle.plist_engine.proofs.Renumbered.{helds-are, sound-are, length-helds}
 
 module _ (f : List ℕ) (v : Plist) (binary : IsBinary f v) (objects : Objects) (found : AreObjectsOf f v objects) where
   helds : helds_of f objects.originals.items objects.references.items ≡ found_in (preorder v) 0 (preorder v)

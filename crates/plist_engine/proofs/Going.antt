@@ -1,5 +1,5 @@
 -- Sequences of calls that write.
-use Rattle.std.proofs.Common.{◌≡◌, ℕ, ◌+◌, ◌<◌, ◌≤◌, List, [], ◌++◌, length, take, Option, Result, Ok, Err, refl, sym, ap, subst, ◌∙◌, arith, length-append, append_assoc}
+use Rattle.std.proofs.Common.{◌≡◌, ℕ, ◌+◌, ◌<◌, ◌≤◌, List, [], ◌++◌, length, take, Result, Ok, Err, refl, sym, ap, subst, ◌∙◌, arith, length-append, append_assoc}
 use Rattle.std.proofs.KnownBytes.{Appends-nil, Appends-trans}
 use Rattle.std.proofs.Math.Seq.{take-append-add}
 use Rattle.std.proofs.lemmas.List.{append-nil, take-append-le}
@@ -8,7 +8,7 @@ use Rattle.plist_devices.specs.Count.{one_more}
 use Rattle.plist_engine.specs.declared.faults.WriteFault.{WriteFault}
 use Rattle.plist_engine.specs.declared.faults.WriteFault.TheVariants.{OutOfMemory, WriteFailed}
 use Rattle.plist_engine.specs.Sending.{sent_of, Allows, IsBlamed, IsShort, IsWritten}
-use Rattle.plist_engine.specs.Output.{State, Stays, Gathers, Stops, Goes, AreWithin, KeepsShort}
+use Rattle.plist_engine.specs.Output.{State, Stays, Gathers, Stops, Goes, KeepsShort}
 
 -- a prefix is no longer than the whole
 pub IsShort-within : (e : WriteFault) (out all : ℕ) → IsShort e out all → out ≤ all

@@ -24,7 +24,7 @@ pub mod Filling
 pub mod Ordering
 pub mod Within
 pub mod Walked
-pub mod Parting
+pub mod Renumbered
 pub mod ObjectSteps
 pub mod Finding
 pub mod Remembering

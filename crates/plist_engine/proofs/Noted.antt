@@ -20,7 +20,7 @@ pub noted-nothing : (f : List ℕ) (notes : Notes) → notes.bits.items ≡ [] �
 noted-nothing f notes none = record {
   noted = ap length none;
   kept = λ k s below. absurd (omega (arith, below));
-  told = λ k below. absurd (omega (arith, below));
+  are_scalars = λ k below. absurd (omega (arith, below));
 }
 
 module _ (f : List ℕ) (i bit : ℕ) (old new : Notes) (was : AreNoted f i old) (pushed : new.bits.items ≡ old.bits.items ++ (bit ∷ [])) (same_mask : new.mask ≡ old.mask) (same_seed : new.seed ≡ old.seed) where
@@ -46,8 +46,8 @@ module _ (f : List ℕ) (i bit : ℕ) (old new : Notes) (was : AreNoted f i old)
       | inl earlier ↦ before k earlier ∙ was.kept k s earlier holds ∙ alike s
       | inr late ↦ absurd (let is : k ≡ i = omega (arith, late, below) in none s (subst (λ (j : ℕ). HoldsIt f j s) is holds))
     ];
-    told = λ k below some. elim (cases_lt k i) [
-      | inl earlier ↦ was.told k earlier (λ none. some (before k earlier ∙ none))
+    are_scalars = λ k below some. elim (cases_lt k i) [
+      | inl earlier ↦ was.are_scalars k earlier (λ none. some (before k earlier ∙ none))
       | inr late ↦ absurd (let is : k ≡ i = omega (arith, late, below) in some (ap (λ j. get_or new.bits.items j 0) is ∙ last ∙ is_none))
     ];
   }
@@ -71,8 +71,8 @@ module _ (f : List ℕ) (i bit : ℕ) (old new : Notes) (was : AreNoted f i old)
         | inl earlier ↦ before k earlier ∙ was.kept k t earlier reads ∙ alike t
         | inr late ↦ (let e = one k t late below reads in ap (λ j. get_or new.bits.items j 0) e.0 ∙ last ∙ is_bit ∙ alike s ∙ ap (bit_of new.mask new.seed) (sym e.1))
       ];
-      told = λ k below some. elim (cases_lt k i) [
-        | inl earlier ↦ was.told k earlier (λ none. some (before k earlier ∙ none))
+      are_scalars = λ k below some. elim (cases_lt k i) [
+        | inl earlier ↦ was.are_scalars k earlier (λ none. some (before k earlier ∙ none))
         | inr late ↦ (let is : i ≡ k = omega (arith, late, below) in (r, subst (λ (j : ℕ). HoldsIt f j s) is holds))
       ];
     }
@@ -92,7 +92,7 @@ noted-sieve f i notes again notes_are met = record {
         ((λ none. some (sym at_k ∙ none)), has),
       )
       );
-  told = notes_are.told;
+  are_scalars = notes_are.are_scalars;
 }
 
 -- a container contains no scalar

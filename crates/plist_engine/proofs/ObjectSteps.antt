@@ -6,7 +6,7 @@ use Rattle.plist_object.specs.Shortest.{spelling_of}
 use Rattle.plist_object.specs.Files.{starts}
 use Rattle.plist_engine.specs.Spelling.{IsRead}
 use Rattle.plist_engine.specs.Pieces.{CanSpell, CanSpellAll}
-use Rattle.plist_engine.specs.Parts.{held_in, reference_count, renumbered, helds_of, AreSound, octets_for}
+use Rattle.plist_engine.specs.Renumbering.{held_in, reference_count, renumbered, helds_of, AreSound, octets_for}
 
 -- what object i requires of the file and of the numbers
 pub record Sound (f : List ℕ) (x : ℕ) (numbers : List ℕ) : Type 0 where

@@ -15,7 +15,7 @@ use Rattle.plist_object.proofs.Uniqueness.{same_held}
 use Rattle.plist_engine.specs.declared.plan.Plan.{Plan}
 use Rattle.plist_engine.specs.declared.scalars.Scalars.{Scalars}
 use Rattle.plist_engine.specs.Scalars.{AreNew, EntersScalar, number_stored}
-use Rattle.plist_engine.specs.Memo.{no_number, single, kept, IsNumber, IsAlone, IsSingle, KeepsNumber, Sifts}
+use Rattle.plist_engine.specs.Memo.{no_number, single, kept, IsNumber, IsAlone, IsSingle, KeepsNumber, FindsSingles}
 use Rattle.plist_engine.specs.Plan.{is_held, number_from, number_met, IsRemembered, IsMet, IsUnmet, KnowsScalars, MeetsScalar, IsWalked, Begins}
 use Rattle.plist_engine.proofs.Meeting.{cases_Option, met-added, met-beside, met-now, met-still}
 use Rattle.plist_engine.proofs.Storing.{entered-had, entered-kept, entered-unknown, entered-added}
@@ -97,8 +97,8 @@ knows-begun f i refs old new n apart begins was =
     knows-as f old new (λ s. met-beside f i old new begins.original_added s (apart s)) begins.scalars_kept begins.memo_kept was
 
 -- a plan after the search for single objects
-pub unmet-sifted : {S H : Type 0} → (f : List ℕ) (i : ℕ) (s : Scalar) (old new : Plan S H) → new.originals ≡ old.originals → new.scalars ≡ old.scalars → Sifts f old.memo new.memo → IsUnmet f i s old → IsUnmet f i s new
-unmet-sifted {S} {H} f i s old new same_originals same_scalars sifts unmet =
+pub unmet-searched : {S H : Type 0} → (f : List ℕ) (i : ℕ) (s : Scalar) (old new : Plan S H) → new.originals ≡ old.originals → new.scalars ≡ old.scalars → FindsSingles f old.memo new.memo → IsUnmet f i s old → IsUnmet f i s new
+unmet-searched {S} {H} f i s old new same_originals same_scalars sifts unmet =
     let was = unmet.knows in
     let same : (q : Scalar) → number_met f new q ≡ number_met f old q = λ q. ap (λ originals. number_from f 0 originals.items q) same_originals in
     let stored : (r : ScalarRef) → number_stored new.scalars r ≡ number_stored old.scalars r = λ r. ap (λ (k : Scalars S H). number_stored k r) same_scalars in

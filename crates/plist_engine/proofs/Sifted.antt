@@ -4,7 +4,7 @@ use Rattle.std.proofs.lemmas.Bool.{cases_eq, cases_lt}
 use Rattle.std.proofs.lemmas.List.{length-set, get_or-set_same, get_or-set_other}
 use Rattle.plist_value.specs.Plist.{Scalar}
 use Rattle.plist_object.specs.Layout.{trailer_of}
-use Rattle.plist_engine.specs.Memo.{no_number, single, kept_at, IsAlone, IsSingle, Marks, Sifts}
+use Rattle.plist_engine.specs.Memo.{no_number, single, kept_at, IsAlone, IsSingle, Marks, FindsSingles}
 use Rattle.plist_engine.specs.declared.memo.Memo.{Memo}
 use Rattle.plist_engine.specs.Sieve.{HasNoted, HoldsIt, IsUnlike, MayRepeat}
 use Rattle.plist_engine.specs.declared.sieve.Sieve.{Sieve}
@@ -33,12 +33,12 @@ alone-apart f sieve noted i apart s j here there =
 single-unlike : (f : List ℕ) (sieve : Sieve) → HasNoted f (trailer_of f).count sieve → (i : ℕ) → i < length sieve.bits.items → IsUnlike sieve i → IsSingle f i
 single-unlike f sieve noted i below unlike =
     let listed : i < (trailer_of f).count = subst (λ (n : ℕ). i < n) noted.noted below in
-    let told = noted.told i listed unlike.0 in
-    ((told.0, record { listed = listed; reads = told.1 }), alone-apart f sieve noted i unlike.1)
+    let contained = noted.are_scalars i listed unlike.0 in
+    ((contained.0, record { listed = listed; reads = contained.1 }), alone-apart f sieve noted i unlike.1)
 
 -- objects that are marked because of their bits are single
-pub marked-sifts : (f : List ℕ) (sieve : Sieve) → HasNoted f (trailer_of f).count sieve → (old new : Memo) → Marks sieve old.numbers.items new.numbers.items → Sifts f old new
-marked-sifts f sieve noted old new marks = record {
+pub marked-singles : (f : List ℕ) (sieve : Sieve) → HasNoted f (trailer_of f).count sieve → (old new : Memo) → Marks sieve old.numbers.items new.numbers.items → FindsSingles f old new
+marked-singles f sieve noted old new marks = record {
   as_many = marks.as_many;
   each = λ i. elim (marks.each i) [
     | inl same ↦ inl same
@@ -49,8 +49,8 @@ marked-sifts f sieve noted old new marks = record {
 pub marks-none : (sieve : Sieve) (numbers : List ℕ) → Marks sieve numbers numbers
 marks-none sieve numbers = record { as_many = refl; each = λ i. inl refl }
 
-pub sifts-none : (f : List ℕ) (old new : Memo) → new.numbers ≡ old.numbers → Sifts f old new
-sifts-none f old new same = record {
+pub singles-none : (f : List ℕ) (old new : Memo) → new.numbers ≡ old.numbers → FindsSingles f old new
+singles-none f old new same = record {
   as_many = ap (λ numbers. length numbers.items) same;
   each = λ i. inl (ap (λ numbers. kept_at numbers.items i) same);
 }

@@ -3,7 +3,7 @@ use Rattle.std.specs.Prelude.{ℕ, suc, ◌+◌, List, length, map}
 use Rattle.std.specs.List.{concat}
 use Rattle.plist_value.specs.Plist.{Plist, scalar, list, table}
 use Rattle.plist_object.specs.Files.{trailer_with, file_with}
-use Rattle.plist_object.specs.Spelling.{least_width, references, scalar_spelling, list_spelling, table_spelling}
+use Rattle.plist_object.specs.Spelling.{least_width, scalar_spelling, list_spelling, table_spelling}
 use Rattle.plist_engine.specs.Tree.{preorder, key_texts, item_places, key_places, value_places}
 use Rattle.plist_engine.specs.Sharing.{kept_places, number_among}
 

@@ -17,4 +17,4 @@ pub mod Bits
 pub mod Sieve
 pub mod Memo
 pub mod Plan
-pub mod Parts
+pub mod Renumbering

@@ -52,6 +52,6 @@ pub record Marks (sieve : Sieve) (old new : List ℕ) : Type 0 where
 
 -- Objects of the file without a number may be marked as single if they are. All others are
 -- unchanged.
-pub record Sifts (f : List ℕ) (old new : Memo) : Type 0 where
+pub record FindsSingles (f : List ℕ) (old new : Memo) : Type 0 where
   pub as_many : length new.numbers.items ≡ length old.numbers.items
   pub each : (i : ℕ) → (kept new i ≡ kept old i) ⊎ ((kept old i ≡ no_number) × ((kept new i ≡ single) × IsSingle f i))

@@ -5,15 +5,15 @@ use Rattle.plist_value.specs.Scalars.{content_of}
 use Rattle.plist_object.specs.Objects.{Held, holds_scalar, holds_list, holds_table}
 use Rattle.plist_object.specs.Sizes.{IsSmall}
 use Rattle.plist_object.specs.Spelling.{scalar_spelling, list_spelling, table_spelling}
-use Rattle.plist_engine.specs.declared.putting.Part.{Part}
-use Rattle.plist_engine.specs.declared.putting.Part.TheVariants as part
+use Rattle.plist_engine.specs.declared.new_objects.NewObject.{NewObject}
+use Rattle.plist_engine.specs.declared.new_objects.NewObject.TheVariants as new
 
 -- the bytes of an object with references of `width` bytes
-abbrev pub octets_in_part : ℕ → Part → List ℕ
-octets_in_part width (part.Spelled octets) = octets.now
-octets_in_part width (part.Scalar s) = scalar_spelling (content_of s)
-octets_in_part width (part.List refs) = list_spelling width refs.now
-octets_in_part width (part.Table keys values) = table_spelling width keys.now values.now
+abbrev pub octets_in_object : ℕ → NewObject → List ℕ
+octets_in_object width (new.Spelled octets) = octets.now
+octets_in_object width (new.Scalar s) = scalar_spelling (content_of s)
+octets_in_object width (new.List refs) = list_spelling width refs.now
+octets_in_object width (new.Table keys values) = table_spelling width keys.now values.now
 
 -- there are fewer than 2^32 references, and each fits the width
 pub record AreSpellable (width : ℕ) (refs : List ℕ) : Type 0 where
@@ -29,8 +29,8 @@ abbrev pub CanSpellAll : ℕ → List Held → Type 0
 CanSpellAll width helds = AllByRecursion (CanSpell width) helds
 
 -- bytes that are already encoded have no condition
-abbrev pub CanSpellPart : ℕ → Part → Type 0
-CanSpellPart width (part.Spelled octets) = ⊤
-CanSpellPart width (part.Scalar s) = CanSpell width (holds_scalar (content_of s))
-CanSpellPart width (part.List refs) = CanSpell width (holds_list refs.now)
-CanSpellPart width (part.Table keys values) = CanSpell width (holds_table keys.now values.now)
+abbrev pub CanSpellObject : ℕ → NewObject → Type 0
+CanSpellObject width (new.Spelled octets) = ⊤
+CanSpellObject width (new.Scalar s) = CanSpell width (holds_scalar (content_of s))
+CanSpellObject width (new.List refs) = CanSpell width (holds_list refs.now)
+CanSpellObject width (new.Table keys values) = CanSpell width (holds_table keys.now values.now)

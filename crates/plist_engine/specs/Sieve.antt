@@ -25,7 +25,7 @@ AreScalars f i bits = (k : ℕ) → k < i → slice_index bits k ≢ no_bit → 
 pub record AreNoted (f : List ℕ) (i : ℕ) (notes : Notes) : Type 0 where
   pub noted : length notes.bits.items ≡ i
   pub kept : (k : ℕ) (s : Scalar) → k < i → HoldsIt f k s → slice_index notes.bits.items k ≡ bit_of notes.mask notes.seed s
-  pub told : AreScalars f i notes.bits.items
+  pub are_scalars : AreScalars f i notes.bits.items
 
 -- each bit that occurs more than once among the first n is set
 abbrev pub AreMetAgain : ℕ → List ℕ → Bits → Type 0
@@ -44,4 +44,4 @@ IsUnlike sieve i = (slice_index sieve.bits.items i ≢ no_bit) × (MayRepeat sie
 pub record HasNoted (f : List ℕ) (i : ℕ) (sieve : Sieve) : Type 0 where
   pub noted : length sieve.bits.items ≡ i
   pub again : (j k : ℕ) (s : Scalar) → j < k → k < i → HoldsIt f j s → HoldsIt f k s → MayRepeat sieve j × MayRepeat sieve k
-  pub told : AreScalars f i sieve.bits.items
+  pub are_scalars : AreScalars f i sieve.bits.items

@@ -3,7 +3,8 @@
 ghost use Rattle.std.specs.Prelude.{◌≡◌, ◌≤◌, ◌↔◌, ℕ, IsTrue, IfOk, bit_and};
 ghost use Rattle.plist_value.specs.Scalars.{content_of};
 ghost use Rattle.plist_engine.specs.Bits.{HasBit, IsClear, IsSet, KeepsBits};
-ghost use Rattle.plist_engine.specs.Bits.{any_bit_of, bit_of, fast_hash, hash_of, natural_in, strong_hash};
+ghost use Rattle.plist_engine.specs.Bits.{any_bit_of, bit_of, fast_hash, hash_of, natural_in};
+ghost use Rattle.plist_engine.specs.Bits.{strong_hash};
 
 use crate::scalars::is_long_data;
 use plist_value::ScalarRef;

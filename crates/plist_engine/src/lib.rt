@@ -3,21 +3,20 @@
 #![tactic(auto)]
 
 mod bits;
-mod ends;
 pub mod faults;
+mod file_end;
 pub mod laws;
 mod making;
 mod memo;
+mod new_objects;
 pub mod objects;
 pub mod order;
 pub mod outputs;
-mod parts;
 mod plan;
-mod putting;
+mod renumbering;
 pub mod scalars;
 pub mod sending;
 pub mod sieve;
-mod sifting;
 mod walk;
 
 pub use bits::natural_in;

@@ -1,10 +1,9 @@
 //! The object numbers of the objects that were visited as scalars.
 ghost use Rattle.std.specs.Prelude.{◌≡◌, ◌≤◌, ℕ, length, true, IfOk, IfSome, IfNone, OnOk};
 ghost use Rattle.plist_object.specs.Views.{octets_of};
-ghost use Rattle.plist_engine.specs.Memo.{IsNumber, KeepsNumber, Marks, Sifts, kept};
+ghost use Rattle.plist_engine.specs.Memo.{IsNumber, KeepsNumber, Marks, FindsSingles, kept};
 
-use crate::sieve::Sieve;
-use crate::sifting::sift;
+use crate::sieve::{Sieve, sieve_of};
 use plist_object::BinFile;
 use std::alloc::{AllocError, Global};
 use std::hash::BuildHasher;
@@ -24,7 +23,7 @@ const MANY: usize = 4_096;
 pub(crate) struct Memo {
     pub(crate) numbers: Vec<u32>,
     // Whether single objects were already looked for.
-    pub(crate) is_sifted: bool,
+    pub(crate) is_searched: bool,
 }
 
 impl Memo {
@@ -37,7 +36,7 @@ impl Memo {
         numbers.resize(count as usize, NO_NUMBER)?;
         Ok(Memo {
             numbers,
-            is_sifted: false,
+            is_searched: false,
         })
     }
 
@@ -76,32 +75,32 @@ impl Memo {
     /// Looks for single objects, unless that was already done or there are too few scalars in the
     /// map for it to pay.
     #[inline(always)]
-    pub(crate) fn sift<S: BuildHasher>(
+    pub(crate) fn find_singles<S: BuildHasher>(
         &mut self,
         alloc: Global,
         hasher: &S,
         file: &BinFile,
         scalars: usize,
     ) -> Result<(), AllocError>
-        ensures { OnOk result (Sifts (octets_of file.now) self.old self.new) }
+        ensures { OnOk result (FindsSingles (octets_of file.now) self.old self.new) }
     {
-        if self.is_sifted || scalars < MANY {
+        if self.is_searched || scalars < MANY {
             return Ok(());
         }
-        self.mark(alloc, hasher, file)
+        self.search(alloc, hasher, file)
     }
 
     #[inline(never)]
-    fn mark<S: BuildHasher>(
+    fn search<S: BuildHasher>(
         &mut self,
         alloc: Global,
         hasher: &S,
         file: &BinFile,
     ) -> Result<(), AllocError>
-        ensures { OnOk result (Sifts (octets_of file.now) self.old self.new) }
+        ensures { OnOk result (FindsSingles (octets_of file.now) self.old self.new) }
     {
-        self.is_sifted = true;
-        if let Some(sieve) = sift(alloc, hasher, file)? {
+        self.is_searched = true;
+        if let Some(sieve) = sieve_of(alloc, hasher, file)? {
             mark_single(&mut self.numbers, &sieve);
         }
         Ok(())

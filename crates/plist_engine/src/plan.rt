@@ -73,7 +73,7 @@ impl<'a, S: BuildHasher + Copy> Plan<'a, S> {
             → KnowsScalars (octets_of file.now) self.new) }
     {
         self.memo
-            .sift(alloc, &self.hasher, file, self.scalars.len())?;
+            .find_singles(alloc, &self.hasher, file, self.scalars.len())?;
         let next = self.next_number()?;
         if let Some(number) = meet(&self.memo, &mut self.scalars, object, scalar, next)? {
             self.memo.keep(object, number);

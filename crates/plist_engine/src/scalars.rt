@@ -25,9 +25,10 @@ struct Listed<'a> {
     number: u32,
 }
 
-/// Scalars that already have an object number, with their numbers. Equal scalars are found by them.
-/// The first long data is in a list and is found by comparison, which ends at the first difference,
-/// while a hash would read all of its bytes. All other scalars are in a hash map.
+/// Scalars that already have an object number, with their numbers.
+///
+/// The first pieces of long data are in a list and are found by comparison, which ends at the first
+/// difference, while a hash would read all of their bytes. All other scalars are in a hash map.
 #[derive(Drop)]
 pub struct Scalars<'a, S: BuildHasher> {
     listed: Vec<Listed<'a>>,

@@ -9,18 +9,18 @@ ghost use Rattle.plist_object.specs.Spelling.{least_width, scalar_spelling};
 ghost use Rattle.plist_object.specs.Views.{octets_of};
 ghost use Rattle.plist_object.specs.Files.{starts};
 ghost use Rattle.plist_engine.specs.Canonical.{canon, file_of, objects_of};
-ghost use Rattle.plist_engine.specs.Pieces.{CanSpellAll, CanSpellPart, octets_in_part};
+ghost use Rattle.plist_engine.specs.Pieces.{CanSpellAll, CanSpellObject, octets_in_object};
 ghost use Rattle.plist_engine.specs.Sending.{Allows, ArePieces, IsWritten};
 ghost use Rattle.plist_engine.specs.Tree.{preorder};
-ghost use Rattle.plist_engine.specs.Parts.{AreSound, helds_of, octets_planned};
+ghost use Rattle.plist_engine.specs.Renumbering.{AreSound, helds_of, octets_planned};
 ghost use Rattle.plist_engine.specs.Output.{CanTake, Goes, KeepsShort, LeavesRoom};
 ghost use Rattle.plist_engine.specs.Output.{Stays, state_of};
 
-use crate::ends::send_end;
+use crate::file_end::send_end;
+use crate::new_objects::{NewObject, object_length, put_object};
 use crate::outputs::PIECE;
-use crate::parts::part_of;
 use crate::plan::Objects;
-use crate::putting::{Part, part_length, put_part};
+use crate::renumbering::renumbered_object;
 use crate::walk::objects_of;
 use crate::{Output, Sink, WriteFault};
 use plist_object::{BinFile, HEADER, put_data_head, width_of};
@@ -94,11 +94,11 @@ fn send_file<W: Sink>(
         waiting: &mut waiting,
         sent: 0,
     };
-    send_parts(alloc, file, objects, &mut out)
+    send_all(alloc, file, objects, &mut out)
 }
 
 // Sends the file of the planned objects, whose header is already in the buffer.
-fn send_parts<W: Sink>(
+fn send_all<W: Sink>(
     alloc: Global,
     file: &BinFile,
     objects: Objects,
@@ -157,10 +157,10 @@ fn send_objects<W: Sink>(
     let mut numbers = objects.references.as_slice();
     let mut place = 8;
     for original in &objects.originals {
-        let (part, behind) = part_of(file, u64::from(*original), numbers);
-        let size = part_length(width, &part);
+        let (object, behind) = renumbered_object(file, u64::from(*original), numbers);
+        let size = object_length(width, &object);
         places.push_reserved(place);
-        send_part(width, &part, size, out)?;
+        send_object(width, &object, size, out)?;
         place += size;
         numbers = behind;
     }
@@ -173,29 +173,29 @@ fn send_objects<W: Sink>(
 ///
 /// [`WriteFault::WriteFailed`] (51) if the sink fails, and [`WriteFault::OutOfMemory`] (60) if
 /// there is no memory for the object.
-pub(crate) fn send_part<W: Sink>(
+pub(crate) fn send_object<W: Sink>(
     width: u8,
-    part: &Part,
+    object: &NewObject,
     size: u64,
     out: &mut Output<W>,
 ) -> Result<(), WriteFault>
     requires width { IsWidth width }
-    requires spellable { CanSpellPart width part.now }
-    requires size { size ≡ length (octets_in_part width part.now) }
-    requires room { CanTake (octets_in_part width part.now) (state_of W.Sink out.old) }
-    ensures goes { Goes (octets_in_part width part.now)
+    requires spellable { CanSpellObject width object.now }
+    requires size { size ≡ length (octets_in_object width object.now) }
+    requires room { CanTake (octets_in_object width object.now) (state_of W.Sink out.old) }
+    ensures goes { Goes (octets_in_object width object.now)
         (state_of W.Sink out.old) (state_of W.Sink out.new) result }
-    ensures pieces { KeepsShort (octets_in_part width part.now ∷ []) 0
+    ensures pieces { KeepsShort (octets_in_object width object.now ∷ []) 0
         (state_of W.Sink out.old) (state_of W.Sink out.new) result }
 {
-    match part {
-        Part::Scalar(ScalarRef::Bytes(octets)) if octets.len() as u64 > PIECE => {
+    match object {
+        NewObject::Scalar(ScalarRef::Bytes(octets)) if octets.len() as u64 > PIECE => {
             out.make_room(MOST_HEAD)?;
             send_data(octets, out)
         }
         _ => {
             out.make_room(size)?;
-            let Ok(()) = put_part(out.waiting, width, part) else {
+            let Ok(()) = put_object(out.waiting, width, object) else {
                 return Err(WriteFault::OutOfMemory { sent: out.sent });
             };
             Ok(())

@@ -1,16 +1,19 @@
 //! Finds the objects of a file that may contain the same scalar as another object.
 //!
-//! Most scalars of a file are unlike all others, and a lookup in a set costs a cache miss for each.
+//! Most scalars of a file are unlike all others, and a lookup in a map costs a cache miss for each.
 //! So a hash maps each scalar to one of many bits, and only scalars that share a bit are compared.
 //! First the bits of all objects are collected. A loop that does nothing else then counts them, in
 //! which the cache misses overlap.
-ghost use Rattle.std.specs.Prelude.{◌≡◌, ◌<◌, ◌↔◌, ℕ, List, suc, [], IsTrue, IfOk, OnOk, length};
+ghost use Rattle.std.specs.Prelude.{◌≡◌, ◌<◌, ◌↔◌, ℕ, List, suc, [], IsTrue};
+ghost use Rattle.std.specs.Prelude.{IfOk, IfSome, OnOk, length};
+ghost use Rattle.plist_object.specs.Layout.{trailer_of};
 ghost use Rattle.plist_object.specs.Places.{Holds};
-ghost use Rattle.plist_object.specs.Views.{held_of};
+ghost use Rattle.plist_object.specs.Views.{held_of, octets_of};
 ghost use Rattle.plist_engine.specs.Sieve.{AreMetAgain, AreNoted, HasNoted, IsUnlike, MayRepeat};
 
 use crate::bits::{Bits, bit_of, mask_for};
-use plist_object::Object;
+use plist_object::{BinFile, Object};
+use plist_value::ScalarRef;
 use std::alloc::{AllocError, Global};
 use std::hash::BuildHasher;
 
@@ -129,5 +132,42 @@ impl Sieve {
     {
         let bit = self.bits[object];
         bit != NO_BIT && !self.again.has(bit)
+    }
+}
+
+/// Returns the sieve of all objects of the file. Returns `None` if making it could read more bytes
+/// than the file has, which happens if scalars overlap, or if an object cannot be decoded.
+pub(crate) fn sieve_of<S: BuildHasher>(
+    alloc: Global,
+    hasher: &S,
+    file: &BinFile,
+) -> Result<Option<Sieve>, AllocError>
+    ensures { IfOk result (λ sieve. IfSome sieve
+        (HasNoted (octets_of file.now) (trailer_of (octets_of file.now)).count)) }
+{
+    let mut notes = Notes::new(alloc, hasher, file.count());
+    let mut left = file.table();
+    for i in 0..file.count() {
+        let Ok(object) = file.object(i) else {
+            return Ok(None);
+        };
+        let length = length_of(&object);
+        if length > left {
+            return Ok(None);
+        }
+        left -= length;
+        notes.note(&object)?;
+    }
+    let sieve = notes.sieve(alloc)?;
+    Ok(Some(sieve))
+}
+
+// Returns the most units or bytes that are read to hash the object, except for scalars of fixed
+// size.
+fn length_of(object: &Object) -> u64 {
+    match object {
+        Object::Scalar(ScalarRef::Text(text)) => text.len() as u64,
+        Object::Scalar(ScalarRef::Bytes(octets)) => octets.len() as u64,
+        _ => 0,
     }
 }

@@ -8,5 +8,5 @@ returns-in_default-clause-written g c =
 
 pub returns-clause-pieces : goal.returns-clause-pieces
 returns-clause-pieces g c = λ most allows before.
-    let kept = c.send_parts.ensures.pieces most allows before in
+    let kept = c.send_all.ensures.pieces most allows before in
     first_of (search (rules, kept), grind (arith, kept))

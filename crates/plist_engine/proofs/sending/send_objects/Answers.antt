@@ -4,16 +4,16 @@ use Rattle.std.proofs.lemmas.List.{append-nil, length-drop}
 use Rattle.std.proofs.lemmas.Result.{err_from_is_err_and}
 use Rattle.plist_object.specs.Views.{octets_of}
 use Rattle.plist_object.specs.Files.{starts}
-use Rattle.plist_engine.specs.Pieces.{CanSpellAll, octets_in_part}
-use Rattle.plist_engine.specs.Parts.{AreSound, helds_of, octets_for, octets_planned}
+use Rattle.plist_engine.specs.Pieces.{CanSpellAll, octets_in_object}
+use Rattle.plist_engine.specs.Renumbering.{AreSound, helds_of, octets_for, octets_planned}
 use Rattle.plist_engine.specs.Sending.{Allows}
 use Rattle.plist_engine.specs.Output.{state_of}
 use Rattle.plist_engine.proofs.Going.{Goes_put, Goes_then, Goes_rest, Goes_stop, Goes_same, room_then}
 use Rattle.plist_engine.proofs.ObjectSteps.{sound-next, spellable-next, step, measured-next, none-left, split-next, split-end, placed-next, placed-end}
 use Rattle.plist_engine.proofs.sending.send_objects.Goals as goal
 
-pub part_of-requires : goal.part_of-requires
-part_of-requires g c =
+pub renumbered_object-requires : goal.renumbered_object-requires
+renumbered_object-requires g c =
     let f = octets_of c.args.file.now in
     let start = c.args.objects.now.originals.items in
     let l = c.loop-original in
@@ -24,8 +24,8 @@ part_of-requires g c =
     let sound = sound-next f start i original l.numbers.now below is l.invariant.sound in
     record { read = sound.read; numbers = sound.enough }
 
-pub part_length-size-requires-clause-spellable : goal.part_length-size-requires-clause-spellable
-part_length-size-requires-clause-spellable g c =
+pub object_length-size-requires-clause-spellable : goal.object_length-size-requires-clause-spellable
+object_length-size-requires-clause-spellable g c =
     let f = octets_of c.args.file.now in
     let start = c.args.objects.now.originals.items in
     let l = c.loop-original in
@@ -33,7 +33,7 @@ part_length-size-requires-clause-spellable g c =
     let original = c.from.result in
     let below : i < length start = search rules in
     let is : original ≡ get_or start i original = search rules in
-    c.part_of.ensures.spellable c.args.width (spellable-next c.args.width f start i original l.numbers.now below is l.invariant.spellable)
+    c.renumbered_object.ensures.spellable c.args.width (spellable-next c.args.width f start i original l.numbers.now below is l.invariant.spellable)
 
 pub push_reserved-requires : goal.push_reserved-requires
 push_reserved-requires g c =
@@ -42,8 +42,8 @@ push_reserved-requires g c =
     let below : i < length start = search rules in
     omega (arith, c.loop-original.invariant.room, length-drop i start)
 
-pub send_part-requires-clause-spellable : goal.send_part-requires-clause-spellable
-send_part-requires-clause-spellable g c =
+pub send_object-requires-clause-spellable : goal.send_object-requires-clause-spellable
+send_object-requires-clause-spellable g c =
     let f = octets_of c.args.file.now in
     let start = c.args.objects.now.originals.items in
     let l = c.loop-original in
@@ -51,21 +51,21 @@ send_part-requires-clause-spellable g c =
     let original = c.from.result in
     let below : i < length start = search rules in
     let is : original ≡ get_or start i original = search rules in
-    c.part_of.ensures.spellable c.args.width (spellable-next c.args.width f start i original l.numbers.now below is l.invariant.spellable)
+    c.renumbered_object.ensures.spellable c.args.width (spellable-next c.args.width f start i original l.numbers.now below is l.invariant.spellable)
 
-pub send_part-requires-clause-room : goal.send_part-requires-clause-room
-send_part-requires-clause-room g c =
+pub send_object-requires-clause-room : goal.send_object-requires-clause-room
+send_object-requires-clause-room g c =
     let f = octets_of c.args.file.now in
     let start = c.args.objects.now.originals.items in
     let l = c.loop-original in
     let i = l.original-index in
     let original = c.from.result in
-    let part = c.part_of.result.0 in
+    let object = c.renumbered_object.result.0 in
     let below : i < length start = search rules in
     let is : original ≡ get_or start i original = search rules in
-    let one = step c.args.width f start i original l.numbers.now c.part_of.result.1.now (octets_in_part c.args.width part) below is (c.part_of.ensures.part c.args.width) c.part_of.ensures.behind l.invariant.sound l.invariant.spellable in
-    let octets = octets_in_part c.args.width part in
-    let later = concat (octets_for c.args.width f (drop (i + 1) start) c.part_of.result.1.now) in
+    let one = step c.args.width f start i original l.numbers.now c.renumbered_object.result.1.now (octets_in_object c.args.width object) below is (c.renumbered_object.ensures.spelled c.args.width) c.renumbered_object.ensures.behind l.invariant.sound l.invariant.spellable in
+    let octets = octets_in_object c.args.width object in
+    let later = concat (octets_for c.args.width f (drop (i + 1) start) c.renumbered_object.result.1.now) in
     let all = concat (octets_planned c.args.width f c.args.objects.now) in
     let rest = concat (octets_for c.args.width f (drop i start) l.numbers.now) in
     let whole = ap length l.invariant.split in
@@ -73,25 +73,25 @@ send_part-requires-clause-room g c =
     let sizes = ap (λ os. length (concat os)) one.split ∙ length-append octets later in
     omega (arith, left, sizes)
 
-pub returns-in_err-send_part-clause-goes : goal.returns-in_err-send_part-clause-goes
-returns-in_err-send_part-clause-goes g c =
+pub returns-in_err-send_object-clause-goes : goal.returns-in_err-send_object-clause-goes
+returns-in_err-send_object-clause-goes g c =
     let p = err_from_is_err_and c.from_residual.result c.from_residual.ensures.1 in
     let f = octets_of c.args.file.now in
     let start = c.args.objects.now.originals.items in
     let l = c.loop-original in
     let i = l.original-index in
     let original = c.from.result in
-    let part = c.part_of.result.0 in
+    let object = c.renumbered_object.result.0 in
     let below : i < length start = search rules in
     let is : original ≡ get_or start i original = search rules in
-    let one = step c.args.width f start i original l.numbers.now c.part_of.result.1.now (octets_in_part c.args.width part) below is (c.part_of.ensures.part c.args.width) c.part_of.ensures.behind l.invariant.sound l.invariant.spellable in
-    let octets = octets_in_part c.args.width part in
-    let later = concat (octets_for c.args.width f (drop (i + 1) start) c.part_of.result.1.now) in
+    let one = step c.args.width f start i original l.numbers.now c.renumbered_object.result.1.now (octets_in_object c.args.width object) below is (c.renumbered_object.ensures.spelled c.args.width) c.renumbered_object.ensures.behind l.invariant.sound l.invariant.spellable in
+    let octets = octets_in_object c.args.width object in
+    let later = concat (octets_for c.args.width f (drop (i + 1) start) c.renumbered_object.result.1.now) in
     let all = concat (octets_planned c.args.width f c.args.objects.now) in
     let whole : l.invariant.done ++ (octets ++ later) ≡ all = ap (λ os. l.invariant.done ++ concat os) (sym one.split) ∙ l.invariant.split in
     let q = state_of g.W.Sink l.out in
-    let r = state_of g.W.Sink c.send_part.new.out in
-    rw (p.1, p.2) (Goes_rest l.invariant.done (octets ++ later) all (state_of g.W.Sink c.args.out.now) q r tt _ whole l.invariant.goes (Goes_stop octets later q r _ c.in_err-send_part.ensures.goes))
+    let r = state_of g.W.Sink c.send_object.new.out in
+    rw (p.1, p.2) (Goes_rest l.invariant.done (octets ++ later) all (state_of g.W.Sink c.args.out.now) q r tt _ whole l.invariant.goes (Goes_stop octets later q r _ c.in_err-send_object.ensures.goes))
 
 pub overflow_add-place : goal.overflow_add-place
 overflow_add-place g c =
@@ -100,12 +100,12 @@ overflow_add-place g c =
     let l = c.loop-original in
     let i = l.original-index in
     let original = c.from.result in
-    let part = c.part_of.result.0 in
+    let object = c.renumbered_object.result.0 in
     let below : i < length start = search rules in
     let is : original ≡ get_or start i original = search rules in
-    let one = step c.args.width f start i original l.numbers.now c.part_of.result.1.now (octets_in_part c.args.width part) below is (c.part_of.ensures.part c.args.width) c.part_of.ensures.behind l.invariant.sound l.invariant.spellable in
+    let one = step c.args.width f start i original l.numbers.now c.renumbered_object.result.1.now (octets_in_object c.args.width object) below is (c.renumbered_object.ensures.spelled c.args.width) c.renumbered_object.ensures.behind l.invariant.sound l.invariant.spellable in
     let all = concat (octets_planned c.args.width f c.args.objects.now) in
-    let measured = measured-next l.place c.part_length-size.result (8 + length all) (octets_in_part c.args.width part) _ _ c.part_length-size.ensures one.split l.invariant.measured in
+    let measured = measured-next l.place c.object_length-size.result (8 + length all) (octets_in_object c.args.width object) _ _ c.object_length-size.ensures one.split l.invariant.measured in
     let bound = measured.0 in
     let room = c.requires.room in
     omega (arith, bound, room)
@@ -117,29 +117,29 @@ loop-original-preserved g c =
     let l = c.loop-original in
     let i = l.original-index in
     let original = c.from.result in
-    let part = c.part_of.result.0 in
+    let object = c.renumbered_object.result.0 in
     let below : i < length start = search rules in
     let is : original ≡ get_or start i original = search rules in
-    let one = step c.args.width f start i original l.numbers.now c.part_of.result.1.now (octets_in_part c.args.width part) below is (c.part_of.ensures.part c.args.width) c.part_of.ensures.behind l.invariant.sound l.invariant.spellable in
-    let octets = octets_in_part c.args.width part in
-    let later = octets_for c.args.width f (drop (i + 1) start) c.part_of.result.1.now in
+    let one = step c.args.width f start i original l.numbers.now c.renumbered_object.result.1.now (octets_in_object c.args.width object) below is (c.renumbered_object.ensures.spelled c.args.width) c.renumbered_object.ensures.behind l.invariant.sound l.invariant.spellable in
+    let octets = octets_in_object c.args.width object in
+    let later = octets_for c.args.width f (drop (i + 1) start) c.renumbered_object.result.1.now in
     let all = octets_planned c.args.width f c.args.objects.now in
-    let size = c.part_length-size.result in
-    let measured = measured-next l.place size (8 + length (concat all)) octets _ _ c.part_length-size.ensures one.split l.invariant.measured in
+    let size = c.object_length-size.result in
+    let measured = measured-next l.place size (8 + length (concat all)) octets _ _ c.object_length-size.ensures one.split l.invariant.measured in
     record {
       sound = one.sound;
       spellable = one.spellable;
       measured = measured.0;
-      places = placed-next l.places.items c.push_reserved.new.self.items l.place size octets _ later all c.push_reserved.ensures.items c.part_length-size.ensures one.split l.invariant.places;
+      places = placed-next l.places.items c.push_reserved.new.self.items l.place size octets _ later all c.push_reserved.ensures.items c.object_length-size.ensures one.split l.invariant.places;
       room = omega (arith, c.push_reserved.ensures.len, c.push_reserved.ensures.capacity, l.invariant.room, below, length-drop i start, length-drop (i + 1) start);
       done = l.invariant.done ++ octets;
       split = split-next l.invariant.done octets (concat all) _ later one.split l.invariant.split;
-      goes = Goes_then l.invariant.done octets (state_of g.W.Sink c.args.out.now) (state_of g.W.Sink l.out) (state_of g.W.Sink c.send_part.new.out) tt _ l.invariant.goes c.in_ok-send_part.ensures.goes;
+      goes = Goes_then l.invariant.done octets (state_of g.W.Sink c.args.out.now) (state_of g.W.Sink l.out) (state_of g.W.Sink c.send_object.new.out) tt _ l.invariant.goes c.in_ok-send_object.ensures.goes;
       allowed = λ most allows. (let here = rw one.split at (l.invariant.allowed most allows) in record { least = here.least; each = here.each.1 });
       short = λ most allows before. (
           let here = rw one.split at (l.invariant.allowed most allows) in
           let now = l.invariant.short most allows before in
-          let sent = c.in_ok-send_part.ensures.pieces most (record { least = here.least; each = (here.each.0, tt) }) (omega arith) now in
+          let sent = c.in_ok-send_object.ensures.pieces most (record { least = here.least; each = (here.each.0, tt) }) (omega arith) now in
           record { waits = omega (arith, sent.waits); pieces = sent.pieces });
     }
 
@@ -161,21 +161,21 @@ returns-clause-places g c =
     let none = none-left c.args.width (octets_of c.args.file.now) c.args.objects.now.originals.items l.original-index l.numbers.now past in
     placed-end l.places.items l.place _ all none l.invariant.places
 
-pub returns-in_err-send_part-clause-pieces : goal.returns-in_err-send_part-clause-pieces
-returns-in_err-send_part-clause-pieces g c = λ most allows fits before.
+pub returns-in_err-send_object-clause-pieces : goal.returns-in_err-send_object-clause-pieces
+returns-in_err-send_object-clause-pieces g c = λ most allows fits before.
     let p = err_from_is_err_and c.from_residual.result c.from_residual.ensures.1 in
     let f = octets_of c.args.file.now in
     let start = c.args.objects.now.originals.items in
     let l = c.loop-original in
     let i = l.original-index in
     let original = c.from.result in
-    let part = c.part_of.result.0 in
+    let object = c.renumbered_object.result.0 in
     let below : i < length start = search rules in
     let is : original ≡ get_or start i original = search rules in
-    let one = step c.args.width f start i original l.numbers.now c.part_of.result.1.now (octets_in_part c.args.width part) below is (c.part_of.ensures.part c.args.width) c.part_of.ensures.behind l.invariant.sound l.invariant.spellable in
+    let one = step c.args.width f start i original l.numbers.now c.renumbered_object.result.1.now (octets_in_object c.args.width object) below is (c.renumbered_object.ensures.spelled c.args.width) c.renumbered_object.ensures.behind l.invariant.sound l.invariant.spellable in
     let here = rw one.split at (l.invariant.allowed most allows) in
     let now = l.invariant.short most allows before in
-    let sent = c.in_err-send_part.ensures.pieces most (record { least = here.least; each = (here.each.0, tt) }) (omega arith) now in
+    let sent = c.in_err-send_object.ensures.pieces most (record { least = here.least; each = (here.each.0, tt) }) (omega arith) now in
     rw (p.1, p.2) (record { waits = tt; pieces = sent.pieces })
 
 pub returns-clause-pieces : goal.returns-clause-pieces

@@ -3,7 +3,7 @@ use Rattle.std.specs.List.{concat}
 use Rattle.plist_object.specs.Views.{octets_of}
 use Rattle.plist_object.specs.Files.{starts}
 use Rattle.plist_engine.specs.Pieces.{CanSpellAll}
-use Rattle.plist_engine.specs.Parts.{AreSound, helds_of, octets_for, octets_planned}
+use Rattle.plist_engine.specs.Renumbering.{AreSound, helds_of, octets_for, octets_planned}
 use Rattle.plist_engine.specs.Sending.{Allows}
 use Rattle.plist_engine.specs.Output.{Goes, AreWithin, state_of}
 use Rattle.plist_engine.proofs.sending.send_objects.Given as goal

@@ -3,7 +3,7 @@ use Rattle.plist_value.specs.Scalars.{content_of}
 use Rattle.plist_object.specs.Views.{octets_of}
 use Rattle.plist_engine.specs.declared.plan.Plan.{Plan}
 use Rattle.plist_engine.specs.declared.memo.Memo.{Memo}
-use Rattle.plist_engine.proofs.Remembering.{had-entered, had-met, new-entered, new-met, knows-again, knows-more, unmet-sifted}
+use Rattle.plist_engine.proofs.Remembering.{had-entered, had-met, new-entered, new-met, knows-again, knows-more, unmet-searched}
 use Rattle.plist_engine.proofs.Walking.{Walks-known, Walks-new}
 use Rattle.plist_engine.proofs.plan.Plan.scalar.Goals as goal
 
@@ -23,13 +23,13 @@ returns-in-Some-clause-numbers g c =
     let r = c.args.scalar in
     let i = c.args.object in
     let old = c.args.self.now in
-    let mid = with_memo old c.sift.new.self in
+    let mid = with_memo old c.find_singles.new.self in
     let next = c.in_ok-next.next in
     let n = c.in-Some.number in
     let scalars = c.meet.new.scalars in
     record {
       walks = λ unmet.
-          let sifted = unmet-sifted f i (content_of r) old mid refl refl c.in_ok-sift.ensures unmet in
+          let sifted = unmet-searched f i (content_of r) old mid refl refl c.in_ok-find_singles.ensures unmet in
           Walks-known f (content_of r) old _ n (had-met f i r mid sifted next n scalars (had-entered f i r mid sifted next n scalars (rw c.in-Some.is at c.in_ok-number.ensures))) refl refl;
       references_kept = refl;
     }
@@ -40,11 +40,11 @@ returns-in-Some-clause-knows g c = λ unmet.
     let r = c.args.scalar in
     let i = c.args.object in
     let old = c.args.self.now in
-    let mid = with_memo old c.sift.new.self in
+    let mid = with_memo old c.find_singles.new.self in
     let next = c.in_ok-next.next in
     let n = c.in-Some.number in
     let scalars = c.meet.new.scalars in
-    let sifted = unmet-sifted f i (content_of r) old mid refl refl c.in_ok-sift.ensures unmet in
+    let sifted = unmet-searched f i (content_of r) old mid refl refl c.in_ok-find_singles.ensures unmet in
     let entered = had-entered f i r mid sifted next n scalars (rw c.in-Some.is at c.in_ok-number.ensures) in
     let met = sifted.knows.met (content_of r) n (had-met f i r mid sifted next n scalars entered) in
     knows-again f i r mid sifted n _ met.some c.keep.ensures next entered refl
@@ -55,12 +55,12 @@ returns-clause-numbers g c =
     let r = c.args.scalar in
     let i = c.args.object in
     let old = c.args.self.now in
-    let mid = with_memo old c.sift.new.self in
+    let mid = with_memo old c.find_singles.new.self in
     let next = c.in_ok-next.next in
     let scalars = c.meet.new.scalars in
     record {
       walks = λ unmet.
-          let sifted = unmet-sifted f i (content_of r) old mid refl refl c.in_ok-sift.ensures unmet in
+          let sifted = unmet-searched f i (content_of r) old mid refl refl c.in_ok-find_singles.ensures unmet in
           Walks-new f (content_of r) i old _ next unmet.holds (new-met f i r mid sifted next scalars (new-entered f i r mid sifted next scalars (rw c.in_default.is at c.in_ok-number.ensures))) c.in_ok-next.ensures.is (rw c.in_ok-original.ensures.value at c.in_ok-push.ensures.items) refl;
       references_kept = refl;
     }
@@ -71,8 +71,8 @@ returns-clause-knows g c = λ unmet.
     let r = c.args.scalar in
     let i = c.args.object in
     let old = c.args.self.now in
-    let mid = with_memo old c.sift.new.self in
+    let mid = with_memo old c.find_singles.new.self in
     let next = c.in_ok-next.next in
     let scalars = c.meet.new.scalars in
-    let sifted = unmet-sifted f i (content_of r) old mid refl refl c.in_ok-sift.ensures unmet in
+    let sifted = unmet-searched f i (content_of r) old mid refl refl c.in_ok-find_singles.ensures unmet in
     knows-more f i r mid sifted next _ c.in_ok-next.ensures.some c.keep-2.ensures c.in_ok-next.ensures.is (rw c.in_ok-original.ensures.value at c.in_ok-push.ensures.items) (new-entered f i r mid sifted next scalars (rw c.in_default.is at c.in_ok-number.ensures))
