@@ -10,6 +10,7 @@ pub mod MachineLemmas
 pub mod PhraseSteps
 pub mod SortingSteps
 pub mod PlaceSteps
+pub mod MeanSteps
 pub mod Standing
 pub mod DueSteps
 pub mod TakeSteps

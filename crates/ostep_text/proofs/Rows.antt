@@ -1,5 +1,5 @@
 -- Worked examples, shown on the definitions by computing.
-use Rattle.std.proofs.Common.{◌≡◌, ℕ, zero, suc, ◌<◌, List, true, false, Some, None, [], ◌∷◌, ◌++◌, refl, ap, lit<, lit≤}
+use Rattle.std.proofs.Common.{◌≡◌, ℕ, zero, suc, ◌<◌, List, true, Some, None, [], ◌∷◌, ◌++◌, refl, ap, lit<, lit≤}
 use Rattle.std.specs.Prelude.{codes}
 use Rattle.std.specs.Char.{encode_utf8}
 use Rattle.plist_value.specs.Plist.{text, flag, bytes, Plist, scalar, list, table, no_items, item, Pairs, no_pairs, pair, AreUnits}

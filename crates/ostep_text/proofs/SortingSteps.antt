@@ -1,19 +1,13 @@
 -- Inserting one more row into the sorted rows.
-use Rattle.std.proofs.Common.{◌≡◌, ℕ, ◌+◌, ◌*◌, ◌≤◌, Bool, true, false, List, [], ◌∷◌, length, Ordering, Less, Equal, Greater, nat_cmp, refl, sym, ap, subst, ◌∙◌, arith}
-use Rattle.std.specs.Prelude.{nat_eq, Option, Some, cond, ◌||◌}
-use Rattle.std.specs.Option.{is_some}
-use Rattle.std.specs.Map.{lookup}
-use Rattle.std.specs.BTreeMap.{is_at}
-use Rattle.std.proofs.lemmas.Map.Text.{is_eq-slice_cmp}
-use Rattle.plist_value.specs.declared.value.Value.{Value}
-use Rattle.plist_value.specs.View.{view_pairs}
+use Rattle.std.proofs.Common.{◌≡◌, ℕ, ◌+◌, ◌*◌, ◌≤◌, Bool, true, false, List, length, Ordering, Less, Equal, Greater, nat_cmp, refl, sym, ap, subst, ◌∙◌, arith}
+use Rattle.std.specs.Prelude.{nat_eq, ◌||◌}
 use Rattle.std.specs.Cmp.Lexicographic.{slice_cmp, pointwise, bytes_decides}
 use Rattle.std.specs.Ordering.{match_ordering, ordering_reverse}
 use Rattle.std.proofs.lemmas.Cmp.{nat_list_cmp_total}
 use Rattle.std.proofs.lemmas.Map.Lookups.{exact_bytes}
 use Rattle.plist_value.specs.Plist.{Plist, Pairs, no_pairs, pair, IsPlist, ArePairs, AreUnits, IsKeyBelow}
 use Rattle.plist_value.specs.Limits.{nodes, depth, payload, nodes_of_pairs, depth_of_pairs, payload_of_pairs}
-use Rattle.plist_value.proofs.Pairs.{put_pair, Entry}
+use Rattle.plist_value.proofs.Pairs.{put_pair}
 use Rattle.ostep_text.specs.Sorting.{has_key, StandsAmong, first, later, AreReordered, none, row, IsAscending}
 use Rattle.ostep_text.proofs.PhraseSteps.{push_row, has_key-head, has_key-tail}
 use Rattle.ostep_text.proofs.SizeLemmas.{among-nodes, among-depth, among-payload}
@@ -105,17 +99,6 @@ among-has {k} key (later {next = next} {others = others} s) =
 pub reordered-has : {rows ps : Pairs} (key : List ℕ) → AreReordered rows ps → has_key key rows ≡ has_key key ps
 reordered-has key none = refl
 reordered-has key (row {key = k} {rows = rows} {others = others} {all = all} r s) = ap (λ b. pointwise nat_eq key k || b) (reordered-has key r) ∙ sym (among-has key s)
-
--- looking a key up as the map does
-or-cond : (b c : Bool) (v : Value) (r : Option Value) → is_some r ≡ c → is_some (cond b (Some v) r) ≡ (b || c)
-or-cond true c v r e = refl
-or-cond false c v r e = e
-
-pub has_key-looked : (key : List ℕ) (es : List Entry) → is_some (lookup (is_at (slice_cmp nat_cmp key)) es) ≡ has_key key (view_pairs es)
-has_key-looked key [] = refl
-has_key-looked key (e ∷ es) =
-    or-cond (is_at (slice_cmp nat_cmp key) e.0) (has_key key (view_pairs es)) e.1 (lookup (is_at (slice_cmp nat_cmp key)) es) (has_key-looked key es)
-    ∙ ap (λ b. b || has_key key (view_pairs es)) (is_eq-slice_cmp key e.0)
 
 pub put-ascends : (key : List ℕ) (v : Plist) (ps : Pairs) → IsAscending ps → has_key key ps ≡ false → IsAscending (put_pair key v ps)
 put-ascends key v no_pairs a d = (tt, tt)

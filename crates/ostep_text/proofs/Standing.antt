@@ -20,7 +20,7 @@ use Rattle.ostep_text.specs.Machine.{runs, accepts, at_front, begun, Around}
 use Rattle.ostep_text.specs.Reading.{Front, AreBefore, HasRead, StandsIfLexed, MayRefuse, IsLeft, ReadsValue}
 use Rattle.ostep_text.specs.Due.{IsOpen, RowDue}
 use Rattle.plist_value.specs.Plist.{Plist, no_pairs, Pairs}
-use Rattle.ostep_text.specs.Phrase.{rows_end, TopPhrase, a_value}
+use Rattle.ostep_text.specs.Phrase.{rows_end}
 use Rattle.ostep_text.specs.Begun
 use Rattle.ostep_text.specs.Sorting.{has_key}
 use Rattle.ostep_text.proofs.MachineLemmas.{not-accepted, phrase-accepted, value-runs, stays-dead}

@@ -1,8 +1,8 @@
 -- What was taken from the limits, and what is left of them.
-use Rattle.std.proofs.Common.{◌≡◌, ℕ, ◌-◌, ◌*◌, ◌≤◌, false, List, length, sym, subst, arith}
+use Rattle.std.proofs.Common.{◌≡◌, ℕ, ◌-◌, ◌*◌, ◌≤◌, false, List, length, subst, arith}
 use Rattle.plist_value.specs.declared.budget.Budget.{Budget}
 use Rattle.plist_value.specs.Budget.{Spends}
-use Rattle.plist_value.specs.Plist.{Plist, Scalar, scalar, Items, no_items, Pairs, no_pairs, AreUnits, IsScalar}
+use Rattle.plist_value.specs.Plist.{Plist, Scalar, scalar, list, table, Items, no_items, Pairs, no_pairs, AreUnits, IsScalar}
 use Rattle.plist_value.specs.Limits.{payload_of_scalar}
 use Rattle.plist_value.proofs.Pairs.{put_pair}
 use Rattle.ostep_text.specs.Sorting.{has_key, AreReordered}
@@ -80,16 +80,29 @@ key-left key i s = record {
   levels_left = i.levels_left;
 }
 
--- taken by an item, and by a scalar
-pub item-taken-at : {old at new : Budget} {levels : ℕ} (vs all : Items) (w : Plist) → TakesItems old levels vs at → Takes at levels w new → all ≡ push vs w → TakesItems old levels all new
-item-taken-at {old} {new = new} {levels = levels} vs all w t u g = subst (λ x. TakesItems old levels x new) (sym g) (item-taken vs w t u)
-
+-- taken by a scalar, an array and a dictionary
 pub scalar-taken : {left after : Budget} {levels : ℕ} (s : Scalar) → Spends left 1 (payload_of_scalar s) after → 1 ≤ levels → IsScalar s → Takes left levels (scalar s) after
 scalar-taken s p o v = record { spent = record { nodes_left = p.nodes_left; payload_left = p.payload_left }; deep = o; valid = v }
 
+pub list-taken : {left mid after : Budget} {levels : ℕ} (vs : Items) → Spends left 1 0 mid → 1 ≤ levels → TakesItems mid (levels - 1) vs after → Takes left levels (list vs) after
+list-taken vs s o t = record {
+  spent = record {
+    nodes_left = omega (arith, s.nodes_left, t.spent.nodes_left);
+    payload_left = omega (arith, s.payload_left, t.spent.payload_left);
+  };
+  deep = omega (arith, o, t.deep);
+  valid = t.valid;
+}
+
+pub table-taken : {left mid after : Budget} {levels : ℕ} (ps : Pairs) → Spends left 1 0 mid → 1 ≤ levels → TakesPairs mid (levels - 1) ps after → Takes left levels (table ps) after
+table-taken ps s o t = record {
+  spent = record {
+    nodes_left = omega (arith, s.nodes_left, t.spent.nodes_left);
+    payload_left = omega (arith, s.payload_left, t.spent.payload_left);
+  };
+  deep = omega (arith, o, t.deep);
+  valid = t.valid;
+}
+
 pub spends-same : {left after : Budget} {n load other : ℕ} → Spends left n load after → load ≡ other → Spends left n other after
 spends-same {left} {after} {n = n} s e = subst (λ x. Spends left n x after) e s
-
-pub pair-taken-at : {old at new : Budget} {levels : ℕ} (key : List ℕ) (v : Plist) (ps all : Pairs) → TakesPairs old levels ps at → TakesRow at levels key v new → has_key key ps ≡ false
-    → all ≡ put_pair key v ps → TakesPairs old levels all new
-pair-taken-at {old} {new = new} {levels = levels} key v ps all t u n g = subst (λ x. TakesPairs old levels x new) (sym g) (pair-taken key v ps t u n)

@@ -9,6 +9,7 @@ pub mod Laws
 pub mod Machine
 pub mod Read
 pub mod Reading
+pub mod Means
 pub mod Due
 pub mod WriteFault
 pub mod Ascii

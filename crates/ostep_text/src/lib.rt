@@ -8,6 +8,7 @@
 //! the text that is written for a value. `laws` proves what holds of them alone.
 #![tactic(auto)]
 
+mod built;
 pub mod fault;
 pub mod laws;
 pub mod read;
@@ -19,6 +20,6 @@ pub mod write_fault;
 mod writing;
 
 pub use fault::TextFault;
-pub use read::read_text;
+pub use read::{judge_text, read_text};
 pub use write_fault::TextWriteFault;
 pub use writing::write_text;

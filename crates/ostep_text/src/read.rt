@@ -1,10 +1,13 @@
-//! Reading a whole text.
-ghost use Rattle.std.specs.Prelude.{◌≢◌, IfOk, IfErr};
+//! Reading and validating whole texts.
+ghost use Rattle.std.specs.Prelude.{◌≢◌, OnOk, IfOk, IfErr};
+ghost use Rattle.plist_value.specs.Plist.{Plist};
 ghost use Rattle.plist_value.specs.View.{view};
 ghost use Rattle.ostep_text.specs.Text.{IsText, IsNoText};
+ghost use Rattle.ostep_text.specs.Means.{IsBuiltOf};
 ghost use Rattle.ostep_text.specs.Stands.{Stands};
 
 use crate::TextFault;
+use crate::built::Built;
 use crate::reader::Reader;
 use crate::tokens::Tokens;
 use ostep_lex::{TokenKind, open};
@@ -30,6 +33,34 @@ pub fn read_text(alloc: Global, octets: &[u8]) -> Result<Value, TextFault>
     ensures refused { IfErr result (λ fault.
         fault ≢ TextFault.OutOfMemory → IsNoText octets.now) }
 {
+    read_into::<Value>(alloc, octets)
+}
+
+/// Validates a text, without building its value: beside the input it keeps only the keys of the
+/// dictionaries that are not yet complete.
+///
+/// # Errors
+///
+/// Fails like [`read_text`].
+pub fn judge_text(alloc: Global, octets: &[u8]) -> Result<(), TextFault>
+    // The bytes are a text of a value within the limits.
+    ensures ok { OnOk result ((v : Plist) × IsText octets.now v) }
+    // The fault is true at its place.
+    ensures stands { IfErr result (Stands octets.now) }
+    // The bytes are not a text of any value.
+    ensures refused { IfErr result (λ fault.
+        fault ≢ TextFault.OutOfMemory → IsNoText octets.now) }
+{
+    read_into::<()>(alloc, octets)
+}
+
+// Reads a text and returns what is built for its value.
+fn read_into<N: Built>(alloc: Global, octets: &[u8]) -> Result<N, TextFault>
+    ensures read { IfOk result (IsBuiltOf N.means octets.now) }
+    ensures stands { IfErr result (Stands octets.now) }
+    ensures refused { IfErr result (λ fault.
+        fault ≢ TextFault.OutOfMemory → IsNoText octets.now) }
+{
     crate::laws::faulty_is_no_text();
     let tokens = Tokens {
         alloc,
@@ -42,7 +73,7 @@ pub fn read_text(alloc: Global, octets: &[u8]) -> Result<Value, TextFault>
         left: Budget::whole(),
     };
     let Some(first) = reader.tokens.next()? else {
-        return Ok(Value::Table(BTreeMap::new(alloc)));
+        return Ok(N::of_rows(BTreeMap::new(alloc)));
     };
     let start = first.start;
     match first.kind {

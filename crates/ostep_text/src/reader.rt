@@ -3,16 +3,15 @@ ghost use Rattle.std.specs.Prelude.{◌≡◌, ◌≤◌, ◌*◌, ◌∷◌, �
 ghost use Rattle.std.specs.Prelude.{length, IfOk, IfErr};
 ghost use Rattle.std.specs.Result.{OnOk};
 ghost use Rattle.plist_value.specs.declared.budget.Budget.{Budget as Left};
-ghost use Rattle.plist_value.specs.Plist.{Pairs, AreUnits, IsPlist, scalar, text};
+ghost use Rattle.plist_value.specs.Plist.{Plist, Pairs, AreUnits, IsPlist, scalar, text};
 ghost use Rattle.plist_value.specs.Limits.{Fits};
 ghost use Rattle.plist_value.specs.Budget.{Spends};
-ghost use Rattle.plist_value.specs.View.{view, view_items, view_pairs};
 ghost use Rattle.ostep_lex.specs.Lexeme.{Lexeme, Placed, placed, lexeme_of, text as string};
 ghost use Rattle.ostep_lex.specs.Lexeme.{paren_close, brace_close};
 ghost use Rattle.ostep_lex.specs.Cursor.{ahead};
 ghost use Rattle.ostep_text.specs.Begun.{Before, nothing, opened, with_rows};
 ghost use Rattle.ostep_text.specs.Sorting.{has_key};
-ghost use Rattle.ostep_text.specs.Text.{IsText};
+ghost use Rattle.ostep_text.specs.Means.{MeanItems, MeanPairs, IsBuilt, IsBuiltOf};
 ghost use Rattle.ostep_text.specs.Stands.{Stands};
 ghost use Rattle.ostep_text.specs.Machine.{Around, at_front, begun, top};
 ghost use Rattle.ostep_text.specs.Reading.{Front, AreBefore, HasRead, IsLeft, MayRefuse};
@@ -21,10 +20,11 @@ ghost use Rattle.ostep_text.specs.Reading.{Takes, TakesItems, TakesPairs, TakesR
 ghost use Rattle.ostep_text.specs.Due.{ValueDue, RowValueDue, ListDue, TableDue, RowDue};
 
 use crate::TextFault;
+use crate::built::Built;
 use crate::tokens::{Tokens, begins_value};
 use crate::values::{data_payload, is_known, text_payload};
 use ostep_lex::{Token, TokenKind};
-use plist_value::{Budget, MAX_DEPTH, Utf16, Value};
+use plist_value::{Budget, MAX_DEPTH, Utf16};
 use std::alloc::Global;
 use std::collections::BTreeMap;
 
@@ -41,10 +41,10 @@ pub(crate) struct Reader<'a> {
 
 impl<'a> Reader<'a> {
     // Reads a text that begins with this token, which is not a string.
-    pub(crate) fn value_first(&mut self, first: Token) -> Result<Value, TextFault>
+    pub(crate) fn value_first<N: Built>(&mut self, first: Token) -> Result<N, TextFault>
         ensures read { (octets : List ℕ) → HasRead octets (placed first ∷ []) self.old.tokens
             → IsLeft self.old.left MAX_DEPTH nothing
-            → IfOk result (λ value. IsText octets (view value)) }
+            → IfOk result (IsBuiltOf N.means octets) }
         ensures stands { (octets : List ℕ) → HasRead octets (placed first ∷ []) self.old.tokens
             → IsLeft self.old.left MAX_DEPTH nothing
             → at_front (lexeme_of first.kind) ≡ begun top (lexeme_of first.kind)
@@ -59,13 +59,12 @@ impl<'a> Reader<'a> {
     }
 
     // Returns `value` if the text ends after it. Its first token is not a string.
-    fn finish(&mut self, value: Value) -> Result<Value, TextFault>
-        ensures read { (octets : List ℕ) (first : Lexeme)
-            → ReadsValue octets [] first (view value) self.old.tokens
-            → IsPlist (view value) → Fits (view value)
-            → IfOk result (λ value. IsText octets (view value)) }
-        ensures stands { (octets : List ℕ) (first : Lexeme)
-            → ReadsValue octets [] first (view value) self.old.tokens
+    fn finish<N: Built>(&mut self, value: N) -> Result<N, TextFault>
+        ensures read { (octets : List ℕ) (first : Lexeme) (v : Plist) → N.means value v
+            → ReadsValue octets [] first v self.old.tokens → IsPlist v → Fits v
+            → IfOk result (IsBuiltOf N.means octets) }
+        ensures stands { (octets : List ℕ) (first : Lexeme) (v : Plist)
+            → ReadsValue octets [] first v self.old.tokens
             → at_front first ≡ begun top first
             → IfErr result (Stands octets) }
     {
@@ -76,11 +75,15 @@ impl<'a> Reader<'a> {
     }
 
     // Reads a text that begins with this string: the string alone, or a dictionary without braces.
-    pub(crate) fn string_first(&mut self, text: Utf16, octet: usize) -> Result<Value, TextFault>
+    pub(crate) fn string_first<N: Built>(
+        &mut self,
+        text: Utf16,
+        octet: usize,
+    ) -> Result<N, TextFault>
         ensures read { (octets : List ℕ) (at : Placed) → at.lexeme ≡ string text
             → at.start ≡ octet → HasRead octets (at ∷ []) self.old.tokens
             → IsLeft self.old.left MAX_DEPTH nothing
-            → IfOk result (λ value. IsText octets (view value)) }
+            → IfOk result (IsBuiltOf N.means octets) }
         ensures stands { (octets : List ℕ) (at : Placed) → at.lexeme ≡ string text
             → at.start ≡ octet → HasRead octets (at ∷ []) self.old.tokens
             → IsLeft self.old.left MAX_DEPTH nothing
@@ -88,18 +91,18 @@ impl<'a> Reader<'a> {
     {
         let Some(second) = self.tokens.next()? else {
             self.charge(octet, MAX_DEPTH, text_payload(&text))?;
-            return Ok(Value::Text(text));
+            return Ok(N::of_text(text));
         };
         match second.kind {
             TokenKind::Equals => {
                 self.first_key(&text, octet)?;
                 let value = self.row_value(BARE_LEVELS)?;
-                self.bare_table(text, value)
+                self.bare_table::<N>(text, value)
             }
             TokenKind::Semicolon => {
                 self.first_key(&text, octet)?;
                 let value = self.key_alone(&text, octet, BARE_LEVELS)?;
-                self.bare_table(text, value)
+                self.bare_table::<N>(text, value)
             }
             _ => {
                 self.charge(octet, MAX_DEPTH, text_payload(&text))?;
@@ -125,14 +128,16 @@ impl<'a> Reader<'a> {
     }
 
     // Reads a dictionary without braces after its first row.
-    fn bare_table(&mut self, key: Utf16, value: Value) -> Result<Value, TextFault>
-        ensures read { (octets : List ℕ) (left : Left) → IsLeft left BARE_LEVELS (opened nothing)
-            → TakesRow left BARE_LEVELS key (view value) self.old.left
-            → ReadsRow octets [] key (view value) self.old.tokens
-            → IfOk result (λ value. IsText octets (view value)) }
-        ensures stands { (octets : List ℕ) (left : Left) → IsLeft left BARE_LEVELS (opened nothing)
-            → TakesRow left BARE_LEVELS key (view value) self.old.left
-            → ReadsRow octets [] key (view value) self.old.tokens
+    fn bare_table<N: Built>(&mut self, key: Utf16, value: N) -> Result<N, TextFault>
+        ensures read { (octets : List ℕ) (left : Left) (v : Plist) → N.means value v
+            → IsLeft left BARE_LEVELS (opened nothing)
+            → TakesRow left BARE_LEVELS key v self.old.left
+            → ReadsRow octets [] key v self.old.tokens
+            → IfOk result (IsBuiltOf N.means octets) }
+        ensures stands { (octets : List ℕ) (left : Left) (v : Plist) → N.means value v
+            → IsLeft left BARE_LEVELS (opened nothing)
+            → TakesRow left BARE_LEVELS key v self.old.left
+            → ReadsRow octets [] key v self.old.tokens
             → IfErr result (Stands octets) }
     {
         let mut rows = BTreeMap::new(self.alloc);
@@ -151,20 +156,19 @@ impl<'a> Reader<'a> {
                 }
             }
         }
-        Ok(Value::Table(rows))
+        Ok(N::of_rows(rows))
     }
 
     // Reads the value that begins with this token; `levels` is the depth allowed for it.
     #[cycle(value)]
-    fn value(&mut self, first: Token, levels: u64) -> Result<Value, TextFault>
+    fn value<N: Built>(&mut self, first: Token, levels: u64) -> Result<N, TextFault>
         ensures shorter { OnOk result
             (length (ahead self.new.tokens.cursor) ≤ length (ahead self.old.tokens.cursor)) }
-        ensures taken { IfOk result (λ value.
-            Takes self.old.left levels (view value) self.new.left) }
-        ensures read { (octets : List ℕ) (tokens : List Placed)
+        ensures built { IfOk result (λ value. IsBuilt N.means value
+            (λ v. Takes self.old.left levels v self.new.left)
+            (λ v. (octets : List ℕ) (tokens : List Placed)
             → HasRead octets (tokens ++ placed first ∷ []) self.old.tokens
-            → IfOk result (λ value.
-            ReadsValue octets tokens (lexeme_of first.kind) (view value) self.new.tokens) }
+            → ReadsValue octets tokens (lexeme_of first.kind) v self.new.tokens)) }
         ensures stands { (octets : List ℕ) (tokens : List Placed) (whole : Front) (b : Before)
             (a : Around) → AreBefore tokens whole
             → HasRead octets (tokens ++ placed first ∷ []) self.old.tokens
@@ -175,21 +179,21 @@ impl<'a> Reader<'a> {
         match first.kind {
             TokenKind::Text(text) => {
                 self.charge(octet, levels, text_payload(&text))?;
-                Ok(Value::Text(text))
+                Ok(N::of_text(text))
             }
             TokenKind::Octets(octets) => {
                 self.charge(octet, levels, data_payload(octets.as_slice()))?;
-                Ok(Value::Bytes(octets))
+                Ok(N::of_data(octets))
             }
             TokenKind::ParenOpen => {
                 self.charge(octet, levels, 0)?;
                 let items = self.items(levels - 1)?;
-                Ok(Value::List(items))
+                Ok(N::of_items(items))
             }
             TokenKind::BraceOpen => {
                 self.charge(octet, levels, 0)?;
                 let rows = self.rows(levels - 1)?;
-                Ok(Value::Table(rows))
+                Ok(N::of_rows(rows))
             }
             _ => Err(self.tokens.refuse(TextFault::Expected { octet })),
         }
@@ -197,14 +201,13 @@ impl<'a> Reader<'a> {
 
     // Reads the items of an array after its `(`, up to and with its `)`.
     #[cycle(value)]
-    fn items(&mut self, levels: u64) -> Result<Vec<Value>, TextFault>
+    fn items<N: Built>(&mut self, levels: u64) -> Result<Vec<N>, TextFault>
         ensures shorter { OnOk result
             (length (ahead self.new.tokens.cursor) ≤ length (ahead self.old.tokens.cursor)) }
-        ensures taken { IfOk result (λ items.
-            TakesItems self.old.left levels (view_items items.items) self.new.left) }
-        ensures read { (octets : List ℕ) (tokens : List Placed)
-            → HasRead octets tokens self.old.tokens → IfOk result (λ items.
-            ReadsItems octets tokens (paren_close ∷ []) (view_items items.items) self.new.tokens) }
+        ensures built { IfOk result (λ items. IsBuilt (MeanItems N.means) items.items
+            (λ vs. TakesItems self.old.left levels vs self.new.left)
+            (λ vs. (octets : List ℕ) (tokens : List Placed) → HasRead octets tokens self.old.tokens
+            → ReadsItems octets tokens (paren_close ∷ []) vs self.new.tokens)) }
         ensures stands { (octets : List ℕ) (tokens : List Placed) (whole : Front) (b : Before)
             (a : Around) → AreBefore tokens whole → HasRead octets tokens self.old.tokens
             → ListDue whole b a → IsLeft self.old.left levels (opened b)
@@ -232,14 +235,13 @@ impl<'a> Reader<'a> {
 
     // Reads the rows of a dictionary after its `{`, up to and with its `}`.
     #[cycle(value)]
-    fn rows(&mut self, levels: u64) -> Result<BTreeMap<Utf16, Value>, TextFault>
+    fn rows<N: Built>(&mut self, levels: u64) -> Result<BTreeMap<Utf16, N>, TextFault>
         ensures shorter { OnOk result
             (length (ahead self.new.tokens.cursor) ≤ length (ahead self.old.tokens.cursor)) }
-        ensures taken { IfOk result (λ rows.
-            TakesPairs self.old.left levels (view_pairs rows.entries) self.new.left) }
-        ensures read { (octets : List ℕ) (tokens : List Placed)
-            → HasRead octets tokens self.old.tokens → IfOk result (λ rows.
-            ReadsRows octets tokens (brace_close ∷ []) (view_pairs rows.entries) self.new.tokens) }
+        ensures built { IfOk result (λ rows. IsBuilt (MeanPairs N.means) rows.entries
+            (λ ps. TakesPairs self.old.left levels ps self.new.left)
+            (λ ps. (octets : List ℕ) (tokens : List Placed) → HasRead octets tokens self.old.tokens
+            → ReadsRows octets tokens (brace_close ∷ []) ps self.new.tokens)) }
         ensures stands { (octets : List ℕ) (tokens : List Placed) (whole : Front) (b : Before)
             (a : Around) → AreBefore tokens whole → HasRead octets tokens self.old.tokens
             → TableDue whole b a → IsLeft self.old.left levels (opened b)
@@ -264,24 +266,24 @@ impl<'a> Reader<'a> {
         }
     }
 
-    // Reads the rest of a row after its key, which begins at `octet`, and returns the value.
-    // Refuses the key if it is already `known`.
+    // Reads the rest of a row after its key, which begins at `octet`. Refuses the key if it is
+    // already `known`.
     #[cycle(value)]
-    fn row(
+    fn row<N: Built>(
         &mut self,
         key: &Utf16,
         octet: usize,
         levels: u64,
         known: bool,
-    ) -> Result<Value, TextFault>
+    ) -> Result<N, TextFault>
         ensures shorter { OnOk result
             (length (ahead self.new.tokens.cursor) ≤ length (ahead self.old.tokens.cursor)) }
-        ensures taken { IfOk result (λ value.
-            TakesRow self.old.left levels key.now (view value) self.new.left) }
         ensures once { OnOk result (known ≡ false) }
-        ensures read { (octets : List ℕ) (tokens : List Placed) (at : Placed)
+        ensures built { IfOk result (λ value. IsBuilt N.means value
+            (λ v. TakesRow self.old.left levels key.now v self.new.left)
+            (λ v. (octets : List ℕ) (tokens : List Placed) (at : Placed)
             → at.lexeme ≡ string key.now → HasRead octets (tokens ++ at ∷ []) self.old.tokens
-            → IfOk result (λ value. ReadsRow octets tokens key.now (view value) self.new.tokens) }
+            → ReadsRow octets tokens key.now v self.new.tokens)) }
         ensures stands { (octets : List ℕ) (tokens : List Placed) (at : Placed) (whole : Front)
             (b : Before) (t : Around) (before pairs : Pairs)
             → at.lexeme ≡ string key.now → at.start ≡ octet → AreBefore tokens whole
@@ -307,14 +309,13 @@ impl<'a> Reader<'a> {
 
     // Reads the value of a row after its `=`, and the `;` after it.
     #[cycle(value)]
-    fn row_value(&mut self, levels: u64) -> Result<Value, TextFault>
+    fn row_value<N: Built>(&mut self, levels: u64) -> Result<N, TextFault>
         ensures shorter { OnOk result
             (length (ahead self.new.tokens.cursor) ≤ length (ahead self.old.tokens.cursor)) }
-        ensures taken { IfOk result (λ value.
-            Takes self.old.left levels (view value) self.new.left) }
-        ensures read { (octets : List ℕ) (tokens : List Placed)
-            → HasRead octets tokens self.old.tokens
-            → IfOk result (λ value. ReadsEnded octets tokens (view value) self.new.tokens) }
+        ensures built { IfOk result (λ value. IsBuilt N.means value
+            (λ v. Takes self.old.left levels v self.new.left)
+            (λ v. (octets : List ℕ) (tokens : List Placed) → HasRead octets tokens self.old.tokens
+            → ReadsEnded octets tokens v self.new.tokens)) }
         ensures stands { (octets : List ℕ) (tokens : List Placed) (whole : Front) (b : Before)
             (t : Around) → AreBefore tokens whole → HasRead octets tokens self.old.tokens
             → RowValueDue whole b t → IsLeft self.old.left levels b
@@ -332,10 +333,15 @@ impl<'a> Reader<'a> {
         }
     }
 
-    // Returns the value of a key without `=`, which is the key itself and begins at `octet`.
-    fn key_alone(&mut self, key: &Utf16, octet: usize, levels: u64) -> Result<Value, TextFault>
+    // Builds the value of a key without `=`, which is the key itself and begins at `octet`.
+    fn key_alone<N: Built>(
+        &mut self,
+        key: &Utf16,
+        octet: usize,
+        levels: u64,
+    ) -> Result<N, TextFault>
         ensures tokens { self.new.tokens ≡ self.old.tokens }
-        ensures value { IfOk result (λ value. view value ≡ scalar (text key.now)) }
+        ensures means { IfOk result (λ value. N.means value (scalar (text key.now))) }
         ensures spent { OnOk result (Spends self.old.left 1 (2 * length key.now) self.new.left) }
         ensures deep { OnOk result (1 ≤ levels) }
         ensures stands { (octets : List ℕ) (tokens : List Placed)
@@ -345,7 +351,7 @@ impl<'a> Reader<'a> {
     {
         let payload = text_payload(key);
         self.charge(octet, levels, payload)?;
-        Ok(Value::Text(key.copy(self.alloc)?))
+        Ok(N::of_key(key, self.alloc)?)
     }
 
     // Counts a node that begins at `octet`, and its payload, against the limits; `levels` is the

@@ -5,15 +5,15 @@ ghost use Rattle.std.specs.Ordering.{nat_cmp};
 ghost use Rattle.std.specs.Cmp.Lexicographic.{slice_cmp};
 ghost use Rattle.std.specs.BTreeMap.{BTreeMap as Map, ContainsKey, get, get_key};
 ghost use Rattle.std.specs.BTreeMap.Entry.{MatchEntry, entry_key};
-ghost use Rattle.plist_value.specs.declared.value.Value.{Value};
 ghost use Rattle.plist_value.specs.Plist.{AreOctets, AreUnits};
 
-use plist_value::{Utf16, Value};
+use crate::built::Built;
+use plist_value::Utf16;
 use std::collections::btree_map::Entry;
 
 // Returns whether the key of this entry is already present.
-pub(crate) fn is_known(place: &Entry<'_, Utf16, Value>) -> bool
-    ensures { (rows : Map (List ℕ) Value) (key : List ℕ)
+pub(crate) fn is_known<N: Built>(place: &Entry<'_, Utf16, N>) -> bool
+    ensures { (rows : Map (List ℕ) N) (key : List ℕ)
         → MatchEntry place.now ((ContainsKey (slice_cmp nat_cmp) rows key)
         × (get_key (slice_cmp nat_cmp) rows key ≡ Some (entry_key place.now)))
         (get (slice_cmp nat_cmp) rows key ≡ None)

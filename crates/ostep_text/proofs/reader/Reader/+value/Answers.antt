@@ -1,24 +1,22 @@
 use Rattle.std.proofs.Common.{◌≡◌, ◌≤◌, ◌*◌, ◌∷◌, ◌++◌, [], true, false, length, refl, sym, ap, subst, ◌∙◌, append_assoc, nat_cmp, arith}
 use Rattle.std.proofs.lemmas.Result.{IfOk-weaker}
 use Rattle.plist_value.specs.Budget.{Spends}
-use Rattle.plist_value.specs.Plist.{AreUnits, AreOctets, scalar, text, bytes}
-use Rattle.plist_value.specs.View.{view, view_items, view_pairs}
-use Rattle.plist_value.proofs.Pairs.{put_pair, view_pairs-insert_entry}
-use Rattle.ostep_lex.specs.Lexeme.{placed, lexeme_of, text as string, octets as data_token, paren_open, brace_open, paren_close, equals}
+use Rattle.plist_value.specs.Plist.{AreUnits, AreOctets, scalar, text, bytes, list, table, no_items, no_pairs}
+use Rattle.plist_value.proofs.Pairs.{put_pair}
+use Rattle.ostep_lex.specs.Lexeme.{placed, lexeme_of, text as string, octets as data_token, paren_open, brace_open, equals}
 use Rattle.ostep_text.specs.Begun.{opened, with_items, with_rows, with_key}
 use Rattle.ostep_text.specs.Sorting.{has_key}
+use Rattle.ostep_text.specs.Means.{no_node, no_entry}
 use Rattle.ostep_text.specs.Stands.{Stands}
 use Rattle.ostep_text.specs.Machine
 use Rattle.ostep_text.specs.Machine.{Around}
-use Rattle.ostep_text.specs.Reading.{Front, HasRead, ReadsValue, ReadsEnded, ReadsItems, ReadsRow, ReadsRows, Takes, TakesRow}
+use Rattle.ostep_text.specs.Reading.{Front, HasRead, ReadsRow, TakesRow}
 use Rattle.ostep_text.specs.Due.{ValueDue}
 use Rattle.ostep_lex.proofs.Exits.{passed_on, no_ok, none_ok, on_ok, both_ok}
-use Rattle.plist_value.specs.declared.value.Value
-use Rattle.plist_value.proofs.Shown.{view-text, view-bytes, view-list, view-table}
 use Rattle.ostep_text.proofs.MachineLemmas.{leads-nowhere, item-begun, item-ended, row-ended, key-ended, table-ended, value-ended, value-none}
-use Rattle.plist_value.proofs.Items.{push, view_items-push}
-use Rattle.ostep_text.proofs.SortingSteps.{has_key-looked}
-use Rattle.ostep_text.proofs.PlaceSteps.{known-has, new-value}
+use Rattle.plist_value.proofs.Items.{push}
+use Rattle.ostep_text.proofs.MeanSteps.{mean-push}
+use Rattle.ostep_text.proofs.PlaceSteps.{has_key-looked, known-has, new-value, mean-put}
 use Rattle.std.specs.Cmp.Lexicographic.{slice_cmp}
 use Rattle.std.specs.Option.{is_some}
 use Rattle.std.specs.BTreeMap.{insert_entry}
@@ -26,51 +24,60 @@ use Rattle.std.specs.BTreeMap.Entry.{entry_value, map_with_value}
 use Rattle.std.proofs.lemmas.Map.Lookups.{exact_bytes}
 use Rattle.ostep_text.proofs.Standing.{expected-at, same-read, value-refuses, before-at, before-key, key-refuses, alone-refuses, twice-stands}
 use Rattle.ostep_text.proofs.DueSteps.{list-due, items-open, item-due, item-leads, item-open, table-due, row-due, rows-open, key-open, row_value-due, row_value-first, row_value-open, row_value-leads, row_value-behind, value-open, value-nowhere}
-use Rattle.ostep_text.proofs.TakeSteps.{no-items-taken, no-pairs-taken, item-taken-at, pair-taken-at, row-taken, scalar-taken, opened-left, items-left, rows-left, key-left, spends-same}
+use Rattle.ostep_text.proofs.TakeSteps.{no-items-taken, no-pairs-taken, item-taken, pair-taken, row-taken, scalar-taken, list-taken, table-taken, opened-left, items-left, rows-left, key-left, spends-same}
 use Rattle.ostep_text.proofs.ReadSteps.{string-read, data-read, list-read, no-items-read, item-read, last_item-read, items-read, ended-read, row-read, alone-read, no-pairs-read, pair-read, pairs-read, pairs-table}
 use Rattle.ostep_text.proofs.reader.Reader.+value.Goals as goal
 
 pub items-loop-items-init : goal.items-loop-items-init
-items-loop-items-init t c = record {
+items-loop-items-init g t c = record {
   shorter = omega arith;
-  taken = rw c.new-items.ensures.items (no-items-taken c.args.self.now.left c.args.levels);
-  read = λ octets tokens h. rw c.new-items.ensures.items (no-items-read h);
+  built = rw c.new-items.ensures.items (record {
+    meant = no_items;
+    means_it = no_node;
+    taken = no-items-taken c.args.self.now.left c.args.levels;
+    read = λ octets tokens h. no-items-read h;
+  });
 }
 
 pub items-returns-in_err-first-clause-stands : goal.items-returns-in_err-first-clause-stands
-items-returns-in_err-first-clause-stands t c octets tokens whole b a f h d i =
-    let r = c.loop-items.invariant.read octets tokens h in
+items-returns-in_err-first-clause-stands g t c octets tokens whole b a f h d i =
+    let r = c.loop-items.invariant.built.read octets tokens h in
     passed_on (Stands octets) c.in_err-first.field-0.0 c.from_residual.result c.from_residual.ensures.1
     (c.in_err-first.ensures.stands octets r.reads.all (λ rest. whole (r.inside rest)) (r.reads.follow whole f) r.reads.has (items-open r.inside d r.spells))
 
-pub items-returns-in-ParenClose-clause-read : goal.items-returns-in-ParenClose-clause-read
-items-returns-in-ParenClose-clause-read t c octets tokens h =
-    let r = c.loop-items.invariant.read octets tokens h in
-    items-read r (placed c.in_ok-first.first) (ap lexeme_of c.in-ParenClose.is) (c.in_ok-first.ensures.read octets r.reads.all r.reads.has)
+pub items-returns-in-ParenClose-clause-built : goal.items-returns-in-ParenClose-clause-built
+items-returns-in-ParenClose-clause-built g t c =
+    let b = c.loop-items.invariant.built in
+    record {
+      meant = b.meant;
+      means_it = b.means_it;
+      taken = b.taken;
+      read = λ octets tokens h.
+          let r = b.read octets tokens h in
+          items-read r (placed c.in_ok-first.first) (ap lexeme_of c.in-ParenClose.is) (c.in_ok-first.ensures.read octets r.reads.all r.reads.has);
+    }
 
 pub items-returns-in_err-item : goal.items-returns-in_err-item
-items-returns-in_err-item t c = record {
+items-returns-in_err-item g t c = record {
   shorter = none_ok _ _ c.from_residual-in_err-item.result c.from_residual-in_err-item.ensures.1;
-  taken = no_ok _ _ c.from_residual-in_err-item.result c.from_residual-in_err-item.ensures.1;
-  read = λ octets tokens h. no_ok _ _ c.from_residual-in_err-item.result c.from_residual-in_err-item.ensures.1;
+  built = no_ok _ _ c.from_residual-in_err-item.result c.from_residual-in_err-item.ensures.1;
   stands = λ octets tokens whole b a f h d i.
-      let r = c.loop-items.invariant.read octets tokens h in
+      let r = c.loop-items.invariant.built.read octets tokens h in
       let first = c.in_ok-first.first in
       passed_on (Stands octets) c.in_err-item.field-0.0 c.from_residual-in_err-item.result c.from_residual-in_err-item.ensures.1
-      (c.in_err-item.ensures.stands octets r.reads.all (λ rest. whole (r.inside rest)) (with_items (view_items c.loop-items.items.items) (opened b)) (Machine.in_list a)
+      (c.in_err-item.ensures.stands octets r.reads.all (λ rest. whole (r.inside rest)) (with_items c.loop-items.invariant.built.meant (opened b)) (Machine.in_list a)
       (r.reads.follow whole f) (c.in_ok-first.ensures.read octets r.reads.all r.reads.has)
       (item-due r.inside d r.spells (item-begun a first.kind c.in_default.not-ParenClose))
-      (items-left b (view_items c.loop-items.items.items) i c.loop-items.invariant.taken));
+      (items-left b c.loop-items.invariant.built.meant i c.loop-items.invariant.built.taken));
 }
 
 pub items-returns-in_err-behind : goal.items-returns-in_err-behind
-items-returns-in_err-behind t c = record {
+items-returns-in_err-behind g t c = record {
   shorter = none_ok _ _ c.from_residual-in_err-behind.result c.from_residual-in_err-behind.ensures.1;
-  taken = no_ok _ _ c.from_residual-in_err-behind.result c.from_residual-in_err-behind.ensures.1;
-  read = λ octets tokens h. no_ok _ _ c.from_residual-in_err-behind.result c.from_residual-in_err-behind.ensures.1;
+  built = no_ok _ _ c.from_residual-in_err-behind.result c.from_residual-in_err-behind.ensures.1;
   stands = λ octets tokens whole b a f h d i.
-      let r = c.loop-items.invariant.read octets tokens h in
-      let v = c.in_ok-item.ensures.read octets r.reads.all (c.in_ok-first.ensures.read octets r.reads.all r.reads.has) in
+      let r = c.loop-items.invariant.built.read octets tokens h in
+      let v = c.in_ok-item.ensures.built.read octets r.reads.all (c.in_ok-first.ensures.read octets r.reads.all r.reads.has) in
       let more : Front = λ rest. lexeme_of c.in_ok-first.first.kind ∷ v.inside rest in
       passed_on (Stands octets) c.in_err-behind.field-0.0 c.from_residual-in_err-behind.result c.from_residual-in_err-behind.ensures.1
       (c.in_err-behind.ensures.stands octets v.reads.all (λ rest. whole (r.inside (more rest))) (v.reads.follow (λ rest. whole (r.inside rest)) (r.reads.follow whole f)) v.reads.has
@@ -78,28 +85,30 @@ items-returns-in_err-behind t c = record {
 }
 
 pub items-returns-in-ParenClose-kind : goal.items-returns-in-ParenClose-kind
-items-returns-in-ParenClose-kind t c =
-    let vs = view_items c.loop-items.items.items in
-    let pushed : view_items c.push.new.self.items ≡ push vs (view c.in_ok-item.item) = ap view_items c.in_ok-push.ensures.items ∙ view_items-push c.loop-items.items.items c.in_ok-item.item in
+items-returns-in-ParenClose-kind g t c =
+    let b = c.loop-items.invariant.built in
+    let i = c.in_ok-item.ensures.built in
     record {
       shorter = omega (arith, c.in_ok-behind.ensures.shorter, c.in_ok-item.ensures.shorter, c.in_ok-first.ensures.shorter, c.loop-items.invariant.shorter);
-      taken = item-taken-at vs (view_items c.push.new.self.items) (view c.in_ok-item.item) c.loop-items.invariant.taken c.in_ok-item.ensures.taken pushed;
-      read = λ octets tokens h.
-          let r = c.loop-items.invariant.read octets tokens h in
-          let v = c.in_ok-item.ensures.read octets r.reads.all (c.in_ok-first.ensures.read octets r.reads.all r.reads.has) in
-          subst (λ x. ReadsItems octets tokens (paren_close ∷ []) x c.expect_mark.new.self) (sym pushed)
-          (last_item-read r v (placed c.in_ok-behind.behind) (ap lexeme_of c.in-ParenClose-kind.is) (c.in_ok-behind.ensures.read octets v.reads.all v.reads.has));
+      built = rw c.in_ok-push.ensures.items (record {
+        meant = push b.meant i.meant;
+        means_it = mean-push b.means_it i.means_it;
+        taken = item-taken b.meant i.meant b.taken i.taken;
+        read = λ octets tokens h.
+            let r = b.read octets tokens h in
+            let v = i.read octets r.reads.all (c.in_ok-first.ensures.read octets r.reads.all r.reads.has) in
+            last_item-read r v (placed c.in_ok-behind.behind) (ap lexeme_of c.in-ParenClose-kind.is) (c.in_ok-behind.ensures.read octets v.reads.all v.reads.has);
+      });
       stands = λ octets tokens whole b a f h d i. tt;
     }
 
 pub items-returns-in_default-kind : goal.items-returns-in_default-kind
-items-returns-in_default-kind t c = record {
+items-returns-in_default-kind g t c = record {
   shorter = tt;
-  taken = tt;
-  read = λ octets tokens h. tt;
+  built = tt;
   stands = λ octets tokens whole b a f h d i.
-      let r = c.loop-items.invariant.read octets tokens h in
-      let v = c.in_ok-item.ensures.read octets r.reads.all (c.in_ok-first.ensures.read octets r.reads.all r.reads.has) in
+      let r = c.loop-items.invariant.built.read octets tokens h in
+      let v = c.in_ok-item.ensures.built.read octets r.reads.all (c.in_ok-first.ensures.read octets r.reads.all r.reads.has) in
       let more : Front = λ rest. lexeme_of c.in_ok-first.first.kind ∷ v.inside rest in
       let token = placed c.in_ok-behind.behind in
       let has = c.in_ok-behind.ensures.read octets v.reads.all v.reads.has in
@@ -111,62 +120,63 @@ items-returns-in_default-kind t c = record {
 }
 
 pub items-loop-items-preserved : goal.items-loop-items-preserved
-items-loop-items-preserved t c =
-    let vs = view_items c.loop-items.items.items in
-    let pushed : view_items c.push.new.self.items ≡ push vs (view c.in_ok-item.item) = ap view_items c.in_ok-push.ensures.items ∙ view_items-push c.loop-items.items.items c.in_ok-item.item in
+items-loop-items-preserved g t c =
+    let b = c.loop-items.invariant.built in
+    let i = c.in_ok-item.ensures.built in
     record {
       shorter = omega (arith, c.in_ok-behind.ensures.shorter, c.in_ok-item.ensures.shorter, c.in_ok-first.ensures.shorter, c.loop-items.invariant.shorter);
-      taken = item-taken-at vs (view_items c.push.new.self.items) (view c.in_ok-item.item) c.loop-items.invariant.taken c.in_ok-item.ensures.taken pushed;
-      read = λ octets tokens h.
-          let r = c.loop-items.invariant.read octets tokens h in
-          let v = c.in_ok-item.ensures.read octets r.reads.all (c.in_ok-first.ensures.read octets r.reads.all r.reads.has) in
-          subst (λ x. ReadsItems octets tokens [] x c.expect_mark.new.self) (sym pushed)
-          (item-read r v (placed c.in_ok-behind.behind) (ap lexeme_of c.in-Comma.is) (c.in_ok-behind.ensures.read octets v.reads.all v.reads.has));
+      built = rw c.in_ok-push.ensures.items (record {
+        meant = push b.meant i.meant;
+        means_it = mean-push b.means_it i.means_it;
+        taken = item-taken b.meant i.meant b.taken i.taken;
+        read = λ octets tokens h.
+            let r = b.read octets tokens h in
+            let v = i.read octets r.reads.all (c.in_ok-first.ensures.read octets r.reads.all r.reads.has) in
+            item-read r v (placed c.in_ok-behind.behind) (ap lexeme_of c.in-Comma.is) (c.in_ok-behind.ensures.read octets v.reads.all v.reads.has);
+      });
     }
 
 pub row-returns-in_err-charge-clause-stands : goal.row-returns-in_err-charge-clause-stands
-row-returns-in_err-charge-clause-stands t c octets tokens at whole b around before pairs l s f h d k i =
+row-returns-in_err-charge-clause-stands g t c octets tokens at whole b around before pairs l s f h d k i =
     let few : c.text_payload.result ≤ 2 * length c.args.key.now = omega (arith, c.text_payload.ensures.payload) in
     passed_on (Stands octets) c.in_err-charge.field-0.0 c.from_residual.result c.from_residual.ensures.1
     (c.in_err-charge.ensures.stands octets (tokens ++ at ∷ []) h
     (key-refuses tokens at c.args.octet c.args.key.now whole c.args.levels c.text_payload.result c.args.self.now.left l s f h d few i))
 
 pub row-returns-then-known-clause-stands : goal.row-returns-then-known-clause-stands
-row-returns-then-known-clause-stands t c octets tokens at whole b around before pairs l s f h d k i =
+row-returns-then-known-clause-stands g t c octets tokens at whole b around before pairs l s f h d k i =
     let has : HasRead octets (tokens ++ at ∷ []) c.charge.new.self.tokens = same-read h c.in_ok-charge.ensures.tokens in
     let twice : has_key c.args.key.now pairs ≡ true = k ∙ c.if-known.true in
     c.refuse.ensures octets (tokens ++ at ∷ []) has (twice-stands tokens at c.args.octet c.args.key.now whole l s f has d twice)
 
 pub row-returns-in_err-behind-clause-stands : goal.row-returns-in_err-behind-clause-stands
-row-returns-in_err-behind-clause-stands t c octets tokens at whole b around before pairs l s f h d k i =
+row-returns-in_err-behind-clause-stands g t c octets tokens at whole b around before pairs l s f h d k i =
     let has : HasRead octets (tokens ++ at ∷ []) c.charge.new.self.tokens = same-read h c.in_ok-charge.ensures.tokens in
     let once : has_key c.args.key.now pairs ≡ false = k ∙ c.if-known.false in
     passed_on (Stands octets) c.in_err-behind.field-0.0 c.from_residual-in_err-behind.result c.from_residual-in_err-behind.ensures.1
     (c.in_err-behind.ensures.stands octets (tokens ++ at ∷ []) (λ rest. whole (string c.args.key.now ∷ rest)) (before-key tokens at c.args.key.now whole l f) has (key-open c.args.key.now d once))
 
-pub row-returns-in-Equals-clause-taken : goal.row-returns-in-Equals-clause-taken
-row-returns-in-Equals-clause-taken t c =
+pub row-returns-in-Equals-clause-built : goal.row-returns-in-Equals-clause-built
+row-returns-in-Equals-clause-built g t c =
     let key = c.args.key.now in
-    let after = c.row_value.new.self.left in
+    let token = placed c.in_ok-behind.behind in
     let spent : Spends c.args.self.now.left 1 (2 * length key) c.charge.new.self.left = spends-same c.in_ok-charge.ensures.spent c.text_payload.ensures.payload in
-    IfOk-weaker c.row_value.result (λ v. Takes c.charge.new.self.left c.args.levels (view v) after) (λ v. TakesRow c.args.self.now.left c.args.levels key (view v) after)
-    (λ v u. row-taken key (view v) spent c.in_ok-charge.ensures.deep u c.text_payload.ensures.valid) c.row_value.ensures.taken
+    IfOk-weaker c.row_value.result _ _
+    (λ value b. record {
+      meant = b.meant;
+      means_it = b.means_it;
+      taken = row-taken key b.meant spent c.in_ok-charge.ensures.deep b.taken c.text_payload.ensures.valid;
+      read = λ octets tokens at l h.
+          let has : HasRead octets (tokens ++ at ∷ []) c.charge.new.self.tokens = same-read h c.in_ok-charge.ensures.tokens in
+          row-read tokens at token key l (ap lexeme_of c.in-Equals.is) (b.read octets ((tokens ++ at ∷ []) ++ token ∷ []) (c.in_ok-behind.ensures.read octets (tokens ++ at ∷ []) has));
+    }) c.row_value.ensures.built
 
 pub row-returns-in-Equals-clause-once : goal.row-returns-in-Equals-clause-once
-row-returns-in-Equals-clause-once t c =
+row-returns-in-Equals-clause-once g t c =
     on_ok _ c.row_value.result c.if-known.false
 
-pub row-returns-in-Equals-clause-read : goal.row-returns-in-Equals-clause-read
-row-returns-in-Equals-clause-read t c octets tokens at l h =
-    let has : HasRead octets (tokens ++ at ∷ []) c.charge.new.self.tokens = same-read h c.in_ok-charge.ensures.tokens in
-    let token = placed c.in_ok-behind.behind in
-    let has_behind = c.in_ok-behind.ensures.read octets (tokens ++ at ∷ []) has in
-    IfOk-weaker c.row_value.result (λ v. ReadsEnded octets ((tokens ++ at ∷ []) ++ token ∷ []) (view v) c.row_value.new.self.tokens)
-    (λ v. ReadsRow octets tokens c.args.key.now (view v) c.row_value.new.self.tokens)
-    (λ v r. row-read tokens at token c.args.key.now l (ap lexeme_of c.in-Equals.is) r) (c.row_value.ensures.read octets ((tokens ++ at ∷ []) ++ token ∷ []) has_behind)
-
 pub row-returns-in-Equals-clause-stands : goal.row-returns-in-Equals-clause-stands
-row-returns-in-Equals-clause-stands t c octets tokens at whole b around before pairs l s f h d k i =
+row-returns-in-Equals-clause-stands g t c octets tokens at whole b around before pairs l s f h d k i =
     let has : HasRead octets (tokens ++ at ∷ []) c.charge.new.self.tokens = same-read h c.in_ok-charge.ensures.tokens in
     let token = placed c.in_ok-behind.behind in
     let has_behind = c.in_ok-behind.ensures.read octets (tokens ++ at ∷ []) has in
@@ -177,35 +187,28 @@ row-returns-in-Equals-clause-stands t c octets tokens at whole b around before p
     (before-at (tokens ++ at ∷ []) token equals (λ rest. whole (string key ∷ rest)) (ap lexeme_of c.in-Equals.is) (before-key tokens at key whole l f)) has_behind
     (row_value-due key d once) (key-left key i spent)
 
-pub row-returns-in-Semicolon-clause-taken : goal.row-returns-in-Semicolon-clause-taken
-row-returns-in-Semicolon-clause-taken t c =
+pub row-returns-in-Semicolon-clause-built : goal.row-returns-in-Semicolon-clause-built
+row-returns-in-Semicolon-clause-built g t c =
     let key = c.args.key.now in
-    let after = c.key_alone.new.self.left in
+    let token = placed c.in_ok-behind.behind in
     let spent : Spends c.args.self.now.left 1 (2 * length key) c.charge.new.self.left = spends-same c.in_ok-charge.ensures.spent c.text_payload.ensures.payload in
-    both_ok c.key_alone.result (λ v. view v ≡ scalar (text key)) (Spends c.charge.new.self.left 1 (2 * length key) after) (λ v. TakesRow c.args.self.now.left c.args.levels key (view v) after)
-    (λ v e u.
-    let alone : Takes c.charge.new.self.left c.args.levels (scalar (text key)) after =
-    scalar-taken (text key) u c.in_ok-charge.ensures.deep c.text_payload.ensures.valid in
-    row-taken key (view v) spent c.in_ok-charge.ensures.deep (subst (λ x. Takes c.charge.new.self.left c.args.levels x after) (sym e) alone) c.text_payload.ensures.valid)
-    c.key_alone.ensures.value c.key_alone.ensures.spent
+    both_ok c.key_alone.result _ (Spends c.charge.new.self.left 1 (2 * length key) c.key_alone.new.self.left) _
+    (λ value m u. record {
+      meant = scalar (text key);
+      means_it = m;
+      taken = row-taken key (scalar (text key)) spent c.in_ok-charge.ensures.deep
+          (scalar-taken (text key) u c.in_ok-charge.ensures.deep c.text_payload.ensures.valid) c.text_payload.ensures.valid;
+      read = λ octets tokens at l h.
+          let has : HasRead octets (tokens ++ at ∷ []) c.charge.new.self.tokens = same-read h c.in_ok-charge.ensures.tokens in
+          alone-read tokens at token key l (ap lexeme_of c.in-Semicolon.is) (same-read (c.in_ok-behind.ensures.read octets (tokens ++ at ∷ []) has) c.key_alone.ensures.tokens);
+    }) c.key_alone.ensures.means c.key_alone.ensures.spent
 
 pub row-returns-in-Semicolon-clause-once : goal.row-returns-in-Semicolon-clause-once
-row-returns-in-Semicolon-clause-once t c =
+row-returns-in-Semicolon-clause-once g t c =
     on_ok _ c.key_alone.result c.if-known.false
 
-pub row-returns-in-Semicolon-clause-read : goal.row-returns-in-Semicolon-clause-read
-row-returns-in-Semicolon-clause-read t c octets tokens at l h =
-    let has : HasRead octets (tokens ++ at ∷ []) c.charge.new.self.tokens = same-read h c.in_ok-charge.ensures.tokens in
-    let token = placed c.in_ok-behind.behind in
-    let has_behind = c.in_ok-behind.ensures.read octets (tokens ++ at ∷ []) has in
-    let key = c.args.key.now in
-    let after = c.key_alone.new.self.tokens in
-    let has_after : HasRead octets ((tokens ++ at ∷ []) ++ token ∷ []) after = same-read has_behind c.key_alone.ensures.tokens in
-    IfOk-weaker c.key_alone.result (λ v. view v ≡ scalar (text key)) (λ v. ReadsRow octets tokens key (view v) after)
-    (λ v e. subst (λ x. ReadsRow octets tokens key x after) (sym e) (alone-read tokens at token key l (ap lexeme_of c.in-Semicolon.is) has_after)) c.key_alone.ensures.value
-
 pub row-returns-in-Semicolon-clause-stands : goal.row-returns-in-Semicolon-clause-stands
-row-returns-in-Semicolon-clause-stands t c octets tokens at whole b around before pairs l s f h d k i =
+row-returns-in-Semicolon-clause-stands g t c octets tokens at whole b around before pairs l s f h d k i =
     let has : HasRead octets (tokens ++ at ∷ []) c.charge.new.self.tokens = same-read h c.in_ok-charge.ensures.tokens in
     let token = placed c.in_ok-behind.behind in
     let has_behind = c.in_ok-behind.ensures.read octets (tokens ++ at ∷ []) has in
@@ -217,12 +220,11 @@ row-returns-in-Semicolon-clause-stands t c octets tokens at whole b around befor
     (alone-refuses tokens at token c.args.octet key whole c.args.levels c.charge.new.self.left l s (ap lexeme_of c.in-Semicolon.is) f two d once (key-left key i spent))
 
 pub row-returns : goal.row-returns
-row-returns t c =
+row-returns g t c =
     record {
       shorter = tt;
-      taken = tt;
       once = tt;
-      read = λ octets tokens at l h. tt;
+      built = tt;
       stands = λ octets tokens at whole b around before pairs l s f h d k i.
           let has : HasRead octets (tokens ++ at ∷ []) c.charge.new.self.tokens = same-read h c.in_ok-charge.ensures.tokens in
           let token = placed c.in_ok-behind.behind in
@@ -236,34 +238,40 @@ row-returns t c =
     }
 
 pub row_value-returns-in_err-first-clause-stands : goal.row_value-returns-in_err-first-clause-stands
-row_value-returns-in_err-first-clause-stands t c octets tokens whole b around f h d i =
+row_value-returns-in_err-first-clause-stands g t c octets tokens whole b around f h d i =
     passed_on (Stands octets) c.in_err-first.field-0.0 c.from_residual.result c.from_residual.ensures.1
     (c.in_err-first.ensures.stands octets tokens whole f h (row_value-open d))
 
 pub row_value-returns-in_err-value-clause-stands : goal.row_value-returns-in_err-value-clause-stands
-row_value-returns-in_err-value-clause-stands t c octets tokens whole b around f h d i =
+row_value-returns-in_err-value-clause-stands g t c octets tokens whole b around f h d i =
     passed_on (Stands octets) c.in_err-value.field-0.0 c.from_residual-in_err-value.result c.from_residual-in_err-value.ensures.1
     (c.in_err-value.ensures.stands octets tokens whole b around f (c.in_ok-first.ensures.read octets tokens h) (row_value-first (lexeme_of c.in_ok-first.first.kind) d) i)
 
 pub row_value-returns-in_err-behind-clause-stands : goal.row_value-returns-in_err-behind-clause-stands
-row_value-returns-in_err-behind-clause-stands t c octets tokens whole b around f h d i =
-    let v = c.in_ok-value.ensures.read octets tokens (c.in_ok-first.ensures.read octets tokens h) in
+row_value-returns-in_err-behind-clause-stands g t c octets tokens whole b around f h d i =
+    let v = c.in_ok-value.ensures.built.read octets tokens (c.in_ok-first.ensures.read octets tokens h) in
     let more : Front = λ rest. lexeme_of c.in_ok-first.first.kind ∷ v.inside rest in
     passed_on (Stands octets) c.in_err-behind.field-0.0 c.from_residual-in_err-behind.result c.from_residual-in_err-behind.ensures.1
     (c.in_err-behind.ensures.stands octets v.reads.all (λ rest. whole (more rest)) (v.reads.follow whole f) v.reads.has (row_value-behind more d v.spells))
 
-pub row_value-returns-in-Semicolon-clause-read : goal.row_value-returns-in-Semicolon-clause-read
-row_value-returns-in-Semicolon-clause-read t c octets tokens h =
-    let v = c.in_ok-value.ensures.read octets tokens (c.in_ok-first.ensures.read octets tokens h) in
-    ended-read tokens (placed c.in_ok-first.first) v (placed c.in_ok-behind.behind) (ap lexeme_of c.in-Semicolon.is) (c.in_ok-behind.ensures.read octets v.reads.all v.reads.has)
+pub row_value-returns-in-Semicolon-clause-built : goal.row_value-returns-in-Semicolon-clause-built
+row_value-returns-in-Semicolon-clause-built g t c =
+    let b = c.in_ok-value.ensures.built in
+    record {
+      meant = b.meant;
+      means_it = b.means_it;
+      taken = b.taken;
+      read = λ octets tokens h.
+          let v = b.read octets tokens (c.in_ok-first.ensures.read octets tokens h) in
+          ended-read tokens (placed c.in_ok-first.first) v (placed c.in_ok-behind.behind) (ap lexeme_of c.in-Semicolon.is) (c.in_ok-behind.ensures.read octets v.reads.all v.reads.has);
+    }
 
 pub row_value-returns-in_default : goal.row_value-returns-in_default
-row_value-returns-in_default t c = record {
+row_value-returns-in_default g t c = record {
   shorter = tt;
-  taken = tt;
-  read = λ octets tokens h. tt;
+  built = tt;
   stands = λ octets tokens whole b around f h d i.
-      let v = c.in_ok-value.ensures.read octets tokens (c.in_ok-first.ensures.read octets tokens h) in
+      let v = c.in_ok-value.ensures.built.read octets tokens (c.in_ok-first.ensures.read octets tokens h) in
       let more : Front = λ rest. lexeme_of c.in_ok-first.first.kind ∷ v.inside rest in
       let token = placed c.in_ok-behind.behind in
       let has = c.in_ok-behind.ensures.read octets v.reads.all v.reads.has in
@@ -274,75 +282,88 @@ row_value-returns-in_default t c = record {
 }
 
 pub rows-loop-rows-init : goal.rows-loop-rows-init
-rows-loop-rows-init t c =
+rows-loop-rows-init g t c =
     record {
       shorter = omega arith;
-      taken = rw c.new-rows.ensures.empty (no-pairs-taken c.args.self.now.left c.args.levels);
-      read = λ octets tokens h. rw c.new-rows.ensures.empty (no-pairs-read h);
+      built = rw c.new-rows.ensures.empty (record {
+        meant = no_pairs;
+        means_it = no_entry;
+        taken = no-pairs-taken c.args.self.now.left c.args.levels;
+        read = λ octets tokens h. no-pairs-read h;
+      });
     }
 
 pub rows-returns-in_err-token-clause-stands : goal.rows-returns-in_err-token-clause-stands
-rows-returns-in_err-token-clause-stands t c octets tokens whole b a f h d i =
-    let r = c.loop-rows.invariant.read octets tokens h in
+rows-returns-in_err-token-clause-stands g t c octets tokens whole b a f h d i =
+    let r = c.loop-rows.invariant.built.read octets tokens h in
     passed_on (Stands octets) c.in_err-token.field-0.0 c.from_residual.result c.from_residual.ensures.1
     (c.in_err-token.ensures.stands octets r.read.reads.all (λ rest. whole (r.read.inside rest)) (r.read.reads.follow whole f) r.read.reads.has
-    (rows-open (row-due r.read.inside d r.read.spells r.same c.loop-rows.invariant.taken.valid)))
+    (rows-open (row-due r.read.inside d r.read.spells r.same c.loop-rows.invariant.built.taken.valid)))
 
-pub rows-returns-in-BraceClose-clause-read : goal.rows-returns-in-BraceClose-clause-read
-rows-returns-in-BraceClose-clause-read t c octets tokens h =
-    let r = c.loop-rows.invariant.read octets tokens h in
-    pairs-read r (placed c.in_ok-token.token) (ap lexeme_of c.in-BraceClose.is) (c.in_ok-token.ensures.read octets r.read.reads.all r.read.reads.has)
+pub rows-returns-in-BraceClose-clause-built : goal.rows-returns-in-BraceClose-clause-built
+rows-returns-in-BraceClose-clause-built g t c =
+    let b = c.loop-rows.invariant.built in
+    record {
+      meant = b.meant;
+      means_it = b.means_it;
+      taken = b.taken;
+      read = λ octets tokens h.
+          let r = b.read octets tokens h in
+          pairs-read r (placed c.in_ok-token.token) (ap lexeme_of c.in-BraceClose.is) (c.in_ok-token.ensures.read octets r.read.reads.all r.read.reads.has);
+    }
 
 pub rows-returns-in_err-value-in-Text-clause-stands : goal.rows-returns-in_err-value-in-Text-clause-stands
-rows-returns-in_err-value-in-Text-clause-stands t c octets tokens whole b a f h d i =
-    let r = c.loop-rows.invariant.read octets tokens h in
+rows-returns-in_err-value-in-Text-clause-stands g t c octets tokens whole b a f h d i =
+    let r = c.loop-rows.invariant.built.read octets tokens h in
     let rows = c.loop-rows.rows in
     let place = c.in_ok-place-in-Text in
     let same : c.in-Text.key ≡ c.key.result.now = exact_bytes c.in-Text.key _ (rw c.in-Text.is at place.ensures.same_key) ∙ sym c.key.ensures in
-    let known : has_key c.in-Text.key (view_pairs rows.entries) ≡ c.is_known-known.result = known-has c.is_known-known.result c.in-Text.key rows (c.is_known-known.ensures rows c.in-Text.key (rw c.in-Text.is at place.ensures.found)) in
+    let known : has_key c.in-Text.key c.loop-rows.invariant.built.meant ≡ c.is_known-known.result = known-has c.is_known-known.result c.in-Text.key rows c.loop-rows.invariant.built.means_it (c.is_known-known.ensures rows c.in-Text.key (rw c.in-Text.is at place.ensures.found)) in
     passed_on (Stands octets) c.in_err-value-in-Text.field-0.0 c.from_residual-in_err-value-in-Text.result c.from_residual-in_err-value-in-Text.ensures.1
-    (c.in_err-value-in-Text.ensures.stands octets r.read.reads.all (placed c.in_ok-token.token) (λ rest. whole (r.read.inside rest)) (opened b) (Machine.in_braces a) r.rows (view_pairs rows.entries)
+    (c.in_err-value-in-Text.ensures.stands octets r.read.reads.all (placed c.in_ok-token.token) (λ rest. whole (r.read.inside rest)) (opened b) (Machine.in_braces a) r.rows c.loop-rows.invariant.built.meant
     (ap lexeme_of c.in-Text.is ∙ ap string same) refl (r.read.reads.follow whole f) (c.in_ok-token.ensures.read octets r.read.reads.all r.read.reads.has)
-    (row-due r.read.inside d r.read.spells r.same c.loop-rows.invariant.taken.valid) (subst (λ x. has_key x (view_pairs rows.entries) ≡ c.is_known-known.result) same known)
-    (rows-left i c.loop-rows.invariant.taken r.same))
+    (row-due r.read.inside d r.read.spells r.same c.loop-rows.invariant.built.taken.valid) (subst (λ x. has_key x c.loop-rows.invariant.built.meant ≡ c.is_known-known.result) same known)
+    (rows-left i c.loop-rows.invariant.built.taken r.same))
 
 pub rows-loop-rows-preserved : goal.rows-loop-rows-preserved
-rows-loop-rows-preserved t c =
+rows-loop-rows-preserved g t c =
     let rows = c.loop-rows.rows in
-    let ps = view_pairs rows.entries in
+    let b = c.loop-rows.invariant.built in
+    let row = c.in_ok-value-in-Text.ensures.built in
     let key = c.in-Text.key in
     let place = c.in_ok-place-in-Text in
     let value = c.in_ok-value-in-Text.value in
     let same : key ≡ c.key.result.now = exact_bytes key _ (rw c.in-Text.is at place.ensures.same_key) ∙ sym c.key.ensures in
-    let once : has_key key ps ≡ false = known-has c.is_known-known.result key rows (c.is_known-known.ensures rows key (rw c.in-Text.is at place.ensures.found)) ∙ c.in_ok-value-in-Text.ensures.once in
+    let once : has_key key b.meant ≡ false = known-has c.is_known-known.result key rows b.means_it (c.is_known-known.ensures rows key (rw c.in-Text.is at place.ensures.found)) ∙ c.in_ok-value-in-Text.ensures.once in
     let now : c.or_insert.result.now ≡ value =
-    new-value (entry_value place.place) value c.or_insert.result.now (ap is_some (rw c.in-Text.is at place.ensures.value) ∙ (has_key-looked key rows.entries ∙ once)) c.or_insert.ensures.value in
+    new-value (entry_value place.place) value c.or_insert.result.now (ap is_some (rw c.in-Text.is at place.ensures.value) ∙ (has_key-looked key b.means_it ∙ once)) c.or_insert.ensures.value in
     let more = c.rows-in-Text-2-1.given.0 in
     let back : more ≡ map_with_value place.place c.or_insert.result.now = c.rows-in-Text-2-1.given.1 (sym place.ensures.same_map) in
-    let put : view_pairs more.entries ≡ put_pair key (view value) ps =
-    ap (λ m. view_pairs m.entries) back ∙ ap view_pairs ((rw c.in-Text.is at place.ensures.update.1) c.or_insert.result.now ∙ ap (insert_entry (slice_cmp nat_cmp) rows.entries key) now) ∙ view_pairs-insert_entry rows.entries key value in
+    let put : more.entries ≡ insert_entry (slice_cmp nat_cmp) rows.entries key value =
+    ap (λ m. m.entries) back ∙ ((rw c.in-Text.is at place.ensures.update.1) c.or_insert.result.now ∙ ap (insert_entry (slice_cmp nat_cmp) rows.entries key) now) in
     record {
       shorter = omega (arith, c.in_ok-value-in-Text.ensures.shorter, c.in_ok-token.ensures.shorter, c.loop-rows.invariant.shorter);
-      taken = pair-taken-at key (view value) ps (view_pairs more.entries) c.loop-rows.invariant.taken
-          (subst (λ x. TakesRow c.loop-rows.self.left c.args.levels x (view value) c.row.new.self.left) (sym same) c.in_ok-value-in-Text.ensures.taken) once put;
-      read = λ octets tokens h.
-          let r = c.loop-rows.invariant.read octets tokens h in
-          subst (λ x. ReadsRows octets tokens [] x c.row.new.self.tokens) (sym put)
-          (pair-read r (subst (λ x. ReadsRow octets r.read.reads.all x (view value) c.row.new.self.tokens) (sym same)
-          (c.in_ok-value-in-Text.ensures.read octets r.read.reads.all (placed c.in_ok-token.token) (ap lexeme_of c.in-Text.is ∙ ap string same) (c.in_ok-token.ensures.read octets r.read.reads.all r.read.reads.has))) once);
+      built = rw put (record {
+        meant = put_pair key row.meant b.meant;
+        means_it = mean-put key b.means_it row.means_it;
+        taken = pair-taken key row.meant b.meant b.taken (subst (λ x. TakesRow c.loop-rows.self.left c.args.levels x row.meant c.row.new.self.left) (sym same) row.taken) once;
+        read = λ octets tokens h.
+            let r = b.read octets tokens h in
+            pair-read r (subst (λ x. ReadsRow octets r.read.reads.all x row.meant c.row.new.self.tokens) (sym same)
+            (row.read octets r.read.reads.all (placed c.in_ok-token.token) (ap lexeme_of c.in-Text.is ∙ ap string same) (c.in_ok-token.ensures.read octets r.read.reads.all r.read.reads.has))) once;
+      });
     }
 
 pub rows-returns-in_default : goal.rows-returns-in_default
-rows-returns-in_default t c =
+rows-returns-in_default g t c =
     record {
       shorter = tt;
-      taken = tt;
-      read = λ octets tokens h. tt;
+      built = tt;
       stands = λ octets tokens whole b a f h d i.
-          let r = c.loop-rows.invariant.read octets tokens h in
+          let r = c.loop-rows.invariant.built.read octets tokens h in
           let token = placed c.in_ok-token.token in
           let has = c.in_ok-token.ensures.read octets r.read.reads.all r.read.reads.has in
-          let due = row-due r.read.inside d r.read.spells r.same c.loop-rows.invariant.taken.valid in
+          let due = row-due r.read.inside d r.read.spells r.same c.loop-rows.invariant.built.taken.valid in
           c.refuse.ensures octets (r.read.reads.all ++ token ∷ []) has
           (expected-at r.read.reads.all token (λ rest. whole (r.read.inside rest)) (r.read.reads.follow whole f) has (rows-open due)
           (leads-nowhere (λ rest. whole (r.read.inside rest)) (Machine.rows (Machine.in_braces a)) token.lexeme due.leads
@@ -350,7 +371,7 @@ rows-returns-in_default t c =
     }
 
 pub value-returns-in_err-charge-in-Text-clause-stands : goal.value-returns-in_err-charge-in-Text-clause-stands
-value-returns-in_err-charge-in-Text-clause-stands t c octets tokens whole b a f h d i =
+value-returns-in_err-charge-in-Text-clause-stands g t c octets tokens whole b a f h d i =
     let is : c.text_payload.result ≡ 2 * length c.in-Text.text = rw c.in-Text.is at c.text_payload.ensures.payload in
     let few : c.text_payload.result ≤ 2 * length c.in-Text.text = omega (arith, is) in
     passed_on (Stands octets) c.in_err-charge-in-Text.field-0.0 c.from_residual.result c.from_residual.ensures.1
@@ -358,7 +379,7 @@ value-returns-in_err-charge-in-Text-clause-stands t c octets tokens whole b a f 
     (value-refuses tokens (placed c.args.first) (string c.in-Text.text) whole c.args.levels c.text_payload.result c.args.self.now.left (ap lexeme_of c.in-Text.is) f h d.at (λ rest. refl) (λ rest. few) i))
 
 pub value-returns-in_err-charge-in-Octets-clause-stands : goal.value-returns-in_err-charge-in-Octets-clause-stands
-value-returns-in_err-charge-in-Octets-clause-stands t c octets tokens whole b a f h d i =
+value-returns-in_err-charge-in-Octets-clause-stands g t c octets tokens whole b a f h d i =
     let seen : c.as_slice.result.now ≡ c.in-Octets.octets.items = rw c.in-Octets.is at c.as_slice.ensures.value in
     let few : c.data_payload.result ≤ length c.in-Octets.octets.items = omega (arith, c.data_payload.ensures.payload, ap length seen) in
     passed_on (Stands octets) c.in_err-charge-in-Octets.field-0.0 c.from_residual-in_err-charge-in-Octets.result c.from_residual-in_err-charge-in-Octets.ensures.1
@@ -367,13 +388,13 @@ value-returns-in_err-charge-in-Octets-clause-stands t c octets tokens whole b a 
     (λ rest. few) i))
 
 pub value-returns-in_err-charge-in-ParenOpen-clause-stands : goal.value-returns-in_err-charge-in-ParenOpen-clause-stands
-value-returns-in_err-charge-in-ParenOpen-clause-stands t c octets tokens whole b a f h d i =
+value-returns-in_err-charge-in-ParenOpen-clause-stands g t c octets tokens whole b a f h d i =
     passed_on (Stands octets) c.in_err-charge-in-ParenOpen.field-0.0 c.from_residual-in_err-charge-in-ParenOpen.result c.from_residual-in_err-charge-in-ParenOpen.ensures.1
     (c.in_err-charge-in-ParenOpen.ensures.stands octets (tokens ++ placed c.args.first ∷ []) h
     (value-refuses tokens (placed c.args.first) paren_open whole c.args.levels 0 c.args.self.now.left (ap lexeme_of c.in-ParenOpen.is) f h d.at (λ rest. refl) (λ rest. omega arith) i))
 
 pub value-returns-in_err-items-in-ParenOpen-clause-stands : goal.value-returns-in_err-items-in-ParenOpen-clause-stands
-value-returns-in_err-items-in-ParenOpen-clause-stands t c octets tokens whole b a f h d i =
+value-returns-in_err-items-in-ParenOpen-clause-stands g t c octets tokens whole b a f h d i =
     let charged = c.charge-in-ParenOpen.new.self.tokens in
     let has : HasRead octets (tokens ++ placed c.args.first ∷ []) charged = same-read h c.in_ok-charge-in-ParenOpen.ensures.tokens in
     let is : lexeme_of c.args.first.kind ≡ paren_open = ap lexeme_of c.in-ParenOpen.is in
@@ -382,13 +403,13 @@ value-returns-in_err-items-in-ParenOpen-clause-stands t c octets tokens whole b 
     (list-due (subst (λ x. ValueDue whole b a x) is d)) (opened-left i c.in_ok-charge-in-ParenOpen.ensures.spent c.in_ok-charge-in-ParenOpen.ensures.deep))
 
 pub value-returns-in_err-charge-in-BraceOpen-clause-stands : goal.value-returns-in_err-charge-in-BraceOpen-clause-stands
-value-returns-in_err-charge-in-BraceOpen-clause-stands t c octets tokens whole b a f h d i =
+value-returns-in_err-charge-in-BraceOpen-clause-stands g t c octets tokens whole b a f h d i =
     passed_on (Stands octets) c.in_err-charge-in-BraceOpen.field-0.0 c.from_residual-in_err-charge-in-BraceOpen.result c.from_residual-in_err-charge-in-BraceOpen.ensures.1
     (c.in_err-charge-in-BraceOpen.ensures.stands octets (tokens ++ placed c.args.first ∷ []) h
     (value-refuses tokens (placed c.args.first) brace_open whole c.args.levels 0 c.args.self.now.left (ap lexeme_of c.in-BraceOpen.is) f h d.at (λ rest. refl) (λ rest. omega arith) i))
 
 pub value-returns-in_err-rows-in-BraceOpen-clause-stands : goal.value-returns-in_err-rows-in-BraceOpen-clause-stands
-value-returns-in_err-rows-in-BraceOpen-clause-stands t c octets tokens whole b a f h d i =
+value-returns-in_err-rows-in-BraceOpen-clause-stands g t c octets tokens whole b a f h d i =
     let charged = c.charge-in-BraceOpen.new.self.tokens in
     let has : HasRead octets (tokens ++ placed c.args.first ∷ []) charged = same-read h c.in_ok-charge-in-BraceOpen.ensures.tokens in
     let is : lexeme_of c.args.first.kind ≡ brace_open = ap lexeme_of c.in-BraceOpen.is in
@@ -396,65 +417,58 @@ value-returns-in_err-rows-in-BraceOpen-clause-stands t c octets tokens whole b a
     (c.in_err-rows-in-BraceOpen.ensures.stands octets (tokens ++ placed c.args.first ∷ []) (λ rest. whole (brace_open ∷ rest)) b a (before-at tokens (placed c.args.first) brace_open whole is f) has
     (table-due (subst (λ x. ValueDue whole b a x) is d)) (opened-left i c.in_ok-charge-in-BraceOpen.ensures.spent c.in_ok-charge-in-BraceOpen.ensures.deep))
 
-pub value-returns-in_ok-charge-in-Text-clause-taken : goal.value-returns-in_ok-charge-in-Text-clause-taken
-value-returns-in_ok-charge-in-Text-clause-taken t c =
+pub value-returns-in_ok-charge-in-Text-clause-built : goal.value-returns-in_ok-charge-in-Text-clause-built
+value-returns-in_ok-charge-in-Text-clause-built g t c =
     let key = c.in-Text.text in
-    let after = c.charge.new.self.left in
     let is : c.text_payload.result ≡ 2 * length key = rw c.in-Text.is at c.text_payload.ensures.payload in
     let valid : AreUnits key = rw c.in-Text.is at c.text_payload.ensures.valid in
-    rw c.in-Text.is (subst (λ x. Takes c.args.self.now.left c.args.levels x after) (sym (view-text key))
-    (scalar-taken (text key) (spends-same c.in_ok-charge-in-Text.ensures.spent is) c.in_ok-charge-in-Text.ensures.deep valid))
+    record {
+      meant = scalar (text key);
+      means_it = rw c.in-Text.is at c.of_text.ensures;
+      taken = scalar-taken (text key) (spends-same c.in_ok-charge-in-Text.ensures.spent is) c.in_ok-charge-in-Text.ensures.deep valid;
+      read = λ octets tokens h. string-read tokens (placed c.args.first) key (ap lexeme_of c.in-Text.is) (same-read h c.in_ok-charge-in-Text.ensures.tokens);
+    }
 
-pub value-returns-in_ok-charge-in-Text-clause-read : goal.value-returns-in_ok-charge-in-Text-clause-read
-value-returns-in_ok-charge-in-Text-clause-read t c octets tokens h =
-    let key = c.in-Text.text in
-    let token = placed c.args.first in
-    let after = c.charge.new.self.tokens in
-    let shown : view (Value.Text key) ≡ scalar (text key) = view-text key in
-    let read : ReadsValue octets tokens token.lexeme (view (Value.Text key)) after =
-    subst (λ x. ReadsValue octets tokens token.lexeme x after) (sym shown) (string-read tokens token key (ap lexeme_of c.in-Text.is)
-    (same-read h c.in_ok-charge-in-Text.ensures.tokens)) in
-    rw c.in-Text.is (subst (λ l. ReadsValue octets tokens l (view (Value.Text key)) after) (ap lexeme_of c.in-Text.is) read)
-
-pub value-returns-in_ok-charge-in-Octets-clause-taken : goal.value-returns-in_ok-charge-in-Octets-clause-taken
-value-returns-in_ok-charge-in-Octets-clause-taken t c =
+pub value-returns-in_ok-charge-in-Octets-clause-built : goal.value-returns-in_ok-charge-in-Octets-clause-built
+value-returns-in_ok-charge-in-Octets-clause-built g t c =
     let xs = c.in-Octets.octets in
-    let after = c.charge-in-Octets.new.self.left in
     let seen : c.as_slice.result.now ≡ xs.items = rw c.in-Octets.is at c.as_slice.ensures.value in
     let valid : AreOctets xs.items = subst (λ ys. AreOctets ys) seen c.data_payload.ensures.valid in
-    rw c.in-Octets.is (subst (λ x. Takes c.args.self.now.left c.args.levels x after) (sym (view-bytes xs))
-    (scalar-taken (bytes xs.items) (spends-same c.in_ok-charge-in-Octets.ensures.spent (c.data_payload.ensures.payload ∙ ap length seen)) c.in_ok-charge-in-Octets.ensures.deep valid))
+    record {
+      meant = scalar (bytes xs.items);
+      means_it = rw c.in-Octets.is at c.of_data.ensures;
+      taken = scalar-taken (bytes xs.items) (spends-same c.in_ok-charge-in-Octets.ensures.spent (c.data_payload.ensures.payload ∙ ap length seen)) c.in_ok-charge-in-Octets.ensures.deep valid;
+      read = λ octets tokens h. data-read tokens (placed c.args.first) xs.items (ap lexeme_of c.in-Octets.is) (same-read h c.in_ok-charge-in-Octets.ensures.tokens);
+    }
 
-pub value-returns-in_ok-charge-in-Octets-clause-read : goal.value-returns-in_ok-charge-in-Octets-clause-read
-value-returns-in_ok-charge-in-Octets-clause-read t c octets tokens h =
-    let xs = c.in-Octets.octets in
-    let token = placed c.args.first in
-    let after = c.charge-in-Octets.new.self.tokens in
-    let read : ReadsValue octets tokens token.lexeme (view (Value.Bytes xs)) after =
-    subst (λ x. ReadsValue octets tokens token.lexeme x after) (sym (view-bytes xs)) (data-read tokens token xs.items (ap lexeme_of c.in-Octets.is)
-    (same-read h c.in_ok-charge-in-Octets.ensures.tokens)) in
-    rw c.in-Octets.is (subst (λ l. ReadsValue octets tokens l (view (Value.Bytes xs)) after) (ap lexeme_of c.in-Octets.is) read)
+pub value-returns-in_ok-items-in-ParenOpen-clause-built : goal.value-returns-in_ok-items-in-ParenOpen-clause-built
+value-returns-in_ok-items-in-ParenOpen-clause-built g t c =
+    let b = c.in_ok-items-in-ParenOpen.ensures.built in
+    record {
+      meant = list b.meant;
+      means_it = c.of_items.ensures b.meant b.means_it;
+      taken = list-taken b.meant c.in_ok-charge-in-ParenOpen.ensures.spent c.in_ok-charge-in-ParenOpen.ensures.deep b.taken;
+      read = λ octets tokens h.
+          let has : HasRead octets (tokens ++ placed c.args.first ∷ []) c.charge-in-ParenOpen.new.self.tokens = same-read h c.in_ok-charge-in-ParenOpen.ensures.tokens in
+          list-read tokens (placed c.args.first) (ap lexeme_of c.in-ParenOpen.is) (b.read octets (tokens ++ placed c.args.first ∷ []) has);
+    }
 
-pub value-returns-in_ok-items-in-ParenOpen-clause-read : goal.value-returns-in_ok-items-in-ParenOpen-clause-read
-value-returns-in_ok-items-in-ParenOpen-clause-read t c octets tokens h =
-    let charged = c.charge-in-ParenOpen.new.self.tokens in
-    let has : HasRead octets (tokens ++ placed c.args.first ∷ []) charged = same-read h c.in_ok-charge-in-ParenOpen.ensures.tokens in
-    subst (λ x. ReadsValue octets tokens (lexeme_of c.args.first.kind) x c.items.new.self.tokens) (sym (view-list c.in_ok-items-in-ParenOpen.items))
-    (list-read tokens (placed c.args.first) (ap lexeme_of c.in-ParenOpen.is) (c.in_ok-items-in-ParenOpen.ensures.read octets (tokens ++ placed c.args.first ∷ []) has))
-
-pub value-returns-in_ok-rows-in-BraceOpen-clause-read : goal.value-returns-in_ok-rows-in-BraceOpen-clause-read
-value-returns-in_ok-rows-in-BraceOpen-clause-read t c octets tokens h =
-    let charged = c.charge-in-BraceOpen.new.self.tokens in
-    let has : HasRead octets (tokens ++ placed c.args.first ∷ []) charged = same-read h c.in_ok-charge-in-BraceOpen.ensures.tokens in
-    subst (λ x. ReadsValue octets tokens (lexeme_of c.args.first.kind) x c.rows.new.self.tokens) (sym (view-table c.in_ok-rows-in-BraceOpen.rows))
-    (pairs-table tokens (placed c.args.first) (ap lexeme_of c.in-BraceOpen.is) (c.in_ok-rows-in-BraceOpen.ensures.read octets (tokens ++ placed c.args.first ∷ []) has)
-    c.in_ok-rows-in-BraceOpen.ensures.taken.valid)
+pub value-returns-in_ok-rows-in-BraceOpen-clause-built : goal.value-returns-in_ok-rows-in-BraceOpen-clause-built
+value-returns-in_ok-rows-in-BraceOpen-clause-built g t c =
+    let b = c.in_ok-rows-in-BraceOpen.ensures.built in
+    record {
+      meant = table b.meant;
+      means_it = c.of_rows.ensures b.meant b.means_it;
+      taken = table-taken b.meant c.in_ok-charge-in-BraceOpen.ensures.spent c.in_ok-charge-in-BraceOpen.ensures.deep b.taken;
+      read = λ octets tokens h.
+          let has : HasRead octets (tokens ++ placed c.args.first ∷ []) c.charge-in-BraceOpen.new.self.tokens = same-read h c.in_ok-charge-in-BraceOpen.ensures.tokens in
+          pairs-table tokens (placed c.args.first) (ap lexeme_of c.in-BraceOpen.is) (b.read octets (tokens ++ placed c.args.first ∷ []) has) b.taken.valid;
+    }
 
 pub value-returns-in_default : goal.value-returns-in_default
-value-returns-in_default t c = record {
+value-returns-in_default g t c = record {
   shorter = tt;
-  taken = tt;
-  read = λ octets tokens h. tt;
+  built = tt;
   stands = λ octets tokens whole b a f h d i.
       let token = placed c.args.first in
       let kind = c.args.first.kind in

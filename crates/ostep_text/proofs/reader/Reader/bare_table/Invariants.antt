@@ -1,17 +1,18 @@
 use Rattle.std.proofs.Common.{ℕ, List, [], length}
 use Rattle.plist_value.specs.declared.budget.Budget.{Budget}
-use Rattle.plist_value.specs.View.{view, view_pairs}
+use Rattle.plist_value.specs.Plist.{Plist, Pairs}
 use Rattle.ostep_lex.specs.Cursor.{ahead}
 use Rattle.ostep_text.specs.Begun.{nothing, opened}
+use Rattle.ostep_text.specs.Means.{MeanPairs}
 use Rattle.ostep_text.specs.Reading.{IsLeft, ReadsRow, TakesRow}
 use Rattle.ostep_text.proofs.BareSteps.{BareRead}
 use Rattle.ostep_text.proofs.reader.Reader.bare_table.Given as goal
 
 abbrev pub decreases-loop-rows : goal.decreases-loop-rows
-decreases-loop-rows l = length (ahead l.self.tokens.cursor)
+decreases-loop-rows g l = length (ahead l.self.tokens.cursor)
 
 -- the rows so far, at least one
 abbrev pub invariant-loop-rows : goal.invariant-loop-rows
-invariant-loop-rows l =
-    (octets : List ℕ) (left : Budget) → IsLeft left 511 (opened nothing) → TakesRow left 511 l.fn.key (view l.fn.value) l.fn.self.left
-    → ReadsRow octets [] l.fn.key (view l.fn.value) l.fn.self.tokens → BareRead octets left (view_pairs l.rows.entries) l.self
+invariant-loop-rows g l =
+    (octets : List ℕ) (left : Budget) (v : Plist) → g.N.Built.means l.fn.value v → IsLeft left 511 (opened nothing) → TakesRow left 511 l.fn.key v l.fn.self.left
+    → ReadsRow octets [] l.fn.key v l.fn.self.tokens → (ps : Pairs) × MeanPairs g.N.Built.means l.rows.entries ps × BareRead octets left ps l.self

@@ -1,17 +1,14 @@
-use Rattle.std.proofs.Common.{◌≤◌, ◌*◌, ◌∷◌, [], length, refl, sym, ap, subst, arith}
+use Rattle.std.proofs.Common.{◌≤◌, ◌*◌, ◌∷◌, [], length, refl, ap, arith}
 use Rattle.plist_value.specs.Plist.{no_pairs, scalar, text}
-use Rattle.plist_value.specs.View.{view}
 use Rattle.plist_value.specs.declared.TheConstants.{MAX_DEPTH, MAX_PAYLOAD}
 use Rattle.ostep_lex.specs.Lexeme.{placed, lexeme_of, text as string, equals}
 use Rattle.ostep_lex.specs.Lexing.{HasTokens}
 use Rattle.ostep_text.specs.Begun.{nothing, opened, with_rows, with_key}
 use Rattle.ostep_text.specs.Phrase.{a_string, a_value}
-use Rattle.ostep_text.specs.Text.{IsText}
 use Rattle.ostep_text.specs.Stands.{Stands}
 use Rattle.ostep_text.specs.Machine
 use Rattle.ostep_text.specs.Reading.{HasRead, ReadsRow, Takes}
 use Rattle.ostep_lex.proofs.Exits.{passed_on, no_ok}
-use Rattle.plist_value.proofs.Shown.{view-text}
 use Rattle.ostep_text.proofs.Standing.{junk-at, same-read, front-refuses}
 use Rattle.ostep_text.proofs.TakeSteps.{scalar-taken}
 use Rattle.ostep_text.proofs.MachineLemmas.{leads-nowhere, key-ended}
@@ -20,11 +17,11 @@ use Rattle.ostep_text.proofs.BareSteps.{before-two, first_value-due, first_key-l
 use Rattle.ostep_text.proofs.reader.Reader.string_first.Goals as goal
 
 pub returns-in_err-second-clause-stands : goal.returns-in_err-second-clause-stands
-returns-in_err-second-clause-stands c octets at l s h i =
+returns-in_err-second-clause-stands g c octets at l s h i =
     passed_on (Stands octets) c.in_err-second.field-0.0 c.from_residual.result c.from_residual.ensures.1 (c.in_err-second.ensures.stands octets (at ∷ []) h)
 
 pub returns-in_err-charge-clause-stands : goal.returns-in_err-charge-clause-stands
-returns-in_err-charge-clause-stands c octets at l s h i =
+returns-in_err-charge-clause-stands g c octets at l s h i =
     let stays = rw c.in_default.is at c.in_ok-second.ensures.stays in
     let one : HasRead octets (at ∷ []) c.next.new.self = same-read h stays in
     let few : c.text_payload.result ≤ 2 * length c.args.text = omega (arith, c.text_payload.ensures.payload) in
@@ -33,27 +30,27 @@ returns-in_err-charge-clause-stands c octets at l s h i =
     (front-refuses [] at c.args.octet c.args.text MAX_DEPTH c.text_payload.result c.args.self.now.left l s one few i))
 
 pub returns-in_default-clause-read : goal.returns-in_default-clause-read
-returns-in_default-clause-read c octets at l s h i =
+returns-in_default-clause-read g c octets at l s h i =
     let all : HasTokens octets (at ∷ []) = rw c.in_default.is at (c.in_ok-second.ensures.read octets (at ∷ []) h) in
     let fits : 2 * length c.args.text ≤ MAX_PAYLOAD = omega (arith, c.text_payload.ensures.payload, c.in_ok-charge.ensures.spent.payload_left, i.payload_left) in
-    subst (λ x. IsText octets x) (sym (view-text c.args.text)) (lone-text at c.args.text l all c.text_payload.ensures.valid fits)
+    (scalar (text c.args.text), c.of_text.ensures, lone-text at c.args.text l all c.text_payload.ensures.valid fits)
 
 pub returns-in_err-first_key-in-Equals-clause-stands : goal.returns-in_err-first_key-in-Equals-clause-stands
-returns-in_err-first_key-in-Equals-clause-stands c octets at l s h i =
+returns-in_err-first_key-in-Equals-clause-stands g c octets at l s h i =
     let second = placed c.in-Some.second in
     let two : HasRead octets (at ∷ second ∷ []) c.next.new.self = rw c.in-Some.is at (c.in_ok-second.ensures.read octets (at ∷ []) h) in
     passed_on (Stands octets) c.in_err-first_key-in-Equals.field-0.0 c.from_residual-in_err-first_key-in-Equals.result c.from_residual-in_err-first_key-in-Equals.ensures.1
     (c.in_err-first_key-in-Equals.ensures.stands octets at second l s two i)
 
 pub returns-in_err-first_key-in-Semicolon-clause-stands : goal.returns-in_err-first_key-in-Semicolon-clause-stands
-returns-in_err-first_key-in-Semicolon-clause-stands c octets at l s h i =
+returns-in_err-first_key-in-Semicolon-clause-stands g c octets at l s h i =
     let second = placed c.in-Some.second in
     let two : HasRead octets (at ∷ second ∷ []) c.next.new.self = rw c.in-Some.is at (c.in_ok-second.ensures.read octets (at ∷ []) h) in
     passed_on (Stands octets) c.in_err-first_key-in-Semicolon.field-0.0 c.from_residual-in_err-first_key-in-Semicolon.result c.from_residual-in_err-first_key-in-Semicolon.ensures.1
     (c.in_err-first_key-in-Semicolon.ensures.stands octets at second l s two i)
 
 pub returns-in_err-value-in-Equals-clause-stands : goal.returns-in_err-value-in-Equals-clause-stands
-returns-in_err-value-in-Equals-clause-stands c octets at l s h i =
+returns-in_err-value-in-Equals-clause-stands g c octets at l s h i =
     let second = placed c.in-Some.second in
     let two : HasRead octets (at ∷ second ∷ []) c.next.new.self = rw c.in-Some.is at (c.in_ok-second.ensures.read octets (at ∷ []) h) in
     let keyed = c.first_key.new.self in
@@ -64,7 +61,7 @@ returns-in_err-value-in-Equals-clause-stands c octets at l s h i =
     (before-two at second (string c.args.text) equals l (ap lexeme_of c.in-Equals.is)) three (first_value-due c.args.text) inner)
 
 pub returns-in_err-value-in-Semicolon-clause-stands : goal.returns-in_err-value-in-Semicolon-clause-stands
-returns-in_err-value-in-Semicolon-clause-stands c octets at l s h i =
+returns-in_err-value-in-Semicolon-clause-stands g c octets at l s h i =
     let second = placed c.in-Some.second in
     let two : HasRead octets (at ∷ second ∷ []) c.next.new.self = rw c.in-Some.is at (c.in_ok-second.ensures.read octets (at ∷ []) h) in
     let keyed = c.first_key-in-Semicolon.new.self in
@@ -75,7 +72,7 @@ returns-in_err-value-in-Semicolon-clause-stands c octets at l s h i =
     (first_alone-refuses at second c.args.octet c.args.text 511 keyed.left l s (ap lexeme_of c.in-Semicolon.is) three inner))
 
 pub returns-in_err-charge-in_default-kind : goal.returns-in_err-charge-in_default-kind
-returns-in_err-charge-in_default-kind c = record {
+returns-in_err-charge-in_default-kind g c = record {
   read = λ octets at l s h i. no_ok _ _ c.from_residual-in_err-charge-in_default-kind.result c.from_residual-in_err-charge-in_default-kind.ensures.1;
   stands = λ octets at l s h i.
       let second = placed c.in-Some.second in
@@ -87,7 +84,7 @@ returns-in_err-charge-in_default-kind c = record {
 }
 
 pub returns-in_ok-charge-in_default-kind : goal.returns-in_ok-charge-in_default-kind
-returns-in_ok-charge-in_default-kind c = record {
+returns-in_ok-charge-in_default-kind g c = record {
   read = λ octets at l s h i. tt;
   stands = λ octets at l s h i.
       let second = placed c.in-Some.second in
@@ -102,63 +99,55 @@ returns-in_ok-charge-in_default-kind c = record {
 }
 
 pub returns-in_ok-value-in-Equals-clause-read : goal.returns-in_ok-value-in-Equals-clause-read
-returns-in_ok-value-in-Equals-clause-read c octets at l s h i =
+returns-in_ok-value-in-Equals-clause-read g c octets at l s h i =
     let second = placed c.in-Some.second in
     let two : HasRead octets (at ∷ second ∷ []) c.next.new.self = rw c.in-Some.is at (c.in_ok-second.ensures.read octets (at ∷ []) h) in
     let keyed = c.first_key.new.self in
     let three : HasRead octets (at ∷ second ∷ []) keyed.tokens = same-read two c.in_ok-first_key-in-Equals.ensures.tokens in
-    let inner = first_key-left c.args.text i c.in_ok-first_key-in-Equals.ensures.spent in
-    let value = c.in_ok-value-in-Equals.value in
-    let taken : Takes keyed.left 511 (view value) c.row_value.new.self.left = c.in_ok-value-in-Equals.ensures.taken in
-    let row : ReadsRow octets [] c.args.text (view value) c.row_value.new.self.tokens =
-    row-read [] at second c.args.text l (ap lexeme_of c.in-Equals.is) (c.in_ok-value-in-Equals.ensures.read octets (at ∷ second ∷ []) three) in
-    let first = first-taken c.args.text (view value) i c.in_ok-first_key-in-Equals.ensures.spent taken c.in_ok-first_key-in-Equals.ensures.valid in
-    c.bare_table.ensures.read octets first.left first.is_left first.taken row
+    let b = c.in_ok-value-in-Equals.ensures.built in
+    let row : ReadsRow octets [] c.args.text b.meant c.row_value.new.self.tokens =
+    row-read [] at second c.args.text l (ap lexeme_of c.in-Equals.is) (b.read octets (at ∷ second ∷ []) three) in
+    let first = first-taken c.args.text b.meant i c.in_ok-first_key-in-Equals.ensures.spent b.taken c.in_ok-first_key-in-Equals.ensures.valid in
+    c.bare_table.ensures.read octets first.left b.meant b.means_it first.is_left first.taken row
 
 pub returns-in_ok-value-in-Equals-clause-stands : goal.returns-in_ok-value-in-Equals-clause-stands
-returns-in_ok-value-in-Equals-clause-stands c octets at l s h i =
+returns-in_ok-value-in-Equals-clause-stands g c octets at l s h i =
     let second = placed c.in-Some.second in
     let two : HasRead octets (at ∷ second ∷ []) c.next.new.self = rw c.in-Some.is at (c.in_ok-second.ensures.read octets (at ∷ []) h) in
     let keyed = c.first_key.new.self in
     let three : HasRead octets (at ∷ second ∷ []) keyed.tokens = same-read two c.in_ok-first_key-in-Equals.ensures.tokens in
-    let inner = first_key-left c.args.text i c.in_ok-first_key-in-Equals.ensures.spent in
-    let value = c.in_ok-value-in-Equals.value in
-    let taken : Takes keyed.left 511 (view value) c.row_value.new.self.left = c.in_ok-value-in-Equals.ensures.taken in
-    let row : ReadsRow octets [] c.args.text (view value) c.row_value.new.self.tokens =
-    row-read [] at second c.args.text l (ap lexeme_of c.in-Equals.is) (c.in_ok-value-in-Equals.ensures.read octets (at ∷ second ∷ []) three) in
-    let first = first-taken c.args.text (view value) i c.in_ok-first_key-in-Equals.ensures.spent taken c.in_ok-first_key-in-Equals.ensures.valid in
-    c.bare_table.ensures.stands octets first.left first.is_left first.taken row
+    let b = c.in_ok-value-in-Equals.ensures.built in
+    let row : ReadsRow octets [] c.args.text b.meant c.row_value.new.self.tokens =
+    row-read [] at second c.args.text l (ap lexeme_of c.in-Equals.is) (b.read octets (at ∷ second ∷ []) three) in
+    let first = first-taken c.args.text b.meant i c.in_ok-first_key-in-Equals.ensures.spent b.taken c.in_ok-first_key-in-Equals.ensures.valid in
+    c.bare_table.ensures.stands octets first.left b.meant b.means_it first.is_left first.taken row
 
 pub returns-in_ok-value-in-Semicolon-clause-read : goal.returns-in_ok-value-in-Semicolon-clause-read
-returns-in_ok-value-in-Semicolon-clause-read c octets at l s h i =
+returns-in_ok-value-in-Semicolon-clause-read g c octets at l s h i =
     let second = placed c.in-Some.second in
     let two : HasRead octets (at ∷ second ∷ []) c.next.new.self = rw c.in-Some.is at (c.in_ok-second.ensures.read octets (at ∷ []) h) in
     let keyed = c.first_key-in-Semicolon.new.self in
     let three : HasRead octets (at ∷ second ∷ []) keyed.tokens = same-read two c.in_ok-first_key-in-Semicolon.ensures.tokens in
-    let inner = first_key-left c.args.text i c.in_ok-first_key-in-Semicolon.ensures.spent in
-    let value = c.in_ok-value-in-Semicolon.value in
+    let v = scalar (text c.args.text) in
     let after = c.key_alone.new.self in
-    let taken : Takes keyed.left 511 (view value) after.left = subst (λ x. Takes keyed.left 511 x after.left) (sym c.in_ok-value-in-Semicolon.ensures.value)
-    (scalar-taken (text c.args.text) c.in_ok-value-in-Semicolon.ensures.spent c.in_ok-value-in-Semicolon.ensures.deep c.in_ok-first_key-in-Semicolon.ensures.valid) in
+    let taken : Takes keyed.left 511 v after.left =
+    scalar-taken (text c.args.text) c.in_ok-value-in-Semicolon.ensures.spent c.in_ok-value-in-Semicolon.ensures.deep c.in_ok-first_key-in-Semicolon.ensures.valid in
     let four : HasRead octets (at ∷ second ∷ []) after.tokens = same-read three c.in_ok-value-in-Semicolon.ensures.tokens in
-    let row : ReadsRow octets [] c.args.text (view value) after.tokens = subst (λ x. ReadsRow octets [] c.args.text x after.tokens) (sym c.in_ok-value-in-Semicolon.ensures.value)
-    (alone-read [] at second c.args.text l (ap lexeme_of c.in-Semicolon.is) four) in
-    let first = first-taken c.args.text (view value) i c.in_ok-first_key-in-Semicolon.ensures.spent taken c.in_ok-first_key-in-Semicolon.ensures.valid in
-    c.bare_table-in-Semicolon.ensures.read octets first.left first.is_left first.taken row
+    let row : ReadsRow octets [] c.args.text v after.tokens = alone-read [] at second c.args.text l (ap lexeme_of c.in-Semicolon.is) four in
+    let first = first-taken c.args.text v i c.in_ok-first_key-in-Semicolon.ensures.spent taken c.in_ok-first_key-in-Semicolon.ensures.valid in
+    c.bare_table-in-Semicolon.ensures.read octets first.left v c.in_ok-value-in-Semicolon.ensures.means first.is_left first.taken row
 
 pub returns-in_ok-value-in-Semicolon-clause-stands : goal.returns-in_ok-value-in-Semicolon-clause-stands
-returns-in_ok-value-in-Semicolon-clause-stands c octets at l s h i =
+returns-in_ok-value-in-Semicolon-clause-stands g c octets at l s h i =
     let second = placed c.in-Some.second in
     let two : HasRead octets (at ∷ second ∷ []) c.next.new.self = rw c.in-Some.is at (c.in_ok-second.ensures.read octets (at ∷ []) h) in
     let keyed = c.first_key-in-Semicolon.new.self in
     let three : HasRead octets (at ∷ second ∷ []) keyed.tokens = same-read two c.in_ok-first_key-in-Semicolon.ensures.tokens in
-    let inner = first_key-left c.args.text i c.in_ok-first_key-in-Semicolon.ensures.spent in
-    let value = c.in_ok-value-in-Semicolon.value in
+    let v = scalar (text c.args.text) in
     let after = c.key_alone.new.self in
-    let taken : Takes keyed.left 511 (view value) after.left = subst (λ x. Takes keyed.left 511 x after.left) (sym c.in_ok-value-in-Semicolon.ensures.value)
-    (scalar-taken (text c.args.text) c.in_ok-value-in-Semicolon.ensures.spent c.in_ok-value-in-Semicolon.ensures.deep c.in_ok-first_key-in-Semicolon.ensures.valid) in
+    let taken : Takes keyed.left 511 v after.left =
+    scalar-taken (text c.args.text) c.in_ok-value-in-Semicolon.ensures.spent c.in_ok-value-in-Semicolon.ensures.deep c.in_ok-first_key-in-Semicolon.ensures.valid in
     let four : HasRead octets (at ∷ second ∷ []) after.tokens = same-read three c.in_ok-value-in-Semicolon.ensures.tokens in
-    let row : ReadsRow octets [] c.args.text (view value) after.tokens = subst (λ x. ReadsRow octets [] c.args.text x after.tokens) (sym c.in_ok-value-in-Semicolon.ensures.value)
-    (alone-read [] at second c.args.text l (ap lexeme_of c.in-Semicolon.is) four) in
-    let first = first-taken c.args.text (view value) i c.in_ok-first_key-in-Semicolon.ensures.spent taken c.in_ok-first_key-in-Semicolon.ensures.valid in
-    c.bare_table-in-Semicolon.ensures.stands octets first.left first.is_left first.taken row
+    let row : ReadsRow octets [] c.args.text v after.tokens = alone-read [] at second c.args.text l (ap lexeme_of c.in-Semicolon.is) four in
+    let first = first-taken c.args.text v i c.in_ok-first_key-in-Semicolon.ensures.spent taken c.in_ok-first_key-in-Semicolon.ensures.valid in
+    c.bare_table-in-Semicolon.ensures.stands octets first.left v c.in_ok-value-in-Semicolon.ensures.means first.is_left first.taken row

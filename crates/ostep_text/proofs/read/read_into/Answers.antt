@@ -1,0 +1,98 @@
+use Rattle.std.proofs.Common.{◌∷◌, [], refl}
+use Rattle.plist_value.specs.Plist.{table, no_pairs}
+use Rattle.plist_value.specs.declared.TheConstants.{MAX_DEPTH}
+use Rattle.ostep_lex.specs.Lexeme.{placed}
+use Rattle.ostep_lex.specs.Lexing.{HasTokens}
+use Rattle.ostep_text.specs.Fault.{of_tokens}
+use Rattle.ostep_text.specs.Begun.{nothing}
+use Rattle.ostep_text.specs.Means.{no_entry}
+use Rattle.ostep_text.specs.Stands.{Stands}
+use Rattle.ostep_text.specs.Reading.{HasRead, IsLeft}
+use Rattle.ostep_lex.proofs.Exits.{passed_on}
+use Rattle.ostep_text.proofs.Standing.{tokens-stand}
+use Rattle.ostep_text.proofs.MachineLemmas.{front-begun}
+use Rattle.ostep_text.proofs.BareSteps.{empty-text, whole-left, refused-by}
+use Rattle.ostep_text.proofs.read.read_into.Goals as goal
+
+pub returns-in_err-open-clause-stands : goal.returns-in_err-open-clause-stands
+returns-in_err-open-clause-stands g c =
+    passed_on (Stands c.args.octets.now) (of_tokens c.in_err-open.field-0.0) c.from_residual.result c.from_residual.ensures.1 (tokens-stand c.args.octets.now c.in_err-open.field-0.0 c.in_err-open.ensures.stands)
+
+pub returns-in_err-open-clause-refused : goal.returns-in_err-open-clause-refused
+returns-in_err-open-clause-refused g c =
+    refused-by c.args.octets.now c.faulty_is_no_text.ensures c.from_residual.result
+    (passed_on (Stands c.args.octets.now) (of_tokens c.in_err-open.field-0.0) c.from_residual.result c.from_residual.ensures.1 (tokens-stand c.args.octets.now c.in_err-open.field-0.0 c.in_err-open.ensures.stands))
+
+pub returns-in_err-first-clause-stands : goal.returns-in_err-first-clause-stands
+returns-in_err-first-clause-stands g c =
+    let octets = c.args.octets.now in
+    passed_on (Stands octets) c.in_err-first.field-0.0 c.from_residual-in_err-first.result c.from_residual-in_err-first.ensures.1
+    (c.in_err-first.ensures.stands octets [] (record { behind = c.in_ok-open.ensures.ok; ends = refl }))
+
+pub returns-in_err-first-clause-refused : goal.returns-in_err-first-clause-refused
+returns-in_err-first-clause-refused g c =
+    let octets = c.args.octets.now in
+    refused-by c.args.octets.now c.faulty_is_no_text.ensures c.from_residual-in_err-first.result
+    (passed_on (Stands octets) c.in_err-first.field-0.0 c.from_residual-in_err-first.result c.from_residual-in_err-first.ensures.1
+    (c.in_err-first.ensures.stands octets [] (record { behind = c.in_ok-open.ensures.ok; ends = refl })))
+
+pub returns-in_default-clause-read : goal.returns-in_default-clause-read
+returns-in_default-clause-read g c =
+    let octets = c.args.octets.now in
+    let all : HasTokens octets [] = rw c.in_default.is at (c.in_ok-first.ensures.read octets [] (record { behind = c.in_ok-open.ensures.ok; ends = refl })) in
+    (table no_pairs, c.of_rows.ensures no_pairs (rw c.new.ensures.empty no_entry), empty-text all)
+
+pub returns-in-Text-clause-read : goal.returns-in-Text-clause-read
+returns-in-Text-clause-read g c =
+    let octets = c.args.octets.now in
+    let first = placed c.in-Some.first in
+    let one : HasRead octets (first ∷ []) c.next.new.self =
+    rw c.in-Some.is at (c.in_ok-first.ensures.read octets [] (record { behind = c.in_ok-open.ensures.ok; ends = refl })) in
+    let left : IsLeft c.whole.result MAX_DEPTH nothing = whole-left c.whole.result c.whole.ensures.nodes c.whole.ensures.payload in
+    c.string_first.ensures.read octets first (rw c.in-Text.is refl) refl one left
+
+pub returns-in-Text-clause-stands : goal.returns-in-Text-clause-stands
+returns-in-Text-clause-stands g c =
+    let octets = c.args.octets.now in
+    let first = placed c.in-Some.first in
+    let one : HasRead octets (first ∷ []) c.next.new.self =
+    rw c.in-Some.is at (c.in_ok-first.ensures.read octets [] (record { behind = c.in_ok-open.ensures.ok; ends = refl })) in
+    let left : IsLeft c.whole.result MAX_DEPTH nothing = whole-left c.whole.result c.whole.ensures.nodes c.whole.ensures.payload in
+    c.string_first.ensures.stands octets first (rw c.in-Text.is refl) refl one left
+
+pub returns-in-Text-clause-refused : goal.returns-in-Text-clause-refused
+returns-in-Text-clause-refused g c =
+    let octets = c.args.octets.now in
+    let first = placed c.in-Some.first in
+    let one : HasRead octets (first ∷ []) c.next.new.self =
+    rw c.in-Some.is at (c.in_ok-first.ensures.read octets [] (record { behind = c.in_ok-open.ensures.ok; ends = refl })) in
+    let left : IsLeft c.whole.result MAX_DEPTH nothing = whole-left c.whole.result c.whole.ensures.nodes c.whole.ensures.payload in
+    refused-by octets c.faulty_is_no_text.ensures c.string_first.result (c.string_first.ensures.stands octets first (rw c.in-Text.is refl) refl one left)
+
+-- if the first token is not a string
+pub returns-in_default-kind-clause-read : goal.returns-in_default-kind-clause-read
+returns-in_default-kind-clause-read g c =
+    let octets = c.args.octets.now in
+    let first = placed c.in-Some.first in
+    let one : HasRead octets (first ∷ []) c.next.new.self =
+    rw c.in-Some.is at (c.in_ok-first.ensures.read octets [] (record { behind = c.in_ok-open.ensures.ok; ends = refl })) in
+    let left : IsLeft c.whole.result MAX_DEPTH nothing = whole-left c.whole.result c.whole.ensures.nodes c.whole.ensures.payload in
+    c.value_first.ensures.read octets one left
+
+pub returns-in_default-kind-clause-stands : goal.returns-in_default-kind-clause-stands
+returns-in_default-kind-clause-stands g c =
+    let octets = c.args.octets.now in
+    let first = placed c.in-Some.first in
+    let one : HasRead octets (first ∷ []) c.next.new.self =
+    rw c.in-Some.is at (c.in_ok-first.ensures.read octets [] (record { behind = c.in_ok-open.ensures.ok; ends = refl })) in
+    let left : IsLeft c.whole.result MAX_DEPTH nothing = whole-left c.whole.result c.whole.ensures.nodes c.whole.ensures.payload in
+    c.value_first.ensures.stands octets one left (front-begun c.in-Some.first.kind c.in_default-kind.not-Text)
+
+pub returns-in_default-kind-clause-refused : goal.returns-in_default-kind-clause-refused
+returns-in_default-kind-clause-refused g c =
+    let octets = c.args.octets.now in
+    let first = placed c.in-Some.first in
+    let one : HasRead octets (first ∷ []) c.next.new.self =
+    rw c.in-Some.is at (c.in_ok-first.ensures.read octets [] (record { behind = c.in_ok-open.ensures.ok; ends = refl })) in
+    let left : IsLeft c.whole.result MAX_DEPTH nothing = whole-left c.whole.result c.whole.ensures.nodes c.whole.ensures.payload in
+    refused-by octets c.faulty_is_no_text.ensures c.value_first.result (c.value_first.ensures.stands octets one left (front-begun c.in-Some.first.kind c.in_default-kind.not-Text))
