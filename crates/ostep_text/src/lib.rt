@@ -10,13 +10,14 @@
 
 mod built;
 pub mod fault;
+mod keys;
 pub mod laws;
+mod payloads;
 pub mod read;
 mod reader;
-mod scalars;
 mod tokens;
-mod values;
 pub mod write_fault;
+mod write_scalars;
 mod writing;
 
 pub use fault::TextFault;

@@ -21,8 +21,9 @@ ghost use Rattle.ostep_text.specs.Due.{ValueDue, RowValueDue, ListDue, TableDue,
 
 use crate::TextFault;
 use crate::built::Built;
+use crate::keys::is_known;
+use crate::payloads::{data_payload, text_payload};
 use crate::tokens::{Tokens, begins_value};
-use crate::values::{data_payload, is_known, text_payload};
 use ostep_lex::{Token, TokenKind};
 use plist_value::{Budget, MAX_DEPTH, Utf16};
 use std::alloc::Global;

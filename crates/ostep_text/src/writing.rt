@@ -7,7 +7,7 @@ ghost use Rattle.ostep_text.specs.Written.{is_writable, written, text_of};
 ghost use Rattle.ostep_text.specs.declared.write_fault.TextWriteFault.TheVariants.{NotInOpenStep};
 
 use crate::TextWriteFault;
-use crate::scalars::{put_data, put_text};
+use crate::write_scalars::{put_data, put_text};
 use plist_value::{Utf16, Value};
 use std::alloc::Global;
 use std::collections::BTreeMap;

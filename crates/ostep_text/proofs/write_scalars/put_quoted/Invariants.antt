@@ -1,7 +1,7 @@
 use Rattle.std.proofs.Common.{◌≡◌, ◌++◌, length}
 use Rattle.std.specs.Prelude.{codes, flat_map}
 use Rattle.ostep_text.specs.Written.{quoted_unit}
-use Rattle.ostep_text.proofs.scalars.put_quoted.Given as goal
+use Rattle.ostep_text.proofs.write_scalars.put_quoted.Given as goal
 
 -- the bytes so far, followed by the remaining units, are the whole string
 abbrev pub invariant-loop-unit : goal.invariant-loop-unit

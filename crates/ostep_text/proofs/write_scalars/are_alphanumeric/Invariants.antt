@@ -1,6 +1,6 @@
 use Rattle.std.proofs.Common.{◌≡◌, drop}
 use Rattle.ostep_text.specs.Written.{are_alphanumeric}
-use Rattle.ostep_text.proofs.scalars.are_alphanumeric.Given as goal
+use Rattle.ostep_text.proofs.write_scalars.are_alphanumeric.Given as goal
 
 -- the remaining units decide
 abbrev pub invariant-loop-unit : goal.invariant-loop-unit

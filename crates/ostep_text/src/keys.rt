@@ -1,11 +1,10 @@
-//! Looking up keys, and the payload of scalars.
-ghost use Rattle.std.specs.Prelude.{◌≡◌, ◌*◌, ℕ, List, length, Some, None};
+//! Looking up a key in a dictionary that is being read.
+ghost use Rattle.std.specs.Prelude.{◌≡◌, ℕ, List, Some, None};
 ghost use Rattle.std.specs.Option.{is_some};
 ghost use Rattle.std.specs.Ordering.{nat_cmp};
 ghost use Rattle.std.specs.Cmp.Lexicographic.{slice_cmp};
 ghost use Rattle.std.specs.BTreeMap.{BTreeMap as Map, ContainsKey, get, get_key};
 ghost use Rattle.std.specs.BTreeMap.Entry.{MatchEntry, entry_key};
-ghost use Rattle.plist_value.specs.Plist.{AreOctets, AreUnits};
 
 use crate::built::Built;
 use plist_value::Utf16;
@@ -23,21 +22,4 @@ pub(crate) fn is_known<N: Built>(place: &Entry<'_, Utf16, N>) -> bool
         Entry::Vacant(_) => false,
         Entry::Occupied(_) => true,
     }
-}
-
-// Returns the payload of a string: two bytes for each unit.
-pub(crate) fn text_payload(text: &Utf16) -> u128
-    ensures payload { result ≡ 2 * length text.now }
-    ensures valid { AreUnits text.now }
-{
-    let units = text.units();
-    2 * units.len() as u128
-}
-
-// Returns the payload of data: its length.
-pub(crate) fn data_payload(octets: &[u8]) -> u128
-    ensures payload { result ≡ length octets.now }
-    ensures valid { AreOctets octets.now }
-{
-    octets.len() as u128
 }

@@ -1,7 +1,7 @@
 use Rattle.std.proofs.Common.{arith}
 use Rattle.std.proofs.lemmas.Grind.{common_steps}
 use Rattle.ostep_text.proofs.WrittenProof.{ascii-more}
-use Rattle.ostep_text.proofs.scalars.stretch_length.Goals as goal
+use Rattle.ostep_text.proofs.write_scalars.stretch_length.Goals as goal
 
 pub loop-i-preserved : goal.loop-i-preserved
 loop-i-preserved c = record {

@@ -1,6 +1,6 @@
 use Rattle.std.proofs.Common.{◌≡◌, true, length, take, drop}
 use Rattle.ostep_text.specs.Ascii.{are_ascii}
-use Rattle.ostep_text.proofs.scalars.narrow.Given as goal
+use Rattle.ostep_text.proofs.write_scalars.narrow.Given as goal
 
 -- the bytes so far are the units, and the remaining units are ASCII
 abbrev pub invariant-loop-i : goal.invariant-loop-i

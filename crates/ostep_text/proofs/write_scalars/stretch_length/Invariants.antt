@@ -2,7 +2,7 @@ use Rattle.std.proofs.Common.{◌≡◌, ◌≤◌, ◌++◌, true, length, take
 use Rattle.std.specs.Prelude.{flat_map}
 use Rattle.ostep_text.specs.Written.{quoted_unit}
 use Rattle.ostep_text.specs.Ascii.{are_ascii}
-use Rattle.ostep_text.proofs.scalars.stretch_length.Given as goal
+use Rattle.ostep_text.proofs.write_scalars.stretch_length.Given as goal
 
 -- the units so far need no escape
 abbrev pub invariant-loop-i : goal.invariant-loop-i
