@@ -1,4 +1,6 @@
-pub mod Failing
 pub mod Orders
 pub mod Spelling
 pub mod DraftSteps
+pub mod LeftSteps
+pub mod Phrases
+pub mod FoundSteps

@@ -8,3 +8,5 @@ pub mod First
 pub mod Held
 pub mod Read
 pub mod Drafted
+pub mod Left
+pub mod Found

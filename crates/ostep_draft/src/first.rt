@@ -1,8 +1,6 @@
 //! The first token of a value or of a row.
 ghost use Rattle.std.specs.Prelude.{◌≡◌};
-ghost use Rattle.std.specs.Bool.{OnTrue};
-ghost use Rattle.ostep_lex.specs.Lexeme.{paren_close, brace_close};
-ghost use Rattle.ostep_draft.specs.First.{first_lexeme};
+ghost use Rattle.ostep_draft.specs.First.{first_lexeme, ends_list, ends_table};
 
 use ostep_lex::{Token, TokenKind};
 use plist_value::TextRef;
@@ -18,7 +16,7 @@ impl<'a> First<'a> {
     // Returns whether it is the parenthesis that ends an array.
     #[inline(always)]
     pub(crate) fn ends_list(&self) -> bool
-        ensures { OnTrue result (first_lexeme self.now ≡ paren_close) }
+        ensures { result ≡ ends_list (first_lexeme self.now) }
     {
         match self {
             First::Plain(_) => false,
@@ -29,7 +27,7 @@ impl<'a> First<'a> {
     // Returns whether it is the brace that ends a dictionary.
     #[inline(always)]
     pub(crate) fn ends_table(&self) -> bool
-        ensures { OnTrue result (first_lexeme self.now ≡ brace_close) }
+        ensures { result ≡ ends_table (first_lexeme self.now) }
     {
         match self {
             First::Plain(_) => false,

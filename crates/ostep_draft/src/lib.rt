@@ -1,8 +1,8 @@
 //! Converts OpenStep texts directly to binary files.
 //!
-//! Builds no tree of values, checks no limit of values and finds no duplicate keys: the binary file
-//! has to be validated before it is used (`plist_binary::judge`). It is proved that a property list
-//! within the limits that the file encodes is the one that the text encodes.
+//! Builds no tree of values, counts no nodes or payload and finds no duplicate keys: the binary
+//! file has to be validated before it is used (`plist_binary::judge`). It is proved that the file
+//! encodes exactly the property list within the limits that the text encodes, if there is one.
 #![tactic(auto)]
 
 pub mod draft;

@@ -1,17 +1,25 @@
 //! Appends the values of a text to a draft while the tokens are read.
-ghost use Rattle.std.specs.Prelude.{◌≡◌, ◌≤◌, ◌<◌, ◌∷◌, ◌++◌, [], ℕ, List, length, IfOk, IfErr};
+ghost use Rattle.std.specs.Prelude.{◌≡◌, ◌≤◌, ◌<◌, ◌+◌, ◌∷◌, ◌++◌, [], ℕ, List, length};
+ghost use Rattle.std.specs.Prelude.{IfOk, IfErr};
 ghost use Rattle.std.specs.Result.{OnOk};
-ghost use Rattle.plist_value.specs.Plist.{text as one_text, bytes, AreUnits};
+ghost use Rattle.plist_value.specs.Plist.{Plist, Pairs, table, text as one_text, bytes, AreUnits};
+ghost use Rattle.plist_value.specs.Limits.{depth};
 ghost use Rattle.plist_value.specs.Texts.{units_of};
 ghost use Rattle.plist_object.specs.Objects.{holds_scalar, holds_list, holds_table};
+ghost use Rattle.plist_draft.specs.Told.{SpellsIn};
 ghost use Rattle.plist_draft.specs.View.{objects};
-ghost use Rattle.ostep_lex.specs.Lexeme.{Placed, lexeme_of, paren_close, brace_close};
+ghost use Rattle.ostep_lex.specs.Lexeme.{Lexeme, Placed, lexeme_of, paren_close, brace_close};
+ghost use Rattle.ostep_lex.specs.Lexeme.{text as string};
 ghost use Rattle.ostep_lex.specs.Cursor.{ahead, StandsBehind};
+ghost use Rattle.ostep_text.specs.Phrase.{Phrase, RowsPhrase, TopPhrase};
+ghost use Rattle.ostep_text.specs.Sorting.{AreSorted};
 ghost use Rattle.ostep_draft.specs.declared.failure.NoDraft.TheVariants.{OutOfMemory};
 ghost use Rattle.ostep_draft.specs.First.{first_lexeme, IsValid};
 ghost use Rattle.ostep_draft.specs.Held.{AllRemain, Puts, PutsString};
 ghost use Rattle.ostep_draft.specs.Drafted.{DraftsValue, DraftsEnded, DraftsItems};
 ghost use Rattle.ostep_draft.specs.Drafted.{DraftsRow, DraftsRows, DraftsText};
+ghost use Rattle.ostep_draft.specs.Left.{AreLeft, UnlessMemory};
+ghost use Rattle.ostep_draft.specs.Found.{FindsValue, FindsEnded, FindsItems, FindsRow, FindsRows};
 
 use crate::failure::NoDraft;
 use crate::first::First;
@@ -39,6 +47,10 @@ impl<'a> Reader<'a> {
         ensures within { IfOk result (λ top. top < length (objects self.new.draft)) }
         ensures read { (octets : List ℕ) → StandsBehind octets [] self.old.tokens.cursor
             → IfOk result (λ top. DraftsText octets top (objects self.new.draft)) }
+        ensures found { (octets : List ℕ) (tokens : List Lexeme)
+            → AreLeft octets self.old.tokens.cursor tokens → (v : Plist) → TopPhrase tokens v
+            → depth v ≤ MAX_DEPTH
+            → UnlessMemory result (λ top. SpellsIn (objects self.new.draft) top v) }
     {
         if self.tokens.is_bare()? {
             self.bare_table()
@@ -52,8 +64,12 @@ impl<'a> Reader<'a> {
         ensures within { IfOk result (λ top. top < length (objects self.new.draft)) }
         ensures read { (octets : List ℕ) → StandsBehind octets [] self.old.tokens.cursor
             → IfOk result (λ top. DraftsText octets top (objects self.new.draft)) }
+        ensures found { (octets : List ℕ) (tokens : List Lexeme)
+            → AreLeft octets self.old.tokens.cursor tokens → (v : Plist) → Phrase tokens v []
+            → depth v ≤ MAX_DEPTH
+            → UnlessMemory result (λ top. SpellsIn (objects self.new.draft) top v) }
     {
-        let first = self.tokens.expect_first()?;
+        let first = self.tokens.expect()?;
         let top = self.value(first, MAX_DEPTH)?;
         let None = self.tokens.next()? else {
             return Err(NoDraft::NoValue);
@@ -66,9 +82,13 @@ impl<'a> Reader<'a> {
         ensures within { IfOk result (λ top. top < length (objects self.new.draft)) }
         ensures read { (octets : List ℕ) → StandsBehind octets [] self.old.tokens.cursor
             → IfOk result (λ top. DraftsText octets top (objects self.new.draft)) }
+        ensures found { (octets : List ℕ) (tokens : List Lexeme)
+            → AreLeft octets self.old.tokens.cursor tokens → (rows pairs : Pairs)
+            → RowsPhrase tokens rows [] → AreSorted rows pairs → depth (table pairs) ≤ MAX_DEPTH
+            → UnlessMemory result (λ top. SpellsIn (objects self.new.draft) top (table pairs)) }
     {
         let mut rows = Rows::new(self.alloc);
-        while let Some(key) = self.tokens.next_first()? {
+        while let Some(key) = self.tokens.next()? {
             let row = self.row(key, BARE_LEVELS)?;
             rows.push(row)?;
         }
@@ -90,6 +110,8 @@ impl<'a> Reader<'a> {
             → StandsBehind octets (tokens ++ at ∷ []) self.old.tokens.cursor
             → IfOk result (λ number. DraftsValue octets tokens at.lexeme number
             (objects self.new.draft) self.new.tokens.cursor) }
+        ensures found { FindsValue (first_lexeme first.entry) levels self.old.tokens.cursor
+            self.new.tokens.cursor (objects self.new.draft) result }
     {
         if levels == 0 {
             return Err(NoDraft::NoValue);
@@ -113,6 +135,8 @@ impl<'a> Reader<'a> {
             → StandsBehind octets (tokens ++ at ∷ []) self.old.tokens.cursor
             → IfOk result (λ number. DraftsValue octets tokens at.lexeme number
             (objects self.new.draft) self.new.tokens.cursor) }
+        ensures found { FindsValue (lexeme_of first.kind) (1 + levels) self.old.tokens.cursor
+            self.new.tokens.cursor (objects self.new.draft) result }
     {
         match first.kind {
             TokenKind::Text(text) => self.put_text(TextRef::of_units(text.units())),
@@ -139,10 +163,12 @@ impl<'a> Reader<'a> {
             → StandsBehind octets tokens self.old.tokens.cursor
             → IfOk result (λ items. DraftsItems octets tokens (paren_close ∷ []) items.items
             (objects self.new.draft) self.new.tokens.cursor) }
+        ensures found { FindsItems levels self.old.tokens.cursor self.new.tokens.cursor
+            (objects self.new.draft) result }
     {
         let mut items = Vec::new(self.alloc);
         loop {
-            let first = self.tokens.expect_first()?;
+            let first = self.tokens.expect()?;
             if first.ends_list() {
                 return Ok(items);
             }
@@ -169,10 +195,12 @@ impl<'a> Reader<'a> {
             → StandsBehind octets tokens self.old.tokens.cursor
             → IfOk result (λ rows. DraftsRows octets tokens (brace_close ∷ []) rows.keys.items
             rows.values.items (objects self.new.draft) self.new.tokens.cursor) }
+        ensures found { FindsRows levels self.old.tokens.cursor self.new.tokens.cursor
+            (objects self.new.draft) result }
     {
         let mut rows = Rows::new(self.alloc);
         loop {
-            let key = self.tokens.expect_first()?;
+            let key = self.tokens.expect()?;
             if key.ends_table() {
                 return Ok(rows);
             }
@@ -194,6 +222,8 @@ impl<'a> Reader<'a> {
             → StandsBehind octets (tokens ++ at ∷ []) self.old.tokens.cursor
             → IfOk result (λ row. DraftsRow octets tokens row
             (objects self.new.draft) self.new.tokens.cursor) }
+        ensures found { FindsRow (first_lexeme key.entry) levels self.old.tokens.cursor
+            self.new.tokens.cursor (objects self.new.draft) result }
     {
         let number = self.put_key(key)?;
         let behind = self.tokens.expect_mark('=')?;
@@ -217,8 +247,10 @@ impl<'a> Reader<'a> {
             → StandsBehind octets tokens self.old.tokens.cursor
             → IfOk result (λ number. DraftsEnded octets tokens number
             (objects self.new.draft) self.new.tokens.cursor) }
+        ensures found { FindsEnded levels self.old.tokens.cursor self.new.tokens.cursor
+            (objects self.new.draft) result }
     {
-        let first = self.tokens.expect_first()?;
+        let first = self.tokens.expect()?;
         let value = self.value(first, levels)?;
         let behind = self.tokens.expect_mark(';')?;
         match behind.kind {
@@ -246,6 +278,8 @@ impl<'a> Reader<'a> {
         ensures put { IfOk result (PutsString (first_lexeme first.entry) (objects self.old.draft)
             (objects self.new.draft)) }
         ensures cursor { self.new.tokens.cursor ≡ self.old.tokens.cursor }
+        ensures memory { (units : List ℕ) → first_lexeme first.entry ≡ string units
+            → IfErr result (λ why. why ≡ OutOfMemory) }
     {
         match first {
             First::Plain(text) => self.put_text(text),
@@ -257,6 +291,8 @@ impl<'a> Reader<'a> {
         ensures put { IfOk result (PutsString (lexeme_of kind.now) (objects self.old.draft)
             (objects self.new.draft)) }
         ensures cursor { self.new.tokens.cursor ≡ self.old.tokens.cursor }
+        ensures memory { (units : List ℕ) → lexeme_of kind.now ≡ string units
+            → IfErr result (λ why. why ≡ OutOfMemory) }
     {
         match kind {
             TokenKind::Text(text) => self.put_text(TextRef::of_units(text.units())),

@@ -1,12 +1,12 @@
 //! Reads the tokens of a text one after another.
-ghost use Rattle.std.specs.Prelude.{◌≡◌, ◌<◌, ◌∷◌, ◌++◌, [], ℕ, List, length};
-ghost use Rattle.std.specs.Prelude.{MatchOption, IfNone, IfSome, IfOk, IfErr};
+ghost use Rattle.std.specs.Prelude.{◌≡◌, ◌≢◌, ◌<◌, ◌∷◌, ◌++◌, [], ℕ, List, length};
+ghost use Rattle.std.specs.Prelude.{MatchOption, IfNone, IfSome, IfOk};
 ghost use Rattle.std.specs.Result.{OnOk};
-ghost use Rattle.ostep_lex.specs.Lexeme.{Placed, placed};
-ghost use Rattle.ostep_lex.specs.Lexing.{HasTokens, HasNoTokens};
+ghost use Rattle.ostep_lex.specs.Lexeme.{Lexeme, Placed, placed, lexeme_of};
+ghost use Rattle.ostep_lex.specs.Lexing.{HasTokens};
 ghost use Rattle.ostep_lex.specs.Cursor.{ahead, AddsToken, StandsBehind};
-ghost use Rattle.ostep_draft.specs.declared.failure.NoDraft.TheVariants.{NoValue};
 ghost use Rattle.ostep_draft.specs.First.{first_lexeme, IsValid};
+ghost use Rattle.ostep_draft.specs.Left.{AreLeft, IsFirst, UnlessMemory, is_bare};
 
 use crate::failure::NoDraft;
 use crate::first::First;
@@ -29,7 +29,10 @@ impl<'a> Tokens<'a> {
 
     // Returns whether the text is a dictionary without braces. It is one if it has no tokens, or
     // begins with a string that another token follows.
-    pub(crate) fn is_bare(&self) -> Result<bool, NoDraft> {
+    pub(crate) fn is_bare(&self) -> Result<bool, NoDraft>
+        ensures { (octets : List ℕ) (tokens : List Lexeme) → AreLeft octets self.now.cursor tokens
+            → UnlessMemory result (λ bare. bare ≡ is_bare tokens) }
+    {
         let Some((first, behind)) = next_token(self.alloc, self.cursor)? else {
             return Ok(true);
         };
@@ -39,70 +42,19 @@ impl<'a> Tokens<'a> {
         }
     }
 
-    // Returns the next token, or `None` at the end of the text.
-    pub(crate) fn next(&mut self) -> Result<Option<Token>, NoDraft>
-        ensures read { (octets : List ℕ) (tokens : List Placed)
-            → StandsBehind octets tokens self.old.cursor
-            → IfOk result (λ found. MatchOption found (HasTokens octets tokens)
-            (λ token. StandsBehind octets (tokens ++ placed token ∷ []) self.new.cursor)) }
-        ensures shorter { IfOk result (λ found. IfSome found (λ _.
-            length (ahead self.new.cursor) < length (ahead self.old.cursor))) }
-        ensures lexed { (octets : List ℕ) (tokens : List Placed)
-            → StandsBehind octets tokens self.old.cursor
-            → IfErr result (λ why. why ≡ NoValue → HasNoTokens octets) }
-    {
-        match next_token(self.alloc, self.cursor)? {
-            Some((token, behind)) => {
-                self.cursor = behind;
-                Ok(Some(token))
-            }
-            None => Ok(None),
-        }
-    }
-
-    // Returns the next token. Fails at the end of the text.
-    pub(crate) fn expect(&mut self) -> Result<Token, NoDraft>
-        ensures read { (octets : List ℕ) (tokens : List Placed)
-            → StandsBehind octets tokens self.old.cursor
-            → IfOk result (λ token.
-            StandsBehind octets (tokens ++ placed token ∷ []) self.new.cursor) }
-        ensures shorter { OnOk result
-            (length (ahead self.new.cursor) < length (ahead self.old.cursor)) }
-    {
-        match self.next()? {
-            Some(token) => Ok(token),
-            None => Err(NoDraft::NoValue),
-        }
-    }
-
-    // Like `expect`, but faster if the next token is this mark.
-    #[inline(always)]
-    pub(crate) fn expect_mark(&mut self, mark: char) -> Result<Token, NoDraft>
-        ensures read { (octets : List ℕ) (tokens : List Placed)
-            → StandsBehind octets tokens self.old.cursor
-            → IfOk result (λ token.
-            StandsBehind octets (tokens ++ placed token ∷ []) self.new.cursor) }
-        ensures shorter { OnOk result
-            (length (ahead self.new.cursor) < length (ahead self.old.cursor)) }
-    {
-        match next_mark(self.cursor, mark) {
-            Some((token, behind)) => {
-                self.cursor = behind;
-                Ok(token)
-            }
-            None => self.expect(),
-        }
-    }
-
     // Returns the next token, or `None` at the end of the text. Borrows plain strings from the
     // input.
     #[inline(always)]
-    pub(crate) fn next_first(&mut self) -> Result<Option<First<'a>>, NoDraft>
+    pub(crate) fn next(&mut self) -> Result<Option<First<'a>>, NoDraft>
         ensures read { IfOk result (λ found. IfSome found (λ first.
             AddsToken (first_lexeme first) self.old.cursor self.new.cursor)) }
         ensures ends { (octets : List ℕ) (tokens : List Placed)
             → StandsBehind octets tokens self.old.cursor
             → IfOk result (λ found. IfNone found (HasTokens octets tokens)) }
+        ensures found { (octets : List ℕ) (tokens : List Lexeme)
+            → AreLeft octets self.old.cursor tokens
+            → UnlessMemory result (λ found. MatchOption found (tokens ≡ [])
+            (λ first. IsFirst octets (first_lexeme first) tokens self.new.cursor)) }
         ensures valid { IfOk result (λ found. IfSome found IsValid) }
         ensures shorter { IfOk result (λ found. IfSome found (λ _.
             length (ahead self.new.cursor) < length (ahead self.old.cursor))) }
@@ -111,23 +63,57 @@ impl<'a> Tokens<'a> {
             self.cursor = behind;
             return Ok(Some(First::Plain(text)));
         }
-        match self.next()? {
-            Some(token) => Ok(Some(First::Other(token))),
+        match next_token(self.alloc, self.cursor)? {
+            Some((token, behind)) => {
+                self.cursor = behind;
+                Ok(Some(First::Other(token)))
+            }
             None => Ok(None),
         }
     }
 
-    // Like `next_first`, but fails at the end of the text.
+    // Like `next`, but fails at the end of the text.
     #[inline(always)]
-    pub(crate) fn expect_first(&mut self) -> Result<First<'a>, NoDraft>
+    pub(crate) fn expect(&mut self) -> Result<First<'a>, NoDraft>
         ensures read { IfOk result (λ first.
             AddsToken (first_lexeme first) self.old.cursor self.new.cursor) }
+        ensures found { (octets : List ℕ) (tokens : List Lexeme)
+            → AreLeft octets self.old.cursor tokens → tokens ≢ []
+            → UnlessMemory result (λ first.
+            IsFirst octets (first_lexeme first) tokens self.new.cursor) }
         ensures valid { IfOk result IsValid }
         ensures shorter { OnOk result
             (length (ahead self.new.cursor) < length (ahead self.old.cursor)) }
     {
-        match self.next_first()? {
+        match self.next()? {
             Some(first) => Ok(first),
+            None => Err(NoDraft::NoValue),
+        }
+    }
+
+    // Returns the next token, which is faster if it is this mark. Fails at the end of the text.
+    #[inline(always)]
+    pub(crate) fn expect_mark(&mut self, mark: char) -> Result<Token, NoDraft>
+        ensures read { (octets : List ℕ) (tokens : List Placed)
+            → StandsBehind octets tokens self.old.cursor
+            → IfOk result (λ token.
+            StandsBehind octets (tokens ++ placed token ∷ []) self.new.cursor) }
+        ensures found { (octets : List ℕ) (tokens : List Lexeme)
+            → AreLeft octets self.old.cursor tokens → tokens ≢ []
+            → UnlessMemory result (λ token.
+            IsFirst octets (lexeme_of token.kind) tokens self.new.cursor) }
+        ensures shorter { OnOk result
+            (length (ahead self.new.cursor) < length (ahead self.old.cursor)) }
+    {
+        if let Some((token, behind)) = next_mark(self.cursor, mark) {
+            self.cursor = behind;
+            return Ok(token);
+        }
+        match next_token(self.alloc, self.cursor)? {
+            Some((token, behind)) => {
+                self.cursor = behind;
+                Ok(token)
+            }
             None => Err(NoDraft::NoValue),
         }
     }
