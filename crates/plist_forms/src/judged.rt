@@ -7,11 +7,9 @@ ghost use Rattle.plist_forms.specs.Accepted.{IsAccepted, begins_as_binary as beg
 ghost use Rattle.plist_forms.specs.Refusals.{IsRefused};
 
 use crate::Fault;
-use crate::canonicals::{read_any, refusal};
-use crate::laws::{canonical_is_accepted, one_value};
+use crate::canonicals::refusal;
 use ostep_draft::{NoDraft, draft_text};
-use plist_binary::judge_file;
-use plist_canon::canonical;
+use plist_binary::{BinaryFault, judge_file};
 use plist_object::BinFile;
 use std::alloc::Global;
 
@@ -25,33 +23,21 @@ pub(crate) fn judge_binary(alloc: Global, octets: &[u8]) -> Result<BinFile<'_>, 
     Ok(judge_file(alloc, octets)?)
 }
 
-/// Reads a text into a binary file, its draft. The draft has to be validated: if it encodes a value
-/// within the limits, that is the value of the text.
+/// Reads a text into a binary file, its draft. The draft has to be validated: within the limits it
+/// encodes exactly the value of the text, if there is one.
 pub(crate) fn draft_of(alloc: Global, text: &[u8]) -> Result<Vec<u8>, Fault>
     requires { begins text.now ≡ false }
     ensures drafted { IfOk result (λ draft. (v : Plist) → IsBinary draft.items v
         → IsAccepted text.now v) }
+    ensures each { IfOk result (λ draft. (v : Plist) → IsAccepted text.now v
+        → IsBinary draft.items v) }
     ensures refused { IfErr result (IsRefused text.now) }
 {
     match draft_text(alloc, text) {
         Ok(draft) => Ok(draft),
-        Err(NoDraft::NoValue) => file_of_value(alloc, text),
+        Err(NoDraft::NoValue) => Err(refusal(alloc, text)),
         Err(NoDraft::OutOfMemory) => Err(Fault::OutOfMemory { sent: 0 }),
     }
-}
-
-// Returns the canonical file of the text's value, for a text without a draft. This normally fails
-// with the text's own refusal. If there is a value, its canonical file serves as the draft.
-fn file_of_value(alloc: Global, text: &[u8]) -> Result<Vec<u8>, Fault>
-    ensures drafted { IfOk result (λ file. (v : Plist) → IsBinary file.items v
-        → IsAccepted text.now v) }
-    ensures refused { IfErr result (IsRefused text.now) }
-{
-    one_value();
-    canonical_is_accepted();
-    let value = read_any(alloc, text)?;
-    let file = canonical(alloc, &value)?;
-    Ok(file)
 }
 
 /// Validates the draft of a text. Fails with the refusal of the text.
@@ -66,6 +52,7 @@ pub(crate) fn judge_draft<'a>(
 {
     match judge_file(alloc, draft) {
         Ok(file) => Ok(file),
+        Err(BinaryFault::OutOfMemory) => Err(Fault::OutOfMemory { sent: 0 }),
         Err(_) => Err(refusal(alloc, text)),
     }
 }
