@@ -11,10 +11,12 @@ take longer than a second, are left out by name.
 
 With --library each allocation of plistconv_check fails in turn, on the canonical file of the array of the strings 000
 to 254. The function builds no value, so it makes fewer than 100 allocations. If the 100th is to fail, the answer is
-therefore canonical; a checker that read and wrote the value made 318.
+therefore canonical; a checker that read and wrote the value made 318. Each allocation of examples/c/calls.c fails in
+turn too. It makes each call of the C library, and ends with 0, or with 5 after a 60 that changed nothing.
 
-With --short only a few inputs are tried, and no tests, which takes seconds. `rt test` in a crate builds its tests. The
-library that makes allocations fail is bench/refuse.c, built with cc.
+With --short the program gets only a few inputs, and only a few tests run, which between them make each call that
+allocates. That takes seconds. `rt test` in a crate builds its tests. The library that makes allocations fail is
+bench/refuse.c, built with cc.
 """
 import collections
 import glob
@@ -57,6 +59,11 @@ INPUTS = {
 
 # The inputs of --short: each command gets a file and a text that it accepts, and one that it refuses.
 SHORT = ["table.txt", "twice.txt", "shared.bin", "same-keys.bin"]
+
+# The tests of --short: between them they make each call of the library that allocates.
+SHORT_TESTS = ("growths::", "object_tests::a_refused_put_leaves_the_list", "drafts::a_refused_put_leaves_the_draft",
+               "tokens::a_refused_growth_changes_no_answer", "transfer_tests::what_went_out_is_a_front_of_the_output",
+               "print_tests::what_was_printed_is_a_front")
 
 WORDS = [["convert", "binary1", "IN", "out"], ["convert", "openstep", "IN", "out"], ["lint", "IN"], ["check", "IN"],
          ["print", "IN"], ["same", "IN", "table.txt"], ["same", "unsorted.bin", "IN"]]
@@ -118,11 +125,31 @@ def texts_to_254():
             + octets_of(256, 8) + octets_of(0, 8) + octets_of(end, 8))
 
 
+def built(source, library, folder):
+    """Builds a C program of this repository with the library, and returns its path."""
+    top = os.path.join(refused.HERE, "..")
+    program = os.path.join(folder, os.path.basename(source)[:-len(".c")])
+    flags = ["-std=c99", "-D_POSIX_C_SOURCE=200809L", f"-I{top}/include"]
+    subprocess.run(["cc", *flags, f"{top}/{source}", library, "-o", program], check=True)
+    return program
+
+
+def refuse_in_calls(library, refusing):
+    """Returns how many runs of the calls of the C library do not end as they must."""
+    program, wrong, number, allocations = built("examples/c/calls.c", library, refusing.folder), 0, 0, 1
+    while number <= allocations:
+        (status, *_), _, allocations = refusing.run([program], b"", number)
+        if status not in ((0, 5) if number else (0,)):
+            wrong += 1
+            print(f"the calls of the C library, allocation {number}: {status}", flush=True)
+        number += 1
+    print(f"the calls of the C library: {allocations} allocations", flush=True)
+    return wrong
+
+
 def refuse_in_check(library, refusing):
     """Returns how many runs of plistconv_check do not end as they must."""
-    program, octets = os.path.join(refusing.folder, "check"), texts_to_254()
-    source, include = os.path.join(refused.HERE, "check.c"), os.path.join(refused.HERE, "..", "include")
-    subprocess.run(["cc", "-std=c99", "-D_POSIX_C_SOURCE=200809L", f"-I{include}", source, library, "-o", program], check=True)
+    program, octets = built("bench/check.c", library, refusing.folder), texts_to_254()
     wrong, ample = 0, (0, b"canonical\n", BEFORE)
     ending, _, allocations = refusing.run([program], octets, 100)
     print(f"plistconv_check of the texts 000 to 254: {allocations} allocations; with the 100th refused: {ending[:2]}")
@@ -168,16 +195,22 @@ def tests_of(crate):
                 yield name if module == "lib" else f"{module}::{name}"
 
 
-def refuse_in_tests(crate, refusing):
-    wrong, counts, left_out = 0, collections.Counter(), []
+def refuse_in_tests(crate, refusing, only=None):
+    """Returns how many runs of the tests do not end as they must; `only` are the beginnings of names."""
+    counts, left_out = collections.Counter(), []
     program = os.path.abspath(os.path.join(refused.HERE, "..", "crates", crate, "out", crate + "_tests"))
     if not os.path.exists(program):
-        print(f"tests of {crate}: not built, which `rt test` in crates/{crate} does")
+        print(f"tests of {crate}: skipped, not built, which `rt test` in crates/{crate} does")
         return 0
-    for name in tests_of(crate):
+    names = [name for name in tests_of(crate) if only is None or name.startswith(only)]
+    absent = [it for it in only or () if not any(name.startswith(it) for name in names)]
+    if absent:
+        print(f"tests of {crate}: there is no " + ", ".join(absent), flush=True)
+    wrong = len(absent)
+    for name in names:
         begin = time.perf_counter()
         ample, complaint, allocations = refusing.run([program, name], b"", 0)
-        if time.perf_counter() - begin > 1 or allocations > MOST:
+        if only is None and (time.perf_counter() - begin > 1 or allocations > MOST):
             left_out.append(name)
             continue
         number = 0
@@ -209,7 +242,7 @@ def main():
         del words[at:at + 2]
     at = words.index("--tests") if "--tests" in words else len(words)
     program = os.path.abspath(words[0] if at > 0 else "./plistconv")
-    crates = [] if is_short else words[at + 1:] or sorted(path.split(os.sep)[-3] for path in glob.glob(
+    crates = ["plist_tests"] if is_short else words[at + 1:] or sorted(path.split(os.sep)[-3] for path in glob.glob(
         os.path.join(refused.HERE, "..", "crates", "*", "out", "*_tests")) if os.path.isfile(path))
     with tempfile.TemporaryDirectory() as folder:
         refusing = Refusing(folder)
@@ -217,9 +250,9 @@ def main():
         for name, octets in INPUTS.items():
             with open(name, "wb") as file:
                 file.write(octets)
-        wrong = refuse_in_check(library, refusing) if library else 0
+        wrong = refuse_in_check(library, refusing) + refuse_in_calls(library, refusing) if library else 0
         wrong += refuse_in_program(program, refusing, SHORT if is_short else INPUTS)
-        wrong += sum(refuse_in_tests(crate, refusing) for crate in crates)
+        wrong += sum(refuse_in_tests(crate, refusing, SHORT_TESTS if is_short else None) for crate in crates)
     print("each run ended as it should" if wrong == 0 else f"{wrong} runs ended otherwise")
     return 1 if wrong else 0
 
