@@ -6,7 +6,7 @@ use Rattle.plist_engine.specs.declared.faults.WriteFault.{WriteFault}
 use Rattle.plist_engine.specs.declared.faults.WriteFault.TheVariants as write
 use Rattle.plist_engine.specs.Sending.{IsWritten}
 use Rattle.plist_forms.specs.Sent.{answer_of}
-use Rattle.plist_convert.specs.Delivery.{Delivers}
+use Rattle.plist_forms.specs.Transfer.{Writes}
 use Rattle.plist_convert.specs.Files.{CountsFailure, FileName, Files, IsStored, Stores}
 use Rattle.plist_convert.proofs.Stored.{unstored}
 
@@ -20,16 +20,16 @@ handed rest output before after x y path (Err (write.WriteFailed n)) written cou
 handed rest output before after x y path (Err (write.OutOfMemory n)) written counts =
     record { others = tt; count = tt; whole = tt; within = written.within; front = (tt, counts) }
 
--- what was delivered to a file whose contents are unknown
-pub handed_over : (form : Form) (octets : List ℕ) (rest : Option Files) (before after : ℕ) (path : FileName) (result : Result ℕ Fault)
-    → Delivers form octets None None result → CountsFailure before after result → Stores form octets None rest before after path result
-handed_over form octets rest before after path result (inl unsent) counts =
+-- what was sent to a file whose contents are unknown
+pub handed_over : (form : Form) (octets : List ℕ) (rest : Option Files) (before after x y : ℕ) (path : FileName) (result : Result ℕ Fault)
+    → Writes form octets None None x y result → CountsFailure before after result → Stores form octets None rest before after path result
+handed_over form octets rest before after x y path result (inl unsent) counts =
     unstored form octets None rest before after path unsent.fault result unsent.is unsent.cause tt counts
-handed_over form octets rest before after path result (inr goes) counts = inr (record {
+handed_over form octets rest before after x y path result (inr goes) counts = inr (record {
   output = goes.output;
   of = goes.of;
   sent = goes.sent;
   is = goes.is;
   memory = goes.memory;
-  stored = handed rest goes.output before after 0 goes.failures path goes.sent goes.written (rw goes.is at counts);
+  stored = handed rest goes.output before after x y path goes.sent goes.written (rw goes.is at counts);
 })

@@ -11,7 +11,6 @@ pub mod WithWords
 pub mod Parsed
 pub mod CommandRows
 pub mod Stored
-pub mod Delivered
 pub mod Handed
 pub mod Rooms
 pub mod Opened

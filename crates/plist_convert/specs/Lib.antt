@@ -8,7 +8,6 @@ pub mod Verdicts
 pub mod Asked
 pub mod CommandLine
 pub mod Reading
-pub mod Delivery
 pub mod Files
 pub mod FileDisk
 pub mod Opens

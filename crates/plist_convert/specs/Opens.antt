@@ -5,7 +5,7 @@ use Rattle.plist_forms.specs.declared.faults.Fault.{Fault}
 use Rattle.plist_forms.specs.declared.faults.Fault.TheVariants.{ReadFailed, InputTooLarge, OutOfMemory}
 use Rattle.plist_forms.specs.declared.loading.TheConstants.{MAX_INPUT}
 use Rattle.plist_forms.specs.declared.forms.Form.{Form}
-use Rattle.plist_convert.specs.Delivery.{Delivers}
+use Rattle.plist_forms.specs.Transfer.{Writes}
 use Rattle.plist_convert.specs.Files.{FileName, Files, Lacks, SameFiles, Turns}
 
 -- there is a file at the path, and the reader will read all of it
@@ -59,8 +59,12 @@ is_begun (Some at) (Some None) = false
 is_begun (Some at) (Some (Some [])) = false
 is_begun (Some at) (Some (Some (octet ∷ octets))) = true
 
+-- the outcome of writing the output for the bytes to a device: its contents before and after
+abbrev pub Sends : Form → List ℕ → Option (List ℕ) → Option (List ℕ) → Result ℕ Fault → Type 0
+Sends form octets old new result = (failures : ℕ) × Writes form octets old new 0 failures result
+
 -- What is sent to a file that is created at its first write: the output for the bytes, or the
 -- prefix that the refusal states. Nothing is sent if there is no writer.
 abbrev pub Creates : Form → List ℕ → Option Files → Option (Option (List ℕ)) → Result ℕ Fault → Type 0
 Creates form octets files contents result =
-    Delivers form octets (held_by files None) (held_by files contents) result × (is_begun files contents ≡ true)
+    Sends form octets (held_by files None) (held_by files contents) result × (is_begun files contents ≡ true)

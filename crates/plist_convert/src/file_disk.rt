@@ -1,22 +1,18 @@
 //! A disk with the files of an opener.
-ghost use Rattle.std.specs.Prelude.{◌≡◌, IfErr, IfOk, None, OnErr, option_map};
-ghost use Rattle.std.specs.Io.Buffered.{writer_contents};
+ghost use Rattle.std.specs.Prelude.{◌≡◌, IfErr, IfOk, OnErr, option_map};
 ghost use Rattle.plist_forms.specs.Load.{octets_or};
 ghost use Rattle.plist_convert.specs.Files.{Holds, SameFiles};
 ghost use Rattle.plist_convert.specs.Opens.{CountsUnread, Creates, HasFailing, IsUnfound};
-ghost use Rattle.plist_convert.specs.Opens.{Settles, held_by};
+ghost use Rattle.plist_convert.specs.Opens.{Sends, Settles};
 
 use crate::created_file::CreatedFile;
-use crate::delivery::deliver;
 use crate::disks::{Disk, failures_after};
 use crate::opens::{Opens, Steady};
-use plist_forms::{Fault, Form, load_unless};
+use plist_devices::Stream;
+use plist_forms::{Fault, Form, convert_octets, load_unless};
 use std::alloc::{AllocError, Global};
 use std::hash::BuildHasher;
-use std::io::BufWriter;
-
-/// The size of the write buffer: writes of 4,096 bytes cost several times as much per byte.
-const GATHERED: usize = 262_144;
+use std::io::Write;
 
 /// A disk with the files of an opener. It knows their contents if the opener does.
 ///
@@ -124,7 +120,7 @@ fn failures_after_load(failures: u64, found: &Result<Option<Vec<u8>>, Fault>) ->
 }
 
 /// Converts the bytes to this form and writes the output to the file at the path, which is created
-/// at the first write. Returns the writer of the file if it was created. Fails like [`deliver`].
+/// at the first write. Returns the writer of the file if it was created. Fails like [`send`].
 fn create<'a, O: Opens, H: BuildHasher + Copy>(
     opener: &'a O,
     alloc: Global,
@@ -136,9 +132,26 @@ fn create<'a, O: Opens, H: BuildHasher + Copy>(
     ensures { Creates form octets.items (O.files opener.entry.now)
         (option_map O.Writer.contents result.0) result.1 }
 {
-    let buffer = gathering(opener, alloc, path);
-    let (file, stored) = deliver(alloc, hasher, buffer, octets, form);
+    let created = CreatedFile::new(opener, path);
+    let (file, stored) = send(alloc, hasher, created, octets, form);
     (file.writer, stored)
+}
+
+/// Converts the bytes to this form and writes the output to the device, each piece in one write.
+/// Returns the device, which is not flushed, and the number of bytes that it took. Fails like
+/// [`convert_octets`].
+fn send<H: BuildHasher + Copy, W: Write + Drop>(
+    alloc: Global,
+    hasher: H,
+    to: W,
+    octets: Vec<u8>,
+    form: Form,
+) -> (W, Result<u64, Fault>)
+    ensures { Sends form octets.items (W.contents to) (W.contents result.0) result.1 }
+{
+    let mut device = to;
+    let sent = convert_octets(alloc, hasher, octets, &mut Stream::new(&mut device), form);
+    (device, sent)
 }
 
 /// Closes the file at the path, if it was created. If out of memory for that, no file changes.
@@ -150,22 +163,5 @@ fn settle<O: Opens>(opener: &mut O, path: &str, writer: Option<O::Writer>) -> Re
     match writer {
         Some(writer) => opener.keep(path, writer),
         None => Ok(()),
-    }
-}
-
-/// Returns a buffered writer of the file at the path, which is not created yet. If out of memory
-/// for the buffer, each piece is a write.
-fn gathering<'a, O: Opens>(
-    opener: &'a O,
-    alloc: Global,
-    path: &'a str,
-) -> BufWriter<CreatedFile<'a, O>>
-    ensures { writer_contents
-        (λ file. held_by (O.files file.opener.now) (option_map O.Writer.contents file.writer))
-        result ≡ held_by (O.files opener.entry.now) None }
-{
-    match BufWriter::with_capacity(alloc, GATHERED, CreatedFile::new(opener, path)) {
-        Ok(writer) => writer,
-        Err(_) => BufWriter::with_capacity(alloc, 0, CreatedFile::new(opener, path)).unwrap(),
     }
 }

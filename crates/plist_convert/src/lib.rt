@@ -6,7 +6,6 @@
 pub mod answers;
 mod commands;
 mod created_file;
-mod delivery;
 pub mod disks;
 mod entry;
 pub mod file_disk;
