@@ -41,7 +41,7 @@ pub fn check_answer<H: BuildHasher + Copy>(
     match check_with_hasher(alloc, hasher, octets) {
         Ok(verdict) => {
             let line = verdict_line(alloc, verdict)?;
-            told(line, verdict_status(verdict))
+            with_line_end(line, verdict_status(verdict))
         }
         Err(fault) => refused(alloc, path, &Fault::from(fault)),
     }
@@ -119,7 +119,7 @@ fn explained(alloc: Global, word: &str) -> Result<Answer, AllocError>
     let line = format!(in alloc;
         "error: '{word}' is no refusal and no rule: plistconv explain lists them"
     )?;
-    told(line, Status::BadWords)
+    with_line_end(line, Status::BadWords)
 }
 
 /// Returns the line of a refusal, with its exit status.
@@ -131,28 +131,28 @@ pub fn refused(alloc: Global, path: &str, fault: &Fault) -> Result<Answer, Alloc
     ensures { IfOk result (λ answer. Says (said_of answer) (refusal path.now fault.now)) }
 {
     let line = line(alloc, path, fault)?;
-    told(line, fault.end_status())
+    with_line_end(line, fault.end_status())
 }
 
 fn accepted(alloc: Global, path: &str) -> Result<Answer, AllocError>
     ensures { IfOk result (λ answer. Says (said_of answer) (accepted_said path.now)) }
 {
     let line = format!(in alloc; "{path}: OK")?;
-    told(line, Status::Done)
+    with_line_end(line, Status::Done)
 }
 
 fn equality(alloc: Global, equal: bool) -> Result<Answer, AllocError>
     ensures { IfOk result (λ answer. Says (said_of answer) (equality_said equal)) }
 {
     if equal {
-        told(String::from_str(alloc, "equal")?, Status::Done)
+        with_line_end(String::from_str(alloc, "equal")?, Status::Done)
     } else {
-        told(String::from_str(alloc, "different")?, Status::Differs)
+        with_line_end(String::from_str(alloc, "different")?, Status::Differs)
     }
 }
 
 /// Appends a line end.
-fn told(line: String, status: Status) -> Result<Answer, AllocError>
+fn with_line_end(line: String, status: Status) -> Result<Answer, AllocError>
     ensures text { IfOk result (λ answer.
         string_bytes answer.text ≡ string_bytes line ++ codes "\n") }
     ensures status { IfOk result (λ answer. answer.status ≡ status) }

@@ -15,29 +15,29 @@ static FORMS: [&str; 2] = ["binary1", "openstep"];
 pub(crate) fn program<'a>(alloc: Global) -> Result<Command<'a>, AllocError>
     ensures { IfOk result (λ command. IsProgram (app_of command)) }
 {
-    let command = with_word(top(alloc), convert(alloc))?;
-    let command = with_word(command, same(alloc))?;
-    let command = with_word(command, lint(alloc))?;
-    let command = with_word(command, check(alloc))?;
-    let command = with_word(command, print(alloc))?;
-    with_word(command, explain(alloc))
+    let command = with_subcommand(top(alloc), convert(alloc))?;
+    let command = with_subcommand(command, same(alloc))?;
+    let command = with_subcommand(command, lint(alloc))?;
+    let command = with_subcommand(command, check(alloc))?;
+    let command = with_subcommand(command, print(alloc))?;
+    with_subcommand(command, explain(alloc))
 }
 
 /// Adds a subcommand.
-fn with_word<'a>(
+fn with_subcommand<'a>(
     command: Command<'a>,
-    word: Result<Command<'a>, AllocError>,
+    subcommand: Result<Command<'a>, AllocError>,
 ) -> Result<Command<'a>, AllocError>
-    ensures { IfOk result (λ whole. IsOkAnd word.entry (λ added.
+    ensures { IfOk result (λ whole. IsOkAnd subcommand.entry (λ added.
         AddsSubcommand command.entry added whole)) }
 {
-    command.subcommand(word?)
+    command.subcommand(subcommand?)
 }
 
 fn top<'a>(alloc: Global) -> Command<'a>
     ensures { app_of result ≡ program_top }
 {
-    word(alloc, "plistconv", help::ABOUT, help::AFTER)
+    described(alloc, "plistconv", help::ABOUT, help::AFTER)
         .version("0.3.0")
         .subcommand_required(true)
 }
@@ -45,25 +45,25 @@ fn top<'a>(alloc: Global) -> Command<'a>
 fn convert<'a>(alloc: Global) -> Result<Command<'a>, AllocError>
     ensures { IfOk result (λ command. IsConvert (app_of command)) }
 {
-    let form = place(alloc, "FORM", "The form to write").value_parser(FORMS.as_slice());
-    word(alloc, "convert", help::CONVERT_ABOUT, help::CONVERT_AFTER)
+    let form = required(alloc, "FORM", "The form to write").value_parser(FORMS.as_slice());
+    described(alloc, "convert", help::CONVERT_ABOUT, help::CONVERT_AFTER)
         .arg(form)?
-        .arg(place(alloc, "IN", "The file to read"))?
-        .arg(place(alloc, "OUT", "The file to write"))
+        .arg(required(alloc, "IN", "The file to read"))?
+        .arg(required(alloc, "OUT", "The file to write"))
 }
 
 fn same<'a>(alloc: Global) -> Result<Command<'a>, AllocError>
     ensures { IfOk result (λ command. app_of command ≡ same_line) }
 {
-    word(alloc, "same", help::SAME_ABOUT, help::SAME_AFTER)
-        .arg(place(alloc, "A", "The one file"))?
-        .arg(place(alloc, "B", "The other file"))
+    described(alloc, "same", help::SAME_ABOUT, help::SAME_AFTER)
+        .arg(required(alloc, "A", "The one file"))?
+        .arg(required(alloc, "B", "The other file"))
 }
 
 fn lint<'a>(alloc: Global) -> Result<Command<'a>, AllocError>
     ensures { IfOk result (λ command. app_of command ≡ one_file (codes "lint")) }
 {
-    word(alloc, "lint", help::LINT_ABOUT, help::LINT_AFTER).arg(place(
+    described(alloc, "lint", help::LINT_ABOUT, help::LINT_AFTER).arg(required(
         alloc,
         "IN",
         "The file to read",
@@ -73,7 +73,7 @@ fn lint<'a>(alloc: Global) -> Result<Command<'a>, AllocError>
 fn check<'a>(alloc: Global) -> Result<Command<'a>, AllocError>
     ensures { IfOk result (λ command. app_of command ≡ one_file (codes "check")) }
 {
-    word(alloc, "check", help::CHECK_ABOUT, help::CHECK_AFTER).arg(place(
+    described(alloc, "check", help::CHECK_ABOUT, help::CHECK_AFTER).arg(required(
         alloc,
         "IN",
         "The file to read",
@@ -83,7 +83,7 @@ fn check<'a>(alloc: Global) -> Result<Command<'a>, AllocError>
 fn print<'a>(alloc: Global) -> Result<Command<'a>, AllocError>
     ensures { IfOk result (λ command. app_of command ≡ one_file (codes "print")) }
 {
-    word(alloc, "print", help::PRINT_ABOUT, help::PRINT_AFTER).arg(place(
+    described(alloc, "print", help::PRINT_ABOUT, help::PRINT_AFTER).arg(required(
         alloc,
         "IN",
         "The file to read",
@@ -93,7 +93,7 @@ fn print<'a>(alloc: Global) -> Result<Command<'a>, AllocError>
 fn explain<'a>(alloc: Global) -> Result<Command<'a>, AllocError>
     ensures { IfOk result (λ command. app_of command ≡ explain_line) }
 {
-    word(alloc, "explain", help::EXPLAIN_ABOUT, help::EXPLAIN_AFTER).arg(optional(
+    described(alloc, "explain", help::EXPLAIN_ABOUT, help::EXPLAIN_AFTER).arg(optional(
         alloc,
         "WHAT",
         "A number, a name or a rule",
@@ -101,14 +101,14 @@ fn explain<'a>(alloc: Global) -> Result<Command<'a>, AllocError>
 }
 
 /// Returns a command with its help.
-fn word<'a>(alloc: Global, name: &'a str, about: &'a str, after: &'a str) -> Command<'a>
+fn described<'a>(alloc: Global, name: &'a str, about: &'a str, after: &'a str) -> Command<'a>
     ensures { app_of result ≡ new_app name.entry.now }
 {
     Command::new(alloc, name).about(about).after_help(after)
 }
 
 /// Returns a required argument.
-fn place<'a>(alloc: Global, id: &'a str, text: &'a str) -> Arg<'a>
+fn required<'a>(alloc: Global, id: &'a str, text: &'a str) -> Arg<'a>
     ensures rule { rule_of result ≡ file_word id.entry.now }
     ensures local { result.global ≡ false }
 {

@@ -5,12 +5,14 @@ ghost use Rattle.plist_convert.specs.Program.{DeviceFailed, IsAskedRun, IsHostRu
 ghost use Rattle.plist_convert.specs.State.{input_of, state};
 
 use crate::disks::Disk;
+use crate::executing::{
+    check_file, compare_files, convert_file, explain_what, lint_file, print_file,
+};
 use crate::filtering::filter;
 use crate::host_disk::HostDisk;
 use crate::printing::explain;
 use crate::reading::read_words;
 use crate::request::Request;
-use crate::words::{check_file, compare_files, convert_file, explain_what, lint_file, print_file};
 use plist_devices::{ReaderSource, Sink, Source, Stream};
 use plist_value::FixedHasher;
 use std::alloc::Global;
@@ -134,13 +136,13 @@ fn perform<H: BuildHasher + Copy, D: Disk, S: Source, W: Sink>(
     ensures same { W.device output.new ≡ W.device output.old }
 {
     match read_words(alloc, words) {
-        Ok(request) => obey(alloc, hasher, disk, request, input, output),
+        Ok(request) => execute(alloc, hasher, disk, request, input, output),
         Err(error) => explain(alloc, &error, output),
     }
 }
 
 /// Executes the command.
-fn obey<H: BuildHasher + Copy, D: Disk, S: Source, W: Sink>(
+fn execute<H: BuildHasher + Copy, D: Disk, S: Source, W: Sink>(
     alloc: Global,
     hasher: H,
     disk: &mut D,

@@ -8,6 +8,7 @@ mod commands;
 mod created_file;
 pub mod disks;
 mod entry;
+mod executing;
 pub mod file_disk;
 mod filtering;
 mod help;
@@ -19,7 +20,6 @@ mod printing;
 mod reading;
 mod request;
 mod verdicts;
-mod words;
 
 pub use disks::Disk;
 pub use entry::{run, run_on, run_to_end};

@@ -16,8 +16,8 @@ returns c =
     let four = adds_word _ _ c.check.result check refl c.check.ensures c.in_ok-command-4.ensures ∙ ap (λ a. with_subcommand a check.top) three in
     let print = one_file (codes "print") in
     let five = adds_word _ _ c.print.result print refl c.print.ensures c.in_ok-command-5.ensures ∙ ap (λ a. with_subcommand a print.top) four in
-    IfOk-weaker c.with_word-6.result _ _ (λ command added. record {
+    IfOk-weaker c.with_subcommand-6.result _ _ (λ command added. record {
       forms = line.0;
       named = line.1;
       is = adds_word _ command c.explain.result explain refl c.explain.ensures added ∙ ap (λ a. with_subcommand a explain.top) five;
-    }) c.with_word-6.ensures
+    }) c.with_subcommand-6.ensures

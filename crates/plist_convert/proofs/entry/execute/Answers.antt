@@ -1,6 +1,6 @@
 use Rattle.std.proofs.Common.{refl}
 use Rattle.plist_convert.specs.Program.{IsAskedRun}
-use Rattle.plist_convert.proofs.entry.obey.Goals as goal
+use Rattle.plist_convert.proofs.entry.execute.Goals as goal
 
 pub returns-in-Filter-clause-run : goal.returns-in-Filter-clause-run
 unfolding IsAskedRun

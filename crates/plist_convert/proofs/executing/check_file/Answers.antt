@@ -4,7 +4,7 @@ use Rattle.plist_convert.specs.Answer.{IsCheckAnswer, said_of}
 use Rattle.plist_convert.specs.Runs.{IsCheckRun}
 use Rattle.plist_convert.specs.State.{state}
 use Rattle.plist_convert.proofs.Runs.{file_answered}
-use Rattle.plist_convert.proofs.words.check_file.Goals as goal
+use Rattle.plist_convert.proofs.executing.check_file.Goals as goal
 
 pub returns-in-Ok-clause-run : goal.returns-in-Ok-clause-run
 unfolding IsCheckRun

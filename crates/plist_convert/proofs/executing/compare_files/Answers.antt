@@ -5,7 +5,7 @@ use Rattle.plist_convert.specs.Runs.{IsSameRun}
 use Rattle.plist_convert.specs.State.{state}
 use Rattle.plist_convert.proofs.FilesBefore.{holds_before, same_trans, unloaded_before}
 use Rattle.plist_convert.proofs.Runs.{files_compared}
-use Rattle.plist_convert.proofs.words.compare_files.Goals as goal
+use Rattle.plist_convert.proofs.executing.compare_files.Goals as goal
 
 pub returns-in-Err-clause-run : goal.returns-in-Err-clause-run
 unfolding IsSameRun

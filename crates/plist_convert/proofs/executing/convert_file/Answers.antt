@@ -3,7 +3,7 @@ use Rattle.plist_convert.specs.Ending.{Ends}
 use Rattle.plist_convert.specs.Runs.{IsConvertRun, refusal_between}
 use Rattle.plist_convert.specs.State.{state}
 use Rattle.plist_convert.proofs.Conversions.{converted, unconverted}
-use Rattle.plist_convert.proofs.words.convert_file.Goals as goal
+use Rattle.plist_convert.proofs.executing.convert_file.Goals as goal
 
 pub returns-in-Err-clause-run : goal.returns-in-Err-clause-run
 unfolding IsConvertRun

@@ -3,7 +3,7 @@ use Rattle.plist_convert.specs.Answer.{explained_said}
 use Rattle.plist_convert.specs.Runs.{IsExplainRun}
 use Rattle.plist_convert.specs.State.{state}
 use Rattle.plist_convert.proofs.Runs.{answer_ends}
-use Rattle.plist_convert.proofs.words.explain_what.Goals as goal
+use Rattle.plist_convert.proofs.executing.explain_what.Goals as goal
 
 pub returns-clause-run : goal.returns-clause-run
 unfolding IsExplainRun

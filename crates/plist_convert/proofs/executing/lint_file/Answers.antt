@@ -4,7 +4,7 @@ use Rattle.plist_convert.specs.Answer.{IsLintAnswer, said_of}
 use Rattle.plist_convert.specs.Runs.{IsLintRun}
 use Rattle.plist_convert.specs.State.{state}
 use Rattle.plist_convert.proofs.Runs.{file_answered}
-use Rattle.plist_convert.proofs.words.lint_file.Goals as goal
+use Rattle.plist_convert.proofs.executing.lint_file.Goals as goal
 
 pub returns-in-Ok-clause-run : goal.returns-in-Ok-clause-run
 unfolding IsLintRun

@@ -3,7 +3,7 @@ use Rattle.plist_convert.specs.Ending.{Ends}
 use Rattle.plist_convert.specs.Runs.{IsPrintRun, refusal_between, standard}
 use Rattle.plist_convert.specs.State.{state}
 use Rattle.plist_convert.proofs.Prints.{printed_whole, unprinted}
-use Rattle.plist_convert.proofs.words.print_file.Goals as goal
+use Rattle.plist_convert.proofs.executing.print_file.Goals as goal
 
 pub returns-in-Err-clause-run : goal.returns-in-Err-clause-run
 unfolding IsPrintRun
