@@ -225,13 +225,13 @@ def number_faults():
     code = re.findall(r"(?m)^number_of (\w+) = (\d+)$", read("crates/plist_value/specs/Refusals.antt"))
     if table != {int(number): name for name, number in code}:
         yield "FORMATS.md: its refusals are not those of plist_value/specs/Refusals.antt"
-    texts = read("crates/plist_explain/src/table.rt")
+    texts = "".join(read(f"crates/plist_explain/src/{file}.rt") for file in ("refusals", "rules"))
     explained = re.findall(r"Subject::(?:Refusal\(Refusal::|Rule\()(\w+)", texts)
     if explained != [table[number] for number in sorted(table)] + re.findall(r"(?m)^C(\d) \|", formats):
-        yield "FORMATS.md: its refusals and rules are not those of plist_explain/src/table.rt"
+        yield "FORMATS.md: its refusals and rules are not those of plist_explain"
     plain = re.sub(r"\\(.)", r"\1", texts)
     if long := [line for line in re.findall(r'(?m)^[^ /].*?(?=",$|$)', plain) if len(line) > 79]:
-        yield f"plist_explain/src/table.rt: a line is too long: {long[0]}"
+        yield f"plist_explain: a line is too long: {long[0]}"
     constants = "".join(read(f"crates/{file}.rt") for file in ("plist_value/src/lib", "plist_forms/src/loading"))
     for name, number in re.findall(r"pub const (MAX_\w+): u64 = ([\d_]+);", constants):
         for page in ("docs/FORMATS.md", "SECURITY.md"):

@@ -2,10 +2,10 @@
 use Rattle.std.proofs.Common.{arith, refl, zero, suc}
 use Rattle.std.specs.Fmt.{digits}
 use Rattle.plist_value.specs.declared.refusals.Refusal.TheVariants.{TooShort, BadHeader, BadTrailer, BadOffset, BadReference, CutObject, BadMarker, NullObject, UidObject, SetObject, NotAscii, WideInteger, KeyNotText, DuplicateKey, Cycle, TooDeep, TooManyNodes, TooMuchPayload, BadUtf8, XmlForm, UnexpectedCharacter, UnclosedString, UnclosedComment, BadEscape, OctalRange, OddData, BadData, Expected, Junk, BadUtf16, NotInOpenStep, ReadFailed, WriteFailed, InputTooLarge, OutOfMemory}
-use Rattle.plist_explain.specs.Topics.{ExplainsRefusals, ExplainsRules, entries}
+use Rattle.plist_explain.specs.Topics.{ExplainsRefusals, ExplainsRules, refusal_entries, rule_entries}
 
 pub explains_refusals : ExplainsRefusals
-unfolding digits entries
+unfolding digits refusal_entries rule_entries
 explains_refusals TooShort = (refl, refl)
 explains_refusals BadHeader = (refl, refl)
 explains_refusals BadTrailer = (refl, refl)
@@ -43,7 +43,7 @@ explains_refusals InputTooLarge = (refl, refl)
 explains_refusals OutOfMemory = (refl, refl)
 
 pub explains_rules : ExplainsRules
-unfolding digits entries
+unfolding digits refusal_entries rule_entries
 explains_rules zero below = refl
 explains_rules (suc zero) below = refl
 explains_rules (suc (suc zero)) below = refl

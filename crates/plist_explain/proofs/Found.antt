@@ -1,6 +1,7 @@
 -- The first row of the table that a word names gives the first entry that it names.
 use Rattle.std.proofs.Common.{ap, refl, sym, true, false, Bool, List, Option, None, Some, [], ◌∷◌, ◌∙◌, ◌≡◌, ℕ}
 use Rattle.std.specs.Prelude.{cond, find, map, option_map}
+use Rattle.std.specs.Option.{option_or}
 use Rattle.std.specs.Borrow.{Bor}
 use Rattle.plist_explain.specs.Topics.{entry_of, is_named}
 use Rattle.plist_explain.specs.declared.topics.Subject.{Subject}
@@ -27,3 +28,7 @@ behind (Some row) = refl
 pub found_entry : (word : List ℕ) (rows : List Row) (r : Option (Bor Row)) → option_map (λ row. row.now) r ≡ find (λ row. is_named row.0 word) rows
     → option_map (λ row. entry_of row.now) r ≡ find (λ entry. is_named entry.subject word) (map entry_of rows)
 found_entry word rows r found = behind r ∙ ap (option_map entry_of) found ∙ sym (among word rows)
+
+pub first_found : {A B : Type 0} (f : A → B) (a b : Option A) → option_map f (option_or a b) ≡ option_or (option_map f a) (option_map f b)
+first_found f None b = refl
+first_found f (Some a) b = refl

@@ -7,7 +7,8 @@ use Rattle.plist_value.specs.Refusals.{name_of, number_of}
 use Rattle.plist_value.specs.declared.refusals.Refusal.{Refusal}
 use Rattle.plist_explain.specs.declared.topics.Subject.{Subject}
 use Rattle.plist_explain.specs.declared.topics.Subject.TheVariants as subject
-use Rattle.plist_explain.specs.declared.table.TheConstants.{TOPICS}
+use Rattle.plist_explain.specs.declared.refusals.TheConstants.{REFUSALS}
+use Rattle.plist_explain.specs.declared.rules.TheConstants.{RULES}
 
 -- a subject, its meaning, and its text
 pub record Entry : Type 0 where
@@ -15,13 +16,21 @@ pub record Entry : Type 0 where
   pub meaning : List ℕ
   pub text : List ℕ
 
--- a row of the table
+-- a row of a table
 abbrev pub entry_of : Subject × Bor (List ℕ) × Bor (List ℕ) → Entry
 entry_of row = record { subject = row.0; meaning = row.1.now; text = row.2.now }
 
--- the table
-unfoldable pub entries : List Entry
-entries = map (λ row. record { subject = row.0; meaning = row.1.now; text = row.2.now }) TOPICS
+-- the tables
+unfoldable pub refusal_entries : List Entry
+refusal_entries =
+    map (λ row. record { subject = row.0; meaning = row.1.now; text = row.2.now }) REFUSALS
+
+unfoldable pub rule_entries : List Entry
+rule_entries =
+    map (λ row. record { subject = row.0; meaning = row.1.now; text = row.2.now }) RULES
+
+abbrev pub entries : List Entry
+entries = refusal_entries ++ rule_entries
 
 -- the word is the refusal's name or its number, or `C` and the rule's number
 abbrev pub is_named : Subject → List ℕ → Bool

@@ -1,9 +1,12 @@
 //! Prints explanations.
-ghost use Rattle.std.specs.Prelude.{◌≡◌, ◌++◌, IfOk, map, option_map, string_bytes};
-ghost use Rattle.plist_explain.specs.Topics.{all_lines, entries, entry_named, entry_of};
+ghost use Rattle.std.specs.Prelude.{◌≡◌, ◌++◌, IfOk, OnOk, find, flat_map};
+ghost use Rattle.std.specs.Prelude.{map, option_map, string_bytes};
+ghost use Rattle.plist_explain.specs.Topics.{all_lines, entry_named, entry_of};
 ghost use Rattle.plist_explain.specs.Topics.{explained, explanation_of, line_of};
+ghost use Rattle.plist_explain.specs.Topics.{is_named, refusal_entries, rule_entries};
 
-use crate::table::TOPICS;
+use crate::refusals::REFUSALS;
+use crate::rules::RULES;
 use crate::topics::Topic;
 use std::alloc::{AllocError, Global};
 
@@ -31,24 +34,47 @@ pub fn list(alloc: Global) -> Result<String, AllocError>
     ensures { IfOk result (λ text. string_bytes text ≡ all_lines) }
 {
     let mut text = String::new(alloc);
-    for topic in topics().iter() {
-        let line = line(alloc, topic)?;
-        text.push_str(line.as_str())?;
-    }
+    push_lines(&mut text, alloc, refusals())?;
+    push_lines(&mut text, alloc, rules())?;
     Ok(text)
 }
 
-/// Returns all topics.
-fn topics() -> &'static [Topic]
-    ensures { map entry_of result.now ≡ entries }
+fn refusals() -> &'static [Topic]
+    ensures { map entry_of result.now ≡ refusal_entries }
 {
-    &TOPICS
+    &REFUSALS
+}
+
+fn rules() -> &'static [Topic]
+    ensures { map entry_of result.now ≡ rule_entries }
+{
+    &RULES
 }
 
 fn find(word: &str) -> Option<&'static Topic>
     ensures { option_map (λ topic. entry_of topic.now) result ≡ entry_named word.now }
 {
-    topics().iter().find(|topic| topic.0.is_named(word))
+    find_in(refusals(), word).or(find_in(rules(), word))
+}
+
+/// Returns the first of the topics that the word names.
+fn find_in<'a>(topics: &'a [Topic], word: &str) -> Option<&'a Topic>
+    ensures { option_map (λ topic. entry_of topic.now) result
+        ≡ find (λ entry. is_named entry.subject word.now) (map entry_of topics.now) }
+{
+    topics.iter().find(|topic| topic.0.is_named(word))
+}
+
+/// Appends a line for each of the topics.
+fn push_lines(text: &mut String, alloc: Global, topics: &[Topic]) -> Result<(), AllocError>
+    ensures { OnOk result (string_bytes text.new
+        ≡ string_bytes text.old ++ flat_map line_of (map entry_of topics.now)) }
+{
+    for topic in topics.iter() {
+        let line = line(alloc, topic)?;
+        text.push_str(line.as_str())?;
+    }
+    Ok(())
 }
 
 /// Returns the topic's line, an empty line, and its text.

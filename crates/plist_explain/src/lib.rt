@@ -4,7 +4,8 @@
 
 pub mod explaining;
 pub mod laws;
-pub mod table;
+mod refusals;
+mod rules;
 pub mod topics;
 
 pub use explaining::{explanation, list};

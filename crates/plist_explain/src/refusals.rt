@@ -1,10 +1,9 @@
-//! The explanations: one for each refusal, in the order of their numbers, then one for each rule of
-//! canonical files. No line has more than 79 columns.
+//! The explanations of refusals, in the order of their numbers. No line has more than 79 columns.
 
 use crate::topics::{Subject, Topic};
 use plist_value::Refusal;
 
-pub(crate) static TOPICS: [Topic; 43] = [
+pub(crate) static REFUSALS: [Topic; 35] = [
     (
         Subject::Refusal(Refusal::TooShort),
         "fewer than 42 bytes, too few for a binary property list",
@@ -320,79 +319,5 @@ The same file may be accepted where there is more memory. Most files need one
 to three times their size, texts of very many short items much more. Raise the
 limit, which `ulimit -v` shows, or that of the container, and try again. If a
 number of bytes above 0 is named, OUT has only those: delete it.",
-    ),
-    (
-        Subject::Rule(0),
-        "every object can be read, and the value is within the limits",
-        "\
-`lint` says what is wrong, unless the value does not use the object named. If
-`lint` accepts the file, the second line leaves out what is not used and writes
-the canonical file:
-  plistconv lint FILE
-  plistconv convert binary1 FILE OUT",
-    ),
-    (
-        Subject::Rule(1),
-        "the trailer begins with six zeros, and the top object is 0",
-        "\
-The trailer is the last 32 bytes. Readers skip its first six, so that files
-that differ only there have equal values; and some programs write the top
-object last. To write the canonical file:
-  plistconv convert binary1 FILE OUT",
-    ),
-    (
-        Subject::Rule(2),
-        "offsets and references have the least widths",
-        "\
-A file of up to 255 objects refers to them in one byte each, and has offsets of
-one byte if the objects end before byte 256. Programs that always write two or
-four bytes break this rule. To write the canonical file:
-  plistconv convert binary1 FILE OUT",
-    ),
-    (
-        Subject::Rule(3),
-        "the objects follow one another",
-        "\
-Object 0 begins at byte 8, each other where the one before it ends, and the
-offset table where the last one ends. Unused bytes between objects, or objects
-that overlap, break this rule. To write the canonical file:
-  plistconv convert binary1 FILE OUT",
-    ),
-    (
-        Subject::Rule(4),
-        "each object is as short as can be",
-        "\
-The integer 5 has one byte and not eight, a string of ASCII characters one byte
-for each, and a length below 15 is part of the first byte. To write the
-canonical file:
-  plistconv convert binary1 FILE OUT",
-    ),
-    (
-        Subject::Rule(5),
-        "the keys of each dictionary ascend",
-        "\
-They are compared by UTF-16 units: \"B\" comes before \"a\", and \"a\" before \"ab\".
-Many programs write keys in the order of a hash table, or as they were added,
-and so break this rule. Two equal keys break it too; all other commands refuse
-them, as 14. To write the canonical file:
-  plistconv convert binary1 FILE OUT",
-    ),
-    (
-        Subject::Rule(6),
-        "no two objects are the same string, number, date or data",
-        "\
-A string that is used twice is there once, and both uses refer to it. Some
-programs write it each time. 1 and 1.0 are different numbers, as are reals of
-four and of eight bytes. To write the canonical file:
-  plistconv convert binary1 FILE OUT",
-    ),
-    (
-        Subject::Rule(7),
-        "objects are numbered as they are first referred to, from object 0",
-        "\
-An array or dictionary is followed by what it contains, keys first. Programs
-that number level by level, write an array once for two uses, or leave unused
-objects in the file break this rule. To write the canonical file:
-  plistconv convert binary1 FILE OUT",
     ),
 ];
