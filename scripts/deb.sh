@@ -32,6 +32,9 @@ take() { # PACKAGE PATH..: moves installed files into the package
     done
 }
 
+# Prints the lines of THIRD-PARTY from one to another, as the text of a licence.
+terms() { sed -n "/^$1/,/^$2/p" ../../THIRD-PARTY | sed 's/^$/./; s/^/ /'; } # FROM TO
+
 # Adds the documents that each package has.
 documents() { # PACKAGE
     local folder=$1/usr/share/doc/$1
@@ -47,6 +50,23 @@ License: none-yet
  The owners have chosen no licence yet. Until they do, nobody but them has a
  right to copy, change or hand on this software.
 END
+    case $1 in
+        plistconv | libplistconv*) cat >> "$folder/copyright" <<END
+
+Files: ucd_*
+Copyright: 1991-2023, Unicode, Inc.
+License: Unicode-3.0
+$(terms 'UNICODE LICENSE' 'authorization of')
+
+Files: byteorder/* clap/* indexmap/* itoa/* simdutf8/* thiserror/*
+Copyright: 2015, Andrew Gallant
+ 2016-2017, the authors of indexmap
+ the contributors of clap, itoa, simdutf8 and thiserror
+License: Expat
+$(terms 'Permission is hereby granted, free of charge, to any person obtaining a copy$' 'THE SOFTWARE.$')
+END
+            ;;
+    esac
     gzip -n9 > "$folder/changelog.gz" <<END
 plistconv ($VERSION) unstable; urgency=medium
 

@@ -50,6 +50,9 @@ pages() {
     done
 }
 
+# Installs the notices that the licences of third parties ask for.
+notices() { put 644 THIRD-PARTY "$DOC/THIRD-PARTY"; }
+
 program() {
     local file
     put 755 plistconv "$PREFIX/bin/plistconv"
@@ -71,6 +74,7 @@ program() {
         put 644 "bindings/python/$file" "$SHARE/plistconv/python/$file"
     done
     pages
+    notices
 }
 
 below_prefix() { case $1 in "$PREFIX"/*) echo "\${prefix}/${1#"$PREFIX"/}" ;; *) echo "$1" ;; esac; } # FOLDER
@@ -84,6 +88,7 @@ library() {
         "includedir=$(below_prefix "$INCLUDEDIR")" '' 'Name: plistconv' \
         'Description: Property lists in their canonical form, proved' "Version: $VERSION" \
         'Libs: -L"${libdir}" -lplistconv' 'Cflags: -I"${includedir}"'
+    notices
 }
 
 case $verb-${2:-} in

@@ -149,7 +149,7 @@ if wants dist && has objdump binutils 'the tar file'; then
     mkdir "$work/unpacked" && tar -C "$work/unpacked" --strip-components=1 -xzf dist/*.tar.gz
     (cd "$work/unpacked" && sha256sum --quiet -c SHA256SUMS && bin/plistconv --version)
     no_broken_links "$work/unpacked/share/doc/plistconv"
-    for file in INSTALL bin/plistconv-digest share/doc/plistconv/{README.md,SECURITY.md,docs/FORMATS.md,examples/c/canonical.c} \
+    for file in INSTALL bin/plistconv-digest share/doc/plistconv/{README.md,SECURITY.md,THIRD-PARTY,docs/FORMATS.md,examples/c/canonical.c} \
         share/plistconv/python/pyproject.toml share/man/man1/plistconv-tools.1; do
         [ -f "$work/unpacked/$file" ] || fail "the tar file has no $file"
     done
@@ -177,9 +177,12 @@ if wants deb && has dpkg-deb dpkg 'the Debian packages' && has objdump binutils 
     done
     "$work/deb/usr/bin/plistconv" --version
     no_broken_links "$work/deb/usr/share/doc/plistconv"
-    for file in usr/share/doc/plistconv/{README.md,SECURITY.md,CHANGELOG.md,docs/FORMATS.md,examples/c/canonical.c} \
+    for file in usr/share/doc/plistconv/{README.md,SECURITY.md,CHANGELOG.md,THIRD-PARTY,docs/FORMATS.md,examples/c/canonical.c} \
         usr/bin/plistconv-digest usr/share/man/man1/plistconv-{tools,digest}.1.gz usr/lib/python3/dist-packages/plistconv/py.typed; do
         [ -f "$work/deb/$file" ] || fail "the packages have no $file"
+    done
+    for package in plistconv libplistconv1 libplistconv-dev; do
+        grep -q 'Unicode, Inc' "$work/deb/usr/share/doc/$package/copyright" || fail "$package has no notice of Unicode's"
     done
     if has python3 python3 'the Python module of the packages'; then
         PLISTCONV_LIBRARY=$(echo "$work"/deb/usr/lib/*/libplistconv.so.1) PYTHONPATH=$work/deb/usr/lib/python3/dist-packages \
