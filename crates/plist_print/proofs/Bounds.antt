@@ -7,30 +7,27 @@ use Rattle.plist_value.specs.Limits.{nodes, nodes_of_items, nodes_of_pairs, dept
 use Rattle.plist_print.specs.Units.{printed_text}
 use Rattle.plist_print.specs.Reals.{single, double, printed_real}
 use Rattle.plist_print.specs.Dates.{printed_date}
-use Rattle.plist_print.specs.Printed.{indent, printed_flag, printed_scalar, printed_line, printed_at, printed_items, printed_pairs}
+use Rattle.plist_print.specs.Printed.{indent, printed_scalar, printed_line, printed_at, printed_items, printed_pairs}
 use Rattle.plist_print.proofs.TextBounds.{text-long, bytes-long, indent-long}
+use Rattle.plist_print.proofs.Neighbours.{single-format, double-format}
 use Rattle.plist_print.proofs.RealBounds.{real-long, date-long, whole-long}
-
-flag-long : (b : Bool) → length (printed_flag b) ≤ 5
-flag-long true = omega arith
-flag-long false = omega arith
 
 line-long : (level : ℕ) (s : Scalar) → IsScalar s → length (printed_line level s) ≤ 5 * payload_of_scalar s + 70 + 2 * min level 32
 line-long level (text units) h =
     let line = text-long units in let all = length-append (printed_text units) (codes "\n") in omega (arith, line, all)
 line-long level (whole z) h =
     let line = whole-long z h in let all = length-append (printed_scalar (whole z)) (codes "\n") in omega (arith, line, all)
-line-long level (flag b) h =
-    let line = flag-long b in let all = length-append (printed_flag b) (codes "\n") in omega (arith, line, all)
+line-long level (flag true) h = omega arith
+line-long level (flag false) h = omega arith
 line-long level (real4 xs) h =
     let octets = h.long in
-    let line = real-long single xs (omega (arith, octets)) in
+    let line = real-long single xs single-format (omega (arith, octets)) in
     let inner = length-append (printed_real single xs) (codes "f") in
     let all = length-append (printed_real single xs ++ codes "f") (codes "\n") in
     omega (arith, line, inner, all)
 line-long level (real8 xs) h =
     let octets = h.long in
-    let line = real-long double xs (omega (arith, octets)) in
+    let line = real-long double xs double-format (omega (arith, octets)) in
     let all = length-append (printed_real double xs) (codes "\n") in
     omega (arith, line, all)
 line-long level (moment xs) h =

@@ -3,7 +3,7 @@ use Rattle.std.proofs.Common.{◌≡◌, ◌⊎◌, ℕ, zero, suc, ◌+◌, ◌
 use Rattle.std.specs.Prelude.{nat_le}
 use Rattle.std.proofs.lemmas.Bool.{cases_Bool}
 use Rattle.std.proofs.lemmas.Bool.Decides.{nat_tests}
-use Rattle.plist_print.specs.Dates.{is_leap, days_in_month, days_of_months, days_before, last_such, year_of, month_of}
+use Rattle.plist_print.specs.Dates.{days_in_month, days_of_months, days_before, last_such, year_of, month_of}
 use Rattle.plist_print.proofs.Compared.{le-denied, le-tells}
 
 same-or-less : (k m : ℕ) → m ≤ k → (k ≡ m) ⊎ (m < k)
@@ -72,25 +72,9 @@ unfolding days_of_months
 no-months year = refl
 
 -- the days of the twelve months are those of the year
-leap-days : (year : ℕ) → is_leap year ≡ true → days_of_months year 12 ≡ 366
-unfolding days_of_months
-leap-days year h = rw h refl
-
-common-days : (year : ℕ) → is_leap year ≡ false → days_of_months year 12 ≡ 365
-unfolding days_of_months
-common-days year h = rw h refl
-
-leap-before : (year : ℕ) → 1 ≤ year → is_leap year ≡ true → days_before (year + 1) ≡ days_before year + 366
-leap-before year some h = grind (arith, nat_tests)
-
-common-before : (year : ℕ) → 1 ≤ year → is_leap year ≡ false → days_before (year + 1) ≡ days_before year + 365
-common-before year some h = grind (arith, nat_tests)
-
 pub year-long : (year : ℕ) → 1 ≤ year → days_before (year + 1) ≡ days_before year + days_of_months year 12
-year-long year some = elim (cases_Bool (is_leap year)) [
-  | inl is ↦ leap-before year some is ∙ ap (λ n. days_before year + n) (sym (leap-days year is))
-  | inr not ↦ common-before year some not ∙ ap (λ n. days_before year + n) (sym (common-days year not))
-]
+unfolding days_of_months
+year-long year some = omega arith
 
 -- if the day is after this month, there is a later month
 pub month-most : (year day month : ℕ) → day < days_of_months year 12 → month ≤ 12 → days_of_months year month ≤ day → month + 1 ≤ 12

@@ -1,11 +1,13 @@
 -- Data in lines of 32 bytes.
-use Rattle.std.proofs.Common.{◌≡◌, ℕ, suc, ◌+◌, ◌-◌, ◌*◌, ◌/◌, ◌<◌, ◌≤◌, min, List, ◌++◌, length, take, drop, replicate, refl, sym, ap, ◌∙◌, arith, inl, inr, append_assoc, length-drop}
+use Rattle.std.proofs.Common.{◌≡◌, ℕ, suc, ◌+◌, ◌-◌, ◌*◌, ◌/◌, ◌<◌, ◌≤◌, min, List, ◌++◌, length, zero, [], ◌∷◌, take, drop, replicate, refl, sym, ap, ◌∙◌, arith, inl, inr, append_assoc, length-drop}
 use Rattle.std.specs.Prelude.{codes, flat_map, nat_le, if◌then◌else◌}
+use Rattle.std.specs.Simd.{first_chunks}
 use Rattle.std.proofs.lemmas.Bool.{cases_lt}
 use Rattle.std.proofs.lemmas.List.{take_all, drop_all}
+use Rattle.plist_value.specs.Plist.{bytes}
 use Rattle.plist_value.specs.Digits.{two_digits}
 use Rattle.plist_print.specs.Shown.{Puts}
-use Rattle.plist_print.specs.Printed.{indent, enclosed, data_lines, octet_lines, printed_bytes}
+use Rattle.plist_print.specs.Printed.{indent, enclosed, octet_lines, printed_line}
 use Rattle.plist_print.proofs.Compared.{le-tells, le-denied}
 
 abbrev pub data_line : List ℕ → List ℕ → List ℕ
@@ -15,13 +17,23 @@ pub count-more : (xs : List ℕ) → 0 < length xs → (length xs + 31) / 32 ≡
 count-more xs some =
     let left : length (drop 32 xs) ≡ length xs - 32 = length-drop 32 xs in omega (arith, left)
 
+-- the lines, without brackets between their parts
+abbrev pub data_lines : List ℕ → ℕ → List ℕ → List ℕ
+data_lines blanks zero xs = []
+data_lines blanks (suc lines) xs =
+    blanks ++ (flat_map two_digits (take 32 xs) ++ (10 ∷ data_lines blanks lines (drop 32 xs)))
+
+pub lines-joined : (blanks : List ℕ) (n : ℕ) (xs : List ℕ) → flat_map (data_line blanks) (first_chunks 32 n xs) ≡ data_lines blanks n xs
+lines-joined blanks zero xs = refl
+lines-joined blanks (suc n) xs =
+    let digits = flat_map two_digits (take 32 xs) in
+    let rest = data_lines blanks n (drop 32 xs) in
+    ap (λ t. data_line blanks (take 32 xs) ++ t) (lines-joined blanks n (drop 32 xs))
+    ∙ append_assoc blanks (digits ++ codes "\n") rest ∙ ap (λ t. blanks ++ t) (append_assoc digits (codes "\n") rest)
+
 -- the first line, and the other lines
 pub lines-first : (blanks xs : List ℕ) → 0 < length xs → octet_lines blanks xs ≡ data_line blanks (take 32 xs) ++ octet_lines blanks (drop 32 xs)
-lines-first blanks xs some =
-    let rest = octet_lines blanks (drop 32 xs) in
-    let digits = flat_map two_digits (take 32 xs) in
-    ap (λ n. data_lines blanks n xs) (count-more xs some)
-    ∙ sym (append_assoc blanks (digits ++ codes "\n") rest ∙ ap (λ t. blanks ++ t) (append_assoc digits (codes "\n") rest))
+lines-first blanks xs some = ap (λ n. flat_map (data_line blanks) (first_chunks 32 n xs)) (count-more xs some)
 
 take-least : (xs : List ℕ) → take (min (length xs) 32) xs ≡ take 32 xs
 take-least xs = elim (cases_lt 32 (length xs)) [
@@ -58,7 +70,7 @@ pub if-denied : (xs ys : List ℕ) (a b : ℕ) → b < a → (if nat_le a b then
 if-denied xs ys a b h = rw (le-denied a b h) refl
 
 -- data of more than 32 bytes is printed in brackets, on separate lines
-pub bytes-enclosed : (level : ℕ) (xs : List ℕ) → 32 < length xs → enclosed level 60 62 (octet_lines (indent (min level 32 + 1)) xs) ≡ printed_bytes level xs
+pub bytes-enclosed : (level : ℕ) (xs : List ℕ) → 32 < length xs → enclosed level 60 62 (octet_lines (indent (min level 32 + 1)) xs) ≡ printed_line level (bytes xs)
 bytes-enclosed level xs long =
     let same : min (min level 32 + 1) 32 ≡ min (suc level) 32 = omega arith in
     ap (λ n. enclosed level 60 62 (octet_lines (replicate (2 * n) 32) xs)) same ∙ sym (if-denied _ _ (length xs) 32 long)

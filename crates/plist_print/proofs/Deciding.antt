@@ -3,11 +3,11 @@ use Rattle.std.proofs.Common.{◌≡◌, ℕ, zero, suc, ◌+◌, ◌-◌, ◌*�
 use Rattle.std.specs.Prelude.{nat_le, nat_lt, if◌then◌else◌}
 use Rattle.std.proofs.lemmas.Bool.{cases_Bool}
 use Rattle.std.proofs.lemmas.Nat.{mul-le, div-add-mod', mod_below}
-use Rattle.std.proofs.Math.Nat.{pow-le-pow_right, div-mul-le_self, mod-eq-sub-div-mul}
+use Rattle.std.proofs.Math.Nat.{pow-le-pow_right}
 use Rattle.plist_print.specs.Reals.{Format, Placed, single, double, value_of, nearest, reads_as, shortest, placed_in, decimal_of, last_digits}
 use Rattle.plist_print.specs.Shown.{halved}
 use Rattle.plist_print.proofs.Scaling.{shortest-halved}
-use Rattle.plist_print.proofs.Compared.{is-denied, le-denied, le-tells, lt-denied, lt-tells}
+use Rattle.plist_print.proofs.Compared.{lt-denied, lt-tells}
 
 -- the numerator that is tried at a power of ten
 abbrev pub tried : Placed → ℕ → Option ℕ
@@ -54,21 +54,6 @@ shortest-more x over digits power h e =
 pub shortest-none : (x : Placed) (digits : ℕ) → 22 ≤ digits → shortest x (22 - digits) digits ≡ None
 shortest-none x digits h = let none : 22 - digits ≡ 0 = omega arith in ap (λ m. shortest x m digits) none
 
--- the number that is compared is twice the numerator, as a multiple of the unit
-pub reads-told : (x : Placed) (over total : ℕ) → 0 < x.unit → total ≡ 2 * (x.here * over) + x.unit → total < 2 ^ 128
-    → reads_as x over (nearest x over) ≡ (nat_le ((x.below + x.here) * over) (total - total % (2 * x.unit)) && nat_lt (total - total % (2 * x.unit)) ((x.here + x.above) * over))
-reads-told x over total pos is short =
-    let n = total / (2 * x.unit) in
-    let near : nearest x over ≡ n = ap (λ t. t / (2 * x.unit)) (sym is) in
-    let rest = mod-eq-sub-div-mul total (2 * x.unit) in
-    let within = div-mul-le_self total (2 * x.unit) in
-    let turned : n * (2 * x.unit) ≡ 2 * (n * x.unit) = grind arith in
-    let middle : 2 * (n * x.unit) ≡ total - total % (2 * x.unit) = omega arith in
-    let one : n * 1 ≤ n * (2 * x.unit) = mul-le n 1 n (2 * x.unit) (omega arith) (omega arith) in
-    let fits : nat_lt n (2 ^ 128) ≡ true = lt-tells n (2 ^ 128) (omega arith) in
-    ap (reads_as x over) near ∙ ap (λ t. t && (nat_le ((x.below + x.here) * over) (2 * (n * x.unit)) && nat_lt (2 * (n * x.unit)) ((x.here + x.above) * over))) fits
-    ∙ ap (λ m. nat_le ((x.below + x.here) * over) m && nat_lt m ((x.here + x.above) * over)) middle
-
 pub zero-double : decimal_of double 0 ≡ Some (0, 1)
 unfolding decimal_of value_of
 zero-double = refl
@@ -78,30 +63,22 @@ unfolding decimal_of value_of
 zero-single = refl
 
 -- a real out of the range of the format
-pub decimal-low : (f : Format) (bits : ℕ) → (bits ≡ 0 → ⊥) → bits / f.hidden < f.from → decimal_of f bits ≡ None
+pub decimal-high : (f : Format) (bits : ℕ) → f.to ≤ bits / f.hidden → decimal_of f bits ≡ None
 unfolding decimal_of
-decimal-low f bits some low = rw (is-denied bits 0 some, le-denied f.from (bits / f.hidden) low) refl
-
-pub decimal-high : (f : Format) (bits : ℕ) → (bits ≡ 0 → ⊥) → f.to ≤ bits / f.hidden → decimal_of f bits ≡ None
-unfolding decimal_of
-decimal-high f bits some high = elim (cases_Bool (nat_le f.from (bits / f.hidden))) [
-  | inl is ↦ rw (is-denied bits 0 some, is, lt-denied (bits / f.hidden) f.to high) refl
-  | inr not ↦ rw (is-denied bits 0 some, not) refl
-]
+decimal-high f bits high = rw (lt-denied (bits / f.hidden) f.to high) refl
 
 -- a real in the range of the format
-pub decimal-near : (f : Format) (bits exponent fraction shift : ℕ) → (bits ≡ 0 → ⊥) → 0 < f.hidden → exponent ≡ bits / f.hidden → fraction ≡ bits % f.hidden → 2 ≤ exponent → f.from ≤ exponent → exponent < f.to → shift + (exponent - 2) ≡ f.one
+pub decimal-near : (f : Format) (bits exponent fraction shift : ℕ) → 0 < f.hidden → exponent ≡ bits / f.hidden → fraction ≡ bits % f.hidden → 2 ≤ exponent → exponent < f.to → shift + (exponent - 2) ≡ f.one
     → decimal_of f bits ≡ shortest (halved f.hidden fraction shift) 21 1
 unfolding decimal_of
-decimal-near f bits exponent fraction shift some pos e t two low high split =
+decimal-near f bits exponent fraction shift pos e t two high split =
     let whole = div-add-mod' bits f.hidden in
     let within : fraction < f.hidden = subst (λ (m : ℕ). m < f.hidden) (sym t) (mod_below bits f.hidden pos) in
     let q = exponent - 2 in
     let next : suc (suc q) ≡ exponent = omega arith in
     let is : bits ≡ suc (suc q) * f.hidden + fraction = sym whole ∙ ap (λ m. m * f.hidden + bits % f.hidden) (sym e ∙ sym next) ∙ ap (λ m. suc (suc q) * f.hidden + m) (sym t) in
-    let from : nat_le f.from (bits / f.hidden) ≡ true = ap (nat_le f.from) (sym e) ∙ le-tells f.from exponent low in
     let to : nat_lt (bits / f.hidden) f.to ≡ true = ap (λ m. nat_lt m f.to) (sym e) ∙ lt-tells exponent f.to high in
-    rw (is-denied bits 0 some, from, to) (ap (λ b. shortest (placed_in f b) 21 1) is ∙ shortest-halved f q fraction shift within split)
+    rw to (ap (λ b. shortest (placed_in f b) 21 1) is ∙ shortest-halved f q fraction shift within split)
 
 pub some-power : (digits : ℕ) → 0 < 10 ^ digits
 some-power zero = omega arith

@@ -1,11 +1,13 @@
 -- The number of digits from which on a decimal is searched.
 use Rattle.std.proofs.Common.{◌≡◌, ℕ, zero, suc, ◌+◌, ◌-◌, ◌*◌, ◌/◌, ◌^◌, ◌<◌, ◌≤◌, true, None, refl, sym, ap, subst, ◌∙◌, arith, inl, inr}
-use Rattle.std.proofs.lemmas.Bool.{cases_Bool}
+use Rattle.std.specs.Prelude.{nat_lt}
+use Rattle.std.proofs.lemmas.Bool.{cases_Bool, cases_lt}
 use Rattle.std.proofs.lemmas.Nat.{mul-le, le-div, pow-add}
-use Rattle.std.proofs.Math.Nat.{mul-lt-mul_of_pos_right}
-use Rattle.plist_print.specs.Reals.{Placed, nearest, reads_as, shortest}
+use Rattle.std.proofs.Math.Nat.{mul-lt-mul_of_pos_right, div-lt_iff_lt-mul}
+use Rattle.plist_print.specs.Reals.{Format, single, double, Placed, value_of, nearest, reads_as, shortest, placed_in, decimal_of}
 use Rattle.plist_print.specs.Shown.{IsUnread}
-use Rattle.plist_print.proofs.Neighbours.{between}
+use Rattle.plist_print.proofs.Neighbours.{between, value-ascends}
+use Rattle.plist_print.proofs.Compared.{lt-told}
 use Rattle.plist_print.proofs.Deciding.{tried, some-power, shortest-more}
 
 -- if no numerator reads over a greater power of ten, none does over a smaller one
@@ -53,3 +55,45 @@ unread-last x over high last pos is near small = λ n low upper.
     let within : n ≤ (high - 1) / (2 * x.unit) = le-div n (high - 1) (2 * x.unit) (omega arith) (omega arith) in
     let most : n * (2 * x.unit) ≤ last * (2 * x.unit) = mul-le n (2 * x.unit) last (2 * x.unit) (omega arith) (omega arith) in
     omega arith
+
+-- A real above 0 is unread by 21 digits if it is less than half of the last.
+unread-low : (f : Format) (bits from : ℕ) → 0 < f.hidden → 0 < value_of f.hidden 1 → value_of f.hidden (from * f.hidden) * 10 ^ 21 < 2 ^ f.one → 0 < bits → bits / f.hidden < from → IsUnread (placed_in f bits) (10 ^ 21)
+unread-low f bits from pos first small some low = λ n lower upper.
+    let h = f.hidden in
+    let unit = 2 ^ f.one in
+    let over = 10 ^ 21 in
+    let within : bits < from * h = (div-lt_iff_lt-mul {k = h} {x = bits} {y = from} pos).0 low in
+    let one = value-ascends h 1 bits pos some in
+    let here = value-ascends h bits (suc bits) pos (omega arith) in
+    let last = value-ascends h (suc bits) (from * h) pos (omega arith) in
+    elim (cases_lt 0 n) [
+      | inl more ↦ (
+          let least : 1 * unit ≤ n * unit = mul-le 1 unit n unit more (omega arith) in
+          omega arith
+          )
+      | inr none ↦ (
+          let empty : n ≡ 0 = omega arith in
+          let zero-is : n * unit ≡ 0 * unit = ap (λ m. m * unit) empty in
+          omega arith
+          )
+    ]
+
+-- such a real has no decimal
+pub decimal-low : (f : Format) (bits from : ℕ) → 0 < f.hidden → 0 < value_of f.hidden 1 → value_of f.hidden (from * f.hidden) * 10 ^ 21 < 2 ^ f.one → 0 < bits → bits / f.hidden < from → decimal_of f bits ≡ None
+unfolding decimal_of
+decimal-low f bits from pos first small some low = elim (cases_Bool (nat_lt (bits / f.hidden) f.to)) [
+  | inl is ↦ rw is (sym (shortest-skipped (placed_in f bits) (10 ^ 21) 1 21 refl (omega arith) (omega arith) (unread-low f bits from pos first small some low)))
+  | inr not ↦ rw not refl
+]
+
+low-by : (f : Format) (from : ℕ) → nat_lt (value_of f.hidden (from * f.hidden) * 10 ^ 21) (2 ^ f.one) ≡ true → value_of f.hidden (from * f.hidden) * 10 ^ 21 < 2 ^ f.one
+low-by f from e = lt-told (value_of f.hidden (from * f.hidden) * 10 ^ 21) (2 ^ f.one) e
+
+-- reals below 2^-73
+pub double-low : (bits : ℕ) → (bits ≡ 0 → ⊥) → bits / 4503599627370496 < 950 → decimal_of double bits ≡ None
+unfolding value_of
+double-low bits some low = decimal-low double bits 950 (omega arith) (omega arith) (low-by double 950 refl) (omega (arith, some)) low
+
+pub single-low : (bits : ℕ) → (bits ≡ 0 → ⊥) → bits / 8388608 < 54 → decimal_of single bits ≡ None
+unfolding value_of
+single-low bits some low = decimal-low single bits 54 (omega arith) (omega arith) (low-by single 54 refl) (omega (arith, some)) low

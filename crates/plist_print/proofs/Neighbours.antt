@@ -4,9 +4,9 @@ use Rattle.std.specs.Prelude.{nat_le, nat_lt}
 use Rattle.std.proofs.lemmas.Bool.{cases_Bool, and_parts, cases_lt}
 use Rattle.std.proofs.lemmas.Bool.Decides.{nat_tests}
 use Rattle.std.proofs.lemmas.Nat.{mul-le, div-mul-add, mod-mul-add, div-add-mod', mod_below}
-use Rattle.std.proofs.Math.Nat.{pow-suc}
-use Rattle.plist_print.specs.Reals.{Format, Placed, value_of, nearest, reads_as, shortest, placed_in, decimal_of, is_moderate}
-use Rattle.plist_print.proofs.Compared.{le-told, lt-told}
+use Rattle.std.proofs.Math.Nat.{pow-suc, div-lt_iff_lt-mul, pow-le-pow_right}
+use Rattle.plist_print.specs.Reals.{Format, single, double, Placed, value_of, nearest, reads_as, shortest, placed_in, decimal_of}
+use Rattle.plist_print.proofs.Compared.{le-told, lt-told, gt-told}
 
 below-hidden : (h b : ℕ) → b < h → value_of h b ≡ b
 unfolding value_of
@@ -112,16 +112,13 @@ value-ascends h a b pos le =
 
 -- a decimal that reads as a real is between the midpoints to its neighbours
 pub record Between (x : Placed) (over n : ℕ) : Type 0 where
-  pub short : n < 2 ^ 128
   pub from : (x.below + x.here) * over ≤ 2 * (n * x.unit)
   pub to : 2 * (n * x.unit) < (x.here + x.above) * over
 
 pub between : (x : Placed) (over n : ℕ) → reads_as x over n ≡ true → Between x over n
 between x over n e =
-    let three = and_parts (nat_lt n (2 ^ 128)) (nat_le ((x.below + x.here) * over) (2 * (n * x.unit)) && nat_lt (2 * (n * x.unit)) ((x.here + x.above) * over)) e in
-    let both = and_parts (nat_le ((x.below + x.here) * over) (2 * (n * x.unit))) (nat_lt (2 * (n * x.unit)) ((x.here + x.above) * over)) three.1 in
+    let both = and_parts (nat_le ((x.below + x.here) * over) (2 * (n * x.unit))) (nat_lt (2 * (n * x.unit)) ((x.here + x.above) * over)) e in
     record {
-      short = lt-told n (2 ^ 128) three.0;
       from = le-told ((x.below + x.here) * over) (2 * (n * x.unit)) both.0;
       to = lt-told (2 * (n * x.unit)) ((x.here + x.above) * over) both.1;
     }
@@ -147,16 +144,28 @@ one-real f a b over n pos x y = elim (cases_lt a b) [
 ]
 
 -- the decimal found reads as the real
-pub shortest-reads : (x : Placed) (more digits n k : ℕ) → shortest x more digits ≡ Some (n, k) → reads_as x (10 ^ k) n ≡ true
+record Reads (x : Placed) (least n k : ℕ) (most : ℕ) : Type 0 where
+  some : least ≤ k
+  few : k < most
+  reads : reads_as x (10 ^ k) n ≡ true
+
+shortest-reads : (x : Placed) (more digits n k : ℕ) → shortest x more digits ≡ Some (n, k) → Reads x digits n k (digits + more)
 shortest-reads x zero digits n k e = absurd (cc)
 shortest-reads x (suc more) digits n k e = elim (cases_Bool (reads_as x (10 ^ digits) (nearest x (10 ^ digits)))) [
   | inl is ↦ (
       let found : Some (nearest x (10 ^ digits), digits) ≡ Some (n, k) = rw is at e in
       let same_n : nearest x (10 ^ digits) ≡ n = ap (λ (o : Option (ℕ × ℕ)). numerator o) found in
       let same_k : digits ≡ k = ap (λ (o : Option (ℕ × ℕ)). places o) found in
-      subst (λ (m : ℕ). reads_as x (10 ^ k) m ≡ true) same_n (subst (λ (d : ℕ). reads_as x (10 ^ d) (nearest x (10 ^ digits)) ≡ true) same_k is)
+      record {
+        some = omega arith;
+        few = omega arith;
+        reads = subst (λ (m : ℕ). reads_as x (10 ^ k) m ≡ true) same_n (subst (λ (d : ℕ). reads_as x (10 ^ d) (nearest x (10 ^ digits)) ≡ true) same_k is);
+      }
       )
-  | inr not ↦ shortest-reads x more (suc digits) n k (rw not at e)
+  | inr not ↦ (
+      let rest = shortest-reads x more (suc digits) n k (rw not at e) in
+      record { some = omega (arith, rest.some); few = omega (arith, rest.few); reads = rest.reads }
+      )
 ]
   where
     numerator : Option (ℕ × ℕ) → ℕ
@@ -167,9 +176,72 @@ shortest-reads x (suc more) digits n k e = elim (cases_Bool (reads_as x (10 ^ di
     places None = 0
     places (Some d) = d.1
 
-pub decimal-reads : (f : Format) (bits n k : ℕ) → decimal_of f bits ≡ Some (n, k) → reads_as (placed_in f bits) (10 ^ k) n ≡ true
+pub record IsDecimal (f : Format) (bits n k : ℕ) : Type 0 where
+  pub small : bits / f.hidden < f.to
+  pub some : 1 ≤ k
+  pub few : k ≤ 21
+  pub reads : reads_as (placed_in f bits) (10 ^ k) n ≡ true
+
+pub decimal-is : (f : Format) (bits n k : ℕ) → decimal_of f bits ≡ Some (n, k) → IsDecimal f bits n k
 unfolding decimal_of
-decimal-reads f bits n k e = elim (cases_Bool (is_moderate f bits)) [
-  | inl is ↦ shortest-reads (placed_in f bits) 21 1 n k (rw is at e)
+decimal-is f bits n k e = elim (cases_Bool (nat_lt (bits / f.hidden) f.to)) [
+  | inl is ↦ (
+      let found = shortest-reads (placed_in f bits) 21 1 n k (rw is at e) in
+      record { small = lt-told (bits / f.hidden) f.to is; some = found.some; few = omega (arith, found.few); reads = found.reads }
+      )
   | inr not ↦ absurd (let none : None ≡ Some (n, k) = rw not at e in cc)
 ]
+
+-- the properties that formats have
+pub record IsFormat (f : Format) : Type 0 where
+  pub positive : 0 < f.hidden
+  pub limit : value_of f.hidden (f.to * f.hidden) ≤ 2 ^ 54 * 2 ^ f.one
+  pub halves : (x y : ℕ) → x < 256 ^ f.octets → y < 256 ^ f.octets → nat_le f.sign x ≡ nat_le f.sign y → x % f.sign ≡ y % f.sign → x ≡ y
+
+halves-4 : (x y : ℕ) → x < 4294967296 → y < 4294967296 → nat_le 2147483648 x ≡ nat_le 2147483648 y → x % 2147483648 ≡ y % 2147483648 → x ≡ y
+halves-4 x y h k same e = elim (cases_Bool (nat_le 2147483648 x)) [
+  | inl high ↦ (let a = le-told 2147483648 x high in let b = le-told 2147483648 y (sym same ∙ high) in omega arith)
+  | inr low ↦ (let a = gt-told 2147483648 x low in let b = gt-told 2147483648 y (sym same ∙ low) in omega arith)
+]
+
+halves-8 : (x y : ℕ) → x < 18446744073709551616 → y < 18446744073709551616 → nat_le 9223372036854775808 x ≡ nat_le 9223372036854775808 y → x % 9223372036854775808 ≡ y % 9223372036854775808 → x ≡ y
+halves-8 x y h k same e = elim (cases_Bool (nat_le 9223372036854775808 x)) [
+  | inl high ↦ (let a = le-told 9223372036854775808 x high in let b = le-told 9223372036854775808 y (sym same ∙ high) in omega arith)
+  | inr low ↦ (let a = gt-told 9223372036854775808 x low in let b = gt-told 9223372036854775808 y (sym same ∙ low) in omega arith)
+]
+
+limit-of : (f : Format) → nat_le (value_of f.hidden (f.to * f.hidden)) (2 ^ 54 * 2 ^ f.one) ≡ true → value_of f.hidden (f.to * f.hidden) ≤ 2 ^ 54 * 2 ^ f.one
+limit-of f e = le-told (value_of f.hidden (f.to * f.hidden)) (2 ^ 54 * 2 ^ f.one) e
+
+pub single-format : IsFormat single
+unfolding value_of
+single-format = record { positive = omega arith; limit = limit-of single refl; halves = halves-4 }
+
+pub double-format : IsFormat double
+unfolding value_of
+double-format = record { positive = omega arith; limit = limit-of double refl; halves = halves-8 }
+
+-- the numerator of a decimal has at most 128 bits
+pub decimal-short : (f : Format) (bits n k : ℕ) → IsFormat f → IsDecimal f bits n k → n < 2 ^ 128
+decimal-short f bits n k format is =
+    let h = f.hidden in
+    let unit = 2 ^ f.one in
+    let p = between (placed_in f bits) (10 ^ k) n is.reads in
+    let within : bits < f.to * h = (div-lt_iff_lt-mul {k = h} {x = bits} {y = f.to} format.positive).0 is.small in
+    let last = value-ascends h (suc bits) (f.to * h) format.positive (omega arith) in
+    let here = value-ascends h bits (suc bits) format.positive (omega arith) in
+    let most : value_of h bits + value_of h (suc bits) ≤ 2 * (2 ^ 54 * unit) = (let limit = format.limit in omega arith) in
+    let over : (value_of h bits + value_of h (suc bits)) * 10 ^ k ≤ 2 * (2 ^ 54 * unit) * 10 ^ k = mul-le (value_of h bits + value_of h (suc bits)) (10 ^ k) (2 * (2 ^ 54 * unit)) (10 ^ k) most (omega arith) in
+    let turned : 2 * (2 ^ 54 * unit) * 10 ^ k ≡ 2 * (2 ^ 54 * 10 ^ k * unit) = grind arith in
+    elim (cases_lt n (2 ^ 54 * 10 ^ k)) [
+      | inl below ↦ (
+          let power : 10 ^ k ≤ 10 ^ 21 = pow-le-pow_right {n = 10} (omega arith) is.few in
+          let all : 2 ^ 54 * 10 ^ k ≤ 2 ^ 54 * 10 ^ 21 = mul-le (2 ^ 54) (10 ^ k) (2 ^ 54) (10 ^ 21) (omega arith) power in
+          omega arith
+          )
+      | inr above ↦ absurd (
+          let many : 2 ^ 54 * 10 ^ k * unit ≤ n * unit = mul-le (2 ^ 54 * 10 ^ k) unit n unit above (omega arith) in
+          let to = p.to in
+          omega arith
+          )
+    ]

@@ -2,7 +2,6 @@
 use Rattle.std.proofs.Common.{◌≡◌, ℕ, zero, suc, ◌+◌, ◌-◌, ◌*◌, ◌/◌, ◌%◌, ◌^◌, ◌<◌, ◌≤◌, Bool, true, false, List, ◌∷◌, ◌++◌, length, Option, Some, None, refl, ap, ◌∙◌, arith, length-append}
 use Rattle.std.specs.Prelude.{codes, decimal, ◌==◌, nat_le, nat_lt, ℤ, pos, negsuc, if◌then◌else◌}
 use Rattle.std.specs.Fmt.{signed_decimal, sign_text}
-use Rattle.std.proofs.lemmas.Bool.{and_parts}
 use Rattle.std.proofs.lemmas.Fmt.{length-decimal-le_wide}
 use Rattle.std.proofs.lemmas.Int.{ints}
 use Rattle.std.proofs.lemmas.Nat.{pow-add}
@@ -10,9 +9,9 @@ use Rattle.std.proofs.Math.Nat.{div-lt_iff_lt-mul, pow-le-pow_right}
 use Rattle.byteorder.specs.Endian.{big_number}
 use Rattle.plist_value.specs.Plist.{IsWhole}
 use Rattle.plist_print.specs.Units.{printed_data}
-use Rattle.plist_print.specs.Reals.{Format, double, Placed, nearest, reads_as, shortest, decimal_of, is_moderate, placed_in, last_digits, printed_decimal, printed_finite, printed_size, printed_real}
-use Rattle.plist_print.specs.Dates.{year_of, month_of, days_before, days_of_months, printed_month, printed_day, printed_time, printed_moment, second_of, in_brackets, printed_date}
-use Rattle.plist_print.proofs.Compared.{lt-told}
+use Rattle.plist_print.specs.Reals.{Format, double, decimal_of, last_digits, printed_decimal, printed_finite, printed_size, printed_real}
+use Rattle.plist_print.specs.Dates.{year_of, month_of, days_before, days_of_months, printed_day, printed_time, printed_moment, second_of, in_brackets, printed_date}
+use Rattle.plist_print.proofs.Neighbours.{decimal-is, decimal-short, IsFormat, double-format}
 use Rattle.plist_print.proofs.Deciding.{some-power}
 use Rattle.plist_print.proofs.RealFronts.{last-long}
 use Rattle.plist_print.proofs.TextBounds.{if-long, data-long}
@@ -22,19 +21,10 @@ abbrev Few : Option (ℕ × ℕ) → Type 0
 Few None = Unit {0}
 Few (Some d) = (d.0 < 2 ^ 128) × (1 ≤ d.1) × (d.1 ≤ 21)
 
-if-few : (b : Bool) (o p : Option (ℕ × ℕ)) → (b ≡ true → Few o) → Few p → Few (if b then o else p)
-if-few true o p h k = h refl
-if-few false o p h k = k
-
-shortest-few : (x : Placed) (more digits : ℕ) → 1 ≤ digits → more + digits ≤ 22 → Few (shortest x more digits)
-shortest-few x zero digits low high = tt
-shortest-few x (suc more) digits low high =
-    if-few (reads_as x (10 ^ digits) (nearest x (10 ^ digits))) _ _ (λ reads. (lt-told _ (2 ^ 128) (and_parts _ _ reads).0, low, omega (arith, high))) (shortest-few x more (suc digits) (omega arith) (omega (arith, high)))
-
-decimal-few : (f : Format) (bits : ℕ) → Few (decimal_of f bits)
-unfolding decimal_of
-decimal-few f bits =
-    if-few (is_moderate f bits) _ _ (λ moderate. shortest-few (placed_in f bits) 21 1 (omega arith) (omega arith)) tt
+decimal-few : (f : Format) (bits : ℕ) → IsFormat f → (o : Option (ℕ × ℕ)) → decimal_of f bits ≡ o → Few o
+decimal-few f bits format None e = tt
+decimal-few f bits format (Some d) e =
+    let is = decimal-is f bits d.0 d.1 e in (decimal-short f bits d.0 d.1 format is, is.some, is.few)
 
 decimal-long : (n k : ℕ) → n < 2 ^ 128 → 1 ≤ k → k ≤ 21 → length (printed_decimal n k) ≤ 40
 decimal-long n k fits some few =
@@ -55,43 +45,37 @@ finite-long xs None short few =
     let all = length-append (codes "real ") (printed_data xs) in
     omega (arith, short, octets, all)
 
-size-long : (f : Format) (xs : List ℕ) (bits : ℕ) → length xs ≤ 8 → length (printed_size f xs bits) ≤ 40
-size-long f xs bits short =
+size-long : (f : Format) (xs : List ℕ) (bits : ℕ) → IsFormat f → length xs ≤ 8 → length (printed_size f xs bits) ≤ 40
+size-long f xs bits format short =
     let octets = data-long xs in
     let all = length-append (codes "nan ") (printed_data xs) in
-    if-long (nat_lt bits f.infinite) _ _ 40 (finite-long xs (decimal_of f bits) short (decimal-few f bits)) (if-long (bits == f.infinite) _ _ 40 (omega arith) (omega (arith, short, octets, all)))
+    if-long (nat_lt bits f.infinite) _ _ 40 (finite-long xs (decimal_of f bits) short (decimal-few f bits format (decimal_of f bits) refl)) (if-long (bits == f.infinite) _ _ 40 (omega arith) (omega (arith, short, octets, all)))
 
 sign-long : (negative : Bool) → length (sign_text negative) ≤ 1
 sign-long true = omega arith
 sign-long false = omega arith
 
-pub real-long : (f : Format) (xs : List ℕ) → length xs ≤ 8 → length (printed_real f xs) ≤ 41
-real-long f xs short =
+pub real-long : (f : Format) (xs : List ℕ) → IsFormat f → length xs ≤ 8 → length (printed_real f xs) ≤ 41
+real-long f xs format short =
     let bits = big_number f.octets xs in
     let sign = sign-long (nat_le f.sign bits) in
-    let size = size-long f xs (bits % f.sign) short in
+    let size = size-long f xs (bits % f.sign) format short in
     let all = length-append (sign_text (nat_le f.sign bits)) (printed_size f xs (bits % f.sign)) in
     omega (arith, sign, size, all)
-
-month-long : (year day : ℕ) → length (printed_month year day) ≡ 5
-unfolding printed_month
-month-long year day =
-    let month = month_of year day in
-    let last = day - days_of_months year (month - 1) + 1 in
-    let first = last-long 2 month in
-    let second = last-long 2 last in
-    let all = length-append (last_digits 2 month) (45 ∷ last_digits 2 last) in
-    omega (arith, first, second, all)
 
 day-long : (day : ℕ) → length (printed_day day) ≡ 10
 unfolding printed_day
 day-long day =
     let year = year_of day in
-    let rest = printed_month year (day - days_before year) in
+    let left = day - days_before year in
+    let month = month_of year left in
+    let last = left - days_of_months year (month - 1) + 1 in
     let first = last-long 4 year in
-    let behind = month-long year (day - days_before year) in
-    let all = length-append (last_digits 4 year) (45 ∷ rest) in
-    omega (arith, first, behind, all)
+    let second = last-long 2 month in
+    let third = last-long 2 last in
+    let outer = length-append (last_digits 4 year) (45 ∷ (last_digits 2 month ++ (45 ∷ last_digits 2 last))) in
+    let inner = length-append (last_digits 2 month) (45 ∷ last_digits 2 last) in
+    omega (arith, first, second, third, outer, inner)
 
 time-long : (second : ℕ) → length (printed_time second) ≡ 8
 unfolding printed_time
@@ -124,7 +108,7 @@ brackets-long (Some second) =
 
 pub date-long : (xs : List ℕ) → length xs ≤ 8 → length (printed_date xs) ≤ 64
 date-long xs short =
-    let seconds = real-long double xs short in
+    let seconds = real-long double xs double-format short in
     let brackets = brackets-long (second_of xs) in
     let all = length-append (printed_real double xs) (in_brackets (second_of xs)) in
     omega (arith, seconds, brackets, all)

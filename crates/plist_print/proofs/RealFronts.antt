@@ -20,7 +20,7 @@ use Rattle.plist_print.specs.Reals.{Format, single, double, reads_as, placed_in,
 use Rattle.plist_print.specs.Dates.{second_of, in_brackets, printed_date}
 use Rattle.plist_print.proofs.Fronts.{head_of, tail_of, heads, tails, EndsDigits, digits-front, kind_of_head, digits-kind}
 use Rattle.plist_print.proofs.UnitFronts.{data-front}
-use Rattle.plist_print.proofs.Neighbours.{between, one-real, decimal-reads}
+use Rattle.plist_print.proofs.Neighbours.{one-real, decimal-is, decimal-short, IsFormat, double-format}
 use Rattle.plist_print.proofs.Compared.{equal, gt-told, le-told}
 
 -- the ways to print a real without its sign
@@ -169,21 +169,21 @@ record Shaped (f : Format) (xs : List ℕ) (bits : ℕ) : Type 0 where
   valid : IsShape shape
   is : printed_size f xs bits ≡ text_of shape
 
-shaped-finite : (f : Format) (xs : List ℕ) (bits : ℕ) → AreOctets xs → nat_lt bits f.infinite ≡ true → (o : Option (ℕ × ℕ)) → decimal_of f bits ≡ o → Shaped f xs bits
-shaped-finite f xs bits octets low (Some d) e =
-    let reads = decimal-reads f bits d.0 d.1 e in
+shaped-finite : (f : Format) (xs : List ℕ) (bits : ℕ) → IsFormat f → AreOctets xs → nat_lt bits f.infinite ≡ true → (o : Option (ℕ × ℕ)) → decimal_of f bits ≡ o → Shaped f xs bits
+shaped-finite f xs bits format octets low (Some d) e =
+    let is = decimal-is f bits d.0 d.1 e in
     record {
       shape = as_decimal d.0 d.1;
-      sized = finite d.0 d.1 reads;
-      valid = (between (placed_in f bits) (10 ^ d.1) d.0 reads).short;
+      sized = finite d.0 d.1 is.reads;
+      valid = decimal-short f bits d.0 d.1 format is;
       is = rw (low, e) refl;
     }
-shaped-finite f xs bits octets low None e =
+shaped-finite f xs bits format octets low None e =
     record { shape = as_octets xs; sized = far; valid = octets; is = rw (low, e) refl }
 
-shaped : (f : Format) (xs : List ℕ) (bits : ℕ) → AreOctets xs → Shaped f xs bits
-shaped f xs bits octets = elim (cases_Bool (nat_lt bits f.infinite)) [
-  | inl low ↦ shaped-finite f xs bits octets low (decimal_of f bits) refl
+shaped : (f : Format) (xs : List ℕ) (bits : ℕ) → IsFormat f → AreOctets xs → Shaped f xs bits
+shaped f xs bits format octets = elim (cases_Bool (nat_lt bits f.infinite)) [
+  | inl low ↦ shaped-finite f xs bits format octets low (decimal_of f bits) refl
   | inr high ↦ elim (cases_Bool (bits == f.infinite)) [
     | inl is ↦ record { shape = endless; sized = infinite (equal bits f.infinite is); valid = tt; is = rw (high, is) refl }
     | inr not ↦ record { shape = no_number xs; sized = none; valid = octets; is = rw (high, not) refl }
@@ -235,29 +235,6 @@ same-bits f xs ys a b _ _ pos h e none (finite m j also) = absurd (let x : 3 ≡
 same-bits f xs ys a b _ _ pos h e none far = absurd (let x : 3 ≡ 1 = ap rank e in omega arith)
 same-bits f xs ys a b _ _ pos h e none (infinite was) = absurd (let x : 3 ≡ 2 = ap rank e in omega arith)
 
--- the properties that formats have
-pub record IsFormat (f : Format) : Type 0 where
-  pub positive : 0 < f.hidden
-  pub halves : (x y : ℕ) → x < 256 ^ f.octets → y < 256 ^ f.octets → nat_le f.sign x ≡ nat_le f.sign y → x % f.sign ≡ y % f.sign → x ≡ y
-
-halves-4 : (x y : ℕ) → x < 4294967296 → y < 4294967296 → nat_le 2147483648 x ≡ nat_le 2147483648 y → x % 2147483648 ≡ y % 2147483648 → x ≡ y
-halves-4 x y h k same e = elim (cases_Bool (nat_le 2147483648 x)) [
-  | inl high ↦ (let a = le-told 2147483648 x high in let b = le-told 2147483648 y (sym same ∙ high) in omega arith)
-  | inr low ↦ (let a = gt-told 2147483648 x low in let b = gt-told 2147483648 y (sym same ∙ low) in omega arith)
-]
-
-halves-8 : (x y : ℕ) → x < 18446744073709551616 → y < 18446744073709551616 → nat_le 9223372036854775808 x ≡ nat_le 9223372036854775808 y → x % 9223372036854775808 ≡ y % 9223372036854775808 → x ≡ y
-halves-8 x y h k same e = elim (cases_Bool (nat_le 9223372036854775808 x)) [
-  | inl high ↦ (let a = le-told 9223372036854775808 x high in let b = le-told 9223372036854775808 y (sym same ∙ high) in omega arith)
-  | inr low ↦ (let a = gt-told 9223372036854775808 x low in let b = gt-told 9223372036854775808 y (sym same ∙ low) in omega arith)
-]
-
-pub single-format : IsFormat single
-single-format = record { positive = omega arith; halves = halves-4 }
-
-pub double-format : IsFormat double
-double-format = record { positive = omega arith; halves = halves-8 }
-
 -- if printed reals are equal up to what ends their digits, whatever their formats, then what
 -- follows is equal
 record Parts (f g : Format) (xs ys : List ℕ) (x y : List ℕ) : Type 0 where
@@ -269,20 +246,20 @@ record Parts (f g : Format) (xs ys : List ℕ) (x y : List ℕ) : Type 0 where
   shapes : left ≡ right
   behind : x ≡ y
 
-parts : (f g : Format) (xs ys : List ℕ) (c d : ℕ) (r s : List ℕ) → AreOctets xs → AreOctets ys → EndsDigits c → EndsDigits d
+parts : (f g : Format) (xs ys : List ℕ) (c d : ℕ) (r s : List ℕ) → IsFormat f → IsFormat g → AreOctets xs → AreOctets ys → EndsDigits c → EndsDigits d
     → printed_real f xs ++ (c ∷ r) ≡ printed_real g ys ++ (d ∷ s) → Parts f g xs ys (c ∷ r) (d ∷ s)
-parts f g xs ys c d r s h k p q same =
-    let a = shaped f xs (big_number f.octets xs % f.sign) h in
-    let b = shaped g ys (big_number g.octets ys % g.sign) k in
+parts f g xs ys c d r s u v h k p q same =
+    let a = shaped f xs (big_number f.octets xs % f.sign) u h in
+    let b = shaped g ys (big_number g.octets ys % g.sign) v k in
     let minus = nat_le f.sign (big_number f.octets xs) in
     let minus' = nat_le g.sign (big_number g.octets ys) in
     let texts = sym (ap (λ t. (sign_text minus ++ t) ++ (c ∷ r)) a.is) ∙ same ∙ ap (λ t. (sign_text minus' ++ t) ++ (d ∷ s)) b.is in
     let three = signed-front minus minus' a.shape b.shape c d r s a.valid b.valid p q texts in
     record { signs = three.0; left = a.shape; right = b.shape; sized_left = a.sized; sized_right = b.sized; shapes = three.1; behind = three.2 }
 
-pub reals-part : (f g : Format) (xs ys : List ℕ) (c d : ℕ) (r s : List ℕ) → AreOctets xs → AreOctets ys → EndsDigits c → EndsDigits d
+pub reals-part : (f g : Format) (xs ys : List ℕ) (c d : ℕ) (r s : List ℕ) → IsFormat f → IsFormat g → AreOctets xs → AreOctets ys → EndsDigits c → EndsDigits d
     → printed_real f xs ++ (c ∷ r) ≡ printed_real g ys ++ (d ∷ s) → c ∷ r ≡ d ∷ s
-reals-part f g xs ys c d r s h k p q same = (parts f g xs ys c d r s h k p q same).behind
+reals-part f g xs ys c d r s u v h k p q same = (parts f g xs ys c d r s u v h k p q same).behind
 
 octets-same : (n : ℕ) (xs ys : List ℕ) → IsOctetsOf n xs → IsOctetsOf n ys → big_number n xs ≡ big_number n ys → xs ≡ ys
 octets-same n xs ys h k same =
@@ -297,7 +274,7 @@ octets-same n xs ys h k same =
 pub real-front : (f : Format) (xs ys : List ℕ) (c d : ℕ) (r s : List ℕ) → IsFormat f → IsOctetsOf f.octets xs → IsOctetsOf f.octets ys → EndsDigits c → EndsDigits d
     → printed_real f xs ++ (c ∷ r) ≡ printed_real f ys ++ (d ∷ s) → (xs ≡ ys) × (c ∷ r ≡ d ∷ s)
 real-front f xs ys c d r s format h k p q same =
-    let all = parts f f xs ys c d r s h.octets k.octets p q same in
+    let all = parts f f xs ys c d r s format format h.octets k.octets p q same in
     let x = big_number f.octets xs in
     let y = big_number f.octets ys in
     let sizes : x % f.sign ≡ y % f.sign = same-bits f xs ys (x % f.sign) (y % f.sign) all.left all.right format.positive (ap (λ zs. big_number f.octets zs % f.sign)) all.shapes all.sized_left all.sized_right in
@@ -316,9 +293,9 @@ signed-kind : (b : Bool) (a : Shape) (x : List ℕ) → IsShape a → kind_of_he
 signed-kind true a x h = refl
 signed-kind false a x h = shape-kind a x h
 
-pub real-kind : (f : Format) (xs x : List ℕ) → AreOctets xs → kind_of_head (head_of (printed_real f xs ++ x)) ≡ 1
-real-kind f xs x h =
-    let a = shaped f xs (big_number f.octets xs % f.sign) h in
+pub real-kind : (f : Format) (xs x : List ℕ) → IsFormat f → AreOctets xs → kind_of_head (head_of (printed_real f xs ++ x)) ≡ 1
+real-kind f xs x format h =
+    let a = shaped f xs (big_number f.octets xs % f.sign) format h in
     let minus = nat_le f.sign (big_number f.octets xs) in
     ap (λ t. kind_of_head (head_of ((sign_text minus ++ t) ++ x))) a.is ∙ signed-kind minus a.shape x a.valid
 
@@ -346,9 +323,9 @@ signed-whole false true ds a r x h g same =
 signed-whole false false ds a r x h g same = shape-whole ds a r x h g same
 
 -- no real is printed like an integer
-pub real-whole : (f : Format) (negative : Bool) (ds xs r x : List ℕ) → AllDigits 10 ds → AreOctets xs → (sign_text negative ++ ds) ++ (10 ∷ r) ≡ printed_real f xs ++ x → ⊥
-real-whole f negative ds xs r x h k same =
-    let a = shaped f xs (big_number f.octets xs % f.sign) k in
+pub real-whole : (f : Format) (negative : Bool) (ds xs r x : List ℕ) → IsFormat f → AllDigits 10 ds → AreOctets xs → (sign_text negative ++ ds) ++ (10 ∷ r) ≡ printed_real f xs ++ x → ⊥
+real-whole f negative ds xs r x format h k same =
+    let a = shaped f xs (big_number f.octets xs % f.sign) format k in
     let minus = nat_le f.sign (big_number f.octets xs) in
     signed-whole negative minus ds a.shape r x h a.valid (same ∙ ap (λ t. (sign_text minus ++ t) ++ x) a.is)
 

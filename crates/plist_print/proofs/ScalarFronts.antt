@@ -18,7 +18,8 @@ use Rattle.plist_print.proofs.UnitFronts.{units-front, data-front, digit-no_end}
 use Rattle.plist_print.proofs.Compared.{unlike}
 use Rattle.plist_print.proofs.DataLines.{if-told, if-denied}
 use Rattle.plist_print.proofs.DataFronts.{lines-front}
-use Rattle.plist_print.proofs.RealFronts.{date-front, single-format, double-format, real-front, reals-part, real-kind, real-whole}
+use Rattle.plist_print.proofs.RealFronts.{date-front, real-front, reals-part, real-kind, real-whole}
+use Rattle.plist_print.proofs.Neighbours.{IsFormat, single-format, double-format}
 
 -- the digits of an integer, without its sign
 abbrev size_of : ℤ → ℕ
@@ -80,8 +81,8 @@ pub scalar-kind : (v : Scalar) (r : List ℕ) → IsScalar v → kind_of_head (h
 scalar-kind (text units) r h = refl
 scalar-kind (whole z) r h = whole-kind z r h
 scalar-kind (flag b) r h = flag-kind b r
-scalar-kind (real4 xs) r h = ap (λ l. kind_of_head (head_of l)) (line-4 xs (10 ∷ r)) ∙ real-kind single xs (102 ∷ 10 ∷ r) h.octets
-scalar-kind (real8 xs) r h = real-kind double xs (10 ∷ r) h.octets
+scalar-kind (real4 xs) r h = ap (λ l. kind_of_head (head_of l)) (line-4 xs (10 ∷ r)) ∙ real-kind single xs (102 ∷ 10 ∷ r) single-format h.octets
+scalar-kind (real8 xs) r h = real-kind double xs (10 ∷ r) double-format h.octets
 scalar-kind (moment xs) r h = refl
 scalar-kind (bytes xs) r h = refl
 
@@ -105,9 +106,9 @@ flag-front true false r s same = absurd (let e : 116 ≡ 102 = ap head_of same i
 flag-front false true r s same = absurd (let e : 102 ≡ 116 = ap head_of same in omega arith)
 flag-front false false r s same = (refl, append_cancel_left (codes "false\n") r s same)
 
-no-whole : (f : Format) (z : ℤ) (xs r x : List ℕ) → IsWhole z → AreOctets xs → signed_decimal z ++ (10 ∷ r) ≡ printed_real f xs ++ x → ⊥
-no-whole f (pos n) xs r x h k same = real-whole f false (decimal n) xs r x (size-digits (pos n) h).0 k same
-no-whole f (negsuc n) xs r x h k same = real-whole f true (decimal (suc n)) xs r x (size-digits (negsuc n) h).0 k same
+no-whole : (f : Format) (z : ℤ) (xs r x : List ℕ) → IsFormat f → IsWhole z → AreOctets xs → signed_decimal z ++ (10 ∷ r) ≡ printed_real f xs ++ x → ⊥
+no-whole f (pos n) xs r x format h k same = real-whole f false (decimal n) xs r x format (size-digits (pos n) h).0 k same
+no-whole f (negsuc n) xs r x format h k same = real-whole f true (decimal (suc n)) xs r x format (size-digits (negsuc n) h).0 k same
 
 pub scalar-front : (v w : Scalar) (r s : List ℕ) → IsScalar v → IsScalar w → printed_scalar v ++ (10 ∷ r) ≡ printed_scalar w ++ (10 ∷ s) → (v ≡ w) × (r ≡ s)
 scalar-front (text us) (text ws) r s h k same =
@@ -121,13 +122,13 @@ scalar-front (real4 xs) (real4 ys) r s h k same =
 scalar-front (real8 xs) (real8 ys) r s h k same =
     let both = real-front double xs ys 10 10 r s double-format h k (omega arith) (omega arith) same in (ap real8 both.0, tails 10 10 r s both.1)
 scalar-front (real4 xs) (real8 ys) r s h k same =
-    absurd (let e : 102 ≡ 10 = ap head_of (reals-part single double xs ys 102 10 (10 ∷ r) s h.octets k.octets (omega arith) (omega arith) (sym (line-4 xs (10 ∷ r)) ∙ same)) in omega arith)
+    absurd (let e : 102 ≡ 10 = ap head_of (reals-part single double xs ys 102 10 (10 ∷ r) s single-format double-format h.octets k.octets (omega arith) (omega arith) (sym (line-4 xs (10 ∷ r)) ∙ same)) in omega arith)
 scalar-front (real8 xs) (real4 ys) r s h k same =
-    absurd (let e : 10 ≡ 102 = ap head_of (reals-part double single xs ys 10 102 r (10 ∷ s) h.octets k.octets (omega arith) (omega arith) (same ∙ line-4 ys (10 ∷ s))) in omega arith)
-scalar-front (whole z) (real4 ys) r s h k same = absurd (no-whole single z ys r (102 ∷ 10 ∷ s) h k.octets (same ∙ line-4 ys (10 ∷ s)))
-scalar-front (whole z) (real8 ys) r s h k same = absurd (no-whole double z ys r (10 ∷ s) h k.octets same)
-scalar-front (real4 xs) (whole z) r s h k same = absurd (no-whole single z xs s (102 ∷ 10 ∷ r) k h.octets (sym same ∙ line-4 xs (10 ∷ r)))
-scalar-front (real8 xs) (whole z) r s h k same = absurd (no-whole double z xs s (10 ∷ r) k h.octets (sym same))
+    absurd (let e : 10 ≡ 102 = ap head_of (reals-part double single xs ys 10 102 r (10 ∷ s) double-format single-format h.octets k.octets (omega arith) (omega arith) (same ∙ line-4 ys (10 ∷ s))) in omega arith)
+scalar-front (whole z) (real4 ys) r s h k same = absurd (no-whole single z ys r (102 ∷ 10 ∷ s) single-format h k.octets (same ∙ line-4 ys (10 ∷ s)))
+scalar-front (whole z) (real8 ys) r s h k same = absurd (no-whole double z ys r (10 ∷ s) double-format h k.octets same)
+scalar-front (real4 xs) (whole z) r s h k same = absurd (no-whole single z xs s (102 ∷ 10 ∷ r) single-format k h.octets (sym same ∙ line-4 xs (10 ∷ r)))
+scalar-front (real8 xs) (whole z) r s h k same = absurd (no-whole double z xs s (10 ∷ r) double-format k h.octets (sym same))
 scalar-front (moment xs) (moment ys) r s h k same =
     let both = date-front xs ys r s h k (append_cancel_left (codes "date ") (printed_date xs ++ (10 ∷ r)) (printed_date ys ++ (10 ∷ s)) same) in (ap moment both.0, both.1)
 scalar-front (bytes xs) (bytes ys) r s h k same =
@@ -191,7 +192,7 @@ fronts-by level _ _ r s h k (long xs is) (long ys was) same =
     let right = octet_lines (indent (suc level)) ys in
     let all : enclosed level 60 62 left ++ r ≡ enclosed level 60 62 right ++ s = sym (ap (λ l. l ++ r) is) ∙ same ∙ ap (λ l. l ++ s) was in
     let inner : (left ++ (indent level ++ (62 ∷ 10 ∷ []))) ++ r ≡ (right ++ (indent level ++ (62 ∷ 10 ∷ []))) ++ s = ap (λ l. tail_of (tail_of l)) all in
-    let both = lines-front level ((length xs + 31) / 32) ((length ys + 31) / 32) xs ys r s refl refl h k (sym (append_assoc left (indent level ++ (62 ∷ 10 ∷ [])) r) ∙ inner ∙ append_assoc right (indent level ++ (62 ∷ 10 ∷ [])) s) in
+    let both = lines-front level xs ys r s h k (sym (append_assoc left (indent level ++ (62 ∷ 10 ∷ [])) r) ∙ inner ∙ append_assoc right (indent level ++ (62 ∷ 10 ∷ [])) s) in
     (ap bytes both.0, both.1)
 
 pub line-front : (level : ℕ) (a b : Scalar) (r s : List ℕ) → IsScalar a → IsScalar b → printed_line level a ++ r ≡ printed_line level b ++ s → (a ≡ b) × (r ≡ s)

@@ -63,8 +63,8 @@ reads-scaled k over n x pos =
     ap (λ m. nat_le m (2 * (n * (x.unit * k)))) low ∙ ap (nat_le ((x.below + x.here) * over * k)) middle ∙ le-scaled ((x.below + x.here) * over) (2 * (n * x.unit)) k pos in
     let b : nat_lt (2 * (n * (x.unit * k))) ((x.here * k + x.above * k) * over) ≡ nat_lt (2 * (n * x.unit)) ((x.here + x.above) * over) =
     ap (λ m. nat_lt m ((x.here * k + x.above * k) * over)) middle ∙ ap (nat_lt (2 * (n * x.unit) * k)) high ∙ lt-scaled (2 * (n * x.unit)) ((x.here + x.above) * over) k pos in
-    ap (λ t. nat_lt n (2 ^ 128) && (t && nat_lt (2 * (n * (x.unit * k))) ((x.here * k + x.above * k) * over))) a
-    ∙ ap (λ t. nat_lt n (2 ^ 128) && (nat_le ((x.below + x.here) * over) (2 * (n * x.unit)) && t)) b
+    ap (λ t. t && nat_lt (2 * (n * (x.unit * k))) ((x.here * k + x.above * k) * over)) a
+    ∙ ap (λ t. nat_le ((x.below + x.here) * over) (2 * (n * x.unit)) && t) b
 
 pub shortest-scaled : (k more digits : ℕ) (x : Placed) → 0 < k → shortest (scaled k x) more digits ≡ shortest x more digits
 shortest-scaled k zero digits x pos = refl

@@ -6,10 +6,11 @@ use Rattle.std.specs.Char.Utf16.{surrogate_pair_char}
 use Rattle.std.proofs.lemmas.Bool.{cases_lt}
 use Rattle.std.proofs.lemmas.List.{take-append-drop, length-replicate}
 use Rattle.std.proofs.lemmas.Str.{length-encode, len_utf8_bounds}
+use Rattle.plist_value.specs.Plist.{bytes}
 use Rattle.plist_value.specs.Digits.{two_digits}
 use Rattle.plist_print.specs.Units.{is_unseen, is_seen_pair, printed_data, printed_unit, printed_units, printed_text}
-use Rattle.plist_print.specs.Printed.{indent, enclosed, data_lines, octet_lines, printed_bytes}
-use Rattle.plist_print.proofs.DataLines.{if-told, if-denied}
+use Rattle.plist_print.specs.Printed.{indent, enclosed, octet_lines, printed_line}
+use Rattle.plist_print.proofs.DataLines.{data_lines, lines-joined, if-told, if-denied}
 
 -- both branches are at most this long
 pub if-long : (b : Bool) (xs ys : List ℕ) (n : ℕ) → length xs ≤ n → length ys ≤ n → length (if b then xs else ys) ≤ n
@@ -71,22 +72,23 @@ lines-long blanks (suc n) xs few =
 pub indent-long : (level : ℕ) → length (indent level) ≡ 2 * min level 32
 indent-long level = length-replicate (2 * min level 32) 32
 
-pub bytes-long : (level : ℕ) (xs : List ℕ) → length (printed_bytes level xs) ≤ 5 * length xs + 70 + 2 * min level 32
+pub bytes-long : (level : ℕ) (xs : List ℕ) → length (printed_line level (bytes xs)) ≤ 5 * length xs + 70 + 2 * min level 32
 bytes-long level xs = elim (cases_lt 32 (length xs)) [
   | inl long ↦ (
       let lines = octet_lines (indent (suc level)) xs in
       let blanks = indent-long (suc level) in
       let ending = indent-long level in
+      let joined = ap length (lines-joined (indent (suc level)) ((length xs + 31) / 32) xs) in
       let most = lines-long (indent (suc level)) ((length xs + 31) / 32) xs (omega (arith, blanks)) in
       let outer = length-append lines (indent level ++ (62 ∷ 10 ∷ [])) in
       let inner = length-append (indent level) (62 ∷ 10 ∷ []) in
-      let is : length (printed_bytes level xs) ≡ length (enclosed level 60 62 lines) = ap length (if-denied _ _ (length xs) 32 long) in
-      omega (arith, long, ending, most, outer, inner, is)
+      let is : length (printed_line level (bytes xs)) ≡ length (enclosed level 60 62 lines) = ap length (if-denied _ _ (length xs) 32 long) in
+      omega (arith, long, ending, joined, most, outer, inner, is)
       )
   | inr short ↦ (
       let line = data-long xs in
       let ends = length-append (printed_data xs) (codes "\n") in
-      let is : length (printed_bytes level xs) ≡ length (printed_data xs ++ codes "\n") = ap length (if-told _ _ (length xs) 32 short) in
+      let is : length (printed_line level (bytes xs)) ≡ length (printed_data xs ++ codes "\n") = ap length (if-told _ _ (length xs) 32 short) in
       omega (arith, short, line, ends, is)
       )
 ]

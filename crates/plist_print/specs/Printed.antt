@@ -1,5 +1,6 @@
 -- The printed text of a value.
-use Rattle.std.specs.Prelude.{ℕ, zero, suc, ◌+◌, ◌*◌, ◌/◌, min, Bool, true, false, nat_le, List, [], ◌∷◌, ◌++◌, length, take, drop, replicate, flat_map, codes, if◌then◌else◌}
+use Rattle.std.specs.Prelude.{ℕ, suc, ◌+◌, ◌*◌, ◌/◌, min, true, false, nat_le, List, [], ◌∷◌, ◌++◌, length, replicate, flat_map, codes, if◌then◌else◌}
+use Rattle.std.specs.Simd.{first_chunks}
 use Rattle.std.specs.Fmt.{signed_decimal}
 use Rattle.plist_value.specs.Plist.{Scalar, text, whole, flag, real4, real8, moment, bytes, Plist, scalar, list, table, Items, no_items, item, Pairs, no_pairs, pair}
 use Rattle.plist_value.specs.Digits.{two_digits}
@@ -7,15 +8,12 @@ use Rattle.plist_print.specs.Units.{printed_data, printed_text}
 use Rattle.plist_print.specs.Reals.{single, double, printed_real}
 use Rattle.plist_print.specs.Dates.{printed_date}
 
-abbrev pub printed_flag : Bool → List ℕ
-printed_flag true = codes "true"
-printed_flag false = codes "false"
-
 -- a scalar on one line
 abbrev pub printed_scalar : Scalar → List ℕ
 printed_scalar (text units) = printed_text units
 printed_scalar (whole z) = signed_decimal z
-printed_scalar (flag b) = printed_flag b
+printed_scalar (flag true) = codes "true"
+printed_scalar (flag false) = codes "false"
 printed_scalar (real4 xs) = printed_real single xs ++ codes "f"
 printed_scalar (real8 xs) = printed_real double xs
 printed_scalar (moment xs) = codes "date " ++ printed_date xs
@@ -25,30 +23,20 @@ printed_scalar (bytes xs) = printed_data xs
 abbrev pub indent : ℕ → List ℕ
 indent level = replicate (2 * min level 32) 32
 
--- an opening bracket, lines, and the closing bracket on its own line, indented like the line of the
--- opening bracket
+-- an opening bracket, lines, and the closing bracket on a line of this level
 abbrev pub enclosed : ℕ → ℕ → ℕ → List ℕ → List ℕ
 enclosed level open_with close_with lines = open_with ∷ 10 ∷ (lines ++ (indent level ++ (close_with ∷ 10 ∷ [])))
 
 -- lines of 32 bytes after these spaces, the last with the rest
-abbrev pub data_lines : List ℕ → ℕ → List ℕ → List ℕ
-data_lines blanks zero xs = []
-data_lines blanks (suc lines) xs =
-    blanks ++ (flat_map two_digits (take 32 xs) ++ (10 ∷ data_lines blanks lines (drop 32 xs)))
-
--- as many lines as the bytes take
 abbrev pub octet_lines : List ℕ → List ℕ → List ℕ
-octet_lines blanks xs = data_lines blanks ((length xs + 31) / 32) xs
+octet_lines blanks xs =
+    flat_map (λ line. blanks ++ (flat_map two_digits line ++ codes "\n")) (first_chunks 32 ((length xs + 31) / 32) xs)
 
--- Data: up to 32 bytes on one line, more on separate lines.
-abbrev pub printed_bytes : ℕ → List ℕ → List ℕ
-printed_bytes level xs =
+-- A scalar up to the end of its last line. More than 32 bytes of data take several lines.
+abbrev pub printed_line : ℕ → Scalar → List ℕ
+printed_line level (bytes xs) =
     if nat_le (length xs) 32 then printed_data xs ++ codes "\n"
     else enclosed level 60 62 (octet_lines (indent (suc level)) xs)
-
--- a scalar up to the end of its last line
-abbrev pub printed_line : ℕ → Scalar → List ℕ
-printed_line level (bytes xs) = printed_bytes level xs
 printed_line level s = printed_scalar s ++ codes "\n"
 
 -- A value up to the end of its last line. Its first line has this level, and its spaces are printed

@@ -5,24 +5,23 @@ use Rattle.byteorder.specs.Endian.{big_number}
 use Rattle.plist_print.specs.Units.{printed_data}
 
 -- A format: the number of bytes, the sign bit, the bits of the least normal real and those of
--- infinity. 1 is 2^`one` times the least real above 0. Reals with exponents from `from` up to but
--- without `to` are printed as decimals.
+-- infinity. 1 is 2^`one` times the least real above 0. Reals with an exponent below `to` can have
+-- decimals.
 pub record Format : Type 0 where
   pub octets : ℕ
   pub sign : ℕ
   pub hidden : ℕ
   pub infinite : ℕ
   pub one : ℕ
-  pub from : ℕ
   pub to : ℕ
 
--- four bytes; decimals from 2^-73 up to 2^25
+-- four bytes; decimals below 2^25
 abbrev pub single : Format
-single = record { octets = 4; sign = 2 ^ 31; hidden = 2 ^ 23; infinite = 0x7f80_0000; one = 149; from = 54; to = 152 }
+single = record { octets = 4; sign = 2 ^ 31; hidden = 2 ^ 23; infinite = 0x7f80_0000; one = 149; to = 152 }
 
--- eight bytes; decimals from 2^-73 up to 2^54
+-- eight bytes; decimals below 2^54
 abbrev pub double : Format
-double = record { octets = 8; sign = 2 ^ 63; hidden = 2 ^ 52; infinite = 0x7ff0_0000_0000_0000; one = 1074; from = 950; to = 1077 }
+double = record { octets = 8; sign = 2 ^ 63; hidden = 2 ^ 52; infinite = 0x7ff0_0000_0000_0000; one = 1074; to = 1077 }
 
 -- The real above 0 with these bits, as a multiple of the least real above 0.
 unfoldable pub value_of : ℕ → ℕ → ℕ
@@ -40,11 +39,10 @@ pub record Placed : Type 0 where
 abbrev pub nearest : Placed → ℕ → ℕ
 nearest x over = (2 * (x.here * over) + x.unit) / (2 * x.unit)
 
--- n / over reads as the real: it is between the midpoints to the neighbours, the lower one
--- included; and n has at most 128 bits
+-- n / over reads as the real: it is between the midpoints to the neighbours, the lower one included
 abbrev pub reads_as : Placed → ℕ → ℕ → Bool
 reads_as x over n =
-    nat_lt n (2 ^ 128) && (nat_le ((x.below + x.here) * over) (2 * (n * x.unit)) && nat_lt (2 * (n * x.unit)) ((x.here + x.above) * over))
+    nat_le ((x.below + x.here) * over) (2 * (n * x.unit)) && nat_lt (2 * (n * x.unit)) ((x.here + x.above) * over)
 
 -- The decimal with the fewest digits after the decimal point that reads as the real, as its
 -- numerator and the number of these digits. The numbers of digits are tried from the given one on.
@@ -54,21 +52,14 @@ shortest x (suc more) digits =
     if reads_as x (10 ^ digits) (nearest x (10 ^ digits)) then Some (nearest x (10 ^ digits), digits)
     else shortest x more (suc digits)
 
+-- the real with these bits; the next below 0 is 0
 abbrev pub placed_in : Format → ℕ → Placed
-placed_in f bits = record {
-  below = value_of f.hidden (bits - 1);
-  here = value_of f.hidden bits;
-  above = value_of f.hidden (suc bits);
-  unit = 2 ^ f.one;
-}
-
--- 0, or a real whose exponent is in the range of the format
-abbrev pub is_moderate : Format → ℕ → Bool
-is_moderate f bits = bits == 0 || (nat_le f.from (bits / f.hidden) && nat_lt (bits / f.hidden) f.to)
+placed_in f bits =
+    record { below = value_of f.hidden (bits - 1); here = value_of f.hidden bits; above = value_of f.hidden (suc bits); unit = 2 ^ f.one }
 
 -- with 1 to 21 digits after the decimal point
 unfoldable pub decimal_of : Format → ℕ → Option (ℕ × ℕ)
-decimal_of f bits = if is_moderate f bits then shortest (placed_in f bits) 21 1 else None
+decimal_of f bits = if nat_lt (bits / f.hidden) f.to then shortest (placed_in f bits) 21 1 else None
 
 -- the last k decimal digits of n
 abbrev pub last_digits : ℕ → ℕ → List ℕ

@@ -1,9 +1,10 @@
 //! Prints data to a sink.
 ghost use Rattle.std.specs.Prelude.{◌≡◌, ◌<◌, ◌++◌, codes, flat_map, length, IfOk, OnOk};
+ghost use Rattle.plist_value.specs.Plist.{bytes};
 ghost use Rattle.plist_value.specs.Digits.{two_digits};
 ghost use Rattle.plist_engine.specs.Output.{Goes, state_of};
 ghost use Rattle.plist_print.specs.Units.{printed_data};
-ghost use Rattle.plist_print.specs.Printed.{indent, octet_lines, printed_bytes};
+ghost use Rattle.plist_print.specs.Printed.{indent, octet_lines, printed_line};
 ghost use Rattle.plist_print.specs.Shown.{Puts};
 
 use crate::heads::{end_lines, put_indent};
@@ -21,7 +22,7 @@ pub(crate) fn print_data<W: Sink>(
     level: u64,
     out: &mut Output<W>,
 ) -> Result<(), WriteFault>
-    ensures goes { Goes (printed_bytes level octets.now)
+    ensures goes { Goes (printed_line level (bytes octets.now))
         (state_of W.Sink out.old) (state_of W.Sink out.new) result }
 {
     if octets.len() > LINE {
@@ -50,7 +51,7 @@ fn print_long_data<W: Sink>(
     out: &mut Output<W>,
 ) -> Result<(), WriteFault>
     requires { 32 < length octets.now }
-    ensures goes { Goes (printed_bytes level octets.now)
+    ensures goes { Goes (printed_line level (bytes octets.now))
         (state_of W.Sink out.old) (state_of W.Sink out.new) result }
 {
     put(b"<\n", out)?;

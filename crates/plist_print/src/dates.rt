@@ -1,10 +1,11 @@
 //! How dates are printed: the seconds since 2001 and, in parentheses, date and time in UTC.
-ghost use Rattle.std.specs.Prelude.{◌≡◌, ◌+◌, ◌-◌, ◌*◌, ◌<◌, ◌≤◌, ◌++◌, ◌%◌, IfSome, OnOk, Some};
+ghost use Rattle.std.specs.Prelude.{◌≡◌, ◌+◌, ◌-◌, ◌*◌, ◌/◌, ◌<◌, ◌≤◌, ◌++◌, ◌%◌, ◌==◌, ◌&&◌};
+ghost use Rattle.std.specs.Prelude.{IfSome, OnOk, None, if◌then◌else◌};
 ghost use Rattle.std.specs.Option.{option_map};
-ghost use Rattle.plist_print.specs.Dates.{is_leap, days_in_month, days_of_months, days_before};
-ghost use Rattle.plist_print.specs.Dates.{year_of, month_of, printed_month, printed_day};
-ghost use Rattle.plist_print.specs.Dates.{printed_time, printed_moment, second_at, whole_second};
-ghost use Rattle.plist_print.specs.Dates.{until_10000, second_of, in_brackets, printed_date};
+ghost use Rattle.plist_print.specs.Dates.{days_in_month, days_of_months, days_before};
+ghost use Rattle.plist_print.specs.Dates.{year_of, month_of, printed_day};
+ghost use Rattle.plist_print.specs.Dates.{printed_time, printed_moment, second_at};
+ghost use Rattle.plist_print.specs.Dates.{second_of, in_brackets, printed_date};
 ghost use Rattle.plist_print.specs.Shown.{decimal_in};
 
 use crate::digits::{ones, tens};
@@ -45,7 +46,7 @@ fn put_brackets(out: &mut Vec<u8>, octets: &[u8; 8]) -> Result<(), AllocError>
 // years 1 to 9999.
 fn second_of(octets: &[u8; 8]) -> Option<u64>
     ensures value { result ≡ second_of octets.now }
-    ensures within { IfSome result (λ second. second < until_10000) }
+    ensures within { IfSome result (λ second. second < 86_400 * days_before 10_000) }
 {
     let bits = BigEndian::read_u64(octets);
     let decimal = decimal_of_double(bits % 0x8000_0000_0000_0000)?;
@@ -54,8 +55,9 @@ fn second_of(octets: &[u8; 8]) -> Option<u64>
 
 // Like [`second_of`], from the sign and the decimal of the date.
 fn whole_second(negative: bool, decimal: Decimal) -> Option<u64>
-    ensures value { result ≡ whole_second negative (Some (decimal_in decimal)) }
-    ensures within { IfSome result (λ second. second < until_10000) }
+    ensures value { result ≡ (if (decimal.digits == 1) && (decimal.numerator % 10 == 0)
+        then second_at negative (decimal.numerator / 10) else None) }
+    ensures within { IfSome result (λ second. second < 86_400 * days_before 10_000) }
 {
     if decimal.digits == 1 && decimal.numerator % 10 == 0 {
         second_at(negative, decimal.numerator / 10)
@@ -67,7 +69,7 @@ fn whole_second(negative: bool, decimal: Decimal) -> Option<u64>
 // Like [`second_of`], from the number of whole seconds before 2001, or since.
 fn second_at(negative: bool, seconds: u128) -> Option<u64>
     ensures value { result ≡ second_at negative seconds }
-    ensures within { IfSome result (λ second. second < until_10000) }
+    ensures within { IfSome result (λ second. second < 86_400 * days_before 10_000) }
 {
     if seconds > u128::from(UNTIL_10000) {
         return None;
@@ -87,7 +89,7 @@ fn second_at(negative: bool, seconds: u128) -> Option<u64>
 // Appends date and time of this second after 0001-01-01T00:00:00Z.
 #[tactic(auto, unfolding(crate::specs::Dates::printed_moment))]
 fn put_moment(out: &mut Vec<u8>, second: u64) -> Result<(), AllocError>
-    requires { second < until_10000 }
+    requires { second < 86_400 * days_before 10_000 }
     ensures { OnOk result (out.new.items ≡ out.old.items ++ printed_moment second) }
 {
     put_day(out, second / DAY)?;
@@ -104,8 +106,9 @@ fn put_day(out: &mut Vec<u8>, day: u64) -> Result<(), AllocError>
 {
     let year = year_of(day);
     let century = year / 100;
+    let DayOfMonth { month, day } = day_of_month(year, day - days_before(year));
     out.extend_from_slice(&[tens(century), ones(century), tens(year), ones(year), b'-'])?;
-    put_month(out, year, day - days_before(year))
+    out.extend_from_slice(&[tens(month), ones(month), b'-', tens(day), ones(day)])
 }
 
 // Returns the year of the day.
@@ -134,18 +137,11 @@ fn days_before(year: u64) -> u64
     365 * years + years / 4 - years / 100 + years / 400
 }
 
-// Appends month and day of the month. `day` is the number of days since 1 January.
-#[tactic(auto, unfolding(crate::specs::Dates::printed_month))]
-fn put_month(out: &mut Vec<u8>, year: u64, day: u64) -> Result<(), AllocError>
-    requires { day < days_of_months year 12 }
-    ensures { OnOk result (out.new.items ≡ out.old.items ++ printed_month year day) }
-{
-    let DayOfMonth { month, day } = day_of_month(year, day);
-    out.extend_from_slice(&[tens(month), ones(month), b'-', tens(day), ones(day)])
-}
-
+// Returns month and day of a day of the year; day 0 is 1 January.
 fn day_of_month(year: u64, day: u64) -> DayOfMonth
-    requires { day < days_of_months year 12 }
+    requires some { 1 ≤ year }
+    requires most { year ≤ 9_999 }
+    requires within { day < days_of_months year 12 }
     ensures month { result.month ≡ month_of year day }
     ensures day { result.day ≡ day - days_of_months year (month_of year day - 1) + 1 }
 {
@@ -162,22 +158,15 @@ fn day_of_month(year: u64, day: u64) -> DayOfMonth
 }
 
 fn days_in_month(year: u64, month: u64) -> u64
-    ensures value { result ≡ days_in_month year month }
-    ensures some { 28 ≤ result }
-    ensures most { result ≤ 31 }
+    requires some { 1 ≤ year }
+    requires most { year ≤ 9_999 }
+    ensures { result ≡ days_in_month year month }
 {
     match month {
-        2 if is_leap(year) => 29,
-        2 => 28,
+        2 => days_before(year + 1) - days_before(year) - 337,
         4 | 6 | 9 | 11 => 30,
         _ => 31,
     }
-}
-
-fn is_leap(year: u64) -> bool
-    ensures { result ≡ is_leap year }
-{
-    year % 4 == 0 && (year % 100 != 0 || year % 400 == 0)
 }
 
 // Appends the time of day.

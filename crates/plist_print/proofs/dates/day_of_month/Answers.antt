@@ -11,14 +11,14 @@ loop-left-init c =
 pub loop-left-smaller : goal.loop-left-smaller
 loop-left-smaller c =
     let more = months-more c.args.year c.loop-left.month c.loop-left.invariant.some in
-    let most = month-most c.args.year c.args.day c.loop-left.month c.requires c.loop-left.invariant.most (omega arith) in
+    let most = month-most c.args.year c.args.day c.loop-left.month c.requires.within c.loop-left.invariant.most (omega arith) in
     omega arith
 
 pub loop-left-preserved : goal.loop-left-preserved
 loop-left-preserved c =
     let month = c.loop-left.month in
     let more = months-more c.args.year month c.loop-left.invariant.some in
-    let most = month-most c.args.year c.args.day month c.requires c.loop-left.invariant.most (omega arith) in
+    let most = month-most c.args.year c.args.day month c.requires.within c.loop-left.invariant.most (omega arith) in
     let same : month + 1 - 1 ≡ month = omega arith in
     let first = ap (days_of_months c.args.year) same in
     record { some = omega arith; most = omega arith; behind = omega arith }
