@@ -9,7 +9,7 @@ use Rattle.std.proofs.Math.Nat.{div-div-eq-div-mul, mod-le}
 use Rattle.std.proofs.Math.Arith.{mod-mul}
 use lib.Ieee.Fits.{and_l, and_r}
 use Rattle.plist_print.specs.Reals.{last_digits, printed_decimal}
-use Rattle.plist_print.specs.declared.digits.TheConstants.{POWERS}
+use Rattle.plist_print.specs.declared.decimals.TheConstants.{POWERS}
 use Rattle.plist_print.proofs.Deciding.{some-power}
 
 -- the table of powers

@@ -72,5 +72,5 @@ printed_units-plain u [] p = one u p
 printed_units-plain u (v ∷ us) p =
     if-pair (is_high_surrogate u) _ _ _ (no-high u p.high) ∙ ap (λ xs. xs ++ printed_units (v ∷ us)) (one u p)
 
-pub ascii_shown : (u : ℕ) → 32 ≤ u → u < 127 → (if is_unseen u then codes "\\U" ++ (two_digits (u / 256) ++ two_digits (u % 256)) else encode_utf8 u) ≡ u ∷ []
-ascii_shown u low high = if-false (is_unseen u) _ _ (seen u low high) ∙ encode_ascii u (omega (arith, high))
+pub ascii : (u : ℕ) → 32 ≤ u → u < 127 → (if is_unseen u then codes "\\U" ++ (two_digits (u / 256) ++ two_digits (u % 256)) else encode_utf8 u) ≡ u ∷ []
+ascii u low high = if-false (is_unseen u) _ _ (seen u low high) ∙ encode_ascii u (omega (arith, high))

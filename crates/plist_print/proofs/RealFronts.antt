@@ -16,12 +16,12 @@ use Rattle.plist_value.specs.Plist.{AreOctets, IsOctetsOf}
 use Rattle.plist_object.proofs.SameOctets.{big_bytes-big_number}
 use Rattle.plist_print.specs.Units.{printed_data}
 use Rattle.plist_value.specs.Digits.{two_digits}
-use Rattle.plist_print.specs.Reals.{Format, single, double, reads_as, placed_in, decimal_of, last_digits, printed_decimal, printed_size, printed_real}
+use Rattle.plist_print.specs.Reals.{Format, double, reads_as, placed_in, decimal_of, last_digits, printed_decimal, printed_size, printed_real}
 use Rattle.plist_print.specs.Dates.{second_of, in_brackets, printed_date}
 use Rattle.plist_print.proofs.Fronts.{head_of, tail_of, heads, tails, EndsDigits, digits-front, kind_of_head, digits-kind}
 use Rattle.plist_print.proofs.UnitFronts.{data-front}
 use Rattle.plist_print.proofs.Neighbours.{one-real, decimal-is, decimal-short, IsFormat, double-format}
-use Rattle.plist_print.proofs.Compared.{equal, gt-told, le-told}
+use Rattle.plist_print.proofs.Compared.{equal}
 
 -- the ways to print a real without its sign
 pub data Shape : Type 0 where

@@ -7,7 +7,7 @@ ghost use Rattle.plist_print.specs.Units.{printed_data};
 ghost use Rattle.plist_print.specs.Printed.{indent, octet_lines, printed_line};
 ghost use Rattle.plist_print.specs.Shown.{Puts};
 
-use crate::heads::{end_lines, put_indent};
+use crate::layout::{end_lines, put_indent};
 use crate::lines::{put, settle};
 use plist_engine::{Output, Sink, WriteFault};
 use plist_value::put_digits;

@@ -8,7 +8,7 @@ ghost use Rattle.plist_print.specs.Dates.{printed_time, printed_moment, second_a
 ghost use Rattle.plist_print.specs.Dates.{second_of, in_brackets, printed_date};
 ghost use Rattle.plist_print.specs.Shown.{decimal_in};
 
-use crate::digits::{ones, tens};
+use crate::decimals::{ones, tens};
 use crate::kept::{DayOfMonth, Decimal};
 use crate::reals::{decimal_of_double, put_double};
 use byteorder::{BigEndian, ByteOrder};

@@ -5,14 +5,14 @@
 
 mod data;
 mod dates;
-mod digits;
-mod heads;
+mod decimals;
 mod kept;
 pub mod laws;
+mod layout;
 pub mod lines;
 pub mod printing;
 mod reals;
-mod texts;
+mod strings;
 mod unseen;
 
 pub use printing::print_of;

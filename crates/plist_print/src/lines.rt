@@ -13,7 +13,7 @@ ghost use Rattle.plist_print.specs.Shown.{is_short};
 use crate::data::print_data;
 use crate::dates::put_date;
 use crate::reals::{put_double, put_single};
-use crate::texts::{put_some, put_text};
+use crate::strings::{put_some, put_text};
 use itoa::Buffer;
 use plist_engine::{Output, Sink, WriteFault};
 use plist_value::{ScalarRef, TextRef};

@@ -15,7 +15,7 @@ ghost use Rattle.plist_engine.specs.Spelling.{SpellWithin, in_turn};
 ghost use Rattle.plist_print.specs.Printed.{printed, printed_at, printed_items, printed_pairs};
 ghost use Rattle.plist_print.specs.Printing.{PairsWithin, TableWithin, item_lines, pair_lines};
 
-use crate::heads::{begin_line, begin_pair, end_lines};
+use crate::layout::{begin_line, begin_pair, end_lines};
 use crate::lines::{print_scalar, put, send_all};
 use plist_engine::objects::object_of;
 use plist_engine::order::push_sorted;

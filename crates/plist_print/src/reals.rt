@@ -8,7 +8,7 @@ ghost use Rattle.plist_print.specs.Reals.{single, double, nearest, reads_as, sho
 ghost use Rattle.plist_print.specs.Reals.{printed_finite, printed_real};
 ghost use Rattle.plist_print.specs.Shown.{IsUnread, decimal_in, halved, placed_of};
 
-use crate::digits::{power_of_ten, put_decimal};
+use crate::decimals::{power_of_ten, put_decimal};
 use crate::kept::{Decimal, Neighbours};
 use byteorder::{BigEndian, ByteOrder};
 use plist_value::put_digits;
@@ -56,7 +56,8 @@ fn likely_digits(shift: u32) -> u32
     (shift * 77 / 256).clamp(2, 21) - 1
 }
 
-// Like [`first_digits`], if `enough` digits are known to be enough.
+// Like [`first_digits`], if `enough` digits are known to be enough. Trying all numbers of digits in
+// turn would take up to twice as long.
 fn first_within(real: &Neighbours, enough: u32) -> u32
     requires some { 1 ≤ enough }
     requires few { enough ≤ 21 }

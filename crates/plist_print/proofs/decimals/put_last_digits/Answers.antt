@@ -1,7 +1,7 @@
 use Rattle.std.proofs.Common.{◌≡◌, ◌+◌, ◌-◌, ◌/◌, ◌%◌, ◌^◌, [], ◌∷◌, ◌++◌, sym, ap, ◌∙◌, arith, append_assoc}
 use Rattle.plist_print.specs.Reals.{last_digits}
 use Rattle.plist_print.proofs.Deciding.{last-next}
-use Rattle.plist_print.proofs.digits.put_last_digits.Goals as goal
+use Rattle.plist_print.proofs.decimals.put_last_digits.Goals as goal
 
 pub loop-left-preserved : goal.loop-left-preserved
 loop-left-preserved c =

@@ -7,7 +7,7 @@ ghost use Rattle.plist_print.specs.Printed.{indent};
 ghost use Rattle.plist_print.specs.Printing.{pair_head};
 
 use crate::lines::{SHORT, print_text, put, settle};
-use crate::texts::put_text;
+use crate::strings::put_text;
 use plist_engine::{Output, Sink, WriteFault};
 use plist_value::TextRef;
 use std::alloc::AllocError;

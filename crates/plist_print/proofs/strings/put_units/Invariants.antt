@@ -1,7 +1,7 @@
 use Rattle.std.proofs.Common.{◌≡◌, ◌≤◌, ◌-◌, ◌++◌, drop, length}
 use Rattle.plist_value.specs.Texts.{units_of}
 use Rattle.plist_print.specs.Units.{printed_units}
-use Rattle.plist_print.proofs.texts.put_units.Given as goal
+use Rattle.plist_print.proofs.strings.put_units.Given as goal
 
 -- the appended units and the remaining ones are all units
 abbrev pub invariant-loop-place : goal.invariant-loop-place

@@ -109,7 +109,7 @@ fn put_unit(out: &mut Vec<u8>, text: &TextRef, place: usize) -> Result<usize, Al
 }
 
 // Appends a unit that is not part of a visible pair.
-#[tactic(auto, using(crate::proofs::Plain::ascii_shown), unfolding(crate::specs::Units::printed_unit))]
+#[tactic(auto, using(crate::proofs::Plain::ascii), unfolding(crate::specs::Units::printed_unit))]
 fn put_single(out: &mut Vec<u8>, unit: u16) -> Result<(), AllocError>
     ensures { OnOk result (out.new.items ≡ out.old.items ++ printed_unit unit) }
 {

@@ -1,7 +1,7 @@
 use Rattle.std.proofs.Common.{arith}
 use Rattle.plist_print.proofs.Deciding.{small-power, some-power}
 use Rattle.plist_print.proofs.Padding.{POWERS_at}
-use Rattle.plist_print.proofs.digits.power_of_ten.Goals as goal
+use Rattle.plist_print.proofs.decimals.power_of_ten.Goals as goal
 
 pub returns-clause-value : goal.returns-clause-value
 returns-clause-value c = POWERS_at c.args.digits (omega arith)

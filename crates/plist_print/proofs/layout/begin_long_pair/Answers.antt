@@ -5,7 +5,7 @@ use Rattle.plist_engine.specs.Output.{state_of}
 use Rattle.plist_engine.proofs.Going.{Goes_then}
 use Rattle.plist_print.specs.Units.{printed_text}
 use Rattle.plist_print.specs.Printed.{indent}
-use Rattle.plist_print.proofs.heads.begin_long_pair.Goals as goal
+use Rattle.plist_print.proofs.layout.begin_long_pair.Goals as goal
 
 pub returns : goal.returns
 returns g c = record {

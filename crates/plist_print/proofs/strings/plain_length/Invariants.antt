@@ -1,6 +1,6 @@
 use Rattle.std.proofs.Common.{◌≡◌, ◌≤◌, ◌-◌, ◌++◌, take, drop}
 use Rattle.plist_print.specs.Units.{printed_units}
-use Rattle.plist_print.proofs.texts.plain_length.Given as goal
+use Rattle.plist_print.proofs.strings.plain_length.Given as goal
 
 abbrev pub invariant-loop-length : goal.invariant-loop-length
 invariant-loop-length l = record {

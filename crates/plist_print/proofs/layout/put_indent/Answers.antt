@@ -2,7 +2,7 @@ use Rattle.std.proofs.Common.{◌≡◌, ℕ, ◌*◌, min, take, replicate, ap,
 use Rattle.std.proofs.lemmas.List.{take-replicate}
 use Rattle.plist_print.specs.Printed.{indent}
 use Rattle.plist_print.proofs.Padding.{appended}
-use Rattle.plist_print.proofs.heads.put_indent.Goals as goal
+use Rattle.plist_print.proofs.layout.put_indent.Goals as goal
 
 -- two spaces for each level are a prefix of the 64 spaces
 blanks : (n level : ℕ) → n ≡ min level 32 → take (2 * n) (replicate 64 32) ≡ indent level

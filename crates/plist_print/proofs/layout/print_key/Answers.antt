@@ -4,7 +4,7 @@ use Rattle.plist_value.specs.Texts.{units_of}
 use Rattle.plist_engine.specs.Output.{state_of}
 use Rattle.plist_engine.proofs.Going.{Goes_then, Goes_stop}
 use Rattle.plist_print.specs.Units.{printed_text}
-use Rattle.plist_print.proofs.heads.print_key.Goals as goal
+use Rattle.plist_print.proofs.layout.print_key.Goals as goal
 
 pub returns-in_err-print_text : goal.returns-in_err-print_text
 returns-in_err-print_text g c =

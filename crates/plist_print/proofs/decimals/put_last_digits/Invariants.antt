@@ -1,6 +1,6 @@
 use Rattle.std.proofs.Common.{◌≡◌, ◌≤◌, ◌++◌}
 use Rattle.plist_print.specs.Reals.{last_digits}
-use Rattle.plist_print.proofs.digits.put_last_digits.Given as goal
+use Rattle.plist_print.proofs.decimals.put_last_digits.Given as goal
 
 -- the digits written and the remaining ones are all digits
 abbrev pub invariant-loop-left : goal.invariant-loop-left

@@ -5,7 +5,7 @@ use Rattle.std.proofs.lemmas.Fmt.{length-decimal-le}
 use Rattle.std.proofs.Math.Nat.{mod-le, div-le_self}
 use Rattle.plist_print.specs.Reals.{printed_decimal}
 use Rattle.plist_print.proofs.Padding.{written-decimal, appended}
-use Rattle.plist_print.proofs.digits.put_short.Goals as goal
+use Rattle.plist_print.proofs.decimals.put_short.Goals as goal
 
 pub write_digits-point-requires : goal.write_digits-point-requires
 write_digits-point-requires c =
