@@ -9,7 +9,7 @@ use Rattle.ostep_text.specs.Phrase.{Phrase, a_string, some_data, a_list, a_table
 use Rattle.ostep_text.specs.Sorting.{AreSorted}
 use Rattle.ostep_text.specs.Begun.{begins_value}
 use Rattle.ostep_text.specs.Machine
-use Rattle.ostep_text.specs.Machine.{ended, behind_key, in_list, in_braces, top, bare}
+use Rattle.ostep_text.specs.Machine.{ended, after_key, in_list, in_braces, top, bare}
 use Rattle.ostep_text.proofs.MachineLemmas.{item-ended, row-ended, key-ended}
 use Rattle.ostep_draft.specs.First.{ends_list, ends_table}
 use Rattle.ostep_draft.specs.Left.{is_bare}
@@ -121,7 +121,7 @@ follows-more {behind} {vs = vs} (more r) e = subst (λ x. ItemsPhrase x vs (pare
 pub follows-none : {behind after rest : List Lexeme} {vs : Items} (kind : TokenKind) → Follows behind after vs → after ≡ lexeme_of kind ∷ rest → ¬ (kind ≡ ParenClose) → ¬ (kind ≡ Comma) → ⊥
 follows-none kind last e n m =
     let l : lexeme_of kind ≡ paren_close = cc e in
-    let d : Machine.behind top ≡ Machine.dead = sym (ap (ended (in_list top)) l) ∙ item-ended top kind n m in cc d
+    let d : Machine.after top ≡ Machine.dead = sym (ap (ended (in_list top)) l) ∙ item-ended top kind n m in cc d
 follows-none kind (more r) e n m =
     let l : lexeme_of kind ≡ comma = cc e in
     let d : Machine.items top ≡ Machine.dead = sym (ap (ended (in_list top)) l) ∙ item-ended top kind n m in cc d
@@ -198,10 +198,10 @@ pub key-none : {tokens rest behind : List Lexeme} {key : List ℕ} {v : Plist} (
     → ¬ (kind ≡ Equals) → ¬ (kind ≡ Semicolon) → ⊥
 key-none kind (with_equals p) e n m =
     let l : lexeme_of kind ≡ equals = cc e in
-    let d : Machine.due top ≡ Machine.dead = sym (ap (behind_key top) l) ∙ key-ended top kind n m in cc d
+    let d : Machine.due top ≡ Machine.dead = sym (ap (after_key top) l) ∙ key-ended top kind n m in cc d
 key-none kind (key_only is) e n m =
     let l : lexeme_of kind ≡ semicolon = cc e in
-    let d : Machine.rows top ≡ Machine.dead = sym (ap (behind_key top) l) ∙ key-ended top kind n m in cc d
+    let d : Machine.rows top ≡ Machine.dead = sym (ap (after_key top) l) ∙ key-ended top kind n m in cc d
 
 pub ended-none : {behind rest : List Lexeme} (kind : TokenKind) → semicolon ∷ behind ≡ lexeme_of kind ∷ rest → ¬ (kind ≡ Semicolon) → ⊥
 ended-none kind e n =

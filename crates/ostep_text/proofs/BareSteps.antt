@@ -106,13 +106,13 @@ pub bare-ends : {octets : List ℕ} {left : Budget} {pairs : Pairs} {reader : Re
 bare-ends b l e rest = b.due.leads (l ∷ rest) ∙ (ap (λ s. runs s rest) e ∙ stays-dead rest)
 
 -- the first string and the token after it
-pub before-two : (at behind : Placed) (l m : Lexeme) → at.lexeme ≡ l → behind.lexeme ≡ m → AreBefore (at ∷ behind ∷ []) (λ rest. l ∷ m ∷ rest)
-before-two at behind l m e f rest = ap (λ x. x ∷ behind.lexeme ∷ rest) e ∙ ap (λ x. l ∷ x ∷ rest) f
+pub before-two : (at after : Placed) (l m : Lexeme) → at.lexeme ≡ l → after.lexeme ≡ m → AreBefore (at ∷ after ∷ []) (λ rest. l ∷ m ∷ rest)
+before-two at after l m e f rest = ap (λ x. x ∷ after.lexeme ∷ rest) e ∙ ap (λ x. l ∷ x ∷ rest) f
 
 pub first_value-due : (key : List ℕ) → RowValueDue (λ rest. string key ∷ equals ∷ rest) (with_key key (with_rows no_pairs (opened nothing))) Machine.bare
 first_value-due key = record {
   table = Machine.without;
-  at = λ rest. Begun.behind_key (Begun.new_key Begun.bare rows_end refl);
+  at = λ rest. Begun.after_key (Begun.new_key Begun.bare rows_end refl);
   closing = [];
   closes = λ tokens v p. (table (pair key v no_pairs), bare_table (a_row (with_value p) rows_end refl) (record { same = Sorting.row Sorting.none Sorting.first; ascending = (tt, tt) }));
   leads = λ rest. refl;
@@ -126,11 +126,11 @@ first_key-left key i s = record {
   levels_left = omega (arith, i.levels_left);
 }
 
-pub first_alone-refuses : {octets : List ℕ} {source : Tokens} (at behind : Placed) (octet : ℕ) (key : List ℕ) (levels : ℕ) (left : Budget) → at.lexeme ≡ string key → at.start ≡ octet
-    → behind.lexeme ≡ semicolon → HasRead octets (at ∷ behind ∷ []) source → IsLeft left levels (with_key key (with_rows no_pairs (opened nothing)))
+pub first_alone-refuses : {octets : List ℕ} {source : Tokens} (at after : Placed) (octet : ℕ) (key : List ℕ) (levels : ℕ) (left : Budget) → at.lexeme ≡ string key → at.start ≡ octet
+    → after.lexeme ≡ semicolon → HasRead octets (at ∷ after ∷ []) source → IsLeft left levels (with_key key (with_rows no_pairs (opened nothing)))
     → MayRefuse octets octet levels (2 * length key) left
-first_alone-refuses at behind octet key levels left l s e h i =
-    string-refuses [] (behind ∷ []) at octet key (λ rest. rest) levels (2 * length key) left l s (λ rest. refl) h
+first_alone-refuses at after octet key levels left l s e h i =
+    string-refuses [] (after ∷ []) at octet key (λ rest. rest) levels (2 * length key) left l s (λ rest. refl) h
     (λ others. rw e (Begun.value (Begun.at_key (Begun.new_key Begun.bare rows_end refl)) refl)) (omega arith) i
 
 -- what the first row took, without the node of its dictionary

@@ -36,7 +36,7 @@ items-open {a = a} {vs = vs} inside d s = record {
 pub item-due : {whole : Front} {b : Before} {a : Around} {vs : Items} {l : Lexeme} (inside : Front) → ListDue whole b a → ((rest : List Lexeme) → ItemsPhrase (inside rest) vs rest)
     → item_or_end a l ≡ begun (Machine.in_list a) l → ValueDue (λ rest. whole (inside rest)) (with_items vs (opened b)) (Machine.in_list a) l
 item-due {a = a} {vs = vs} {l = l} inside d s e = record {
-  at = λ rest. Begun.behind_items (d.at (inside rest)) (s rest);
+  at = λ rest. Begun.after_items (d.at (inside rest)) (s rest);
   closing = paren_close ∷ d.closing;
   closes = λ tokens w p. d.closes (inside tokens) (push vs w) (items-last (s tokens) p);
   leads = λ rest. d.leads (inside (l ∷ rest)) ∙ (items-runs a (s (l ∷ rest)) ∙ ap (λ x. runs x rest) e);
@@ -44,7 +44,7 @@ item-due {a = a} {vs = vs} {l = l} inside d s e = record {
 }
 
 pub item-leads : {whole : Front} {b : Before} {a : Around} {vs : Items} {w : Plist} (inside more : Front) → ListDue whole b a → ((rest : List Lexeme) → ItemsPhrase (inside rest) vs rest)
-    → ((rest : List Lexeme) → Phrase (more rest) w rest) → (rest : List Lexeme) → runs Machine.front (whole (inside (more rest))) ≡ runs (Machine.behind (Machine.in_list a)) rest
+    → ((rest : List Lexeme) → Phrase (more rest) w rest) → (rest : List Lexeme) → runs Machine.front (whole (inside (more rest))) ≡ runs (Machine.after (Machine.in_list a)) rest
 item-leads {a = a} inside more d s p rest =
     d.leads (inside (more rest)) ∙ (items-runs a (s (more rest)) ∙ (item-begins a (p rest) ∙ value-runs (Machine.in_list a) (p rest)))
 
@@ -69,7 +69,7 @@ pub row-due : {whole : Front} {b : Before} {a : Around} {rows pairs : Pairs} (in
 row-due {a = a} {pairs = pairs} inside d s r p = record {
   table = braces;
   inside = inside;
-  at = λ rest. Begun.behind_brace (d.at (inside rest));
+  at = λ rest. Begun.after_brace (d.at (inside rest));
   spells = s;
   sorted = record { same = r; ascending = pairs-ascend pairs p };
   ends = brace_close ∷ d.closing;
@@ -109,7 +109,7 @@ pub row_value-due : {whole : Front} {b : Before} {t : Around} {rows pairs : Pair
     → RowValueDue (λ rest. whole (string key ∷ equals ∷ rest)) (with_key key (with_rows rows b)) t
 row_value-due {rows = rows} {pairs = pairs} key d n = record {
   table = d.table;
-  at = λ rest. Begun.behind_key (Begun.new_key (d.at (string key ∷ equals ∷ rest)) (d.spells (string key ∷ equals ∷ rest)) (reordered-has key d.sorted.same ∙ n));
+  at = λ rest. Begun.after_key (Begun.new_key (d.at (string key ∷ equals ∷ rest)) (d.spells (string key ∷ equals ∷ rest)) (reordered-has key d.sorted.same ∙ n));
   closing = d.ends;
   closes = λ tokens v p. d.closes (string key ∷ equals ∷ tokens) (push_row rows key v) (put_pair key v pairs)
       (rows-more (d.spells (string key ∷ equals ∷ tokens)) (with_value p) (reordered-has key d.sorted.same ∙ n)) (sorted-more key v d.sorted n);
@@ -145,20 +145,20 @@ row_value-open d = record {
   unfinished = ap accepts (d.leads []);
 }
 
-behind-table : {t : Around} → IsTable t → accepts (Machine.behind t) ≡ false
-behind-table braces = refl
-behind-table without = refl
+after-table : {t : Around} → IsTable t → accepts (Machine.after t) ≡ false
+after-table braces = refl
+after-table without = refl
 
 pub row_value-leads : {whole : Front} {b : Before} {t : Around} {w : Plist} (more : Front) → RowValueDue whole b t → ((rest : List Lexeme) → Phrase (more rest) w rest)
-    → (rest : List Lexeme) → runs Machine.front (whole (more rest)) ≡ runs (Machine.behind t) rest
+    → (rest : List Lexeme) → runs Machine.front (whole (more rest)) ≡ runs (Machine.after t) rest
 row_value-leads {t = t} more d p rest = d.leads (more rest) ∙ value-runs t (p rest)
 
-pub row_value-behind : {whole : Front} {b : Before} {t : Around} {w : Plist} (more : Front) → RowValueDue whole b t → ((rest : List Lexeme) → Phrase (more rest) w rest)
+pub row_value-after : {whole : Front} {b : Before} {t : Around} {w : Plist} (more : Front) → RowValueDue whole b t → ((rest : List Lexeme) → Phrase (more rest) w rest)
     → IsOpen (λ rest. whole (more rest))
-row_value-behind {w = w} more d p = record {
+row_value-after {w = w} more d p = record {
   others = semicolon ∷ d.closing;
   goes_on = d.closes (more (semicolon ∷ d.closing)) w (p (semicolon ∷ d.closing));
-  unfinished = ap accepts (row_value-leads more d p []) ∙ behind-table d.table;
+  unfinished = ap accepts (row_value-leads more d p []) ∙ after-table d.table;
 }
 
 -- the first row of a dictionary without braces

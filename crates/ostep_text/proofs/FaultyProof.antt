@@ -47,7 +47,7 @@ unfinished-none one (Stands.at_end s p n) v t = n (v, rw append-nil at (split-ph
 unfinished-none one (Stands.at_front {others = others} s m) v t = m (others, (v, split-phrase one s t))
 
 junk-none : {octets : List ℕ} {at : ℕ} → OneLexing → HasJunk octets at → IsNoText octets
-junk-none one (Stands.behind_phrase {others = others} s p m) v t = m (others, (v, rw append_assoc (split-phrase one s t)))
+junk-none one (Stands.after_phrase {others = others} s p m) v t = m (others, (v, rw append_assoc (split-phrase one s t)))
 
 tokens-none : {octets : List ℕ} → FaultyHasNone → (fault : LexFault) → StandsInTokens octets fault → ¬ (fault ≡ tokens.OutOfMemory) → IsNoText octets
 tokens-none {octets} none fault s n v t = none octets fault s n t.tokens t.has

@@ -8,15 +8,15 @@ use Rattle.ostep_lex.specs.Lexeme.{Lexeme, semicolon, paren_close, brace_close, 
 use Rattle.ostep_text.specs.Phrase.{Phrase, a_string, some_data, a_list, a_table, ItemsPhrase, items_end, last_item, an_item, RowPhrase, with_value, key_alone, RowsPhrase, rows_end, a_row, TopPhrase, a_value, bare_table}
 use Rattle.ostep_text.specs.Stands.{IsPhrase}
 use Rattle.ostep_text.specs.Machine
-use Rattle.ostep_text.specs.Machine.{Around, State, IsTable, braces, without, runs, accepts, step, begun, item_or_end, ended, row_or_end, behind_key}
+use Rattle.ostep_text.specs.Machine.{Around, State, IsTable, braces, without, runs, accepts, step, begun, item_or_end, ended, row_or_end, after_key}
 use Rattle.ostep_lex.specs.declared.token.TokenKind.{TokenKind}
 use Rattle.ostep_lex.specs.declared.token.TokenKind.TheVariants.{BraceOpen, BraceClose, ParenOpen, ParenClose, Comma, Semicolon, Equals, Text, Octets}
 use Rattle.ostep_text.specs.Begun.{begins_value}
 use Rattle.ostep_text.specs.Reading.{Front}
 
-behind-value : {t : Around} → IsTable t → (rest : List Lexeme) → runs (Machine.behind t) (semicolon ∷ rest) ≡ runs (Machine.rows t) rest
-behind-value braces rest = refl
-behind-value without rest = refl
+after-value : {t : Around} → IsTable t → (rest : List Lexeme) → runs (Machine.after t) (semicolon ∷ rest) ≡ runs (Machine.rows t) rest
+after-value braces rest = refl
+after-value without rest = refl
 
 -- no item begins with the parenthesis that ends an array
 pub item-begins : {tokens rest : List Lexeme} {v : Plist} (a : Around) → Phrase tokens v rest → runs (Machine.items a) tokens ≡ runs (Machine.due (Machine.in_list a)) tokens
@@ -26,7 +26,7 @@ item-begins a (a_list p) = refl
 item-begins a (a_table p s) = refl
 
 mutual
-  pub value-runs : {tokens rest : List Lexeme} {v : Plist} (a : Around) → Phrase tokens v rest → runs (Machine.due a) tokens ≡ runs (Machine.behind a) rest
+  pub value-runs : {tokens rest : List Lexeme} {v : Plist} (a : Around) → Phrase tokens v rest → runs (Machine.due a) tokens ≡ runs (Machine.after a) rest
   value-runs a a_string = refl
   value-runs a some_data = refl
   value-runs a (a_list p) = items-runs a p
@@ -38,8 +38,8 @@ mutual
   items-runs a (an_item p r) = item-begins a p ∙ (value-runs (Machine.in_list a) p ∙ items-runs a r)
 
   pub row-runs : {tokens rest : List Lexeme} {k : List ℕ} {v : Plist} {t : Around} → IsTable t → RowPhrase tokens k v rest → runs (Machine.rows t) tokens ≡ runs (Machine.rows t) rest
-  row-runs {t = t} braces (with_value {rest = rest} p) = value-runs t p ∙ behind-value braces rest
-  row-runs {t = t} without (with_value {rest = rest} p) = value-runs t p ∙ behind-value without rest
+  row-runs {t = t} braces (with_value {rest = rest} p) = value-runs t p ∙ after-value braces rest
+  row-runs {t = t} without (with_value {rest = rest} p) = value-runs t p ∙ after-value without rest
   row-runs braces key_alone = refl
   row-runs without key_alone = refl
 
@@ -126,7 +126,7 @@ row-ended without Equals n = refl
 row-ended without (Text units) n = refl
 row-ended without (Octets xs) n = refl
 
-pub key-ended : (t : Around) (kind : TokenKind) → ¬ (kind ≡ Equals) → ¬ (kind ≡ Semicolon) → behind_key t (lexeme_of kind) ≡ Machine.dead
+pub key-ended : (t : Around) (kind : TokenKind) → ¬ (kind ≡ Equals) → ¬ (kind ≡ Semicolon) → after_key t (lexeme_of kind) ≡ Machine.dead
 key-ended t BraceOpen n m = refl
 key-ended t BraceClose n m = refl
 key-ended t ParenOpen n m = refl

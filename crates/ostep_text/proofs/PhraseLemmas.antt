@@ -19,7 +19,7 @@ pub no-phrase : {tokens rest : List Lexeme} {v : Plist} → Phrase (paren_close 
 no-phrase h = elim h [ ]
 
 mutual
-  pub Phrase-same : {tokens rest behind : List Lexeme} {v w : Plist} → Phrase tokens v rest → Phrase tokens w behind → (v ≡ w) × (rest ≡ behind)
+  pub Phrase-same : {tokens rest after : List Lexeme} {v w : Plist} → Phrase tokens v rest → Phrase tokens w after → (v ≡ w) × (rest ≡ after)
   Phrase-same a_string a_string = (refl, refl)
   Phrase-same some_data some_data = (refl, refl)
   Phrase-same (a_list p) (a_list q) = let e = Items-same p q in (cc (e.0), e.1)
@@ -27,8 +27,8 @@ mutual
       let e = Rows-same p q refl refl in
       (cc (AreSorted-same (subst (λ x. AreSorted x pairs) e.0 s) t), cc (e.1))
 
-  Items-same : {tokens rest behind : List Lexeme} {vs ws : Items} → ItemsPhrase tokens vs (paren_close ∷ rest) → ItemsPhrase tokens ws (paren_close ∷ behind)
-      → (vs ≡ ws) × (rest ≡ behind)
+  Items-same : {tokens rest after : List Lexeme} {vs ws : Items} → ItemsPhrase tokens vs (paren_close ∷ rest) → ItemsPhrase tokens ws (paren_close ∷ after)
+      → (vs ≡ ws) × (rest ≡ after)
   Items-same items_end items_end = (refl, refl)
   Items-same items_end (last_item q) = absurd (no-phrase q)
   Items-same items_end (an_item q s) = absurd (no-phrase q)
@@ -37,25 +37,25 @@ mutual
   Items-same (last_item p) (an_item q s) = let e = Phrase-same p q in cc (e.1)
   Items-same (an_item p r) items_end = absurd (no-phrase p)
   Items-same (an_item p r) (last_item q) = let e = Phrase-same p q in cc (e.1)
-  Items-same {behind = behind} (an_item {others = rest} p r) (an_item {vs = ws} {others = after} q s) =
+  Items-same {after = end} (an_item {others = rest} p r) (an_item {vs = ws} {others = after} q s) =
       let e = Phrase-same p q in
       let after_is : after ≡ rest = cc (e.1) in
-      let f = Items-same r (subst (λ x. ItemsPhrase x ws (paren_close ∷ behind)) after_is s) in
+      let f = Items-same r (subst (λ x. ItemsPhrase x ws (paren_close ∷ end)) after_is s) in
       (cc (e.0, f.0), f.1)
 
-  pub Row-same : {tokens rest behind : List Lexeme} {key next : List ℕ} {v w : Plist} → RowPhrase tokens key v rest → RowPhrase tokens next w behind
-      → (key ≡ next) × (v ≡ w) × (rest ≡ behind)
+  pub Row-same : {tokens rest after : List Lexeme} {key next : List ℕ} {v w : Plist} → RowPhrase tokens key v rest → RowPhrase tokens next w after
+      → (key ≡ next) × (v ≡ w) × (rest ≡ after)
   Row-same (with_value p) (with_value q) = let e = Phrase-same p q in (refl, e.0, cc (e.1))
   Row-same key_alone key_alone = (refl, refl, refl)
 
-  Rows-same : {tokens rest behind : List Lexeme} {rows others : Pairs} → RowsPhrase tokens rows rest → RowsPhrase tokens others behind
-      → begins_row rest ≡ false → begins_row behind ≡ false → (rows ≡ others) × (rest ≡ behind)
+  Rows-same : {tokens rest after : List Lexeme} {rows others : Pairs} → RowsPhrase tokens rows rest → RowsPhrase tokens others after
+      → begins_row rest ≡ false → begins_row after ≡ false → (rows ≡ others) × (rest ≡ after)
   Rows-same rows_end rows_end h k = (refl, refl)
   Rows-same rows_end (a_row q s d) h k = cc (h, row-begins q)
   Rows-same (a_row p r c) rows_end h k = cc (k, row-begins p)
-  Rows-same {behind = behind} (a_row p r c) (a_row {rows = rows} q s d) h k =
+  Rows-same {after = after} (a_row p r c) (a_row {rows = rows} q s d) h k =
       let e = Row-same p q in
-      let f = Rows-same r (subst (λ x. RowsPhrase x rows behind) (sym e.2) s) h k in
+      let f = Rows-same r (subst (λ x. RowsPhrase x rows after) (sym e.2) s) h k in
       (cc (e.0, e.1, f.0), f.1)
 
 no-value : {key : List ℕ} {l : Lexeme} {tokens : List Lexeme} {v : Plist} → Phrase (string key ∷ l ∷ tokens) v [] → ⊥

@@ -51,9 +51,9 @@ data-read tokens first xs e h = record {
 }
 
 -- after a first token
-behind-first : {known : Known} {inside : Front} (tokens : List Placed) (first : Placed) → ReadsOn known (tokens ++ first ∷ []) inside
+after-first : {known : Known} {inside : Front} (tokens : List Placed) (first : Placed) → ReadsOn known (tokens ++ first ∷ []) inside
     → ReadsOn known tokens (λ rest. first.lexeme ∷ inside rest)
-behind-first tokens first r = record {
+after-first tokens first r = record {
   all = r.all;
   has = r.has;
   follow = λ whole b. r.follow (λ rest. whole (first.lexeme ∷ rest)) (before-more tokens first whole b);
@@ -64,7 +64,7 @@ pub list-read : {known : Known} {vs : Items} (tokens : List Placed) (first : Pla
 list-read {vs = vs} tokens first e i = record {
   inside = i.inside;
   spells = λ rest. subst (λ x. Phrase (x ∷ i.inside rest) (list vs) rest) (sym e) (a_list (i.spells rest));
-  reads = behind-first tokens first i.reads;
+  reads = after-first tokens first i.reads;
 }
 
 pub table-read : {known : Known} {rows ps : Pairs} (tokens : List Placed) (first : Placed) → first.lexeme ≡ brace_open
@@ -72,7 +72,7 @@ pub table-read : {known : Known} {rows ps : Pairs} (tokens : List Placed) (first
 table-read {ps = ps} tokens first e r s = record {
   inside = r.inside;
   spells = λ rest. subst (λ x. Phrase (x ∷ r.inside rest) (table ps) rest) (sym e) (a_table (r.spells rest) s);
-  reads = behind-first tokens first r.reads;
+  reads = after-first tokens first r.reads;
 }
 
 pub no-items-read : {known : Known} {tokens : List Placed} → known tokens → ReadsItems known tokens [] no_items
@@ -118,7 +118,7 @@ row-read {known} tokens at token key l e r = record {
   spells = λ rest. with_value (r.spells rest);
   reads = subst (λ x. ReadsOn known tokens (λ rest. x ∷ equals ∷ r.inside rest)) l
       (subst (λ x. ReadsOn known tokens (λ rest. at.lexeme ∷ x ∷ r.inside rest)) e
-      (behind-first tokens at (behind-first (tokens ++ at ∷ []) token r.reads)));
+      (after-first tokens at (after-first (tokens ++ at ∷ []) token r.reads)));
 }
 
 pub alone-read : {known : Known} (tokens : List Placed) (at token : Placed) (key : List ℕ) → at.lexeme ≡ string key → token.lexeme ≡ semicolon
@@ -127,7 +127,7 @@ alone-read {known} tokens at token key l e h = record {
   inside = λ rest. string key ∷ semicolon ∷ rest;
   spells = λ rest. key_alone;
   reads = subst (λ x. ReadsOn known tokens (λ rest. x ∷ semicolon ∷ rest)) l
-      (behind-first tokens at (reads-token (tokens ++ at ∷ []) token semicolon e h));
+      (after-first tokens at (reads-token (tokens ++ at ∷ []) token semicolon e h));
 }
 
 pub no-rows-read : {known : Known} {tokens : List Placed} → known tokens → ReadsRows known tokens [] no_pairs

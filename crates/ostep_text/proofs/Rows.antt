@@ -50,8 +50,8 @@ sorted_table =
     }))
 
 -- `(a, <61>,)`: a comma may follow the last item
-pub comma_behind_last : TopPhrase (paren_open ∷ a ∷ comma ∷ data_token (codes "a") ∷ comma ∷ paren_close ∷ []) (list (item a_text (item (scalar (bytes (codes "a"))) no_items)))
-comma_behind_last = Phrase.a_value (Phrase.a_list (Phrase.an_item Phrase.a_string (Phrase.an_item Phrase.some_data Phrase.items_end)))
+pub comma_after_last : TopPhrase (paren_open ∷ a ∷ comma ∷ data_token (codes "a") ∷ comma ∷ paren_close ∷ []) (list (item a_text (item (scalar (bytes (codes "a"))) no_items)))
+comma_after_last = Phrase.a_value (Phrase.a_list (Phrase.an_item Phrase.a_string (Phrase.an_item Phrase.some_data Phrase.items_end)))
 
 -- `a = b; c;`: a dictionary without its braces, and a key that is its own value
 pub bare_table : TopPhrase (a ∷ equals ∷ b ∷ semicolon ∷ string (codes "c") ∷ semicolon ∷ [])
@@ -130,13 +130,13 @@ pub last_item : NodeAt
     (string (codes "c") ∷ paren_close ∷ semicolon ∷ [])
 last_item =
     Begun.value
-    (Begun.behind_items (Begun.behind_key (Begun.new_key Begun.bare Phrase.rows_end refl))
+    (Begun.after_items (Begun.after_key (Begun.new_key Begun.bare Phrase.rows_end refl))
     (Phrase.an_item (Phrase.a_list (Phrase.an_item Phrase.a_string (Phrase.last_item Phrase.some_data))) Phrase.items_end))
     refl
 
 -- `{a;`: the value of a key alone is at its key, and counted after it
 pub value_at_key : NodeAt (brace_open ∷ a ∷ semicolon ∷ []) (record { open_containers = 1; nodes = 2; payload = 2 }) (a ∷ semicolon ∷ [])
-value_at_key = Begun.value (Begun.at_key (Begun.new_key (Begun.behind_brace Begun.front) Phrase.rows_end refl)) refl
+value_at_key = Begun.value (Begun.at_key (Begun.new_key (Begun.after_brace Begun.front) Phrase.rows_end refl)) refl
 
 -- the tokens before an offset, and those from it on
 splits : {octets : List ℕ} (tokens others : List Placed) (whole : List ℕ) → Spells octets whole → Lexes (places_of octets) whole (tokens ++ others)
@@ -156,7 +156,7 @@ unfolding encode_utf8
 key_twice = record {
   key = codes "a";
   before = brace_open ∷ a ∷ semicolon ∷ [];
-  behind = equals ∷ b ∷ semicolon ∷ brace_close ∷ [];
+  after = equals ∷ b ∷ semicolon ∷ brace_close ∷ [];
   splits = splits (at brace_open 0 1 ∷ at a 1 2 ∷ at semicolon 2 3 ∷ []) (at a 3 4 ∷ at equals 4 5 ∷ at b 5 6 ∷ at semicolon 6 7 ∷ at brace_close 7 8 ∷ []) (codes "{a;a=b;}") (record { scalars = refl; spelled = refl })
       (next Gap.none (Lexeme.mark refl)
       (next Gap.none (Lexeme.run refl refl (Quoted.stop refl))
@@ -169,7 +169,7 @@ key_twice = record {
   counted = Begun.opened Begun.nothing;
   inside = a ∷ semicolon ∷ a ∷ equals ∷ b ∷ semicolon ∷ brace_close ∷ [];
   rows = pair (codes "a") (scalar (text (codes "a"))) no_pairs;
-  table = Begun.behind_brace Begun.front;
+  table = Begun.after_brace Begun.front;
   rows_before = Phrase.a_row Phrase.key_alone Phrase.rows_end refl;
   twice = refl;
 }
@@ -222,7 +222,7 @@ list_cut =
 pub second_value : HasJunk (codes "a b") 2
 unfolding encode_utf8
 second_value =
-    Stands.behind_phrase
+    Stands.after_phrase
     (splits (at a 0 1 ∷ []) (at b 2 3 ∷ []) (codes "a b") (record { scalars = refl; spelled = refl })
     (next Gap.none (Lexeme.run refl refl (Quoted.stop refl))
     (next (Gap.piece (Gap.white refl) Gap.none) (Lexeme.run refl refl (Quoted.stop refl)) (none Gap.none))))

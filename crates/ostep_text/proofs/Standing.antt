@@ -58,7 +58,7 @@ pub record SplitsAt (octets : List ℕ) (before : List Lexeme) (token : Placed) 
 pub splits-at : {octets : List ℕ} {source : Tokens} (tokens more : List Placed) (token : Placed) (whole : Front) → AreBefore tokens whole
     → HasRead octets (tokens ++ token ∷ more) source → (all : List Placed) → HasTokens octets all → SplitsAt octets (whole []) token more
 splits-at {octets} tokens more token whole b h all t =
-    let c = tokens_continue octets (tokens ++ token ∷ more) all _ h.behind.before t in
+    let c = tokens_continue octets (tokens ++ token ∷ more) all _ h.after.before t in
     let is : all ≡ tokens ++ token ∷ (more ++ c.others) = c.first ∙ append_assoc tokens (token ∷ more) c.others in
     record {
       others = c.others;
@@ -121,7 +121,7 @@ pub junk-at : {octets : List ℕ} {source : Tokens} (tokens : List Placed) (toke
 junk-at {octets} tokens token whole b h n p d all t =
     let s = splits-at tokens [] token whole b h all t in
     elim (is-some (whole []) n) [
-      | some first more e ↦ Faults.behind_phrase
+      | some first more e ↦ Faults.after_phrase
           (subst (λ ls. Splits octets token.start ls (token.lexeme ∷ lexemes s.others)) e s.splits)
           (subst (λ ls. IsPhrase ls) e p)
           (λ q. goes-nowhere tokens whole token.lexeme b d (subst (λ ls. BeginsPhrase (ls ++ token.lexeme ∷ [])) (sym e) q))
@@ -215,11 +215,11 @@ pub key-refuses : {octets : List ℕ} {source : Tokens} {b : Before} {t : Around
 key-refuses tokens at octet key whole levels load left l s f h d m i =
     string-refuses tokens [] at octet key whole levels load left l s f h (λ others. key-node key d (lexemes others)) m i
 
-pub alone-refuses : {octets : List ℕ} {source : Tokens} {b : Before} {t : Around} {rows pairs : Pairs} (tokens : List Placed) (at behind : Placed) (octet : ℕ) (key : List ℕ) (whole : Front)
-    (levels : ℕ) (left : Budget) → at.lexeme ≡ string key → at.start ≡ octet → behind.lexeme ≡ semicolon → AreBefore tokens whole → HasRead octets (tokens ++ at ∷ behind ∷ []) source
+pub alone-refuses : {octets : List ℕ} {source : Tokens} {b : Before} {t : Around} {rows pairs : Pairs} (tokens : List Placed) (at after : Placed) (octet : ℕ) (key : List ℕ) (whole : Front)
+    (levels : ℕ) (left : Budget) → at.lexeme ≡ string key → at.start ≡ octet → after.lexeme ≡ semicolon → AreBefore tokens whole → HasRead octets (tokens ++ at ∷ after ∷ []) source
     → RowDue whole b t rows pairs → has_key key pairs ≡ false → IsLeft left levels (with_key key (with_rows rows b)) → MayRefuse octets octet levels (2 * length key) left
-alone-refuses tokens at behind octet key whole levels left l s e f h d n i =
-    string-refuses tokens (behind ∷ []) at octet key whole levels (2 * length key) left l s f h
+alone-refuses tokens at after octet key whole levels left l s e f h d n i =
+    string-refuses tokens (after ∷ []) at octet key whole levels (2 * length key) left l s f h
     (λ others. rw e (alone-node key d n (lexemes others))) (omega arith) i
 
 pub twice-stands : {octets : List ℕ} {source : Tokens} {b : Before} {t : Around} {rows pairs : Pairs} (tokens : List Placed) (at : Placed) (octet : ℕ) (key : List ℕ) (whole : Front)
@@ -227,16 +227,16 @@ pub twice-stands : {octets : List ℕ} {source : Tokens} {b : Before} {t : Aroun
     → StandsIfLexed octets (DuplicateKey octet)
 twice-stands {octets} {b = b} {rows = rows} tokens at octet key whole l s f h d y all t =
     let p = splits-at tokens [] at whole f h all t in
-    let behind : List Lexeme = lexemes p.others in
+    let after : List Lexeme = lexemes p.others in
     record {
       key = key;
       before = whole [];
-      behind = behind;
-      splits = subst (λ x. Splits octets x (whole []) (string key ∷ behind)) s (subst (λ x. Splits octets at.start (whole []) (x ∷ behind)) l p.splits);
+      after = after;
+      splits = subst (λ x. Splits octets x (whole []) (string key ∷ after)) s (subst (λ x. Splits octets at.start (whole []) (x ∷ after)) l p.splits);
       counted = b;
-      inside = d.inside (string key ∷ behind);
+      inside = d.inside (string key ∷ after);
       rows = rows;
-      table = subst (λ ls. RowsAt ls b (d.inside (string key ∷ behind))) (sym (whole-append tokens whole f (string key ∷ behind))) (d.at (string key ∷ behind));
-      rows_before = d.spells (string key ∷ behind);
+      table = subst (λ ls. RowsAt ls b (d.inside (string key ∷ after))) (sym (whole-append tokens whole f (string key ∷ after))) (d.at (string key ∷ after));
+      rows_before = d.spells (string key ∷ after);
       twice = reordered-has key d.sorted.same ∙ y;
     }

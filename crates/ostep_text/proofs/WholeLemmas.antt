@@ -24,26 +24,26 @@ pub record Within (b : Before) (deep more load : ℕ) (v : Plist) : Type 0 where
 -- an item among all items
 record ItemThere (at : List Lexeme) (vs all : Items) : Type 0 where
   value : Plist
-  behind : List Lexeme
-  phrase : Phrase at value behind
+  after : List Lexeme
+  phrase : Phrase at value after
   nodes_are : nodes_of_items vs + nodes value ≤ nodes_of_items all
   depth_is : depth value ≤ depth_of_items all
   payload_is : payload_of_items vs + payload value ≤ payload_of_items all
 
-behind-item : {at : List Lexeme} {v : Plist} {vs all : Items} → ItemThere at vs all → ItemThere at (item v vs) (item v all)
-behind-item i = record {
+after-item : {at : List Lexeme} {v : Plist} {vs all : Items} → ItemThere at vs all → ItemThere at (item v vs) (item v all)
+after-item i = record {
   value = i.value;
-  behind = i.behind;
+  after = i.after;
   phrase = i.phrase;
   nodes_are = omega (arith, i.nodes_are);
   depth_is = omega (arith, i.depth_is);
   payload_is = omega (arith, i.payload_is);
 }
 
-first-item : {at behind : List Lexeme} {v : Plist} {vs : Items} → Phrase at v behind → ItemThere at no_items (item v vs)
-first-item {behind = behind} {v = v} p = record {
+first-item : {at after : List Lexeme} {v : Plist} {vs : Items} → Phrase at v after → ItemThere at no_items (item v vs)
+first-item {after = after} {v = v} p = record {
   value = v;
-  behind = behind;
+  after = after;
   phrase = p;
   nodes_are = omega arith;
   depth_is = omega arith;
@@ -64,13 +64,13 @@ item-there {at = at} (an_item {v = v} {vs = all} {others = others} p r) (an_item
     let e = Phrase-same p q in
     let after_is : after ≡ others = cc (e.1) in
     let i = item-there r (subst (λ x. ItemsPhrase x vs at) after_is s) b in
-    subst (λ w. ItemThere at (item w vs) (item v all)) (e.0) (behind-item i)
+    subst (λ w. ItemThere at (item w vs) (item v all)) (e.0) (after-item i)
 
 -- a row among all rows
 record RowThere (key : List ℕ) (rest : List Lexeme) (rows all : Pairs) : Type 0 where
   value : Plist
-  behind : List Lexeme
-  row : RowPhrase (string key ∷ rest) key value behind
+  after : List Lexeme
+  row : RowPhrase (string key ∷ rest) key value after
   once : has_key key rows ≡ false
   among : has_key key all ≡ true
   nodes_are : nodes_of_pairs rows + (1 + nodes value) ≤ nodes_of_pairs all
@@ -92,11 +92,11 @@ other_key key next all e f =
     false_from_ne_true (pointwise nat_eq key next) (λ same. let is : key ≡ next = (bytes_decides key next).0 same in
     let g : has_key key all ≡ false = subst (λ k. has_key k all ≡ false) (sym is) e in cc (f, g))
 
-behind-row : {key next : List ℕ} {rest : List Lexeme} {v : Plist} {rows all : Pairs} → has_key next all ≡ false → RowThere key rest rows all
+after-row : {key next : List ℕ} {rest : List Lexeme} {v : Plist} {rows all : Pairs} → has_key next all ≡ false → RowThere key rest rows all
     → RowThere key rest (pair next v rows) (pair next v all)
-behind-row {key} {next = next} {rows = rows} {all = all} d r = record {
+after-row {key} {next = next} {rows = rows} {all = all} d r = record {
   value = r.value;
-  behind = r.behind;
+  after = r.after;
   row = r.row;
   once = or-neither (pointwise nat_eq key next) (has_key key rows) (other_key key next all d r.among) r.once;
   among = or-same (pointwise nat_eq key next) (has_key key all) r.among;
@@ -105,10 +105,10 @@ behind-row {key} {next = next} {rows = rows} {all = all} d r = record {
   payload_is = omega (arith, r.payload_is);
 }
 
-first-row : {key : List ℕ} {rest behind : List Lexeme} {v : Plist} {rows : Pairs} → RowPhrase (string key ∷ rest) key v behind → RowThere key rest no_pairs (pair key v rows)
-first-row {key} {behind = behind} {v = v} {rows = rows} r = record {
+first-row : {key : List ℕ} {rest after : List Lexeme} {v : Plist} {rows : Pairs} → RowPhrase (string key ∷ rest) key v after → RowThere key rest no_pairs (pair key v rows)
+first-row {key} {after = after} {v = v} {rows = rows} r = record {
   value = v;
-  behind = behind;
+  after = after;
   row = r;
   once = refl;
   among = rw (same_key key) refl;
@@ -117,7 +117,7 @@ first-row {key} {behind = behind} {v = v} {rows = rows} r = record {
   payload_is = omega arith;
 }
 
-at-row : {key next : List ℕ} {rest behind : List Lexeme} {v : Plist} {rows : Pairs} → RowPhrase (string key ∷ rest) next v behind → RowThere key rest no_pairs (pair next v rows)
+at-row : {key next : List ℕ} {rest after : List Lexeme} {v : Plist} {rows : Pairs} → RowPhrase (string key ∷ rest) next v after → RowThere key rest no_pairs (pair next v rows)
 at-row (with_value p) = first-row (with_value p)
 at-row key_alone = first-row key_alone
 
@@ -130,7 +130,7 @@ row-there {rest = rest} {key = key} (a_row {key = next} {v = v} {rows = all} p r
     let e = Row-same p q in
     let t = row-there r h (subst (λ x. RowsPhrase x rows (string key ∷ rest)) (sym e.2) s) in
     subst (λ k. RowThere key rest (pair k w rows) (pair next v all)) (e.0)
-    (subst (λ x. RowThere key rest (pair next x rows) (pair next v all)) (e.1) (behind-row c t))
+    (subst (λ x. RowThere key rest (pair next x rows) (pair next v all)) (e.1) (after-row c t))
 
 -- a place for a value has a value, or the rows of a whole text without braces
 pub data ValueThere (b : Before) (v : Plist) (at : List Lexeme) : Type 0 where
@@ -145,9 +145,9 @@ pub data RowsThere (b : Before) (v : Plist) (inside : List Lexeme) : Type 0 wher
 
 -- after a key comes the rest of its row, or nothing
 pub data KeyThere (b : Before) (v : Plist) (key : List ℕ) (rest : List Lexeme) : Type 0 where
-  row : {w : Plist} {behind : List Lexeme} → RowPhrase (string key ∷ rest) key w behind
+  row : {w : Plist} {after : List Lexeme} → RowPhrase (string key ∷ rest) key w after
       → Within b (max 1 (depth w)) (1 + nodes w) (2 * length key + payload w) v → KeyThere b v key rest
-  nothing_behind : rest ≡ [] → KeyThere b v key rest
+  nothing_after : rest ≡ [] → KeyThere b v key rest
 
 front-there : {whole : List Lexeme} {v : Plist} → TopPhrase whole v → ValueThere nothing v whole
 front-there (a_value p) = stands p (record { nodes_within = omega arith; depth_within = omega arith; payload_within = omega arith })
@@ -201,12 +201,12 @@ key-there {before = before} (rows p h w) q =
       depth_within = omega (arith, r.depth_is, w.depth_within);
       payload_within = omega (arith, r.payload_is, w.payload_within);
     })
-key-there (value p e) q = nothing_behind ((alone p q).0)
+key-there (value p e) q = nothing_after ((alone p q).0)
 
-value_of : {key next : List ℕ} {at behind : List Lexeme} {w : Plist} → RowPhrase (string key ∷ equals ∷ at) next w behind → Phrase at w (semicolon ∷ behind)
+value_of : {key next : List ℕ} {at after : List Lexeme} {w : Plist} → RowPhrase (string key ∷ equals ∷ at) next w after → Phrase at w (semicolon ∷ after)
 value_of (with_value p) = p
 
-same_text : {key next : List ℕ} {rest behind : List Lexeme} {w : Plist} → RowPhrase (string key ∷ semicolon ∷ rest) next w behind → w ≡ scalar (text key)
+same_text : {key next : List ℕ} {rest after : List Lexeme} {w : Plist} → RowPhrase (string key ∷ semicolon ∷ rest) next w after → w ≡ scalar (text key)
 same_text key_alone = refl
 
 key_value-there : {b : Before} {v : Plist} {key : List ℕ} {at : List Lexeme} → KeyThere b v key (equals ∷ at) → ValueThere (with_key key b) v at
@@ -215,7 +215,7 @@ key_value-there (row r w) = stands (value_of r) (record {
   depth_within = omega (arith, w.depth_within);
   payload_within = omega (arith, w.payload_within);
 })
-key_value-there (nothing_behind e) = cc e
+key_value-there (nothing_after e) = cc e
 
 key_alone-there : {b : Before} {v : Plist} {key : List ℕ} {rest : List Lexeme} → KeyThere b v key (semicolon ∷ rest)
     → ValueThere (with_key key b) v (string key ∷ semicolon ∷ rest)
@@ -228,17 +228,17 @@ key_alone-there {b} {v} {key} (row r w) =
       depth_within = omega (arith, u.depth_within);
       payload_within = omega (arith, u.payload_within);
     })
-key_alone-there (nothing_behind e) = cc e
+key_alone-there (nothing_after e) = cc e
 
 mutual
   pub value-there : {whole at : List Lexeme} {b : Before} {v : Plist} → TopPhrase whole v → ValueAt whole b at → begins_value at ≡ true → ValueThere b v at
   value-there t Begun.front h = front-there t
-  value-there t (Begun.behind_items p q) h = items-there (value-there t p refl) q h
-  value-there t (Begun.behind_key k) h = key_value-there (new_key-there t k)
+  value-there t (Begun.after_items p q) h = items-there (value-there t p refl) q h
+  value-there t (Begun.after_key k) h = key_value-there (new_key-there t k)
   value-there t (Begun.at_key k) h = key_alone-there (new_key-there t k)
 
   pub rows-there : {whole inside : List Lexeme} {b : Before} {v : Plist} → TopPhrase whole v → RowsAt whole b inside → RowsThere b v inside
-  rows-there t (Begun.behind_brace p) = inside-there (value-there t p refl)
+  rows-there t (Begun.after_brace p) = inside-there (value-there t p refl)
   rows-there t Begun.bare = bare-there t
 
   pub new_key-there : {whole rest : List Lexeme} {b : Before} {v : Plist} {key : List ℕ} → TopPhrase whole v → NewKeyAt whole b key rest → KeyThere b v key rest

@@ -170,26 +170,26 @@ digit-test : (d : ℕ) → d < 16 → is_digit (digit_char d) 16 ≡ true
 digit-test d h = let e : digit_value (digit_char d) ≡ d = digit_value-digit_char d (omega (arith, h)) in rw e (grind (arith, nat_tests))
 
 four_digits : (a b c d : ℕ) (rest : List ℕ) → is_digit a 16 ≡ true → is_digit b 16 ≡ true → is_digit c 16 ≡ true → is_digit d 16 ≡ true
-    → hexadecimal_number (a ∷ b ∷ c ∷ d ∷ rest) ≡ record { value = (((0 * 16 + digit_value a) * 16 + digit_value b) * 16 + digit_value c) * 16 + digit_value d; behind = rest }
+    → hexadecimal_number (a ∷ b ∷ c ∷ d ∷ rest) ≡ record { value = (((0 * 16 + digit_value a) * 16 + digit_value b) * 16 + digit_value c) * 16 + digit_value d; after = rest }
 four_digits a b c d rest h i j k = rw (h, i, j, k) refl
 
 four_value : (a b c d : ℕ) (rest : List ℕ) → a < 16 → b < 16 → c < 16 → d < 16
-    → hexadecimal_number (digit_char a ∷ digit_char b ∷ digit_char c ∷ digit_char d ∷ rest) ≡ record { value = ((a * 16 + b) * 16 + c) * 16 + d; behind = rest }
+    → hexadecimal_number (digit_char a ∷ digit_char b ∷ digit_char c ∷ digit_char d ∷ rest) ≡ record { value = ((a * 16 + b) * 16 + c) * 16 + d; after = rest }
 four_value a b c d rest h i j k =
     four_digits (digit_char a) (digit_char b) (digit_char c) (digit_char d) rest (digit-test a h) (digit-test b i) (digit-test c j) (digit-test d k)
-    ∙ ap (λ x. record { value = x; behind = rest })
+    ∙ ap (λ x. record { value = x; after = rest })
     (rw (digit_value-digit_char a (omega (arith, h)), digit_value-digit_char b (omega (arith, i)), digit_value-digit_char c (omega (arith, j)), digit_value-digit_char d (omega (arith, k))) (omega arith))
 
 unit-number : (unit : ℕ) (rest : List ℕ) → unit < 65536
-    → hexadecimal_number (two_digits (unit / 256) ++ (two_digits (unit % 256) ++ rest)) ≡ record { value = unit; behind = rest }
+    → hexadecimal_number (two_digits (unit / 256) ++ (two_digits (unit % 256) ++ rest)) ≡ record { value = unit; after = rest }
 unit-number unit rest h =
     four_value (unit / 256 / 16) (unit / 256 % 16) (unit % 256 / 16) (unit % 256 % 16) rest (omega (arith, h)) (omega (arith, h)) (omega (arith, h)) (omega (arith, h))
-    ∙ ap (λ x. record { value = x; behind = rest }) (omega (arith, h))
+    ∙ ap (λ x. record { value = x; after = rest }) (omega (arith, h))
 
-number-escape : (digits : List ℕ) (unit : ℕ) (rest : List ℕ) → begins_digit 16 digits ≡ true → hexadecimal_number digits ≡ record { value = unit; behind = rest }
+number-escape : (digits : List ℕ) (unit : ℕ) (rest : List ℕ) → begins_digit 16 digits ≡ true → hexadecimal_number digits ≡ record { value = unit; after = rest }
     → Piece 34 (92 ∷ 85 ∷ digits) (unit ∷ []) rest
 number-escape digits unit rest b e =
-    let P : Number → Type 0 = λ n. Piece 34 (92 ∷ 85 ∷ digits) (n.value ∷ []) n.behind in
+    let P : Number → Type 0 = λ n. Piece 34 (92 ∷ 85 ∷ digits) (n.value ∷ []) n.after in
     subst P e (Quoted.escape (Quoted.unit b))
 
 number-piece : (unit : ℕ) (rest : List ℕ) → unit < 65536 → Piece 34 (92 ∷ 85 ∷ (two_digits (unit / 256) ++ (two_digits (unit % 256) ++ rest))) (unit ∷ []) rest
@@ -246,9 +246,9 @@ white-lexes w (next g t r) = next (Gap.piece (Gap.white w) g) t r
 white-more : {p : Places} {c : ℕ} {rest : List ℕ} {ls : List Lexeme} → is_white c ≡ true → Lexed p rest ls → Lexed p (c ∷ rest) ls
 white-more w d = record { tokens = d.tokens; lexes = white-lexes w d.lexes; are = d.are }
 
-token-more : {p : Places} {from behind : List ℕ} {l : Lexeme} {ls : List Lexeme} → IsToken from l behind → Lexed p behind ls → Lexed p from (l ∷ ls)
-token-more {p} {from} {behind} {l} t d = record {
-  tokens = record { lexeme = l; start = place p from; end = place p behind } ∷ d.tokens;
+token-more : {p : Places} {from after : List ℕ} {l : Lexeme} {ls : List Lexeme} → IsToken from l after → Lexed p after ls → Lexed p from (l ∷ ls)
+token-more {p} {from} {after} {l} t d = record {
+  tokens = record { lexeme = l; start = place p from; end = place p after } ∷ d.tokens;
   lexes = next Gap.none t d.lexes;
   are = ap (λ x. l ∷ x) d.are;
 }

@@ -147,10 +147,10 @@ or_false false b e = (refl, e)
 not_newline : (c : ℕ) (rest : List ℕ) → has_newline (c ∷ rest) ≡ false → (nat_eq c 10 ≡ false) × (has_newline rest ≡ false)
 not_newline c rest h = or_false (c == 10) (has_newline rest) h
 
-newline-behind : (needle xs : List ℕ) → has_newline needle ≡ false → starts_with nat_eq (xs ++ 10 ∷ []) needle ≡ starts_with nat_eq xs needle
-newline-behind [] xs h = refl
-newline-behind (n ∷ needle) [] h = rw (not_newline n needle h).0 refl
-newline-behind (n ∷ needle) (x ∷ xs) h = ap (λ b. nat_eq n x && b) (newline-behind needle xs (not_newline n needle h).1)
+newline-after : (needle xs : List ℕ) → has_newline needle ≡ false → starts_with nat_eq (xs ++ 10 ∷ []) needle ≡ starts_with nat_eq xs needle
+newline-after [] xs h = refl
+newline-after (n ∷ needle) [] h = rw (not_newline n needle h).0 refl
+newline-after (n ∷ needle) (x ∷ xs) h = ap (λ b. nat_eq n x && b) (newline-after needle xs (not_newline n needle h).1)
 
 if-binary : (b : Bool) (xs ys : List ℕ) → (b ≡ true → starts_with nat_eq (xs ++ 10 ∷ []) (codes "bplist") ≡ false) → (b ≡ false → starts_with nat_eq (ys ++ 10 ∷ []) (codes "bplist") ≡ false)
     → starts_with nat_eq ((if b then xs else ys) ++ 10 ∷ []) (codes "bplist") ≡ false
@@ -163,7 +163,7 @@ not-false false e = refl
 
 plain-binary : (units : List ℕ) → is_plain units ≡ true → starts_with nat_eq (units ++ 10 ∷ []) (codes "bplist") ≡ false
 plain-binary units e =
-    newline-behind (codes "bplist") units refl
+    newline-after (codes "bplist") units refl
     ∙ not-false (starts_with nat_eq units (codes "bplist")) (both (not (is_empty units) && are_alphanumeric units) (not (starts_with nat_eq units (codes "bplist"))) e).1
 
 pub not-binary : (v : Plist) → starts_with nat_eq (written v ++ codes "\n") (codes "bplist") ≡ false

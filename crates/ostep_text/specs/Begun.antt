@@ -35,15 +35,15 @@ mutual
   -- new key and `=`. The value of a key alone is at its key.
   pub data ValueAt (whole : List Lexeme) : Before → List Lexeme → Type 0 where
     front : ValueAt whole nothing whole
-    behind_items : {b : Before} {vs : Items} {inside at : List Lexeme} → ValueAt whole b (paren_open ∷ inside) → ItemsPhrase inside vs at
+    after_items : {b : Before} {vs : Items} {inside at : List Lexeme} → ValueAt whole b (paren_open ∷ inside) → ItemsPhrase inside vs at
         → ValueAt whole (with_items vs (opened b)) at
-    behind_key : {b : Before} {key : List ℕ} {at : List Lexeme} → NewKeyAt whole b key (equals ∷ at) → ValueAt whole (with_key key b) at
+    after_key : {b : Before} {key : List ℕ} {at : List Lexeme} → NewKeyAt whole b key (equals ∷ at) → ValueAt whole (with_key key b) at
     at_key : {b : Before} {key : List ℕ} {rest : List Lexeme} → NewKeyAt whole b key (semicolon ∷ rest)
         → ValueAt whole (with_key key b) (string key ∷ semicolon ∷ rest)
 
   -- where rows of a dictionary are: after its brace, or at the start of the text
   pub data RowsAt (whole : List Lexeme) : Before → List Lexeme → Type 0 where
-    behind_brace : {b : Before} {inside : List Lexeme} → ValueAt whole b (brace_open ∷ inside) → RowsAt whole (opened b) inside
+    after_brace : {b : Before} {inside : List Lexeme} → ValueAt whole b (brace_open ∷ inside) → RowsAt whole (opened b) inside
     bare : RowsAt whole (opened nothing) whole
 
   -- a key that no row before it has, and the tokens after it

@@ -15,7 +15,7 @@ pub data Around : Type 0 where
 -- - `lone`: after a string there;
 -- - `due`: a value has to follow;
 -- - `items`: in an array, before an item or its end;
--- - `behind`: after a value;
+-- - `after`: after a value;
 -- - `rows`: in a dictionary, before a row or its end;
 -- - `key`: after a key;
 -- - `dead`: no phrase continues like this.
@@ -24,41 +24,41 @@ pub data State : Type 0 where
   lone : State
   due : Around → State
   items : Around → State
-  behind : Around → State
+  after : Around → State
   rows : Around → State
   key : Around → State
   dead : State
 
 -- the state after a token where a value may begin
 abbrev pub begun : Around → Lexeme → State
-begun a (string units) = behind a
-begun a (data_token xs) = behind a
+begun a (string units) = after a
+begun a (data_token xs) = after a
 begun a paren_open = items a
 begun a brace_open = rows (in_braces a)
 begun a l = dead
 
 -- the state after a token in an array enclosed by `a`, before an item or its end
 abbrev pub item_or_end : Around → Lexeme → State
-item_or_end a paren_close = behind a
+item_or_end a paren_close = after a
 item_or_end a l = begun (in_list a) l
 
 abbrev pub ended : Around → Lexeme → State
 ended top l = dead
 ended (in_list a) comma = items a
-ended (in_list a) paren_close = behind a
+ended (in_list a) paren_close = after a
 ended (in_braces a) semicolon = rows (in_braces a)
 ended bare semicolon = rows bare
 ended a l = dead
 
 abbrev pub row_or_end : Around → Lexeme → State
 row_or_end a (string units) = key a
-row_or_end (in_braces a) brace_close = behind a
+row_or_end (in_braces a) brace_close = after a
 row_or_end a l = dead
 
-abbrev pub behind_key : Around → Lexeme → State
-behind_key a equals = due a
-behind_key a semicolon = rows a
-behind_key a l = dead
+abbrev pub after_key : Around → Lexeme → State
+after_key a equals = due a
+after_key a semicolon = rows a
+after_key a l = dead
 
 abbrev pub at_front : Lexeme → State
 at_front (string units) = lone
@@ -66,12 +66,12 @@ at_front l = begun top l
 
 abbrev pub step : State → Lexeme → State
 step front l = at_front l
-step lone l = behind_key bare l
+step lone l = after_key bare l
 step (due a) l = begun a l
 step (items a) l = item_or_end a l
-step (behind a) l = ended a l
+step (after a) l = ended a l
 step (rows a) l = row_or_end a l
-step (key a) l = behind_key a l
+step (key a) l = after_key a l
 step dead l = dead
 
 abbrev pub runs : State → List Lexeme → State
@@ -82,7 +82,7 @@ runs s (l ∷ ls) = runs (step s l) ls
 abbrev pub accepts : State → Bool
 accepts front = true
 accepts lone = true
-accepts (behind top) = true
+accepts (after top) = true
 accepts (rows bare) = true
 accepts _ = false
 

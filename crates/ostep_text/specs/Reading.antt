@@ -19,7 +19,7 @@ use Rattle.ostep_text.specs.declared.tokens.Tokens.{Tokens}
 
 -- these tokens of the input were read
 pub record HasRead (octets : List ℕ) (tokens : List Placed) (source : Tokens) : Type 0 where
-  pub behind : StandsBehind octets tokens source.cursor
+  pub after : StandsBehind octets tokens source.cursor
   pub ends : source.end ≡ length octets
 
 -- the fault is true if the bytes have tokens

@@ -37,13 +37,13 @@ pub record BeginsAt (octets : List ℕ) (at : ℕ) (b : Before) (from : List Lex
 pub record HasKeyTwice (octets : List ℕ) (at : ℕ) : Type 0 where
   pub key : List ℕ
   pub before : List Lexeme
-  pub behind : List Lexeme
-  pub splits : Splits octets at before (string key ∷ behind)
+  pub after : List Lexeme
+  pub splits : Splits octets at before (string key ∷ after)
   pub counted : Before
   pub inside : List Lexeme
   pub rows : Pairs
-  pub table : RowsAt (before ++ string key ∷ behind) counted inside
-  pub rows_before : RowsPhrase inside rows (string key ∷ behind)
+  pub table : RowsAt (before ++ string key ∷ after) counted inside
+  pub rows_before : RowsPhrase inside rows (string key ∷ after)
   pub twice : has_key key rows ≡ true
 
 -- TooDeep: a value or a key begins at this byte, and the greatest allowed number of arrays and
@@ -63,8 +63,8 @@ pub record HasTooManyNodes (octets : List ℕ) (at : ℕ) : Type 0 where
 
 -- the payload of the first token
 abbrev pub payload_at : List Lexeme → ℕ
-payload_at (string units ∷ behind) = 2 * length units
-payload_at (data_token xs ∷ behind) = length xs
+payload_at (string units ∷ after) = 2 * length units
+payload_at (data_token xs ∷ after) = length xs
 payload_at _ = 0
 
 -- TooMuchPayload: with the string or data that begins at this byte the payload exceeds the limit
@@ -95,7 +95,7 @@ pub data IsUnfinished (octets : List ℕ) (at : ℕ) : Type 0 where
 -- Junk: the tokens before this byte, at least one, are a phrase, and no phrase continues them with
 -- the token there
 pub data HasJunk (octets : List ℕ) (at : ℕ) : Type 0 where
-  behind_phrase : {first token : Lexeme} {more others : List Lexeme} → Splits octets at (first ∷ more) (token ∷ others)
+  after_phrase : {first token : Lexeme} {more others : List Lexeme} → Splits octets at (first ∷ more) (token ∷ others)
       → IsPhrase (first ∷ more) → ¬ BeginsPhrase (first ∷ (more ++ token ∷ [])) → HasJunk octets at
 
 -- the fault is true of the bytes, at its place; out of memory says nothing about them

@@ -119,8 +119,8 @@ impl<'a> Reader<'a> {
         ensures spent { OnOk result (Spends self.old.left 2 (2 * length key.now) self.new.left) }
         ensures valid { OnOk result (AreUnits key.now) }
         ensures tokens { self.new.tokens ≡ self.old.tokens }
-        ensures stands { (octets : List ℕ) (at behind : Placed) → at.lexeme ≡ string key.now
-            → at.start ≡ octet → HasRead octets (at ∷ behind ∷ []) self.old.tokens
+        ensures stands { (octets : List ℕ) (at after : Placed) → at.lexeme ≡ string key.now
+            → at.start ≡ octet → HasRead octets (at ∷ after ∷ []) self.old.tokens
             → IsLeft self.old.left MAX_DEPTH nothing
             → IfErr result (Stands octets) }
     {
@@ -222,12 +222,12 @@ impl<'a> Reader<'a> {
             }
             let item = self.value(first, levels)?;
             items.push(item)?;
-            let behind = self.tokens.expect_mark(',')?;
-            match behind.kind {
+            let after = self.tokens.expect_mark(',')?;
+            match after.kind {
                 TokenKind::ParenClose => return Ok(items),
                 TokenKind::Comma => {}
                 _ => {
-                    let octet = behind.start;
+                    let octet = after.start;
                     return Err(self.tokens.refuse(TextFault::Expected { octet }));
                 }
             }
@@ -297,12 +297,12 @@ impl<'a> Reader<'a> {
         if known {
             return Err(self.tokens.refuse(TextFault::DuplicateKey { octet }));
         }
-        let behind = self.tokens.expect_mark('=')?;
-        match behind.kind {
+        let after = self.tokens.expect_mark('=')?;
+        match after.kind {
             TokenKind::Equals => self.row_value(levels),
             TokenKind::Semicolon => self.key_alone(key, octet, levels),
             _ => {
-                let octet = behind.start;
+                let octet = after.start;
                 Err(self.tokens.refuse(TextFault::Expected { octet }))
             }
         }
@@ -324,11 +324,11 @@ impl<'a> Reader<'a> {
     {
         let first = self.tokens.expect()?;
         let value = self.value(first, levels)?;
-        let behind = self.tokens.expect_mark(';')?;
-        match behind.kind {
+        let after = self.tokens.expect_mark(';')?;
+        match after.kind {
             TokenKind::Semicolon => Ok(value),
             _ => {
-                let octet = behind.start;
+                let octet = after.start;
                 Err(self.tokens.refuse(TextFault::Expected { octet }))
             }
         }

@@ -35,8 +35,8 @@ impl<'a> Tokens<'a> {
             → HasRead octets tokens self.old → IfErr result (Stands octets) }
     {
         match next_token(self.alloc, self.cursor)? {
-            Some((token, behind)) => {
-                self.cursor = behind;
+            Some((token, after)) => {
+                self.cursor = after;
                 Ok(Some(token))
             }
             None => Ok(None),
@@ -72,8 +72,8 @@ impl<'a> Tokens<'a> {
             → IfErr result (Stands octets) }
     {
         match next_mark(self.cursor, mark) {
-            Some((token, behind)) => {
-                self.cursor = behind;
+            Some((token, after)) => {
+                self.cursor = after;
                 Ok(token)
             }
             None => self.expect(),
@@ -89,7 +89,7 @@ impl<'a> Tokens<'a> {
         let mut cursor = self.cursor;
         loop {
             match next_token(self.alloc, cursor) {
-                Ok(Some((_, behind))) => cursor = behind,
+                Ok(Some((_, after))) => cursor = after,
                 Ok(None) => return fault,
                 Err(earlier) => return TextFault::from(earlier),
             }

@@ -94,9 +94,9 @@ fn put_quoted(out: &mut Vec<u8>, units: &[u16]) -> Result<(), AllocError>
 {
     out.push(b'"')?;
     let mut left = put_stretch(out, units)?;
-    while let Some((unit, behind)) = left.split_first() {
+    while let Some((unit, after)) = left.split_first() {
         put_quoted_unit(out, *unit)?;
-        left = put_stretch(out, behind)?;
+        left = put_stretch(out, after)?;
     }
     out.push(b'"')?;
     Ok(())

@@ -27,19 +27,19 @@ pub returns-in_err-first-clause-stands : goal.returns-in_err-first-clause-stands
 returns-in_err-first-clause-stands g c =
     let octets = c.args.octets.now in
     passed_on (Stands octets) c.in_err-first.field-0.0 c.from_residual-in_err-first.result c.from_residual-in_err-first.ensures.1
-    (c.in_err-first.ensures.stands octets [] (record { behind = c.in_ok-open.ensures.ok; ends = refl }))
+    (c.in_err-first.ensures.stands octets [] (record { after = c.in_ok-open.ensures.ok; ends = refl }))
 
 pub returns-in_err-first-clause-refused : goal.returns-in_err-first-clause-refused
 returns-in_err-first-clause-refused g c =
     let octets = c.args.octets.now in
     refused-by c.args.octets.now c.faulty_is_no_text.ensures c.from_residual-in_err-first.result
     (passed_on (Stands octets) c.in_err-first.field-0.0 c.from_residual-in_err-first.result c.from_residual-in_err-first.ensures.1
-    (c.in_err-first.ensures.stands octets [] (record { behind = c.in_ok-open.ensures.ok; ends = refl })))
+    (c.in_err-first.ensures.stands octets [] (record { after = c.in_ok-open.ensures.ok; ends = refl })))
 
 pub returns-in_default-clause-read : goal.returns-in_default-clause-read
 returns-in_default-clause-read g c =
     let octets = c.args.octets.now in
-    let all : HasTokens octets [] = rw c.in_default.is at (c.in_ok-first.ensures.read octets [] (record { behind = c.in_ok-open.ensures.ok; ends = refl })) in
+    let all : HasTokens octets [] = rw c.in_default.is at (c.in_ok-first.ensures.read octets [] (record { after = c.in_ok-open.ensures.ok; ends = refl })) in
     (table no_pairs, c.of_rows.ensures no_pairs (rw c.new.ensures.empty no_entry), empty-text all)
 
 pub returns-in-Text-clause-read : goal.returns-in-Text-clause-read
@@ -47,7 +47,7 @@ returns-in-Text-clause-read g c =
     let octets = c.args.octets.now in
     let first = placed c.in-Some.first in
     let one : HasRead octets (first ∷ []) c.next.new.self =
-    rw c.in-Some.is at (c.in_ok-first.ensures.read octets [] (record { behind = c.in_ok-open.ensures.ok; ends = refl })) in
+    rw c.in-Some.is at (c.in_ok-first.ensures.read octets [] (record { after = c.in_ok-open.ensures.ok; ends = refl })) in
     let left : IsLeft c.whole.result MAX_DEPTH nothing = whole-left c.whole.result c.whole.ensures.nodes c.whole.ensures.payload in
     c.string_first.ensures.read octets first (rw c.in-Text.is refl) refl one left
 
@@ -56,7 +56,7 @@ returns-in-Text-clause-stands g c =
     let octets = c.args.octets.now in
     let first = placed c.in-Some.first in
     let one : HasRead octets (first ∷ []) c.next.new.self =
-    rw c.in-Some.is at (c.in_ok-first.ensures.read octets [] (record { behind = c.in_ok-open.ensures.ok; ends = refl })) in
+    rw c.in-Some.is at (c.in_ok-first.ensures.read octets [] (record { after = c.in_ok-open.ensures.ok; ends = refl })) in
     let left : IsLeft c.whole.result MAX_DEPTH nothing = whole-left c.whole.result c.whole.ensures.nodes c.whole.ensures.payload in
     c.string_first.ensures.stands octets first (rw c.in-Text.is refl) refl one left
 
@@ -65,7 +65,7 @@ returns-in-Text-clause-refused g c =
     let octets = c.args.octets.now in
     let first = placed c.in-Some.first in
     let one : HasRead octets (first ∷ []) c.next.new.self =
-    rw c.in-Some.is at (c.in_ok-first.ensures.read octets [] (record { behind = c.in_ok-open.ensures.ok; ends = refl })) in
+    rw c.in-Some.is at (c.in_ok-first.ensures.read octets [] (record { after = c.in_ok-open.ensures.ok; ends = refl })) in
     let left : IsLeft c.whole.result MAX_DEPTH nothing = whole-left c.whole.result c.whole.ensures.nodes c.whole.ensures.payload in
     refused-by octets c.faulty_is_no_text.ensures c.string_first.result (c.string_first.ensures.stands octets first (rw c.in-Text.is refl) refl one left)
 
@@ -75,7 +75,7 @@ returns-in_default-kind-clause-read g c =
     let octets = c.args.octets.now in
     let first = placed c.in-Some.first in
     let one : HasRead octets (first ∷ []) c.next.new.self =
-    rw c.in-Some.is at (c.in_ok-first.ensures.read octets [] (record { behind = c.in_ok-open.ensures.ok; ends = refl })) in
+    rw c.in-Some.is at (c.in_ok-first.ensures.read octets [] (record { after = c.in_ok-open.ensures.ok; ends = refl })) in
     let left : IsLeft c.whole.result MAX_DEPTH nothing = whole-left c.whole.result c.whole.ensures.nodes c.whole.ensures.payload in
     c.value_first.ensures.read octets one left
 
@@ -84,7 +84,7 @@ returns-in_default-kind-clause-stands g c =
     let octets = c.args.octets.now in
     let first = placed c.in-Some.first in
     let one : HasRead octets (first ∷ []) c.next.new.self =
-    rw c.in-Some.is at (c.in_ok-first.ensures.read octets [] (record { behind = c.in_ok-open.ensures.ok; ends = refl })) in
+    rw c.in-Some.is at (c.in_ok-first.ensures.read octets [] (record { after = c.in_ok-open.ensures.ok; ends = refl })) in
     let left : IsLeft c.whole.result MAX_DEPTH nothing = whole-left c.whole.result c.whole.ensures.nodes c.whole.ensures.payload in
     c.value_first.ensures.stands octets one left (front-begun c.in-Some.first.kind c.in_default-kind.not-Text)
 
@@ -93,6 +93,6 @@ returns-in_default-kind-clause-refused g c =
     let octets = c.args.octets.now in
     let first = placed c.in-Some.first in
     let one : HasRead octets (first ∷ []) c.next.new.self =
-    rw c.in-Some.is at (c.in_ok-first.ensures.read octets [] (record { behind = c.in_ok-open.ensures.ok; ends = refl })) in
+    rw c.in-Some.is at (c.in_ok-first.ensures.read octets [] (record { after = c.in_ok-open.ensures.ok; ends = refl })) in
     let left : IsLeft c.whole.result MAX_DEPTH nothing = whole-left c.whole.result c.whole.ensures.nodes c.whole.ensures.payload in
     refused-by octets c.faulty_is_no_text.ensures c.value_first.result (c.value_first.ensures.stands octets one left (front-begun c.in-Some.first.kind c.in_default-kind.not-Text))

@@ -23,7 +23,7 @@ use Rattle.std.specs.BTreeMap.{insert_entry}
 use Rattle.std.specs.BTreeMap.Entry.{entry_value, map_with_value}
 use Rattle.std.proofs.lemmas.Map.Lookups.{exact_bytes}
 use Rattle.ostep_text.proofs.Standing.{expected-at, same-read, value-refuses, before-at, before-key, key-refuses, alone-refuses, twice-stands}
-use Rattle.ostep_text.proofs.DueSteps.{list-due, items-open, item-due, item-leads, item-open, table-due, row-due, rows-open, key-open, row_value-due, row_value-first, row_value-open, row_value-leads, row_value-behind, value-open, value-nowhere}
+use Rattle.ostep_text.proofs.DueSteps.{list-due, items-open, item-due, item-leads, item-open, table-due, row-due, rows-open, key-open, row_value-due, row_value-first, row_value-open, row_value-leads, row_value-after, value-open, value-nowhere}
 use Rattle.ostep_text.proofs.TakeSteps.{no-items-taken, no-pairs-taken, item-taken, pair-taken, row-taken, scalar-taken, list-taken, table-taken, opened-left, items-left, rows-left, key-left, spends-same}
 use Rattle.ostep_text.proofs.ReadSteps.{string-read, data-read, list-read, no-items-read, item-read, last_item-read, items-read, ended-read, row-read, alone-read, no-pairs-read, pair-read, pairs-read, pairs-table}
 use Rattle.ostep_text.proofs.reader.Reader.+value.Goals as goal
@@ -71,16 +71,16 @@ items-returns-in_err-item g t c = record {
       (items-left b c.loop-items.invariant.built.meant i c.loop-items.invariant.built.taken));
 }
 
-pub items-returns-in_err-behind : goal.items-returns-in_err-behind
-items-returns-in_err-behind g t c = record {
-  shorter = none_ok _ _ c.from_residual-in_err-behind.result c.from_residual-in_err-behind.ensures.1;
-  built = no_ok _ _ c.from_residual-in_err-behind.result c.from_residual-in_err-behind.ensures.1;
+pub items-returns-in_err-after : goal.items-returns-in_err-after
+items-returns-in_err-after g t c = record {
+  shorter = none_ok _ _ c.from_residual-in_err-after.result c.from_residual-in_err-after.ensures.1;
+  built = no_ok _ _ c.from_residual-in_err-after.result c.from_residual-in_err-after.ensures.1;
   stands = λ octets tokens whole b a f h d i.
       let r = c.loop-items.invariant.built.read octets tokens h in
       let v = c.in_ok-item.ensures.built.read octets r.reads.all (c.in_ok-first.ensures.read octets r.reads.all r.reads.has) in
       let more : Front = λ rest. lexeme_of c.in_ok-first.first.kind ∷ v.inside rest in
-      passed_on (Stands octets) c.in_err-behind.field-0.0 c.from_residual-in_err-behind.result c.from_residual-in_err-behind.ensures.1
-      (c.in_err-behind.ensures.stands octets v.reads.all (λ rest. whole (r.inside (more rest))) (v.reads.follow (λ rest. whole (r.inside rest)) (r.reads.follow whole f)) v.reads.has
+      passed_on (Stands octets) c.in_err-after.field-0.0 c.from_residual-in_err-after.result c.from_residual-in_err-after.ensures.1
+      (c.in_err-after.ensures.stands octets v.reads.all (λ rest. whole (r.inside (more rest))) (v.reads.follow (λ rest. whole (r.inside rest)) (r.reads.follow whole f)) v.reads.has
       (item-open r.inside more d r.spells v.spells));
 }
 
@@ -89,7 +89,7 @@ items-returns-in-ParenClose-kind g t c =
     let b = c.loop-items.invariant.built in
     let i = c.in_ok-item.ensures.built in
     record {
-      shorter = omega (arith, c.in_ok-behind.ensures.shorter, c.in_ok-item.ensures.shorter, c.in_ok-first.ensures.shorter, c.loop-items.invariant.shorter);
+      shorter = omega (arith, c.in_ok-after.ensures.shorter, c.in_ok-item.ensures.shorter, c.in_ok-first.ensures.shorter, c.loop-items.invariant.shorter);
       built = rw c.in_ok-push.ensures.items (record {
         meant = push b.meant i.meant;
         means_it = mean-push b.means_it i.means_it;
@@ -97,7 +97,7 @@ items-returns-in-ParenClose-kind g t c =
         read = λ octets tokens h.
             let r = b.read octets tokens h in
             let v = i.read octets r.reads.all (c.in_ok-first.ensures.read octets r.reads.all r.reads.has) in
-            last_item-read r v (placed c.in_ok-behind.behind) (ap lexeme_of c.in-ParenClose-kind.is) (c.in_ok-behind.ensures.read octets v.reads.all v.reads.has);
+            last_item-read r v (placed c.in_ok-after.after) (ap lexeme_of c.in-ParenClose-kind.is) (c.in_ok-after.ensures.read octets v.reads.all v.reads.has);
       });
       stands = λ octets tokens whole b a f h d i. tt;
     }
@@ -110,13 +110,13 @@ items-returns-in_default-kind g t c = record {
       let r = c.loop-items.invariant.built.read octets tokens h in
       let v = c.in_ok-item.ensures.built.read octets r.reads.all (c.in_ok-first.ensures.read octets r.reads.all r.reads.has) in
       let more : Front = λ rest. lexeme_of c.in_ok-first.first.kind ∷ v.inside rest in
-      let token = placed c.in_ok-behind.behind in
-      let has = c.in_ok-behind.ensures.read octets v.reads.all v.reads.has in
+      let token = placed c.in_ok-after.after in
+      let has = c.in_ok-after.ensures.read octets v.reads.all v.reads.has in
       c.refuse.ensures octets (v.reads.all ++ token ∷ []) has
       (expected-at v.reads.all token (λ rest. whole (r.inside (more rest))) (v.reads.follow (λ rest. whole (r.inside rest)) (r.reads.follow whole f)) has
       (item-open r.inside more d r.spells v.spells)
-      (leads-nowhere (λ rest. whole (r.inside (more rest))) (Machine.behind (Machine.in_list a)) token.lexeme (item-leads r.inside more d r.spells v.spells)
-      (item-ended a c.in_ok-behind.behind.kind c.in_default-kind.not-ParenClose c.in_default-kind.not-Comma)));
+      (leads-nowhere (λ rest. whole (r.inside (more rest))) (Machine.after (Machine.in_list a)) token.lexeme (item-leads r.inside more d r.spells v.spells)
+      (item-ended a c.in_ok-after.after.kind c.in_default-kind.not-ParenClose c.in_default-kind.not-Comma)));
 }
 
 pub items-loop-items-preserved : goal.items-loop-items-preserved
@@ -124,7 +124,7 @@ items-loop-items-preserved g t c =
     let b = c.loop-items.invariant.built in
     let i = c.in_ok-item.ensures.built in
     record {
-      shorter = omega (arith, c.in_ok-behind.ensures.shorter, c.in_ok-item.ensures.shorter, c.in_ok-first.ensures.shorter, c.loop-items.invariant.shorter);
+      shorter = omega (arith, c.in_ok-after.ensures.shorter, c.in_ok-item.ensures.shorter, c.in_ok-first.ensures.shorter, c.loop-items.invariant.shorter);
       built = rw c.in_ok-push.ensures.items (record {
         meant = push b.meant i.meant;
         means_it = mean-push b.means_it i.means_it;
@@ -132,7 +132,7 @@ items-loop-items-preserved g t c =
         read = λ octets tokens h.
             let r = b.read octets tokens h in
             let v = i.read octets r.reads.all (c.in_ok-first.ensures.read octets r.reads.all r.reads.has) in
-            item-read r v (placed c.in_ok-behind.behind) (ap lexeme_of c.in-Comma.is) (c.in_ok-behind.ensures.read octets v.reads.all v.reads.has);
+            item-read r v (placed c.in_ok-after.after) (ap lexeme_of c.in-Comma.is) (c.in_ok-after.ensures.read octets v.reads.all v.reads.has);
       });
     }
 
@@ -149,17 +149,17 @@ row-returns-then-known-clause-stands g t c octets tokens at whole b around befor
     let twice : has_key c.args.key.now pairs ≡ true = k ∙ c.if-known.true in
     c.refuse.ensures octets (tokens ++ at ∷ []) has (twice-stands tokens at c.args.octet c.args.key.now whole l s f has d twice)
 
-pub row-returns-in_err-behind-clause-stands : goal.row-returns-in_err-behind-clause-stands
-row-returns-in_err-behind-clause-stands g t c octets tokens at whole b around before pairs l s f h d k i =
+pub row-returns-in_err-after-clause-stands : goal.row-returns-in_err-after-clause-stands
+row-returns-in_err-after-clause-stands g t c octets tokens at whole b around before pairs l s f h d k i =
     let has : HasRead octets (tokens ++ at ∷ []) c.charge.new.self.tokens = same-read h c.in_ok-charge.ensures.tokens in
     let once : has_key c.args.key.now pairs ≡ false = k ∙ c.if-known.false in
-    passed_on (Stands octets) c.in_err-behind.field-0.0 c.from_residual-in_err-behind.result c.from_residual-in_err-behind.ensures.1
-    (c.in_err-behind.ensures.stands octets (tokens ++ at ∷ []) (λ rest. whole (string c.args.key.now ∷ rest)) (before-key tokens at c.args.key.now whole l f) has (key-open c.args.key.now d once))
+    passed_on (Stands octets) c.in_err-after.field-0.0 c.from_residual-in_err-after.result c.from_residual-in_err-after.ensures.1
+    (c.in_err-after.ensures.stands octets (tokens ++ at ∷ []) (λ rest. whole (string c.args.key.now ∷ rest)) (before-key tokens at c.args.key.now whole l f) has (key-open c.args.key.now d once))
 
 pub row-returns-in-Equals-clause-built : goal.row-returns-in-Equals-clause-built
 row-returns-in-Equals-clause-built g t c =
     let key = c.args.key.now in
-    let token = placed c.in_ok-behind.behind in
+    let token = placed c.in_ok-after.after in
     let spent : Spends c.args.self.now.left 1 (2 * length key) c.charge.new.self.left = spends-same c.in_ok-charge.ensures.spent c.text_payload.ensures.payload in
     IfOk-weaker c.row_value.result _ _
     (λ value b. record {
@@ -168,7 +168,7 @@ row-returns-in-Equals-clause-built g t c =
       taken = row-taken key b.meant spent c.in_ok-charge.ensures.deep b.taken c.text_payload.ensures.valid;
       read = λ octets tokens at l h.
           let has : HasRead octets (tokens ++ at ∷ []) c.charge.new.self.tokens = same-read h c.in_ok-charge.ensures.tokens in
-          row-read tokens at token key l (ap lexeme_of c.in-Equals.is) (b.read octets ((tokens ++ at ∷ []) ++ token ∷ []) (c.in_ok-behind.ensures.read octets (tokens ++ at ∷ []) has));
+          row-read tokens at token key l (ap lexeme_of c.in-Equals.is) (b.read octets ((tokens ++ at ∷ []) ++ token ∷ []) (c.in_ok-after.ensures.read octets (tokens ++ at ∷ []) has));
     }) c.row_value.ensures.built
 
 pub row-returns-in-Equals-clause-once : goal.row-returns-in-Equals-clause-once
@@ -178,19 +178,19 @@ row-returns-in-Equals-clause-once g t c =
 pub row-returns-in-Equals-clause-stands : goal.row-returns-in-Equals-clause-stands
 row-returns-in-Equals-clause-stands g t c octets tokens at whole b around before pairs l s f h d k i =
     let has : HasRead octets (tokens ++ at ∷ []) c.charge.new.self.tokens = same-read h c.in_ok-charge.ensures.tokens in
-    let token = placed c.in_ok-behind.behind in
-    let has_behind = c.in_ok-behind.ensures.read octets (tokens ++ at ∷ []) has in
+    let token = placed c.in_ok-after.after in
+    let has_after = c.in_ok-after.ensures.read octets (tokens ++ at ∷ []) has in
     let once : has_key c.args.key.now pairs ≡ false = k ∙ c.if-known.false in
     let key = c.args.key.now in
     let spent : Spends c.args.self.now.left 1 (2 * length key) c.charge.new.self.left = spends-same c.in_ok-charge.ensures.spent c.text_payload.ensures.payload in
     c.row_value.ensures.stands octets ((tokens ++ at ∷ []) ++ token ∷ []) (λ rest. whole (string key ∷ equals ∷ rest)) (with_key key (with_rows before b)) around
-    (before-at (tokens ++ at ∷ []) token equals (λ rest. whole (string key ∷ rest)) (ap lexeme_of c.in-Equals.is) (before-key tokens at key whole l f)) has_behind
+    (before-at (tokens ++ at ∷ []) token equals (λ rest. whole (string key ∷ rest)) (ap lexeme_of c.in-Equals.is) (before-key tokens at key whole l f)) has_after
     (row_value-due key d once) (key-left key i spent)
 
 pub row-returns-in-Semicolon-clause-built : goal.row-returns-in-Semicolon-clause-built
 row-returns-in-Semicolon-clause-built g t c =
     let key = c.args.key.now in
-    let token = placed c.in_ok-behind.behind in
+    let token = placed c.in_ok-after.after in
     let spent : Spends c.args.self.now.left 1 (2 * length key) c.charge.new.self.left = spends-same c.in_ok-charge.ensures.spent c.text_payload.ensures.payload in
     both_ok c.key_alone.result _ (Spends c.charge.new.self.left 1 (2 * length key) c.key_alone.new.self.left) _
     (λ value m u. record {
@@ -200,7 +200,7 @@ row-returns-in-Semicolon-clause-built g t c =
           (scalar-taken (text key) u c.in_ok-charge.ensures.deep c.text_payload.ensures.valid) c.text_payload.ensures.valid;
       read = λ octets tokens at l h.
           let has : HasRead octets (tokens ++ at ∷ []) c.charge.new.self.tokens = same-read h c.in_ok-charge.ensures.tokens in
-          alone-read tokens at token key l (ap lexeme_of c.in-Semicolon.is) (same-read (c.in_ok-behind.ensures.read octets (tokens ++ at ∷ []) has) c.key_alone.ensures.tokens);
+          alone-read tokens at token key l (ap lexeme_of c.in-Semicolon.is) (same-read (c.in_ok-after.ensures.read octets (tokens ++ at ∷ []) has) c.key_alone.ensures.tokens);
     }) c.key_alone.ensures.means c.key_alone.ensures.spent
 
 pub row-returns-in-Semicolon-clause-once : goal.row-returns-in-Semicolon-clause-once
@@ -210,13 +210,13 @@ row-returns-in-Semicolon-clause-once g t c =
 pub row-returns-in-Semicolon-clause-stands : goal.row-returns-in-Semicolon-clause-stands
 row-returns-in-Semicolon-clause-stands g t c octets tokens at whole b around before pairs l s f h d k i =
     let has : HasRead octets (tokens ++ at ∷ []) c.charge.new.self.tokens = same-read h c.in_ok-charge.ensures.tokens in
-    let token = placed c.in_ok-behind.behind in
-    let has_behind = c.in_ok-behind.ensures.read octets (tokens ++ at ∷ []) has in
+    let token = placed c.in_ok-after.after in
+    let has_after = c.in_ok-after.ensures.read octets (tokens ++ at ∷ []) has in
     let once : has_key c.args.key.now pairs ≡ false = k ∙ c.if-known.false in
     let key = c.args.key.now in
     let spent : Spends c.args.self.now.left 1 (2 * length key) c.charge.new.self.left = spends-same c.in_ok-charge.ensures.spent c.text_payload.ensures.payload in
-    let two : HasRead octets (tokens ++ at ∷ token ∷ []) c.expect_mark.new.self = subst (λ ts. HasRead octets ts c.expect_mark.new.self) (append_assoc tokens (at ∷ []) (token ∷ [])) has_behind in
-    c.key_alone.ensures.stands octets ((tokens ++ at ∷ []) ++ token ∷ []) has_behind
+    let two : HasRead octets (tokens ++ at ∷ token ∷ []) c.expect_mark.new.self = subst (λ ts. HasRead octets ts c.expect_mark.new.self) (append_assoc tokens (at ∷ []) (token ∷ [])) has_after in
+    c.key_alone.ensures.stands octets ((tokens ++ at ∷ []) ++ token ∷ []) has_after
     (alone-refuses tokens at token c.args.octet key whole c.args.levels c.charge.new.self.left l s (ap lexeme_of c.in-Semicolon.is) f two d once (key-left key i spent))
 
 pub row-returns : goal.row-returns
@@ -227,14 +227,14 @@ row-returns g t c =
       built = tt;
       stands = λ octets tokens at whole b around before pairs l s f h d k i.
           let has : HasRead octets (tokens ++ at ∷ []) c.charge.new.self.tokens = same-read h c.in_ok-charge.ensures.tokens in
-          let token = placed c.in_ok-behind.behind in
+          let token = placed c.in_ok-after.after in
           let key = c.args.key.now in
-          let has_behind = c.in_ok-behind.ensures.read octets (tokens ++ at ∷ []) has in
+          let has_after = c.in_ok-after.ensures.read octets (tokens ++ at ∷ []) has in
           let once : has_key key pairs ≡ false = k ∙ c.if-known.false in
-          c.refuse-in_default.ensures octets ((tokens ++ at ∷ []) ++ token ∷ []) has_behind
-          (expected-at (tokens ++ at ∷ []) token (λ rest. whole (string key ∷ rest)) (before-key tokens at key whole l f) has_behind (key-open key d once)
+          c.refuse-in_default.ensures octets ((tokens ++ at ∷ []) ++ token ∷ []) has_after
+          (expected-at (tokens ++ at ∷ []) token (λ rest. whole (string key ∷ rest)) (before-key tokens at key whole l f) has_after (key-open key d once)
           (leads-nowhere (λ rest. whole (string key ∷ rest)) (Machine.key around) token.lexeme (λ rest. d.leads (string key ∷ rest))
-          (key-ended around c.in_ok-behind.behind.kind c.in_default.not-Equals c.in_default.not-Semicolon)));
+          (key-ended around c.in_ok-after.after.kind c.in_default.not-Equals c.in_default.not-Semicolon)));
     }
 
 pub row_value-returns-in_err-first-clause-stands : goal.row_value-returns-in_err-first-clause-stands
@@ -247,12 +247,12 @@ row_value-returns-in_err-value-clause-stands g t c octets tokens whole b around 
     passed_on (Stands octets) c.in_err-value.field-0.0 c.from_residual-in_err-value.result c.from_residual-in_err-value.ensures.1
     (c.in_err-value.ensures.stands octets tokens whole b around f (c.in_ok-first.ensures.read octets tokens h) (row_value-first (lexeme_of c.in_ok-first.first.kind) d) i)
 
-pub row_value-returns-in_err-behind-clause-stands : goal.row_value-returns-in_err-behind-clause-stands
-row_value-returns-in_err-behind-clause-stands g t c octets tokens whole b around f h d i =
+pub row_value-returns-in_err-after-clause-stands : goal.row_value-returns-in_err-after-clause-stands
+row_value-returns-in_err-after-clause-stands g t c octets tokens whole b around f h d i =
     let v = c.in_ok-value.ensures.built.read octets tokens (c.in_ok-first.ensures.read octets tokens h) in
     let more : Front = λ rest. lexeme_of c.in_ok-first.first.kind ∷ v.inside rest in
-    passed_on (Stands octets) c.in_err-behind.field-0.0 c.from_residual-in_err-behind.result c.from_residual-in_err-behind.ensures.1
-    (c.in_err-behind.ensures.stands octets v.reads.all (λ rest. whole (more rest)) (v.reads.follow whole f) v.reads.has (row_value-behind more d v.spells))
+    passed_on (Stands octets) c.in_err-after.field-0.0 c.from_residual-in_err-after.result c.from_residual-in_err-after.ensures.1
+    (c.in_err-after.ensures.stands octets v.reads.all (λ rest. whole (more rest)) (v.reads.follow whole f) v.reads.has (row_value-after more d v.spells))
 
 pub row_value-returns-in-Semicolon-clause-built : goal.row_value-returns-in-Semicolon-clause-built
 row_value-returns-in-Semicolon-clause-built g t c =
@@ -263,7 +263,7 @@ row_value-returns-in-Semicolon-clause-built g t c =
       taken = b.taken;
       read = λ octets tokens h.
           let v = b.read octets tokens (c.in_ok-first.ensures.read octets tokens h) in
-          ended-read tokens (placed c.in_ok-first.first) v (placed c.in_ok-behind.behind) (ap lexeme_of c.in-Semicolon.is) (c.in_ok-behind.ensures.read octets v.reads.all v.reads.has);
+          ended-read tokens (placed c.in_ok-first.first) v (placed c.in_ok-after.after) (ap lexeme_of c.in-Semicolon.is) (c.in_ok-after.ensures.read octets v.reads.all v.reads.has);
     }
 
 pub row_value-returns-in_default : goal.row_value-returns-in_default
@@ -273,12 +273,12 @@ row_value-returns-in_default g t c = record {
   stands = λ octets tokens whole b around f h d i.
       let v = c.in_ok-value.ensures.built.read octets tokens (c.in_ok-first.ensures.read octets tokens h) in
       let more : Front = λ rest. lexeme_of c.in_ok-first.first.kind ∷ v.inside rest in
-      let token = placed c.in_ok-behind.behind in
-      let has = c.in_ok-behind.ensures.read octets v.reads.all v.reads.has in
+      let token = placed c.in_ok-after.after in
+      let has = c.in_ok-after.ensures.read octets v.reads.all v.reads.has in
       c.refuse.ensures octets (v.reads.all ++ token ∷ []) has
-      (expected-at v.reads.all token (λ rest. whole (more rest)) (v.reads.follow whole f) has (row_value-behind more d v.spells)
-      (leads-nowhere (λ rest. whole (more rest)) (Machine.behind around) token.lexeme (row_value-leads more d v.spells)
-      (row-ended d.table c.in_ok-behind.behind.kind c.in_default.not-Semicolon)));
+      (expected-at v.reads.all token (λ rest. whole (more rest)) (v.reads.follow whole f) has (row_value-after more d v.spells)
+      (leads-nowhere (λ rest. whole (more rest)) (Machine.after around) token.lexeme (row_value-leads more d v.spells)
+      (row-ended d.table c.in_ok-after.after.kind c.in_default.not-Semicolon)));
 }
 
 pub rows-loop-rows-init : goal.rows-loop-rows-init

@@ -9,17 +9,17 @@ use Rattle.ostep_text.proofs.Standing.{same-read, front-refuses, first_key-refus
 use Rattle.ostep_text.proofs.reader.Reader.first_key.Goals as goal
 
 pub returns-in_err-charge-clause-stands : goal.returns-in_err-charge-clause-stands
-returns-in_err-charge-clause-stands c octets at behind l s h i =
+returns-in_err-charge-clause-stands c octets at after l s h i =
     passed_on (Stands octets) c.in_err-charge.field-0.0 c.from_residual.result c.from_residual.ensures.1
-    (c.in_err-charge.ensures.stands octets (at ∷ behind ∷ []) h (front-refuses (behind ∷ []) at c.args.octet c.args.key.now MAX_DEPTH 0 c.args.self.now.left l s h (omega arith) i))
+    (c.in_err-charge.ensures.stands octets (at ∷ after ∷ []) h (front-refuses (after ∷ []) at c.args.octet c.args.key.now MAX_DEPTH 0 c.args.self.now.left l s h (omega arith) i))
 
 pub returns-clause-stands : goal.returns-clause-stands
-returns-clause-stands c octets at behind l s h i =
-    let read : HasRead octets (at ∷ behind ∷ []) c.charge.new.self.tokens = same-read h c.in_ok-charge.ensures.tokens in
+returns-clause-stands c octets at after l s h i =
+    let read : HasRead octets (at ∷ after ∷ []) c.charge.new.self.tokens = same-read h c.in_ok-charge.ensures.tokens in
     let few : c.text_payload.result ≤ 2 * length c.args.key.now = omega (arith, c.text_payload.ensures.payload) in
     let left : IsLeft c.charge.new.self.left 511 (with_rows no_pairs (opened nothing)) = record {
       nodes_left = omega (arith, i.nodes_left, c.in_ok-charge.ensures.spent.nodes_left);
       payload_left = omega (arith, i.payload_left, c.in_ok-charge.ensures.spent.payload_left);
       levels_left = omega (arith, i.levels_left);
     } in
-    c.charge-2.ensures.stands octets (at ∷ behind ∷ []) read (first_key-refuses (behind ∷ []) at c.args.octet c.args.key.now 511 c.text_payload.result c.charge.new.self.left l s read few left)
+    c.charge-2.ensures.stands octets (at ∷ after ∷ []) read (first_key-refuses (after ∷ []) at c.args.octet c.args.key.now 511 c.text_payload.result c.charge.new.self.left l s read few left)

@@ -5,5 +5,5 @@ use Rattle.ostep_text.proofs.tokens.Tokens.expect_mark.Goals as goal
 
 pub returns-in-Some-clause-read : goal.returns-in-Some-clause-read
 returns-in-Some-clause-read c octets tokens h =
-    let behind : StandsBehind octets (tokens ++ placed c.in-Some.token ∷ []) c.in-Some.behind = rw c.in-Some.is at (c.next_mark.ensures.some octets tokens h.behind) in
-    record { behind = behind; ends = h.ends }
+    let after : StandsBehind octets (tokens ++ placed c.in-Some.token ∷ []) c.in-Some.after = rw c.in-Some.is at (c.next_mark.ensures.some octets tokens h.after) in
+    record { after = after; ends = h.ends }

@@ -10,9 +10,9 @@ use Rattle.ostep_text.proofs.tokens.Tokens.next.Goals as goal
 pub returns-in_err-token-clause-stands : goal.returns-in_err-token-clause-stands
 returns-in_err-token-clause-stands c octets tokens h =
     passed_on (Stands octets) (of_tokens c.in_err-token.field-0.0) c.from_residual.result c.from_residual.ensures.1
-    (tokens-stand octets c.in_err-token.field-0.0 (c.in_err-token.ensures.stands octets tokens h.behind))
+    (tokens-stand octets c.in_err-token.field-0.0 (c.in_err-token.ensures.stands octets tokens h.after))
 
 pub returns-in-Some-clause-read : goal.returns-in-Some-clause-read
 returns-in-Some-clause-read c octets tokens h =
-    let behind : StandsBehind octets (tokens ++ placed c.in-Some.token ∷ []) c.in-Some.behind = rw c.in-Some.is at (c.in_ok-token.ensures.ok octets tokens h.behind) in
-    record { behind = behind; ends = h.ends }
+    let after : StandsBehind octets (tokens ++ placed c.in-Some.token ∷ []) c.in-Some.after = rw c.in-Some.is at (c.in_ok-token.ensures.ok octets tokens h.after) in
+    record { after = after; ends = h.ends }

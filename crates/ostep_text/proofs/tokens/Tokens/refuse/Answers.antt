@@ -8,29 +8,29 @@ use Rattle.ostep_text.proofs.tokens.Tokens.refuse.Goals as goal
 
 pub returns-in-Ok-None : goal.returns-in-Ok-None
 returns-in-Ok-None c octets tokens h s =
-    let m = c.loop-behind.invariant octets tokens h in
+    let m = c.loop-after.invariant octets tokens h in
     let all : HasTokens octets m.0 = rw c.in-Ok-None.field-0-is at (c.in-Ok-None.ensures.ok octets m.0 m.1) in
     s m.0 all
 
 pub returns-in-Err : goal.returns-in-Err
 returns-in-Err c octets tokens h s =
-    let m = c.loop-behind.invariant octets tokens h in
+    let m = c.loop-after.invariant octets tokens h in
     subst (λ f. Stands octets f) (sym c.from.ensures) (tokens-stand octets c.in-Err.earlier (c.in-Err.ensures.stands octets m.0 m.1))
 
-pub loop-behind-preserved-in-Ok-Some : goal.loop-behind-preserved-in-Ok-Some
-loop-behind-preserved-in-Ok-Some c octets tokens h =
-    let m = c.loop-behind.invariant octets tokens h in
-    let behind : StandsBehind octets (m.0 ++ placed c.in-Ok-Some.field-0-0-0 ∷ []) c.in-Ok-Some.behind = rw c.in-Ok-Some.field-0-is at (c.in-Ok-Some.ensures.ok octets m.0 m.1) in
-    (m.0 ++ placed c.in-Ok-Some.field-0-0-0 ∷ [], behind)
+pub loop-after-preserved-in-Ok-Some : goal.loop-after-preserved-in-Ok-Some
+loop-after-preserved-in-Ok-Some c octets tokens h =
+    let m = c.loop-after.invariant octets tokens h in
+    let after : StandsBehind octets (m.0 ++ placed c.in-Ok-Some.field-0-0-0 ∷ []) c.in-Ok-Some.after = rw c.in-Ok-Some.field-0-is at (c.in-Ok-Some.ensures.ok octets m.0 m.1) in
+    (m.0 ++ placed c.in-Ok-Some.field-0-0-0 ∷ [], after)
 
-pub loop-behind-preserved-in-Ok-Some-2 : goal.loop-behind-preserved-in-Ok-Some-2
-loop-behind-preserved-in-Ok-Some-2 c octets tokens h =
-    let m = c.loop-behind.invariant octets tokens h in
-    let behind : StandsBehind octets (m.0 ++ placed c.in-Ok-Some.field-0-0-0 ∷ []) c.in-Ok-Some.behind = rw c.in-Ok-Some.field-0-is at (c.in-Ok-Some.ensures.ok octets m.0 m.1) in
-    (m.0 ++ placed c.in-Ok-Some.field-0-0-0 ∷ [], behind)
+pub loop-after-preserved-in-Ok-Some-2 : goal.loop-after-preserved-in-Ok-Some-2
+loop-after-preserved-in-Ok-Some-2 c octets tokens h =
+    let m = c.loop-after.invariant octets tokens h in
+    let after : StandsBehind octets (m.0 ++ placed c.in-Ok-Some.field-0-0-0 ∷ []) c.in-Ok-Some.after = rw c.in-Ok-Some.field-0-is at (c.in-Ok-Some.ensures.ok octets m.0 m.1) in
+    (m.0 ++ placed c.in-Ok-Some.field-0-0-0 ∷ [], after)
 
-pub loop-behind-preserved-in-Ok-Some-3 : goal.loop-behind-preserved-in-Ok-Some-3
-loop-behind-preserved-in-Ok-Some-3 c octets tokens h =
-    let m = c.loop-behind.invariant octets tokens h in
-    let behind : StandsBehind octets (m.0 ++ placed c.in-Ok-Some.field-0-0-0 ∷ []) c.in-Ok-Some.behind = rw c.in-Ok-Some.field-0-is at (c.in-Ok-Some.ensures.ok octets m.0 m.1) in
-    (m.0 ++ placed c.in-Ok-Some.field-0-0-0 ∷ [], behind)
+pub loop-after-preserved-in-Ok-Some-3 : goal.loop-after-preserved-in-Ok-Some-3
+loop-after-preserved-in-Ok-Some-3 c octets tokens h =
+    let m = c.loop-after.invariant octets tokens h in
+    let after : StandsBehind octets (m.0 ++ placed c.in-Ok-Some.field-0-0-0 ∷ []) c.in-Ok-Some.after = rw c.in-Ok-Some.field-0-is at (c.in-Ok-Some.ensures.ok octets m.0 m.1) in
+    (m.0 ++ placed c.in-Ok-Some.field-0-0-0 ∷ [], after)

@@ -4,8 +4,8 @@ use Rattle.ostep_lex.specs.Cursor.{ahead, StandsBehind}
 use Rattle.ostep_text.specs.Reading.{HasRead}
 use Rattle.ostep_text.proofs.tokens.Tokens.refuse.Given as goal
 
-abbrev pub decreases-loop-behind : goal.decreases-loop-behind
-decreases-loop-behind l = length (ahead l.cursor)
+abbrev pub decreases-loop-after : goal.decreases-loop-after
+decreases-loop-after l = length (ahead l.cursor)
 
-abbrev pub invariant-loop-behind : goal.invariant-loop-behind
-invariant-loop-behind l = (octets : List ℕ) (tokens : List Placed) → HasRead octets tokens l.self → (more : List Placed) × StandsBehind octets more l.cursor
+abbrev pub invariant-loop-after : goal.invariant-loop-after
+invariant-loop-after l = (octets : List ℕ) (tokens : List Placed) → HasRead octets tokens l.self → (more : List Placed) × StandsBehind octets more l.cursor
