@@ -65,19 +65,27 @@ impl Built for Value {
 impl Built for () {
     ghost means = { λ _ _. ⊤ };
 
-    fn of_text(_units: Utf16) -> Self {}
+    fn of_text(_units: Utf16) -> Self {
+        ()
+    }
 
     fn of_key(_key: &Utf16, _alloc: Global) -> Result<Self, AllocError> {
         Ok(())
     }
 
-    fn of_data(_octets: Vec<u8>) -> Self {}
+    fn of_data(_octets: Vec<u8>) -> Self {
+        ()
+    }
 
     fn of_items(_items: Vec<Self>) -> Self
         ensures { (vs : Items) → MeanItems (λ _ _. ⊤) _items.items vs → ⊤ }
-    {}
+    {
+        ()
+    }
 
     fn of_rows(_rows: BTreeMap<Utf16, Self>) -> Self
         ensures { (ps : Pairs) → MeanPairs (λ _ _. ⊤) _rows.entries ps → ⊤ }
-    {}
+    {
+        ()
+    }
 }
