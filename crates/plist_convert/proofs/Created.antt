@@ -1,7 +1,6 @@
 -- Storing in a file that is created at its first write.
-use Rattle.std.proofs.Common.{refl, sym, ap, inl, inr, Err, List, None, Ok, Option, Result, Some, [], ◌∷◌, ◌++◌, ℕ, ◌≡◌, ◌∙◌}
+use Rattle.std.proofs.Common.{refl, sym, inl, inr, Err, List, None, Ok, Option, Result, Some, [], ◌∷◌, ◌++◌, ℕ, ◌≡◌, ◌∙◌}
 use Rattle.std.specs.Prelude.{◌≢◌, Bool, cond, false, true}
-use Rattle.plist_object.specs.Layout.{header}
 use Rattle.plist_engine.specs.Canonical.{canon}
 use Rattle.plist_engine.specs.Sending.{IsWritten}
 use Rattle.plist_engine.specs.declared.faults.WriteFault.{WriteFault}

@@ -1,9 +1,0 @@
-use Rattle.std.proofs.Common.{ap₂, ◌∙◌}
-use Rattle.std.proofs.lemmas.Result.{IfOk-weaker}
-use Rattle.clap.specs.Words.{with_rule}
-use Rattle.plist_convert.proofs.commands.explain.Goals as goal
-
-pub returns : goal.returns
-returns c =
-    IfOk-weaker c.arg.result _ _
-    (λ command added. added.shape c.optional.ensures.local ∙ ap₂ with_rule c.described.ensures c.optional.ensures.rule) c.arg.ensures
