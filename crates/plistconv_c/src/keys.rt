@@ -1,27 +1,34 @@
 //! The key for hashing scalars.
+ghost use Rattle.std.specs.Prelude.{◌≡◌, IfNone, IfSome};
+ghost use Rattle.plistconv_c.specs.Keys.{initial_of, keyed_by, no_key};
 
-use std::hash::RandomState;
-use std::io;
-use std::random::RandomSource;
+use std::hash::{BuildHasher, DefaultHasher, Hasher};
 
-// A key in the role of the random bytes that a hash builder asks for.
+/// Builds hashers that have already read the key.
 #[derive(Clone, Copy)]
-struct Key<'a>(&'a [u8; 16]);
+pub(crate) struct KeyedHasher {
+    initial: DefaultHasher,
+}
 
-impl<'a> RandomSource for Key<'a> {
-    fn fill_bytes(&self, buf: &mut [u8]) -> io::Result<()> {
-        for (into, octet) in buf.iter_mut().zip(self.0) {
-            *into = *octet;
-        }
-        Ok(())
+impl BuildHasher for KeyedHasher {
+    type Hasher = DefaultHasher;
+
+    ghost build_hasher = { initial_of };
+
+    fn build_hasher(&self) -> DefaultHasher {
+        self.initial
     }
 }
 
-// Returns the hash builder for the key, or `None` for sixteen zeros, which mean no key.
-pub(crate) fn keyed_hasher(key: &[u8; 16]) -> Option<RandomState> {
+/// Returns the hash builder for the key, or `None` for sixteen zeros, which mean no key.
+pub(crate) fn keyed_hasher(key: &[u8; 16]) -> Option<KeyedHasher>
+    ensures none { IfNone result (key.now ≡ no_key) }
+    ensures keyed { IfSome result (λ builder. initial_of builder ≡ keyed_by key.now) }
+{
     if *key == [0; 16] {
-        None
-    } else {
-        RandomState::new(&Key(key)).ok()
+        return None;
     }
+    let mut initial = DefaultHasher::new();
+    initial.write(key);
+    Some(KeyedHasher { initial })
 }
