@@ -53,18 +53,6 @@ pub fn judge_any(alloc: Global, octets: &[u8]) -> Result<(), Fault>
     Ok(())
 }
 
-/// Returns why the bytes are refused, for callers that only know that they are: a draft may be
-/// refused for another reason than its text. For bytes that encode a value returns
-/// `OutOfMemory { sent: 0 }`.
-pub fn refusal(alloc: Global, octets: &[u8]) -> Fault
-    ensures { IsRefused octets.now result }
-{
-    match read_any(alloc, octets) {
-        Ok(_) => Fault::OutOfMemory { sent: 0 },
-        Err(fault) => fault,
-    }
-}
-
 /// Returns whether the bytes are read as a binary file, that is, whether they begin with `bplist`.
 pub fn begins_as_binary(octets: &[u8]) -> bool
     ensures { result ≡ begins octets.now }

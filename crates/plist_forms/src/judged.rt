@@ -3,12 +3,13 @@ ghost use Rattle.std.specs.Prelude.{◌≡◌, true, false, IfOk, IfErr, OnOk};
 ghost use Rattle.plist_value.specs.Plist.{Plist};
 ghost use Rattle.plist_object.specs.Spelled.{IsBinary};
 ghost use Rattle.plist_object.specs.Views.{octets_of};
+ghost use Rattle.ostep_text.specs.Text.{IsNoText, IsText};
 ghost use Rattle.plist_forms.specs.Accepted.{IsAccepted, begins_as_binary as begins};
 ghost use Rattle.plist_forms.specs.Refusals.{IsRefused};
 
 use crate::Fault;
-use crate::canonicals::refusal;
 use ostep_draft::{NoDraft, draft_text};
+use ostep_text::judge_text;
 use plist_binary::{BinaryFault, judge_file};
 use plist_object::BinFile;
 use std::alloc::Global;
@@ -29,7 +30,7 @@ pub(crate) fn draft_of(alloc: Global, text: &[u8]) -> Result<Vec<u8>, Fault>
     requires { begins text.now ≡ false }
     ensures drafted { IfOk result (λ draft. (v : Plist) → IsBinary draft.items v
         → IsAccepted text.now v) }
-    ensures each { IfOk result (λ draft. (v : Plist) → IsAccepted text.now v
+    ensures each { IfOk result (λ draft. (v : Plist) → IsText text.now v
         → IsBinary draft.items v) }
     ensures refused { IfErr result (IsRefused text.now) }
 {
@@ -40,12 +41,26 @@ pub(crate) fn draft_of(alloc: Global, text: &[u8]) -> Result<Vec<u8>, Fault>
     }
 }
 
+// Returns why the text is refused.
+fn refusal(alloc: Global, text: &[u8]) -> Fault
+    requires text { begins text.now ≡ false }
+    requires none { IsNoText text.now }
+    ensures { IsRefused text.now result }
+{
+    match judge_text(alloc, text) {
+        Ok(()) => unreachable!(),
+        Err(fault) => Fault::from(fault),
+    }
+}
+
 /// Validates the draft of a text. Fails with the refusal of the text.
 pub(crate) fn judge_draft<'a>(
     alloc: Global,
     draft: &'a [u8],
     text: &[u8],
 ) -> Result<BinFile<'a>, Fault>
+    requires text { begins text.now ≡ false }
+    requires each { (v : Plist) → IsText text.now v → IsBinary draft.now v }
     ensures file { IfOk result (λ file. octets_of file ≡ draft.entry.now) }
     ensures binary { OnOk result ((v : Plist) × IsBinary draft.entry.now v) }
     ensures refused { IfErr result (IsRefused text.now) }

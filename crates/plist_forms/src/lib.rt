@@ -18,8 +18,8 @@ mod taken;
 mod texts;
 
 pub use canonicals::{
-    begins_as_binary, canonicalise, canonicalise_with_hasher, judge_any, read_any, refusal,
-    same_files, same_files_with_hasher,
+    begins_as_binary, canonicalise, canonicalise_with_hasher, judge_any, read_any, same_files,
+    same_files_with_hasher,
 };
 pub use converting::{convert, convert_octets, convert_with_hasher};
 pub use faults::Fault;
