@@ -45,7 +45,7 @@ NAMED = re.compile(r"((?:\w+::)*)(\{[\w, ]+\}|\w+)(?:: (\w+(?:, \w+)*))?")
 PLAIN = ("plist_devices", "plist_canon", "ostep_text", "plist_forms", "plistconv_c", "rows", "test_files", "plist_tests",
          "plist_binary", "plistconv", "plist_object", "plist_engine", "plist_value",
          "plist_draft", "ostep_draft", "plist_explain", "plist_convert",
-         "ostep_lex", "plist_print")
+         "ostep_lex", "plist_print", "ostep_write")
 UNPLAIN = re.compile(r"\b([Ss]o many|[Bb]ehind|[Ss]tands?|[Oo]f late|[Ww]ant of memory|[Ww]hite|The same|As of|Those of)\b")
 MOST_OF_A_SENTENCE = 35
 
