@@ -64,7 +64,7 @@ table_spelled f i levels keys values long spells holds =
       deep = deep_values within.pairs (levels - 1) within.deep;
     } in
     All-permutation (λ j. SpellsWithin f j (levels - 1)) refs values (IsPermutation-sym values refs (moved_values keys values within.rows long within.spell.moved)) (λ k d h.
-        subst (λ (j : ℕ). SpellsWithin f j (levels - 1)) (sym (get_or_default refs k d 0 h)) (value_within f refs (levels - 1) k all h))
+    subst (λ (j : ℕ). SpellsWithin f j (levels - 1)) (sym (get_or_default refs k d 0 h)) (value_within f refs (levels - 1) k all h))
 
 -- items that all have texts, and items of which one has none
 both : (a b : Bool) → a ≡ true → b ≡ true → (a && b) ≡ true

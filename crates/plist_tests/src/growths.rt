@@ -1,7 +1,7 @@
 //! Refused memory: each call that allocates returns 60, or the same as with ample memory.
 //! bench/growths.py runs a test once for each of its allocations, which it refuses from outside.
 use crate::worked_files::{TABLE, TABLE_TEXT, TWICE, WRITTEN_TEXT};
-use ostep_text::{TextFault, TextWriteFault, read_text, write_text};
+use ostep_text::{TextFault, TextWriteFault, judge_text, read_text, write_text};
 use plist_binary::{BinaryFault, read};
 use plist_canon::{CheckFault, ListSink, Verdict, WriteFault, canonical, check, write_canonical};
 use plist_devices::ListSource;
@@ -130,6 +130,9 @@ fn texts_are_read(rt: HostRuntime) -> Result<(), Fail> {
     for (octets, code) in TEXTS {
         let answers = [
             read_text(rt.alloc(), octets)
+                .err()
+                .map_or(0, |fault| fault.code()),
+            judge_text(rt.alloc(), octets)
                 .err()
                 .map_or(0, |fault| fault.code()),
             read_any(rt.alloc(), octets)
