@@ -1,14 +1,15 @@
 -- The rules determine a value, and the numbers of its places.
-use Rattle.std.proofs.Common.{◌≡◌, ℕ, suc, ◌+◌, ◌<◌, ◌≤◌, cond, eqb, ltb, true, false, List, [], ◌∷◌, length, get_or, refl, sym, ap, subst, ◌∙◌, inl, inr, arith, lt-ltb}
+use Rattle.std.proofs.Common.{◌≡◌, ℕ, suc, ◌+◌, ◌<◌, ◌≤◌, ltb, List, [], ◌∷◌, length, get_or, refl, sym, ap, subst, ◌∙◌, inl, inr, arith, lt-ltb}
 use Rattle.std.proofs.lemmas.Bool.{cond_both, cases_lt, ltb-true}
 use Rattle.plist_value.specs.Plist.{Scalar, Plist, scalar, list, table, AreOctets, IsPlist}
 use Rattle.plist_value.specs.Limits.{Fits}
 use Rattle.plist_object.specs.Layout.{trailer_of}
 use Rattle.plist_object.specs.Objects.{holds_scalar}
 use Rattle.plist_object.specs.Places.{Holds, HoldsScalar}
-use Rattle.plist_canon.specs.Rules.{IsNoRepeat, MeetsInOrder, FollowsRules}
+use Rattle.plist_canon.specs.Rules.{IsNoRepeat, FollowsRules}
+use Rattle.plist_canon.proofs.InOrder.{MeetsInOrder, AreBelow-none, meets}
 use Rattle.plist_engine.specs.Tree.{preorder}
-use Rattle.plist_engine.specs.Sharing.{least_place, first_place, kept_from, kept_places, count_below, value_at}
+use Rattle.plist_engine.specs.Sharing.{least_place, first_place, kept_places, count_below, value_at}
 use Rattle.plist_engine.specs.Found.{held_at, number_in}
 use Rattle.plist_engine.proofs.Numbering.{least_place-le, least_place-holds, first_place-le, first_place-holds, first_place-first, count_below-none}
 use Rattle.plist_engine.proofs.Counting.{count-kept, count-shared}
@@ -133,7 +134,7 @@ tree_is_forced f octets rules =
     let entry : ℕ → ℕ = λ k. get_or entries k 0 in
     let own = AreNumbers-own entries in
     let none = sym (count_below-none all all 0 0 (omega arith)) in
-    let forced = forced-numbers f all entry (held-walked f 0 entries tree) rules.no_repeat entries 0 0 (trailer_of f).count (omega (arith, tree.long)) own none (λ j below. absurd (omega arith)) numbered.order in
+    let forced = forced-numbers f all entry (held-walked f 0 entries tree) rules.no_repeat entries 0 0 (trailer_of f).count (omega (arith, tree.long)) own none (λ j below. absurd (omega arith)) (meets f [] entries 0 (trailer_of f).count AreBelow-none numbered.order numbered.all) in
     let numbers = AreNumbers-same entry (number_in all) 0 entries (λ j from below. forced.0 j (omega (arith, tree.long))) own in
     record {
       value = tree.value;

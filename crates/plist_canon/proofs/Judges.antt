@@ -1,14 +1,14 @@
 -- From each index of a list to each item.
-use Rattle.std.proofs.Common.{List, [], ◌∷◌, ◌++◌, ◌≡◌, ℕ, zero, suc, ◌+◌, ◌-◌, ◌<◌, ◌≤◌, length, Bool, false, Ok, Err, Result, refl, sym, ap, subst, ◌∙◌, arith, inl, inr}
+use Rattle.std.proofs.Common.{List, [], ◌∷◌, ◌++◌, ◌≡◌, ℕ, zero, suc, ◌-◌, ◌<◌, ◌≤◌, length, Bool, Ok, Err, Result, refl, sym, ap, subst, ◌∙◌, arith}
 use Rattle.std.specs.List.{AllByRecursion}
 use Rattle.std.specs.Prelude.{◌↔◌, ◌≢◌, slice_index, EachIndex, IsOk, IsTrue}
 use Rattle.std.specs.declared.cmp.Ordering.TheVariants.{Less}
 use Rattle.std.specs.Ordering.{nat_cmp}
 use Rattle.std.specs.Cmp.Lexicographic.{slice_cmp}
 use Rattle.std.specs.List.Sorted.{IsStrictlySortedBy}
-use Rattle.std.proofs.lemmas.Bool.{true≢false, cases_lt}
+use Rattle.std.proofs.lemmas.Bool.{true≢false}
 use Rattle.std.proofs.lemmas.Cmp.{nat_list_cmp_total}
-use Rattle.plist_value.specs.Plist.{Scalar, text}
+use Rattle.plist_value.specs.Plist.{Scalar}
 use Rattle.plist_value.specs.declared.scalar_ref.ScalarRef.{ScalarRef}
 use Rattle.plist_object.specs.declared.object.Object.{Object}
 use Rattle.plist_object.specs.declared.object.Object.TheVariants as shown
@@ -18,7 +18,6 @@ use Rattle.plist_object.specs.Layout.{trailer_of}
 use Rattle.plist_object.specs.Objects.{Held, holds_scalar, holds_list, holds_table, ◌>>=◌}
 use Rattle.plist_object.specs.Places.{Holds, object_at, place_of, what_holds, span_of, HoldsText}
 use Rattle.plist_object.proofs.Readable.{Holds-reads}
-use Rattle.plist_object.proofs.Uniqueness.{same_held}
 use Rattle.plist_canon.specs.Rules.{HoldTexts, IsWellRead, HasAscendingKeys, Adjoins}
 use Rattle.plist_object.specs.Ascending.{AscendInTurn}
 use Rattle.plist_object.proofs.KeysInTurn.{same_text}

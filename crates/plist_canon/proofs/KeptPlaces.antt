@@ -1,5 +1,5 @@
 -- Each place of a tree begins the subtree of its value.
-use Rattle.std.proofs.Common.{◌≡◌, ℕ, zero, suc, ◌+◌, ◌<◌, ◌≤◌, cond, ltb, List, [], ◌∷◌, ◌++◌, length, refl, subst, arith, add-zero, eqb, true, false, get_or, sym, ap, ◌∙◌, inl, inr, lt-ltb}
+use Rattle.std.proofs.Common.{◌≡◌, ℕ, zero, suc, ◌+◌, ◌<◌, ◌≤◌, cond, List, [], ◌∷◌, ◌++◌, length, refl, subst, arith, add-zero, eqb, true, false, get_or, sym, ap, ◌∙◌, inl, inr, lt-ltb}
 use Rattle.std.specs.Prelude.{⊤}
 use Rattle.plist_value.specs.Plist.{text, Plist, scalar, list, table, Items, no_items, item, Pairs, no_pairs, pair}
 use Rattle.plist_engine.specs.Tree.{key_texts, preorder, preorder_items, preorder_values}

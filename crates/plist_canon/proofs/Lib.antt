@@ -3,6 +3,7 @@ pub mod Occupied
 pub mod Filed
 pub mod Entries
 pub mod WalkTrees
+pub mod InOrder
 pub mod Forced
 pub mod KeptPlaces
 pub mod PlaceRules

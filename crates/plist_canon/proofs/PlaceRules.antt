@@ -1,5 +1,5 @@
 -- The objects of a tree follow the rules about one object and its references.
-use Rattle.std.proofs.Common.{◌≡◌, ℕ, suc, ◌+◌, ◌<◌, List, [], ◌∷◌, ◌++◌, length, map, Ok, refl, sym, ap, subst, ◌∙◌, arith, ◌≤◌, ltb, eqb, cond, true, false, inl, inr, add-zero, lt-ltb, append_assoc}
+use Rattle.std.proofs.Common.{◌≡◌, ℕ, suc, ◌+◌, ◌<◌, List, [], ◌∷◌, ◌++◌, length, map, Ok, refl, sym, ap, subst, ◌∙◌, arith, ◌≤◌, ltb, inl, inr, add-zero, lt-ltb}
 use Rattle.std.specs.declared.cmp.Ordering.TheVariants.{Less}
 use Rattle.std.specs.Ordering.{nat_cmp}
 use Rattle.std.specs.Cmp.Lexicographic.{slice_cmp}
@@ -12,9 +12,10 @@ use Rattle.plist_object.specs.Objects.{holds_scalar, holds_list, holds_table}
 use Rattle.plist_object.specs.Places.{what_holds, Holds, HoldsText, HoldsScalar}
 use Rattle.plist_object.proofs.Uniqueness.{same_held}
 use Rattle.plist_engine.specs.Tree.{key_texts, preorder, preorder_items, preorder_values, item_places, key_places, value_places}
-use Rattle.plist_engine.specs.Sharing.{first_place, kept_places, value_at, kept_from, count_below}
+use Rattle.plist_engine.specs.Sharing.{first_place, kept_places, value_at, count_below}
 use Rattle.plist_engine.specs.Found.{Stands, held_at, number_in}
-use Rattle.plist_canon.specs.Rules.{HoldTexts, IsWellRead, HasAscendingKeys, IsNoRepeat, Walk, visit, Walks, end, step, MeetsInOrder, IsNumberedInPreorder}
+use Rattle.plist_canon.specs.Rules.{HoldTexts, IsWellRead, HasAscendingKeys, IsNoRepeat, Walk, visit, Walks, end, step, IsNumberedInPreorder}
+use Rattle.plist_canon.proofs.InOrder.{MeetsInOrder, AreBelow-none, AreInOrder-none, in_order}
 use Rattle.plist_engine.proofs.Trees.{length-preorder, Stands-front, Stands-rest, Stands-tail, Stands-head, Stands-tree, Stands-all}
 use Rattle.plist_canon.proofs.KeptPlaces.{is_made, count_below-end}
 use Rattle.plist_canon.proofs.Judges.{every_append}
@@ -280,8 +281,10 @@ numbered f v has =
     let entries = entries_of (number_in all) 0 all in
     let met = meets_from f all has all 0 stands (omega arith) in
     let from_none = subst (λ (n : ℕ). MeetsInOrder f n entries (length (kept_places all))) (count_below-none all all 0 0 (omega arith)) met in
+    let order = in_order f [] entries 0 (trailer_of f).count AreBelow-none (AreInOrder-none f) (subst (λ (n : ℕ). MeetsInOrder f 0 entries n) (sym has.counted) from_none) in
     record {
       entries = entries;
       walk = subst (λ (i : ℕ). Walk f i entries) (number-top all) (walk_tree f all has v 0 stands);
-      order = subst (λ (n : ℕ). MeetsInOrder f 0 entries n) (sym has.counted) from_none;
+      order = order.0;
+      all = order.1;
     }

@@ -15,7 +15,8 @@ use Rattle.plist_object.specs.Shortest.{spelling_of, IsShortest}
 use Rattle.plist_object.proofs.Uniqueness.{same_held}
 use Rattle.plist_engine.specs.Canonical.{canon}
 use Rattle.plist_object.specs.References.{references_of}
-use Rattle.plist_canon.specs.Rules.{ReadsWithinLimits, FollowsRules, HasPlainTrailer, HasLeastWidths, Adjoins, IsSpelledCanonically, HasAscendingKeys, IsNoRepeat, Walk, visit, Walks, end, step, MeetsInOrder, IsNumberedInPreorder, held_by, begins, TurnsAt}
+use Rattle.plist_canon.specs.Rules.{ReadsWithinLimits, FollowsRules, HasPlainTrailer, HasLeastWidths, Adjoins, IsSpelledCanonically, HasAscendingKeys, IsNoRepeat, Walk, visit, Walks, end, step, ComesInOrder, IsNumberedInPreorder, held_by, begins, goes_on, TurnsAt}
+use Rattle.plist_canon.proofs.InOrder.{AreBelow-none, AreBelow-new, new_or_known}
 use Rattle.plist_canon.proofs.Followed.{canonical_follows_rules}
 
 -- The end of a file of fewer than 256 bytes: the first unused byte of the trailer, the width of a
@@ -151,10 +152,12 @@ walks_begin f refs entries end = tt
 walks_begin f refs entries (step i behind first others walk walks) =
     let x = walk_parts f i first walk in (x.1.0 ++ others, ap (λ es. es ++ others) x.1.1.0)
 
-not_in_order : (rest : List ℕ) → MeetsInOrder unordered_file 0 (0 ∷ 2 ∷ rest) 3 → ⊥
-not_in_order rest (inl (first, inl (second, later))) = omega arith
-not_in_order rest (inl (first, inr (second, again, later))) = omega arith
-not_in_order rest (inr (first, again, later)) = omega arith
+-- object 1 would be next, but object 0 refers to object 2
+not_next : ¬ ComesInOrder unordered_file (0 ∷ []) 2
+not_next order = elim (new_or_known (0 ∷ []) 1 (AreBelow-new [] 0 AreBelow-none) unordered_file 2 order) [
+  | inl new ↦ omega arith
+  | inr known ↦ (let below = known.0 in omega arith)
+]
 
 breaks-c7 : IsNumberedInPreorder unordered_file → ⊥
 unfolding what_holds object_at octets_at marked_object list_object content count_of_content
@@ -164,25 +167,46 @@ breaks-c7 h =
     let held = same_held unordered_file 0 x.0 (holds_list (2 ∷ 1 ∷ [])) x.1.1.1 top in
     let walks = subst (λ (held : Held). Walks unordered_file (references_of held) x.1.0) held x.1.1.2 in
     let begin = walks_begin unordered_file (2 ∷ 1 ∷ []) x.1.0 walks in
-    not_in_order begin.0 (subst (λ (es : List ℕ). MeetsInOrder unordered_file 0 es 3) (x.1.1.0 ∙ ap (λ es. 0 ∷ es) begin.1) h.order)
+    not_next (h.order (0 ∷ []) begin.0 2 (x.1.1.0 ∙ ap (λ es. 0 ∷ es) begin.1))
 
--- object 1 would be next, but object 0 refers to object 2
 turns-c7 : TurnsAt unordered_file 0
 unfolding what_holds object_at octets_at marked_object list_object content count_of_content
 turns-c7 =
     let top : Holds unordered_file 0 (holds_list (2 ∷ 1 ∷ [])) = record { listed = omega arith; reads = refl } in
     record {
-      met = 1;
+      entries = 0 ∷ [];
       number = 2;
       left = held_by 0 (1 ∷ []);
       comes = begins (holds_list (2 ∷ 1 ∷ [])) top;
-      other = λ next. (let is = next.0 in omega arith);
-      known = λ below. absurd (omega arith);
+      other = λ _. not_next;
+    }
+
+-- an array with an empty array twice, both times object 1
+abbrev twice_file : List ℕ
+twice_file = header ++ (162 ∷ 1 ∷ 1 ∷ 160 ∷ 8 ∷ 11 ∷ end_of 2 12)
+
+turns-twice : TurnsAt twice_file 0
+unfolding what_holds object_at octets_at marked_object list_object content count_of_content
+turns-twice =
+    let top : Holds twice_file 0 (holds_list (1 ∷ 1 ∷ [])) = record { listed = omega arith; reads = refl } in
+    let inner : Holds twice_file 1 (holds_list []) = record { listed = omega arith; reads = refl } in
+    let first = AreBelow-new [] 0 AreBelow-none in
+    let second = AreBelow-new (0 ∷ []) 1 first in
+    record {
+      entries = 0 ∷ 1 ∷ [];
+      number = 1;
+      left = [];
+      comes = goes_on (0 ∷ []) 0 1 (holds_list []) (held_by 0 (1 ∷ [])) (begins (holds_list (1 ∷ 1 ∷ [])) top) (inl first) inner;
+      other = λ _ order. elim (new_or_known (0 ∷ 1 ∷ []) 2 second twice_file 1 order) [
+        | inl new ↦ omega arith
+        | inr known ↦ (let e = same_held twice_file 1 (holds_scalar known.1.0) (holds_list []) known.1.1 inner in cc)
+      ];
     }
 
 -- the files that break a rule have the layout
-all-laid : IsLaid stray_file × IsLaid slack_file × IsLaid wide_file × IsLaid unused_file × IsLaid long_head_file × IsLaid descending_file × IsLaid repeat_file × IsLaid unordered_file
+all-laid : IsLaid stray_file × IsLaid slack_file × IsLaid wide_file × IsLaid unused_file × IsLaid long_head_file × IsLaid descending_file × IsLaid repeat_file × IsLaid unordered_file × IsLaid twice_file
 all-laid = (
+  record { long = omega arith; headed = refl; trailed = omega arith },
   record { long = omega arith; headed = refl; trailed = omega arith },
   record { long = omega arith; headed = refl; trailed = omega arith },
   record { long = omega arith; headed = refl; trailed = omega arith },

@@ -9,11 +9,12 @@ use Rattle.plist_object.proofs.Uniqueness.{same_held}
 use Rattle.plist_canon.specs.declared.weights.TheConstants.{MOST_KEPT}
 use Rattle.plist_canon.specs.declared.weights.Weight.{Weight}
 use Rattle.plist_canon.specs.Weights.{container, weight_of, is_scalar_weight, Weighs, AreWeights}
-use Rattle.std.specs.Prelude.{◌↔◌, ◌⊎◌}
+use Rattle.std.specs.List.{Contains}
 use Rattle.plist_object.specs.Layout.{trailer_of}
 use Rattle.plist_object.specs.References.{references_of}
-use Rattle.plist_canon.specs.Rules.{Walk, Walks, visit, end, step, MeetsInOrder, IsNumberedInPreorder, Reference, held_by, ComesTo, begins, meets, passes, IsBroken, breaks_c7, leaves_over}
-use Rattle.plist_canon.specs.Preorders.{CanFinish, numbers, IsWalking, Group, groups_of, references_left}
+use Rattle.plist_canon.specs.Rules.{Walk, Walks, visit, end, step, ComesInOrder, IsNumberedInPreorder, Reference, held_by, ComesTo, begins, goes_on, IsBroken, breaks_c7, leaves_over}
+use Rattle.plist_canon.specs.Preorders.{IsWalking, Group, groups_of, references_left}
+use Rattle.plist_canon.proofs.InOrder.{AreBelow, AreInOrder, AreBelow-none, AreBelow-new, AreBelow-known, new_or_known, AreInOrder-none, AreInOrder-more}
 
 -- the weight is that of the object's content
 pub Weighs-held : (f : List ℕ) (i : ℕ) (weight : Weight) (held : Held) → Weighs f i weight → Holds f i held → weight ≡ weight_of held
@@ -123,28 +124,26 @@ Walks-split f (i ∷ refs) others entries walks =
       joined = s.joined ∙ ap (λ es. s.first ++ es) r.joined ∙ sym (append_assoc s.first r.front r.back);
     }
 
--- nothing is left if and only if all objects were visited
-pub CanFinish-none : (f : List ℕ) (met : ℕ) → CanFinish f [] met ↔ (met ≡ (trailer_of f).count)
-CanFinish-none f met = (
-  λ can. subst (λ (es : List ℕ). MeetsInOrder f met es (trailer_of f).count) (no_entry f can.entries can.walks) can.order,
-  λ all. record { entries = []; walks = end; order = all },
-)
+-- the whole walk is the entries so far and a walk from the references left
+record Rest (f entries refs whole : List ℕ) : Type 0 where
+  rest : List ℕ
+  walks : Walks f refs rest
+  joined : whole ≡ entries ++ rest
 
 -- the next reference, with its walk
-record Next (f : List ℕ) (i : ℕ) (refs : List ℕ) (met : ℕ) : Type 0 where
+record Next (f entries : List ℕ) (i : ℕ) (refs whole : List ℕ) : Type 0 where
   held : Held
   rest : List ℕ
   others : List ℕ
   holds : Holds f i held
   inner : Walks f (references_of held) rest
   outer : Walks f refs others
-  order : ((i ≡ met) × MeetsInOrder f (suc met) (rest ++ others) (trailer_of f).count) ⊎ ((i < met) × HoldsScalar f i × MeetsInOrder f met (rest ++ others) (trailer_of f).count)
+  joined : whole ≡ entries ++ (i ∷ (rest ++ others))
 
-next : (f : List ℕ) (i : ℕ) (refs : List ℕ) (met : ℕ) → CanFinish f (i ∷ refs) met → Next f i refs met
-next f i refs met can =
-    let s = take_step f i refs can.entries can.walks in
+next : (f entries : List ℕ) (i : ℕ) (refs whole : List ℕ) → Rest f entries (i ∷ refs) whole → Next f entries i refs whole
+next f entries i refs whole r =
+    let s = take_step f i refs r.rest r.walks in
     let e = enter f i s.first s.walk in
-    let is : can.entries ≡ i ∷ (e.rest ++ s.others) = s.joined ∙ ap (λ es. es ++ s.others) e.joined in
     record {
       held = e.held;
       rest = e.rest;
@@ -152,85 +151,14 @@ next f i refs met can =
       holds = e.holds;
       inner = e.walks;
       outer = s.walks;
-      order = subst (λ (es : List ℕ). MeetsInOrder f met es (trailer_of f).count) is can.order;
+      joined = r.joined ∙ ap (λ es. entries ++ es) (s.joined ∙ ap (λ es. es ++ s.others) e.joined);
     }
 
--- the next reference points to the next object, whose references then come first
-pub CanFinish-new : (f : List ℕ) (refs : List ℕ) (met : ℕ) (held : Held) → Holds f met held → CanFinish f (met ∷ refs) met ↔ CanFinish f (references_of held ++ refs) (suc met)
-CanFinish-new f refs met held holds = (
-  λ can.
-      let n = next f met refs met can in
-      let same : n.held ≡ held = same_held f met n.held held n.holds holds in
-      let inner = subst (λ (h : Held). Walks f (references_of h) n.rest) same n.inner in
-      record {
-        entries = n.rest ++ n.others;
-        walks = Walks-append f (references_of held) refs n.rest n.others inner n.outer;
-        order = elim n.order [
-          | inl fresh ↦ fresh.1
-          | inr again ↦ (let below = again.0 in absurd (omega arith))
-        ];
-      },
-  λ can.
-      let s = Walks-split f (references_of held) refs can.entries can.walks in
-      record {
-        entries = (met ∷ s.front) ++ s.back;
-        walks = step met refs (met ∷ s.front) s.back (visit met held s.front holds s.first) s.second;
-        order = inl (refl, subst (λ (es : List ℕ). MeetsInOrder f (suc met) es (trailer_of f).count) s.joined can.order);
-      },
-)
-
--- the next reference points to a visited scalar
-pub CanFinish-known : (f : List ℕ) (i : ℕ) (refs : List ℕ) (met : ℕ) → i < met → HoldsScalar f i → CanFinish f (i ∷ refs) met ↔ CanFinish f refs met
-CanFinish-known f i refs met below scalar = (
-  λ can.
-      let n = next f i refs met can in
-      let same : n.held ≡ holds_scalar scalar.0 = same_held f i n.held (holds_scalar scalar.0) n.holds scalar.1 in
-      let inner : Walks f [] n.rest = subst (λ (h : Held). Walks f (references_of h) n.rest) same n.inner in
-      let none : n.rest ≡ [] = no_entry f n.rest inner in
-      record {
-        entries = n.others;
-        walks = n.outer;
-        order = elim n.order [
-          | inl fresh ↦ (let is = fresh.0 in absurd (omega arith))
-          | inr again ↦ subst (λ (es : List ℕ). MeetsInOrder f met (es ++ n.others) (trailer_of f).count) none again.2
-        ];
-      },
-  λ can. record {
-    entries = (i ∷ []) ++ can.entries;
-    walks = step i refs (i ∷ []) can.entries (visit i (holds_scalar scalar.0) [] scalar.1 end) can.walks;
-    order = inr (below, scalar, can.order);
-  },
-)
-
--- any other reference
-pub CanFinish-other : (f : List ℕ) (i : ℕ) (refs : List ℕ) (met : ℕ) → ¬ ((i ≡ met) × (met < (trailer_of f).count)) → (i < met → ¬ HoldsScalar f i) → ¬ CanFinish f (i ∷ refs) met
-CanFinish-other f i refs met new known can =
-    let n = next f i refs met can in
-    let listed = n.holds.listed in
-    elim n.order [
-      | inl fresh ↦ (let is = fresh.0 in new (is, omega arith))
-      | inr again ↦ known again.0 again.1
-    ]
-
--- at the start object 0 is to be visited
-pub CanFinish-all : (f : List ℕ) → IsNumberedInPreorder f ↔ CanFinish f (0 ∷ []) 0
-CanFinish-all f = (
-  λ numbered. record {
-    entries = numbered.entries ++ [];
-    walks = step 0 [] numbered.entries [] numbered.walk end;
-    order = subst (λ (es : List ℕ). MeetsInOrder f 0 es (trailer_of f).count) (sym (append-nil numbered.entries)) numbered.order;
-  },
-  λ can.
-      let s = take_step f 0 [] can.entries can.walks in
-      let is : can.entries ≡ s.first = s.joined ∙ ap (λ es. s.first ++ es) (no_entry f s.others s.walks) ∙ append-nil s.first in
-      record {
-        entries = s.first;
-        walk = s.walk;
-        order = subst (λ (es : List ℕ). MeetsInOrder f 0 es (trailer_of f).count) is can.order;
-      },
-)
-
 -- The steps of the walk from object 0.
+
+abbrev numbers : List Reference → List ℕ
+numbers [] = []
+numbers (reference ∷ references) = reference.number ∷ numbers references
 
 abbrev reference : ℕ → ℕ → Reference
 reference holder i = record { holder = holder; number = i }
@@ -250,54 +178,90 @@ references-entered number levels (holds_list refs) outer = refl
 references-entered number levels (holds_table keys values) outer =
     sym (ap (λ xs. xs ++ references_left outer) (held_by-append number keys values) ∙ append_assoc (held_by number keys) (held_by number values) (references_left outer))
 
-pub IsWalking-start : (f : List ℕ) (levels : ℕ) (held : Held) → Holds f 0 held → IsWalking f 1 (references_left (groups_of 0 levels held ++ []))
-IsWalking-start f levels held holds =
-    let all = CanFinish-all f in
-    let new = CanFinish-new f [] 0 held holds in
-    let refs = references_of held in
-    let is : references_left (groups_of 0 levels held ++ []) ≡ held_by 0 refs ++ [] = references-entered 0 levels held [] in
-    let numbered_is : numbers (references_left (groups_of 0 levels held ++ [])) ≡ refs ++ [] = ap numbers is ∙ numbers-held 0 refs [] in
+numbers-all : (holder : ℕ) (refs : List ℕ) → numbers (held_by holder refs) ≡ refs
+numbers-all holder [] = refl
+numbers-all holder (i ∷ refs) = ap (λ xs. i ∷ xs) (numbers-all holder refs)
+
+ComesTo-rest : (f entries : List ℕ) (left : List Reference) (whole : List ℕ) → ComesTo f entries left → Walk f 0 whole → Rest f entries (numbers left) whole
+ComesTo-rest f entries left whole (begins held holds) walk =
+    let e = enter f 0 whole walk in
+    let walks = subst (λ (h : Held). Walks f (references_of h) e.rest) (same_held f 0 e.held held e.holds holds) e.walks in
+    record { rest = e.rest; walks = rw numbers-all walks; joined = e.joined }
+ComesTo-rest f entries left whole (goes_on before holder i held later comes order holds) walk =
+    let n = next f before i (numbers later) whole (ComesTo-rest f before (reference holder i ∷ later) whole comes walk) in
+    let inner = subst (λ (h : Held). Walks f (references_of h) n.rest) (same_held f i n.held held n.holds holds) n.inner in
     record {
-      comes = subst (λ (left : List Reference). ComesTo f 1 left) (sym (is ∙ append-nil (held_by 0 refs))) (begins held holds);
-      finishes = subst (λ (left : List ℕ). IsNumberedInPreorder f ↔ CanFinish f left 1) (sym numbered_is) (λ numbered. new.0 (all.0 numbered), λ can. all.1 (new.1 can));
+      rest = n.rest ++ n.others;
+      walks = rw numbers-held (Walks-append f (references_of held) (numbers later) n.rest n.others inner n.outer);
+      joined = n.joined ∙ sym (append_assoc before (i ∷ []) (n.rest ++ n.others));
     }
+
+ComesTo-walk : (f entries : List ℕ) (left : List Reference) (rest : List ℕ) → ComesTo f entries left → Walks f (numbers left) rest → Walk f 0 (entries ++ rest)
+ComesTo-walk f entries left rest (begins held holds) walks = visit 0 held rest holds (rw numbers-all at walks)
+ComesTo-walk f entries left rest (goes_on before holder i held later comes order holds) walks =
+    let s = Walks-split f (references_of held) (numbers later) rest (rw numbers-held at walks) in
+    let inner = step i (numbers later) (i ∷ s.front) s.back (visit i held s.front holds s.first) s.second in
+    subst (Walk f 0) (ap (λ es. before ++ (i ∷ es)) (sym s.joined) ∙ sym (append_assoc before (i ∷ []) rest))
+    (ComesTo-walk f before (reference holder i ∷ later) (i ∷ (s.front ++ s.back)) comes inner)
+
+ComesTo-order : (f entries : List ℕ) (left : List Reference) → ComesTo f entries left → AreInOrder f entries
+ComesTo-order f entries left (begins held holds) = AreInOrder-more f [] 0 (AreInOrder-none f) (inl AreBelow-none)
+ComesTo-order f entries left (goes_on before holder i held later comes order holds) =
+    AreInOrder-more f before i (ComesTo-order f before (reference holder i ∷ later) comes) order
+
+pub IsWalking-start : (f : List ℕ) (levels : ℕ) (held : Held) → Holds f 0 held → IsWalking f 1 (references_left (groups_of 0 levels held ++ []))
+IsWalking-start f levels held holds = record {
+  entries = 0 ∷ [];
+  comes = subst (ComesTo f (0 ∷ [])) (sym (references-entered 0 levels held [] ∙ append-nil (held_by 0 (references_of held)))) (begins held holds);
+  visited = AreBelow-new [] 0 AreBelow-none;
+}
 
 module _ (f : List ℕ) (met : ℕ) where
   module _ (holder i : ℕ) (left : List Reference) (walking : IsWalking f met (reference holder i ∷ left)) where
     -- a reference to a visited scalar
     pub IsWalking-passed : i < met → HoldsScalar f i → IsWalking f met left
-    IsWalking-passed below scalar =
-        let finishes = walking.finishes in
-        let known = CanFinish-known f i (numbers left) met below scalar in
-        record {
-          comes = passes met holder i left walking.comes below scalar;
-          finishes = (λ numbered. known.0 (finishes.0 numbered), λ can. finishes.1 (known.1 can));
-        }
+    IsWalking-passed below scalar = record {
+      entries = walking.entries ++ (i ∷ []);
+      comes = goes_on walking.entries holder i (holds_scalar scalar.0) left walking.comes (inr ((walking.visited i).1 below, scalar)) scalar.1;
+      visited = AreBelow-known walking.entries met walking.visited i below;
+    }
 
     -- any other reference, except to the next object
     pub IsWalking-other : ¬ ((i ≡ met) × (met < (trailer_of f).count)) → (i < met → ¬ HoldsScalar f i) → IsBroken f 7 holder
     IsWalking-other other known =
-        breaks_c7 holder (λ numbered. CanFinish-other f i (numbers left) met other known (walking.finishes.0 numbered))
-        (record { met = met; number = i; left = left; comes = walking.comes; other = other; known = known })
+        let entries = walking.entries in
+        let turns : i < (trailer_of f).count → ¬ ComesInOrder f entries i = λ listed order. elim (new_or_known entries met walking.visited f i order) [
+          | inl new ↦ other (new, omega arith)
+          | inr again ↦ known again.0 again.1
+        ] in
+        breaks_c7 holder
+        (λ numbered.
+        let n = next f entries i (numbers left) numbered.entries (ComesTo-rest f entries (reference holder i ∷ left) numbered.entries walking.comes numbered.walk) in
+        turns n.holds.listed (numbered.order entries (n.rest ++ n.others) i n.joined))
+        (record { entries = entries; number = i; left = left; comes = walking.comes; other = turns })
 
   -- a reference to the next object
   pub IsWalking-met : (holder : ℕ) (outer : List Group) (levels : ℕ) (held : Held) → IsWalking f met (reference holder met ∷ references_left outer) → Holds f met held → IsWalking f (suc met) (references_left (groups_of met levels held ++ outer))
-  IsWalking-met holder outer levels held walking holds =
-      let left = references_left outer in
-      let refs = references_of held in
-      let finishes = walking.finishes in
-      let fresh = CanFinish-new f (numbers left) met held holds in
-      let is : references_left (groups_of met levels held ++ outer) ≡ held_by met refs ++ left = references-entered met levels held outer in
-      let numbered_is : numbers (references_left (groups_of met levels held ++ outer)) ≡ refs ++ numbers left = ap numbers is ∙ numbers-held met refs left in
-      record {
-        comes = subst (λ (on : List Reference). ComesTo f (suc met) on) (sym is) (meets met holder held left walking.comes holds);
-        finishes = subst (λ (on : List ℕ). IsNumberedInPreorder f ↔ CanFinish f on (suc met)) (sym numbered_is) (λ numbered. fresh.0 (finishes.0 numbered), λ can. finishes.1 (fresh.1 can));
-      }
+  IsWalking-met holder outer levels held walking holds = record {
+    entries = walking.entries ++ (met ∷ []);
+    comes = subst (ComesTo f (walking.entries ++ (met ∷ []))) (sym (references-entered met levels held outer)) (goes_on walking.entries holder met held (references_left outer) walking.comes (inl walking.visited) holds);
+    visited = AreBelow-new walking.entries met walking.visited;
+  }
 
   pub IsWalking-over : IsWalking f met [] → met < (trailer_of f).count → IsBroken f 7 0
   IsWalking-over walking below =
-      leaves_over (λ numbered. (let all = (CanFinish-none f met).0 (walking.finishes.0 numbered) in omega arith))
-      (record { met = met; comes = walking.comes; over = below })
+      let missed : ¬ Contains walking.entries met = λ among. (let own = (walking.visited met).0 among in omega arith) in
+      leaves_over
+      (λ numbered.
+      let r = ComesTo-rest f walking.entries [] numbered.entries walking.comes numbered.walk in
+      let is : numbered.entries ≡ walking.entries = r.joined ∙ ap (λ es. walking.entries ++ es) (no_entry f r.rest r.walks) ∙ append-nil walking.entries in
+      missed (subst (λ es. Contains es met) is ((numbered.all met).1 below)))
+      (record { entries = walking.entries; comes = walking.comes; object = met; over = below; missed = missed })
 
   pub IsWalking-done : IsWalking f met [] → met ≡ (trailer_of f).count → IsNumberedInPreorder f
-  IsWalking-done walking all = walking.finishes.1 ((CanFinish-none f met).1 all)
+  IsWalking-done walking all = record {
+    entries = walking.entries;
+    walk = subst (Walk f 0) (append-nil walking.entries) (ComesTo-walk f walking.entries [] [] walking.comes end);
+    order = ComesTo-order f walking.entries [] walking.comes;
+    all = subst (λ n. AreBelow n walking.entries) all walking.visited;
+  }

@@ -1,28 +1,18 @@
 -- What the walk from object 0 still has to visit.
 use Rattle.std.specs.Prelude.{◌≡◌, ◌↔◌, ℕ, ◌<◌, false, List, [], ◌∷◌, ◌++◌, length, drop, slice_index_or}
-use Rattle.plist_object.specs.Layout.{trailer_of}
+use Rattle.std.specs.List.{Contains}
 use Rattle.plist_object.specs.Objects.{Held, holds_scalar, holds_list, holds_table}
 use Rattle.plist_object.specs.Views.{numbers_of}
-use Rattle.plist_canon.specs.Rules.{Walks, MeetsInOrder, IsNumberedInPreorder, Reference, held_by, ComesTo}
+use Rattle.plist_canon.specs.Rules.{Reference, held_by, ComesTo}
 use Rattle.plist_canon.specs.Weights.{container, is_scalar_weight}
 use Rattle.plist_canon.specs.declared.weights.Weight.{Weight}
 use Rattle.plist_canon.specs.declared.preorder.Frame.{Frame}
 
--- the references can be walked so that the objects from `met` on are visited in order, if those
--- below were
-pub record CanFinish (f : List ℕ) (refs : List ℕ) (met : ℕ) : Type 0 where
-  pub entries : List ℕ
-  pub walks : Walks f refs entries
-  pub order : MeetsInOrder f met entries (trailer_of f).count
-
-abbrev pub numbers : List Reference → List ℕ
-numbers [] = []
-numbers (reference ∷ references) = reference.number ∷ numbers references
-
 -- The objects below `met` were visited in order, and the walk continues with these references.
 pub record IsWalking (f : List ℕ) (met : ℕ) (left : List Reference) : Type 0 where
-  pub comes : ComesTo f met left
-  pub finishes : IsNumberedInPreorder f ↔ CanFinish f (numbers left) met
+  pub entries : List ℕ
+  pub comes : ComesTo f entries left
+  pub visited : (i : ℕ) → Contains entries i ↔ i < met
 
 -- references of one container, and the depth allowed for the values that they refer to
 pub record Group : Type 0 where

@@ -1,7 +1,7 @@
 -- The eight rules of a canonical file (this project's profile). Each is stated in terms of a file
 -- that has the layout.
-use Rattle.std.specs.Prelude.{◌≡◌, ◌≢◌, ◌⊎◌, ℕ, suc, ◌<◌, List, [], ◌∷◌, ◌++◌, replicate, Ok, IsOk}
-use Rattle.std.specs.List.{AllByRecursion}
+use Rattle.std.specs.Prelude.{◌≡◌, ◌≢◌, ◌↔◌, ◌⊎◌, ℕ, suc, ◌<◌, List, [], ◌∷◌, ◌++◌, replicate, Ok, IsOk}
+use Rattle.std.specs.List.{AllByRecursion, Contains}
 use Rattle.std.specs.List.Sorted.{IsStrictlySortedBy}
 use Rattle.std.specs.Ordering.{nat_cmp}
 use Rattle.std.specs.Cmp.Lexicographic.{slice_cmp}
@@ -83,19 +83,18 @@ mutual
     end : Walks f [] []
     step : (i : ℕ) (refs entries others : List ℕ) → Walk f i entries → Walks f refs others → Walks f (i ∷ refs) (entries ++ others)
 
--- Each entry is the next number not yet visited, or the number of a scalar already visited. At
--- first exactly the objects below `met` are visited, in the end those below `after`.
-abbrev pub MeetsInOrder : List ℕ → ℕ → List ℕ → ℕ → Type 0
-MeetsInOrder f met [] after = met ≡ after
-MeetsInOrder f met (entry ∷ entries) after =
-    ((entry ≡ met) × MeetsInOrder f (suc met) entries after) ⊎ ((entry < met) × HoldsScalar f entry × MeetsInOrder f met entries after)
+-- After these entries of a walk the next one comes in order: exactly the numbers below it were
+-- visited, or it was visited itself and is the number of a scalar.
+abbrev pub ComesInOrder : List ℕ → List ℕ → ℕ → Type 0
+ComesInOrder f before entry = ((i : ℕ) → Contains before i ↔ i < entry) ⊎ (Contains before entry × HoldsScalar f entry)
 
 -- C7: the walk from object 0 visits all objects in the order of their numbers, and only scalars
 -- again.
 pub record IsNumberedInPreorder (f : List ℕ) : Type 0 where
   pub entries : List ℕ
   pub walk : Walk f 0 entries
-  pub order : MeetsInOrder f 0 entries (trailer_of f).count
+  pub order : (before after : List ℕ) (entry : ℕ) → entries ≡ before ++ (entry ∷ after) → ComesInOrder f before entry
+  pub all : (i : ℕ) → Contains entries i ↔ i < (trailer_of f).count
 
 -- all eight rules
 pub record FollowsRules (f : List ℕ) : Type 0 where
@@ -118,28 +117,28 @@ abbrev pub held_by : ℕ → List ℕ → List Reference
 held_by holder [] = []
 held_by holder (i ∷ refs) = record { holder = holder; number = i } ∷ held_by holder refs
 
--- The state of the walk from object 0 in preorder, while each reference is the next number not yet
--- visited or that of a visited scalar. Exactly the objects below `met` are visited, and these
--- references are left, the next one first.
-pub data ComesTo (f : List ℕ) : ℕ → List Reference → Type 0 where
-  begins : (held : Held) → Holds f 0 held → ComesTo f 1 (held_by 0 (references_of held))
-  meets : (met holder : ℕ) (held : Held) (left : List Reference) → ComesTo f met (record { holder = holder; number = met } ∷ left) → Holds f met held → ComesTo f (suc met) (held_by met (references_of held) ++ left)
-  passes : (met holder i : ℕ) (left : List Reference) → ComesTo f met (record { holder = holder; number = i } ∷ left) → i < met → HoldsScalar f i → ComesTo f met left
+-- The walk from object 0 in preorder, while its entries come in order: these are the entries so
+-- far, and these references are still to be followed, the next one first.
+pub data ComesTo (f : List ℕ) : List ℕ → List Reference → Type 0 where
+  begins : (held : Held) → Holds f 0 held → ComesTo f (0 ∷ []) (held_by 0 (references_of held))
+  goes_on : (entries : List ℕ) (holder i : ℕ) (held : Held) (left : List Reference) → ComesTo f entries (record { holder = holder; number = i } ∷ left) → ComesInOrder f entries i → Holds f i held → ComesTo f (entries ++ (i ∷ [])) (held_by i (references_of held) ++ left)
 
--- the walk reaches a reference that is neither, in the object `holder`
+-- The walk comes to a reference in the object `holder` that is no number of an object, or does not
+-- come in order.
 pub record TurnsAt (f : List ℕ) (holder : ℕ) : Type 0 where
-  pub met : ℕ
+  pub entries : List ℕ
   pub number : ℕ
   pub left : List Reference
-  pub comes : ComesTo f met (record { holder = holder; number = number } ∷ left)
-  pub other : ¬ ((number ≡ met) × (met < (trailer_of f).count))
-  pub known : number < met → ¬ HoldsScalar f number
+  pub comes : ComesTo f entries (record { holder = holder; number = number } ∷ left)
+  pub other : number < (trailer_of f).count → ¬ ComesInOrder f entries number
 
 -- the walk ends, and an object was not visited
 pub record LeavesOver (f : List ℕ) : Type 0 where
-  pub met : ℕ
-  pub comes : ComesTo f met []
-  pub over : met < (trailer_of f).count
+  pub entries : List ℕ
+  pub comes : ComesTo f entries []
+  pub object : ℕ
+  pub over : object < (trailer_of f).count
+  pub missed : ¬ Contains entries object
 
 -- The rule with this number does not hold of the file, and is reported at this object. C0: at an
 -- object that cannot be decoded or has a bad reference; at object 0 if the value exceeds the

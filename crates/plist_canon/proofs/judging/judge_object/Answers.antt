@@ -1,4 +1,3 @@
-use Rattle.std.proofs.Common.{◌<◌, arith}
 use Rattle.plist_object.specs.Places.{Holds}
 use Rattle.plist_object.specs.Views.{held_of, octets_of}
 use Rattle.plist_object.proofs.KeysInTurn.{refuted}

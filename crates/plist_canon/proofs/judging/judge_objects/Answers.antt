@@ -1,4 +1,4 @@
-use Rattle.std.proofs.Common.{◌≡◌, ℕ, ◌<◌, ◌≤◌, length, sym, subst, arith}
+use Rattle.std.proofs.Common.{◌≡◌, ℕ, sym, subst, arith}
 use Rattle.plist_object.specs.Views.{octets_of}
 use Rattle.plist_object.specs.Layout.{trailer_of}
 use Rattle.plist_object.proofs.KeysInTurn.{below_or_last}
