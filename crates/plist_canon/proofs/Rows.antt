@@ -1,6 +1,5 @@
 -- Small files that follow the rules, or break one of them.
 use Rattle.std.proofs.Common.{◌≡◌, ℕ, zero, suc, ◌<◌, List, [], ◌∷◌, ◌++◌, replicate, Result, Ok, refl, sym, ap, subst, ◌∙◌, inl, inr, arith}
-use Rattle.std.specs.Prelude.{⊤}
 use Rattle.std.specs.declared.cmp.Ordering.TheVariants.{Less, Greater}
 use Rattle.std.specs.List.{AllByRecursion}
 use Rattle.std.specs.List.Sorted.{IsStrictlySortedBy}
@@ -15,8 +14,9 @@ use Rattle.plist_object.specs.Shortest.{spelling_of, IsShortest}
 use Rattle.plist_object.proofs.Uniqueness.{same_held}
 use Rattle.plist_engine.specs.Canonical.{canon}
 use Rattle.plist_object.specs.References.{references_of}
-use Rattle.plist_canon.specs.Rules.{ReadsWithinLimits, FollowsRules, HasPlainTrailer, HasLeastWidths, Adjoins, IsSpelledCanonically, HasAscendingKeys, IsNoRepeat, Walk, visit, Walks, end, step, ComesInOrder, IsNumberedInPreorder, held_by, begins, goes_on, TurnsAt}
+use Rattle.plist_canon.specs.Rules.{ReadsWithinLimits, FollowsRules, HasPlainTrailer, HasLeastWidths, Adjoins, IsSpelledCanonically, HasAscendingKeys, IsNoRepeat, IsNumberedInPreorder, held_by, begins, goes_on, TurnsAt, LeavesOver}
 use Rattle.plist_canon.proofs.InOrder.{AreBelow-none, AreBelow-new, new_or_known}
+use Rattle.plist_canon.proofs.Visiting.{TurnsAt-unnumbered}
 use Rattle.plist_canon.proofs.Followed.{canonical_follows_rules}
 
 -- The end of a file of fewer than 256 bytes: the first unused byte of the trailer, the width of a
@@ -138,37 +138,7 @@ breaks-c6 h = h (text (97 ∷ [])) refl 1 (omega arith) refl
 abbrev unordered_file : List ℕ
 unordered_file = header ++ (162 ∷ 2 ∷ 1 ∷ 81 ∷ 97 ∷ 81 ∷ 98 ∷ 8 ∷ 11 ∷ 13 ∷ end_of 3 15)
 
--- the walks from references begin with the first reference
-abbrev BeginWith : List ℕ → List ℕ → Type 0
-BeginWith [] entries = ⊤
-BeginWith (i ∷ refs) entries = (rest : List ℕ) × (entries ≡ i ∷ rest)
-
--- the object that a walk visits first, and the rest of the walk
-walk_parts : (f : List ℕ) (i : ℕ) (entries : List ℕ) → Walk f i entries → (held : Held) × ((rest : List ℕ) × ((entries ≡ i ∷ rest) × Holds f i held × Walks f (references_of held) rest))
-walk_parts f i entries (visit j held rest holds walks) = (held, (rest, (refl, holds, walks)))
-
-walks_begin : (f refs entries : List ℕ) → Walks f refs entries → BeginWith refs entries
-walks_begin f refs entries end = tt
-walks_begin f refs entries (step i behind first others walk walks) =
-    let x = walk_parts f i first walk in (x.1.0 ++ others, ap (λ es. es ++ others) x.1.1.0)
-
 -- object 1 would be next, but object 0 refers to object 2
-not_next : ¬ ComesInOrder unordered_file (0 ∷ []) 2
-not_next order = elim (new_or_known (0 ∷ []) 1 (AreBelow-new [] 0 AreBelow-none) unordered_file 2 order) [
-  | inl new ↦ omega arith
-  | inr known ↦ (let below = known.0 in omega arith)
-]
-
-breaks-c7 : IsNumberedInPreorder unordered_file → ⊥
-unfolding what_holds object_at octets_at marked_object list_object content count_of_content
-breaks-c7 h =
-    let x = walk_parts unordered_file 0 h.entries h.walk in
-    let top : Holds unordered_file 0 (holds_list (2 ∷ 1 ∷ [])) = record { listed = omega arith; reads = refl } in
-    let held = same_held unordered_file 0 x.0 (holds_list (2 ∷ 1 ∷ [])) x.1.1.1 top in
-    let walks = subst (λ (held : Held). Walks unordered_file (references_of held) x.1.0) held x.1.1.2 in
-    let begin = walks_begin unordered_file (2 ∷ 1 ∷ []) x.1.0 walks in
-    not_next (h.order (0 ∷ []) begin.0 2 (x.1.1.0 ∙ ap (λ es. 0 ∷ es) begin.1))
-
 turns-c7 : TurnsAt unordered_file 0
 unfolding what_holds object_at octets_at marked_object list_object content count_of_content
 turns-c7 =
@@ -178,8 +148,14 @@ turns-c7 =
       number = 2;
       left = held_by 0 (1 ∷ []);
       comes = begins (holds_list (2 ∷ 1 ∷ [])) top;
-      other = λ _. not_next;
+      other = λ _ order. elim (new_or_known (0 ∷ []) 1 (AreBelow-new [] 0 AreBelow-none) unordered_file 2 order) [
+        | inl new ↦ omega arith
+        | inr known ↦ (let below = known.0 in omega arith)
+      ];
     }
+
+breaks-c7 : IsNumberedInPreorder unordered_file → ⊥
+breaks-c7 = TurnsAt-unnumbered unordered_file 0 turns-c7
 
 -- an array with an empty array twice, both times object 1
 abbrev twice_file : List ℕ
@@ -203,9 +179,24 @@ turns-twice =
       ];
     }
 
+-- an empty array, and a string that is in no container
+abbrev over_file : List ℕ
+over_file = header ++ (160 ∷ 81 ∷ 97 ∷ 8 ∷ 9 ∷ end_of 2 11)
+
+leaves-over : LeavesOver over_file
+unfolding what_holds object_at octets_at marked_object list_object content count_of_content
+leaves-over = record {
+  entries = 0 ∷ [];
+  comes = begins (holds_list []) (record { listed = omega arith; reads = refl });
+  object = 1;
+  over = omega arith;
+  missed = λ among. (let below = (AreBelow-new [] 0 AreBelow-none 1).0 among in omega arith);
+}
+
 -- the files that break a rule have the layout
-all-laid : IsLaid stray_file × IsLaid slack_file × IsLaid wide_file × IsLaid unused_file × IsLaid long_head_file × IsLaid descending_file × IsLaid repeat_file × IsLaid unordered_file × IsLaid twice_file
+all-laid : IsLaid stray_file × IsLaid slack_file × IsLaid wide_file × IsLaid unused_file × IsLaid long_head_file × IsLaid descending_file × IsLaid repeat_file × IsLaid unordered_file × IsLaid twice_file × IsLaid over_file
 all-laid = (
+  record { long = omega arith; headed = refl; trailed = omega arith },
   record { long = omega arith; headed = refl; trailed = omega arith },
   record { long = omega arith; headed = refl; trailed = omega arith },
   record { long = omega arith; headed = refl; trailed = omega arith },

@@ -12,7 +12,7 @@ use Rattle.plist_canon.specs.Weights.{container, weight_of, is_scalar_weight, We
 use Rattle.std.specs.List.{Contains}
 use Rattle.plist_object.specs.Layout.{trailer_of}
 use Rattle.plist_object.specs.References.{references_of}
-use Rattle.plist_canon.specs.Rules.{Walk, Walks, visit, end, step, ComesInOrder, IsNumberedInPreorder, Reference, held_by, ComesTo, begins, goes_on, IsBroken, breaks_c7, leaves_over}
+use Rattle.plist_canon.specs.Rules.{Walk, Walks, visit, end, step, IsNumberedInPreorder, Reference, held_by, ComesTo, begins, goes_on, TurnsAt, LeavesOver, IsBroken, breaks_c7, leaves_over}
 use Rattle.plist_canon.specs.Preorders.{IsWalking, Group, groups_of, references_left}
 use Rattle.plist_canon.proofs.InOrder.{AreBelow, AreInOrder, AreBelow-none, AreBelow-new, AreBelow-known, new_or_known, AreInOrder-none, AreInOrder-more}
 
@@ -179,8 +179,7 @@ references-entered number levels (holds_table keys values) outer =
     sym (ap (λ xs. xs ++ references_left outer) (held_by-append number keys values) ∙ append_assoc (held_by number keys) (held_by number values) (references_left outer))
 
 numbers-all : (holder : ℕ) (refs : List ℕ) → numbers (held_by holder refs) ≡ refs
-numbers-all holder [] = refl
-numbers-all holder (i ∷ refs) = ap (λ xs. i ∷ xs) (numbers-all holder refs)
+numbers-all holder refs = ap numbers (sym (append-nil (held_by holder refs))) ∙ numbers-held holder refs [] ∙ append-nil refs
 
 ComesTo-rest : (f entries : List ℕ) (left : List Reference) (whole : List ℕ) → ComesTo f entries left → Walk f 0 whole → Rest f entries (numbers left) whole
 ComesTo-rest f entries left whole (begins held holds) walk =
@@ -209,6 +208,20 @@ ComesTo-order f entries left (begins held holds) = AreInOrder-more f [] 0 (AreIn
 ComesTo-order f entries left (goes_on before holder i held later comes order holds) =
     AreInOrder-more f before i (ComesTo-order f before (reference holder i ∷ later) comes) order
 
+-- a walk that turns does not visit the objects in order
+pub TurnsAt-unnumbered : (f : List ℕ) (holder : ℕ) → TurnsAt f holder → ¬ IsNumberedInPreorder f
+TurnsAt-unnumbered f holder turns numbered =
+    let rest = ComesTo-rest f turns.entries (reference holder turns.number ∷ turns.left) numbered.entries turns.comes numbered.walk in
+    let n = next f turns.entries turns.number (numbers turns.left) numbered.entries rest in
+    turns.other n.holds.listed (numbered.order turns.entries (n.rest ++ n.others) turns.number n.joined)
+
+-- one that leaves an object over does not visit all
+pub LeavesOver-unnumbered : (f : List ℕ) → LeavesOver f → ¬ IsNumberedInPreorder f
+LeavesOver-unnumbered f left numbered =
+    let r = ComesTo-rest f left.entries [] numbered.entries left.comes numbered.walk in
+    let is : numbered.entries ≡ left.entries = r.joined ∙ ap (λ es. left.entries ++ es) (no_entry f r.rest r.walks) ∙ append-nil left.entries in
+    left.missed (subst (λ es. Contains es left.object) is ((numbered.all left.object).1 left.over))
+
 pub IsWalking-start : (f : List ℕ) (levels : ℕ) (held : Held) → Holds f 0 held → IsWalking f 1 (references_left (groups_of 0 levels held ++ []))
 IsWalking-start f levels held holds = record {
   entries = 0 ∷ [];
@@ -229,16 +242,17 @@ module _ (f : List ℕ) (met : ℕ) where
     -- any other reference, except to the next object
     pub IsWalking-other : ¬ ((i ≡ met) × (met < (trailer_of f).count)) → (i < met → ¬ HoldsScalar f i) → IsBroken f 7 holder
     IsWalking-other other known =
-        let entries = walking.entries in
-        let turns : i < (trailer_of f).count → ¬ ComesInOrder f entries i = λ listed order. elim (new_or_known entries met walking.visited f i order) [
-          | inl new ↦ other (new, omega arith)
-          | inr again ↦ known again.0 again.1
-        ] in
-        breaks_c7 holder
-        (λ numbered.
-        let n = next f entries i (numbers left) numbered.entries (ComesTo-rest f entries (reference holder i ∷ left) numbered.entries walking.comes numbered.walk) in
-        turns n.holds.listed (numbered.order entries (n.rest ++ n.others) i n.joined))
-        (record { entries = entries; number = i; left = left; comes = walking.comes; other = turns })
+        let turns : TurnsAt f holder = record {
+          entries = walking.entries;
+          number = i;
+          left = left;
+          comes = walking.comes;
+          other = λ listed order. elim (new_or_known walking.entries met walking.visited f i order) [
+            | inl new ↦ other (new, omega arith)
+            | inr again ↦ known again.0 again.1
+          ];
+        } in
+        breaks_c7 holder (TurnsAt-unnumbered f holder turns) turns
 
   -- a reference to the next object
   pub IsWalking-met : (holder : ℕ) (outer : List Group) (levels : ℕ) (held : Held) → IsWalking f met (reference holder met ∷ references_left outer) → Holds f met held → IsWalking f (suc met) (references_left (groups_of met levels held ++ outer))
@@ -250,13 +264,14 @@ module _ (f : List ℕ) (met : ℕ) where
 
   pub IsWalking-over : IsWalking f met [] → met < (trailer_of f).count → IsBroken f 7 0
   IsWalking-over walking below =
-      let missed : ¬ Contains walking.entries met = λ among. (let own = (walking.visited met).0 among in omega arith) in
-      leaves_over
-      (λ numbered.
-      let r = ComesTo-rest f walking.entries [] numbered.entries walking.comes numbered.walk in
-      let is : numbered.entries ≡ walking.entries = r.joined ∙ ap (λ es. walking.entries ++ es) (no_entry f r.rest r.walks) ∙ append-nil walking.entries in
-      missed (subst (λ es. Contains es met) is ((numbered.all met).1 below)))
-      (record { entries = walking.entries; comes = walking.comes; object = met; over = below; missed = missed })
+      let left : LeavesOver f = record {
+        entries = walking.entries;
+        comes = walking.comes;
+        object = met;
+        over = below;
+        missed = λ among. (let own = (walking.visited met).0 among in omega arith);
+      } in
+      leaves_over (LeavesOver-unnumbered f left) left
 
   pub IsWalking-done : IsWalking f met [] → met ≡ (trailer_of f).count → IsNumberedInPreorder f
   IsWalking-done walking all = record {
