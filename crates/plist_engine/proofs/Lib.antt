@@ -30,3 +30,5 @@ pub mod Finding
 pub mod Remembering
 pub mod Sifted
 pub mod Noted
+pub mod Steps
+pub mod Turns

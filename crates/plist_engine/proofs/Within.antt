@@ -1,14 +1,14 @@
 -- The children of a container that is known to encode a value.
-use Rattle.std.proofs.Common.{◌≡◌, ℕ, zero, suc, ◌-◌, ◌<◌, ◌≤◌, List, [], ◌∷◌, length, get_or, subst, arith}
+use Rattle.std.proofs.Common.{◌≡◌, ℕ, zero, suc, ◌-◌, ◌<◌, ◌≤◌, List, [], ◌∷◌, length, get_or, refl, ap, subst, arith}
 use Rattle.std.specs.List.{zip}
 use Rattle.std.specs.List.Sorted.{IsPermutation}
-use Rattle.plist_value.specs.Plist.{Plist, scalar, list, table, Items, no_items, item, Pairs, IsPlist, AreItems}
-use Rattle.plist_value.specs.Limits.{depth, depth_of_items, depth_of_pairs}
+use Rattle.plist_value.specs.Plist.{Scalar, text, Plist, scalar, list, table, Items, no_items, item, Pairs, IsPlist, AreItems}
+use Rattle.plist_value.specs.Limits.{depth, depth_of_items}
 use Rattle.plist_object.specs.Objects.{holds_scalar, holds_list, holds_table}
 use Rattle.plist_object.specs.Places.{Holds}
 use Rattle.plist_object.specs.Spelled.{Spells, SpellItems, SpellsWithin}
 use Rattle.plist_object.proofs.Uniqueness.{same_held}
-use Rattle.plist_engine.specs.Spelling.{IsRead, SpellWithin, SpellTable, IsTable, in_turn}
+use Rattle.plist_engine.specs.Spelling.{IsRead, SpellWithin, SpellTable, IsTable, TableWithin, in_turn}
 use Rattle.plist_engine.proofs.Flat.{flat, spell-flat, valid-flat, deep-flat}
 use Rattle.plist_value.proofs.Items.{some_depth}
 
@@ -23,58 +23,78 @@ read_within f i levels h = read_at f i h.value h.spells
 pub levels_within : (f : List ℕ) (i levels : ℕ) → SpellsWithin f i levels → 1 ≤ levels
 levels_within f i levels h = let some = some_depth h.value in let deep = h.deep in omega arith
 
-items_at : (f : List ℕ) (i levels : ℕ) (objects : List ℕ) (v : Plist) → IsPlist v → Spells f i v → depth v ≤ levels → Holds f i (holds_list objects) → SpellWithin f objects (levels - 1)
-items_at f i levels objects (scalar s) valid spells deep holds =
-    absurd (let held = same_held f i (holds_scalar s) (holds_list objects) spells holds in cc)
-items_at f i levels objects (list vs) valid spells deep holds =
-    let held = same_held f i (holds_list spells.0) (holds_list objects) spells.1.0 holds in
-    let same : spells.0 ≡ objects = cc in
+-- the value of an object that contains a scalar, an array or a dictionary
+pub scalar_seen : (f : List ℕ) (i : ℕ) (s : Scalar) (v : Plist) → Holds f i (holds_scalar s) → Spells f i v → scalar s ≡ v
+scalar_seen f i s (scalar t) holds spells = let held = same_held f i (holds_scalar s) (holds_scalar t) holds spells in cc
+scalar_seen f i s (list vs) holds spells =
+    absurd (let held = same_held f i (holds_scalar s) (holds_list spells.0) holds spells.1.0 in cc)
+scalar_seen f i s (table ps) holds spells =
+    absurd (let held = same_held f i (holds_scalar s) (holds_table spells.0 spells.1.0) holds spells.1.1.1.0 in cc)
+
+pub record ListSeen (f refs : List ℕ) (v : Plist) : Type 0 where
+  pub items : Items
+  pub is : list items ≡ v
+  pub valid : AreItems items
+  pub spell : SpellItems f refs items
+
+pub list_seen : (f refs : List ℕ) (i : ℕ) (v : Plist) → Holds f i (holds_list refs) → IsPlist v → Spells f i v → ListSeen f refs v
+list_seen f refs i (scalar s) holds valid spells =
+    absurd (let held = same_held f i (holds_scalar s) (holds_list refs) spells holds in cc)
+list_seen f refs i (list vs) holds valid spells =
+    let held = same_held f i (holds_list spells.0) (holds_list refs) spells.1.0 holds in
+    let same : spells.0 ≡ refs = cc in
     record {
       items = vs;
+      is = refl;
       valid = valid;
-      spell = subst (λ (refs : List ℕ). SpellItems f refs vs) same spells.1.1;
-      deep = omega arith;
+      spell = subst (λ (r : List ℕ). SpellItems f r vs) same spells.1.1;
     }
-items_at f i levels objects (table ps) valid spells deep holds =
-    absurd (let held = same_held f i (holds_table spells.0 spells.1.0) (holds_list objects) spells.1.1.1.0 holds in cc)
+list_seen f refs i (table ps) holds valid spells =
+    absurd (let held = same_held f i (holds_table spells.0 spells.1.0) (holds_list refs) spells.1.1.1.0 holds in cc)
 
-pub items_within : (f : List ℕ) (i levels : ℕ) (objects : List ℕ) → SpellsWithin f i levels → Holds f i (holds_list objects) → SpellWithin f objects (levels - 1)
-items_within f i levels objects h holds = items_at f i levels objects h.value h.valid h.spells h.deep holds
-
--- a dictionary of at most `levels` levels
-pub record TableWithin (f keys values : List ℕ) (levels : ℕ) : Type 0 where
+pub record TableSeen (f keys values : List ℕ) (v : Plist) : Type 0 where
   pub rows : List (ℕ × ℕ)
   pub pairs : Pairs
+  pub is : table pairs ≡ v
   pub spell : SpellTable f keys values rows pairs
-  pub deep : depth_of_pairs pairs ≤ levels
 
-table_at : (f : List ℕ) (i levels : ℕ) (keys values : List ℕ) (v : Plist) → IsPlist v → Spells f i v → depth v ≤ levels → Holds f i (holds_table keys values) → TableWithin f keys values (levels - 1)
-table_at f i levels keys values (scalar s) valid spells deep holds =
+pub table_seen : (f keys values : List ℕ) (i : ℕ) (v : Plist) → Holds f i (holds_table keys values) → IsPlist v → Spells f i v → TableSeen f keys values v
+table_seen f keys values i (scalar s) holds valid spells =
     absurd (let held = same_held f i (holds_scalar s) (holds_table keys values) spells holds in cc)
-table_at f i levels keys values (list vs) valid spells deep holds =
+table_seen f keys values i (list vs) holds valid spells =
     absurd (let held = same_held f i (holds_list spells.0) (holds_table keys values) spells.1.0 holds in cc)
-table_at f i levels keys values (table ps) valid spells deep holds =
+table_seen f keys values i (table ps) holds valid spells =
     let held = same_held f i (holds_table spells.0 spells.1.0) (holds_table keys values) spells.1.1.1.0 holds in
     let zipped : zip spells.0 spells.1.0 ≡ zip keys values = cc in
     record {
       rows = spells.1.1.0;
       pairs = ps;
+      is = refl;
       spell = record {
         moved = subst (λ (held : List (ℕ × ℕ)). IsPermutation held spells.1.1.0) zipped spells.1.1.1.1.0;
         spell = spells.1.1.1.1.1;
         valid = valid;
       };
-      deep = omega arith;
     }
 
-pub table_within : (f : List ℕ) (i levels : ℕ) (keys values : List ℕ) → SpellsWithin f i levels → Holds f i (holds_table keys values) → TableWithin f keys values (levels - 1)
-table_within f i levels keys values h holds =
-    table_at f i levels keys values h.value h.valid h.spells h.deep holds
+-- an object contains only one string
+pub text_seen : (f : List ℕ) (i : ℕ) (units others : List ℕ) → Holds f i (holds_scalar (text units)) → Holds f i (holds_scalar (text others)) → units ≡ others
+text_seen f i units others holds held =
+    let same = same_held f i (holds_scalar (text units)) (holds_scalar (text others)) holds held in cc
 
-pub is_table : (f : List ℕ) (i levels : ℕ) (keys values : List ℕ) → SpellsWithin f i levels → Holds f i (holds_table keys values) → length keys ≡ length values → IsTable f keys values
-is_table f i levels keys values h holds as_many =
-    let within = table_within f i levels keys values h holds in
-    record { rows = within.rows; pairs = within.pairs; as_many = as_many; spell = within.spell }
+pub items_within : (f : List ℕ) (i levels : ℕ) (objects : List ℕ) → SpellsWithin f i levels → Holds f i (holds_list objects) → SpellWithin f objects (levels - 1)
+items_within f i levels objects h holds =
+    let seen = list_seen f objects i h.value holds h.valid h.spells in
+    record { items = seen.items; valid = seen.valid; spell = seen.spell; deep = omega (arith, h.deep, ap depth seen.is) }
+
+pub table_within : (f : List ℕ) (i levels : ℕ) (keys values : List ℕ) → length keys ≡ length values → SpellsWithin f i levels → Holds f i (holds_table keys values) → TableWithin f keys values (levels - 1)
+table_within f i levels keys values as_many h holds =
+    let seen = table_seen f keys values i h.value holds h.valid h.spells in
+    record { rows = seen.rows; pairs = seen.pairs; as_many = as_many; spell = seen.spell; deep = omega (arith, h.deep, ap depth seen.is) }
+
+pub is_table : (f keys values : List ℕ) (levels : ℕ) → TableWithin f keys values levels → IsTable f keys values
+is_table f keys values levels within =
+    record { rows = within.rows; pairs = within.pairs; as_many = within.as_many; spell = within.spell }
 
 pub flat_within : (f keys values : List ℕ) (levels : ℕ) → (within : TableWithin f keys values levels) → SpellWithin f (in_turn within.rows) levels
 flat_within f keys values levels within = record {

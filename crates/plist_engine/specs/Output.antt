@@ -82,3 +82,9 @@ KeepsShort objects more old new result =
 -- the end of a file: the offset table with these offsets, and the trailer, which has its own
 abbrev pub end_of : List ℕ → ℕ → List ℕ
 end_of places place = references (least_width place) places ++ trailer_octets (length places) place
+
+-- a piece was appended to the old bytes, and the rest is still to be appended
+pub record Puts (old new all rest : List ℕ) : Type 0 where
+  pub piece : List ℕ
+  pub put : new ≡ old ++ piece
+  pub split : all ≡ piece ++ rest

@@ -3,7 +3,7 @@ use Rattle.std.specs.Prelude.{◌≡◌, ℕ, ◌≤◌, List, length, map, ◌+
 use Rattle.std.specs.List.{zip}
 use Rattle.std.specs.List.Sorted.{IsPermutation}
 use Rattle.plist_value.specs.Plist.{Items, Pairs, AreItems, ArePairs}
-use Rattle.plist_value.specs.Limits.{depth_of_items}
+use Rattle.plist_value.specs.Limits.{depth_of_items, depth_of_pairs}
 use Rattle.plist_object.specs.Objects.{Held}
 use Rattle.plist_object.specs.Places.{Holds}
 use Rattle.plist_object.specs.Spelled.{SpellItems, SpellPairs}
@@ -37,3 +37,20 @@ pub record IsTable (f keys values : List ℕ) : Type 0 where
 -- the references to keys, and then those to their values, in the order of the rows
 abbrev pub in_turn : List (ℕ × ℕ) → List ℕ
 in_turn rows = map (λ row. row.0) rows ++ map (λ row. row.1) rows
+
+-- the references encode a dictionary whose values have at most this many levels
+pub record TableWithin (f keys values : List ℕ) (levels : ℕ) : Type 0 where
+  pub rows : List (ℕ × ℕ)
+  pub pairs : Pairs
+  pub as_many : length keys ≡ length values
+  pub spell : SpellTable f keys values rows pairs
+  pub deep : depth_of_pairs pairs ≤ levels
+
+-- the references point to keys, and then to values of at most this many levels
+pub record PairsWithin (f refs : List ℕ) (levels : ℕ) : Type 0 where
+  pub rows : List (ℕ × ℕ)
+  pub pairs : Pairs
+  pub turn : refs ≡ in_turn rows
+  pub spell : SpellPairs f rows pairs
+  pub valid : ArePairs pairs
+  pub deep : depth_of_pairs pairs ≤ levels

@@ -1,5 +1,5 @@
 //! Appends the references of containers.
-ghost use Rattle.std.specs.Prelude.{◌≡◌, ◌++◌, ◌<◌, ℕ, List, All, OnOk, length, map};
+ghost use Rattle.std.specs.Prelude.{◌≡◌, ◌++◌, ◌<◌, ℕ, List, All, IfOk, OnOk, length, map};
 ghost use Rattle.std.specs.Prelude.{slice_index};
 ghost use Rattle.plist_value.specs.Plist.{Pairs};
 ghost use Rattle.plist_object.specs.Views.{numbers_of, octets_of};
@@ -34,6 +34,32 @@ pub fn push_sorted<'a>(
     push_at(keys, order.places(), &mut *references)?;
     push_at(values, order.places(), references)?;
     Ok(())
+}
+
+/// Returns the references to a dictionary's keys, in ascending order of the keys, and then the
+/// references to its values in the same order.
+///
+/// # Errors
+///
+/// [`AllocError`] if out of memory.
+pub fn in_turn<'a>(
+    alloc: Global,
+    file: &BinFile<'a>,
+    order: &mut KeyOrder<'a>,
+    keys: &Refs<'a>,
+    values: &Refs,
+) -> Result<Vec<u32>, AllocError>
+    requires table { IsTable (octets_of file.now) (numbers_of keys.now) (numbers_of values.now) }
+    requires ready { IsReady (octets_of file.now) order.old }
+    ensures turn { IfOk result (λ references. (rows : List (ℕ × ℕ)) (ps : Pairs)
+        → SpellTable (octets_of file.now) (numbers_of keys.now) (numbers_of values.now) rows ps
+        → references.items ≡ in_turn rows) }
+    ensures ready { OnOk result (IsReady (octets_of file.now) order.new) }
+{
+    let count = keys.len().saturating_mul(2);
+    let mut references = Vec::with_capacity(alloc, count as usize)?;
+    push_sorted(alloc, file, order, keys, values, &mut references)?;
+    Ok(references)
 }
 
 /// Appends the references of an array.

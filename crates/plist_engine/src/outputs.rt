@@ -1,13 +1,16 @@
 //! A buffered writer over a sink.
-ghost use Rattle.std.specs.Prelude.{◌≡◌, ◌∷◌, [], IfErr, OnOk};
+ghost use Rattle.std.specs.Prelude.{◌≡◌, ◌+◌, ◌≤◌, ◌^◌, ◌∷◌, ◌++◌, [], length, IfErr, OnOk};
+ghost use Rattle.plist_engine.specs.declared.faults.WriteFault.TheVariants.{OutOfMemory};
 ghost use Rattle.plist_engine.specs.declared.faults.WriteFault.TheVariants.{WriteFailed};
 ghost use Rattle.plist_engine.specs.Sending.{sent_of};
 ghost use Rattle.plist_engine.specs.Output.{CanTake, Goes, KeepsShort, state_of};
 
 use crate::{Sink, WriteFault};
 use plist_devices::put_all;
+use std::alloc::AllocError;
 
-/// The most bytes of a piece, unless a single object has more.
+/// The number of buffered bytes from which on the buffer is flushed. No piece of a canonical file
+/// has more, unless a single object has.
 pub(crate) const PIECE: u64 = 4096;
 
 /// A buffered writer over a sink. `sent` counts the bytes that the sink took.
@@ -19,6 +22,56 @@ pub struct Output<'a, W> {
 }
 
 impl<'a, W: Sink> Output<'a, W> {
+    /// Writes a few bytes through the buffer.
+    ///
+    /// # Errors
+    ///
+    /// [`WriteFault::OutOfMemory`] (60) if there is no memory for the bytes. Otherwise, fails like
+    /// [`settle`](Output::settle).
+    pub fn put(&mut self, octets: &[u8]) -> Result<(), WriteFault>
+        ensures goes { Goes octets.now
+            (state_of W.Sink self.old) (state_of W.Sink self.new) result }
+    {
+        let Ok(()) = gather(self.waiting, octets) else {
+            return Err(WriteFault::OutOfMemory { sent: self.sent });
+        };
+        self.settle()
+    }
+
+    /// Flushes the buffer if it has 4,096 bytes or more.
+    ///
+    /// # Errors
+    ///
+    /// Fails like [`send_all`](Output::send_all).
+    pub fn settle(&mut self) -> Result<(), WriteFault>
+        ensures goes { Goes [] (state_of W.Sink self.old) (state_of W.Sink self.new) result }
+        ensures cause { IfErr result (λ fault. fault ≡ OutOfMemory (sent_of fault)
+            → 2 ^ 64 ≤ self.old.sent + length self.old.waiting.now.items) }
+    {
+        if (self.waiting.len() as u64) < PIECE {
+            return Ok(());
+        }
+        self.send_all()
+    }
+
+    /// Flushes the buffer, whatever its length.
+    ///
+    /// # Errors
+    ///
+    /// [`WriteFault::WriteFailed`] (51) if the sink fails, and [`WriteFault::OutOfMemory`] (60) if
+    /// the output would exceed `u64::MAX` bytes.
+    pub fn send_all(&mut self) -> Result<(), WriteFault>
+        ensures goes { Goes [] (state_of W.Sink self.old) (state_of W.Sink self.new) result }
+        ensures none { OnOk result (self.new.waiting.now.items ≡ []) }
+        ensures cause { IfErr result (λ fault. fault ≡ OutOfMemory (sent_of fault)
+            → 2 ^ 64 ≤ self.old.sent + length self.old.waiting.now.items) }
+    {
+        if self.waiting.len() as u64 > u64::MAX - self.sent {
+            return Err(WriteFault::OutOfMemory { sent: self.sent });
+        }
+        self.flush()
+    }
+
     /// Sends the buffered bytes.
     ///
     /// # Errors
@@ -100,4 +153,10 @@ impl<'a, W: Sink> Output<'a, W> {
         }
         self.flush()
     }
+}
+
+fn gather(out: &mut Vec<u8>, octets: &[u8]) -> Result<(), AllocError>
+    ensures { OnOk result (out.new.items ≡ out.old.items ++ octets.now) }
+{
+    out.extend_from_slice(octets)
 }

@@ -6,12 +6,10 @@ pub mod Neighbours
 pub mod RealFronts
 pub mod ValueFronts
 pub mod Scaling
-pub mod Steps
 pub mod Deciding
 pub mod Calendar
 pub mod PrintSteps
 pub mod Enclosing
-pub mod Turns
 pub mod Plain
 pub mod DataLines
 pub mod Endings

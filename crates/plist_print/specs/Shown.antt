@@ -32,9 +32,3 @@ abbrev pub is_short : Scalar → Bool
 is_short (text units) = false
 is_short (bytes xs) = false
 is_short _ = true
-
--- a piece was appended to the old bytes, and the rest is still to be appended
-pub record Puts (old new all rest : List ℕ) : Type 0 where
-  pub piece : List ℕ
-  pub put : new ≡ old ++ piece
-  pub split : all ≡ piece ++ rest

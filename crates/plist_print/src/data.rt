@@ -2,13 +2,11 @@
 ghost use Rattle.std.specs.Prelude.{◌≡◌, ◌<◌, ◌++◌, codes, flat_map, length, IfOk, OnOk};
 ghost use Rattle.plist_value.specs.Plist.{bytes};
 ghost use Rattle.plist_value.specs.Digits.{two_digits};
-ghost use Rattle.plist_engine.specs.Output.{Goes, state_of};
+ghost use Rattle.plist_engine.specs.Output.{Goes, Puts, state_of};
 ghost use Rattle.plist_print.specs.Units.{printed_data};
 ghost use Rattle.plist_print.specs.Printed.{indent, octet_lines, printed_line};
-ghost use Rattle.plist_print.specs.Shown.{Puts};
 
 use crate::layout::{end_lines, put_indent};
-use crate::lines::{put, settle};
 use plist_engine::{Output, Sink, WriteFault};
 use plist_value::put_digits;
 use std::alloc::AllocError;
@@ -31,7 +29,7 @@ pub(crate) fn print_data<W: Sink>(
     let Ok(()) = put_short_data(out.waiting, octets) else {
         return Err(WriteFault::OutOfMemory { sent: out.sent });
     };
-    settle(out)
+    out.settle()
 }
 
 // Appends the line of data in angle brackets.
@@ -54,7 +52,7 @@ fn print_long_data<W: Sink>(
     ensures goes { Goes (printed_line level (bytes octets.now))
         (state_of W.Sink out.old) (state_of W.Sink out.new) result }
 {
-    put(b"<\n", out)?;
+    out.put(b"<\n")?;
     print_lines(octets, level.min(32) + 1, out)?;
     end_lines(level, b'>', out)
 }
@@ -69,7 +67,7 @@ fn print_lines<W: Sink>(octets: &[u8], level: u64, out: &mut Output<W>) -> Resul
         let Ok(behind) = put_front(out.waiting, level, left) else {
             return Err(WriteFault::OutOfMemory { sent: out.sent });
         };
-        settle(out)?;
+        out.settle()?;
         left = behind;
     }
     Ok(())

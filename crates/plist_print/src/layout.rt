@@ -6,7 +6,7 @@ ghost use Rattle.plist_print.specs.Units.{printed_text};
 ghost use Rattle.plist_print.specs.Printed.{indent};
 ghost use Rattle.plist_print.specs.Printing.{pair_head};
 
-use crate::lines::{SHORT, print_text, put, settle};
+use crate::lines::{SHORT, print_text};
 use crate::strings::put_text;
 use plist_engine::{Output, Sink, WriteFault};
 use plist_value::TextRef;
@@ -68,7 +68,7 @@ pub(crate) fn end_lines<W: Sink>(
     let Ok(()) = put_end(out.waiting, level, close) else {
         return Err(WriteFault::OutOfMemory { sent: out.sent });
     };
-    settle(out)
+    out.settle()
 }
 
 fn put_end(out: &mut Vec<u8>, level: u64, close: u8) -> Result<(), AllocError>
@@ -87,7 +87,7 @@ pub(crate) fn begin_line<W: Sink>(level: u64, out: &mut Output<W>) -> Result<(),
     let Ok(()) = put_indent(out.waiting, level) else {
         return Err(WriteFault::OutOfMemory { sent: out.sent });
     };
-    settle(out)
+    out.settle()
 }
 
 // Writes a key and the arrow after it.
@@ -96,7 +96,7 @@ fn print_key<W: Sink>(key: &TextRef, out: &mut Output<W>) -> Result<(), WriteFau
         (state_of W.Sink out.old) (state_of W.Sink out.new) result }
 {
     print_text(key, out)?;
-    put(b" => ", out)
+    out.put(b" => ")
 }
 
 /// Appends the spaces at the start of a line of this level.

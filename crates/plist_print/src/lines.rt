@@ -1,11 +1,8 @@
 //! Prints scalars to a sink.
-ghost use Rattle.std.specs.Prelude.{◌≡◌, ◌+◌, ◌≤◌, ◌^◌, ◌++◌, [], codes, length, true};
-ghost use Rattle.std.specs.Prelude.{IfErr, OnOk};
+ghost use Rattle.std.specs.Prelude.{◌≡◌, ◌++◌, codes, true, OnOk};
 ghost use Rattle.plist_value.specs.Scalars.{content_of};
 ghost use Rattle.plist_value.specs.Texts.{units_of};
-ghost use Rattle.plist_engine.specs.declared.faults.WriteFault.TheVariants.{OutOfMemory};
 ghost use Rattle.plist_engine.specs.Output.{Goes, state_of};
-ghost use Rattle.plist_engine.specs.Sending.{sent_of};
 ghost use Rattle.plist_print.specs.Units.{printed_text, printed_units};
 ghost use Rattle.plist_print.specs.Printed.{printed_line, printed_scalar};
 ghost use Rattle.plist_print.specs.Shown.{is_short};
@@ -18,9 +15,6 @@ use itoa::Buffer;
 use plist_engine::{Output, Sink, WriteFault};
 use plist_value::{ScalarRef, TextRef};
 use std::alloc::AllocError;
-
-/// The number of buffered bytes from which on the buffer is flushed.
-const PIECE: usize = 4096;
 
 /// Strings of at most this many units are put into one piece.
 pub(crate) const SHORT: usize = 256;
@@ -56,7 +50,7 @@ fn print_short<W: Sink>(scalar: &ScalarRef, out: &mut Output<W>) -> Result<(), W
     let Ok(()) = put_short_line(out.waiting, scalar) else {
         return Err(WriteFault::OutOfMemory { sent: out.sent });
     };
-    settle(out)
+    out.settle()
 }
 
 // Appends the line of a scalar that is neither a string nor data.
@@ -106,7 +100,7 @@ fn print_text_line<W: Sink>(text: &TextRef, out: &mut Output<W>) -> Result<(), W
     let Ok(()) = put_text_line(out.waiting, text) else {
         return Err(WriteFault::OutOfMemory { sent: out.sent });
     };
-    settle(out)
+    out.settle()
 }
 
 fn put_text_line(out: &mut Vec<u8>, text: &TextRef) -> Result<(), AllocError>
@@ -123,7 +117,7 @@ fn print_long_text<W: Sink>(text: &TextRef, out: &mut Output<W>) -> Result<(), W
         (state_of W.Sink out.old) (state_of W.Sink out.new) result }
 {
     print_text(text, out)?;
-    put(b"\n", out)
+    out.put(b"\n")
 }
 
 /// Writes the string in quotes.
@@ -135,7 +129,7 @@ pub fn print_text<W: Sink>(text: &TextRef, out: &mut Output<W>) -> Result<(), Wr
     ensures goes { Goes (printed_text (units_of text.now))
         (state_of W.Sink out.old) (state_of W.Sink out.new) result }
 {
-    put(b"\"", out)?;
+    out.put(b"\"")?;
     print_units(text, out)
 }
 
@@ -149,50 +143,8 @@ fn print_units<W: Sink>(text: &TextRef, out: &mut Output<W>) -> Result<(), Write
         let Ok(next) = put_some(out.waiting, text, place) else {
             return Err(WriteFault::OutOfMemory { sent: out.sent });
         };
-        settle(out)?;
+        out.settle()?;
         place = next;
     }
-    put(b"\"", out)
-}
-
-/// Writes a few bytes through the buffer.
-pub(crate) fn put<W: Sink>(octets: &[u8], out: &mut Output<W>) -> Result<(), WriteFault>
-    ensures goes { Goes octets.now
-        (state_of W.Sink out.old) (state_of W.Sink out.new) result }
-{
-    let Ok(()) = gather(out.waiting, octets) else {
-        return Err(WriteFault::OutOfMemory { sent: out.sent });
-    };
-    settle(out)
-}
-
-/// Flushes the buffer if it is long.
-pub(crate) fn settle<W: Sink>(out: &mut Output<W>) -> Result<(), WriteFault>
-    ensures goes { Goes [] (state_of W.Sink out.old) (state_of W.Sink out.new) result }
-    ensures cause { IfErr result (λ fault. fault ≡ OutOfMemory (sent_of fault)
-        → 2 ^ 64 ≤ out.old.sent + length out.old.waiting.now.items) }
-{
-    if out.waiting.len() < PIECE {
-        return Ok(());
-    }
-    send_all(out)
-}
-
-/// Flushes the buffer.
-pub(crate) fn send_all<W: Sink>(out: &mut Output<W>) -> Result<(), WriteFault>
-    ensures goes { Goes [] (state_of W.Sink out.old) (state_of W.Sink out.new) result }
-    ensures none { OnOk result (out.new.waiting.now.items ≡ []) }
-    ensures cause { IfErr result (λ fault. fault ≡ OutOfMemory (sent_of fault)
-        → 2 ^ 64 ≤ out.old.sent + length out.old.waiting.now.items) }
-{
-    if out.waiting.len() as u64 > u64::MAX - out.sent {
-        return Err(WriteFault::OutOfMemory { sent: out.sent });
-    }
-    out.flush()
-}
-
-fn gather(out: &mut Vec<u8>, octets: &[u8]) -> Result<(), AllocError>
-    ensures { OnOk result (out.new.items ≡ out.old.items ++ octets.now) }
-{
-    out.extend_from_slice(octets)
+    out.put(b"\"")
 }

@@ -1,5 +1,5 @@
 //! Prints the value of a binary file to a sink.
-ghost use Rattle.std.specs.Prelude.{◌≡◌, ◌<◌, ◌+◌, ◌-◌, ℕ, List, [], IfOk, OnOk};
+ghost use Rattle.std.specs.Prelude.{◌≡◌, ◌<◌, ◌+◌, ◌-◌, ℕ, List, [], OnOk};
 ghost use Rattle.plist_value.specs.Plist.{Plist, Items, Pairs, list, table, text};
 ghost use Rattle.plist_value.specs.Plist.{IsPlist, AreItems, ArePairs};
 ghost use Rattle.plist_value.specs.declared.TheConstants.{MAX_DEPTH};
@@ -10,18 +10,18 @@ ghost use Rattle.plist_object.specs.Spelled.{IsBinary, Spells, SpellItems, Spell
 ghost use Rattle.plist_object.specs.Views.{numbers_of, octets_of};
 ghost use Rattle.plist_engine.specs.Output.{Goes, Stays, state_of};
 ghost use Rattle.plist_engine.specs.Sending.{IsWritten};
-ghost use Rattle.plist_engine.specs.Spelling.{IsTable, SpellTable};
-ghost use Rattle.plist_engine.specs.Spelling.{SpellWithin, in_turn};
+ghost use Rattle.plist_engine.specs.Spelling.{PairsWithin, SpellTable, SpellWithin, TableWithin};
+ghost use Rattle.plist_engine.specs.Spelling.{in_turn};
 ghost use Rattle.plist_print.specs.Printed.{printed, printed_at, printed_items, printed_pairs};
-ghost use Rattle.plist_print.specs.Printing.{PairsWithin, TableWithin, item_lines, pair_lines};
+ghost use Rattle.plist_print.specs.Printing.{item_lines, pair_lines};
 
 use crate::layout::{begin_line, begin_pair, end_lines};
-use crate::lines::{print_scalar, put, send_all};
+use crate::lines::print_scalar;
 use plist_engine::objects::object_of;
-use plist_engine::order::push_sorted;
+use plist_engine::order::in_turn;
 use plist_engine::{Output, Sink, WriteFault};
 use plist_object::{BinFile, KeyOrder, Object, Refs, text_of};
-use std::alloc::{AllocError, Global};
+use std::alloc::Global;
 
 /// Writes the printed text of the file's value, object by object, and returns its length in bytes.
 /// Neither the value nor the text is in memory: only the key order of each dictionary that is being
@@ -65,7 +65,7 @@ fn print_file<W: Sink>(
     let printer = Printer { alloc, file: *file };
     let mut order = KeyOrder::new(alloc, file);
     printer.value(&mut order, file.top(), 0, out)?;
-    send_all(out)?;
+    out.send_all()?;
     Ok(out.sent)
 }
 
@@ -122,9 +122,9 @@ impl<'a> Printer<'a> {
         ensures ready { OnOk result (IsReady (octets_of self.now.file) order.new) }
     {
         if items.is_empty() {
-            return put(b"[]\n", out);
+            return out.put(b"[]\n");
         }
-        put(b"[\n", out)?;
+        out.put(b"[\n")?;
         self.items(order, items, level + 1, out)?;
         end_lines(level, b']', out)
     }
@@ -198,37 +198,14 @@ impl<'a> Printer<'a> {
         ensures ready { OnOk result (IsReady (octets_of self.now.file) order.new) }
     {
         if keys.is_empty() {
-            return put(b"{}\n", out);
+            return out.put(b"{}\n");
         }
-        let Ok(references) = self.in_turn(order, keys, values) else {
+        let Ok(references) = in_turn(self.alloc, &self.file, order, keys, values) else {
             return Err(WriteFault::OutOfMemory { sent: out.sent });
         };
-        put(b"{\n", out)?;
+        out.put(b"{\n")?;
         self.pairs(order, &references, level + 1, out)?;
         end_lines(level, b'}', out)
-    }
-
-    // Returns the references to the keys in ascending order of the keys, and then the references to
-    // the values in the same order.
-    fn in_turn(
-        &self,
-        order: &mut KeyOrder<'a>,
-        keys: &Refs<'a>,
-        values: &Refs,
-    ) -> Result<Vec<u32>, AllocError>
-        requires table { IsTable (octets_of self.now.file) (numbers_of keys.now)
-            (numbers_of values.now) }
-        requires ready { IsReady (octets_of self.now.file) order.old }
-        ensures turn { IfOk result (λ references. (rows : List (ℕ × ℕ)) (ps : Pairs)
-            → SpellTable (octets_of self.now.file) (numbers_of keys.now) (numbers_of values.now)
-            rows ps
-            → references.items ≡ in_turn rows) }
-        ensures ready { OnOk result (IsReady (octets_of self.now.file) order.new) }
-    {
-        let count = keys.len().saturating_mul(2);
-        let mut references = Vec::with_capacity(self.alloc, count as usize)?;
-        push_sorted(self.alloc, &self.file, order, keys, values, &mut references)?;
-        Ok(references)
     }
 
     // Writes the lines of the entries. The references point to the keys, and then to the values.

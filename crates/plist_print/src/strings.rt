@@ -4,7 +4,7 @@ ghost use Rattle.std.specs.Prelude.{false, IsTrue, IfOk, OnOk, length, take, dro
 ghost use Rattle.std.specs.Char.{encode_utf8};
 ghost use Rattle.plist_value.specs.Texts.{units_of};
 ghost use Rattle.plist_value.specs.Digits.{two_digits};
-ghost use Rattle.plist_print.specs.Shown.{Puts};
+ghost use Rattle.plist_engine.specs.Output.{Puts};
 ghost use Rattle.plist_print.specs.Units.{printed_text, printed_unit, printed_units};
 
 use crate::unseen::{seen_pair, seen_unit};

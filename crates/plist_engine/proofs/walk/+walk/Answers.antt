@@ -78,7 +78,7 @@ walk_object-walk_children-requires g t c =
 
 pub walk_object-begin_table-requires : goal.walk_object-begin_table-requires
 walk_object-begin_table-requires g t c = record {
-  table = is_table (octets_of c.args.file.now) c.args.object c.args.levels (numbers_of c.in-Table.keys) (numbers_of c.in-Table.values) c.requires.spells c.in-Table.ensures.holds c.in-Table.ensures.valid;
+  table = is_table _ _ _ _ (table_within (octets_of c.args.file.now) c.args.object c.args.levels (numbers_of c.in-Table.keys) (numbers_of c.in-Table.values) c.in-Table.ensures.valid c.requires.spells c.in-Table.ensures.holds);
   ready = c.requires.ready;
 }
 
@@ -95,7 +95,7 @@ walk_object-walk_children-requires-in-Table g t c =
     let first = c.len-first-in-Table.result in
     let some = levels_within f c.args.object c.args.levels c.requires.spells in
     let at_end : first ≡ length old = search rules in
-    let within = table_within f c.args.object c.args.levels keys values c.requires.spells c.in-Table.ensures.holds in
+    let within = table_within f c.args.object c.args.levels keys values c.in-Table.ensures.valid c.requires.spells c.in-Table.ensures.holds in
     let objects = in_turn within.rows in
     let added = (c.in_ok-number-in-Table.ensures.begins within.rows within.pairs within.spell).references_added in
     let begun : drop first c.begin_table.new.self.references.items ≡ objects = ap (drop first) added ∙ drop_at old objects first (sym at_end) in
@@ -122,7 +122,7 @@ walk_object-returns-in_ok-walk_children-in-Table-clause-walked g t c =
     let keys = numbers_of c.in-Table.keys in
     let values = numbers_of c.in-Table.values in
     let at_end : c.len-first-in-Table.result ≡ length c.args.plan.now.references.items = search rules in
-    let within = table_within f c.args.object c.args.levels keys values c.requires.spells c.in-Table.ensures.holds in
+    let within = table_within f c.args.object c.args.levels keys values c.in-Table.ensures.valid c.requires.spells c.in-Table.ensures.holds in
     walked-table f c.args.object keys values within.rows within.pairs c.args.plan.now c.begin_table.new.self c.walk_children-in-Table.new.plan c.in_ok-number-in-Table.number c.len-first-in-Table.result c.in-Table.ensures.valid within.spell at_end (c.in_ok-number-in-Table.ensures.begins within.rows within.pairs within.spell) c.in_ok-walk_children-in-Table.ensures.walked c.in-Table.ensures.holds
 
 pub walk_object-returns-in-Scalar-clause-knows : goal.walk_object-returns-in-Scalar-clause-knows

@@ -5,7 +5,7 @@ use Rattle.std.proofs.lemmas.Result.{err_from_is_err_and}
 use Rattle.plist_engine.specs.Output.{state_of}
 use Rattle.plist_engine.proofs.Going.{Goes_same}
 use Rattle.plist_print.specs.Printed.{indent, octet_lines}
-use Rattle.plist_print.proofs.Steps.{piece-split, piece-settled, piece-stops, no_piece}
+use Rattle.plist_engine.proofs.Steps.{piece-split, piece-settled, piece-stops, no_piece}
 use Rattle.plist_print.proofs.data.print_lines.Goals as goal
 
 pub returns-in_default : goal.returns-in_default
@@ -24,7 +24,7 @@ returns-in_err-settle g c =
     let l = c.loop-left in
     let p = state_of g.W.Sink c.args.out.now in
     let q = state_of g.W.Sink l.out in
-    let r = state_of g.W.Sink c.settle.new.out in
+    let r = state_of g.W.Sink c.settle.new.self in
     rw (e.1, e.2) (record { goes = piece-stops l.invariant.done (octet_lines (indent c.args.level) l.left.now) (octet_lines (indent c.args.level) c.in-Ok.behind.now) all c.put_front.new.out.items p q l.invariant.split l.invariant.goes c.in-Ok.ensures.octets r _ c.in_err-settle.ensures.goes })
 
 pub loop-left-preserved : goal.loop-left-preserved
@@ -37,7 +37,7 @@ loop-left-preserved g c =
     record {
       done = l.invariant.done ++ puts.piece;
       split = piece-split l.invariant.done (octet_lines (indent c.args.level) l.left.now) (octet_lines (indent c.args.level) c.in-Ok.behind.now) all c.put_front.new.out.items p q l.invariant.split l.invariant.goes puts;
-      goes = piece-settled l.invariant.done (octet_lines (indent c.args.level) l.left.now) (octet_lines (indent c.args.level) c.in-Ok.behind.now) all c.put_front.new.out.items p q l.invariant.split l.invariant.goes puts (state_of g.W.Sink c.settle.new.out) _ c.in_ok-settle.ensures.goes;
+      goes = piece-settled l.invariant.done (octet_lines (indent c.args.level) l.left.now) (octet_lines (indent c.args.level) c.in-Ok.behind.now) all c.put_front.new.out.items p q l.invariant.split l.invariant.goes puts (state_of g.W.Sink c.settle.new.self) _ c.in_ok-settle.ensures.goes;
     }
 
 empty : (xs : List ℕ) → length xs ≡ 0 → xs ≡ []

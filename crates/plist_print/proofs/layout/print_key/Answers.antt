@@ -13,5 +13,5 @@ returns-in_err-print_text g c =
 
 pub returns : goal.returns
 returns g c = record {
-  goes = Goes_then (printed_text (units_of c.args.key.now)) (codes " => ") (state_of g.W.Sink c.args.out.now) (state_of g.W.Sink c.print_text.new.out) (state_of g.W.Sink c.put.new.out) _ c.put.result c.in_ok-print_text.ensures.goes c.put.ensures.goes;
+  goes = Goes_then (printed_text (units_of c.args.key.now)) (codes " => ") (state_of g.W.Sink c.args.out.now) (state_of g.W.Sink c.print_text.new.out) (state_of g.W.Sink c.put.new.self) _ c.put.result c.in_ok-print_text.ensures.goes c.put.ensures.goes;
 }

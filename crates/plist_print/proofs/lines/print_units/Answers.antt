@@ -6,7 +6,7 @@ use Rattle.plist_value.specs.Texts.{units_of}
 use Rattle.plist_engine.specs.Output.{state_of}
 use Rattle.plist_engine.proofs.Going.{Goes_then, Goes_stop, Goes_same}
 use Rattle.plist_print.specs.Units.{printed_units}
-use Rattle.plist_print.proofs.Steps.{piece-split, piece-settled, piece-stops, no_piece}
+use Rattle.plist_engine.proofs.Steps.{piece-split, piece-settled, piece-stops, no_piece}
 use Rattle.plist_print.proofs.lines.print_units.Goals as goal
 
 pub returns-in_default : goal.returns-in_default
@@ -25,7 +25,7 @@ returns-in_err-settle g c =
     let l = c.loop-place in
     let p = state_of g.W.Sink c.args.out.now in
     let q = state_of g.W.Sink l.out in
-    let r = state_of g.W.Sink c.settle.new.out in
+    let r = state_of g.W.Sink c.settle.new.self in
     rw (e.1, e.2) (record { goes = Goes_stop {T = Unit {0}} (printed_units us) (codes "\"") p r _ (piece-stops l.invariant.done (printed_units (drop l.place us)) (printed_units (drop c.in-Ok.next us)) (printed_units us) c.put_some.new.out.items p q l.invariant.split l.invariant.goes c.in-Ok.ensures.octets r _ c.in_err-settle.ensures.goes) })
 
 pub loop-place-preserved : goal.loop-place-preserved
@@ -39,7 +39,7 @@ loop-place-preserved g c =
       within = c.in-Ok.ensures.within;
       done = l.invariant.done ++ puts.piece;
       split = piece-split l.invariant.done (printed_units (drop l.place us)) (printed_units (drop c.in-Ok.next us)) (printed_units us) c.put_some.new.out.items p q l.invariant.split l.invariant.goes puts;
-      goes = piece-settled l.invariant.done (printed_units (drop l.place us)) (printed_units (drop c.in-Ok.next us)) (printed_units us) c.put_some.new.out.items p q l.invariant.split l.invariant.goes puts (state_of g.W.Sink c.settle.new.out) _ c.in_ok-settle.ensures.goes;
+      goes = piece-settled l.invariant.done (printed_units (drop l.place us)) (printed_units (drop c.in-Ok.next us)) (printed_units us) c.put_some.new.out.items p q l.invariant.split l.invariant.goes puts (state_of g.W.Sink c.settle.new.self) _ c.in_ok-settle.ensures.goes;
     }
 
 pub returns : goal.returns
@@ -51,4 +51,4 @@ returns g c =
     let whole : l.invariant.done ≡ printed_units us = sym (append-nil l.invariant.done) ∙ ap (λ os. l.invariant.done ++ os) (sym none) ∙ l.invariant.split in
     let p = state_of g.W.Sink c.args.out.now in
     let q = state_of g.W.Sink l.out in
-    record { goes = Goes_then (printed_units us) (codes "\"") p q (state_of g.W.Sink c.put.new.out) tt c.put.result (Goes_same l.invariant.done (printed_units us) p q _ whole l.invariant.goes) c.put.ensures.goes }
+    record { goes = Goes_then (printed_units us) (codes "\"") p q (state_of g.W.Sink c.put.new.self) tt c.put.result (Goes_same l.invariant.done (printed_units us) p q _ whole l.invariant.goes) c.put.ensures.goes }

@@ -11,14 +11,15 @@ use Rattle.plist_object.specs.Places.{Holds, HoldsText}
 use Rattle.plist_object.specs.Spelled.{Spells, SpellsWithin}
 use Rattle.plist_object.specs.Views.{octets_of, numbers_of}
 use Rattle.plist_engine.specs.Output.{state_of}
-use Rattle.plist_engine.proofs.Going.{Goes_put, Goes_then, Goes_rest, Goes_stop, Goes_same, Goes_out, Stays-trans}
-use Rattle.plist_engine.specs.Spelling.{SpellWithin}
-use Rattle.plist_engine.proofs.Within.{read_within, levels_within, items_within, table_within, value_within}
+use Rattle.plist_engine.proofs.Going.{Goes_put, Goes_then, Goes_stop, Goes_same, Goes_out, Stays-trans}
+use Rattle.plist_engine.proofs.Steps.{refused, brackets_unopened, brackets_unfilled, brackets_closed}
+use Rattle.plist_engine.proofs.Turns.{items_more, items_stop, items_done, pair_named, pairs_more, pairs_stop, pairs_done, turn_within}
+use Rattle.plist_engine.proofs.Within.{read_within, levels_within, items_within, table_within, value_within, scalar_seen, list_seen, table_seen, text_seen}
+use Rattle.plist_engine.specs.Spelling.{SpellWithin, TableWithin}
 use Rattle.plist_print.specs.Printed.{indent, printed_at, printed_items, printed_pairs}
 use Rattle.plist_print.specs.Printing.{item_lines, pair_head, pair_lines}
-use Rattle.plist_print.proofs.PrintSteps.{items_before, item_at, items_all, pairs_before, pair_at, pairs_all}
-use Rattle.plist_print.proofs.Enclosing.{brackets_unopened, brackets_unfilled, brackets_closed, list_empty, list_brackets, table_empty, table_brackets, scalar_seen, list_seen, table_seen, text_seen}
-use Rattle.plist_print.proofs.Turns.{turn_count, turn_key, turn_value, turn_within}
+use Rattle.plist_print.proofs.PrintSteps.{items_joined, pairs_joined}
+use Rattle.plist_print.proofs.Enclosing.{list_empty, list_brackets, table_empty, table_brackets}
 use Rattle.plist_print.proofs.printing.Printer.+print.Goals as goal
 
 pub value-object_of-requires : goal.value-object_of-requires
@@ -42,30 +43,14 @@ value-table-requires g t c κs within =
     let values = numbers_of c.in-Table.values in
     let some = levels_within f c.args.object (MAX_DEPTH - c.args.level) c.requires.spells in
     let below : c.args.level < MAX_DEPTH = omega arith in
-    let inside = table_within f c.args.object (MAX_DEPTH - c.args.level) keys values c.requires.spells c.in-Table.ensures.holds in (
-      omega (arith, c.decreases, some),
-      (
-        within,
-        (
-          below,
-          (
-            record {
-              rows = inside.rows;
-              pairs = inside.pairs;
-              as_many = c.in-Table.ensures.valid;
-              spell = inside.spell;
-              deep = omega (arith, inside.deep);
-            },
-            c.requires.ready,
-          ),
-        ),
-      ),
-    )
+    let less : MAX_DEPTH - c.args.level - 1 ≡ MAX_DEPTH - (c.args.level + 1) = omega arith in
+    let inside = table_within f c.args.object (MAX_DEPTH - c.args.level) keys values c.in-Table.ensures.valid c.requires.spells c.in-Table.ensures.holds in
+    (omega (arith, c.decreases, some), (within, (below, (subst (λ (n : ℕ). TableWithin f keys values n) less inside, c.requires.ready))))
 
 pub value-returns-in-Scalar-clause-goes : goal.value-returns-in-Scalar-clause-goes
 value-returns-in-Scalar-clause-goes g t c = λ v valid spells.
     let f = octets_of c.args.self.now.file in
-    Goes_same _ (printed_at c.args.level v) (state_of g.W.Sink c.args.out.now) (state_of g.W.Sink c.print_scalar.new.out) c.print_scalar.result (scalar_seen f c.args.object c.args.level (content_of c.in-Scalar.scalar) v c.in-Scalar.ensures.holds spells) c.print_scalar.ensures.goes
+    Goes_same _ (printed_at c.args.level v) (state_of g.W.Sink c.args.out.now) (state_of g.W.Sink c.print_scalar.new.out) c.print_scalar.result (ap (printed_at c.args.level) (scalar_seen f c.args.object (content_of c.in-Scalar.scalar) v c.in-Scalar.ensures.holds spells)) c.print_scalar.ensures.goes
 
 pub value-returns-in-List-clause-goes : goal.value-returns-in-List-clause-goes
 value-returns-in-List-clause-goes g t c = λ v valid spells.
@@ -81,30 +66,28 @@ pub list-returns-then-is_empty-clause-goes : goal.list-returns-then-is_empty-cla
 list-returns-then-is_empty-clause-goes g t c = λ vs valid spell.
     let refs = numbers_of c.args.items.now in
     let none : length refs ≡ 0 = first_of (search rules, grind (arith, nat_tests)) in
-    Goes_same (91 ∷ 93 ∷ 10 ∷ []) (printed_at c.args.level (list vs)) (state_of g.W.Sink c.args.out.now) (state_of g.W.Sink c.put.new.out) c.put.result (list_empty (octets_of c.args.self.now.file) refs c.args.level vs none spell) c.put.ensures.goes
+    Goes_same (91 ∷ 93 ∷ 10 ∷ []) (printed_at c.args.level (list vs)) (state_of g.W.Sink c.args.out.now) (state_of g.W.Sink c.put.new.self) c.put.result (list_empty (octets_of c.args.self.now.file) refs c.args.level vs none spell) c.put.ensures.goes
 
 pub list-returns-in_err-put-clause-goes : goal.list-returns-in_err-put-clause-goes
 list-returns-in_err-put-clause-goes g t c = λ vs valid spell.
-    let e = err_from_is_err_and c.from_residual.result c.from_residual.ensures.1 in
     let refs = numbers_of c.args.items.now in
     let some : 0 < length refs = first_of (search rules, grind (arith, nat_tests)) in
     let is = list_brackets (octets_of c.args.self.now.file) refs c.args.level vs some spell in
-    rw (e.1, e.2) (brackets_unopened c.args.level 91 93 (printed_items (c.args.level + 1) vs) (printed_at c.args.level (list vs)) is (state_of g.W.Sink c.args.out.now) (state_of g.W.Sink c.put-2.new.out) _ c.in_err-put.ensures.goes)
+    refused c.from_residual.result c.from_residual.ensures.1 (brackets_unopened (91 ∷ 10 ∷ []) (printed_items (c.args.level + 1) vs) (indent c.args.level ++ (93 ∷ 10 ∷ [])) (printed_at c.args.level (list vs)) is (state_of g.W.Sink c.args.out.now) (state_of g.W.Sink c.put-2.new.self) _ c.in_err-put.ensures.goes)
 
 pub list-returns-in_err-items-clause-goes : goal.list-returns-in_err-items-clause-goes
 list-returns-in_err-items-clause-goes g t c = λ vs valid spell.
-    let e = err_from_is_err_and c.from_residual-in_err-items.result c.from_residual-in_err-items.ensures.1 in
     let refs = numbers_of c.args.items.now in
     let some : 0 < length refs = first_of (search rules, grind (arith, nat_tests)) in
     let is = list_brackets (octets_of c.args.self.now.file) refs c.args.level vs some spell in
-    rw (e.1, e.2) (brackets_unfilled c.args.level 91 93 (printed_items (c.args.level + 1) vs) (printed_at c.args.level (list vs)) is (state_of g.W.Sink c.args.out.now) (state_of g.W.Sink c.put-2.new.out) (state_of g.W.Sink c.items.new.out) _ _ c.in_ok-put.ensures.goes (c.in_err-items.ensures.goes vs valid spell))
+    refused c.from_residual-in_err-items.result c.from_residual-in_err-items.ensures.1 (brackets_unfilled (91 ∷ 10 ∷ []) (printed_items (c.args.level + 1) vs) (indent c.args.level ++ (93 ∷ 10 ∷ [])) (printed_at c.args.level (list vs)) is (state_of g.W.Sink c.args.out.now) (state_of g.W.Sink c.put-2.new.self) (state_of g.W.Sink c.items.new.out) _ _ c.in_ok-put.ensures.goes (c.in_err-items.ensures.goes vs valid spell))
 
 pub list-returns-clause-goes : goal.list-returns-clause-goes
 list-returns-clause-goes g t c = λ vs valid spell.
     let refs = numbers_of c.args.items.now in
     let some : 0 < length refs = first_of (search rules, grind (arith, nat_tests)) in
     let is = list_brackets (octets_of c.args.self.now.file) refs c.args.level vs some spell in
-    brackets_closed c.args.level 91 93 (printed_items (c.args.level + 1) vs) (printed_at c.args.level (list vs)) is (state_of g.W.Sink c.args.out.now) (state_of g.W.Sink c.put-2.new.out) (state_of g.W.Sink c.items.new.out) (state_of g.W.Sink c.end_lines.new.out) _ _ c.end_lines.result c.in_ok-put.ensures.goes (c.in_ok-items.ensures.goes vs valid spell) c.end_lines.ensures.goes
+    brackets_closed (91 ∷ 10 ∷ []) (printed_items (c.args.level + 1) vs) (indent c.args.level ++ (93 ∷ 10 ∷ [])) (printed_at c.args.level (list vs)) is (state_of g.W.Sink c.args.out.now) (state_of g.W.Sink c.put-2.new.self) (state_of g.W.Sink c.items.new.out) (state_of g.W.Sink c.end_lines.new.out) _ _ c.end_lines.result c.in_ok-put.ensures.goes (c.in_ok-items.ensures.goes vs valid spell) c.end_lines.ensures.goes
 
 pub items-item-requires : goal.items-item-requires
 items-item-requires g t c κs within =
@@ -117,31 +100,17 @@ items-item-requires g t c κs within =
 
 pub items-returns-in_err-item-clause-goes : goal.items-returns-in_err-item-clause-goes
 items-returns-in_err-item-clause-goes g t c = λ vs valid spell.
-    let e = err_from_is_err_and c.from_residual.result c.from_residual.ensures.1 in
-    let f = octets_of c.args.self.now.file in
+    let level = c.args.level in
     let refs = numbers_of c.args.items.now in
-    let i = c.loop-i.i in
-    let below : i < length refs = omega (arith, c.loop-i-test.true, c.len-i-end.ensures) in
-    let at = item_at f refs c.args.level i vs below valid spell in
-    let spells = subst (λ (n : ℕ). Spells f n at.value) (sym c.get.ensures) at.spells in
-    let before = items_before c.args.level i vs in
-    let one = item_lines c.args.level at.value in
-    let p = state_of g.W.Sink c.args.out.now in
-    let r = state_of g.W.Sink c.item.new.out in
-    let stop = Goes_then before one p (state_of g.W.Sink c.loop-i.out) r tt _ (c.loop-i.invariant.goes vs valid spell) (c.in_err-item.ensures.goes at.value at.valid spells) in
-    rw (e.1, e.2) (Goes_same ((before ++ one) ++ at.rest) (printed_items c.args.level vs) p r _ (sym at.split) (Goes_stop (before ++ one) at.rest p r _ stop))
+    let below : c.loop-i.i < length refs = omega (arith, c.loop-i-test.true, c.len-i-end.ensures) in
+    refused c.from_residual.result c.from_residual.ensures.1 (Goes_same _ _ _ _ _ (items_joined level vs) (items_stop (octets_of c.args.self.now.file) (item_lines level) refs c.loop-i.i vs valid spell c.get.result _ _ _ c.get.ensures below (c.loop-i.invariant.goes vs valid spell) _ c.in_err-item.ensures.goes))
 
 pub items-loop-i-preserved : goal.items-loop-i-preserved
 items-loop-i-preserved g t c = record {
   goes = λ vs valid spell.
-      let f = octets_of c.args.self.now.file in
       let refs = numbers_of c.args.items.now in
-      let i = c.loop-i.i in
-      let below : i < length refs = omega (arith, c.loop-i-test.true, c.len-i-end.ensures) in
-      let at = item_at f refs c.args.level i vs below valid spell in
-      let spells = subst (λ (n : ℕ). Spells f n at.value) (sym c.get.ensures) at.spells in
-      let more : items_before c.args.level i vs ++ item_lines c.args.level at.value ≡ items_before c.args.level (i + 1) vs = sym at.more ∙ ap (λ k. items_before c.args.level k vs) (sym (add-one i)) in
-      Goes_rest (items_before c.args.level i vs) (item_lines c.args.level at.value) (items_before c.args.level (i + 1) vs) (state_of g.W.Sink c.args.out.now) (state_of g.W.Sink c.loop-i.out) (state_of g.W.Sink c.item.new.out) tt _ more (c.loop-i.invariant.goes vs valid spell) (c.in_ok-item.ensures.goes at.value at.valid spells);
+      let below : c.loop-i.i < length refs = omega (arith, c.loop-i-test.true, c.len-i-end.ensures) in
+      items_more (octets_of c.args.self.now.file) (item_lines c.args.level) refs c.loop-i.i vs valid spell c.get.result _ _ _ c.get.ensures below (c.loop-i.invariant.goes vs valid spell) _ c.in_ok-item.ensures.goes;
   stays = Stays-trans (state_of g.W.Sink c.args.out.now) (state_of g.W.Sink c.loop-i.out) (state_of g.W.Sink c.item.new.out) c.loop-i.invariant.stays c.in_ok-item.ensures.stays;
   ready = c.in_ok-item.ensures.ready;
 }
@@ -149,15 +118,12 @@ items-loop-i-preserved g t c = record {
 pub items-returns-clause-goes : goal.items-returns-clause-goes
 items-returns-clause-goes g t c = λ vs valid spell.
     let refs = numbers_of c.args.items.now in
-    let i = c.loop-i.i in
-    let past : length refs ≤ i = omega (arith, c.loop-i-test.false, c.len-i-end.ensures) in
-    let all = items_all (octets_of c.args.self.now.file) refs c.args.level i vs past spell in
-    Goes_same (items_before c.args.level i vs) (printed_items c.args.level vs) (state_of g.W.Sink c.args.out.now) (state_of g.W.Sink c.loop-i.out) _ all (c.loop-i.invariant.goes vs valid spell)
+    let past : length refs ≤ c.loop-i.i = omega (arith, c.loop-i-test.false, c.len-i-end.ensures) in
+    Goes_same _ _ _ _ _ (items_joined c.args.level vs) (items_done (octets_of c.args.self.now.file) (item_lines c.args.level) refs c.loop-i.i vs valid spell _ _ _ past (c.loop-i.invariant.goes vs valid spell))
 
 pub item-returns-in_err-begin_line-clause-goes : goal.item-returns-in_err-begin_line-clause-goes
 item-returns-in_err-begin_line-clause-goes g t c = λ v valid spells.
-    let e = err_from_is_err_and c.from_residual.result c.from_residual.ensures.1 in
-    rw (e.1, e.2) (Goes_stop (indent c.args.level) (printed_at c.args.level v) (state_of g.W.Sink c.args.out.now) (state_of g.W.Sink c.begin_line.new.out) _ c.in_err-begin_line.ensures.goes)
+    refused c.from_residual.result c.from_residual.ensures.1 (Goes_stop (indent c.args.level) (printed_at c.args.level v) (state_of g.W.Sink c.args.out.now) (state_of g.W.Sink c.begin_line.new.out) _ c.in_err-begin_line.ensures.goes)
 
 pub item-returns-clause-goes : goal.item-returns-clause-goes
 item-returns-clause-goes g t c = λ v valid spells.
@@ -167,15 +133,14 @@ pub table-returns-then-is_empty-clause-goes : goal.table-returns-then-is_empty-c
 table-returns-then-is_empty-clause-goes g t c = λ rows ps spell.
     let keys = numbers_of c.args.keys.now in
     let none : length keys ≡ 0 = first_of (search rules, grind (arith, nat_tests)) in
-    Goes_same (123 ∷ 125 ∷ 10 ∷ []) (printed_at c.args.level (table ps)) (state_of g.W.Sink c.args.out.now) (state_of g.W.Sink c.put.new.out) c.put.result (table_empty (octets_of c.args.self.now.file) keys (numbers_of c.args.values.now) rows c.args.level ps c.requires.spell.as_many none spell) c.put.ensures.goes
+    Goes_same (123 ∷ 125 ∷ 10 ∷ []) (printed_at c.args.level (table ps)) (state_of g.W.Sink c.args.out.now) (state_of g.W.Sink c.put.new.self) c.put.result (table_empty (octets_of c.args.self.now.file) keys (numbers_of c.args.values.now) rows c.args.level ps c.requires.spell.as_many none spell) c.put.ensures.goes
 
 pub table-returns-in_err-put-clause-goes : goal.table-returns-in_err-put-clause-goes
 table-returns-in_err-put-clause-goes g t c = λ rows ps spell.
-    let e = err_from_is_err_and c.from_residual.result c.from_residual.ensures.1 in
     let keys = numbers_of c.args.keys.now in
     let some : 0 < length keys = first_of (search rules, grind (arith, nat_tests)) in
     let is = table_brackets (octets_of c.args.self.now.file) keys (numbers_of c.args.values.now) rows c.args.level ps c.requires.spell.as_many some spell in
-    rw (e.1, e.2) (brackets_unopened c.args.level 123 125 (printed_pairs (c.args.level + 1) ps) (printed_at c.args.level (table ps)) is (state_of g.W.Sink c.args.out.now) (state_of g.W.Sink c.put-2.new.out) _ c.in_err-put.ensures.goes)
+    refused c.from_residual.result c.from_residual.ensures.1 (brackets_unopened (123 ∷ 10 ∷ []) (printed_pairs (c.args.level + 1) ps) (indent c.args.level ++ (125 ∷ 10 ∷ [])) (printed_at c.args.level (table ps)) is (state_of g.W.Sink c.args.out.now) (state_of g.W.Sink c.put-2.new.self) _ c.in_err-put.ensures.goes)
 
 pub table-returns-in_default-clause-goes : goal.table-returns-in_default-clause-goes
 table-returns-in_default-clause-goes g t c = λ rows ps spell.
@@ -204,12 +169,11 @@ table-pairs-requires g t c κs within =
 
 pub table-returns-in_err-pairs-clause-goes : goal.table-returns-in_err-pairs-clause-goes
 table-returns-in_err-pairs-clause-goes g t c = λ rows ps spell.
-    let e = err_from_is_err_and c.from_residual-in_err-pairs.result c.from_residual-in_err-pairs.ensures.1 in
     let keys = numbers_of c.args.keys.now in
     let some : 0 < length keys = first_of (search rules, grind (arith, nat_tests)) in
     let is = table_brackets (octets_of c.args.self.now.file) keys (numbers_of c.args.values.now) rows c.args.level ps c.requires.spell.as_many some spell in
     let turn = c.deref.ensures.value ∙ c.in-Ok.ensures.turn rows ps spell in
-    rw (e.1, e.2) (brackets_unfilled c.args.level 123 125 (printed_pairs (c.args.level + 1) ps) (printed_at c.args.level (table ps)) is (state_of g.W.Sink c.args.out.now) (state_of g.W.Sink c.put-2.new.out) (state_of g.W.Sink c.pairs.new.out) _ _ c.in_ok-put.ensures.goes (c.in_err-pairs.ensures.goes rows ps turn spell.valid spell.spell))
+    refused c.from_residual-in_err-pairs.result c.from_residual-in_err-pairs.ensures.1 (brackets_unfilled (123 ∷ 10 ∷ []) (printed_pairs (c.args.level + 1) ps) (indent c.args.level ++ (125 ∷ 10 ∷ [])) (printed_at c.args.level (table ps)) is (state_of g.W.Sink c.args.out.now) (state_of g.W.Sink c.put-2.new.self) (state_of g.W.Sink c.pairs.new.out) _ _ c.in_ok-put.ensures.goes (c.in_err-pairs.ensures.goes rows ps turn spell.valid spell.spell))
 
 pub table-returns-clause-goes : goal.table-returns-clause-goes
 table-returns-clause-goes g t c = λ rows ps spell.
@@ -217,7 +181,7 @@ table-returns-clause-goes g t c = λ rows ps spell.
     let some : 0 < length keys = first_of (search rules, grind (arith, nat_tests)) in
     let is = table_brackets (octets_of c.args.self.now.file) keys (numbers_of c.args.values.now) rows c.args.level ps c.requires.spell.as_many some spell in
     let turn = c.deref.ensures.value ∙ c.in-Ok.ensures.turn rows ps spell in
-    brackets_closed c.args.level 123 125 (printed_pairs (c.args.level + 1) ps) (printed_at c.args.level (table ps)) is (state_of g.W.Sink c.args.out.now) (state_of g.W.Sink c.put-2.new.out) (state_of g.W.Sink c.pairs.new.out) (state_of g.W.Sink c.end_lines.new.out) _ _ c.end_lines.result c.in_ok-put.ensures.goes (c.in_ok-pairs.ensures.goes rows ps turn spell.valid spell.spell) c.end_lines.ensures.goes
+    brackets_closed (123 ∷ 10 ∷ []) (printed_pairs (c.args.level + 1) ps) (indent c.args.level ++ (125 ∷ 10 ∷ [])) (printed_at c.args.level (table ps)) is (state_of g.W.Sink c.args.out.now) (state_of g.W.Sink c.put-2.new.self) (state_of g.W.Sink c.pairs.new.out) (state_of g.W.Sink c.end_lines.new.out) _ _ c.end_lines.result c.in_ok-put.ensures.goes (c.in_ok-pairs.ensures.goes rows ps turn spell.valid spell.spell) c.end_lines.ensures.goes
 
 pub pairs-pair-requires : goal.pairs-pair-requires
 pairs-pair-requires g t c κs within =
@@ -225,65 +189,33 @@ pairs-pair-requires g t c κs within =
     let refs = c.args.references.now in
     let i = c.loop-i.i in
     let all = c.requires.spell in
-    let count = turn_count refs all.rows all.turn in
-    let below : i < length all.rows = omega (arith, c.loop-i-test.true, count) in
     let far : length refs / 2 + i < length refs = omega (arith, c.loop-i-test.true) in
-    let at = pair_at f all.rows c.args.level i all.pairs below all.valid all.spell in
-    let key = c.from-key.ensures ∙ turn_key refs all.rows all.turn i below in
-    let named = subst (λ (n : ℕ). HoldsText f n) (sym key) (at.key, at.named) in
+    let named = pair_named f (pair_lines c.args.level) refs i all.rows all.pairs all.turn all.valid all.spell c.from-key.result c.from-object.result c.from-key.ensures c.from-object.ensures c.loop-i-test.true in
     let one = subst (λ (n : ℕ). SpellsWithin f n (MAX_DEPTH - c.args.level)) (sym c.from-object.ensures) (turn_within f refs (MAX_DEPTH - c.args.level) (length refs / 2 + i) all far) in
     (omega (arith, c.decreases), (within, (named, (one, c.loop-i.invariant.ready))))
 
 pub pairs-returns-in_err-pair-clause-goes : goal.pairs-returns-in_err-pair-clause-goes
 pairs-returns-in_err-pair-clause-goes g t c = λ rows ps turn valid spell.
-    let e = err_from_is_err_and c.from_residual.result c.from_residual.ensures.1 in
-    let f = octets_of c.args.self.now.file in
-    let refs = c.args.references.now in
-    let i = c.loop-i.i in
-    let count = turn_count refs rows turn in
-    let below : i < length rows = omega (arith, c.loop-i-test.true, count) in
-    let at = pair_at f rows c.args.level i ps below valid spell in
-    let named = subst (λ (n : ℕ). Holds f n (holds_scalar (text at.key))) (sym (c.from-key.ensures ∙ turn_key refs rows turn i below)) at.named in
-    let spells = subst (λ (n : ℕ). Spells f n at.value) (sym (c.from-object.ensures ∙ turn_value refs rows turn (length refs / 2) i count)) at.spells in
-    let before = pairs_before c.args.level i ps in
-    let one = pair_lines c.args.level at.key at.value in
-    let p = state_of g.W.Sink c.args.out.now in
-    let r = state_of g.W.Sink c.pair.new.out in
-    let stop = Goes_then before one p (state_of g.W.Sink c.loop-i.out) r tt _ (c.loop-i.invariant.goes rows ps turn valid spell) (c.in_err-pair.ensures.goes at.key at.value named at.valid spells) in
-    rw (e.1, e.2) (Goes_same ((before ++ one) ++ at.rest) (printed_pairs c.args.level ps) p r _ (sym at.split) (Goes_stop (before ++ one) at.rest p r _ stop))
+    let level = c.args.level in
+    refused c.from_residual.result c.from_residual.ensures.1 (Goes_same _ _ _ _ _ (pairs_joined level ps) (pairs_stop (octets_of c.args.self.now.file) (pair_lines level) c.args.references.now c.loop-i.i rows ps turn valid spell c.from-key.result c.from-object.result c.from-key.ensures c.from-object.ensures c.loop-i-test.true _ _ _ (c.loop-i.invariant.goes rows ps turn valid spell) _ c.in_err-pair.ensures.goes))
 
 pub pairs-loop-i-preserved : goal.pairs-loop-i-preserved
 pairs-loop-i-preserved g t c = record {
-  goes = λ rows ps turn valid spell.
-      let f = octets_of c.args.self.now.file in
-      let refs = c.args.references.now in
-      let i = c.loop-i.i in
-      let count = turn_count refs rows turn in
-      let below : i < length rows = omega (arith, c.loop-i-test.true, count) in
-      let at = pair_at f rows c.args.level i ps below valid spell in
-      let named = subst (λ (n : ℕ). Holds f n (holds_scalar (text at.key))) (sym (c.from-key.ensures ∙ turn_key refs rows turn i below)) at.named in
-      let spells = subst (λ (n : ℕ). Spells f n at.value) (sym (c.from-object.ensures ∙ turn_value refs rows turn (length refs / 2) i count)) at.spells in
-      let more : pairs_before c.args.level i ps ++ pair_lines c.args.level at.key at.value ≡ pairs_before c.args.level (i + 1) ps = sym at.more ∙ ap (λ k. pairs_before c.args.level k ps) (sym (add-one i)) in
-      Goes_rest (pairs_before c.args.level i ps) (pair_lines c.args.level at.key at.value) (pairs_before c.args.level (i + 1) ps) (state_of g.W.Sink c.args.out.now) (state_of g.W.Sink c.loop-i.out) (state_of g.W.Sink c.pair.new.out) tt _ more (c.loop-i.invariant.goes rows ps turn valid spell) (c.in_ok-pair.ensures.goes at.key at.value named at.valid spells);
+  goes = λ rows ps turn valid spell. pairs_more (octets_of c.args.self.now.file) (pair_lines c.args.level) c.args.references.now c.loop-i.i rows ps turn valid spell c.from-key.result c.from-object.result c.from-key.ensures c.from-object.ensures c.loop-i-test.true _ _ _ (c.loop-i.invariant.goes rows ps turn valid spell) _ c.in_ok-pair.ensures.goes;
   stays = Stays-trans (state_of g.W.Sink c.args.out.now) (state_of g.W.Sink c.loop-i.out) (state_of g.W.Sink c.pair.new.out) c.loop-i.invariant.stays c.in_ok-pair.ensures.stays;
   ready = c.in_ok-pair.ensures.ready;
 }
 
 pub pairs-returns-clause-goes : goal.pairs-returns-clause-goes
 pairs-returns-clause-goes g t c = λ rows ps turn valid spell.
-    let i = c.loop-i.i in
-    let count = turn_count c.args.references.now rows turn in
-    let past : length rows ≤ i = omega (arith, c.loop-i-test.false, count) in
-    let all = pairs_all (octets_of c.args.self.now.file) rows c.args.level i ps past spell in
-    Goes_same (pairs_before c.args.level i ps) (printed_pairs c.args.level ps) (state_of g.W.Sink c.args.out.now) (state_of g.W.Sink c.loop-i.out) _ all (c.loop-i.invariant.goes rows ps turn valid spell)
+    Goes_same _ _ _ _ _ (pairs_joined c.args.level ps) (pairs_done (octets_of c.args.self.now.file) (pair_lines c.args.level) c.args.references.now c.loop-i.i rows ps turn valid spell _ _ _ c.loop-i-test.false (c.loop-i.invariant.goes rows ps turn valid spell))
 
 pub pair-returns-in_err-begin_pair-clause-goes : goal.pair-returns-in_err-begin_pair-clause-goes
 pair-returns-in_err-begin_pair-clause-goes g t c = λ units v named valid spells.
-    let e = err_from_is_err_and c.from_residual.result c.from_residual.ensures.1 in
     let seen = units_of c.text_of-text.result in
     let same = text_seen (octets_of c.args.self.now.file) c.args.key seen units c.text_of-text.ensures named in
     let is = ap (λ us. pair_lines c.args.level us v) same in
-    rw (e.1, e.2) (Goes_same (pair_lines c.args.level seen v) (pair_lines c.args.level units v) (state_of g.W.Sink c.args.out.now) (state_of g.W.Sink c.begin_pair.new.out) _ is (Goes_stop (pair_head c.args.level seen) (printed_at c.args.level v) (state_of g.W.Sink c.args.out.now) (state_of g.W.Sink c.begin_pair.new.out) _ c.in_err-begin_pair.ensures.goes))
+    refused c.from_residual.result c.from_residual.ensures.1 (Goes_same (pair_lines c.args.level seen v) (pair_lines c.args.level units v) (state_of g.W.Sink c.args.out.now) (state_of g.W.Sink c.begin_pair.new.out) _ is (Goes_stop (pair_head c.args.level seen) (printed_at c.args.level v) (state_of g.W.Sink c.args.out.now) (state_of g.W.Sink c.begin_pair.new.out) _ c.in_err-begin_pair.ensures.goes))
 
 pub pair-returns-clause-goes : goal.pair-returns-clause-goes
 pair-returns-clause-goes g t c = λ units v named valid spells.

@@ -1,4 +1,5 @@
-use Rattle.std.proofs.Common.{◌≡◌, ℕ, ◌+◌, ◌-◌, ◌*◌, List, Ok}
+use Rattle.std.proofs.Common.{◌≡◌, ℕ, ◌+◌, ◌-◌, ◌*◌, List, take, Ok}
+use Rattle.std.specs.List.{concat}
 use Rattle.plist_value.specs.Plist.{Items, Pairs, AreItems, ArePairs}
 use Rattle.plist_value.specs.declared.TheConstants.{MAX_DEPTH}
 use Rattle.plist_object.specs.Spelled.{SpellItems, SpellPairs}
@@ -6,7 +7,8 @@ use Rattle.plist_object.specs.Views.{octets_of, numbers_of}
 use Rattle.plist_engine.specs.Output.{Goes, Stays, state_of}
 use Rattle.plist_object.specs.KeyOrder.{IsReady}
 use Rattle.plist_engine.specs.Spelling.{in_turn}
-use Rattle.plist_print.proofs.PrintSteps.{items_before, pairs_before}
+use Rattle.plist_engine.proofs.Turns.{item_texts, pair_texts}
+use Rattle.plist_print.specs.Printing.{item_lines, pair_lines}
 use Rattle.plist_print.proofs.printing.Printer.+print.Given as goal
 
 -- the remaining levels decrease, and each caller comes before what it calls
@@ -34,7 +36,7 @@ decreases-table g l = 4 * (MAX_DEPTH - l.level) - 1
 -- the lines of the items before this one were written
 abbrev pub invariant-items-loop-i : goal.invariant-items-loop-i
 invariant-items-loop-i g l = record {
-  goes : (vs : Items) → AreItems vs → SpellItems (octets_of l.self.file) (numbers_of l.items) vs → Goes {T = Unit {0}} (items_before l.level l.i vs) (state_of g.W.Sink l.fn.out) (state_of g.W.Sink l.out) (Ok tt);
+  goes : (vs : Items) → AreItems vs → SpellItems (octets_of l.self.file) (numbers_of l.items) vs → Goes {T = Unit {0}} (concat (take l.i (item_texts (item_lines l.level) vs))) (state_of g.W.Sink l.fn.out) (state_of g.W.Sink l.out) (Ok tt);
   stays : Stays (state_of g.W.Sink l.fn.out) (state_of g.W.Sink l.out);
   ready : IsReady (octets_of l.self.file) l.order;
 }
@@ -42,7 +44,7 @@ invariant-items-loop-i g l = record {
 -- the lines of the entries before this one were written
 abbrev pub invariant-pairs-loop-i : goal.invariant-pairs-loop-i
 invariant-pairs-loop-i g l = record {
-  goes : (rows : List (ℕ × ℕ)) (ps : Pairs) → l.references ≡ in_turn rows → ArePairs ps → SpellPairs (octets_of l.self.file) rows ps → Goes {T = Unit {0}} (pairs_before l.level l.i ps) (state_of g.W.Sink l.fn.out) (state_of g.W.Sink l.out) (Ok tt);
+  goes : (rows : List (ℕ × ℕ)) (ps : Pairs) → l.references ≡ in_turn rows → ArePairs ps → SpellPairs (octets_of l.self.file) rows ps → Goes {T = Unit {0}} (concat (take l.i (pair_texts (pair_lines l.level) ps))) (state_of g.W.Sink l.fn.out) (state_of g.W.Sink l.out) (Ok tt);
   stays : Stays (state_of g.W.Sink l.fn.out) (state_of g.W.Sink l.out);
   ready : IsReady (octets_of l.self.file) l.order;
 }
