@@ -55,7 +55,7 @@ list_spelled f i levels refs spells holds = λ k d h.
 
 pub table_spelled : (f : List ℕ) (i levels : ℕ) (keys values : List ℕ) → length keys ≡ length values → SpellsWithin f i levels → Holds f i (holds_table keys values) → All (λ j. SpellsWithin f j (levels - 1)) values
 table_spelled f i levels keys values long spells holds =
-    let within = table_within f i levels keys values spells holds in
+    let within = table_within f i levels keys values long spells holds in
     let refs = values_in within.rows in
     let all : SpellWithin f refs (levels - 1) = record {
       items = values_of within.pairs;

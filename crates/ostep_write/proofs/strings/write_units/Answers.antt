@@ -1,0 +1,44 @@
+use Rattle.std.proofs.Common.{◌≡◌, ◌≤◌, [], ◌++◌, drop, length, sym, ap, ◌∙◌, arith}
+use Rattle.std.specs.Prelude.{flat_map}
+use Rattle.std.proofs.lemmas.List.{append-nil, drop_all}
+use Rattle.plist_value.specs.Texts.{units_of}
+use Rattle.plist_engine.specs.Output.{state_of}
+use Rattle.plist_engine.proofs.Going.{Goes_same}
+use Rattle.plist_engine.proofs.Steps.{piece-split, piece-settled, piece-stops, no_piece, refused}
+use Rattle.ostep_text.specs.Written.{quoted_unit}
+use Rattle.ostep_write.proofs.strings.write_units.Goals as goal
+
+pub returns-in_default : goal.returns-in_default
+returns-in_default g c =
+    let us = units_of c.args.text.now in
+    let l = c.loop-place in
+    record { goes = no_piece l.invariant.done (flat_map quoted_unit (drop l.place us)) (flat_map quoted_unit us) c.put_some.new.out.items (state_of g.W.Sink c.args.out.now) (state_of g.W.Sink l.out) l.invariant.split l.invariant.goes }
+
+pub returns-in_err-settle : goal.returns-in_err-settle
+returns-in_err-settle g c =
+    let us = units_of c.args.text.now in
+    let l = c.loop-place in
+    record { goes = refused c.from_residual.result c.from_residual.ensures.1 (piece-stops l.invariant.done (flat_map quoted_unit (drop l.place us)) (flat_map quoted_unit (drop c.in-Ok.next us)) (flat_map quoted_unit us) c.put_some.new.out.items (state_of g.W.Sink c.args.out.now) (state_of g.W.Sink l.out) l.invariant.split l.invariant.goes c.in-Ok.ensures.octets (state_of g.W.Sink c.settle.new.self) _ c.in_err-settle.ensures.goes) }
+
+pub loop-place-preserved : goal.loop-place-preserved
+loop-place-preserved g c =
+    let us = units_of c.args.text.now in
+    let l = c.loop-place in
+    let p = state_of g.W.Sink c.args.out.now in
+    let q = state_of g.W.Sink l.out in
+    let puts = c.in-Ok.ensures.octets in
+    record {
+      within = c.in-Ok.ensures.within;
+      done = l.invariant.done ++ puts.piece;
+      split = piece-split l.invariant.done (flat_map quoted_unit (drop l.place us)) (flat_map quoted_unit (drop c.in-Ok.next us)) (flat_map quoted_unit us) c.put_some.new.out.items p q l.invariant.split l.invariant.goes puts;
+      goes = piece-settled l.invariant.done (flat_map quoted_unit (drop l.place us)) (flat_map quoted_unit (drop c.in-Ok.next us)) (flat_map quoted_unit us) c.put_some.new.out.items p q l.invariant.split l.invariant.goes puts (state_of g.W.Sink c.settle.new.self) _ c.in_ok-settle.ensures.goes;
+    }
+
+pub returns : goal.returns
+returns g c =
+    let us = units_of c.args.text.now in
+    let l = c.loop-place in
+    let past : length us ≤ l.place = omega (arith, c.loop-place-test.false) in
+    let none : flat_map quoted_unit (drop l.place us) ≡ [] = ap (flat_map quoted_unit) (drop_all l.place us past) in
+    let whole : l.invariant.done ≡ flat_map quoted_unit us = sym (append-nil l.invariant.done) ∙ ap (λ os. l.invariant.done ++ os) (sym none) ∙ l.invariant.split in
+    record { goes = Goes_same l.invariant.done (flat_map quoted_unit us) (state_of g.W.Sink c.args.out.now) (state_of g.W.Sink l.out) _ whole l.invariant.goes }

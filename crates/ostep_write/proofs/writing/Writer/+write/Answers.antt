@@ -1,0 +1,199 @@
+use Rattle.std.proofs.Common.{◌≡◌, ℕ, ◌+◌, ◌-◌, ◌/◌, ◌<◌, ◌≤◌, [], ◌∷◌, ◌++◌, length, refl, sym, ap, subst, ◌∙◌, arith, append_assoc}
+use Rattle.std.specs.Prelude.{codes}
+use Rattle.std.proofs.lemmas.List.{append-nil}
+use Rattle.plist_value.specs.Plist.{list, table}
+use Rattle.plist_value.specs.Scalars.{content_of}
+use Rattle.plist_value.specs.Texts.{units_of}
+use Rattle.plist_value.specs.declared.TheConstants.{MAX_DEPTH}
+use Rattle.plist_object.specs.Spelled.{SpellsWithin}
+use Rattle.plist_object.specs.Views.{octets_of, numbers_of}
+use Rattle.plist_engine.specs.Output.{state_of}
+use Rattle.plist_engine.specs.Spelling.{SpellWithin, TableWithin}
+use Rattle.plist_engine.proofs.Going.{Goes_put, Goes_then, Goes_stop, Goes_same, Goes_out}
+use Rattle.plist_engine.proofs.Steps.{refused, brackets_unopened, brackets_unfilled, brackets_closed}
+use Rattle.plist_engine.proofs.Turns.{items_more, items_stop, items_done, pair_named, pairs_more, pairs_stop, pairs_done, turn_within}
+use Rattle.plist_engine.proofs.Within.{read_within, levels_within, items_within, table_within, value_within, scalar_seen, list_seen, table_seen, text_seen}
+use Rattle.ostep_text.specs.Written.{written, written_text, written_items, written_pairs}
+use Rattle.ostep_write.specs.Writing.{item_text, pair_text}
+use Rattle.ostep_write.proofs.Joined.{items_joined, pairs_joined, pair_bracketed}
+use Rattle.ostep_write.proofs.writing.Writer.+write.Goals as goal
+
+pub value-object_of-requires : goal.value-object_of-requires
+value-object_of-requires g t c =
+    read_within (octets_of c.args.self.now.file) c.args.object (MAX_DEPTH - c.args.level) c.requires.spells
+
+pub value-list-requires : goal.value-list-requires
+value-list-requires g t c κs within =
+    let f = octets_of c.args.self.now.file in
+    let refs = numbers_of c.in-List.items in
+    let some = levels_within f c.args.object (MAX_DEPTH - c.args.level) c.requires.spells in
+    let below : c.args.level < MAX_DEPTH = omega arith in
+    let less : MAX_DEPTH - c.args.level - 1 ≡ MAX_DEPTH - (c.args.level + 1) = omega arith in
+    let inside = items_within f c.args.object (MAX_DEPTH - c.args.level) refs c.requires.spells c.in-List.ensures.holds in
+    (omega (arith, c.decreases, some), (within, (below, (subst (λ (n : ℕ). SpellWithin f refs n) less inside, c.requires.ready))))
+
+pub value-table-requires : goal.value-table-requires
+value-table-requires g t c κs within =
+    let f = octets_of c.args.self.now.file in
+    let keys = numbers_of c.in-Table.keys in
+    let values = numbers_of c.in-Table.values in
+    let some = levels_within f c.args.object (MAX_DEPTH - c.args.level) c.requires.spells in
+    let below : c.args.level < MAX_DEPTH = omega arith in
+    let less : MAX_DEPTH - c.args.level - 1 ≡ MAX_DEPTH - (c.args.level + 1) = omega arith in
+    let inside = table_within f c.args.object (MAX_DEPTH - c.args.level) keys values c.in-Table.ensures.valid c.requires.spells c.in-Table.ensures.holds in
+    (omega (arith, c.decreases, some), (within, (below, (subst (λ (n : ℕ). TableWithin f keys values n) less inside, c.requires.ready))))
+
+pub value-returns-in-Scalar-clause-goes : goal.value-returns-in-Scalar-clause-goes
+value-returns-in-Scalar-clause-goes g t c = λ v valid spells.
+    Goes_same _ (written v) _ _ c.write_scalar.result (ap written (scalar_seen (octets_of c.args.self.now.file) c.args.object (content_of c.in-Scalar.scalar) v c.in-Scalar.ensures.holds spells)) c.write_scalar.ensures.goes
+
+pub value-returns-in-List-clause-goes : goal.value-returns-in-List-clause-goes
+value-returns-in-List-clause-goes g t c = λ v valid spells.
+    let seen = list_seen (octets_of c.args.self.now.file) (numbers_of c.in-List.items) c.args.object v c.in-List.ensures.holds valid spells in
+    Goes_same (written (list seen.items)) (written v) _ _ c.list.result (ap written seen.is) (c.list.ensures.goes seen.items seen.valid seen.spell)
+
+pub value-returns-in-Table-clause-goes : goal.value-returns-in-Table-clause-goes
+value-returns-in-Table-clause-goes g t c = λ v valid spells.
+    let seen = table_seen (octets_of c.args.self.now.file) (numbers_of c.in-Table.keys) (numbers_of c.in-Table.values) c.args.object v c.in-Table.ensures.holds valid spells in
+    Goes_same (written (table seen.pairs)) (written v) _ _ c.table.result (ap written seen.is) (c.table.ensures.goes seen.rows seen.pairs seen.spell)
+
+pub list-returns-in_err-put-clause-goes : goal.list-returns-in_err-put-clause-goes
+list-returns-in_err-put-clause-goes g t c = λ vs valid spell.
+    refused c.from_residual.result c.from_residual.ensures.1 (brackets_unopened (codes "(\n") (written_items vs) (codes ")") (written (list vs)) refl _ _ _ c.in_err-put.ensures.goes)
+
+pub list-returns-in_err-items-clause-goes : goal.list-returns-in_err-items-clause-goes
+list-returns-in_err-items-clause-goes g t c = λ vs valid spell.
+    refused c.from_residual-in_err-items.result c.from_residual-in_err-items.ensures.1 (brackets_unfilled (codes "(\n") (written_items vs) (codes ")") (written (list vs)) refl _ _ _ _ _ c.in_ok-put.ensures.goes (c.in_err-items.ensures.goes vs valid spell))
+
+pub list-returns-clause-goes : goal.list-returns-clause-goes
+list-returns-clause-goes g t c = λ vs valid spell.
+    brackets_closed (codes "(\n") (written_items vs) (codes ")") (written (list vs)) refl _ _ _ _ _ _ _ c.in_ok-put.ensures.goes (c.in_ok-items.ensures.goes vs valid spell) c.put-2.ensures.goes
+
+pub items-loop-i-init : goal.items-loop-i-init
+items-loop-i-init g t c =
+    let p = state_of g.W.Sink c.args.out.now in
+    record { goes = λ vs valid spell. Goes_put [] p.waiting p (sym (append-nil p.waiting)); ready = c.requires.ready }
+
+pub items-item-requires : goal.items-item-requires
+items-item-requires g t c κs within =
+    let f = octets_of c.args.self.now.file in
+    let refs = numbers_of c.args.items.now in
+    let below : c.loop-i.i < length refs = omega (arith, c.loop-i-test.true, c.len-i-end.ensures) in
+    let one = value_within f refs (MAX_DEPTH - c.args.level) c.loop-i.i c.requires.spell below in
+    (omega (arith, c.decreases), (within, (subst (λ (n : ℕ). SpellsWithin f n (MAX_DEPTH - c.args.level)) (sym c.get.ensures) one, c.loop-i.invariant.ready)))
+
+pub items-returns-in_err-item-clause-goes : goal.items-returns-in_err-item-clause-goes
+items-returns-in_err-item-clause-goes g t c = λ vs valid spell.
+    let refs = numbers_of c.args.items.now in
+    let below : c.loop-i.i < length refs = omega (arith, c.loop-i-test.true, c.len-i-end.ensures) in
+    refused c.from_residual.result c.from_residual.ensures.1 (Goes_same _ _ _ _ _ (items_joined vs) (items_stop (octets_of c.args.self.now.file) item_text refs c.loop-i.i vs valid spell c.get.result _ _ _ c.get.ensures below (c.loop-i.invariant.goes vs valid spell) _ c.in_err-item.ensures.goes))
+
+pub items-loop-i-preserved : goal.items-loop-i-preserved
+items-loop-i-preserved g t c = record {
+  goes = λ vs valid spell.
+      let refs = numbers_of c.args.items.now in
+      let below : c.loop-i.i < length refs = omega (arith, c.loop-i-test.true, c.len-i-end.ensures) in
+      items_more (octets_of c.args.self.now.file) item_text refs c.loop-i.i vs valid spell c.get.result _ _ _ c.get.ensures below (c.loop-i.invariant.goes vs valid spell) _ c.in_ok-item.ensures.goes;
+  ready = c.in_ok-item.ensures.ready;
+}
+
+pub items-returns-clause-goes : goal.items-returns-clause-goes
+items-returns-clause-goes g t c = λ vs valid spell.
+    let refs = numbers_of c.args.items.now in
+    let past : length refs ≤ c.loop-i.i = omega (arith, c.loop-i-test.false, c.len-i-end.ensures) in
+    Goes_same _ _ _ _ _ (items_joined vs) (items_done (octets_of c.args.self.now.file) item_text refs c.loop-i.i vs valid spell _ _ _ past (c.loop-i.invariant.goes vs valid spell))
+
+pub item-returns-in_err-value-clause-goes : goal.item-returns-in_err-value-clause-goes
+item-returns-in_err-value-clause-goes g t c = λ v valid spells.
+    refused c.from_residual.result c.from_residual.ensures.1 (Goes_stop (written v) (codes ",\n") _ _ _ (c.in_err-value.ensures.goes v valid spells))
+
+pub item-returns-clause-goes : goal.item-returns-clause-goes
+item-returns-clause-goes g t c = λ v valid spells.
+    Goes_then (written v) (codes ",\n") _ _ _ _ c.put.result (c.in_ok-value.ensures.goes v valid spells) c.put.ensures.goes
+
+pub table-returns-in_default-clause-goes : goal.table-returns-in_default-clause-goes
+table-returns-in_default-clause-goes g t c = λ rows ps spell.
+    let p = state_of g.W.Sink c.args.out.now in
+    Goes_out (written (table ps)) p.waiting p
+
+pub table-returns-in_err-put-clause-goes : goal.table-returns-in_err-put-clause-goes
+table-returns-in_err-put-clause-goes g t c = λ rows ps spell.
+    refused c.from_residual.result c.from_residual.ensures.1 (brackets_unopened (codes "{\n") (written_pairs ps) (codes "}") (written (table ps)) refl _ _ _ c.in_err-put.ensures.goes)
+
+pub table-pairs-requires : goal.table-pairs-requires
+table-pairs-requires g t c κs within =
+    let all = c.requires.spell in (
+      omega (arith, c.decreases, c.requires.below),
+      (
+        within,
+        (
+          record {
+            rows = all.rows;
+            pairs = all.pairs;
+            turn = c.deref.ensures.value ∙ c.in-Ok.ensures.turn all.rows all.pairs all.spell;
+            spell = all.spell.spell;
+            valid = all.spell.valid;
+            deep = all.deep;
+          },
+          c.in-Ok.ensures.ready,
+        ),
+      ),
+    )
+
+pub table-returns-in_err-pairs-clause-goes : goal.table-returns-in_err-pairs-clause-goes
+table-returns-in_err-pairs-clause-goes g t c = λ rows ps spell.
+    let turn = c.deref.ensures.value ∙ c.in-Ok.ensures.turn rows ps spell in
+    refused c.from_residual-in_err-pairs.result c.from_residual-in_err-pairs.ensures.1 (brackets_unfilled (codes "{\n") (written_pairs ps) (codes "}") (written (table ps)) refl _ _ _ _ _ c.in_ok-put.ensures.goes (c.in_err-pairs.ensures.goes rows ps turn spell.valid spell.spell))
+
+pub table-returns-clause-goes : goal.table-returns-clause-goes
+table-returns-clause-goes g t c = λ rows ps spell.
+    let turn = c.deref.ensures.value ∙ c.in-Ok.ensures.turn rows ps spell in
+    brackets_closed (codes "{\n") (written_pairs ps) (codes "}") (written (table ps)) refl _ _ _ _ _ _ _ c.in_ok-put.ensures.goes (c.in_ok-pairs.ensures.goes rows ps turn spell.valid spell.spell) c.put-2.ensures.goes
+
+pub pairs-loop-i-init : goal.pairs-loop-i-init
+pairs-loop-i-init g t c =
+    let p = state_of g.W.Sink c.args.out.now in
+    record { goes = λ rows ps turn valid spell. Goes_put [] p.waiting p (sym (append-nil p.waiting)); ready = c.requires.ready }
+
+pub pairs-pair-requires : goal.pairs-pair-requires
+pairs-pair-requires g t c κs within =
+    let f = octets_of c.args.self.now.file in
+    let refs = c.args.references.now in
+    let i = c.loop-i.i in
+    let all = c.requires.spell in
+    let far : length refs / 2 + i < length refs = omega (arith, c.loop-i-test.true) in
+    let named = pair_named f pair_text refs i all.rows all.pairs all.turn all.valid all.spell c.from-key.result c.from-object.result c.from-key.ensures c.from-object.ensures c.loop-i-test.true in
+    let one = subst (λ (n : ℕ). SpellsWithin f n (MAX_DEPTH - c.args.level)) (sym c.from-object.ensures) (turn_within f refs (MAX_DEPTH - c.args.level) (length refs / 2 + i) all far) in
+    (omega (arith, c.decreases), (within, (named, (one, c.loop-i.invariant.ready))))
+
+pub pairs-returns-in_err-pair-clause-goes : goal.pairs-returns-in_err-pair-clause-goes
+pairs-returns-in_err-pair-clause-goes g t c = λ rows ps turn valid spell.
+    refused c.from_residual.result c.from_residual.ensures.1 (Goes_same _ _ _ _ _ (pairs_joined ps) (pairs_stop (octets_of c.args.self.now.file) pair_text c.args.references.now c.loop-i.i rows ps turn valid spell c.from-key.result c.from-object.result c.from-key.ensures c.from-object.ensures c.loop-i-test.true _ _ _ (c.loop-i.invariant.goes rows ps turn valid spell) _ c.in_err-pair.ensures.goes))
+
+pub pairs-loop-i-preserved : goal.pairs-loop-i-preserved
+pairs-loop-i-preserved g t c = record {
+  goes = λ rows ps turn valid spell. pairs_more (octets_of c.args.self.now.file) pair_text c.args.references.now c.loop-i.i rows ps turn valid spell c.from-key.result c.from-object.result c.from-key.ensures c.from-object.ensures c.loop-i-test.true _ _ _ (c.loop-i.invariant.goes rows ps turn valid spell) _ c.in_ok-pair.ensures.goes;
+  ready = c.in_ok-pair.ensures.ready;
+}
+
+pub pairs-returns-clause-goes : goal.pairs-returns-clause-goes
+pairs-returns-clause-goes g t c = λ rows ps turn valid spell.
+    Goes_same _ _ _ _ _ (pairs_joined ps) (pairs_done (octets_of c.args.self.now.file) pair_text c.args.references.now c.loop-i.i rows ps turn valid spell _ _ _ c.loop-i-test.false (c.loop-i.invariant.goes rows ps turn valid spell))
+
+pub pair-returns-in_err-write_key-clause-goes : goal.pair-returns-in_err-write_key-clause-goes
+pair-returns-in_err-write_key-clause-goes g t c = λ units v named valid spells.
+    let seen = units_of c.text_of.result in
+    let same = text_seen (octets_of c.args.self.now.file) c.args.key seen units c.text_of.ensures named in
+    refused c.from_residual.result c.from_residual.ensures.1 (brackets_unopened (written_text seen ++ codes " = ") (written v) (codes ";\n") (pair_text units v) (pair_bracketed seen units v same) _ _ _ c.in_err-write_key.ensures.goes)
+
+pub pair-returns-in_err-value-clause-goes : goal.pair-returns-in_err-value-clause-goes
+pair-returns-in_err-value-clause-goes g t c = λ units v named valid spells.
+    let seen = units_of c.text_of.result in
+    let same = text_seen (octets_of c.args.self.now.file) c.args.key seen units c.text_of.ensures named in
+    refused c.from_residual-in_err-value.result c.from_residual-in_err-value.ensures.1 (brackets_unfilled (written_text seen ++ codes " = ") (written v) (codes ";\n") (pair_text units v) (pair_bracketed seen units v same) _ _ _ _ _ c.in_ok-write_key.ensures.goes (c.in_err-value.ensures.goes v valid spells))
+
+pub pair-returns-clause-goes : goal.pair-returns-clause-goes
+pair-returns-clause-goes g t c = λ units v named valid spells.
+    let seen = units_of c.text_of.result in
+    let same = text_seen (octets_of c.args.self.now.file) c.args.key seen units c.text_of.ensures named in
+    brackets_closed (written_text seen ++ codes " = ") (written v) (codes ";\n") (pair_text units v) (pair_bracketed seen units v same) _ _ _ _ _ _ _ c.in_ok-write_key.ensures.goes (c.in_ok-value.ensures.goes v valid spells) c.put.ensures.goes

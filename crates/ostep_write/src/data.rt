@@ -1,0 +1,42 @@
+//! Writes data.
+ghost use Rattle.std.specs.Prelude.{flat_map};
+ghost use Rattle.plist_value.specs.Digits.{two_digits};
+ghost use Rattle.plist_engine.specs.Output.{Goes, state_of};
+ghost use Rattle.ostep_text.specs.Written.{written_data};
+
+use plist_engine::{Output, Sink, WriteFault};
+use plist_value::put_digits;
+
+// The maximum number of bytes whose digits are appended at once.
+const RUN: usize = 2048;
+
+/// Writes data as digits in angle brackets.
+///
+/// # Errors
+///
+/// Fails like [`Output::put`].
+pub(crate) fn write_data<W: Sink>(octets: &[u8], out: &mut Output<W>) -> Result<(), WriteFault>
+    ensures goes { Goes (written_data octets.now)
+        (state_of W.Sink out.old) (state_of W.Sink out.new) result }
+{
+    out.put(b"<")?;
+    write_digits(octets, out)?;
+    out.put(b">")
+}
+
+// Writes two digits for each byte.
+fn write_digits<W: Sink>(octets: &[u8], out: &mut Output<W>) -> Result<(), WriteFault>
+    ensures goes { Goes (flat_map two_digits octets.now)
+        (state_of W.Sink out.old) (state_of W.Sink out.new) result }
+{
+    let mut left = octets;
+    while !left.is_empty() {
+        let (front, behind) = left.split_at(left.len().min(RUN));
+        let Ok(()) = put_digits(out.waiting, front) else {
+            return Err(WriteFault::OutOfMemory { sent: out.sent });
+        };
+        out.settle()?;
+        left = behind;
+    }
+    Ok(())
+}

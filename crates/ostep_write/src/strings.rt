@@ -1,0 +1,156 @@
+//! Writes strings.
+ghost use Rattle.std.specs.Prelude.{◌≡◌, ◌<◌, ◌≤◌, ◌++◌, [], ◌∷◌, nat_eq, length, take, drop};
+ghost use Rattle.std.specs.Prelude.{codes, flat_map, IfOk, OnOk};
+ghost use Rattle.std.specs.Bool.{OnTrue};
+ghost use Rattle.std.specs.List.{starts_with};
+ghost use Rattle.std.specs.Char.{is_ascii_alphanumeric};
+ghost use Rattle.plist_value.specs.Texts.{units_of};
+ghost use Rattle.plist_engine.specs.Output.{Goes, Puts, state_of};
+ghost use Rattle.ostep_text.specs.Written.{are_alphanumeric, is_plain, quoted_unit, written_text};
+
+use plist_engine::{Output, Sink, WriteFault};
+use plist_value::{TextRef, digits_of};
+use std::alloc::AllocError;
+
+// The maximum number of bytes that are appended at once.
+const RUN: usize = 4096;
+
+static BINARY: [u16; 6] = [0x62, 0x70, 0x6c, 0x69, 0x73, 0x74];
+
+/// Writes a string, without quotes if it is plain.
+///
+/// # Errors
+///
+/// Fails like [`Output::put`].
+pub(crate) fn write_string<W: Sink>(text: &TextRef, out: &mut Output<W>) -> Result<(), WriteFault>
+    ensures goes { Goes (written_text (units_of text.now))
+        (state_of W.Sink out.old) (state_of W.Sink out.new) result }
+{
+    if is_plain(text) {
+        return write_units(text, out);
+    }
+    out.put(b"\"")?;
+    write_units(text, out)?;
+    out.put(b"\"")
+}
+
+// Returns whether the string needs no quotes.
+fn is_plain(text: &TextRef) -> bool
+    ensures { result ≡ is_plain (units_of text.now) }
+{
+    !text.is_empty() && are_alphanumeric(text) && !begins_as_binary(text)
+}
+
+fn are_alphanumeric(text: &TextRef) -> bool
+    ensures { result ≡ are_alphanumeric (units_of text.now) }
+{
+    let text = *text;
+    for i in 0..text.len() {
+        if !is_alphanumeric(text.unit(i)) {
+            return false;
+        }
+    }
+    true
+}
+
+// Returns whether the unit is an ASCII letter or digit.
+fn is_alphanumeric(unit: u16) -> bool
+    ensures { result ≡ is_ascii_alphanumeric unit }
+{
+    matches!(unit, 0x30..=0x39 | 0x41..=0x5a | 0x61..=0x7a)
+}
+
+// Returns whether the string begins with `bplist`, as a binary file does.
+fn begins_as_binary(text: &TextRef) -> bool
+    ensures { result ≡ starts_with nat_eq (units_of text.now) (codes "bplist") }
+{
+    let text = *text;
+    for i in 0..6 {
+        if i >= text.len() {
+            return false;
+        }
+        if text.unit(i) != BINARY[i] {
+            return false;
+        }
+    }
+    true
+}
+
+// Writes the units as they are between quotes.
+fn write_units<W: Sink>(text: &TextRef, out: &mut Output<W>) -> Result<(), WriteFault>
+    ensures goes { Goes (flat_map quoted_unit (units_of text.now))
+        (state_of W.Sink out.old) (state_of W.Sink out.new) result }
+{
+    let mut place = 0;
+    while place < text.len() {
+        let Ok(next) = put_some(out.waiting, text, place) else {
+            return Err(WriteFault::OutOfMemory { sent: out.sent });
+        };
+        out.settle()?;
+        place = next;
+    }
+    Ok(())
+}
+
+// Appends some of the units from position `place` on to `out`, and returns the position after them.
+// These are units that need no escape if the string is stored as ASCII, and otherwise one unit.
+fn put_some(out: &mut Vec<u8>, text: &TextRef, place: usize) -> Result<usize, AllocError>
+    requires { place < length (units_of text.now) }
+    ensures octets { IfOk result (λ next. Puts out.old.items out.new.items
+        (flat_map quoted_unit (drop place (units_of text.now)))
+        (flat_map quoted_unit (drop next (units_of text.now)))) }
+    ensures further { IfOk result (λ next. place < next) }
+    ensures within { IfOk result (λ next. next ≤ length (units_of text.now)) }
+{
+    if let Some(octets) = text.octets() {
+        let behind = &octets[place..];
+        let run = stretch_length(behind);
+        if run > 0 {
+            out.extend_from_slice(&behind[..run])?;
+            return Ok(place + run);
+        }
+    }
+    prove!(place < text.len());
+    put_unit(out, text.unit(place))?;
+    Ok(place + 1)
+}
+
+// Returns the number of leading bytes that need no escape, at most `RUN`.
+fn stretch_length(octets: &[u8]) -> usize
+    ensures within { result ≤ length octets.now }
+    ensures same { flat_map quoted_unit octets.now
+        ≡ take result octets.now ++ flat_map quoted_unit (drop result octets.now) }
+{
+    let most = octets.len().min(RUN);
+    let mut length = 0;
+    while length < most && needs_no_escape(octets[length]) {
+        length += 1;
+    }
+    length
+}
+
+// Returns whether the byte, as a unit, needs no escape between quotes.
+fn needs_no_escape(octet: u8) -> bool
+    ensures { OnTrue result (quoted_unit octet ≡ octet ∷ []) }
+{
+    matches!(octet, 0x20..=0x7e) && octet != b'"' && octet != b'\\'
+}
+
+// Appends a unit as it is between quotes.
+fn put_unit(out: &mut Vec<u8>, unit: u16) -> Result<(), AllocError>
+    ensures { OnOk result (out.new.items ≡ out.old.items ++ quoted_unit unit) }
+{
+    match unit {
+        0x22 => out.extend_from_slice(b"\\\""),
+        0x5c => out.extend_from_slice(b"\\\\"),
+        0x0a => out.extend_from_slice(b"\\n"),
+        0x09 => out.extend_from_slice(b"\\t"),
+        0x0d => out.extend_from_slice(b"\\r"),
+        0x20..=0x7e => Ok(out.push(unit as u8)?),
+        _ => {
+            out.extend_from_slice(b"\\U")?;
+            out.extend_from_slice(&digits_of((unit / 256) as u8))?;
+            out.extend_from_slice(&digits_of((unit % 256) as u8))
+        }
+    }
+}
