@@ -16,8 +16,8 @@ use Rattle.plist_object.specs.Places.{Holds}
 use Rattle.plist_object.specs.Spelled.{Spells, SpellItems, SpellPairs, SpellsWithin}
 use Rattle.plist_object.proofs.Uniqueness.{same_held}
 use Rattle.plist_engine.specs.Spelling.{SpellWithin, SpellTable}
-use Rattle.plist_engine.proofs.Flat.{values_of}
-use Rattle.plist_engine.proofs.Within.{read_within, items_within, table_within, value_within}
+use Rattle.plist_engine.proofs.Flat.{values_of, spell-values, valid-values, deep-values}
+use Rattle.plist_engine.proofs.Within.{read_within, items_within, table_within, value_within, scalar_seen, list_seen, table_seen}
 use Rattle.ostep_text.specs.Written.{is_writable_scalar, is_writable, are_writable_items, are_writable_pairs}
 use Rattle.ostep_write.specs.Marks.{IsMarked, HasText, LacksText, LacksOne, IsVisited, AreMarks, KeepsMarks, Marks}
 
@@ -25,20 +25,6 @@ abbrev pub values_in : List (ℕ × ℕ) → List ℕ
 values_in rows = map (λ row. row.1) rows
 
 -- the values of a dictionary as items
-spell_values : (f : List ℕ) (rows : List (ℕ × ℕ)) (ps : Pairs) → SpellPairs f rows ps → SpellItems f (values_in rows) (values_of ps)
-spell_values f [] no_pairs h = refl
-spell_values f (row ∷ rows) no_pairs h = absurd (let none : row ∷ rows ≡ [] = h in cc)
-spell_values f [] (pair key v ps) h = absurd h
-spell_values f (row ∷ rows) (pair key v ps) h = (h.1, spell_values f rows ps h.2)
-
-valid_values : (ps : Pairs) → ArePairs ps → AreItems (values_of ps)
-valid_values no_pairs h = tt
-valid_values (pair key v ps) h = (h.1, valid_values ps h.3)
-
-deep_values : (ps : Pairs) (levels : ℕ) → depth_of_pairs ps ≤ levels → depth_of_items (values_of ps) ≤ levels
-deep_values no_pairs levels h = omega arith
-deep_values (pair key v ps) levels h = omega (arith, deep_values ps levels (omega arith))
-
 writable_values : (ps : Pairs) → are_writable_items (values_of ps) ≡ are_writable_pairs ps
 writable_values no_pairs = refl
 writable_values (pair key v ps) = ap (λ rest. is_writable v && rest) (writable_values ps)
@@ -59,9 +45,9 @@ table_spelled f i levels keys values long spells holds =
     let refs = values_in within.rows in
     let all : SpellWithin f refs (levels - 1) = record {
       items = values_of within.pairs;
-      valid = valid_values within.pairs within.spell.valid;
-      spell = spell_values f within.rows within.pairs within.spell.spell;
-      deep = deep_values within.pairs (levels - 1) within.deep;
+      valid = valid-values within.pairs within.spell.valid;
+      spell = spell-values f within.rows within.pairs within.spell.spell;
+      deep = deep-values within.pairs (levels - 1) within.deep;
     } in
     All-permutation (λ j. SpellsWithin f j (levels - 1)) refs values (IsPermutation-sym values refs (moved_values keys values within.rows long within.spell.moved)) (λ k d h.
     subst (λ (j : ℕ). SpellsWithin f j (levels - 1)) (sym (get_or_default refs k d 0 h)) (value_within f refs (levels - 1) k all h))
@@ -104,46 +90,25 @@ moved_lacks f refs others moved one =
 
 pairs_have : (f keys values : List ℕ) (rows : List (ℕ × ℕ)) (ps : Pairs) → length keys ≡ length values → All (HasText f) values → SpellTable f keys values rows ps → are_writable_pairs ps ≡ true
 pairs_have f keys values rows ps long has spell =
-    sym (writable_values ps) ∙ items_have f (values_in rows) (values_of ps) (All-permutation (HasText f) values (values_in rows) (moved_values keys values rows long spell.moved) has) (valid_values ps spell.valid) (spell_values f rows ps spell.spell)
+    sym (writable_values ps) ∙ items_have f (values_in rows) (values_of ps) (All-permutation (HasText f) values (values_in rows) (moved_values keys values rows long spell.moved) has) (valid-values ps spell.valid) (spell-values f rows ps spell.spell)
 
 pairs_lack : (f keys values : List ℕ) (rows : List (ℕ × ℕ)) (ps : Pairs) → length keys ≡ length values → LacksOne f values → SpellTable f keys values rows ps → are_writable_pairs ps ≡ false
 pairs_lack f keys values rows ps long one spell =
-    sym (writable_values ps) ∙ items_lack_one f (values_in rows) (values_of ps) (moved_lacks f values (values_in rows) (moved_values keys values rows long spell.moved) one) (valid_values ps spell.valid) (spell_values f rows ps spell.spell)
+    sym (writable_values ps) ∙ items_lack_one f (values_in rows) (values_of ps) (moved_lacks f values (values_in rows) (moved_values keys values rows long spell.moved) one) (valid-values ps spell.valid) (spell-values f rows ps spell.spell)
 
 -- whether the value of an object has a text, by what the object contains
 pub scalar_told : (f : List ℕ) (i : ℕ) (s : Scalar) → Holds f i (holds_scalar s) → (v : Plist) → IsPlist v → Spells f i v → is_writable v ≡ is_writable_scalar s
-scalar_told f i s holds (scalar t) valid spells =
-    let held = same_held f i (holds_scalar t) (holds_scalar s) spells holds in
-    let same : t ≡ s = cc in
-    ap is_writable_scalar same
-scalar_told f i s holds (list vs) valid spells =
-    absurd (let held = same_held f i (holds_list spells.0) (holds_scalar s) spells.1.0 holds in cc)
-scalar_told f i s holds (table ps) valid spells =
-    absurd (let held = same_held f i (holds_table spells.0 spells.1.0) (holds_scalar s) spells.1.1.1.0 holds in cc)
+scalar_told f i s holds v valid spells = ap is_writable (sym (scalar_seen f i s v holds spells))
 
 list_told : (b : Bool) (f : List ℕ) (i : ℕ) (refs : List ℕ) → Holds f i (holds_list refs) → ((vs : Items) → AreItems vs → SpellItems f refs vs → are_writable_items vs ≡ b) → (v : Plist) → IsPlist v → Spells f i v → is_writable v ≡ b
-list_told b f i refs holds told (scalar t) valid spells =
-    absurd (let held = same_held f i (holds_scalar t) (holds_list refs) spells holds in cc)
-list_told b f i refs holds told (list vs) valid spells =
-    let held = same_held f i (holds_list spells.0) (holds_list refs) spells.1.0 holds in
-    let same : spells.0 ≡ refs = cc in
-    told vs valid (subst (λ (r : List ℕ). SpellItems f r vs) same spells.1.1)
-list_told b f i refs holds told (table ps) valid spells =
-    absurd (let held = same_held f i (holds_table spells.0 spells.1.0) (holds_list refs) spells.1.1.1.0 holds in cc)
+list_told b f i refs holds told v valid spells =
+    let seen = list_seen f refs i v holds valid spells in
+    ap is_writable (sym seen.is) ∙ told seen.items seen.valid seen.spell
 
 table_told : (b : Bool) (f : List ℕ) (i : ℕ) (keys values : List ℕ) → Holds f i (holds_table keys values) → ((rows : List (ℕ × ℕ)) (ps : Pairs) → SpellTable f keys values rows ps → are_writable_pairs ps ≡ b) → (v : Plist) → IsPlist v → Spells f i v → is_writable v ≡ b
-table_told b f i keys values holds told (scalar t) valid spells =
-    absurd (let held = same_held f i (holds_scalar t) (holds_table keys values) spells holds in cc)
-table_told b f i keys values holds told (list vs) valid spells =
-    absurd (let held = same_held f i (holds_list spells.0) (holds_table keys values) spells.1.0 holds in cc)
-table_told b f i keys values holds told (table ps) valid spells =
-    let held = same_held f i (holds_table spells.0 spells.1.0) (holds_table keys values) spells.1.1.1.0 holds in
-    let zipped : zip spells.0 spells.1.0 ≡ zip keys values = cc in
-    told spells.1.1.0 ps (record {
-      moved = subst (λ (held : List (ℕ × ℕ)). IsPermutation held spells.1.1.0) zipped spells.1.1.1.1.0;
-      spell = spells.1.1.1.1.1;
-      valid = valid;
-    })
+table_told b f i keys values holds told v valid spells =
+    let seen = table_seen f keys values i v holds valid spells in
+    ap is_writable (sym seen.is) ∙ told seen.rows seen.pairs seen.spell
 
 pub list_lacks : (f : List ℕ) (i : ℕ) (refs : List ℕ) → Holds f i (holds_list refs) → LacksOne f refs → LacksText f i
 list_lacks f i refs holds one =

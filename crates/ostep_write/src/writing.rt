@@ -1,8 +1,9 @@
 //! Writes the OpenStep text of a binary file's value to a sink.
-ghost use Rattle.std.specs.Prelude.{◌≡◌, ◌<◌, ◌+◌, ◌-◌, ◌++◌, ℕ, List, [], codes, true};
-ghost use Rattle.std.specs.Prelude.{IfOk, OnOk};
+ghost use Rattle.std.specs.Prelude.{◌≡◌, ◌<◌, ◌+◌, ◌-◌, ◌++◌, ℕ, List, [], OnOk, codes, true};
 ghost use Rattle.plist_value.specs.Plist.{Plist, Items, Pairs, list, table, text};
 ghost use Rattle.plist_value.specs.Plist.{IsPlist, AreItems, ArePairs};
+ghost use Rattle.plist_value.specs.Scalars.{content_of};
+ghost use Rattle.plist_value.specs.Texts.{units_of};
 ghost use Rattle.plist_value.specs.declared.TheConstants.{MAX_DEPTH};
 ghost use Rattle.plist_object.specs.Objects.{holds_scalar};
 ghost use Rattle.plist_object.specs.KeyOrder.{IsReady};
@@ -16,8 +17,6 @@ ghost use Rattle.plist_engine.specs.Spelling.{in_turn};
 ghost use Rattle.ostep_text.specs.Written.{is_writable, written, written_items, written_pairs};
 ghost use Rattle.ostep_text.specs.Written.{written_scalar, written_text};
 ghost use Rattle.ostep_write.specs.Writing.{item_text, pair_text};
-ghost use Rattle.plist_value.specs.Scalars.{content_of};
-ghost use Rattle.plist_value.specs.Texts.{units_of};
 
 use crate::data::write_data;
 use crate::strings::write_string;
@@ -56,11 +55,7 @@ pub fn write_text_of<W: Sink>(alloc: Global, file: &BinFile, out: &mut W) -> Res
 }
 
 // Writes the whole text, and then flushes the buffer.
-fn write_file<W: Sink>(
-    alloc: Global,
-    file: &BinFile,
-    out: &mut Output<W>,
-) -> Result<(), WriteFault>
+fn write_file<W: Sink>(alloc: Global, file: &BinFile, out: &mut Output<W>) -> Result<(), WriteFault>
     requires { (v : Plist) × IsBinary (octets_of file.now) v }
     ensures goes { (v : Plist) → IsBinary (octets_of file.now) v
         → Goes (written v ++ codes "\n")

@@ -47,7 +47,7 @@ pub places-flat : (k : ℕ) (ps : Pairs) → item_places k (flat ps) ≡ key_pla
 places-flat k ps =
     places-keys k ps (values_of ps) ∙ ap (λ rest. key_places k ps ++ rest) (places-values (k + length (key_texts ps)) ps)
 
-spell-values : (f : List ℕ) (rows : List (ℕ × ℕ)) (ps : Pairs) → SpellPairs f rows ps → SpellItems f (map (λ row. row.1) rows) (values_of ps)
+pub spell-values : (f : List ℕ) (rows : List (ℕ × ℕ)) (ps : Pairs) → SpellPairs f rows ps → SpellItems f (map (λ row. row.1) rows) (values_of ps)
 spell-values f [] no_pairs h = refl
 spell-values f (row ∷ rows) no_pairs h = absurd (let none : row ∷ rows ≡ [] = h in cc)
 spell-values f [] (pair key v ps) h = absurd h
@@ -63,7 +63,7 @@ pub spell-flat : (f : List ℕ) (rows : List (ℕ × ℕ)) (ps : Pairs) → Spel
 spell-flat f rows ps h =
     spell-keys f rows ps (map (λ row. row.1) rows) (values_of ps) h (spell-values f rows ps h)
 
-valid-values : (ps : Pairs) → ArePairs ps → AreItems (values_of ps)
+pub valid-values : (ps : Pairs) → ArePairs ps → AreItems (values_of ps)
 valid-values no_pairs h = tt
 valid-values (pair key v ps) h = (h.1, valid-values ps h.3)
 
@@ -74,7 +74,7 @@ valid-keys (pair key v ps) vs h k = (h.0, valid-keys ps vs h.3 k)
 pub valid-flat : (ps : Pairs) → ArePairs ps → AreItems (flat ps)
 valid-flat ps h = valid-keys ps (values_of ps) h (valid-values ps h)
 
-deep-values : (ps : Pairs) (levels : ℕ) → depth_of_pairs ps ≤ levels → depth_of_items (values_of ps) ≤ levels
+pub deep-values : (ps : Pairs) (levels : ℕ) → depth_of_pairs ps ≤ levels → depth_of_items (values_of ps) ≤ levels
 deep-values no_pairs levels h = omega arith
 deep-values (pair key v ps) levels h = omega (arith, deep-values ps levels (omega arith))
 
