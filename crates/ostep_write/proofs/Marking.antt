@@ -7,13 +7,12 @@ use Rattle.std.proofs.lemmas.Bool.{cases_eq, cases_lt, false≢true}
 use Rattle.std.proofs.lemmas.List.{get_or_default, get_or-replicate, get_or_past, length-replicate}
 use Rattle.std.proofs.lemmas.List.Sorted.{All-permutation, Contains-permutation, IsPermutation-map, IsPermutation-sym}
 use Rattle.std.proofs.lemmas.Slice.Zip.{seconds-zip}
-use Rattle.plist_value.specs.Plist.{Scalar, Plist, scalar, list, table, Items, no_items, item, Pairs, no_pairs, pair, IsPlist, AreItems, ArePairs}
-use Rattle.plist_value.specs.Limits.{depth_of_items, depth_of_pairs}
+use Rattle.plist_value.specs.Plist.{Scalar, Plist, Items, no_items, item, Pairs, no_pairs, pair, IsPlist, AreItems}
 use Rattle.plist_value.specs.declared.TheConstants.{MAX_DEPTH}
 use Rattle.plist_object.specs.Layout.{trailer_of}
 use Rattle.plist_object.specs.Objects.{holds_scalar, holds_list, holds_table}
 use Rattle.plist_object.specs.Places.{Holds}
-use Rattle.plist_object.specs.Spelled.{Spells, SpellItems, SpellPairs, SpellsWithin}
+use Rattle.plist_object.specs.Spelled.{Spells, SpellItems, SpellsWithin}
 use Rattle.plist_object.proofs.Uniqueness.{same_held}
 use Rattle.plist_engine.specs.Spelling.{SpellWithin, SpellTable}
 use Rattle.plist_engine.proofs.Flat.{values_of, spell-values, valid-values, deep-values}

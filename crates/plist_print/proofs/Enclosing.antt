@@ -1,18 +1,10 @@
 -- Printed containers: their brackets and the lines between them.
-use Rattle.std.proofs.Common.{◌≡◌, ℕ, suc, ◌+◌, ◌<◌, List, [], ◌∷◌, ◌++◌, length, Result, Ok, Err, refl, ap, subst, ◌∙◌, arith, add-one}
-use Rattle.std.specs.List.{zip}
-use Rattle.std.specs.List.Sorted.{IsPermutation}
-use Rattle.plist_value.specs.Plist.{Scalar, text, Plist, scalar, list, table, Items, no_items, item, Pairs, no_pairs, pair, IsPlist, AreItems}
-use Rattle.plist_object.specs.Objects.{holds_scalar, holds_list, holds_table}
-use Rattle.plist_object.specs.Places.{Holds}
-use Rattle.plist_object.specs.Spelled.{Spells, SpellItems, SpellPairs}
-use Rattle.plist_object.proofs.Uniqueness.{same_held}
-use Rattle.plist_engine.specs.declared.faults.WriteFault.{WriteFault}
-use Rattle.plist_engine.specs.Output.{State, Goes}
-use Rattle.plist_engine.proofs.Going.{Goes_then, Goes_stop, Goes_same}
+use Rattle.std.proofs.Common.{◌≡◌, ℕ, suc, ◌+◌, ◌<◌, List, [], ◌∷◌, length, refl, ap, ◌∙◌, arith, add-one}
+use Rattle.plist_value.specs.Plist.{list, table, Items, no_items, item, Pairs, no_pairs, pair}
+use Rattle.plist_object.specs.Spelled.{SpellItems, SpellPairs}
 use Rattle.plist_engine.specs.Spelling.{SpellTable}
 use Rattle.plist_engine.proofs.Flat.{length-rows, length-keys}
-use Rattle.plist_print.specs.Printed.{indent, enclosed, printed_line, printed_at, printed_items, printed_pairs}
+use Rattle.plist_print.specs.Printed.{enclosed, printed_at, printed_items, printed_pairs}
 
 -- an empty array, and one with items
 pub list_empty : (f refs : List ℕ) (level : ℕ) (vs : Items) → length refs ≡ 0 → SpellItems f refs vs → 91 ∷ 93 ∷ 10 ∷ [] ≡ printed_at level (list vs)

@@ -1,10 +1,8 @@
 -- Items and entries are printed one after another.
-use Rattle.std.proofs.Common.{◌≡◌, ℕ, ◌++◌, refl, ap, ◌∙◌, append_assoc}
-use Rattle.std.specs.Prelude.{codes}
+use Rattle.std.proofs.Common.{◌≡◌, ℕ, refl, append_assoc}
 use Rattle.std.specs.List.{concat}
 use Rattle.plist_value.specs.Plist.{Items, no_items, item, Pairs, no_pairs, pair}
 use Rattle.plist_engine.proofs.Turns.{item_texts, pair_texts}
-use Rattle.plist_print.specs.Units.{printed_text}
 use Rattle.plist_print.specs.Printed.{indent, printed_at, printed_items, printed_pairs}
 use Rattle.plist_print.specs.Printing.{item_lines, pair_lines}
 

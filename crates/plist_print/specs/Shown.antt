@@ -1,5 +1,5 @@
 -- What the types of the code represent.
-use Rattle.std.specs.Prelude.{◌≡◌, ℕ, ◌+◌, ◌-◌, ◌*◌, ◌^◌, ◌<◌, ◌≤◌, Bool, true, false, List, ◌++◌, nat_lt, if◌then◌else◌}
+use Rattle.std.specs.Prelude.{ℕ, ◌+◌, ◌-◌, ◌*◌, ◌^◌, ◌<◌, ◌≤◌, Bool, true, false, nat_lt, if◌then◌else◌}
 use Rattle.plist_value.specs.Plist.{Scalar, text, bytes}
 use Rattle.plist_print.specs.Reals.{Placed}
 use Rattle.plist_print.specs.declared.kept.Decimal.{Decimal}

@@ -1,7 +1,6 @@
-use Rattle.std.proofs.Common.{◌≡◌, true, false, [], ◌∷◌, sym, ◌∙◌}
+use Rattle.std.proofs.Common.{[], ◌∷◌, sym, ◌∙◌}
 use Rattle.std.specs.Prelude.{flat_map}
 use Rattle.plist_value.specs.Texts.{units_of}
-use Rattle.plist_engine.specs.Output.{state_of}
 use Rattle.plist_engine.proofs.Going.{Goes_same}
 use Rattle.plist_engine.proofs.Steps.{refused, brackets_unopened, brackets_unfilled, brackets_closed}
 use Rattle.ostep_text.specs.Written.{quoted_unit, written_text}

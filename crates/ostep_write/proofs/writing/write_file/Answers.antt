@@ -1,8 +1,7 @@
-use Rattle.std.proofs.Common.{ℕ, sym, subst, ◌++◌, arith}
+use Rattle.std.proofs.Common.{ℕ, sym, subst, ◌++◌}
 use Rattle.std.specs.Prelude.{codes}
 use Rattle.plist_object.specs.Spelled.{Spells}
 use Rattle.plist_object.specs.Views.{octets_of}
-use Rattle.plist_engine.specs.Output.{state_of}
 use Rattle.plist_engine.proofs.Going.{Goes_then, Goes_last, Goes_stop}
 use Rattle.plist_engine.proofs.Steps.{refused}
 use Rattle.ostep_text.specs.Written.{written}

@@ -1,7 +1,6 @@
 use Rattle.std.proofs.Common.{refl, ◌++◌, rules, arith}
 use Rattle.std.specs.Prelude.{codes}
 use Rattle.std.proofs.lemmas.Result.{err_from_is_err_and}
-use Rattle.plist_engine.specs.Output.{state_of}
 use Rattle.plist_engine.proofs.Going.{is_written, is_refused}
 use Rattle.ostep_text.specs.Written.{written}
 use Rattle.ostep_write.proofs.writing.write_text_of.Goals as goal

@@ -1,14 +1,11 @@
-use Rattle.std.proofs.Common.{◌≡◌, ℕ, ◌+◌, ◌-◌, ◌/◌, ◌<◌, ◌≤◌, [], ◌∷◌, ◌++◌, length, rules, refl, sym, ap, subst, ◌∙◌, arith, add-one}
+use Rattle.std.proofs.Common.{◌≡◌, ℕ, ◌+◌, ◌-◌, ◌/◌, ◌<◌, ◌≤◌, [], ◌∷◌, ◌++◌, length, rules, refl, sym, ap, subst, ◌∙◌, arith}
 use Rattle.std.proofs.lemmas.Bool.Decides.{nat_tests}
 use Rattle.std.proofs.lemmas.List.{append-nil}
-use Rattle.std.proofs.lemmas.Result.{err_from_is_err_and}
-use Rattle.plist_value.specs.Plist.{text, list, table}
+use Rattle.plist_value.specs.Plist.{list, table}
 use Rattle.plist_value.specs.Scalars.{content_of}
 use Rattle.plist_value.specs.Texts.{units_of}
 use Rattle.plist_value.specs.declared.TheConstants.{MAX_DEPTH}
-use Rattle.plist_object.specs.Objects.{holds_scalar}
-use Rattle.plist_object.specs.Places.{Holds, HoldsText}
-use Rattle.plist_object.specs.Spelled.{Spells, SpellsWithin}
+use Rattle.plist_object.specs.Spelled.{SpellsWithin}
 use Rattle.plist_object.specs.Views.{octets_of, numbers_of}
 use Rattle.plist_engine.specs.Output.{state_of}
 use Rattle.plist_engine.proofs.Going.{Goes_put, Goes_then, Goes_stop, Goes_same, Goes_out, Stays-trans}
