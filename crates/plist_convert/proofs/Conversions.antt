@@ -45,7 +45,6 @@ store_before form octets from to before middle after status result stands kept u
     stored = stored_before before.files middle.files after.files before.disk_failures middle.disk_failures after.disk_failures to goes.output goes.sent kept unfailed goes.stored;
     ends = ends;
   };
-  memory = goes.memory;
 }
 
 pub converted : (form : Form) (octets : List ℕ) (from to : FileName) (before middle after : State) (n : ℕ)

@@ -42,7 +42,6 @@ untold form octets new x y result (inr goes) = inr (record {
   of = goes.of;
   sent = goes.sent;
   is = goes.is;
-  memory = goes.memory;
   written = untold_sent goes.output goes.sent goes.written;
 }) where
   untold_sent : (output : List ℕ) (sent : Result ℕ WriteFault) → IsWritten output None new x y sent → IsWritten output None None x y sent
@@ -107,7 +106,6 @@ untouched form octets (Some old) (Some new) before after path result ((failures,
   of = goes.of;
   sent = goes.sent;
   is = goes.is;
-  memory = goes.memory;
   stored = none_out old new before after failures path goes.output goes.sent (output_some form octets goes.output goes.of) goes.written same (rw goes.is at counts);
 })
 

@@ -30,6 +30,5 @@ handed_over form octets rest before after x y path result (inr goes) counts = in
   of = goes.of;
   sent = goes.sent;
   is = goes.is;
-  memory = goes.memory;
   stored = handed rest goes.output before after x y path goes.sent goes.written (rw goes.is at counts);
 })

@@ -104,7 +104,6 @@ stored_taken form octets old new before after failures path taken result (inr go
   of = goes.of;
   sent = goes.sent;
   is = goes.is;
-  memory = goes.memory;
   stored = stored old new before after failures path goes.output taken goes.sent goes.written stands others (sent_count goes.sent before after (rw goes.is at counts));
 })
 
@@ -137,7 +136,6 @@ stored_none form octets old new before after failures path taken result (inr goe
   of = goes.of;
   sent = goes.sent;
   is = goes.is;
-  memory = goes.memory;
   stored = unsent_stored old new before after failures path goes.output goes.sent (rw goes.is at err) (rw none at goes.written) same
       (sent_count goes.sent before after (rw goes.is at counts));
 })

@@ -9,7 +9,6 @@ use Rattle.plist_engine.specs.declared.faults.WriteFault.{WriteFault}
 use Rattle.plist_engine.specs.Sending.{IsBlamed, IsShort, sent_of}
 use Rattle.plist_forms.specs.Output.{IsOutput, IsOutputFault}
 use Rattle.plist_forms.specs.Sent.{answer_of}
-use Rattle.plist_forms.specs.Transfer.{NeedsNoMemory}
 
 -- a path, as bytes
 abbrev pub FileName : Type 0
@@ -83,7 +82,6 @@ pub record IsOutputStored (form : Form) (octets : List ℕ) (files rest : Option
   pub of : IsOutput form octets output
   pub sent : Result ℕ WriteFault
   pub is : result ≡ answer_of sent
-  pub memory : NeedsNoMemory form sent
   pub stored : IsStored files rest before after path output sent
 
 -- storing the output for the bytes in a form

@@ -13,7 +13,7 @@ use Rattle.plist_forms.specs.declared.loading.TheConstants.{MAX_INPUT}
 use Rattle.plist_engine.specs.Sending.{IsWritten}
 use Rattle.plist_engine.specs.declared.faults.WriteFault.{WriteFault}
 use Rattle.plist_forms.specs.Output.{IsOutput}
-use Rattle.plist_forms.specs.Transfer.{IsInput, NeedsNoMemory}
+use Rattle.plist_forms.specs.Transfer.{IsInput}
 use Rattle.plist_convert.specs.Files.{FileName, Holds, IsStored, IsUnloaded, SameFiles}
 use Rattle.plist_convert.specs.Answer.{IsCheckAnswer, IsLintAnswer, IsOutputRefusal, IsRefusedAnswer, IsSameAnswer, Said, explained_said, refusal}
 use Rattle.plist_convert.specs.Ending.{Ends}
@@ -108,7 +108,6 @@ pub record IsConverted (form : Form) (from to : FileName) (before after : State)
   pub file : List ℕ
   pub of : IsOutput form octets file
   pub stored : IsStoreRun from to file before after status
-  pub memory : NeedsNoMemory form stored.result
 
 -- `convert FORM IN OUT`
 unfoldable pub IsConvertRun : Form → FileName → FileName → State → State → ℕ → Type 0

@@ -1,5 +1,5 @@
 -- The result of a call that sends bytes to a sink, step by step.
-use Rattle.std.proofs.Common.{◌≡◌, ap, inr, refl, subst, Err, List, Ok, Option, Result, ℕ}
+use Rattle.std.proofs.Common.{◌≡◌, ◌++◌, ap, codes, inr, refl, subst, true, Err, List, Ok, Option, Result, ℕ}
 use Rattle.std.specs.Result.{IfErr, IsErrAnd}
 use Rattle.plist_value.specs.Plist.{Plist}
 use Rattle.plist_engine.specs.Canonical.{canon}
@@ -7,13 +7,14 @@ use Rattle.plist_engine.specs.Sending.{IsWritten}
 use Rattle.plist_engine.specs.declared.faults.WriteFault.{WriteFault}
 use Rattle.plist_engine.specs.declared.faults.WriteFault.TheVariants as write
 use Rattle.plist_print.specs.Printed.{printed}
+use Rattle.ostep_text.specs.Written.{is_writable, written}
 use Rattle.plist_forms.specs.Accepted.{IsAccepted}
 use Rattle.plist_forms.specs.Fault.{write_fault_for}
 use Rattle.plist_forms.specs.Printed.{Prints}
 use Rattle.plist_forms.specs.Sent.{IsBeforePut, IsUnsent, answer_of}
 use Rattle.plist_forms.specs.Transfer.{Writes}
 use Rattle.plist_forms.specs.declared.faults.Fault.{Fault}
-use Rattle.plist_forms.specs.declared.forms.Form.TheVariants.{Binary1}
+use Rattle.plist_forms.specs.declared.forms.Form.TheVariants.{Binary1, OpenStep}
 
 -- an error before the first put
 pub unsent : (Cause : Fault → Type 0) (old : Option (List ℕ)) (before : ℕ) (fault : Fault) (result : Result ℕ Fault)
@@ -61,6 +62,17 @@ file_sent octets v accepted old new before after sent result is written = inr (r
   of = record { value = v; accepted = accepted; written = refl };
   sent = sent;
   is = is;
-  memory = tt;
   written = written;
+})
+
+-- the OpenStep text of an accepted input is sent
+pub openstep_sent : (octets : List ℕ) (v : Plist) → IsAccepted octets v → is_writable v ≡ true → (old new : Option (List ℕ)) (before after : ℕ)
+    (sent : Result ℕ WriteFault) (result : Result ℕ Fault) → result ≡ answer_of sent
+    → IsWritten (written v ++ codes "\n") old new before after sent → Writes OpenStep octets old new before after result
+openstep_sent octets v accepted writable old new before after sent result is whole = inr (record {
+  output = written v ++ codes "\n";
+  of = record { value = v; accepted = accepted; written = rw writable refl };
+  sent = sent;
+  is = is;
+  written = whole;
 })

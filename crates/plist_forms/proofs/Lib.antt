@@ -3,3 +3,4 @@ pub mod Answering
 pub mod Besides
 pub mod Refusing
 mod Rows
+pub mod Writable

@@ -1,22 +1,14 @@
 -- Transferring a property list from a source to a sink.
-use Rattle.std.specs.Prelude.{◌≡◌, ◌⊎◌, ℕ, ◌≤◌, List, length, Option, Result, Err, IfSome}
+use Rattle.std.specs.Prelude.{◌≡◌, ◌⊎◌, ℕ, ◌≤◌, List, length, Option, Result, IfSome}
 use Rattle.std.specs.Io.KnownBytes.{IsAtEnd}
 use Rattle.plist_engine.specs.Sending.{IsWritten}
 use Rattle.plist_engine.specs.declared.faults.WriteFault.{WriteFault}
-use Rattle.plist_engine.specs.declared.faults.WriteFault.TheVariants as write
 use Rattle.plist_forms.specs.Load.{IsLoadFault}
 use Rattle.plist_forms.specs.Sent.{IsUnsent, answer_of}
 use Rattle.plist_forms.specs.declared.faults.Fault.{Fault}
 use Rattle.plist_forms.specs.declared.forms.Form.{Form}
-use Rattle.plist_forms.specs.declared.forms.Form.TheVariants.{OpenStep}
 use Rattle.plist_forms.specs.declared.loading.TheConstants.{MAX_INPUT}
 use Rattle.plist_forms.specs.Output.{IsOutput, IsOutputFault}
-
--- An OpenStep text is in memory before its first byte is sent, so sending it does not run out of
--- memory.
-abbrev pub NeedsNoMemory : Form → Result ℕ WriteFault → Type 0
-NeedsNoMemory OpenStep (Err (write.OutOfMemory sent)) = ⊥
-NeedsNoMemory _ _ = Unit {0}
 
 -- The output for the input is sent: all of it, or exactly a prefix, if the sink failed or memory
 -- ran out.
@@ -25,7 +17,6 @@ pub record IsSent (form : Form) (octets : List ℕ) (old new : Option (List ℕ)
   pub of : IsOutput form octets output
   pub sent : Result ℕ WriteFault
   pub is : result ≡ answer_of sent
-  pub memory : NeedsNoMemory form sent
   pub written : IsWritten output old new before after sent
 
 -- the outcome of writing the value of loaded bytes

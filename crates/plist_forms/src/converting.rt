@@ -11,8 +11,8 @@ use crate::faults::Fault;
 use crate::forms::Form;
 use crate::judged::{draft_of, judge_binary, judge_draft};
 use crate::loading::{MAX_INPUT, load};
-use crate::sending::send;
-use crate::texts::text_of;
+use crate::texts::write_openstep;
+use ostep_write::write_text_of;
 use plist_devices::{Sink, Source};
 use plist_engine::write_canonical_of;
 use plist_value::FixedHasher;
@@ -23,8 +23,9 @@ use std::hash::BuildHasher;
 /// as an OpenStep text, and returns the number of bytes sent.
 ///
 /// Before the first put the whole source is loaded and read, and it is certain that the value can
-/// be written. A text is freed before that: its canonical file is sent from the binary file that it
-/// was read into. A binary file stays in memory, because its canonical file is sent from there.
+/// be written. A text is freed before that: its output is sent from the binary file that it was
+/// read into. A binary file stays in memory, because its output is sent from there. The output is
+/// never in memory as a whole.
 ///
 /// # Errors
 ///
@@ -100,8 +101,8 @@ pub fn convert_with_hasher<H: BuildHasher + Copy, S: Source, W: Sink>(
 /// bytes sent.
 ///
 /// Like [`convert`] for bytes that were loaded already, which are freed: those of a text before the
-/// first put, those of a binary file after its canonical file is sent. Scalars are hashed with
-/// `hasher`, as explained at [`convert_with_hasher`].
+/// first put, those of a binary file after its output is sent. Scalars are hashed with `hasher`, as
+/// explained at [`convert_with_hasher`].
 ///
 /// # Errors
 ///
@@ -123,7 +124,7 @@ pub fn convert_octets<H: BuildHasher + Copy, W: Sink>(
 {
     match form {
         Form::Binary1 => write_binary1(alloc, hasher, octets, to),
-        Form::OpenStep => write_openstep(alloc, octets, to),
+        Form::OpenStep => write_text(alloc, octets, to),
     }
 }
 
@@ -164,12 +165,18 @@ fn write_file<H: BuildHasher + Copy, W: Sink>(
     Ok(write_canonical_of(alloc, hasher, &file, to)?)
 }
 
-fn write_openstep<W: Sink>(alloc: Global, octets: Vec<u8>, to: &mut W) -> Result<u64, Fault>
+// Like `write_openstep`, but frees the bytes of a text before the first put.
+fn write_text<W: Sink>(alloc: Global, octets: Vec<u8>, to: &mut W) -> Result<u64, Fault>
     ensures writes { Writes Form.OpenStep octets.items (W.taken to.old) (W.taken to.new)
         (W.failures to.old) (W.failures to.new) result }
     ensures untouched { IfErr result (λ fault. IsBeforePut fault → to.new ≡ to.old) }
     ensures same { W.device to.new ≡ W.device to.old }
 {
-    let text = text_of(alloc, octets)?;
-    Ok(send(text.as_slice(), to)?)
+    if begins_as_binary(octets.as_slice()) {
+        return write_openstep(alloc, octets.as_slice(), to);
+    }
+    let draft = draft_of(alloc, octets.as_slice())?;
+    let file = judge_draft(alloc, &draft, octets.as_slice())?;
+    drop(octets);
+    Ok(write_text_of(alloc, &file, to)?)
 }

@@ -12,10 +12,9 @@ pub mod lines;
 pub mod loading;
 pub mod pairs;
 pub mod printing;
-mod sending;
 pub mod statuses;
 mod taken;
-mod texts;
+pub mod texts;
 
 pub use canonicals::{
     begins_as_binary, canonicalise, canonicalise_with_hasher, judge_any, read_any, same_files,
@@ -29,3 +28,4 @@ pub use loading::{MAX_INPUT, load, load_unless};
 pub use pairs::PairFault;
 pub use printing::print;
 pub use statuses::Status;
+pub use texts::write_openstep;

@@ -1,61 +1,63 @@
-//! Values and texts of inputs that are freed on the way.
-ghost use Rattle.std.specs.Prelude.{◌≡◌, true, IfErr, IfOk};
-ghost use Rattle.plist_value.specs.Limits.{Fits};
-ghost use Rattle.plist_value.specs.View.{view};
-ghost use Rattle.plist_forms.specs.Accepted.{IsAccepted, begins_as_binary as begins};
-ghost use Rattle.plist_forms.specs.Refusals.{IsRefused};
-ghost use Rattle.plist_forms.specs.declared.forms.Form.TheVariants.{OpenStep};
-ghost use Rattle.plist_forms.specs.Output.{IsOutput, IsOutputFault};
+//! Writing the OpenStep text of an input.
+ghost use Rattle.std.specs.Prelude.{◌≡◌, true, IfErr, IfOk, OnOk};
+ghost use Rattle.plist_value.specs.Plist.{Plist};
+ghost use Rattle.plist_object.specs.Spelled.{IsBinary};
+ghost use Rattle.plist_object.specs.Views.{octets_of};
+ghost use Rattle.ostep_text.specs.Written.{is_writable};
+ghost use Rattle.plist_forms.specs.Accepted.{begins_as_binary as begins};
+ghost use Rattle.plist_forms.specs.Output.{IsOutputFault};
+ghost use Rattle.plist_forms.specs.Sent.{IsBeforePut};
+ghost use Rattle.plist_forms.specs.Transfer.{Writes};
 
-use crate::canonicals::{begins_as_binary, read_any};
+use crate::canonicals::begins_as_binary;
 use crate::faults::Fault;
-use crate::judged::judge_binary;
-use ostep_text::{TextWriteFault, write_text};
-use ostep_write::has_text;
-use plist_value::Value;
+use crate::forms::Form;
+use crate::judged::{draft_of, judge_binary, judge_draft};
+use ostep_write::{has_text, write_text_of};
+use plist_devices::Sink;
+use plist_object::BinFile;
 use std::alloc::Global;
 
-/// Returns the value that the bytes encode and frees the bytes. The buffer is first shrunk to one
-/// byte: once the C library has freed a large block, it serves blocks up to that size from its
-/// heap, where growing vectors are copied and leave holes.
-pub(crate) fn value_of(alloc: Global, octets: Vec<u8>) -> Result<Value, Fault>
-    ensures read { IfOk result (λ value. IsAccepted octets.items (view value)) }
-    ensures fits { IfOk result (λ value. Fits (view value)) }
-    ensures refused { IfErr result (IsRefused octets.items) }
+/// Sends the OpenStep text of the value that the bytes encode, in either form, and returns its
+/// length in bytes.
+///
+/// Before the first put all bytes are read, and it is certain that the value has a text. The text
+/// is sent piece by piece and is never in memory as a whole. A binary file is written from its
+/// bytes, a text from the binary file that it is read into.
+///
+/// # Errors
+///
+/// In this order: the errors of [`judge_any`](crate::judge_any); `NotInOpenStep` (40) if the value
+/// has no text; `WriteFailed` (51) if the sink fails. Out of memory (60) may come before any of
+/// them. After 51 and 60 exactly the first `sent` bytes of the text were sent; after any other
+/// error the sink is untouched.
+pub fn write_openstep<W: Sink>(alloc: Global, octets: &[u8], to: &mut W) -> Result<u64, Fault>
+    ensures writes { Writes Form.OpenStep octets.now (W.taken to.old) (W.taken to.new)
+        (W.failures to.old) (W.failures to.new) result }
+    ensures untouched { IfErr result (λ fault. IsBeforePut fault → to.new ≡ to.old) }
+    ensures same { W.device to.new ≡ W.device to.old }
 {
-    let value = read_any(alloc, octets.as_slice())?;
-    let mut block = octets;
-    block.truncate(1);
-    block.shrink_to_fit();
-    Ok(value)
+    if begins_as_binary(octets) {
+        let file = judge_writable(alloc, octets)?;
+        return Ok(write_text_of(alloc, &file, to)?);
+    }
+    let draft = draft_of(alloc, octets)?;
+    let file = judge_draft(alloc, &draft, octets)?;
+    Ok(write_text_of(alloc, &file, to)?)
 }
 
-/// Returns the OpenStep text of the value that the bytes encode. Frees the bytes and the value.
-/// Refuses a value without a text before it is built.
-pub(crate) fn text_of(alloc: Global, octets: Vec<u8>) -> Result<Vec<u8>, Fault>
-    ensures text { IfOk result (λ text. IsOutput OpenStep octets.items text.items) }
-    ensures refused { IfErr result (IsOutputFault OpenStep octets.items) }
-{
-    if begins_as_binary(octets.as_slice()) {
-        check_text(alloc, octets.as_slice())?;
-    }
-    let value = value_of(alloc, octets)?;
-    match write_text(alloc, &value) {
-        Ok(text) => Ok(text),
-        Err(TextWriteFault::NotInOpenStep) => Err(Fault::NotInOpenStep),
-        Err(TextWriteFault::OutOfMemory) => Err(Fault::OutOfMemory { sent: 0 }),
-    }
-}
-
-// Fails if a binary file is refused or its value has no text. Texts always have one.
-fn check_text(alloc: Global, octets: &[u8]) -> Result<(), Fault>
+// Validates a binary file, and that its value has a text. The value of a text always has one.
+fn judge_writable(alloc: Global, octets: &[u8]) -> Result<BinFile<'_>, Fault>
     requires { begins octets.now ≡ true }
-    ensures refused { IfErr result (IsOutputFault OpenStep octets.now) }
+    ensures file { IfOk result (λ file. octets_of file ≡ octets.entry.now) }
+    ensures binary { OnOk result ((v : Plist) × IsBinary octets.entry.now v) }
+    ensures writable { OnOk result ((v : Plist) → IsBinary octets.entry.now v
+        → is_writable v ≡ true) }
+    ensures refused { IfErr result (IsOutputFault Form.OpenStep octets.entry.now) }
 {
     let file = judge_binary(alloc, octets)?;
-    let writable = has_text(alloc, &file)?;
-    if writable {
-        Ok(())
+    if has_text(alloc, &file)? {
+        Ok(file)
     } else {
         Err(Fault::NotInOpenStep)
     }
