@@ -1,26 +1,21 @@
--- From what a print ensures to what is gathered of it.
-use Rattle.std.proofs.Common.{inl, inr, refl, sym, subst, Err, List, [], Ok, Option, Result, Some, ℕ, ◌≡◌}
-use Rattle.plist_forms.specs.Printed.{IsPrintOf, Prints}
+-- From what a call that sends a text ensures to what is gathered of it.
+use Rattle.std.proofs.Common.{inl, inr, refl, Err, List, Ok, Option, Result, ℕ, length, ◌≡◌, ◌≤◌}
+use Rattle.plist_forms.specs.Output.{IsOutputFault}
+use Rattle.plist_forms.specs.Printed.{Prints}
 use Rattle.plist_forms.specs.Refusals.{IsRefused}
 use Rattle.plist_forms.specs.Sent.{answer_of}
+use Rattle.plist_forms.specs.Transfer.{Writes}
 use Rattle.plist_forms.specs.declared.faults.Fault.{Fault}
 use Rattle.plist_forms.specs.declared.faults.Fault.TheVariants.{Binary, Text, NotInOpenStep, ReadFailed, WriteFailed, InputTooLarge, OutOfMemory}
-use Rattle.plist_engine.specs.Sending.{IsWritten}
 use Rattle.plist_engine.specs.declared.faults.WriteFault.{WriteFault}
 use Rattle.plist_engine.specs.declared.faults.WriteFault.TheVariants as write
+use Rattle.plist_forms.specs.declared.forms.Form.TheVariants.{OpenStep}
+use Rattle.plist_forms.specs.declared.loading.TheConstants.{MAX_INPUT}
 use Rattle.plistconv_c.specs.Answers.{gathered_fault}
-
-whole_text : (text gathered : List ℕ) (failures n : ℕ) (sent : Result ℕ WriteFault) → Ok n ≡ answer_of sent
-    → IsWritten text (Some []) (Some gathered) 0 failures sent → gathered ≡ text
-whole_text text gathered failures n (Ok m) is written = written.whole.0
-whole_text text gathered failures n (Err fault) is written = absurd cc
-
--- what was gathered of a complete print is the printed text
-pub gathered_text : (octets gathered : List ℕ) (failures n : ℕ)
-    → Prints octets (Some []) (Some gathered) 0 failures (Ok n) → IsPrintOf octets gathered
-gathered_text octets gathered failures n (inl unsent) = absurd (let is = unsent.is in cc)
-gathered_text octets gathered failures n (inr goes) =
-    subst (IsPrintOf octets) (sym (whole_text goes.text gathered failures n goes.sent goes.is goes.written)) goes.of
+use Rattle.plistconv_c.specs.Inputs as input
+use Rattle.plistconv_c.specs.Refusals.{refusal_of}
+use Rattle.plistconv_c.specs.Texts.{IsTextFault, IsUnwritten, no_text, unread}
+use Rattle.plistconv_c.specs.declared.refusals.Refusal.{Refusal}
 
 no_memory : (octets : List ℕ) → IsRefused octets (OutOfMemory 0)
 no_memory octets = record { stands = refl; none = λ other v accepted. other refl }
@@ -49,3 +44,26 @@ gathered_refused octets old new before after fault (inl unsent) =
     let same : unsent.fault ≡ fault = (let is = unsent.is in cc) in
     refused_fault octets fault (rw same at unsent.cause)
 gathered_refused octets old new before after fault (inr goes) = front_fault octets fault goes.sent goes.is
+
+unsent_text : (octets : List ℕ) (fault : Fault) → length octets ≤ MAX_INPUT → IsOutputFault OpenStep octets fault
+    → IsTextFault octets (gathered_fault fault)
+unsent_text octets fault within (inl unfit) = inl (input.refused within (refused_fault octets fault unfit))
+unsent_text octets fault within (inr none) = rw none.is
+    (inr (within, record { value = none.value; accepted = none.accepted; none = none.none; is = refl }))
+
+-- an incomplete OpenStep text fails with this refusal
+pub gathered_unwritten : (octets : List ℕ) (old new : Option (List ℕ)) (before after : ℕ) (fault : Fault)
+    → length octets ≤ MAX_INPUT → Writes OpenStep octets old new before after (Err fault)
+    → IsTextFault octets (gathered_fault fault)
+gathered_unwritten octets old new before after fault within (inl unsent) =
+    let same : unsent.fault ≡ fault = (let is = unsent.is in cc) in
+    unsent_text octets fault within (rw same at unsent.cause)
+gathered_unwritten octets old new before after fault within (inr goes) =
+    inl (input.refused within (front_fault octets fault goes.sent goes.is))
+
+-- what the refusal of a text says of the input
+pub unwritten : (octets : List ℕ) (fault : Fault) (told : Refusal) → IsTextFault octets fault → told ≡ refusal_of fault 1
+    → IsUnwritten octets told
+unwritten octets fault told (inl unfit) is = unread fault unfit is
+unwritten octets fault told (inr none) is =
+    no_text none.1.value (record { within = none.0; accepted = none.1.accepted }) none.1.none (rw none.1.is at is)

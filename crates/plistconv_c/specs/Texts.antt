@@ -1,9 +1,12 @@
 -- The result of the call for a text.
-use Rattle.std.specs.Prelude.{◌≡◌, ℕ, List, Some, None}
+use Rattle.std.specs.Prelude.{◌≡◌, ◌≤◌, ◌⊎◌, ℕ, List, Some, None, length}
 use Rattle.plist_value.specs.Plist.{Plist}
 use Rattle.ostep_text.specs.Written.{text_of}
 use Rattle.plist_forms.specs.declared.faults.Fault.{Fault}
 use Rattle.plist_forms.specs.declared.faults.Fault.TheVariants.{NotInOpenStep}
+use Rattle.plist_forms.specs.declared.forms.Form.TheVariants.{OpenStep}
+use Rattle.plist_forms.specs.declared.loading.TheConstants.{MAX_INPUT}
+use Rattle.plist_forms.specs.Output.{HasNoOutput}
 use Rattle.plistconv_c.specs.Given.{IsGiven}
 use Rattle.plistconv_c.specs.Inputs.{IsInputAccepted, IsInputRefused}
 use Rattle.plistconv_c.specs.Refusals.{no_refusal, refusal_of}
@@ -29,3 +32,7 @@ pub record IsTextRefused (octets before after : List ℕ) (count : ℕ) (told : 
   pub number_told : number ≡ told.number
   pub kept : after ≡ before
   pub nothing : count ≡ 0
+
+-- why there is no text: the input is refused, or its value has none
+abbrev pub IsTextFault : List ℕ → Fault → Type 0
+IsTextFault octets fault = IsInputRefused octets fault ⊎ ((length octets ≤ MAX_INPUT) × HasNoOutput OpenStep octets fault)

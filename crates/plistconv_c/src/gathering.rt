@@ -1,7 +1,9 @@
 //! A sink that gathers bytes in memory.
 ghost use Rattle.std.specs.Prelude.{◌≡◌, [], None, Some};
+ghost use Rattle.plistconv_c.specs.Answers.{gathered_fault};
 
 use plist_devices::{DeviceFault, Sink};
+use plist_forms::Fault;
 use std::alloc::Global;
 
 /// A sink that keeps all bytes that it takes. A put fails only if out of memory.
@@ -39,5 +41,15 @@ impl Sink for Gathering {
 
     fn failures(&self) -> u64 {
         self.failures
+    }
+}
+
+/// Returns the refusal of a call that gathers its output: a put fails only if out of memory.
+pub(crate) fn unsent(fault: Fault) -> Fault
+    ensures { result ≡ gathered_fault fault }
+{
+    match fault {
+        Fault::WriteFailed { .. } | Fault::OutOfMemory { .. } => Fault::OutOfMemory { sent: 0 },
+        _ => fault,
     }
 }

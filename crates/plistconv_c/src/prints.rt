@@ -2,11 +2,11 @@
 ghost use Rattle.std.specs.Prelude.{◌≡◌, ◌≢◌, ◌≤◌, length, IfOk, IfErr, OnOk};
 ghost use Rattle.plist_forms.specs.Printed.{IsPrintOf};
 ghost use Rattle.plist_forms.specs.declared.loading.TheConstants.{MAX_INPUT};
-ghost use Rattle.plistconv_c.specs.Answers.{IsPrintGiven, IsRefusedWhole, gathered_fault};
+ghost use Rattle.plistconv_c.specs.Answers.{IsPrintGiven, IsRefusedWhole};
 ghost use Rattle.plistconv_c.specs.Inputs.{IsInputRefused};
 
 use crate::Refusal;
-use crate::gathering::Gathering;
+use crate::gathering::{Gathering, unsent};
 use crate::giving::give;
 use crate::inputs::admit;
 use plist_forms::{Fault, print};
@@ -57,15 +57,5 @@ fn printed_text(alloc: Global, octets: &[u8]) -> Result<Vec<u8>, Fault>
     match print(alloc, octets, &mut text) {
         Ok(_) => Ok(text.octets),
         Err(fault) => Err(unsent(fault)),
-    }
-}
-
-// Returns the refusal of a call that gathers its output: a put fails only if out of memory.
-fn unsent(fault: Fault) -> Fault
-    ensures { result ≡ gathered_fault fault }
-{
-    match fault {
-        Fault::WriteFailed { .. } | Fault::OutOfMemory { .. } => Fault::OutOfMemory { sent: 0 },
-        _ => fault,
     }
 }

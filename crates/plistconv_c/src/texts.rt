@@ -1,15 +1,15 @@
 //! Writing a value as OpenStep text.
-ghost use Rattle.std.specs.Prelude.{◌≡◌, ◌≢◌, IfOk, IfErr};
-ghost use Rattle.plist_value.specs.View.{view};
-ghost use Rattle.plistconv_c.specs.Inputs.{IsInputAccepted, IsInputRefused};
-ghost use Rattle.plistconv_c.specs.Texts.{IsTextGiven, IsTextRefused};
+ghost use Rattle.std.specs.Prelude.{◌≡◌, ◌≢◌, ◌≤◌, length, IfOk, IfErr, OnOk};
+ghost use Rattle.plist_forms.specs.Output.{IsOutput};
+ghost use Rattle.plist_forms.specs.declared.forms.Form.TheVariants.{OpenStep};
+ghost use Rattle.plist_forms.specs.declared.loading.TheConstants.{MAX_INPUT};
+ghost use Rattle.plistconv_c.specs.Texts.{IsTextFault, IsTextGiven, IsTextRefused};
 
 use crate::Refusal;
+use crate::gathering::{Gathering, unsent};
 use crate::giving::give;
 use crate::inputs::admit;
-use ostep_text::{TextWriteFault, write_text};
-use plist_forms::{Fault, read_any};
-use plist_value::Value;
+use plist_forms::{Fault, write_openstep};
 use std::alloc::Global;
 
 /// Writes the OpenStep text of the value of `octets` to the start of the buffer. If it does not
@@ -32,36 +32,30 @@ pub extern "C" fn plistconv_text(
     ensures refused { result ≢ 0
         → IsTextRefused octets.now into.old into.new length.new refusal.new result }
 {
-    *length = 0;
-    let value = match value_of(alloc, octets) {
-        Ok(value) => value,
-        Err(fault) => {
-            *refusal = Refusal::of(&fault, 1);
-            return fault.code();
-        }
-    };
-    match write_text(alloc, &value) {
+    match written_text(alloc, octets) {
         Ok(text) => {
             give(&text, into, length);
             *refusal = Refusal::none();
             0
         }
-        Err(TextWriteFault::NotInOpenStep) => {
-            *refusal = Refusal::of(&Fault::NotInOpenStep, 1);
-            40
-        }
-        Err(TextWriteFault::OutOfMemory) => {
-            *refusal = Refusal::of(&Fault::OutOfMemory { sent: 0 }, 1);
-            60
+        Err(fault) => {
+            *length = 0;
+            *refusal = Refusal::of(&fault, 1);
+            fault.code()
         }
     }
 }
 
-// Reads an input, if it is not too large.
-fn value_of(alloc: Global, octets: &[u8]) -> Result<Value, Fault>
-    ensures accepted { IfOk result (λ value. IsInputAccepted octets.now (view value)) }
-    ensures refused { IfErr result (IsInputRefused octets.now) }
+// Returns the OpenStep text of the value of `octets`. Nothing was sent yet if memory runs out.
+fn written_text(alloc: Global, octets: &[u8]) -> Result<Vec<u8>, Fault>
+    ensures within { OnOk result (length octets.now ≤ MAX_INPUT) }
+    ensures text { IfOk result (λ text. IsOutput OpenStep octets.now text.items) }
+    ensures refused { IfErr result (IsTextFault octets.now) }
 {
     admit(octets)?;
-    read_any(alloc, octets)
+    let mut text = Gathering::new(alloc);
+    match write_openstep(alloc, octets, &mut text) {
+        Ok(_) => Ok(text.octets),
+        Err(fault) => Err(unsent(fault)),
+    }
 }
