@@ -37,6 +37,8 @@ mod memory_tests;
 #[cfg(test)]
 mod object_tests;
 #[cfg(test)]
+mod openstep_tests;
+#[cfg(test)]
 mod prefixes;
 #[cfg(test)]
 mod print_tests;

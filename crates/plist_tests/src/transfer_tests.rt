@@ -217,6 +217,7 @@ fn what_went_out_is_a_front_of_the_output(rt: HostRuntime) -> Result<(), Fail> {
         (TABLE_TEXT, Form::Binary1, TABLE),
         (TABLE, Form::Binary1, TABLE),
         (TABLE_TEXT, Form::OpenStep, WRITTEN_TEXT),
+        (TABLE, Form::OpenStep, WRITTEN_TEXT),
     ];
     for (octets, form, whole) in rows {
         let left = conversion(alloc, octets, None, form, 100)?;
