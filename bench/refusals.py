@@ -138,7 +138,7 @@ def two_lists(count):
 
 
 # The command, the input, the beginning of the answer, and the most bytes of memory for each byte of input, if there is a
-# limit: `openstep` builds a value.
+# limit.
 MEMORY = {
     "short dictionaries, then an error": ("lint", lambda: often(b"{a;},", 4_000_000), "refused 31", 12),
     "empty arrays, then an error": ("lint", lambda: often(b"(),", 4_000_000), "refused 31", 12),
