@@ -1,10 +1,9 @@
 -- Storing in a file that is created at its first write.
-use Rattle.std.proofs.Common.{refl, sym, inl, inr, Err, List, None, Ok, Option, Result, Some, [], ◌∷◌, ◌++◌, ℕ, ◌≡◌, ◌∙◌}
-use Rattle.std.specs.Prelude.{◌≢◌, Bool, cond, false, true}
+use Rattle.std.proofs.Common.{refl, subst, sym, inl, inr, Err, List, None, Ok, Option, Result, Some, [], ◌∷◌, ◌++◌, ℕ, ◌≡◌, ◌∙◌}
+use Rattle.std.specs.Prelude.{◌≢◌, Bool, IfSome, cond, false, option_map, true}
 use Rattle.plist_engine.specs.Canonical.{canon}
 use Rattle.plist_engine.specs.Sending.{IsWritten}
 use Rattle.plist_engine.specs.declared.faults.WriteFault.{WriteFault}
-use Rattle.plist_engine.specs.declared.faults.WriteFault.TheVariants as write
 use Rattle.plist_forms.specs.Output.{IsOutput}
 use Rattle.plist_forms.specs.Sent.{answer_of}
 use Rattle.plist_forms.specs.Transfer.{Writes}
@@ -13,7 +12,8 @@ use Rattle.plist_forms.specs.declared.forms.Form.{Form}
 use Rattle.plist_forms.specs.declared.forms.Form.TheVariants.{Binary1, OpenStep}
 use Rattle.ostep_text.specs.Written.{is_writable, written}
 use Rattle.plist_convert.specs.Files.{CountsFailure, FileName, Files, IsStored, SameFiles, Stores}
-use Rattle.plist_convert.specs.Opens.{Creates, Puts, Sends, Settles, held_by, is_begun}
+use Rattle.plist_convert.specs.Opens.{Creates, Puts, Sends, Settles, held_by, is_begun, written_of}
+use Rattle.plist_convert.specs.declared.opens.Created.{Created}
 use Rattle.plist_convert.proofs.Handed.{handed_over}
 use Rattle.plist_convert.proofs.Stored.{sent_count, stored_taken, unsent_stored, unstored}
 
@@ -109,10 +109,12 @@ untouched form octets (Some old) (Some new) before after path result ((failures,
   stored = none_out old new before after failures path goes.output goes.sent (output_some form octets goes.output goes.of) goes.written same (rw goes.is at counts);
 })
 
-pub settled : (form : Form) (octets : List ℕ) (files rest : Option Files) (before after : ℕ) (path : FileName) (contents : Option (Option (List ℕ)))
-    (result : Result ℕ Fault) → Creates form octets files contents result → Settles path contents files rest
+pub settled : {W : Type 0} (writes : W → Option (List ℕ)) (form : Form) (octets : List ℕ) (files rest : Option Files) (before after : ℕ)
+    (path : FileName) (made : Option (Created W)) (result : Result ℕ Fault) → IfSome made (λ file. file.path.now ≡ path)
+    → Creates form octets files (option_map (written_of writes) made) result → Settles writes made files rest
     → CountsFailure before after result → Stores form octets files rest before after path result
-settled form octets files rest before after path None result creates same counts =
+settled writes form octets files rest before after path None result there creates same counts =
     untouched form octets files rest before after path result creates same counts
-settled form octets files rest before after path (Some contents) result creates puts counts =
-    kept form octets files rest before after path contents result creates puts counts
+settled writes form octets files rest before after path (Some file) result there creates puts counts =
+    let put : Puts path (writes file.writer) files rest = subst (λ (name : FileName). Puts name (writes file.writer) files rest) there puts in
+    kept form octets files rest before after path (writes file.writer) result creates put counts

@@ -1,5 +1,5 @@
 -- What a load finds at a path, from the contracts of the opener and the reader.
-use Rattle.std.proofs.Common.{arith, refl, inl, inr, length-append, Err, List, None, Ok, Option, Result, Some, ℕ, ◌++◌, ◌≡◌, ◌∙◌}
+use Rattle.std.proofs.Common.{arith, refl, inl, inr, length-append, Err, List, None, Ok, Option, Result, Some, ℕ, ◌≡◌}
 use Rattle.std.specs.Prelude.{◌↔◌, ◌<◌, IfErr, IfSome, IsErrOf, OnOk, length}
 use Rattle.std.specs.Io.KnownBytes.{Consumes}
 use Rattle.plist_devices.specs.Count.{one_more}

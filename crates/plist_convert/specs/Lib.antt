@@ -11,4 +11,5 @@ pub mod Reading
 pub mod Files
 pub mod FileDisk
 pub mod Opens
+pub mod MemoryFiles
 pub mod MemoryDisk

@@ -1,16 +1,16 @@
 -- What contracts know of a `MemoryDisk`.
-use Rattle.std.specs.Prelude.{◌≡◌, ℕ, ◌<◌, List, length, option_map}
-use Rattle.std.specs.BTreeMap.{get_by_text}
+use Rattle.std.specs.Prelude.{◌≡◌, ℕ, ◌<◌, List, length}
 use Rattle.plist_forms.specs.declared.faults.Fault.{Fault}
 use Rattle.plist_forms.specs.declared.faults.Fault.TheVariants.{WriteFailed}
 use Rattle.plist_forms.specs.declared.forms.Form.{Form}
 use Rattle.plist_forms.specs.Output.{IsOutput}
 use Rattle.plist_convert.specs.Files.{Files}
+use Rattle.plist_convert.specs.MemoryFiles.{bytes_at}
 use Rattle.plist_convert.specs.declared.memory_disk.MemoryDisk.{MemoryDisk}
 
 -- the bytes at each path
 abbrev pub files_of : MemoryDisk → Files
-files_of disk path = option_map (λ octets. octets.items) (get_by_text disk.files path)
+files_of disk = bytes_at disk.files
 
 -- the maximum size of a file
 abbrev pub room_of : MemoryDisk → ℕ

@@ -1,16 +1,24 @@
 -- What opening, creating and keeping a file means, if the opener knows the files.
-use Rattle.std.specs.Prelude.{◌≡◌, ◌≢◌, ◌⊎◌, ⊤, ℕ, ◌<◌, Bool, true, false, List, [], ◌∷◌, length, None, Option, Some, Result, Err, IfSome}
+use Rattle.std.specs.Prelude.{◌≡◌, ◌≢◌, ◌⊎◌, ℕ, ◌<◌, Bool, true, false, List, [], ◌∷◌, length, None, Option, Some, Result, Err, IfSome}
+use Rattle.std.specs.IoError.{error_kind}
+use Rattle.std.specs.declared.io.Error.{Error}
+use Rattle.std.specs.declared.io.ErrorKind.TheVariants as kind
 use Rattle.plist_devices.specs.Count.{one_more}
 use Rattle.plist_forms.specs.declared.faults.Fault.{Fault}
 use Rattle.plist_forms.specs.declared.faults.Fault.TheVariants.{ReadFailed, InputTooLarge, OutOfMemory}
 use Rattle.plist_forms.specs.declared.loading.TheConstants.{MAX_INPUT}
 use Rattle.plist_forms.specs.declared.forms.Form.{Form}
 use Rattle.plist_forms.specs.Transfer.{Writes}
+use Rattle.plist_convert.specs.declared.opens.Created.{Created}
 use Rattle.plist_convert.specs.Files.{FileName, Files, Lacks, SameFiles, Turns}
 
 -- there is a file at the path, and the reader will read all of it
 abbrev pub ReadsAll : Option Files → FileName → Option (List ℕ) → Type 0
 ReadsAll files path to_come = IfSome files (λ at. (octets : List ℕ) × ((at path ≡ Some octets) × (to_come ≡ Some octets)))
+
+-- why a file is not opened: there is none, or out of memory
+abbrev pub IsUnopened : Option Files → FileName → Error → Type 0
+IsUnopened files path error = error_kind error ≢ kind.OutOfMemory → Lacks files path
 
 -- the writer has written nothing
 abbrev pub IsNew : Option Files → Option (List ℕ) → Type 0
@@ -21,10 +29,14 @@ abbrev pub Puts : FileName → Option (List ℕ) → Option Files → Option Fil
 Puts path contents before after =
     Turns before after (λ old new. (new path ≡ contents) × ((other : FileName) → other ≢ path → new other ≡ old other))
 
--- the file at the path is what was written, if there is a writer, and every other file is unchanged
-abbrev pub Settles : FileName → Option (Option (List ℕ)) → Option Files → Option Files → Type 0
-Settles path None before after = SameFiles before after
-Settles path (Some contents) before after = Puts path contents before after
+-- what the writer of a created file has written
+abbrev pub written_of : {W : Type 0} → (W → Option (List ℕ)) → Created W → Option (List ℕ)
+written_of contents created = contents created.writer
+
+-- the file that was created, if there is one, is what was written, and every other file is unchanged
+abbrev pub Settles : {W : Type 0} → (W → Option (List ℕ)) → Option (Created W) → Option Files → Option Files → Type 0
+Settles contents None before after = SameFiles before after
+Settles contents (Some created) before after = Puts created.path.now (written_of contents created) before after
 
 -- a reader of this type has counted a failed read
 abbrev pub HasFailing : {R : Type 0} → (R → ℕ) → Type 0

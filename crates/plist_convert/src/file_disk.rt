@@ -1,18 +1,19 @@
 //! A disk with the files of an opener.
-ghost use Rattle.std.specs.Prelude.{◌≡◌, IfErr, IfOk, OnErr, option_map};
+ghost use Rattle.std.specs.Prelude.{◌≡◌, IfErr, IfOk, IfSome, OnErr, option_map};
 ghost use Rattle.plist_forms.specs.Load.{octets_or};
 ghost use Rattle.plist_convert.specs.Files.{Holds, SameFiles};
 ghost use Rattle.plist_convert.specs.Opens.{CountsUnread, Creates, HasFailing, IsUnfound};
-ghost use Rattle.plist_convert.specs.Opens.{Sends, Settles};
+ghost use Rattle.plist_convert.specs.Opens.{Sends, Settles, written_of};
 
-use crate::created_file::CreatedFile;
+use crate::created_file::{CreatedFile, Place, Target};
 use crate::disks::{Disk, failures_after};
-use crate::opens::{Opens, Steady};
+use crate::opens::{Created, Opens, Steady};
 use plist_devices::Stream;
 use plist_forms::{Fault, Form, convert_octets, load_unless};
 use std::alloc::{AllocError, Global};
 use std::hash::BuildHasher;
-use std::io::Write;
+use std::io::{ErrorKind, Write};
+use std::marker::Brand;
 
 /// A disk with the files of an opener. It knows their contents if the opener does.
 ///
@@ -72,8 +73,10 @@ impl<O: Steady, H: BuildHasher + Copy> Disk for FileDisk<O, H> {
         octets: Vec<u8>,
         form: Form,
     ) -> Result<u64, Fault> {
-        let (writer, stored) = create(&self.opener, alloc, self.hasher, path, octets, form);
-        settle(&mut self.opener, path, writer)?;
+        let opener = &self.opener;
+        let target = Target { opener, path };
+        let (created, stored) = create::<O, H, Brand>(alloc, self.hasher, target, octets, form);
+        settle(&mut self.opener, alloc, created)?;
         self.failures = failures_after(self.failures, &stored);
         stored
     }
@@ -87,8 +90,8 @@ impl<O: Steady, H: BuildHasher + Copy> Disk for FileDisk<O, H> {
 ///
 /// # Errors
 ///
-/// [`Fault::ReadFailed`] (50) if the file cannot be opened or a read fails. Otherwise fails like
-/// [`load_unless`].
+/// [`Fault::OutOfMemory`] (60) if out of memory; [`Fault::ReadFailed`] (50) if the file cannot be
+/// opened or a read fails. Otherwise fails like [`load_unless`].
 fn octets_at<O: Opens>(
     opener: &O,
     alloc: Global,
@@ -100,10 +103,13 @@ fn octets_at<O: Opens>(
     ensures refused { IfErr result
         (IsUnfound (O.files opener.now) path.now (HasFailing O.Reader.failures)) }
 {
-    match opener.open(path) {
+    match opener.open(alloc, path) {
         Ok(reader) => {
             let mut reader = reader;
             load_unless(alloc, &mut reader, known)
+        }
+        Err(error) if error.kind() == ErrorKind::OutOfMemory => {
+            Err(Fault::OutOfMemory { sent: 0 })
         }
         Err(_) => Err(Fault::ReadFailed),
     }
@@ -119,22 +125,23 @@ fn failures_after_load(failures: u64, found: &Result<Option<Vec<u8>>, Fault>) ->
     }
 }
 
-/// Converts the bytes to this form and writes the output to the file at the path, which is created
-/// at the first write. Returns the writer of the file if it was created. Fails like [`send`].
-fn create<'a, O: Opens, H: BuildHasher + Copy>(
-    opener: &'a O,
+/// Converts the bytes to this form and writes the output to the file of the target, which is
+/// created at the first write. Returns the file if it was created. Fails like [`send`].
+fn create<'p, O: Opens, H: BuildHasher + Copy, K: Place>(
     alloc: Global,
     hasher: H,
-    path: &'a str,
+    target: Target<'_, 'p, O>,
     octets: Vec<u8>,
     form: Form,
-) -> (Option<O::Writer>, Result<u64, Fault>)
-    ensures { Creates form octets.items (O.files opener.entry.now)
-        (option_map O.Writer.contents result.0) result.1 }
+) -> (Option<Created<'p, O::Writer>>, Result<u64, Fault>)
+    requires { target.path.now ≡ K.path }
+    ensures placed { IfSome result.0 (λ created. created.path.now ≡ K.path) }
+    ensures creates { Creates form octets.items (O.files target.entry.opener.now)
+        (option_map (written_of O.Writer.contents) result.0) result.1 }
 {
-    let created = CreatedFile::new(opener, path);
-    let (file, stored) = send(alloc, hasher, created, octets, form);
-    (file.writer, stored)
+    let file: CreatedFile<O, K> = CreatedFile::new(alloc, target);
+    let (file, stored) = send(alloc, hasher, file, octets, form);
+    (file.created, stored)
 }
 
 /// Converts the bytes to this form and writes the output to the device, each piece in one write.
@@ -154,14 +161,18 @@ fn send<H: BuildHasher + Copy, W: Write + Drop>(
     (device, sent)
 }
 
-/// Closes the file at the path, if it was created. If out of memory for that, no file changes.
-fn settle<O: Opens>(opener: &mut O, path: &str, writer: Option<O::Writer>) -> Result<(), AllocError>
-    ensures settles { IfOk result (λ _. Settles path.now
-        (option_map O.Writer.contents writer) (O.files opener.old) (O.files opener.new)) }
+/// Closes the file, if it was created. If out of memory for that, no file changes.
+fn settle<O: Opens>(
+    opener: &mut O,
+    alloc: Global,
+    created: Option<Created<'_, O::Writer>>,
+) -> Result<(), AllocError>
+    ensures settles { IfOk result (λ _.
+        Settles O.Writer.contents created.entry (O.files opener.old) (O.files opener.new)) }
     ensures unchanged { OnErr result (SameFiles (O.files opener.old) (O.files opener.new)) }
 {
-    match writer {
-        Some(writer) => opener.keep(path, writer),
+    match created {
+        Some(created) => opener.keep(alloc, created),
         None => Ok(()),
     }
 }

@@ -1,11 +1,13 @@
 //! The files of the host.
-ghost use Rattle.std.specs.Prelude.{◌≡◌};
+ghost use Rattle.std.specs.Prelude.{◌≡◌, IfOk, OnErr, None};
+ghost use Rattle.plist_convert.specs.Files.{SameFiles};
+ghost use Rattle.plist_convert.specs.Opens.{Puts};
 
 use crate::file_disk::FileDisk;
-use crate::opens::{Opens, Steady};
+use crate::opens::{Created, Opens, Steady};
 use plist_devices::ReaderSource;
 use plist_value::FixedHasher;
-use std::alloc::AllocError;
+use std::alloc::{AllocError, Global};
 use std::hash::BuildHasher;
 use std::rt::Files;
 use std::{fs, io};
@@ -22,24 +24,27 @@ pub struct HostFiles<'a, R> {
 }
 
 impl<'a, R: Files> Opens for HostFiles<'a, R> {
-    ghost use Rattle.std.specs.Prelude.{None};
-
     type Reader = ReaderSource<R::File>;
 
     type Writer = R::File;
 
     ghost files = { λ _. None };
 
-    fn open(&self, path: &str) -> io::Result<ReaderSource<R::File>> {
+    fn open(&self, _alloc: Global, path: &str) -> io::Result<ReaderSource<R::File>> {
         Ok(ReaderSource::new(fs::open(self.rt, path)?))
     }
 
-    fn create(&self, path: &str) -> io::Result<R::File> {
-        fs::create(self.rt, path)
+    fn create<'p>(&self, _alloc: Global, path: &'p str) -> io::Result<Created<'p, R::File>> {
+        let writer = fs::create(self.rt, path)?;
+        Ok(Created { path, writer })
     }
 
-    fn keep(&mut self, _path: &str, writer: R::File) -> Result<(), AllocError> {
-        drop(writer);
+    fn keep(&mut self, _alloc: Global, created: Created<'_, R::File>) -> Result<(), AllocError>
+        ensures kept { IfOk result (λ _. Puts created.entry.path.now
+            (R.File.contents created.entry.writer) None None) }
+        ensures unchanged { OnErr result (SameFiles None None) }
+    {
+        drop(created);
         Ok(())
     }
 }

@@ -15,6 +15,7 @@ mod help;
 pub mod host_disk;
 pub mod memory_disk;
 mod memory_file;
+pub mod memory_files;
 pub mod opens;
 mod printing;
 mod reading;
@@ -23,8 +24,10 @@ mod verdicts;
 
 pub use disks::Disk;
 pub use entry::{run, run_on, run_to_end};
+pub use file_disk::FileDisk;
 pub use host_disk::HostDisk;
 pub use memory_disk::MemoryDisk;
+pub use memory_files::MemoryFiles;
 pub use plist_devices::{
     DeviceFault, ListSink, ListSource, ReaderSource, Sink, Source, Stream, WriterSink,
 };

@@ -7,9 +7,9 @@ ghost use Rattle.plist_convert.specs.Files.{SameFiles, Stores};
 
 use crate::disks::{Disk, failures_after};
 use crate::memory_file::fill;
+use crate::memory_files::MemoryFiles;
 use plist_forms::{Fault, Form, MAX_INPUT};
 use std::alloc::{AllocError, Global};
-use std::collections::BTreeMap;
 use std::marker::Brand;
 
 /// A disk in memory, for tests and for other programs. The contents of each path are known. Each
@@ -17,7 +17,7 @@ use std::marker::Brand;
 /// output is longer than `room`.
 #[derive(Drop)]
 pub struct MemoryDisk {
-    files: BTreeMap<String, Vec<u8>>,
+    files: MemoryFiles,
     room: usize,
     step: usize,
     failures: u64,
@@ -35,7 +35,7 @@ impl MemoryDisk {
         ensures failures { failures_of result ≡ 0 }
     {
         MemoryDisk {
-            files: BTreeMap::new(alloc),
+            files: MemoryFiles::new(alloc),
             room,
             step,
             failures: 0,
@@ -51,16 +51,14 @@ impl MemoryDisk {
         ensures failures { failures_of self.new ≡ failures_of self.old }
         ensures room { room_of self.new ≡ room_of self.old }
     {
-        let key = String::from_str(alloc, path)?;
-        self.files.insert(key, octets)?;
-        Ok(())
+        self.files.put(alloc, path, octets)
     }
 
     /// Returns the bytes of the file at the path.
     pub fn at(&self, path: &str) -> Option<&[u8]>
         ensures { option_map (λ octets. octets.now) result ≡ files_of self.now path.now }
     {
-        self.files.get(path).map(|octets| octets.as_slice())
+        self.files.at(path)
     }
 }
 

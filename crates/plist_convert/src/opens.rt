@@ -1,12 +1,19 @@
 //! Opens files by path.
-ghost use Rattle.std.specs.Prelude.{◌≡◌, IfOk, IfSome, OnErr, Option};
-ghost use Rattle.plist_convert.specs.Files.{Files, Lacks, SameFiles};
-ghost use Rattle.plist_convert.specs.Opens.{IsNew, Puts, ReadsAll};
+ghost use Rattle.std.specs.Prelude.{◌≡◌, IfErr, IfOk, IfSome, OnErr, Option};
+ghost use Rattle.plist_convert.specs.Files.{Files, SameFiles};
+ghost use Rattle.plist_convert.specs.Opens.{IsNew, IsUnopened, Puts, ReadsAll};
 
 use plist_devices::Source;
-use std::alloc::AllocError;
+use std::alloc::{AllocError, Global};
 use std::io;
 use std::io::Write;
+
+/// A file that was created or emptied, and the writer of its contents.
+#[derive(Drop)]
+pub struct Created<'p, W> {
+    pub path: &'p str,
+    pub writer: W,
+}
 
 /// Opens and creates files by path.
 ///
@@ -20,23 +27,26 @@ pub trait Opens {
     // The contents of each path, if the opener knows them.
     ghost files: { Self → Option Files };
 
-    /// Opens the file at the path to read it from its start. Fails if there is none.
-    fn open(&self, path: &str) -> io::Result<Self::Reader>
+    /// Opens the file at the path to read it from its start. Fails if there is none, or if out of
+    /// memory.
+    fn open(&self, alloc: Global, path: &str) -> io::Result<Self::Reader>
         ensures all { IfOk result (λ reader.
             ReadsAll (files self.now) path.now (Self.Reader.remaining reader)) }
         ensures unfailed { IfOk result (λ reader. Self.Reader.failures reader ≡ 0) }
-        ensures missing { OnErr result (Lacks (files self.now) path.now) };
+        ensures missing { IfErr result (IsUnopened (files self.now) path.now) };
 
     /// Creates or empties the file at the path, to write it from its start.
-    fn create(&self, path: &str) -> io::Result<Self::Writer>
-        ensures { IfOk result (λ writer.
-            IsNew (files self.now) (Self.Writer.contents writer)) };
+    fn create<'p>(&self, alloc: Global, path: &'p str) -> io::Result<Created<'p, Self::Writer>>
+        ensures path { IfOk result (λ created. created.path.now ≡ path.entry.now) }
+        ensures new { IfOk result (λ created.
+            IsNew (files self.now) (Self.Writer.contents created.writer)) };
 
-    /// Closes the file at the path, which contains what the writer wrote. If out of memory for
-    /// that, no file changes.
-    fn keep(&mut self, path: &str, writer: Self::Writer) -> Result<(), AllocError>
+    /// Closes the file, which contains what its writer wrote. If out of memory for that, no file
+    /// changes.
+    fn keep(&mut self, alloc: Global, created: Created<'_, Self::Writer>) -> Result<(), AllocError>
         ensures kept { IfOk result (λ _.
-            Puts path.now (Self.Writer.contents writer) (files self.old) (files self.new)) }
+            Puts created.entry.path.now (Self.Writer.contents created.entry.writer)
+            (files self.old) (files self.new)) }
         ensures unchanged { OnErr result (SameFiles (files self.old) (files self.new)) };
 }
 

@@ -11,4 +11,4 @@ returns-in_err-settle g c =
 
 pub returns : goal.returns
 returns g c =
-    settled _ _ _ _ _ _ _ _ _ c.create-writer.ensures c.in_ok-settle.ensures.settles c.failures_after-self.ensures
+    settled g.O.Writer.Write.contents _ _ _ _ _ _ _ _ _ c.create-created.ensures.placed c.create-created.ensures.creates c.in_ok-settle.ensures.settles c.failures_after-self.ensures

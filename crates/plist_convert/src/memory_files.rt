@@ -1,0 +1,124 @@
+//! Files in memory.
+ghost use Rattle.std.specs.Prelude.{◌≡◌, IfOk, OnErr, None, Some, option_map};
+ghost use Rattle.plist_convert.specs.Files.{FileName, SameBeside, SameFiles};
+ghost use Rattle.plist_convert.specs.Opens.{Puts};
+
+use crate::opens::{Created, Opens, Steady};
+use plist_devices::{DeviceFault, Source};
+use std::alloc::{AllocError, Global};
+use std::collections::BTreeMap;
+use std::io;
+use std::io::{Cursor, ErrorKind, Read};
+
+/// Files in memory, by path, for tests and for programs whose property lists are not in files of
+/// the host. The contents of each path are known.
+///
+/// A [`FileDisk`](crate::file_disk::FileDisk) over them is a disk whose files have no maximum size.
+#[derive(Drop)]
+pub struct MemoryFiles {
+    files: BTreeMap<String, Vec<u8>>,
+}
+
+impl MemoryFiles {
+    ghost use Rattle.plist_convert.specs.MemoryFiles.{bytes_at};
+
+    /// Returns an opener without files.
+    pub fn new(alloc: Global) -> MemoryFiles
+        ensures { (path : FileName) → bytes_at result path ≡ None }
+    {
+        MemoryFiles {
+            files: BTreeMap::new(alloc),
+        }
+    }
+
+    /// Writes a file with these bytes to the path, in place of one that is there.
+    ///
+    /// # Errors
+    ///
+    /// [`AllocError`] if out of memory. No file is changed then.
+    pub fn put(&mut self, alloc: Global, path: &str, octets: Vec<u8>) -> Result<(), AllocError>
+        ensures put { IfOk result (λ _. bytes_at self.new path.now ≡ Some octets.items) }
+        ensures others { SameBeside path.now (Some (bytes_at self.old)) (Some (bytes_at self.new)) }
+        ensures unchanged { OnErr result ((other : FileName)
+            → bytes_at self.new other ≡ bytes_at self.old other) }
+    {
+        let key = String::from_str(alloc, path)?;
+        self.files.insert(key, octets)?;
+        Ok(())
+    }
+
+    /// Returns the bytes of the file at the path.
+    pub fn at(&self, path: &str) -> Option<&[u8]>
+        ensures { option_map (λ octets. octets.now) result ≡ bytes_at self.now path.now }
+    {
+        self.files.get(path).map(|octets| octets.as_slice())
+    }
+}
+
+impl Opens for MemoryFiles {
+    ghost use Rattle.plist_convert.specs.MemoryFiles.{bytes_at};
+
+    type Reader = MemoryReader;
+
+    type Writer = Vec<u8>;
+
+    ghost files = { λ opener. Some (bytes_at opener) };
+
+    fn open(&self, alloc: Global, path: &str) -> io::Result<MemoryReader> {
+        let Some(octets) = self.at(path) else {
+            return Err(io::Error::from(ErrorKind::NotFound));
+        };
+        let octets = Vec::from_slice(alloc, octets)?;
+        Ok(MemoryReader {
+            octets: Cursor::new(octets),
+        })
+    }
+
+    fn create<'p>(&self, alloc: Global, path: &'p str) -> io::Result<Created<'p, Vec<u8>>> {
+        Ok(Created {
+            path,
+            writer: Vec::new(alloc),
+        })
+    }
+
+    fn keep(&mut self, alloc: Global, created: Created<'_, Vec<u8>>) -> Result<(), AllocError>
+        ensures kept { IfOk result (λ _.
+            Puts created.entry.path.now (Some created.entry.writer.items)
+            (Some (bytes_at self.old)) (Some (bytes_at self.new))) }
+        ensures unchanged { OnErr result
+            (SameFiles (Some (bytes_at self.old)) (Some (bytes_at self.new))) }
+    {
+        self.put(alloc, created.path, created.writer)
+    }
+}
+
+impl Steady for MemoryFiles {
+    ghost use Rattle.std.specs.Prelude.{refl};
+
+    ghost steady = { λ _ _. refl };
+}
+
+/// Reads a file in memory. No take fails.
+#[derive(Drop)]
+pub struct MemoryReader {
+    octets: Cursor<Vec<u8>>,
+}
+
+impl Source for MemoryReader {
+    ghost use Rattle.std.specs.Io.Cursor.{cursor_remaining};
+
+    ghost remaining = { λ reader. cursor_remaining (λ v. Some v.items) reader.octets };
+
+    ghost failures = { λ _. 0 };
+
+    fn take(&mut self, into: &mut [u8]) -> Result<usize, DeviceFault> {
+        match self.octets.read(into) {
+            Ok(given) => Ok(given),
+            Err(_) => Err(DeviceFault),
+        }
+    }
+
+    fn failures(&self) -> u64 {
+        0
+    }
+}
