@@ -1,7 +1,7 @@
-//! The whole program over a disk, an input and an output in memory.
+//! The whole program over files, an input and an output in memory.
 use crate::words::{printed_of, words_of};
-use crate::worked_files::{TABLE, UNSORTED};
-use plist_convert::{Disk, MemoryDisk, run_on};
+use crate::worked_files::{TABLE, TABLE_TEXT, TWICE, UNSORTED};
+use plist_convert::{Disk, Fault, FileDisk, Form, MemoryDisk, MemoryFiles, run_on};
 use plist_devices::{ListSink, ListSource};
 use plist_value::FixedHasher;
 use std::alloc::{AllocError, Global};
@@ -9,10 +9,10 @@ use std::hash::{BuildHasher, RandomState};
 use std::test::Fail;
 
 // Runs a row with this hash builder, and returns the exit status and the output.
-fn ran<H: BuildHasher + Copy>(
+fn ran<H: BuildHasher + Copy, D: Disk>(
     alloc: Global,
     hasher: H,
-    disk: &mut MemoryDisk,
+    disk: &mut D,
     row: &str,
 ) -> Result<(u8, ListSink), AllocError> {
     let words = words_of(alloc, row)?;
@@ -41,29 +41,79 @@ const RUNS: [&str; 8] = [
     "convert binary1 missing old|4 missing: refused 50 ReadFailed\n",
 ];
 
-// Returns whether all runs have their results over a new disk, and leave the right files.
-fn all_are_answered<H: BuildHasher + Copy>(alloc: Global, hasher: H) -> Result<bool, AllocError> {
-    let mut disk = MemoryDisk::new(alloc, 100, 7);
-    disk.put(alloc, "in", Vec::from_slice(alloc, UNSORTED)?)?;
-    disk.put(alloc, "old", Vec::from_slice(alloc, b"old")?)?;
+// Returns whether all runs have their results over a disk with the files `in` and `old`, and leave
+// the right files.
+fn all_are_answered<H: BuildHasher + Copy, D: Disk>(
+    alloc: Global,
+    hasher: H,
+    disk: &mut D,
+) -> Result<bool, Fail> {
     for row in &RUNS {
-        let (status, output) = ran(alloc, hasher, &mut disk, row)?;
+        let (status, output) = ran(alloc, hasher, disk, row)?;
         if printed_of(row, status) != Some(output.taken()) {
             return Ok(false);
         }
     }
-    Ok(
-        disk.at("out") == Some(TABLE)
-            && disk.at("old") == Some(b"old".as_slice())
-            && disk.failures() == 1,
-    )
+    let out = disk.load(alloc, "out")?;
+    let old = disk.load(alloc, "old")?;
+    Ok(out.as_slice() == TABLE && old.as_slice() == b"old".as_slice() && disk.failures() == 1)
+}
+
+fn small_disk(alloc: Global) -> Result<MemoryDisk, AllocError> {
+    let mut disk = MemoryDisk::new(alloc, 100, 7);
+    disk.put(alloc, "in", Vec::from_slice(alloc, UNSORTED)?)?;
+    disk.put(alloc, "old", Vec::from_slice(alloc, b"old")?)?;
+    Ok(disk)
+}
+
+fn file_disk(alloc: Global) -> Result<FileDisk<MemoryFiles, FixedHasher>, AllocError> {
+    let mut files = MemoryFiles::new(alloc);
+    files.put(alloc, "in", Vec::from_slice(alloc, UNSORTED)?)?;
+    files.put(alloc, "old", Vec::from_slice(alloc, b"old")?)?;
+    Ok(FileDisk::over(files, FixedHasher::new()))
 }
 
 #[test]
 fn runs_over_a_disk_in_memory(rt: HostRuntime) -> Result<(), Fail> {
+    let alloc = rt.alloc();
     let random = RandomState::new(&rt)?;
-    assert!(rt; all_are_answered(rt.alloc(), FixedHasher::new())?);
-    assert!(rt; all_are_answered(rt.alloc(), random)?);
+    assert!(rt; all_are_answered(alloc, FixedHasher::new(), &mut small_disk(alloc)?)?);
+    assert!(rt; all_are_answered(alloc, random, &mut small_disk(alloc)?)?);
+    Ok(())
+}
+
+#[test]
+fn runs_over_files_in_memory(rt: HostRuntime) -> Result<(), Fail> {
+    let alloc = rt.alloc();
+    let random = RandomState::new(&rt)?;
+    assert!(rt; all_are_answered(alloc, FixedHasher::new(), &mut file_disk(alloc)?)?);
+    assert!(rt; all_are_answered(alloc, random, &mut file_disk(alloc)?)?);
+    Ok(())
+}
+
+#[test]
+fn stores_files_in_memory(rt: HostRuntime) -> Result<(), Fail> {
+    let alloc = rt.alloc();
+    let mut disk = file_disk(alloc)?;
+    let missing = disk.load(alloc, "out").err();
+    assert_eq!(rt; missing, Some(Fault::ReadFailed));
+    assert_eq!(rt; disk.failures(), 1);
+    // A refused text changes no file.
+    let twice = Vec::from_slice(alloc, TWICE)?;
+    let refused = disk.store(alloc, "old", twice, Form::Binary1);
+    assert!(rt; refused.is_err());
+    let old = disk.load(alloc, "old")?;
+    assert_eq!(rt; old.as_slice(), b"old".as_slice());
+    for path in ["old", "out"] {
+        let text = Vec::from_slice(alloc, TABLE_TEXT)?;
+        let size = disk.store(alloc, path, text, Form::Binary1)?;
+        assert_eq!(rt; size, TABLE.len() as u64);
+        let stored = disk.load(alloc, path)?;
+        assert_eq!(rt; stored.as_slice(), TABLE);
+    }
+    let other = disk.load(alloc, "in")?;
+    assert_eq!(rt; other.as_slice(), UNSORTED);
+    assert_eq!(rt; disk.failures(), 1);
     Ok(())
 }
 
