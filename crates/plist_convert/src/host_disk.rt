@@ -9,6 +9,7 @@ use plist_devices::ReaderSource;
 use plist_value::FixedHasher;
 use std::alloc::{AllocError, Global};
 use std::hash::BuildHasher;
+use std::io::ErrorKind;
 use std::rt::Files;
 use std::{fs, io};
 
@@ -31,7 +32,11 @@ impl<'a, R: Files> Opens for HostFiles<'a, R> {
     ghost files = { λ _. None };
 
     fn open(&self, _alloc: Global, path: &str) -> io::Result<ReaderSource<R::File>> {
-        Ok(ReaderSource::new(fs::open(self.rt, path)?))
+        match fs::open(self.rt, path) {
+            Ok(file) => Ok(ReaderSource::new(file)),
+            // A file of the host that cannot be opened is 50, even if the host is out of memory.
+            Err(_) => Err(io::Error::from(ErrorKind::Other)),
+        }
     }
 
     fn create<'p>(&self, _alloc: Global, path: &'p str) -> io::Result<Created<'p, R::File>> {

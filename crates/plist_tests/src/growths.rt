@@ -1,5 +1,6 @@
 //! Refused memory: each call that allocates returns 60, or the same as with ample memory.
 //! bench/growths.py runs a test once for each of its allocations, which it refuses from outside.
+use crate::files::numbers;
 use crate::worked_files::{TABLE, TABLE_TEXT, TWICE, WRITTEN_TEXT};
 use ostep_text::{TextFault, TextWriteFault, judge_text, read_text, write_text};
 use plist_binary::{BinaryFault, read};
@@ -208,5 +209,18 @@ fn sources_are_loaded(rt: HostRuntime) -> Result<(), Fail> {
         Ok(octets) => assert_eq!(rt; octets.as_slice(), TABLE_TEXT),
         Err(fault) => assert_eq!(rt; fault.code(), 60),
     }
+    Ok(())
+}
+
+// A value takes an allocation for each of its strings. bench/growths.py counts them, since `check`,
+// which builds no value, makes fewer than 100 for this file.
+#[test]
+fn a_value_of_many_strings_is_read(rt: HostRuntime) -> Result<(), Fail> {
+    let octets = numbers(rt.alloc(), 255, 2)?;
+    let value = read(rt.alloc(), octets.as_slice())?;
+    let Value::List(items) = &value else {
+        return Err(Fail::from("it is no array"));
+    };
+    assert_eq!(rt; items.len(), 255);
     Ok(())
 }
