@@ -9,7 +9,7 @@ use Rattle.plist_object.specs.Places.{Holds, HoldsText}
 use Rattle.plist_object.specs.Spelled.{Spells, SpellItems, SpellPairs, SpellsWithin}
 use Rattle.plist_engine.specs.declared.faults.WriteFault.{WriteFault}
 use Rattle.plist_engine.specs.Output.{State, Goes}
-use Rattle.plist_engine.specs.Spelling.{PairsWithin, SpellWithin, in_turn}
+use Rattle.plist_engine.specs.Spelling.{PairsWithin, SpellWithin, TableWithin, in_turn}
 use Rattle.plist_engine.proofs.Flat.{flat, spell-flat, valid-flat, deep-flat}
 use Rattle.plist_engine.proofs.Going.{Goes_rest, Goes_same, Goes_stop}
 use Rattle.plist_engine.proofs.Within.{value_within}
@@ -165,3 +165,7 @@ turn_within f refs levels k within h =
       deep = deep-flat within.pairs levels within.deep;
     } in
     value_within f refs levels k (subst (λ (rs : List ℕ). SpellWithin f rs levels) (sym within.turn) all) h
+
+pub pairs_within : (f keys values refs : List ℕ) (levels : ℕ) (within : TableWithin f keys values levels) → refs ≡ in_turn within.rows → PairsWithin f refs levels
+pairs_within f keys values refs levels within turn =
+    record { rows = within.rows; pairs = within.pairs; turn = turn; spell = within.spell.spell; valid = within.spell.valid; deep = within.deep }

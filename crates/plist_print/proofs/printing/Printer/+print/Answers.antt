@@ -10,7 +10,7 @@ use Rattle.plist_object.specs.Views.{octets_of, numbers_of}
 use Rattle.plist_engine.specs.Output.{state_of}
 use Rattle.plist_engine.proofs.Going.{Goes_put, Goes_then, Goes_stop, Goes_same, Goes_out, Stays-trans}
 use Rattle.plist_engine.proofs.Steps.{refused, brackets_unopened, brackets_unfilled, brackets_closed}
-use Rattle.plist_engine.proofs.Turns.{items_more, items_stop, items_done, pair_named, pairs_more, pairs_stop, pairs_done, turn_within}
+use Rattle.plist_engine.proofs.Turns.{items_more, items_stop, items_done, pair_named, pairs_more, pairs_stop, pairs_done, pairs_within, turn_within}
 use Rattle.plist_engine.proofs.Within.{read_within, levels_within, items_within, table_within, value_within, scalar_seen, list_seen, table_seen, text_seen}
 use Rattle.plist_engine.specs.Spelling.{SpellWithin, TableWithin}
 use Rattle.plist_print.specs.Printed.{indent, printed_at, printed_items, printed_pairs}
@@ -146,23 +146,10 @@ table-returns-in_default-clause-goes g t c = λ rows ps spell.
 
 pub table-pairs-requires : goal.table-pairs-requires
 table-pairs-requires g t c κs within =
-    let all = c.requires.spell in (
-      omega (arith, c.decreases, c.requires.below),
-      (
-        within,
-        (
-          record {
-            rows = all.rows;
-            pairs = all.pairs;
-            turn = c.deref.ensures.value ∙ c.in-Ok.ensures.turn all.rows all.pairs all.spell;
-            spell = all.spell.spell;
-            valid = all.spell.valid;
-            deep = all.deep;
-          },
-          c.in-Ok.ensures.ready,
-        ),
-      ),
-    )
+    let all = c.requires.spell in
+    let turn = c.deref.ensures.value ∙ c.in-Ok.ensures.turn all.rows all.pairs all.spell in
+    let inside = pairs_within (octets_of c.args.self.now.file) (numbers_of c.args.keys.now) (numbers_of c.args.values.now) _ (MAX_DEPTH - (c.args.level + 1)) all turn in
+    (omega (arith, c.decreases, c.requires.below), (within, (inside, c.in-Ok.ensures.ready)))
 
 pub table-returns-in_err-pairs-clause-goes : goal.table-returns-in_err-pairs-clause-goes
 table-returns-in_err-pairs-clause-goes g t c = λ rows ps spell.
