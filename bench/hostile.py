@@ -190,13 +190,15 @@ COMMANDS = {
     "print": ["print", "IN"],
     "binary1": ["convert", "binary1", "IN", "/dev/null"],
     "openstep": ["convert", "openstep", "IN", "/dev/null"],
+    "same": ["same", "IN", "IN"],
 }
 
 ROWS = [
     ("check", shared_keys), ("check", overlapping_keys), ("check", unordered_keys), ("check", one_table_often),
     ("check", one_text_often), ("lint", shared_keys), ("lint", one_key), ("lint", overlapping_later),
-    *((word, make) for make in (reordered_16, reordered_256, lists_in_turn, three_in_turn) for word in ("lint", "binary1")),
-    *(("print", make) for make in (lists_in_turn, quotes, unseen_units)),
+    *((word, make) for make in (reordered_16, reordered_256, lists_in_turn, three_in_turn)
+      for word in ("lint", "check", "binary1", "openstep", "same")),
+    *((word, make) for make in (quotes, unseen_units) for word in ("print", "openstep")), ("print", lists_in_turn),
 ]
 
 
