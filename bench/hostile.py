@@ -190,7 +190,8 @@ COMMANDS = {
     "print": ["print", "IN"],
     "binary1": ["convert", "binary1", "IN", "/dev/null"],
     "openstep": ["convert", "openstep", "IN", "/dev/null"],
-    "same": ["same", "IN", "IN"],
+    # (the other file has an unused byte that differs, since equal files are compared alone)
+    "same": ["same", "IN", "OTHER"],
 }
 
 ROWS = [
@@ -209,11 +210,15 @@ def main():
     with tempfile.TemporaryDirectory() as folder:
         path, measure = os.path.join(folder, "file"), Measure(folder)
         for word, make in ROWS:
-            words = [path if part == "IN" else part for part in COMMANDS[word]]
+            other = path + " other"
+            words = [{"IN": path, "OTHER": other}.get(part, part) for part in COMMANDS[word]]
             into = subprocess.DEVNULL if word == "print" else subprocess.PIPE
             for size in (250_000, 500_000, 1_000_000):
+                made = make(size)
                 with open(path, "wb") as target:
-                    target.write(make(size))
+                    target.write(made)
+                with open(other, "wb") as target:
+                    target.write(made[:-32] + b"\x01" + made[-31:])
                 runs = [measure.run([program, *words], into=into) for _ in range(3)]
                 least = min(run.processor for run in runs)
                 octets = os.path.getsize(path)
