@@ -107,19 +107,12 @@ faulty_has_none octets (BadUtf8 at) s n = StopsAt-tokens s.1
 faulty_has_none octets (BadUtf16 at) s n = StopsAt-tokens s.1
 faulty_has_none octets (XmlForm at) s n = HasXml-none s
 faulty_has_none octets OutOfMemory s n = absurd (n refl)
-faulty_has_none octets (UnexpectedCharacter at) s n = HasFault-none s
-faulty_has_none octets (UnclosedString at) s n = HasFault-none s
-faulty_has_none octets (UnclosedComment at) s n = HasFault-none s
-faulty_has_none octets (BadEscape at) s n = HasFault-none s
-faulty_has_none octets (OctalRange at) s n = HasFault-none s
-faulty_has_none octets (OddData at) s n = HasFault-none s
-faulty_has_none octets (BadData at) s n = HasFault-none s
+faulty_has_none octets _ s n = HasFault-none s
 
 -- a fault that is found when tokens are read is true of the bytes
 escape-stands : {octets : List ℕ} {p : Places} {start : ℕ} {text : List ℕ} {f : LexFault} → EscapeFault p start text f → HasFault octets f → Stands octets f
 escape-stands Stands.cut_escape h = h
-escape-stands (Stands.no_digit d) h = h
-escape-stands (Stands.too_high d n) h = h
+escape-stands _ h = h
 
 quoted-stands : {octets : List ℕ} {p : Places} {start mark : ℕ} {text : List ℕ} {f : LexFault} → QuotedFault p start mark text f → HasFault octets f → Stands octets f
 quoted-stands Stands.cut_string h = h
@@ -133,10 +126,9 @@ data-stands (Stands.odd d e) h = h
 data-stands (Stands.piece e f) h = data-stands f h
 
 after-stands : {octets : List ℕ} {p : Places} {text : List ℕ} {f : LexFault} → FaultBehind p text f → HasFault octets f → Stands octets f
-after-stands (Stands.gap g (Stands.unexpected m o)) h = h
-after-stands (Stands.gap g (Stands.comment n)) h = h
 after-stands (Stands.gap g (Stands.quoted q f)) h = quoted-stands f h
 after-stands (Stands.gap g (Stands.data_token f)) h = data-stands f h
+after-stands _ h = h
 
 pub stands_in : {octets : List ℕ} {fault : LexFault} → HasFault octets fault → Stands octets fault
 stands_in h = after-stands h.stands h

@@ -49,9 +49,8 @@ never_none e = subst NeverCloses (sym e) Gap.text_end
 
 -- a step over a gap shortens the text
 pub line_shorter : {text end : List ℕ} → LineComment text end → length end ≤ length text
-line_shorter Gap.text_end = omega arith
-line_shorter (Gap.line_end t) = omega arith
 line_shorter (Gap.more t r) = let h = line_shorter r in omega (arith, h)
+line_shorter _ = omega arith
 
 pub block_shorter : {text end : List ℕ} → BlockComment text end → length end ≤ length text
 block_shorter Gap.close = omega arith

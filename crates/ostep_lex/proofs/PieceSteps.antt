@@ -31,9 +31,8 @@ use Rattle.ostep_lex.proofs.TextLemmas.{whole_utf8}
 use Rattle.ostep_lex.proofs.StretchLemmas.{AsciiFront}
 
 pub number_stop : (base count high : ℕ) (text : List ℕ) → begins_digit base text ≡ false → number_from base count high text ≡ record { value = high; after = text }
-number_stop base zero high text e = refl
-number_stop base (suc count) high [] e = refl
 number_stop base (suc count) high (c ∷ rest) e = rw e refl
+number_stop base _ high _ e = refl
 
 pub number_more : (base count high c : ℕ) (text rest : List ℕ) → text ≡ c ∷ rest → digit_value c < base
     → number_from base (suc count) high text ≡ number_from base count (high * base + digit_value c) rest
@@ -44,12 +43,8 @@ pow_base base zero h = rw (pow-zero base) (lit≤ tt)
 pow_base base (suc k) h = rw (pow-suc base k, pow-suc 16 k) (mul-le-mul (pow_base base k h) h)
 
 pow_16 : (k : ℕ) → k ≤ 4 → 16 ^ k ≤ 65536
-pow_16 zero h = lit≤ tt
-pow_16 (suc zero) h = lit≤ tt
-pow_16 (suc (suc zero)) h = lit≤ tt
-pow_16 (suc (suc (suc zero))) h = lit≤ tt
-pow_16 (suc (suc (suc (suc zero)))) h = lit≤ tt
 pow_16 (suc (suc (suc (suc (suc k))))) h = absurd (omega arith)
+pow_16 _ h = lit≤ tt
 
 pub pow_limit : (base k : ℕ) → base ≤ 16 → k ≤ 4 → base ^ k ≤ 65536
 pow_limit base k b h = omega (arith, pow_base base k b, pow_16 k h)
@@ -113,14 +108,13 @@ pub cut_fault : (p : Places) (start : ℕ) (text rest : List ℕ) → text ≡ b
 cut_fault p start text rest e r = rw (e, r) Stands.cut_escape
 
 number_shorter : (base count high : ℕ) (text : List ℕ) → length (number_from base count high text).after ≤ length text
-number_shorter base zero high text = omega arith
-number_shorter base (suc count) high [] = omega arith
 number_shorter base (suc count) high (c ∷ rest) = either (is_digit c base) (number_shorter base count (high * base + digit_value c) rest)
   where
     either : (b : Bool) → length (number_from base count (high * base + digit_value c) rest).after ≤ length rest
         → length (cond b (number_from base count (high * base + digit_value c) rest) (record { value = high; after = c ∷ rest })).after ≤ length (c ∷ rest)
     either true h = omega arith
     either false h = omega arith
+number_shorter base _ high _ = omega arith
 
 escape_shorter : {text units rest : List ℕ} → Escape text units rest → length rest ≤ length text
 escape_shorter (Quoted.octal {text = text} d l) = number_shorter 8 3 0 text

@@ -171,9 +171,8 @@ pub units_in-first : (order : ByteOrder) (octets after : List ℕ) (u : ℕ) →
 units_in-first order octets after u e = ap (units_in order) e ∙ units_in-unit order u after
 
 pub units_in-few : (order : ByteOrder) (octets : List ℕ) → length (units_in order octets) ≤ length octets / 2
-units_in-few order [] = omega arith
-units_in-few order (a ∷ []) = omega arith
 units_in-few order (a ∷ b ∷ rest) = omega (arith, units_in-few order rest)
+units_in-few order _ = omega arith
 
 pub whole_utf8 : (text : Bor (List ℕ)) → IsUtf8 text.now → IsWhole (Utf8 text)
 whole_utf8 text u = record { scalars = scalars-chars text.now u; spelled = octets_of-utf8 (chars text.now) ∙ encodes-chars text.now u }

@@ -50,9 +50,8 @@ or_left true b e = e
 or_left false b e = refl
 
 pub or_right : (a b : Bool) → (a || b) ≡ false → b ≡ false
-or_right true true e = e
 or_right true false e = refl
-or_right false b e = e
+or_right _ _ e = e
 
 pub of_data-white : (c : ℕ) → is_of_data c ≡ false → is_white c ≡ true → ⊥
 of_data-white c d w = cc (or_left (is_white c) (is_hexadecimal c) (or_left (is_white c || is_hexadecimal c) (c == greater_than) d))
@@ -245,8 +244,7 @@ Piece-fault (Stands.too_high d h) (Quoted.escape r) = too_high-escape d h r
 
 close-fault : (mark : ℕ) {p : Places} {start c : ℕ} {rest : List ℕ} {f : LexFault} → is_quote mark ≡ true → (c == mark) ≡ true → EscapeFault p start (c ∷ rest) f → ⊥
 close-fault mark q e Stands.cut_escape = quote-backslash mark q e
-close-fault mark q e (Stands.no_digit d) = quote-backslash mark q e
-close-fault mark q e (Stands.too_high d h) = quote-backslash mark q e
+close-fault mark q e _ = quote-backslash mark q e
 
 -- a faulty quoted string is no quoted string
 pub Quoted-fault : {p : Places} {start mark : ℕ} {text u a : List ℕ} {f : LexFault} → is_quote mark ≡ true → QuotedFault p start mark text f → Quoted mark text u a → ⊥

@@ -17,35 +17,14 @@ fed_units-word units i h =
 
 -- eight narrow units are one write
 pub fed_narrow-eight : (xs : List ℕ) → 8 ≤ length xs → fed_narrow xs ≡ take 8 xs ∷ fed_narrow (drop 8 xs)
-fed_narrow-eight [] h = absurd (omega arith)
-fed_narrow-eight (a ∷ []) h = absurd (omega arith)
-fed_narrow-eight (a ∷ b ∷ []) h = absurd (omega arith)
-fed_narrow-eight (a ∷ b ∷ c ∷ []) h = absurd (omega arith)
-fed_narrow-eight (a ∷ b ∷ c ∷ d ∷ []) h = absurd (omega arith)
-fed_narrow-eight (a ∷ b ∷ c ∷ d ∷ e ∷ []) h = absurd (omega arith)
-fed_narrow-eight (a ∷ b ∷ c ∷ d ∷ e ∷ f ∷ []) h = absurd (omega arith)
-fed_narrow-eight (a ∷ b ∷ c ∷ d ∷ e ∷ f ∷ g ∷ []) h = absurd (omega arith)
 fed_narrow-eight (a ∷ b ∷ c ∷ d ∷ e ∷ f ∷ g ∷ k ∷ rest) h = refl
+fed_narrow-eight _ h = absurd (omega arith)
 
 pub seven_and-eight : (xs : List ℕ) → 8 ≤ length xs → seven_and xs (slice_index xs 7) ≡ take 8 xs
-seven_and-eight [] h = absurd (omega arith)
-seven_and-eight (a ∷ []) h = absurd (omega arith)
-seven_and-eight (a ∷ b ∷ []) h = absurd (omega arith)
-seven_and-eight (a ∷ b ∷ c ∷ []) h = absurd (omega arith)
-seven_and-eight (a ∷ b ∷ c ∷ d ∷ []) h = absurd (omega arith)
-seven_and-eight (a ∷ b ∷ c ∷ d ∷ e ∷ []) h = absurd (omega arith)
-seven_and-eight (a ∷ b ∷ c ∷ d ∷ e ∷ f ∷ []) h = absurd (omega arith)
-seven_and-eight (a ∷ b ∷ c ∷ d ∷ e ∷ f ∷ g ∷ []) h = absurd (omega arith)
 seven_and-eight (a ∷ b ∷ c ∷ d ∷ e ∷ f ∷ g ∷ k ∷ rest) h = refl
+seven_and-eight _ h = absurd (omega arith)
 
 -- fewer than eight narrow units are the last write
 pub fed_narrow-last : (xs : List ℕ) → length xs < 8 → fed_narrow xs ≡ seven_and xs (128 + length xs) ∷ []
-fed_narrow-last [] h = refl
-fed_narrow-last (a ∷ []) h = refl
-fed_narrow-last (a ∷ b ∷ []) h = refl
-fed_narrow-last (a ∷ b ∷ c ∷ []) h = refl
-fed_narrow-last (a ∷ b ∷ c ∷ d ∷ []) h = refl
-fed_narrow-last (a ∷ b ∷ c ∷ d ∷ e ∷ []) h = refl
-fed_narrow-last (a ∷ b ∷ c ∷ d ∷ e ∷ f ∷ []) h = refl
-fed_narrow-last (a ∷ b ∷ c ∷ d ∷ e ∷ f ∷ g ∷ []) h = refl
 fed_narrow-last (a ∷ b ∷ c ∷ d ∷ e ∷ f ∷ g ∷ k ∷ rest) h = absurd (omega arith)
+fed_narrow-last _ h = refl

@@ -3,14 +3,13 @@ use Rattle.std.proofs.Common.{◌≡◌, ℕ, ◌+◌, ◌≤◌, List, [], ◌�
 use Rattle.std.specs.Prelude.{map}
 use Rattle.std.proofs.lemmas.List.{map-append}
 use Rattle.plist_value.specs.declared.value.Value.{Value}
-use Rattle.plist_value.specs.Plist.{Plist, scalar, list, table, Items, no_items, item, IsPlist, AreItems}
+use Rattle.plist_value.specs.Plist.{Plist, scalar, Items, no_items, item, IsPlist, AreItems}
 use Rattle.plist_value.specs.Limits.{nodes, depth, payload, nodes_of_items, depth_of_items, payload_of_items}
 use Rattle.plist_value.specs.View.{view, view_items, items_of}
 
 pub some_depth : (v : Plist) → 1 ≤ depth v
 some_depth (scalar s) = omega arith
-some_depth (list vs) = omega arith
-some_depth (table ps) = omega arith
+some_depth _ = omega arith
 
 abbrev pub push : Items → Plist → Items
 push no_items v = item v no_items

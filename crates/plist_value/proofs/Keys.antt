@@ -1,5 +1,5 @@
 -- Ascending keys, in a map and in the entries of a dictionary.
-use Rattle.std.proofs.Common.{◌≡◌, ℕ, List, [], ◌∷◌, Less, Equal, Greater, false}
+use Rattle.std.proofs.Common.{◌≡◌, ℕ, List, [], ◌∷◌, Less, Greater, false}
 use Rattle.std.specs.declared.cmp.Ordering.{Ordering}
 use Rattle.std.specs.Ordering.{is_eq, is_lt, nat_cmp, ordering_reverse}
 use Rattle.std.proofs.lemmas.Cmp.{nat_list_cmp_total}
@@ -23,6 +23,5 @@ below_next low key (pair next v ps) below others = nat_list_cmp_total.trans low 
 
 -- if the second is neither below nor equal to the first, the first is below the second
 pub turned : (o p : Ordering) → o ≡ ordering_reverse p → is_lt p ≡ false → is_eq o ≡ false → o ≡ Less
-turned o Less is order apart = absurd cc
-turned o Equal is order apart = absurd cc
 turned o Greater is order apart = is
+turned o _ is order apart = absurd cc

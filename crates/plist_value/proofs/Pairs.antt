@@ -1,5 +1,5 @@
 -- Inserting an entry into a dictionary, and comparing two dictionaries.
-use Rattle.std.proofs.Common.{◌≡◌, ℕ, List, [], ◌∷◌, ◌++◌, length, Ordering, Less, Equal, Greater, nat_cmp, refl, ap, suc, ◌∙◌}
+use Rattle.std.proofs.Common.{◌≡◌, ℕ, List, [], ◌∷◌, ◌++◌, length, Ordering, Less, Greater, nat_cmp, refl, ap, suc, ◌∙◌}
 use Rattle.std.proofs.lemmas.Cmp.{nat_list_cmp_total}
 use Rattle.std.specs.BTreeMap.{insert_entry}
 use Rattle.std.specs.Cmp.Lexicographic.{slice_cmp}
@@ -21,8 +21,7 @@ put_pair key v (pair next w ps) = match_ordering (slice_cmp nat_cmp key next) (p
 
 view_pairs-match_ordering : (o : Ordering) (a b c : List Entry) → view_pairs (match_ordering o a b c) ≡ match_ordering o (view_pairs a) (view_pairs b) (view_pairs c)
 view_pairs-match_ordering Less a b c = refl
-view_pairs-match_ordering Equal a b c = refl
-view_pairs-match_ordering Greater a b c = refl
+view_pairs-match_ordering _ a b c = refl
 
 pub view_pairs-insert_entry : (es : List Entry) (key : List ℕ) (v : Value) → view_pairs (insert_entry (slice_cmp nat_cmp) es key v) ≡ put_pair key (view v) (view_pairs es)
 view_pairs-insert_entry [] key v = refl
@@ -43,6 +42,5 @@ put_last (first ∷ done) e more h =
 
 pub view_items-long : (xs ys : List Value) → view_items xs ≡ view_items ys → length xs ≡ length ys
 view_items-long [] [] e = refl
-view_items-long [] (y ∷ ys) e = cc
-view_items-long (x ∷ xs) [] e = cc
 view_items-long (x ∷ xs) (y ∷ ys) e = let rest : view_items xs ≡ view_items ys = cc in ap suc (view_items-long xs ys rest)
+view_items-long _ _ e = cc
