@@ -21,9 +21,6 @@ pub split_head : (first octets : List ℕ) → Begins first octets → octets �
 split_head first octets begins =
     sym (take-append-drop (length first) octets) ∙ ap (λ (xs : List ℕ). xs ++ drop (length first) octets) begins
 
-Begins-append : (first rest : List ℕ) → Begins first (first ++ rest)
-Begins-append first rest = take_at first rest (length first) refl
-
 -- a decoder that succeeded after a cut of n bytes continued with those bytes and the rest
 pub record WasCut {B : Type 0} (n : ℕ) (octets : List ℕ) (next : List ℕ × List ℕ → Result B ObjectFault) (y : B) : Type 0 where
   pub enough : n ≤ length octets

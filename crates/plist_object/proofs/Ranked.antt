@@ -120,8 +120,7 @@ not_above o Greater is order apart = absurd (apart is)
 
 first_order : (o p : Ordering) → is_lt (ordering_then o p) ≡ false → is_lt o ≡ false
 first_order Less p order = order
-first_order Equal p order = refl
-first_order Greater p order = refl
+first_order _ p order = refl
 
 -- sorted strings are equal if the first is not below the second
 pub equal_texts : (last next : List ℕ) (rest : Ordering) → is_lt (ordering_then (slice_cmp nat_cmp next last) rest) ≡ false → (slice_cmp nat_cmp last next ≡ Less → ⊥) → last ≡ next
@@ -130,8 +129,7 @@ equal_texts last next rest order apart =
 
 pub less_from_lt : (o : Ordering) → is_lt o ≡ true → o ≡ Less
 less_from_lt Less is = refl
-less_from_lt Equal is = absurd (true≢false (sym is))
-less_from_lt Greater is = absurd (true≢false (sym is))
+less_from_lt _ is = absurd (true≢false (sym is))
 
 pub not_below : (keys : List Key) (i : ℕ) (before : TextRef) (d : Key) → IsSorted in_order keys → i < length keys → ((e : Key) → before ≡ (get_or keys (i - 1) e).text) → (slice_cmp nat_cmp (units_of before) (units_of (get_or keys i d).text) ≡ Less → ⊥) → units_of before ≡ units_of (get_or keys i d).text
 not_below keys zero before d sorted within at apart = ap units_of (at d)

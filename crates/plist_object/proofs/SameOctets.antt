@@ -15,10 +15,6 @@ use Rattle.plist_object.proofs.ReadBack.{big_number-big_bytes}
 -- equally many bytes that encode the same number are equal
 same_octets : (w : ℕ) (xs ys : List ℕ) → length xs ≡ w → length ys ≡ w → AreOctets xs → AreOctets ys → big_number w xs ≡ big_number w ys → xs ≡ ys
 same_octets zero [] [] long_xs long_ys octets_xs octets_ys same = refl
-same_octets zero [] (y ∷ ys) long_xs long_ys octets_xs octets_ys same = absurd (omega arith)
-same_octets zero (x ∷ xs) ys long_xs long_ys octets_xs octets_ys same = absurd (omega arith)
-same_octets (suc w) [] ys long_xs long_ys octets_xs octets_ys same = absurd (omega arith)
-same_octets (suc w) (x ∷ xs) [] long_xs long_ys octets_xs octets_ys same = absurd (omega arith)
 same_octets (suc w) (x ∷ xs) (y ∷ ys) long_xs long_ys octets_xs octets_ys same =
     let rest_xs : big_from 1 w (x ∷ xs) ≡ big_from 0 w xs = big_from-cons 0 w x xs in
     let rest_ys : big_from 1 w (y ∷ ys) ≡ big_from 0 w ys = big_from-cons 0 w y ys in
@@ -29,6 +25,7 @@ same_octets (suc w) (x ∷ xs) (y ∷ ys) long_xs long_ys octets_xs octets_ys sa
     let others : big_from 0 w xs ≡ big_from 0 w ys = sym (digits_mod x under_xs) ∙ ap (λ (n : ℕ). n % 256 ^ w) both ∙ digits_mod y under_ys in
     let tails = same_octets w xs ys (omega arith) (omega arith) (λ i. octets_xs (suc i)) (λ i. octets_ys (suc i)) others in
     rw (first, tails) refl
+same_octets _ _ _ long_xs long_ys octets_xs octets_ys same = absurd (omega arith)
 
 AreOctets-big_bytes : (w n : ℕ) → AreOctets (big_bytes w n)
 AreOctets-big_bytes zero n i = omega arith
@@ -37,10 +34,9 @@ AreOctets-big_bytes (suc (suc w)) n zero = mod-lt (n / 256 ^ suc w) (omega arith
 AreOctets-big_bytes (suc w) n (suc i) = AreOctets-big_bytes w n i
 
 pub AreOctets-take : (n : ℕ) (xs : List ℕ) → AreOctets xs → AreOctets (take n xs)
-AreOctets-take zero xs octets i = omega arith
-AreOctets-take (suc n) [] octets i = omega arith
 AreOctets-take (suc n) (x ∷ xs) octets zero = octets zero
 AreOctets-take (suc n) (x ∷ xs) octets (suc i) = AreOctets-take n xs (λ j. octets (suc j)) i
+AreOctets-take _ _ octets i = omega arith
 
 pub AreOctets-drop : (n : ℕ) (xs : List ℕ) → AreOctets xs → AreOctets (drop n xs)
 AreOctets-drop n xs octets i = rw (get_or-drop n xs i 0) (octets (n + i))
@@ -64,8 +60,6 @@ references-numbers w (suc n) xs octets long =
 -- encoding decoded units gives their bytes
 pub references-wide_units : (n : ℕ) (xs : List ℕ) → AreOctets xs → length xs ≡ n * 2 → references 2 (wide_units xs) ≡ xs
 references-wide_units n [] octets long = refl
-references-wide_units n (x ∷ []) octets long = absurd (omega arith)
-references-wide_units zero (x ∷ y ∷ rest) octets long = absurd (omega arith)
 references-wide_units (suc n) (x ∷ y ∷ rest) octets long =
     let under_x : x < 256 = octets 0 in
     let under_y : y < 256 = octets 1 in
@@ -73,3 +67,4 @@ references-wide_units (suc n) (x ∷ y ∷ rest) octets long =
     let low : (256 * x + y) % 256 ≡ y = omega arith in
     let others = references-wide_units n rest (λ i. octets (suc (suc i))) (omega arith) in
     rw (high, low, others) refl
+references-wide_units _ _ octets long = absurd (omega arith)

@@ -2,7 +2,6 @@
 //! canonical encoding, and the order of dictionary keys.
 #![tactic(auto)]
 
-mod digits;
 mod in_order;
 pub mod keys;
 pub mod laws;
@@ -17,8 +16,9 @@ pub mod ranks;
 mod reached;
 mod reading;
 pub mod refs;
+mod reserved;
 pub mod shortest;
-mod texts;
+mod units;
 
 pub use keys::Keys;
 pub use layout::{BinFile, LayoutFault, Spanned};

@@ -12,13 +12,13 @@ ghost use Rattle.plist_object.specs.Spelling.{head, least_integer, list_spelling
 ghost use Rattle.plist_object.specs.Spelling.{references, table_spelling, scalar_spelling};
 ghost use Rattle.plist_object.specs.Spelling.{text_spelling, whole_spelling};
 
-use crate::digits::{push_four, push_number, push_octet, push_octets};
 use crate::lengths::{head_length, list_length, table_length, width_of};
 use crate::markers::{
     ASCII, DATA, FALSE, LIST, MOMENT_8, REAL_4, REAL_8, TABLE, TRUE, WHOLE_1, WHOLE_2, WHOLE_4,
     WHOLE_8, WHOLE_16, WIDE,
 };
-use crate::texts::{push_ascii, push_wide};
+use crate::reserved::{push_number, push_octet, push_octets};
+use crate::units::{push_ascii, push_wide};
 use plist_value::{ScalarRef, TextRef};
 use std::alloc::AllocError;
 
@@ -262,22 +262,8 @@ fn push_short_references(out: &mut Vec<u8>, width: u8, refs: &[u32])
     requires room { HasRoom out.old (length (references width refs.now)) }
     ensures { Appends out.old out.new (references width refs.now) }
 {
-    if width == 4 {
-        push_fours(out, refs);
-        return;
-    }
     for reference in refs {
         push_number(out, u64::from(*reference), width);
-    }
-}
-
-// Has a loop of its own because most large files use references of 4 bytes.
-fn push_fours(out: &mut Vec<u8>, refs: &[u32])
-    requires { HasRoom out.old (length (references 4 refs.now)) }
-    ensures { Appends out.old out.new (references 4 refs.now) }
-{
-    for reference in refs {
-        push_four(out, *reference);
     }
 }
 

@@ -1,7 +1,5 @@
-use Rattle.std.proofs.Common.{◌≡◌, List, rules, subst, sym}
-use Rattle.std.specs.List.Sorted.{IsPermutation}
+use Rattle.std.proofs.Common.{rules}
 use Rattle.std.proofs.lemmas.List.Sorted.{IsPermutation-trans, answers_always}
-use Rattle.plist_object.specs.declared.order.Row.{Row}
 use Rattle.plist_object.proofs.order.sort_rows.Goals.{then-len-gt-FEW_KEYS+else-numbers_ascend, else-len-gt-FEW_KEYS}
 use Rattle.plist_object.proofs.order.sort_rows.Goals as goal
 

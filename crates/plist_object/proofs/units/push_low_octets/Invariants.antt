@@ -1,7 +1,7 @@
 use Rattle.std.proofs.Common.{◌≡◌, ◌+◌, ◌≤◌, ◌++◌, drop, length, true, nat_lt, vec_len, vec_capacity}
 use Rattle.std.specs.List.{list_all}
 use Rattle.plist_value.specs.Texts.{units_of}
-use Rattle.plist_object.proofs.texts.push_each_low_octet.Given as goal
+use Rattle.plist_object.proofs.units.push_low_octets.Given as goal
 
 abbrev pub invariant-loop-i : goal.invariant-loop-i
 invariant-loop-i l =

@@ -1,6 +1,6 @@
 use Rattle.std.proofs.Common.{◌≡◌, ◌/◌, ◌*◌, length, sym, arith}
 use Rattle.plist_object.proofs.SameOctets.{references-wide_units}
-use Rattle.plist_object.proofs.texts.pairs.Goals as goal
+use Rattle.plist_object.proofs.units.pairs.Goals as goal
 
 pub returns-then-octets-eq0 : goal.returns-then-octets-eq0
 returns-then-octets-eq0 c =

@@ -27,26 +27,10 @@ pub(crate) fn push_number(out: &mut Vec<u8>, n: u64, width: u8)
     requires room { HasRoom out.old width }
     ensures { Appends out.old out.new (big_bytes width n) }
 {
-    if width == 4 {
-        push_four(out, n as u32);
-    } else {
-        push_uncommon_number(out, n, width);
-    }
-}
-
-// Like `push_number`, for the other widths. It is a separate function because inlining the choice
-// among all widths in each caller is slower.
-#[inline(never)]
-fn push_uncommon_number(out: &mut Vec<u8>, n: u64, width: u8)
-    requires width_least { 1 ≤ width }
-    requires width_most { width ≤ 8 }
-    requires fits { n < 256 ^ width }
-    requires room { HasRoom out.old width }
-    ensures { Appends out.old out.new (big_bytes width n) }
-{
     match width {
         1 => push_octet(out, n as u8),
         2 => push_two(out, n as u16),
+        4 => push_four(out, n as u32),
         _ => push_digits(out, n, usize::from(width)),
     }
 }
@@ -60,7 +44,7 @@ pub(crate) fn push_two(out: &mut Vec<u8>, n: u16)
     push_octets(out, &digits);
 }
 
-pub(crate) fn push_four(out: &mut Vec<u8>, n: u32)
+fn push_four(out: &mut Vec<u8>, n: u32)
     requires { HasRoom out.old 4 }
     ensures { Appends out.old out.new (big_bytes 4 n) }
 {
