@@ -1,27 +1,25 @@
 -- Pairs that move into a map, the highest key first; strings that ascend, and strings no two of
 -- which are equal.
-use Rattle.std.proofs.Common.{◌≡◌, ℕ, zero, ◌==◌, ◌<◌, List, [], ◌∷◌, ◌++◌, length, get_or, set, map, false, refl, sym, ap, ◌∙◌, subst, append_assoc, arith, ◌+◌, ◌-◌, ◌≤◌, true, ⊎_elim}
-use Rattle.std.specs.Prelude.{Bool, IsTrue, ◌↔◌}
+use Rattle.std.proofs.Common.{◌≡◌, ℕ, zero, ◌==◌, ◌<◌, List, [], ◌∷◌, ◌++◌, length, get_or, set, map, false, refl, sym, ap, ◌∙◌, subst, append_assoc, arith}
 use Rattle.std.specs.declared.cmp.Ordering.{Ordering}
 use Rattle.std.specs.declared.cmp.Ordering.TheVariants.{Less}
-use Rattle.std.specs.Ordering.{eq_by_cmp, nat_cmp, match_ordering, is_lt, on}
+use Rattle.std.specs.Ordering.{nat_cmp, match_ordering}
 use Rattle.std.specs.BTreeMap.{insert_entry}
 use Rattle.std.specs.Cmp.Lexicographic.{slice_cmp}
 use Rattle.std.specs.List.{All, AllByRecursion, IsDistinct, zip}
-use Rattle.std.specs.List.Sorted.{IsStrictlySortedBy, IsPermutation, IsSorted}
+use Rattle.std.specs.List.Sorted.{IsStrictlySortedBy}
 use Rattle.std.specs.Map.{keys_of}
-use Rattle.std.proofs.lemmas.Cmp.{nat_eq_equiv, nat_list_cmp_total, eq_by_cmp_equiv}
-use Rattle.std.proofs.lemmas.Bool.{eqb-false, cases_lt}
-use Rattle.std.proofs.lemmas.List.{map-append, get_or_default, get_or-set_other, get_or-map, length-map}
+use Rattle.std.proofs.lemmas.Cmp.{nat_eq_equiv}
+use Rattle.std.proofs.lemmas.Bool.{eqb-false}
+use Rattle.std.proofs.lemmas.List.{map-append, get_or_default, get_or-set_other}
 use Rattle.std.proofs.lemmas.List.Elements.{All-tail}
 use Rattle.std.proofs.lemmas.List.Sorted.{IsPermutation-map, IsPermutation-to_front, All-permutation}
-use Rattle.std.proofs.lemmas.Map.Keys.{sorted_head, sorted_tail, IsDistinct-head, IsDistinct-tail, IsDistinct-IsPermutation, Less-from_sorted, sorted_from_all_adjacent, IsDistinct-from_sorted, apart_from_distinct}
+use Rattle.std.proofs.lemmas.Map.Keys.{sorted_head, sorted_tail, IsDistinct-head, IsDistinct-tail, IsDistinct-IsPermutation}
 pub use Rattle.plist_object.proofs.Ascents.{AscendTo, ascend_next, ascend_more, not_ascending, sorted_from_ascent, same_key, ascent_from_distinct, distinct_from_ascent, distinct_moved}
 use Rattle.plist_value.specs.declared.value.Value.{Value}
 use Rattle.plist_value.specs.declared.value.Value.TheVariants.{Flag}
 use Rattle.plist_binary.specs.declared.dictionary.Key.{Key}
 use Rattle.plist_binary.specs.Keys.{units_at, place_of, pair_at}
-use Rattle.plist_value.proofs.Keys.{turned}
 
 pub zip-firsts : {A B : Type 0} (xs : List A) (ys : List B) → length xs ≡ length ys → map (λ (p : A × B). p.0) (zip xs ys) ≡ xs
 zip-firsts [] ys long = refl
@@ -30,9 +28,8 @@ zip-firsts (x ∷ xs) (y ∷ ys) long = ap (λ l. x ∷ l) (zip-firsts xs ys (om
 
 pub zip-seconds : {A B : Type 0} (xs : List A) (ys : List B) → length xs ≡ length ys → map (λ (p : A × B). p.1) (zip xs ys) ≡ ys
 zip-seconds [] [] long = refl
-zip-seconds [] (y ∷ ys) long = absurd (omega arith)
-zip-seconds (x ∷ xs) [] long = absurd (omega arith)
 zip-seconds (x ∷ xs) (y ∷ ys) long = ap (λ l. y ∷ l) (zip-seconds xs ys (omega arith))
+zip-seconds _ _ long = absurd (omega arith)
 
 -- inserting a key below all that the map has
 insert_first : {X : Type 0} (k : List ℕ) (v : X) (es : List (List ℕ × X)) → AllByRecursion (λ q. slice_cmp nat_cmp k q ≡ Less) (keys_of es) → insert_entry (slice_cmp nat_cmp) es k v ≡ (k, v) ∷ es

@@ -247,13 +247,11 @@ descends f j i (table ps) valid spells refers most few =
 
 pub some_node : (v : Plist) → 1 ≤ nodes v
 some_node (scalar s) = omega arith
-some_node (list vs) = omega arith
-some_node (table ps) = omega arith
+some_node _ = omega arith
 
 pub some_level : (v : Plist) → 1 ≤ depth v
 some_level (scalar s) = omega arith
-some_level (list vs) = omega arith
-some_level (table ps) = omega arith
+some_level _ = omega arith
 
 -- an object on the path to i encodes more than i does
 path_descends : (f containers : List ℕ) (i j : ℕ) (v : Plist) → IsPlist v → Spells f j v → Leads f containers i → Among j containers → (most : ℕ) → nodes v ≤ suc most → SpellsBelow f i most
@@ -331,13 +329,7 @@ faulty_spells_none f i e v fails spells =
 
 stands-of_object : (f : List ℕ) (i nodes payload : ℕ) (e : ObjectFault) → IsFaulty f i e → StandsWithin f nodes payload (of_object i e)
 stands-of_object f i nodes payload object.BadOffset faulty = faulty
-stands-of_object f i nodes payload object.CutObject faulty = faulty
-stands-of_object f i nodes payload object.BadMarker faulty = faulty
-stands-of_object f i nodes payload object.NullObject faulty = faulty
-stands-of_object f i nodes payload object.UidObject faulty = faulty
-stands-of_object f i nodes payload object.SetObject faulty = faulty
-stands-of_object f i nodes payload object.NotAscii faulty = faulty
-stands-of_object f i nodes payload object.WideInteger faulty = faulty
+stands-of_object f i nodes payload _ faulty = faulty
 
 pub Refuses-object : (f before : List ℕ) (i levels : ℕ) (left : Budget) (e : ObjectFault) → IsLaid f → i < (trailer_of f).count → Leads f before i → what_holds f i ≡ Err e → Refuses f i levels left (of_object i e)
 Refuses-object f before i levels left e laid listed leads fails =

@@ -20,7 +20,7 @@ use Rattle.std.proofs.Math.Dec.{eqb}
 use Rattle.std.proofs.lemmas.Bool.Decides.{eqb_tells}
 use Rattle.plist_object.proofs.Ascending.{Among, Contains-among, Among-contains}
 use Rattle.plist_binary.specs.declared.memos.State.{State}
-use Rattle.plist_binary.specs.declared.memos.State.TheVariants.{Unseen, Open, Passed, Key}
+use Rattle.plist_binary.specs.declared.memos.State.TheVariants.{Unseen, Open}
 use Rattle.plist_binary.specs.Memos.{IsState, state_of, AreStates, AreStatesBut, IsMarked}
 use Rattle.plist_value.specs.declared.TheConstants.{MAX_DEPTH}
 
@@ -139,8 +139,7 @@ Refuses-table f keys values i levels below before left fault levels_is listed re
 wider : (f path : List ℕ) (j i : ℕ) (state : State) → IsState f path i state → IsState f (j ∷ path) i state
 wider f path j i Unseen is = tt
 wider f path j i Open is = Contains-among i (j ∷ path) (inr (Among-contains i path is))
-wider f path j i (Passed deep n size) is = is
-wider f path j i (Key size) is = is
+wider f path j i _ is = is
 
 -- another container on the path is one before the last
 earlier : (i j : ℕ) (path : List ℕ) → i ≢ j → Contains (j ∷ path) i → Contains path i
@@ -154,8 +153,7 @@ earlier i j path apart among =
 narrower : (f path : List ℕ) (j i : ℕ) (state : State) → i ≢ j → IsState f (j ∷ path) i state → IsState f path i state
 narrower f path j i Unseen apart is = tt
 narrower f path j i Open apart is = earlier i j path apart is
-narrower f path j i (Passed deep n size) apart is = is
-narrower f path j i (Key size) apart is = is
+narrower f path j i _ apart is = is
 
 -- the object itself, or another one
 marked : (P : ℕ → State → Type 0) (before after : List State) (j : ℕ) (state : State) (i : ℕ) → IsMarked before j state after → P j state → (i ≢ j → P i (state_of before i)) → P i (state_of after i)

@@ -93,8 +93,6 @@ length-listed f [] (pair key v ps) spell = absurd spell
 length-listed f (r ∷ rows) (pair key v ps) spell = omega (arith, length-listed f rows ps spell.2)
 
 pub AreRows-listed : (f : List ℕ) (levels : ℕ) (rows : List (ℕ × ℕ)) (ps : Pairs) → SpellPairs f rows ps → ArePairs ps → depth_of_pairs ps ≤ levels → AreRows f levels (zip rows (listed ps))
-AreRows-listed f levels [] ps spell valid deep = tt
-AreRows-listed f levels (r ∷ rows) no_pairs spell valid deep = tt
 AreRows-listed f levels (r ∷ rows) (pair key v ps) spell valid deep = (
   record {
     key = spell.0;
@@ -106,6 +104,7 @@ AreRows-listed f levels (r ∷ rows) (pair key v ps) spell valid deep = (
   },
   AreRows-listed f levels rows ps spell.2 valid.3 (omega arith),
 )
+AreRows-listed f levels _ _ spell valid deep = tt
 
 pub nodes-listed : (ps : Pairs) → nodes_of_pairs ps ≡ sum_by nodes_of_pair (listed ps)
 nodes-listed no_pairs = refl

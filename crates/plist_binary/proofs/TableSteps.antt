@@ -2,7 +2,7 @@
 use Rattle.std.proofs.Common.{◌≡◌, ℕ, zero, suc, ◌+◌, ◌<◌, ◌≤◌, max, List, [], ◌∷◌, length, get_or, slice_index, map, true, false, refl, sym, ap, ◌∙◌, subst, ⊎_elim, inl, inr, arith}
 use Rattle.std.specs.Prelude.{◌⊎◌}
 use Rattle.std.specs.declared.cmp.Ordering.{Ordering}
-use Rattle.std.specs.declared.cmp.Ordering.TheVariants.{Less, Equal, Greater}
+use Rattle.std.specs.declared.cmp.Ordering.TheVariants.{Equal}
 use Rattle.std.specs.Ordering.{is_eq, nat_cmp}
 use Rattle.std.specs.Cmp.Lexicographic.{slice_cmp}
 use Rattle.std.specs.List.{AllByRecursion, IsDistinct, zip}
@@ -108,9 +108,8 @@ record Twice (us : List (List ℕ)) : Type 0 where
   same : get_or us first [] ≡ get_or us second []
 
 tied : (o : Ordering) → is_eq o ≡ true → o ≡ Equal
-tied Less is = absurd (cc)
 tied Equal is = refl
-tied Greater is = absurd (cc)
+tied _ is = absurd (cc)
 
 occurs : (u : List ℕ) (us : List (List ℕ)) → AllByRecursion (λ w. same_key u w ≡ false) us ⊎ ((k : ℕ) × ((k < length us) × (get_or us k [] ≡ u)))
 occurs u [] = inl tt
@@ -173,13 +172,12 @@ key_held f (i ∷ keys) (u ∷ us) (suc k) within spell = key_held f keys us k (
 
 texts_same : (us ws : List (List ℕ)) → texts us ≡ texts ws → us ≡ ws
 texts_same [] [] same = refl
-texts_same [] (w ∷ ws) same = absurd (cc)
-texts_same (u ∷ us) [] same = absurd (cc)
 texts_same (u ∷ us) (w ∷ ws) same =
     let rest : texts us ≡ texts ws = cc in
     let others = texts_same us ws rest in
     let first : u ≡ w = cc in
     cc
+texts_same _ _ same = absurd (cc)
 
 pub RefusesPairs-twice : (f containers keys values : List ℕ) (table levels : ℕ) (before left : Budget) (us : List (List ℕ)) → IsLaid f → Leads f containers table → Holds f table (holds_table keys values) → length keys ≡ length values → ReadsItems f keys levels before (texts us) left → (IsDistinct same_key us → ⊥) → RefusesPairs f keys values levels before (DuplicateKey table)
 RefusesPairs-twice f containers keys values table levels before left us laid leads holds long read not_distinct =
@@ -258,9 +256,8 @@ ReadsPairs-sorted f keys values levels before left after us vs ps long read_keys
     }
 
 zip-view : (us : List (List ℕ)) (vs : List Value) → map (λ (p : List ℕ × Value). (p.0, view p.1)) (zip us vs) ≡ zip us (map view vs)
-zip-view [] vs = refl
-zip-view (u ∷ us) [] = refl
 zip-view (u ∷ us) (v ∷ vs) = ap (λ l. (u, view v) ∷ l) (zip-view us vs)
+zip-view _ _ = refl
 
 keys-view : (es : List (List ℕ × Value)) → keys_of (map (λ (p : List ℕ × Value). (p.0, view p.1)) es) ≡ keys_of es
 keys-view [] = refl

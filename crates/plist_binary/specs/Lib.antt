@@ -12,5 +12,6 @@ pub mod Readings
 pub mod Memos
 pub mod Passing
 pub mod Recalls
+pub mod Walkers
 pub mod Progress
 pub mod Building

@@ -2,7 +2,7 @@
 ghost use Rattle.std.specs.Prelude.{◌≡◌, ◌+◌, ◌<◌, ◌∷◌, ℕ, List, length, max, IfOk, IfErr, OnOk};
 ghost use Rattle.std.specs.List.{Contains};
 ghost use Rattle.plist_object.specs.Layout.{trailer_of};
-ghost use Rattle.plist_object.specs.Views.{numbers_of, octets_of};
+ghost use Rattle.plist_object.specs.Views.{numbers_of};
 ghost use Rattle.plist_binary.specs.Begins.{AreNext, IsBegun, IsEntered};
 ghost use Rattle.plist_binary.specs.Progress.{IsProgress, IsProgressBut};
 ghost use Rattle.plist_binary.specs.Budgets.{limits};
@@ -30,12 +30,13 @@ pub(crate) struct Walker<'a> {
 }
 
 impl<'a> Walker<'a> {
+    ghost use Rattle.plist_binary.specs.Walkers.{walked};
+
     // Validates the top object within the limits.
     pub(crate) fn top(&self) -> Result<(), BinaryFault>
-        ensures passed { OnOk result (PassesTop (octets_of self.now.visitor.file)) }
-        ensures refused { IfErr result (Refuses (octets_of self.now.visitor.file)
-            (trailer_of (octets_of self.now.visitor.file)).top MAX_DEPTH
-            limits) }
+        ensures passed { OnOk result (PassesTop (walked self.now)) }
+        ensures refused { IfErr result (Refuses (walked self.now) (trailer_of (walked self.now)).top
+            MAX_DEPTH limits) }
     {
         let mut progress = Progress::none(self.alloc, &self.visitor.file);
         let top = self.visitor.file.top();
@@ -54,18 +55,16 @@ impl<'a> Walker<'a> {
         object: u64,
         levels: u64,
     ) -> Result<u64, BinaryFault>
-        requires listed { object < (trailer_of (octets_of self.now.visitor.file)).count }
-        requires begun { IsBegun (octets_of self.now.visitor.file) (containers_of path.now) object
+        requires listed { object < (trailer_of (walked self.now)).count }
+        requires begun { IsBegun (walked self.now) (containers_of path.now) object
             progress.old.left }
         requires depth { length (containers_of path.now) + levels ≡ MAX_DEPTH }
-        requires progress { IsProgress (octets_of self.now.visitor.file) (containers_of path.now)
-            progress.old }
-        ensures passed { IfOk result (λ deep. Passes (octets_of self.now.visitor.file) object levels
+        requires progress { IsProgress (walked self.now) (containers_of path.now) progress.old }
+        ensures passed { IfOk result (λ deep. Passes (walked self.now) object levels
             progress.old.left deep progress.new.left) }
-        ensures refused { IfErr result (Refuses (octets_of self.now.visitor.file)
-            object levels progress.old.left) }
-        ensures progress { OnOk result (IsProgress (octets_of self.now.visitor.file)
-            (containers_of path.now) progress.new) }
+        ensures refused { IfErr result (Refuses (walked self.now) object levels progress.old.left) }
+        ensures progress { OnOk result (IsProgress (walked self.now) (containers_of path.now)
+            progress.new) }
     {
         if let Some((deep, rest)) = progress.recall(object, levels) {
             progress.left = rest;
@@ -84,18 +83,16 @@ impl<'a> Walker<'a> {
         object: u64,
         levels: u64,
     ) -> Result<u64, BinaryFault>
-        requires listed { object < (trailer_of (octets_of self.now.visitor.file)).count }
-        requires begun { IsBegun (octets_of self.now.visitor.file) (containers_of path.now) object
+        requires listed { object < (trailer_of (walked self.now)).count }
+        requires begun { IsBegun (walked self.now) (containers_of path.now) object
             progress.old.left }
         requires depth { length (containers_of path.now) + levels ≡ MAX_DEPTH }
-        requires progress { IsProgress (octets_of self.now.visitor.file) (containers_of path.now)
-            progress.old }
-        ensures passed { IfOk result (λ deep. Passes (octets_of self.now.visitor.file) object levels
+        requires progress { IsProgress (walked self.now) (containers_of path.now) progress.old }
+        ensures passed { IfOk result (λ deep. Passes (walked self.now) object levels
             progress.old.left deep progress.new.left) }
-        ensures refused { IfErr result (Refuses (octets_of self.now.visitor.file)
-            object levels progress.old.left) }
-        ensures progress { OnOk result (IsProgress (octets_of self.now.visitor.file)
-            (containers_of path.now) progress.new) }
+        ensures refused { IfErr result (Refuses (walked self.now) object levels progress.old.left) }
+        ensures progress { OnOk result (IsProgress (walked self.now) (containers_of path.now)
+            progress.new) }
     {
         let before = progress.left;
         let deep = self.content(progress, path, object, levels)?;
@@ -115,19 +112,17 @@ impl<'a> Walker<'a> {
         object: u64,
         levels: u64,
     ) -> Result<u64, BinaryFault>
-        requires listed { object < (trailer_of (octets_of self.now.visitor.file)).count }
-        requires begun { IsBegun (octets_of self.now.visitor.file) (containers_of path.now) object
+        requires listed { object < (trailer_of (walked self.now)).count }
+        requires begun { IsBegun (walked self.now) (containers_of path.now) object
             progress.old.left }
         requires depth { length (containers_of path.now) + levels ≡ MAX_DEPTH }
-        requires progress { IsProgress (octets_of self.now.visitor.file) (containers_of path.now)
-            progress.old }
-        ensures passed { IfOk result (λ deep. Passes (octets_of self.now.visitor.file) object levels
+        requires progress { IsProgress (walked self.now) (containers_of path.now) progress.old }
+        ensures passed { IfOk result (λ deep. Passes (walked self.now) object levels
             progress.old.left deep progress.new.left) }
-        ensures refused { IfErr result (Refuses (octets_of self.now.visitor.file)
-            object levels progress.old.left) }
+        ensures refused { IfErr result (Refuses (walked self.now) object levels progress.old.left) }
         ensures new { OnOk result (¬ Contains (containers_of path.now) object) }
-        ensures progress { OnOk result (IsProgressBut (octets_of self.now.visitor.file)
-            (containers_of path.now) object progress.new) }
+        ensures progress { OnOk result (IsProgressBut (walked self.now) (containers_of path.now)
+            object progress.new) }
     {
         let count = self.visitor.file.count();
         match self.visitor.enter(progress, path, object, levels)? {
@@ -159,17 +154,17 @@ impl<'a> Walker<'a> {
         refs: Refs,
         levels: u64,
     ) -> Result<u64, BinaryFault>
-        requires next { AreNext (octets_of self.now.visitor.file) (containers_of before.now)
-            container (numbers_of refs) progress.old.left }
+        requires next { AreNext (walked self.now) (containers_of before.now) container (numbers_of
+            refs) progress.old.left }
         requires depth { length (containers_of before.now) + 1 + levels ≡ MAX_DEPTH }
-        requires progress { IsProgress (octets_of self.now.visitor.file)
-            (container ∷ containers_of before.now) progress.old }
-        ensures passed { IfOk result (λ deep. PassesItems (octets_of self.now.visitor.file)
-            (numbers_of refs.entry) levels progress.old.left deep progress.new.left) }
-        ensures refused { IfErr result (RefusesItems (octets_of self.now.visitor.file)
-            (numbers_of refs.entry) levels progress.old.left) }
-        ensures progress { OnOk result (IsProgress (octets_of self.now.visitor.file)
-            (container ∷ containers_of before.now) progress.new) }
+        requires progress { IsProgress (walked self.now) (container ∷ containers_of before.now)
+            progress.old }
+        ensures passed { IfOk result (λ deep. PassesItems (walked self.now) (numbers_of refs.entry)
+            levels progress.old.left deep progress.new.left) }
+        ensures refused { IfErr result (RefusesItems (walked self.now) (numbers_of refs.entry)
+            levels progress.old.left) }
+        ensures progress { OnOk result (IsProgress (walked self.now) (container ∷ containers_of
+            before.now) progress.new) }
     {
         let path = Path::In(container, &*before);
         let mut deepest = 0;
@@ -191,18 +186,18 @@ impl<'a> Walker<'a> {
         refs: Refs<'a>,
         levels: u64,
     ) -> Result<(), BinaryFault>
-        requires entered { IsEntered (octets_of self.now.visitor.file) (containers_of before.now)
-            table progress.old.left }
-        requires keys { HasKeys (octets_of self.now.visitor.file) table (numbers_of refs) }
+        requires entered { IsEntered (walked self.now) (containers_of before.now) table
+            progress.old.left }
+        requires keys { HasKeys (walked self.now) table (numbers_of refs) }
         requires depth { length (containers_of before.now) + 1 + levels ≡ MAX_DEPTH }
-        requires progress { IsProgress (octets_of self.now.visitor.file)
-            (table ∷ containers_of before.now) progress.old }
-        ensures read { OnOk result (ReadsApart (octets_of self.now.visitor.file)
-            (numbers_of refs.entry) levels progress.old.left progress.new.left) }
-        ensures refused { IfErr result (RefusesTable (octets_of self.now.visitor.file)
-            table (numbers_of refs.entry) levels progress.old.left) }
-        ensures progress { OnOk result (IsProgress (octets_of self.now.visitor.file)
-            (table ∷ containers_of before.now) progress.new) }
+        requires progress { IsProgress (walked self.now) (table ∷ containers_of before.now)
+            progress.old }
+        ensures read { OnOk result (ReadsApart (walked self.now) (numbers_of refs.entry) levels
+            progress.old.left progress.new.left) }
+        ensures refused { IfErr result (RefusesTable (walked self.now) table (numbers_of refs.entry)
+            levels progress.old.left) }
+        ensures progress { OnOk result (IsProgress (walked self.now) (table ∷ containers_of
+            before.now) progress.new) }
     {
         if let Some(rest) = recall_keys(&progress.last, &refs, levels, progress.left) {
             progress.left = rest;
@@ -222,18 +217,18 @@ impl<'a> Walker<'a> {
         refs: Refs<'a>,
         levels: u64,
     ) -> Result<(), BinaryFault>
-        requires entered { IsEntered (octets_of self.now.visitor.file) (containers_of before.now)
-            table progress.old.left }
-        requires keys { HasKeys (octets_of self.now.visitor.file) table (numbers_of refs) }
+        requires entered { IsEntered (walked self.now) (containers_of before.now) table
+            progress.old.left }
+        requires keys { HasKeys (walked self.now) table (numbers_of refs) }
         requires depth { length (containers_of before.now) + 1 + levels ≡ MAX_DEPTH }
-        requires progress { IsProgress (octets_of self.now.visitor.file)
-            (table ∷ containers_of before.now) progress.old }
-        ensures read { OnOk result (ReadsApart (octets_of self.now.visitor.file)
-            (numbers_of refs.entry) levels progress.old.left progress.new.left) }
-        ensures refused { IfErr result (RefusesTable (octets_of self.now.visitor.file)
-            table (numbers_of refs.entry) levels progress.old.left) }
-        ensures progress { OnOk result (IsProgress (octets_of self.now.visitor.file)
-            (table ∷ containers_of before.now) progress.new) }
+        requires progress { IsProgress (walked self.now) (table ∷ containers_of before.now)
+            progress.old }
+        ensures read { OnOk result (ReadsApart (walked self.now) (numbers_of refs.entry) levels
+            progress.old.left progress.new.left) }
+        ensures refused { IfErr result (RefusesTable (walked self.now) table (numbers_of refs.entry)
+            levels progress.old.left) }
+        ensures progress { OnOk result (IsProgress (walked self.now) (table ∷ containers_of
+            before.now) progress.new) }
     {
         let whole = progress.left.payload;
         self.keys(&mut *progress, table, before, refs, levels)?;
@@ -254,19 +249,18 @@ impl<'a> Walker<'a> {
         refs: Refs,
         levels: u64,
     ) -> Result<(), BinaryFault>
-        requires entered { IsEntered (octets_of self.now.visitor.file) (containers_of before.now)
-            table progress.old.left }
-        requires keys { HasKeys (octets_of self.now.visitor.file) table (numbers_of refs) }
+        requires entered { IsEntered (walked self.now) (containers_of before.now) table
+            progress.old.left }
+        requires keys { HasKeys (walked self.now) table (numbers_of refs) }
         requires depth { length (containers_of before.now) + 1 + levels ≡ MAX_DEPTH }
-        requires progress { IsProgress (octets_of self.now.visitor.file)
-            (table ∷ containers_of before.now) progress.old }
-        ensures read { OnOk result ((keys : List (List ℕ)) × ReadsItems
-            (octets_of self.now.visitor.file) (numbers_of refs.entry) levels progress.old.left
-            (texts keys) progress.new.left) }
-        ensures refused { IfErr result (RefusesKeys (octets_of self.now.visitor.file)
-            (numbers_of refs.entry) levels progress.old.left) }
-        ensures progress { OnOk result (IsProgress (octets_of self.now.visitor.file)
-            (table ∷ containers_of before.now) progress.new) }
+        requires progress { IsProgress (walked self.now) (table ∷ containers_of before.now)
+            progress.old }
+        ensures read { OnOk result ((keys : List (List ℕ)) × ReadsItems (walked self.now)
+            (numbers_of refs.entry) levels progress.old.left (texts keys) progress.new.left) }
+        ensures refused { IfErr result (RefusesKeys (walked self.now) (numbers_of refs.entry) levels
+            progress.old.left) }
+        ensures progress { OnOk result (IsProgress (walked self.now) (table ∷ containers_of
+            before.now) progress.new) }
     {
         for i in 0..refs.len() {
             let object = self.visitor.referred(table, refs.get(i))?;

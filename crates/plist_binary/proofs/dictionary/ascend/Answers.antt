@@ -1,4 +1,4 @@
-use Rattle.std.proofs.Common.{◌-◌, map, refl, arith}
+use Rattle.std.proofs.Common.{map, refl, arith}
 use Rattle.std.proofs.lemmas.List.{length-map}
 use Rattle.plist_binary.specs.Keys.{units_at}
 use Rattle.plist_binary.proofs.Ascents.{ascend_more, not_ascending, sorted_from_ascent}

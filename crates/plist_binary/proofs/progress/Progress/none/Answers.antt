@@ -1,5 +1,4 @@
 use Rattle.std.proofs.Common.{rules}
-use Rattle.plist_binary.specs.Memos.{AreStates}
 use Rattle.plist_binary.proofs.progress.Progress.none.Goals as goal
 
 pub returns-clause-progress : goal.returns-clause-progress

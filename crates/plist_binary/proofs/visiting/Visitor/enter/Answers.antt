@@ -1,4 +1,4 @@
-use Rattle.std.proofs.Common.{◌≡◌, ◌∷◌, ℕ, List, rules, subst, sym, ap, ◌∙◌}
+use Rattle.std.proofs.Common.{rules, subst, sym}
 use Rattle.plist_object.specs.Views.{octets_of}
 use Rattle.plist_binary.specs.declared.fault.BinaryFault.TheVariants.{TooManyNodes}
 use Rattle.plist_binary.specs.Paths.{containers_of}

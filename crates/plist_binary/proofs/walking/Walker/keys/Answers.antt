@@ -1,4 +1,4 @@
-use Rattle.std.proofs.Common.{◌≡◌, ◌∷◌, ◌++◌, ◌+◌, [], ℕ, List, map, take, rules, subst, sym, ap, ◌∙◌, arith, refl}
+use Rattle.std.proofs.Common.{◌∷◌, ◌++◌, [], rules, ◌∙◌, arith}
 use Rattle.plist_object.specs.Views.{octets_of, numbers_of}
 use Rattle.plist_binary.specs.declared.fault.BinaryFault.TheVariants.{BadReference}
 use Rattle.plist_binary.specs.Paths.{containers_of}

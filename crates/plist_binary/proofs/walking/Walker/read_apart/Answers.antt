@@ -1,4 +1,4 @@
-use Rattle.std.proofs.Common.{rules, ◌-◌, ◌∷◌, arith, refl}
+use Rattle.std.proofs.Common.{rules, ◌-◌, refl}
 use Rattle.std.specs.List.{IsDistinct}
 use Rattle.plist_object.specs.Views.{numbers_of, octets_of}
 use Rattle.plist_object.specs.Order.{strings_at}
