@@ -24,8 +24,7 @@ pub record Filled {S H : Type 0} (objects numbers behind : List ℕ) (old done :
 -- a container has its own object
 container-first : (all : List Plist) (k : ℕ) (v : Plist) → IsContainer v → first_place all k v ≡ k
 container-first all k (scalar s) h = absurd h
-container-first all k (list vs) h = refl
-container-first all k (table ps) h = refl
+container-first all k _ h = refl
 
 module _ (v : Plist) (container : IsContainer v) (part : List Plist) (tree : preorder v ≡ v ∷ part) (all : List Plist) (k : ℕ) (stands : Stands all k (preorder v)) where
   stands_open : Stands all k (v ∷ part)

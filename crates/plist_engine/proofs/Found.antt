@@ -39,8 +39,7 @@ spellable_at number width below k (table ps) h =
 
 pub octets-held : (number : ℕ → ℕ) (width k : ℕ) (v : Plist) → spelling_of width (held_at number k v) ≡ object_octets number width k v
 octets-held number width k (scalar s) = refl
-octets-held number width k (list vs) = refl
-octets-held number width k (table ps) = refl
+octets-held number width k _ = refl
 
 pub octets-all : (number : ℕ → ℕ) (width : ℕ) (kept : List (ℕ × Plist)) → map (spelling_of width) (map (λ p. held_at number p.0 p.1) kept) ≡ map (λ p. object_octets number width p.0 p.1) kept
 octets-all number width [] = refl

@@ -1,5 +1,5 @@
 -- Sequences of calls that write.
-use Rattle.std.proofs.Common.{◌≡◌, ℕ, ◌+◌, ◌<◌, ◌≤◌, List, [], ◌++◌, length, take, Result, Ok, Err, refl, sym, ap, subst, ◌∙◌, arith, length-append, append_assoc}
+use Rattle.std.proofs.Common.{◌≡◌, ℕ, ◌+◌, ◌<◌, ◌≤◌, List, [], ◌++◌, length, take, Option, Result, Ok, Err, refl, sym, ap, subst, ◌∙◌, arith, length-append, append_assoc}
 use Rattle.std.proofs.KnownBytes.{Appends-nil, Appends-trans}
 use Rattle.std.proofs.Math.Seq.{take-append-add}
 use Rattle.std.proofs.lemmas.List.{append-nil, take-append-le}
@@ -178,3 +178,8 @@ is_refused file p r fault none begins goes =
         stops.blamed,
       );
     }
+
+-- the bytes of a file under another name
+pub same_written : (a b : List ℕ) (old new : Option (List ℕ)) (before after : ℕ) (result : Result ℕ WriteFault) → a ≡ b → IsWritten a old new before after result → IsWritten b old new before after result
+same_written a b old new before after result same written =
+    subst (λ (l : List ℕ). IsWritten l old new before after result) same written

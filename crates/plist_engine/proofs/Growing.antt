@@ -10,11 +10,10 @@ use Rattle.plist_engine.specs.Plan.{StandFor, Grows}
 
 pub StandFor-append : (f xs ys refs behind : List ℕ) (hs gs : List Held) → StandFor f xs refs hs → StandFor f ys behind gs → StandFor f (xs ++ ys) (refs ++ behind) (hs ++ gs)
 StandFor-append f [] ys refs behind [] gs a b = rw a b
-StandFor-append f [] ys refs behind (h ∷ hs) gs a b = absurd a
-StandFor-append f (x ∷ xs) ys refs behind [] gs a b = absurd a
 StandFor-append f (x ∷ xs) ys refs behind (h ∷ hs) gs a b =
     let rest = a.1.0 in
     (a.0, (rest ++ behind, (ap (λ rs. rs ++ behind) a.1.1.0 ∙ append_assoc (references_of h) rest behind, StandFor-append f xs ys rest behind hs gs a.1.1.1 b)))
+StandFor-append f _ ys refs behind _ gs a b = absurd a
 
 pub Grows-none : {S H : Type 0} → (f : List ℕ) (front : ℕ) (plan : Plan S H) → Grows f front plan plan []
 Grows-none f front plan = record {

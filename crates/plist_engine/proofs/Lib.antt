@@ -28,7 +28,8 @@ pub mod Renumbered
 pub mod ObjectSteps
 pub mod Finding
 pub mod Remembering
-pub mod Sifted
-pub mod Noted
+pub mod RepeatFilters
+pub mod Added
 pub mod Steps
 pub mod Turns
+pub mod Parts

@@ -1,15 +1,14 @@
 -- The number of a place is the index of its object among the objects.
 use Rattle.std.proofs.Common.{◌≡◌, ℕ, zero, suc, ◌+◌, ◌<◌, ◌≤◌, eqb, cond, true, false, List, [], ◌∷◌, length, get_or, refl, sym, ap, arith}
 use Rattle.std.proofs.lemmas.Bool.{false≢true, le-ltb, lt-ltb, eq-eqb, cond_both}
-use Rattle.plist_value.specs.Plist.{Scalar, Plist, scalar, list, table}
+use Rattle.plist_value.specs.Plist.{Scalar, Plist, scalar}
 use Rattle.plist_value.specs.Equality.{scalar_eq}
 use Rattle.plist_value.specs.EqualityLaws.{scalar_eq-Decides}
 use Rattle.plist_engine.specs.Sharing.{is_scalar, least_place, first_place, kept_from, kept_places, count_below, value_at, number_among}
 
 pub is_scalar-true : (s : Scalar) (v : Plist) → is_scalar s v ≡ true → v ≡ scalar s
 is_scalar-true s (scalar t) h = ap scalar (sym ((scalar_eq-Decides s t).0 h))
-is_scalar-true s (list vs) h = absurd (false≢true h)
-is_scalar-true s (table ps) h = absurd (false≢true h)
+is_scalar-true s _ h = absurd (false≢true h)
 
 pub is_scalar-same : (s : Scalar) → scalar_eq s s ≡ true
 is_scalar-same s = (scalar_eq-Decides s s).1 refl
@@ -30,19 +29,16 @@ least_place-holds s (v ∷ vs) (suc k) h =
 
 pub first_place-le : (all : List Plist) (k : ℕ) (v : Plist) → value_at all k ≡ v → first_place all k v ≤ k
 first_place-le all k (scalar s) h = least_place-le s all k h
-first_place-le all k (list vs) h = omega arith
-first_place-le all k (table ps) h = omega arith
+first_place-le all k _ h = omega arith
 
 pub first_place-holds : (all : List Plist) (k : ℕ) (v : Plist) → value_at all k ≡ v → value_at all (first_place all k v) ≡ v
 first_place-holds all k (scalar s) h = least_place-holds s all k h
-first_place-holds all k (list vs) h = h
-first_place-holds all k (table ps) h = h
+first_place-holds all k _ h = h
 
 -- the first place is its own first place
 pub first_place-first : (all : List Plist) (k : ℕ) (v : Plist) → first_place all (first_place all k v) v ≡ first_place all k v
 first_place-first all k (scalar s) = refl
-first_place-first all k (list vs) = refl
-first_place-first all k (table ps) = refl
+first_place-first all k _ = refl
 
 -- none of the places from k on is below k
 pub count_below-none : (all rest : List Plist) (k n : ℕ) → n ≤ k → count_below n (kept_from all k rest) ≡ 0

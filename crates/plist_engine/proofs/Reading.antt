@@ -1,10 +1,10 @@
 -- The objects of a canonical file are decoded to their content.
-use Rattle.std.proofs.Common.{◌≡◌, ℕ, suc, ◌+◌, ◌^◌, ◌<◌, ◌≤◌, ltb, List, [], ◌∷◌, ◌++◌, length, map, replicate, pos, negsuc, Ok, refl, sym, ◌∙◌, arith, length-append}
+use Rattle.std.proofs.Common.{◌≡◌, ℕ, suc, ◌+◌, ◌^◌, ◌<◌, ◌≤◌, ltb, List, [], ◌∷◌, ◌++◌, length, map, replicate, pos, Ok, refl, sym, ◌∙◌, arith, length-append}
 use Rattle.std.specs.List.{list_all}
 use Rattle.std.proofs.lemmas.List.{length-map}
 use Rattle.std.proofs.lemmas.Bool.{cond_both}
 use Rattle.byteorder.specs.Endian.{big_bytes}
-use Rattle.plist_value.specs.Plist.{Scalar, text, whole, flag, real4, real8, moment, bytes, Plist, scalar, list, table}
+use Rattle.plist_value.specs.Plist.{Scalar, text, whole, bytes, Plist, scalar, list, table}
 use Rattle.plist_object.specs.Objects.{object_in}
 use Rattle.plist_object.specs.Sizes.{head_size}
 use Rattle.plist_object.specs.Spelling.{least_width, least_integer, head, references, scalar_spelling}
@@ -43,8 +43,7 @@ object_in-octets number width k (table ps) rest fit h =
 -- places that share an object have the same content
 pub held_at-first : (all : List Plist) (number : ℕ → ℕ) (k : ℕ) (v : Plist) → held_at number (first_place all k v) v ≡ held_at number k v
 held_at-first all number k (scalar s) = refl
-held_at-first all number k (list vs) = refl
-held_at-first all number k (table ps) = refl
+held_at-first all number k _ = refl
 
 some-head : (kind n : ℕ) (xs : List ℕ) → 1 ≤ length (head kind n ++ xs)
 some-head kind n xs =
@@ -57,12 +56,8 @@ some-scalar (text units) =
     (λ _. some-head 5 (length units) units) (λ _. some-head 6 (length units) (references 2 units))
 some-scalar (whole (pos n)) =
     cond_both (ltb n 9223372036854775808) (least_integer n) (20 ∷ (replicate 8 0 ++ big_bytes 8 n)) (λ octets. 1 ≤ length octets) (λ _. omega arith) (λ _. omega arith)
-some-scalar (whole (negsuc n)) = omega arith
-some-scalar (flag b) = omega arith
-some-scalar (real4 xs) = omega arith
-some-scalar (real8 xs) = omega arith
-some-scalar (moment xs) = omega arith
 some-scalar (bytes xs) = some-head 4 (length xs) xs
+some-scalar _ = omega arith
 
 -- no object is empty
 pub some-object : (number : ℕ → ℕ) (width k : ℕ) (v : Plist) → 1 ≤ length (object_octets number width k v)

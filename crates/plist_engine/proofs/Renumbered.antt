@@ -58,14 +58,13 @@ renumbers f i (holds_table keys values) behind like =
 
 pub helds-are : (f originals refs : List ℕ) (hs : List Held) → StandFor f originals refs hs → helds_of f originals refs ≡ hs
 helds-are f [] refs [] a = refl
-helds-are f [] refs (h ∷ hs) a = absurd a
-helds-are f (i ∷ originals) refs [] a = absurd a
 helds-are f (i ∷ originals) refs (h ∷ hs) a =
     let behind = a.1.0 in
     let split : refs ≡ references_of h ++ behind = a.1.1.0 in
     let one = renumbers f i h behind a.0 in
     let n = reference_count (held_in f i) in
     ap (λ rs. renumbered (held_in f i) rs ∷ helds_of f originals (drop n rs)) split ∙ ap (λ x. x ∷ helds_of f originals (drop n (references_of h ++ behind))) one.same ∙ ap (λ rs. h ∷ helds_of f originals rs) one.rest ∙ ap (λ xs. h ∷ xs) (helds-are f originals behind hs a.1.1.1)
+helds-are f _ refs _ a = absurd a
 
 pub sound-are : (f originals refs : List ℕ) (hs : List Held) → StandFor f originals refs hs → AreSound f originals refs
 sound-are f [] refs hs a = tt

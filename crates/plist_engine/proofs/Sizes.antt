@@ -6,7 +6,7 @@ use Rattle.std.proofs.lemmas.Bool.{cond_both}
 use Rattle.std.proofs.Math.Nat.{mul-le-mul_right}
 use Rattle.byteorder.specs.Endian.{big_bytes}
 use Rattle.byteorder.specs.Numbers.{length-bytes_high_first}
-use Rattle.plist_value.specs.Plist.{Scalar, text, whole, flag, real4, real8, moment, bytes, Plist, scalar, list, table, Items, no_items, item, Pairs, no_pairs, pair, IsScalar}
+use Rattle.plist_value.specs.Plist.{Scalar, text, whole, flag, bytes, Plist, scalar, list, table, Items, no_items, item, Pairs, no_pairs, pair, IsScalar}
 use Rattle.plist_value.specs.Limits.{nodes, nodes_of_items, nodes_of_pairs, payload, payload_of_scalar, payload_of_items, payload_of_pairs}
 use Rattle.plist_object.specs.Spelling.{least_width, least_integer, head, references, whole_spelling, text_spelling, scalar_spelling}
 use Rattle.plist_object.specs.Sizes.{head_size}
@@ -78,12 +78,10 @@ length-scalar : (s : Scalar) → IsScalar s → payload_of_scalar s ≤ 10737418
 length-scalar (text units) valid h = let size = length-text units (omega arith) in omega arith
 length-scalar (whole z) valid h = let size = length-whole z in omega arith
 length-scalar (flag b) valid h = omega arith
-length-scalar (real4 xs) valid h = let long = valid.long in omega arith
-length-scalar (real8 xs) valid h = let long = valid.long in omega arith
-length-scalar (moment xs) valid h = let long = valid.long in omega arith
 length-scalar (bytes xs) valid h =
     let size = head_size-small (length xs) (omega arith) in
     rw (length-append, length-head) (omega arith)
+length-scalar _ valid h = let long = valid.long in omega arith
 
 product-le : (w n : ℕ) → w ≤ 4 → w * n ≤ 4 * n
 product-le w n h = mul-le-mul_right n h

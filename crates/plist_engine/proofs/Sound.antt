@@ -1,7 +1,7 @@
 -- Each place of the tree of a value within the limits has a value within the limits.
 use Rattle.std.proofs.Common.{ℕ, zero, suc, ◌<◌, ◌≤◌, List, [], ◌∷◌, ◌++◌, length, arith}
 use Rattle.std.specs.List.{AllByRecursion}
-use Rattle.plist_value.specs.Plist.{Scalar, text, whole, flag, real4, real8, moment, bytes, Plist, scalar, list, table, Items, no_items, item, Pairs, no_pairs, pair, IsPlist, AreItems, ArePairs}
+use Rattle.plist_value.specs.Plist.{Scalar, text, bytes, Plist, scalar, list, table, Items, no_items, item, Pairs, no_pairs, pair, IsPlist, AreItems, ArePairs}
 use Rattle.plist_value.specs.Limits.{nodes, nodes_of_items, nodes_of_pairs, payload, payload_of_items, payload_of_pairs, Fits}
 use Rattle.plist_object.specs.Sizes.{IsSmall}
 use Rattle.plist_engine.specs.Tree.{key_texts, preorder, preorder_items, preorder_values}
@@ -57,9 +57,5 @@ EachSound-at (v ∷ vs) (suc k) h each = EachSound-at vs k (omega arith) each.1
 
 pub IsSmall-sound : (s : Scalar) → payload (scalar s) ≤ 1073741824 → IsSmall s
 IsSmall-sound (text units) h = omega arith
-IsSmall-sound (whole z) h = tt
-IsSmall-sound (flag b) h = tt
-IsSmall-sound (real4 xs) h = tt
-IsSmall-sound (real8 xs) h = tt
-IsSmall-sound (moment xs) h = tt
 IsSmall-sound (bytes xs) h = omega arith
+IsSmall-sound _ h = tt

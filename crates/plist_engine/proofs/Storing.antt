@@ -36,17 +36,6 @@ same-hashed known r q same = ap (λ s. lookup (λ k. scalar_eq s (content_of k))
 same-number : {S H : Type 0} → (known : Scalars S H) (r q : ScalarRef) → content_of r ≡ content_of q → number_stored known q ≡ number_stored known r
 same-number known r q same = ap (λ s. option_or (number_listed known.listed.items s) (lookup (λ k. scalar_eq s (content_of k)) known.hashed.entries)) (sym same)
 
--- nothing changes if the scalar has a number
-pub enters-again : {S H : Type 0} → (shown : ScalarRef) (next n : ℕ) (known : Scalars S H) → AreNumbered known → number_stored known shown ≡ Some n → EntersScalar shown next known known (Some n)
-enters-again shown next n known numbered had = record {
-  numbered = numbered;
-  had_is = sym had;
-  each = λ r. elim (cases_Bool (scalar_eq (content_of shown) (content_of r))) [
-    | inl same ↦ (let one : number_stored known r ≡ Some n = same-number known shown r (is_same shown r same) ∙ had in rw one refl)
-    | inr apart ↦ rw apart (sym (or_none (number_stored known r)))
-  ];
-}
-
 -- a key that is in the map gets its value back
 pub restored : {K : Type 0} → (eq : K → K → Bool) (es : List (K × ℕ)) (k : K) (next n : ℕ) → lookup (eq k) es ≡ Some n → set_value_at (insert_entry eq es k next) (position_or_len (eq k) (keys_of es)) n ≡ es
 restored eq [] k next n has = absurd (cc)

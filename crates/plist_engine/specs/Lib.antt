@@ -12,9 +12,10 @@ pub mod Pieces
 pub mod Sending
 pub mod Output
 pub mod Spelling
+pub mod Notation
 pub mod Scalars
 pub mod Bits
-pub mod Sieve
+pub mod RepeatFilter
 pub mod Memo
 pub mod Plan
 pub mod Renumbering

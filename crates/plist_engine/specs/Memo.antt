@@ -6,9 +6,9 @@ use Rattle.plist_value.specs.Scalars.{content_of}
 use Rattle.plist_value.specs.declared.scalar_ref.ScalarRef.{ScalarRef}
 use Rattle.plist_object.specs.Objects.{holds_scalar}
 use Rattle.plist_object.specs.Places.{Holds}
-use Rattle.plist_engine.specs.Sieve.{IsUnlike}
+use Rattle.plist_engine.specs.RepeatFilter.{IsUnlike}
 use Rattle.plist_engine.specs.declared.memo.Memo.{Memo}
-use Rattle.plist_engine.specs.declared.sieve.Sieve.{Sieve}
+use Rattle.plist_engine.specs.declared.repeat_filter.RepeatFilter.{RepeatFilter}
 
 -- marks an object that has no number
 abbrev pub no_number : ℕ
@@ -44,11 +44,11 @@ pub record KeepsNumber (i number : ℕ) (old new : Memo) : Type 0 where
   pub others : (j : ℕ) → j ≢ i → kept new j ≡ kept old j
   pub as_many : length new.numbers.items ≡ length old.numbers.items
 
--- Objects without a number may be marked as single if the sieve shows that they are. All others are
+-- Objects without a number may be marked as single if the filter shows that they are. All others are
 -- unchanged.
-pub record Marks (sieve : Sieve) (old new : List ℕ) : Type 0 where
+pub record Marks (filter : RepeatFilter) (old new : List ℕ) : Type 0 where
   pub as_many : length new ≡ length old
-  pub each : (i : ℕ) → (kept_at new i ≡ kept_at old i) ⊎ ((kept_at old i ≡ no_number) × ((kept_at new i ≡ single) × ((i < length sieve.bits.items) × IsUnlike sieve i)))
+  pub each : (i : ℕ) → (kept_at new i ≡ kept_at old i) ⊎ ((kept_at old i ≡ no_number) × ((kept_at new i ≡ single) × ((i < length filter.bits.items) × IsUnlike filter i)))
 
 -- Objects of the file without a number may be marked as single if they are. All others are
 -- unchanged.

@@ -1,5 +1,6 @@
 //! Writes the canonical binary file of a property list, into memory or piece by piece to a sink.
-//! The input is any binary file that encodes the list; the list itself is not built.
+//! The input is any binary file that encodes the list; the list itself is not built. Writes the text
+//! of such a file in any notation too.
 #![tactic(auto)]
 
 mod bits;
@@ -9,21 +10,25 @@ pub mod laws;
 mod making;
 mod memo;
 mod new_objects;
+pub mod notation;
 pub mod objects;
 pub mod order;
 pub mod outputs;
 mod plan;
 mod renumbering;
+pub mod repeat_filter;
 pub mod scalars;
 pub mod sending;
-pub mod sieve;
+pub mod texts;
 mod walk;
 
 pub use bits::natural_in;
 pub use faults::WriteFault;
 pub use making::canonical_of;
+pub use notation::{Mark, Notation};
 pub use outputs::Output;
 pub use plist_devices::{DeviceFault, ListSink, Sink};
+pub use repeat_filter::{RepeatFilter, RepeatFilterBuilder};
 pub use scalars::Scalars;
 pub use sending::write_canonical_of;
-pub use sieve::{Notes, Sieve};
+pub use texts::write_in_notation;

@@ -3,7 +3,7 @@ ghost use Rattle.std.specs.Prelude.{◌≡◌, ◌≤◌, ℕ, length, true, IfO
 ghost use Rattle.plist_object.specs.Views.{octets_of};
 ghost use Rattle.plist_engine.specs.Memo.{IsNumber, KeepsNumber, Marks, FindsSingles, kept};
 
-use crate::sieve::{Sieve, sieve_of};
+use crate::repeat_filter::{RepeatFilter, filter_of};
 use plist_object::BinFile;
 use std::alloc::{AllocError, Global};
 use std::hash::BuildHasher;
@@ -100,19 +100,19 @@ impl Memo {
         ensures { OnOk result (FindsSingles (octets_of file.now) self.old self.new) }
     {
         self.is_searched = true;
-        if let Some(sieve) = sieve_of(alloc, hasher, file)? {
-            mark_single(&mut self.numbers, &sieve);
+        if let Some(filter) = filter_of(alloc, hasher, file)? {
+            mark_single(&mut self.numbers, &filter);
         }
         Ok(())
     }
 }
 
 // Marks the objects that have no number and contain a scalar that no other object contains.
-fn mark_single(numbers: &mut Vec<u32>, sieve: &Sieve)
-    ensures { Marks sieve.now numbers.old.items numbers.new.items }
+fn mark_single(numbers: &mut Vec<u32>, filter: &RepeatFilter)
+    ensures { Marks filter.now numbers.old.items numbers.new.items }
 {
-    for i in 0..numbers.len().min(sieve.len()) {
-        if numbers[i] == NO_NUMBER && sieve.is_unlike(i) {
+    for i in 0..numbers.len().min(filter.len()) {
+        if numbers[i] == NO_NUMBER && filter.is_unlike(i) {
             numbers[i] = SINGLE;
         }
     }

@@ -9,7 +9,8 @@ ghost use Rattle.std.specs.Prelude.{IfOk, IfSome, OnOk, length};
 ghost use Rattle.plist_object.specs.Layout.{trailer_of};
 ghost use Rattle.plist_object.specs.Places.{Holds};
 ghost use Rattle.plist_object.specs.Views.{held_of, octets_of};
-ghost use Rattle.plist_engine.specs.Sieve.{AreMetAgain, AreNoted, HasNoted, IsUnlike, MayRepeat};
+ghost use Rattle.plist_engine.specs.RepeatFilter.{AreAdded, AreMetAgain, HasAdded};
+ghost use Rattle.plist_engine.specs.RepeatFilter.{IsUnlike, MayRepeat};
 
 use crate::bits::{Bits, bit_of, mask_for};
 use plist_object::{BinFile, Object};
@@ -27,9 +28,9 @@ const NO_BIT: u32 = 0;
 // What the hasher is given to make a seed. The seed is unknown to those who do not know the hasher.
 const SEED: u64 = 0;
 
-/// The bits of the objects that were noted so far.
+/// The bits of the objects that were added so far, from which a [`RepeatFilter`] is built.
 #[derive(Drop)]
-pub struct Notes {
+pub struct RepeatFilterBuilder {
     // The bit of each object's scalar, or `NO_BIT` for a container.
     pub(crate) bits: Vec<u32>,
     // The greatest bit, and a seed. Whoever knows the seed can choose scalars that share a bit.
@@ -37,28 +38,28 @@ pub struct Notes {
     pub(crate) seed: u64,
 }
 
-impl Notes {
-    /// Returns notes of no objects. About `objects` objects will be noted. The bits depend on
+impl RepeatFilterBuilder {
+    /// Creates a builder without objects. About `objects` objects will be added. The bits depend on
     /// `hasher`.
-    pub fn new<S: BuildHasher>(alloc: Global, hasher: &S, objects: u64) -> Notes
+    pub fn new<S: BuildHasher>(alloc: Global, hasher: &S, objects: u64) -> RepeatFilterBuilder
         ensures { result.bits.items ≡ [] }
     {
-        Notes {
+        RepeatFilterBuilder {
             bits: Vec::new(alloc),
             mask: mask_for(objects.saturating_mul(BITS)),
             seed: hasher.hash_one(SEED),
         }
     }
 
-    /// Notes the next object of the file.
+    /// Adds the next object of the file.
     ///
     /// # Errors
     ///
     /// Fails if out of memory.
     #[inline(always)]
-    pub fn note(&mut self, object: &Object) -> Result<(), AllocError>
+    pub fn add(&mut self, object: &Object) -> Result<(), AllocError>
         ensures { OnOk result ((f : List ℕ) (i : ℕ) → Holds f i (held_of object.now)
-            → AreNoted f i self.old → AreNoted f (suc i) self.new) }
+            → AreAdded f i self.old → AreAdded f (suc i) self.new) }
     {
         let bit = match object {
             Object::Scalar(scalar) => bit_of(self.mask, self.seed, scalar),
@@ -68,17 +69,17 @@ impl Notes {
         Ok(())
     }
 
-    /// Returns what the bits show about the noted objects.
+    /// Builds the filter of the added objects.
     ///
     /// # Errors
     ///
     /// Fails if out of memory.
-    pub fn sieve(self, alloc: Global) -> Result<Sieve, AllocError>
-        ensures { IfOk result (λ sieve. (f : List ℕ) (i : ℕ) → AreNoted f i self
-            → HasNoted f i sieve) }
+    pub fn build(self, alloc: Global) -> Result<RepeatFilter, AllocError>
+        ensures { IfOk result (λ filter. (f : List ℕ) (i : ℕ) → AreAdded f i self
+            → HasAdded f i filter) }
     {
         let again = met_again(alloc, self.mask, &self.bits)?;
-        Ok(Sieve {
+        Ok(RepeatFilter {
             bits: self.bits,
             again,
         })
@@ -98,24 +99,24 @@ fn met_again(alloc: Global, mask: u32, bits: &[u32]) -> Result<Bits, AllocError>
     Ok(again)
 }
 
-/// What is known of the noted objects.
+/// Tells which of the added objects may contain the same scalar as another, like a Bloom filter.
 #[derive(Drop)]
-pub struct Sieve {
+pub struct RepeatFilter {
     // The bit of each object's scalar, or `NO_BIT` for a container.
     pub(crate) bits: Vec<u32>,
     // The bits that several objects have.
     pub(crate) again: Bits,
 }
 
-impl Sieve {
-    /// Returns the number of noted objects.
+impl RepeatFilter {
+    /// Returns the number of added objects.
     pub fn len(&self) -> usize
         ensures { result ≡ length self.now.bits.items }
     {
         self.bits.len()
     }
 
-    /// Returns whether the object contains a scalar that another noted object may also contain.
+    /// Returns whether the object contains a scalar that another added object may also contain.
     pub fn may_repeat(&self, object: usize) -> bool
         requires { object < length self.now.bits.items }
         ensures { IsTrue result ↔ MayRepeat self.now object }
@@ -124,7 +125,7 @@ impl Sieve {
         bit != NO_BIT && self.again.has(bit)
     }
 
-    /// Returns whether the object is known to contain a scalar that no other noted object contains.
+    /// Returns whether the object is known to contain a scalar that no other added object contains.
     /// `false` is only a hint: the scalar may still be unique.
     pub(crate) fn is_unlike(&self, object: usize) -> bool
         requires { object < length self.now.bits.items }
@@ -135,17 +136,17 @@ impl Sieve {
     }
 }
 
-/// Returns the sieve of all objects of the file. Returns `None` if making it could read more bytes
+/// Returns the filter of all objects of the file. Returns `None` if making it could read more bytes
 /// than the file has, which happens if scalars overlap, or if an object cannot be decoded.
-pub(crate) fn sieve_of<S: BuildHasher>(
+pub(crate) fn filter_of<S: BuildHasher>(
     alloc: Global,
     hasher: &S,
     file: &BinFile,
-) -> Result<Option<Sieve>, AllocError>
-    ensures { IfOk result (λ sieve. IfSome sieve
-        (HasNoted (octets_of file.now) (trailer_of (octets_of file.now)).count)) }
+) -> Result<Option<RepeatFilter>, AllocError>
+    ensures { IfOk result (λ filter. IfSome filter
+        (HasAdded (octets_of file.now) (trailer_of (octets_of file.now)).count)) }
 {
-    let mut notes = Notes::new(alloc, hasher, file.count());
+    let mut builder = RepeatFilterBuilder::new(alloc, hasher, file.count());
     let mut left = file.table();
     for i in 0..file.count() {
         let Ok(object) = file.object(i) else {
@@ -156,10 +157,10 @@ pub(crate) fn sieve_of<S: BuildHasher>(
             return Ok(None);
         }
         left -= length;
-        notes.note(&object)?;
+        builder.add(&object)?;
     }
-    let sieve = notes.sieve(alloc)?;
-    Ok(Some(sieve))
+    let filter = builder.build(alloc)?;
+    Ok(Some(filter))
 }
 
 // Returns the most units or bytes that are read to hash the object, except for scalars of fixed

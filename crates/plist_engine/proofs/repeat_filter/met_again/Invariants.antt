@@ -1,8 +1,8 @@
 use Rattle.std.proofs.Common.{ℕ, ◌<◌}
 use Rattle.std.specs.Prelude.{slice_index}
 use Rattle.plist_engine.specs.Bits.{HasBit}
-use Rattle.plist_engine.specs.Sieve.{AreMetAgain}
-use Rattle.plist_engine.proofs.sieve.met_again.Given as goal
+use Rattle.plist_engine.specs.RepeatFilter.{AreMetAgain}
+use Rattle.plist_engine.proofs.repeat_filter.met_again.Given as goal
 
 -- the bits so far are set in `once`, and those that were there before in `again` too
 abbrev pub invariant-loop-bit : goal.invariant-loop-bit

@@ -1,4 +1,4 @@
--- One more object is noted.
+-- One more object is added.
 use Rattle.std.proofs.Common.{◌≡◌, ◌≢◌, ℕ, suc, ◌<◌, ◌≤◌, List, [], ◌∷◌, ◌++◌, length, get_or, refl, sym, ap, subst, ◌∙◌, arith, add-one, length-append, inl, inr}
 use Rattle.std.proofs.lemmas.Bool.{cases_lt}
 use Rattle.std.proofs.lemmas.List.{get_or_append_left}
@@ -12,36 +12,36 @@ use Rattle.plist_object.specs.Views.{held_of, numbers_of}
 use Rattle.plist_object.specs.declared.object.Object.{Object}
 use Rattle.plist_object.specs.declared.object.Object.TheVariants as shown
 use Rattle.plist_engine.specs.Bits.{HasBit, bit_of}
-use Rattle.plist_engine.specs.Sieve.{no_bit, AreMetAgain, AreNoted, HasNoted, HoldsIt}
+use Rattle.plist_engine.specs.RepeatFilter.{no_bit, AreMetAgain, AreAdded, HasAdded, HoldsIt}
 use Rattle.plist_engine.specs.declared.bits.Bits.{Bits}
-use Rattle.plist_engine.specs.declared.sieve.Notes.{Notes}
+use Rattle.plist_engine.specs.declared.repeat_filter.RepeatFilterBuilder.{RepeatFilterBuilder}
 
-pub noted-nothing : (f : List ℕ) (notes : Notes) → notes.bits.items ≡ [] → AreNoted f 0 notes
-noted-nothing f notes none = record {
-  noted = ap length none;
+pub added-nothing : (f : List ℕ) (builder : RepeatFilterBuilder) → builder.bits.items ≡ [] → AreAdded f 0 builder
+added-nothing f builder none = record {
+  added = ap length none;
   kept = λ k s below. absurd (omega (arith, below));
   are_scalars = λ k below. absurd (omega (arith, below));
 }
 
-module _ (f : List ℕ) (i bit : ℕ) (old new : Notes) (was : AreNoted f i old) (pushed : new.bits.items ≡ old.bits.items ++ (bit ∷ [])) (same_mask : new.mask ≡ old.mask) (same_seed : new.seed ≡ old.seed) where
+module _ (f : List ℕ) (i bit : ℕ) (old new : RepeatFilterBuilder) (was : AreAdded f i old) (pushed : new.bits.items ≡ old.bits.items ++ (bit ∷ [])) (same_mask : new.mask ≡ old.mask) (same_seed : new.seed ≡ old.seed) where
   long : length new.bits.items ≡ suc i
-  long = ap length pushed ∙ length-append old.bits.items (bit ∷ []) ∙ add-one (length old.bits.items) ∙ ap suc was.noted
+  long = ap length pushed ∙ length-append old.bits.items (bit ∷ []) ∙ add-one (length old.bits.items) ∙ ap suc was.added
 
   before : (k : ℕ) → k < i → get_or new.bits.items k 0 ≡ get_or old.bits.items k 0
   before k below =
-      ap (λ bits. get_or bits k 0) pushed ∙ get_or_append_left old.bits.items (bit ∷ []) 0 k (omega (arith, below, was.noted))
+      ap (λ bits. get_or bits k 0) pushed ∙ get_or_append_left old.bits.items (bit ∷ []) 0 k (omega (arith, below, was.added))
 
   last : get_or new.bits.items i 0 ≡ bit
   last =
-      ap (λ bits. get_or bits i 0) pushed ∙ ap (λ n. get_or (old.bits.items ++ (bit ∷ [])) n 0) (sym was.noted) ∙ get_or-append_seam old.bits.items bit [] 0
+      ap (λ bits. get_or bits i 0) pushed ∙ ap (λ n. get_or (old.bits.items ++ (bit ∷ [])) n 0) (sym was.added) ∙ get_or-append_seam old.bits.items bit [] 0
 
   alike : (s : Scalar) → bit_of old.mask old.seed s ≡ bit_of new.mask new.seed s
   alike s = rw (same_mask, same_seed) refl
 
   -- an object that contains no scalar
-  pub noted-none : bit ≡ no_bit → ((s : Scalar) → HoldsIt f i s → ⊥) → AreNoted f (suc i) new
-  noted-none is_none none = record {
-    noted = long;
+  pub added-none : bit ≡ no_bit → ((s : Scalar) → HoldsIt f i s → ⊥) → AreAdded f (suc i) new
+  added-none is_none none = record {
+    added = long;
     kept = λ k s below holds. elim (cases_lt k i) [
       | inl earlier ↦ before k earlier ∙ was.kept k s earlier holds ∙ alike s
       | inr late ↦ absurd (let is : k ≡ i = omega (arith, late, below) in none s (subst (λ (j : ℕ). HoldsIt f j s) is holds))
@@ -64,9 +64,9 @@ module _ (f : List ℕ) (i bit : ℕ) (old new : Notes) (was : AreNoted f i old)
         let same : holds_scalar t ≡ holds_scalar s = cc in
         (is, (cc))
 
-    pub noted-scalar : AreNoted f (suc i) new
-    noted-scalar = record {
-      noted = long;
+    pub added-scalar : AreAdded f (suc i) new
+    added-scalar = record {
+      added = long;
       kept = λ k t below reads. elim (cases_lt k i) [
         | inl earlier ↦ before k earlier ∙ was.kept k t earlier reads ∙ alike t
         | inr late ↦ (let e = one k t late below reads in ap (λ j. get_or new.bits.items j 0) e.0 ∙ last ∙ is_bit ∙ alike s ∙ ap (bit_of new.mask new.seed) (sym e.1))
@@ -77,17 +77,17 @@ module _ (f : List ℕ) (i bit : ℕ) (old new : Notes) (was : AreNoted f i old)
       ];
     }
 
--- what the bits show about the noted objects
-pub noted-sieve : (f : List ℕ) (i : ℕ) (notes : Notes) (again : Bits) → AreNoted f i notes → AreMetAgain (length notes.bits.items) notes.bits.items again → HasNoted f i (record { bits = notes.bits; again = again })
-noted-sieve f i notes again notes_are met = record {
-  noted = notes_are.noted;
+-- what the bits show about the added objects
+pub added-filter : (f : List ℕ) (i : ℕ) (builder : RepeatFilterBuilder) (again : Bits) → AreAdded f i builder → AreMetAgain (length builder.bits.items) builder.bits.items again → HasAdded f i (record { bits = builder.bits; again = again })
+added-filter f i builder again notes_are met = record {
+  added = notes_are.added;
   again = λ j k s apart below first second. (
-      let bits = notes.bits.items in
-      let bit = bit_of notes.mask notes.seed s in
+      let bits = builder.bits.items in
+      let bit = bit_of builder.mask builder.seed s in
       let some : bit ≢ no_bit = (λ none. absurd (omega (arith, none))) in
       let at_j : get_or bits j 0 ≡ bit = notes_are.kept j s (omega (arith, apart, below)) first in
       let at_k : get_or bits k 0 ≡ bit = notes_are.kept k s below second in
-      let has : HasBit again (get_or bits k 0) = met j k apart (omega (arith, below, notes_are.noted)) (at_j ∙ sym at_k) in (
+      let has : HasBit again (get_or bits k 0) = met j k apart (omega (arith, below, notes_are.added)) (at_j ∙ sym at_k) in (
         ((λ none. some (sym at_j ∙ none)), subst (HasBit again) (at_k ∙ sym at_j) has),
         ((λ none. some (sym at_k ∙ none)), has),
       )

@@ -7,8 +7,8 @@ use Rattle.plist_object.specs.Objects.{holds_scalar}
 use Rattle.plist_object.specs.Places.{what_holds}
 use Rattle.plist_engine.specs.Bits.{HasBit, bit_of}
 use Rattle.plist_engine.specs.declared.bits.Bits.{Bits}
-use Rattle.plist_engine.specs.declared.sieve.Notes.{Notes}
-use Rattle.plist_engine.specs.declared.sieve.Sieve.{Sieve}
+use Rattle.plist_engine.specs.declared.repeat_filter.RepeatFilterBuilder.{RepeatFilterBuilder}
+use Rattle.plist_engine.specs.declared.repeat_filter.RepeatFilter.{RepeatFilter}
 
 -- marks an object that is a container; no scalar has this bit
 abbrev pub no_bit : ℕ
@@ -21,27 +21,27 @@ HoldsIt f i s = what_holds f i ≡ Ok (holds_scalar s)
 abbrev pub AreScalars : List ℕ → ℕ → List ℕ → Type 0
 AreScalars f i bits = (k : ℕ) → k < i → slice_index bits k ≢ no_bit → (r : ScalarRef) × HoldsIt f k (content_of r)
 
--- the objects before i were noted: the bit of each that contains a scalar is kept
-pub record AreNoted (f : List ℕ) (i : ℕ) (notes : Notes) : Type 0 where
-  pub noted : length notes.bits.items ≡ i
-  pub kept : (k : ℕ) (s : Scalar) → k < i → HoldsIt f k s → slice_index notes.bits.items k ≡ bit_of notes.mask notes.seed s
-  pub are_scalars : AreScalars f i notes.bits.items
+-- the objects before i were added: the bit of each that contains a scalar is kept
+pub record AreAdded (f : List ℕ) (i : ℕ) (builder : RepeatFilterBuilder) : Type 0 where
+  pub added : length builder.bits.items ≡ i
+  pub kept : (k : ℕ) (s : Scalar) → k < i → HoldsIt f k s → slice_index builder.bits.items k ≡ bit_of builder.mask builder.seed s
+  pub are_scalars : AreScalars f i builder.bits.items
 
 -- each bit that occurs more than once among the first n is set
 abbrev pub AreMetAgain : ℕ → List ℕ → Bits → Type 0
 AreMetAgain n bits again = (j k : ℕ) → j < k → k < n → slice_index bits j ≡ slice_index bits k → HasBit again (slice_index bits k)
 
 -- object i contains a scalar, and another may contain it
-abbrev pub MayRepeat : Sieve → ℕ → Type 0
-MayRepeat sieve i = (slice_index sieve.bits.items i ≢ no_bit) × HasBit sieve.again (slice_index sieve.bits.items i)
+abbrev pub MayRepeat : RepeatFilter → ℕ → Type 0
+MayRepeat filter i = (slice_index filter.bits.items i ≢ no_bit) × HasBit filter.again (slice_index filter.bits.items i)
 
 -- the bits show that object i contains a scalar, and that no other contains it
-abbrev pub IsUnlike : Sieve → ℕ → Type 0
-IsUnlike sieve i = (slice_index sieve.bits.items i ≢ no_bit) × (MayRepeat sieve i → ⊥)
+abbrev pub IsUnlike : RepeatFilter → ℕ → Type 0
+IsUnlike filter i = (slice_index filter.bits.items i ≢ no_bit) × (MayRepeat filter i → ⊥)
 
 -- what is known of the objects before i: if two of them contain the same scalar, both may repeat
 -- another
-pub record HasNoted (f : List ℕ) (i : ℕ) (sieve : Sieve) : Type 0 where
-  pub noted : length sieve.bits.items ≡ i
-  pub again : (j k : ℕ) (s : Scalar) → j < k → k < i → HoldsIt f j s → HoldsIt f k s → MayRepeat sieve j × MayRepeat sieve k
-  pub are_scalars : AreScalars f i sieve.bits.items
+pub record HasAdded (f : List ℕ) (i : ℕ) (filter : RepeatFilter) : Type 0 where
+  pub added : length filter.bits.items ≡ i
+  pub again : (j k : ℕ) (s : Scalar) → j < k → k < i → HoldsIt f j s → HoldsIt f k s → MayRepeat filter j × MayRepeat filter k
+  pub are_scalars : AreScalars f i filter.bits.items

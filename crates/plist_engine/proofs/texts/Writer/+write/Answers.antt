@@ -1,0 +1,241 @@
+use Rattle.std.proofs.Common.{◌≡◌, ℕ, ◌+◌, ◌-◌, ◌/◌, ◌<◌, ◌≤◌, [], length, rules, refl, sym, ap, subst, ◌∙◌, arith}
+use Rattle.std.proofs.lemmas.Bool.Decides.{nat_tests}
+use Rattle.std.proofs.lemmas.List.{append-nil}
+use Rattle.plist_value.specs.Plist.{list, table}
+use Rattle.plist_value.specs.Scalars.{content_of}
+use Rattle.plist_value.specs.Texts.{units_of}
+use Rattle.plist_value.specs.declared.TheConstants.{MAX_DEPTH}
+use Rattle.plist_object.specs.Spelled.{SpellsWithin}
+use Rattle.plist_object.specs.Views.{octets_of, numbers_of}
+use Rattle.plist_engine.specs.declared.notation.Mark.TheVariants.{EmptyList, ListStart, ListEnd, ItemEnd, EmptyTable, TableStart, TableEnd, PairEnd}
+use Rattle.plist_engine.specs.Notation.{last_line, text_in, items_in, pairs_in, item_in, pair_in}
+use Rattle.plist_engine.specs.Output.{state_of}
+use Rattle.plist_engine.specs.Spelling.{SpellWithin, TableWithin}
+use Rattle.plist_engine.proofs.Going.{Goes_put, Goes_same, Goes_out}
+use Rattle.plist_engine.proofs.Steps.{refused, brackets_unopened, brackets_unfilled, brackets_closed}
+use Rattle.plist_engine.proofs.Parts.{items_joined, pairs_joined, list_empty, list_filled, table_empty, table_filled}
+use Rattle.plist_engine.proofs.Turns.{items_more, items_stop, items_done, pair_named, pairs_more, pairs_stop, pairs_done, pairs_within, turn_within}
+use Rattle.plist_engine.proofs.Within.{read_within, levels_within, items_within, table_within, value_within, scalar_seen, list_seen, table_seen, text_seen}
+use Rattle.plist_engine.proofs.texts.Writer.+write.Goals as goal
+
+pub value-object_of-requires : goal.value-object_of-requires
+value-object_of-requires g t c =
+    read_within (octets_of c.args.self.now.file) c.args.object (MAX_DEPTH - c.args.level) c.requires.spells
+
+pub value-list-requires : goal.value-list-requires
+value-list-requires g t c κs within =
+    let f = octets_of c.args.self.now.file in
+    let refs = numbers_of c.in-List.items in
+    let some = levels_within f c.args.object (MAX_DEPTH - c.args.level) c.requires.spells in
+    let below : c.args.level < MAX_DEPTH = omega arith in
+    let less : MAX_DEPTH - c.args.level - 1 ≡ MAX_DEPTH - (c.args.level + 1) = omega arith in
+    let inside = items_within f c.args.object (MAX_DEPTH - c.args.level) refs c.requires.spells c.in-List.ensures.holds in
+    (omega (arith, c.decreases, some), (within.0, (within.1, (below, (subst (λ (n : ℕ). SpellWithin f refs n) less inside, c.requires.ready)))))
+
+pub value-table-requires : goal.value-table-requires
+value-table-requires g t c κs within =
+    let f = octets_of c.args.self.now.file in
+    let keys = numbers_of c.in-Table.keys in
+    let values = numbers_of c.in-Table.values in
+    let some = levels_within f c.args.object (MAX_DEPTH - c.args.level) c.requires.spells in
+    let below : c.args.level < MAX_DEPTH = omega arith in
+    let less : MAX_DEPTH - c.args.level - 1 ≡ MAX_DEPTH - (c.args.level + 1) = omega arith in
+    let inside = table_within f c.args.object (MAX_DEPTH - c.args.level) keys values c.in-Table.ensures.valid c.requires.spells c.in-Table.ensures.holds in
+    (omega (arith, c.decreases, some), (within.0, (within.1, (below, (subst (λ (n : ℕ). TableWithin f keys values n) less inside, c.requires.ready)))))
+
+pub value-returns-in-Scalar-clause-goes : goal.value-returns-in-Scalar-clause-goes
+value-returns-in-Scalar-clause-goes g t c = λ v valid spells.
+    let text = text_in g.N.Notation.parts c.args.level in
+    Goes_same _ (text v) _ _ c.write_scalar.result (ap text (scalar_seen (octets_of c.args.self.now.file) c.args.object (content_of c.in-Scalar.scalar) v c.in-Scalar.ensures.holds spells)) c.write_scalar.ensures.goes
+
+pub value-returns-in-List-clause-goes : goal.value-returns-in-List-clause-goes
+value-returns-in-List-clause-goes g t c = λ v valid spells.
+    let text = text_in g.N.Notation.parts c.args.level in
+    let seen = list_seen (octets_of c.args.self.now.file) (numbers_of c.in-List.items) c.args.object v c.in-List.ensures.holds valid spells in
+    Goes_same (text (list seen.items)) (text v) _ _ c.list.result (ap text seen.is) (c.list.ensures.goes seen.items seen.valid seen.spell)
+
+pub value-returns-in-Table-clause-goes : goal.value-returns-in-Table-clause-goes
+value-returns-in-Table-clause-goes g t c = λ v valid spells.
+    let text = text_in g.N.Notation.parts c.args.level in
+    let seen = table_seen (octets_of c.args.self.now.file) (numbers_of c.in-Table.keys) (numbers_of c.in-Table.values) c.args.object v c.in-Table.ensures.holds valid spells in
+    Goes_same (text (table seen.pairs)) (text v) _ _ c.table.result (ap text seen.is) (c.table.ensures.goes seen.rows seen.pairs seen.spell)
+
+pub list-returns-then-is_empty-clause-goes : goal.list-returns-then-is_empty-clause-goes
+list-returns-then-is_empty-clause-goes g t c = λ vs valid spell.
+    let parts = g.N.Notation.parts in
+    let refs = numbers_of c.args.items.now in
+    let none : length refs ≡ 0 = first_of (search rules, grind (arith, nat_tests)) in
+    Goes_same (parts.mark_text EmptyList) (text_in parts c.args.level (list vs)) _ _ c.write_mark.result (list_empty parts c.args.level (octets_of c.args.self.now.file) refs vs none spell) c.write_mark.ensures.goes
+
+pub list-returns-in_err-write_mark-clause-goes : goal.list-returns-in_err-write_mark-clause-goes
+list-returns-in_err-write_mark-clause-goes g t c = λ vs valid spell.
+    let parts = g.N.Notation.parts in
+    let refs = numbers_of c.args.items.now in
+    let some : 0 < length refs = first_of (search rules, grind (arith, nat_tests)) in
+    let is = list_filled parts c.args.level (octets_of c.args.self.now.file) refs vs some spell in
+    refused c.from_residual.result c.from_residual.ensures.1 (brackets_unopened (parts.mark_text ListStart) (items_in parts (c.args.level + 1) vs) (last_line parts c.args.level ListEnd) (text_in parts c.args.level (list vs)) is _ _ _ c.in_err-write_mark.ensures.goes)
+
+pub list-returns-in_err-items-clause-goes : goal.list-returns-in_err-items-clause-goes
+list-returns-in_err-items-clause-goes g t c = λ vs valid spell.
+    let parts = g.N.Notation.parts in
+    let refs = numbers_of c.args.items.now in
+    let some : 0 < length refs = first_of (search rules, grind (arith, nat_tests)) in
+    let is = list_filled parts c.args.level (octets_of c.args.self.now.file) refs vs some spell in
+    refused c.from_residual-in_err-items.result c.from_residual-in_err-items.ensures.1 (brackets_unfilled (parts.mark_text ListStart) (items_in parts (c.args.level + 1) vs) (last_line parts c.args.level ListEnd) (text_in parts c.args.level (list vs)) is _ _ _ _ _ c.in_ok-write_mark.ensures.goes (c.in_err-items.ensures.goes vs valid spell))
+
+pub list-returns-clause-goes : goal.list-returns-clause-goes
+list-returns-clause-goes g t c = λ vs valid spell.
+    let parts = g.N.Notation.parts in
+    let refs = numbers_of c.args.items.now in
+    let some : 0 < length refs = first_of (search rules, grind (arith, nat_tests)) in
+    let is = list_filled parts c.args.level (octets_of c.args.self.now.file) refs vs some spell in
+    brackets_closed (parts.mark_text ListStart) (items_in parts (c.args.level + 1) vs) (last_line parts c.args.level ListEnd) (text_in parts c.args.level (list vs)) is _ _ _ _ _ _ c.end_lines.result c.in_ok-write_mark.ensures.goes (c.in_ok-items.ensures.goes vs valid spell) c.end_lines.ensures.goes
+
+pub items-loop-i-init : goal.items-loop-i-init
+items-loop-i-init g t c =
+    let p = state_of g.W.Sink c.args.out.now in
+    record { goes = λ vs valid spell. Goes_put [] p.waiting p (sym (append-nil p.waiting)); ready = c.requires.ready }
+
+pub items-item-requires : goal.items-item-requires
+items-item-requires g t c κs within =
+    let f = octets_of c.args.self.now.file in
+    let refs = numbers_of c.args.items.now in
+    let below : c.loop-i.i < length refs = omega (arith, c.loop-i-test.true, c.len-i-end.ensures) in
+    let one = value_within f refs (MAX_DEPTH - c.args.level) c.loop-i.i c.requires.spell below in
+    (omega (arith, c.decreases), (within.0, (within.1, (subst (λ (n : ℕ). SpellsWithin f n (MAX_DEPTH - c.args.level)) (sym c.get.ensures) one, c.loop-i.invariant.ready))))
+
+pub items-returns-in_err-item-clause-goes : goal.items-returns-in_err-item-clause-goes
+items-returns-in_err-item-clause-goes g t c = λ vs valid spell.
+    let parts = g.N.Notation.parts in
+    let refs = numbers_of c.args.items.now in
+    let below : c.loop-i.i < length refs = omega (arith, c.loop-i-test.true, c.len-i-end.ensures) in
+    refused c.from_residual.result c.from_residual.ensures.1 (Goes_same _ _ _ _ _ (items_joined parts c.args.level vs) (items_stop (octets_of c.args.self.now.file) (item_in parts c.args.level) refs c.loop-i.i vs valid spell c.get.result _ _ _ c.get.ensures below (c.loop-i.invariant.goes vs valid spell) _ c.in_err-item.ensures.goes))
+
+pub items-loop-i-preserved : goal.items-loop-i-preserved
+items-loop-i-preserved g t c = record {
+  goes = λ vs valid spell.
+      let refs = numbers_of c.args.items.now in
+      let below : c.loop-i.i < length refs = omega (arith, c.loop-i-test.true, c.len-i-end.ensures) in
+      items_more (octets_of c.args.self.now.file) (item_in g.N.Notation.parts c.args.level) refs c.loop-i.i vs valid spell c.get.result _ _ _ c.get.ensures below (c.loop-i.invariant.goes vs valid spell) _ c.in_ok-item.ensures.goes;
+  ready = c.in_ok-item.ensures.ready;
+}
+
+pub items-returns-clause-goes : goal.items-returns-clause-goes
+items-returns-clause-goes g t c = λ vs valid spell.
+    let parts = g.N.Notation.parts in
+    let refs = numbers_of c.args.items.now in
+    let past : length refs ≤ c.loop-i.i = omega (arith, c.loop-i-test.false, c.len-i-end.ensures) in
+    Goes_same _ _ _ _ _ (items_joined parts c.args.level vs) (items_done (octets_of c.args.self.now.file) (item_in parts c.args.level) refs c.loop-i.i vs valid spell _ _ _ past (c.loop-i.invariant.goes vs valid spell))
+
+pub item-returns-in_err-begin_line-clause-goes : goal.item-returns-in_err-begin_line-clause-goes
+item-returns-in_err-begin_line-clause-goes g t c = λ v valid spells.
+    let parts = g.N.Notation.parts in
+    refused c.from_residual.result c.from_residual.ensures.1 (brackets_unopened (parts.line_start c.args.level) (text_in parts c.args.level v) (parts.mark_text ItemEnd) (item_in parts c.args.level v) refl _ _ _ c.in_err-begin_line.ensures.goes)
+
+pub item-returns-in_err-value-clause-goes : goal.item-returns-in_err-value-clause-goes
+item-returns-in_err-value-clause-goes g t c = λ v valid spells.
+    let parts = g.N.Notation.parts in
+    refused c.from_residual-in_err-value.result c.from_residual-in_err-value.ensures.1 (brackets_unfilled (parts.line_start c.args.level) (text_in parts c.args.level v) (parts.mark_text ItemEnd) (item_in parts c.args.level v) refl _ _ _ _ _ c.in_ok-begin_line.ensures.goes (c.in_err-value.ensures.goes v valid spells))
+
+pub item-returns-clause-goes : goal.item-returns-clause-goes
+item-returns-clause-goes g t c = λ v valid spells.
+    let parts = g.N.Notation.parts in
+    brackets_closed (parts.line_start c.args.level) (text_in parts c.args.level v) (parts.mark_text ItemEnd) (item_in parts c.args.level v) refl _ _ _ _ _ _ c.write_mark.result c.in_ok-begin_line.ensures.goes (c.in_ok-value.ensures.goes v valid spells) c.write_mark.ensures.goes
+
+pub table-returns-then-is_empty-clause-goes : goal.table-returns-then-is_empty-clause-goes
+table-returns-then-is_empty-clause-goes g t c = λ rows ps spell.
+    let parts = g.N.Notation.parts in
+    let keys = numbers_of c.args.keys.now in
+    let none : length keys ≡ 0 = first_of (search rules, grind (arith, nat_tests)) in
+    Goes_same (parts.mark_text EmptyTable) (text_in parts c.args.level (table ps)) _ _ c.write_mark.result (table_empty parts c.args.level (octets_of c.args.self.now.file) keys (numbers_of c.args.values.now) rows ps c.requires.spell.as_many spell none) c.write_mark.ensures.goes
+
+pub table-returns-in_default-clause-goes : goal.table-returns-in_default-clause-goes
+table-returns-in_default-clause-goes g t c = λ rows ps spell.
+    let p = state_of g.W.Sink c.args.out.now in
+    Goes_out (text_in g.N.Notation.parts c.args.level (table ps)) p.waiting p
+
+pub table-returns-in_err-write_mark-clause-goes : goal.table-returns-in_err-write_mark-clause-goes
+table-returns-in_err-write_mark-clause-goes g t c = λ rows ps spell.
+    let parts = g.N.Notation.parts in
+    let keys = numbers_of c.args.keys.now in
+    let some : 0 < length keys = first_of (search rules, grind (arith, nat_tests)) in
+    let is = table_filled parts c.args.level (octets_of c.args.self.now.file) keys (numbers_of c.args.values.now) rows ps c.requires.spell.as_many spell some in
+    refused c.from_residual.result c.from_residual.ensures.1 (brackets_unopened (parts.mark_text TableStart) (pairs_in parts (c.args.level + 1) ps) (last_line parts c.args.level TableEnd) (text_in parts c.args.level (table ps)) is _ _ _ c.in_err-write_mark.ensures.goes)
+
+pub table-pairs-requires : goal.table-pairs-requires
+table-pairs-requires g t c κs within =
+    let all = c.requires.spell in
+    let turn = c.deref.ensures.value ∙ c.in-Ok.ensures.turn all.rows all.pairs all.spell in
+    let inside = pairs_within (octets_of c.args.self.now.file) (numbers_of c.args.keys.now) (numbers_of c.args.values.now) _ (MAX_DEPTH - (c.args.level + 1)) all turn in
+    (omega (arith, c.decreases, c.requires.below), (within.0, (within.1, (inside, c.in-Ok.ensures.ready))))
+
+pub table-returns-in_err-pairs-clause-goes : goal.table-returns-in_err-pairs-clause-goes
+table-returns-in_err-pairs-clause-goes g t c = λ rows ps spell.
+    let parts = g.N.Notation.parts in
+    let keys = numbers_of c.args.keys.now in
+    let some : 0 < length keys = first_of (search rules, grind (arith, nat_tests)) in
+    let is = table_filled parts c.args.level (octets_of c.args.self.now.file) keys (numbers_of c.args.values.now) rows ps c.requires.spell.as_many spell some in
+    let turn = c.deref.ensures.value ∙ c.in-Ok.ensures.turn rows ps spell in
+    refused c.from_residual-in_err-pairs.result c.from_residual-in_err-pairs.ensures.1 (brackets_unfilled (parts.mark_text TableStart) (pairs_in parts (c.args.level + 1) ps) (last_line parts c.args.level TableEnd) (text_in parts c.args.level (table ps)) is _ _ _ _ _ c.in_ok-write_mark.ensures.goes (c.in_err-pairs.ensures.goes rows ps turn spell.valid spell.spell))
+
+pub table-returns-clause-goes : goal.table-returns-clause-goes
+table-returns-clause-goes g t c = λ rows ps spell.
+    let parts = g.N.Notation.parts in
+    let keys = numbers_of c.args.keys.now in
+    let some : 0 < length keys = first_of (search rules, grind (arith, nat_tests)) in
+    let is = table_filled parts c.args.level (octets_of c.args.self.now.file) keys (numbers_of c.args.values.now) rows ps c.requires.spell.as_many spell some in
+    let turn = c.deref.ensures.value ∙ c.in-Ok.ensures.turn rows ps spell in
+    brackets_closed (parts.mark_text TableStart) (pairs_in parts (c.args.level + 1) ps) (last_line parts c.args.level TableEnd) (text_in parts c.args.level (table ps)) is _ _ _ _ _ _ c.end_lines.result c.in_ok-write_mark.ensures.goes (c.in_ok-pairs.ensures.goes rows ps turn spell.valid spell.spell) c.end_lines.ensures.goes
+
+pub pairs-loop-i-init : goal.pairs-loop-i-init
+pairs-loop-i-init g t c =
+    let p = state_of g.W.Sink c.args.out.now in
+    record { goes = λ rows ps turn valid spell. Goes_put [] p.waiting p (sym (append-nil p.waiting)); ready = c.requires.ready }
+
+pub pairs-pair-requires : goal.pairs-pair-requires
+pairs-pair-requires g t c κs within =
+    let f = octets_of c.args.self.now.file in
+    let refs = c.args.references.now in
+    let i = c.loop-i.i in
+    let all = c.requires.spell in
+    let far : length refs / 2 + i < length refs = omega (arith, c.loop-i-test.true) in
+    let named = pair_named f (pair_in g.N.Notation.parts c.args.level) refs i all.rows all.pairs all.turn all.valid all.spell c.from-key.result c.from-object.result c.from-key.ensures c.from-object.ensures c.loop-i-test.true in
+    let one = subst (λ (n : ℕ). SpellsWithin f n (MAX_DEPTH - c.args.level)) (sym c.from-object.ensures) (turn_within f refs (MAX_DEPTH - c.args.level) (length refs / 2 + i) all far) in
+    (omega (arith, c.decreases), (within.0, (within.1, (named, (one, c.loop-i.invariant.ready)))))
+
+pub pairs-returns-in_err-pair-clause-goes : goal.pairs-returns-in_err-pair-clause-goes
+pairs-returns-in_err-pair-clause-goes g t c = λ rows ps turn valid spell.
+    let parts = g.N.Notation.parts in
+    refused c.from_residual.result c.from_residual.ensures.1 (Goes_same _ _ _ _ _ (pairs_joined parts c.args.level ps) (pairs_stop (octets_of c.args.self.now.file) (pair_in parts c.args.level) c.args.references.now c.loop-i.i rows ps turn valid spell c.from-key.result c.from-object.result c.from-key.ensures c.from-object.ensures c.loop-i-test.true _ _ _ (c.loop-i.invariant.goes rows ps turn valid spell) _ c.in_err-pair.ensures.goes))
+
+pub pairs-loop-i-preserved : goal.pairs-loop-i-preserved
+pairs-loop-i-preserved g t c = record {
+  goes = λ rows ps turn valid spell. pairs_more (octets_of c.args.self.now.file) (pair_in g.N.Notation.parts c.args.level) c.args.references.now c.loop-i.i rows ps turn valid spell c.from-key.result c.from-object.result c.from-key.ensures c.from-object.ensures c.loop-i-test.true _ _ _ (c.loop-i.invariant.goes rows ps turn valid spell) _ c.in_ok-pair.ensures.goes;
+  ready = c.in_ok-pair.ensures.ready;
+}
+
+pub pairs-returns-clause-goes : goal.pairs-returns-clause-goes
+pairs-returns-clause-goes g t c = λ rows ps turn valid spell.
+    let parts = g.N.Notation.parts in
+    Goes_same _ _ _ _ _ (pairs_joined parts c.args.level ps) (pairs_done (octets_of c.args.self.now.file) (pair_in parts c.args.level) c.args.references.now c.loop-i.i rows ps turn valid spell _ _ _ c.loop-i-test.false (c.loop-i.invariant.goes rows ps turn valid spell))
+
+pub pair-returns-in_err-begin_pair-clause-goes : goal.pair-returns-in_err-begin_pair-clause-goes
+pair-returns-in_err-begin_pair-clause-goes g t c = λ units v named valid spells.
+    let parts = g.N.Notation.parts in
+    let seen = units_of c.text_of.result in
+    let is = ap (λ us. pair_in parts c.args.level us v) (text_seen (octets_of c.args.self.now.file) c.args.key seen units c.text_of.ensures named) in
+    refused c.from_residual.result c.from_residual.ensures.1 (brackets_unopened (parts.pair_start c.args.level seen) (text_in parts c.args.level v) (parts.mark_text PairEnd) (pair_in parts c.args.level units v) is _ _ _ c.in_err-begin_pair.ensures.goes)
+
+pub pair-returns-in_err-value-clause-goes : goal.pair-returns-in_err-value-clause-goes
+pair-returns-in_err-value-clause-goes g t c = λ units v named valid spells.
+    let parts = g.N.Notation.parts in
+    let seen = units_of c.text_of.result in
+    let is = ap (λ us. pair_in parts c.args.level us v) (text_seen (octets_of c.args.self.now.file) c.args.key seen units c.text_of.ensures named) in
+    refused c.from_residual-in_err-value.result c.from_residual-in_err-value.ensures.1 (brackets_unfilled (parts.pair_start c.args.level seen) (text_in parts c.args.level v) (parts.mark_text PairEnd) (pair_in parts c.args.level units v) is _ _ _ _ _ c.in_ok-begin_pair.ensures.goes (c.in_err-value.ensures.goes v valid spells))
+
+pub pair-returns-clause-goes : goal.pair-returns-clause-goes
+pair-returns-clause-goes g t c = λ units v named valid spells.
+    let parts = g.N.Notation.parts in
+    let seen = units_of c.text_of.result in
+    let is = ap (λ us. pair_in parts c.args.level us v) (text_seen (octets_of c.args.self.now.file) c.args.key seen units c.text_of.ensures named) in
+    brackets_closed (parts.pair_start c.args.level seen) (text_in parts c.args.level v) (parts.mark_text PairEnd) (pair_in parts c.args.level units v) is _ _ _ _ _ _ c.write_mark.result c.in_ok-begin_pair.ensures.goes (c.in_ok-value.ensures.goes v valid spells) c.write_mark.ensures.goes

@@ -1,0 +1,48 @@
+//! What is written for the parts of a value in a notation.
+ghost use Rattle.plist_value.specs.Scalars.{content_of};
+ghost use Rattle.plist_value.specs.Texts.{units_of};
+ghost use Rattle.plist_engine.specs.Output.{Goes, state_of};
+ghost use Rattle.plist_engine.specs.Notation.{Parts};
+
+use crate::{Output, Sink, WriteFault};
+use plist_value::{ScalarRef, TextRef};
+
+/// A part of the text that depends on no value and no level.
+#[derive(Clone, Copy)]
+pub enum Mark {
+    EmptyList,
+    ListStart,
+    ListEnd,
+    ItemEnd,
+    EmptyTable,
+    TableStart,
+    TableEnd,
+    PairEnd,
+    TextEnd,
+}
+
+/// A notation of property lists. `level` counts the containers around the line that is written.
+pub trait Notation<W: Sink> {
+    // What is written for each part.
+    ghost parts: { Parts };
+
+    /// Writes a scalar that begins on a line of this level.
+    fn write_scalar(scalar: &ScalarRef, level: u64, out: &mut Output<W>) -> Result<(), WriteFault>
+        ensures goes { Goes (parts.scalar_text level (content_of scalar.now))
+            (state_of W.Sink out.old) (state_of W.Sink out.new) result };
+
+    /// Writes what precedes an item or a closing bracket.
+    fn begin_line(level: u64, out: &mut Output<W>) -> Result<(), WriteFault>
+        ensures goes { Goes (parts.line_start level)
+            (state_of W.Sink out.old) (state_of W.Sink out.new) result };
+
+    /// Writes what precedes a value of a dictionary: its key, and what separates them.
+    fn begin_pair(key: &TextRef, level: u64, out: &mut Output<W>) -> Result<(), WriteFault>
+        ensures goes { Goes (parts.pair_start level (units_of key.now))
+            (state_of W.Sink out.old) (state_of W.Sink out.new) result };
+
+    /// Writes a mark.
+    fn write_mark(mark: Mark, out: &mut Output<W>) -> Result<(), WriteFault>
+        ensures goes { Goes (parts.mark_text mark)
+            (state_of W.Sink out.old) (state_of W.Sink out.new) result };
+}
