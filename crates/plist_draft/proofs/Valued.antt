@@ -38,9 +38,8 @@ items-end helds done left all none begun =
 
 zip-last : (xs ys : List ℕ) (x y : ℕ) → length xs ≡ length ys → zip (xs ++ (x ∷ [])) (ys ++ (y ∷ [])) ≡ zip xs ys ++ ((x, y) ∷ [])
 zip-last [] [] x y same = refl
-zip-last [] (z ∷ zs) x y same = absurd (omega arith)
-zip-last (z ∷ zs) [] x y same = absurd (omega arith)
 zip-last (w ∷ ws) (z ∷ zs) x y same = ap (λ (rows : List (ℕ × ℕ)). (w, z) ∷ rows) (zip-last ws zs x y (omega arith))
+zip-last _ _ x y same = absurd (omega arith)
 
 -- if the remaining numbers encode the remaining entries, then all numbers encode all entries
 pub record PairsLeft (helds : List Held) (keys values : List ℕ) (left all : Pairs) : Type 0 where
