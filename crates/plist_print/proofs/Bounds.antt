@@ -50,7 +50,6 @@ module _ (last most each : ℕ) (is : each ≡ 70 + 4 * most) (within : (level :
         let line = line-long level s valid in
         let few = within level (omega (arith, h)) in
         omega (arith, is, line, few)
-    value-long level (list no_items) h valid = omega (arith, is)
     value-long level (list (item v vs)) h valid =
         let inside = items-long (suc level) (item v vs) (omega (arith, h)) valid in
         let few = blanks level (omega (arith, h)) in
@@ -59,7 +58,6 @@ module _ (last most each : ℕ) (is : each ≡ 70 + 4 * most) (within : (level :
         let inner = length-append (indent level) (93 ∷ 10 ∷ []) in
         let times = mul-add each 1 (nodes_of_items (item v vs)) in
         omega (arith, is, inside, few, outer, inner, times)
-    value-long level (table no_pairs) h valid = omega (arith, is)
     value-long level (table (pair key v ps)) h valid =
         let inside = pairs-long (suc level) (pair key v ps) (omega (arith, h)) valid in
         let few = blanks level (omega (arith, h)) in
@@ -68,6 +66,7 @@ module _ (last most each : ℕ) (is : each ≡ 70 + 4 * most) (within : (level :
         let inner = length-append (indent level) (125 ∷ 10 ∷ []) in
         let times = mul-add each 1 (nodes_of_pairs (pair key v ps)) in
         omega (arith, is, inside, few, outer, inner, times)
+    value-long level _ h valid = omega (arith, is)
 
     items-long : (level : ℕ) (vs : Items) → level + depth_of_items vs ≤ last → AreItems vs → length (printed_items level vs) ≤ 5 * payload_of_items vs + each * nodes_of_items vs
     items-long level no_items h valid = omega arith

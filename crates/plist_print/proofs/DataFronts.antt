@@ -19,9 +19,8 @@ taken (suc n) [] h = h
 taken (suc n) (x ∷ xs) h = octet_at x n xs (h 0) (taken n xs (λ k. h (suc k)))
 
 dropped : (n : ℕ) (xs : List ℕ) → AreOctets xs → AreOctets (drop n xs)
-dropped zero xs h = h
-dropped (suc n) [] h = h
 dropped (suc n) (x ∷ xs) h = dropped n xs (λ i. h (suc i))
+dropped _ _ h = h
 
 -- the rest of the lines
 less : (n : ℕ) (xs : List ℕ) → suc n ≡ (length xs + 31) / 32 → n ≡ (length (drop 32 xs) + 31) / 32
@@ -30,9 +29,7 @@ less n xs e = let left = length-drop 32 xs in omega (arith, e, left)
 front-by : (level n m : ℕ) (xs ys r s : List ℕ) → n ≡ (length xs + 31) / 32 → m ≡ (length ys + 31) / 32 → AreOctets xs → AreOctets ys
     → data_lines (indent (suc level)) n xs ++ ending level 62 r ≡ data_lines (indent (suc level)) m ys ++ ending level 62 s → (xs ≡ ys) × (r ≡ s)
 front-by level zero zero [] [] r s p q h k same = (refl, endings-front level 62 r s same)
-front-by level zero m (x ∷ xs) ys r s p q h k same = absurd (omega (arith, p))
 front-by level n zero xs (y ∷ ys) r s p q h k same = absurd (omega (arith, q))
-front-by level (suc n) m [] ys r s p q h k same = absurd (omega (arith, p))
 front-by level n (suc m) xs [] r s p q h k same = absurd (omega (arith, q))
 front-by level zero (suc m) [] (y ∷ ys) r s p q h k same =
     absurd (ending-no_row level 62 r _ (ending level 62 s) (λ e. omega arith) (λ e. let b = k 0 in digit-no_end 62 (y / 16) (omega arith) (omega arith) (sym e)) same)
@@ -48,6 +45,7 @@ front-by level (suc n) (suc m) (x ∷ xs) (y ∷ ys) r s p q h k same =
     let first = data-front 10 (take 32 (x ∷ xs)) (take 32 (y ∷ ys)) (after ++ ending level 62 r) (behind ++ ending level 62 s) (omega arith) (taken 32 (x ∷ xs) h) (taken 32 (y ∷ ys) k) line in
     let rest = front-by level n m (drop 32 (x ∷ xs)) (drop 32 (y ∷ ys)) r s (less n (x ∷ xs) p) (less m (y ∷ ys) q) (dropped 32 (x ∷ xs) h) (dropped 32 (y ∷ ys) k) first.1 in
     (sym (take-append-drop 32 (x ∷ xs)) ∙ ap (λ t. t ++ drop 32 (x ∷ xs)) first.0 ∙ ap (λ t. take 32 (y ∷ ys) ++ t) rest.0 ∙ take-append-drop 32 (y ∷ ys), rest.1)
+front-by level _ m _ ys r s p q h k same = absurd (omega (arith, p))
 
 pub lines-front : (level : ℕ) (xs ys r s : List ℕ) → AreOctets xs → AreOctets ys
     → octet_lines (indent (suc level)) xs ++ ending level 62 r ≡ octet_lines (indent (suc level)) ys ++ ending level 62 s → (xs ≡ ys) × (r ≡ s)

@@ -8,8 +8,7 @@ pub mod ValueFronts
 pub mod Scaling
 pub mod Deciding
 pub mod Calendar
-pub mod PrintSteps
-pub mod Enclosing
+pub mod Texts
 pub mod Plain
 pub mod DataLines
 pub mod Endings

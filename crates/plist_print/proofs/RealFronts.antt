@@ -285,9 +285,7 @@ real-front f xs ys c d r s format h k p q same =
 shape-kind : (a : Shape) (x : List ℕ) → IsShape a → kind_of_head (head_of (text_of a ++ x)) ≡ 1
 shape-kind (as_decimal n k) x h =
     ap (λ l. kind_of_head (head_of l)) (spread n k x) ∙ digits-kind (decimal (n / 10 ^ k)) 46 (last_digits k n ++ x) (whole-digits n k h).1 refl
-shape-kind (as_octets xs) x h = refl
-shape-kind endless x h = refl
-shape-kind (no_number xs) x h = refl
+shape-kind _ x h = refl
 
 signed-kind : (b : Bool) (a : Shape) (x : List ℕ) → IsShape a → kind_of_head (head_of ((sign_text b ++ text_of a) ++ x)) ≡ 1
 signed-kind true a x h = refl

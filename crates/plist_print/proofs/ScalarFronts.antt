@@ -78,13 +78,11 @@ flag-kind true r = refl
 flag-kind false r = refl
 
 pub scalar-kind : (v : Scalar) (r : List ℕ) → IsScalar v → kind_of_head (head_of (printed_scalar v ++ (10 ∷ r))) ≡ kind_of v
-scalar-kind (text units) r h = refl
 scalar-kind (whole z) r h = whole-kind z r h
 scalar-kind (flag b) r h = flag-kind b r
 scalar-kind (real4 xs) r h = ap (λ l. kind_of_head (head_of l)) (line-4 xs (10 ∷ r)) ∙ real-kind single xs (102 ∷ 10 ∷ r) single-format h.octets
 scalar-kind (real8 xs) r h = real-kind double xs (10 ∷ r) double-format h.octets
-scalar-kind (moment xs) r h = refl
-scalar-kind (bytes xs) r h = refl
+scalar-kind _ r h = refl
 
 apart : {A : Type 0} (v w : Scalar) (r s : List ℕ) → IsScalar v → IsScalar w → printed_scalar v ++ (10 ∷ r) ≡ printed_scalar w ++ (10 ∷ s) → (kind_of v ≡ kind_of w → ⊥) → A
 apart v w r s h k same differ =
@@ -137,12 +135,7 @@ scalar-front v w r s h k same = apart v w r s h k same (λ e. omega arith)
 
 pub small-kind : (s : Scalar) → kind_of s < 5
 small-kind (text units) = omega arith
-small-kind (whole z) = omega arith
-small-kind (flag b) = omega arith
-small-kind (real4 xs) = omega arith
-small-kind (real8 xs) = omega arith
-small-kind (moment xs) = omega arith
-small-kind (bytes xs) = omega arith
+small-kind _ = omega arith
 
 -- data of more than 32 bytes does not begin like a single line
 no-line : {A : Type 0} (a : Scalar) (r y : List ℕ) → IsScalar a → printed_scalar a ++ (10 ∷ r) ≡ 60 ∷ 10 ∷ y → (kind_of a ≡ 4 → ⊥) → A

@@ -58,8 +58,7 @@ values-kind level v w r s h k same =
 
 kind-no_bracket : (v : Plist) → kind_of_value v ≡ 7 → ⊥
 kind-no_bracket (scalar s) e = let small = small-kind s in omega arith
-kind-no_bracket (list vs) e = omega arith
-kind-no_bracket (table ps) e = omega arith
+kind-no_bracket _ e = omega arith
 
 no-bracket : (level : ℕ) (v : Plist) (b s : List ℕ) → IsPlist v → 93 ≡ head_of ((printed_at level v ++ b) ++ s) → ⊥
 no-bracket level v b s h e =

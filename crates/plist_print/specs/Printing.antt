@@ -1,16 +1,25 @@
--- What is printed for objects of a file, line by line.
-use Rattle.std.specs.Prelude.{ℕ, List, ◌++◌, codes}
-use Rattle.plist_value.specs.Plist.{Plist}
+-- Printed texts as a notation.
+use Rattle.std.specs.Prelude.{ℕ, List, [], ◌++◌, codes}
+use Rattle.plist_engine.specs.declared.notation.Mark.{Mark}
+use Rattle.plist_engine.specs.declared.notation.Mark.TheVariants.{EmptyList, ListStart, ListEnd, ItemEnd, EmptyTable, TableStart, TableEnd, PairEnd, TextEnd}
+use Rattle.plist_engine.specs.Notation.{Parts}
 use Rattle.plist_print.specs.Units.{printed_text}
-use Rattle.plist_print.specs.Printed.{indent, printed_at}
+use Rattle.plist_print.specs.Printed.{indent, printed_line}
 
 -- what precedes the value of this key
 abbrev pub pair_head : ℕ → List ℕ → List ℕ
 pair_head level key = indent level ++ (printed_text key ++ codes " => ")
 
--- the lines of an item, and those of an entry
-abbrev pub item_lines : ℕ → Plist → List ℕ
-item_lines level v = indent level ++ printed_at level v
+abbrev pub printed_mark : Mark → List ℕ
+printed_mark EmptyList = codes "[]\n"
+printed_mark ListStart = codes "[\n"
+printed_mark ListEnd = codes "]\n"
+printed_mark ItemEnd = []
+printed_mark EmptyTable = codes "{}\n"
+printed_mark TableStart = codes "{\n"
+printed_mark TableEnd = codes "}\n"
+printed_mark PairEnd = []
+printed_mark TextEnd = []
 
-abbrev pub pair_lines : ℕ → List ℕ → Plist → List ℕ
-pair_lines level key v = pair_head level key ++ printed_at level v
+abbrev pub printed_parts : Parts
+printed_parts = record { scalar_text = printed_line; line_start = indent; pair_start = pair_head; mark_text = printed_mark }
