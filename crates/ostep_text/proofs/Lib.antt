@@ -6,6 +6,7 @@ pub mod WholeLemmas
 pub mod FaultyProof
 pub mod WrittenLexing
 pub mod WrittenProof
+pub mod PlainText
 pub mod MachineLemmas
 pub mod PhraseSteps
 pub mod SortingSteps

@@ -21,16 +21,13 @@ after-value without rest = refl
 -- no item begins with the parenthesis that ends an array
 pub item-begins : {tokens rest : List Lexeme} {v : Plist} (a : Around) → Phrase tokens v rest → runs (Machine.items a) tokens ≡ runs (Machine.due (Machine.in_list a)) tokens
 item-begins a a_string = refl
-item-begins a some_data = refl
-item-begins a (a_list p) = refl
-item-begins a (a_table p s) = refl
+item-begins a _ = refl
 
 mutual
   pub value-runs : {tokens rest : List Lexeme} {v : Plist} (a : Around) → Phrase tokens v rest → runs (Machine.due a) tokens ≡ runs (Machine.after a) rest
-  value-runs a a_string = refl
-  value-runs a some_data = refl
   value-runs a (a_list p) = items-runs a p
   value-runs a (a_table p s) = rows-runs braces p
+  value-runs a _ = refl
 
   pub items-runs : {tokens rest : List Lexeme} {vs : Items} (a : Around) → ItemsPhrase tokens vs rest → runs (Machine.items a) tokens ≡ runs (Machine.items a) rest
   items-runs a items_end = refl
@@ -85,124 +82,58 @@ pub leads-nowhere : (whole : Front) (s : State) (l : Lexeme) → ((rest : List L
 leads-nowhere whole s l d e rest = d (l ∷ rest) ∙ (ap (λ x. runs x rest) e ∙ stays-dead rest)
 
 pub item-begun : (a : Around) (kind : TokenKind) → ¬ (kind ≡ ParenClose) → item_or_end a (lexeme_of kind) ≡ begun (Machine.in_list a) (lexeme_of kind)
-item-begun a BraceOpen n = refl
-item-begun a BraceClose n = refl
-item-begun a ParenOpen n = refl
 item-begun a ParenClose n = absurd (n refl)
-item-begun a Comma n = refl
-item-begun a Semicolon n = refl
-item-begun a Equals n = refl
-item-begun a (Text units) n = refl
-item-begun a (Octets xs) n = refl
+item-begun a _ n = refl
 
 pub item-ended : (a : Around) (kind : TokenKind) → ¬ (kind ≡ ParenClose) → ¬ (kind ≡ Comma) → ended (Machine.in_list a) (lexeme_of kind) ≡ Machine.dead
-item-ended a BraceOpen n m = refl
-item-ended a BraceClose n m = refl
-item-ended a ParenOpen n m = refl
 item-ended a ParenClose n m = absurd (n refl)
 item-ended a Comma n m = absurd (m refl)
-item-ended a Semicolon n m = refl
-item-ended a Equals n m = refl
-item-ended a (Text units) n m = refl
-item-ended a (Octets xs) n m = refl
+item-ended a _ n m = refl
 
 pub row-ended : {t : Around} → IsTable t → (kind : TokenKind) → ¬ (kind ≡ Semicolon) → ended t (lexeme_of kind) ≡ Machine.dead
-row-ended braces BraceOpen n = refl
-row-ended braces BraceClose n = refl
-row-ended braces ParenOpen n = refl
-row-ended braces ParenClose n = refl
-row-ended braces Comma n = refl
 row-ended braces Semicolon n = absurd (n refl)
-row-ended braces Equals n = refl
-row-ended braces (Text units) n = refl
-row-ended braces (Octets xs) n = refl
-row-ended without BraceOpen n = refl
-row-ended without BraceClose n = refl
-row-ended without ParenOpen n = refl
-row-ended without ParenClose n = refl
-row-ended without Comma n = refl
 row-ended without Semicolon n = absurd (n refl)
-row-ended without Equals n = refl
-row-ended without (Text units) n = refl
-row-ended without (Octets xs) n = refl
+row-ended _ _ n = refl
 
 pub key-ended : (t : Around) (kind : TokenKind) → ¬ (kind ≡ Equals) → ¬ (kind ≡ Semicolon) → after_key t (lexeme_of kind) ≡ Machine.dead
-key-ended t BraceOpen n m = refl
-key-ended t BraceClose n m = refl
-key-ended t ParenOpen n m = refl
-key-ended t ParenClose n m = refl
-key-ended t Comma n m = refl
 key-ended t Semicolon n m = absurd (m refl)
 key-ended t Equals n m = absurd (n refl)
-key-ended t (Text units) n m = refl
-key-ended t (Octets xs) n m = refl
+key-ended t _ n m = refl
 
 pub table-ended : (a : Around) (kind : TokenKind) → ¬ (kind ≡ BraceClose) → ((units : List ℕ) → ¬ (kind ≡ Text units))
     → row_or_end (Machine.in_braces a) (lexeme_of kind) ≡ Machine.dead
-table-ended a BraceOpen n m = refl
 table-ended a BraceClose n m = absurd (n refl)
-table-ended a ParenOpen n m = refl
-table-ended a ParenClose n m = refl
-table-ended a Comma n m = refl
-table-ended a Semicolon n m = refl
-table-ended a Equals n m = refl
 table-ended a (Text units) n m = absurd (m units refl)
-table-ended a (Octets xs) n m = refl
+table-ended a _ n m = refl
 
 pub bare-ended : (kind : TokenKind) → ((units : List ℕ) → ¬ (kind ≡ Text units)) → row_or_end Machine.bare (lexeme_of kind) ≡ Machine.dead
-bare-ended BraceOpen m = refl
-bare-ended BraceClose m = refl
-bare-ended ParenOpen m = refl
-bare-ended ParenClose m = refl
-bare-ended Comma m = refl
-bare-ended Semicolon m = refl
-bare-ended Equals m = refl
 bare-ended (Text units) m = absurd (m units refl)
-bare-ended (Octets xs) m = refl
+bare-ended _ m = refl
 
 pub value-ended : (a : Around) (kind : TokenKind) → ((units : List ℕ) → ¬ (kind ≡ Text units)) → ((xs : Vec ℕ Global) → ¬ (kind ≡ Octets xs)) → ¬ (kind ≡ ParenOpen) → ¬ (kind ≡ BraceOpen)
     → begun a (lexeme_of kind) ≡ Machine.dead
 value-ended a BraceOpen t o p b = absurd (b refl)
-value-ended a BraceClose t o p b = refl
 value-ended a ParenOpen t o p b = absurd (p refl)
-value-ended a ParenClose t o p b = refl
-value-ended a Comma t o p b = refl
-value-ended a Semicolon t o p b = refl
-value-ended a Equals t o p b = refl
 value-ended a (Text units) t o p b = absurd (t units refl)
 value-ended a (Octets xs) t o p b = absurd (o xs refl)
+value-ended a _ t o p b = refl
 
 pub value-none : (kind : TokenKind) → ((units : List ℕ) → ¬ (kind ≡ Text units)) → ((xs : Vec ℕ Global) → ¬ (kind ≡ Octets xs)) → ¬ (kind ≡ ParenOpen) → ¬ (kind ≡ BraceOpen)
     → begins_value (lexeme_of kind ∷ []) ≡ false
 value-none BraceOpen t o p b = absurd (b refl)
-value-none BraceClose t o p b = refl
 value-none ParenOpen t o p b = absurd (p refl)
-value-none ParenClose t o p b = refl
-value-none Comma t o p b = refl
-value-none Semicolon t o p b = refl
-value-none Equals t o p b = refl
 value-none (Text units) t o p b = absurd (t units refl)
 value-none (Octets xs) t o p b = absurd (o xs refl)
+value-none _ t o p b = refl
 
 -- at the start too, except for a string
 pub front-begun : (kind : TokenKind) → ((units : List ℕ) → ¬ (kind ≡ Text units)) → Machine.at_front (lexeme_of kind) ≡ begun Machine.top (lexeme_of kind)
-front-begun BraceOpen t = refl
-front-begun BraceClose t = refl
-front-begun ParenOpen t = refl
-front-begun ParenClose t = refl
-front-begun Comma t = refl
-front-begun Semicolon t = refl
-front-begun Equals t = refl
 front-begun (Text units) t = absurd (t units refl)
-front-begun (Octets xs) t = refl
+front-begun _ t = refl
 
 pub none-begins : (a : Around) (kind : TokenKind) → begins_value (lexeme_of kind ∷ []) ≡ false → begun a (lexeme_of kind) ≡ Machine.dead
 none-begins a BraceOpen e = cc e
-none-begins a BraceClose e = refl
 none-begins a ParenOpen e = cc e
-none-begins a ParenClose e = refl
-none-begins a Comma e = refl
-none-begins a Semicolon e = refl
-none-begins a Equals e = refl
 none-begins a (Text units) e = cc e
 none-begins a (Octets xs) e = cc e
+none-begins a _ e = refl

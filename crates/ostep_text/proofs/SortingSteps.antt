@@ -87,9 +87,7 @@ put-depth key v ps levels d one deep all = omega (arith, among-depth (put-stands
 
 or-swap : (b c d : Bool) → (b || (c || d)) ≡ (c || (b || d))
 or-swap true true d = refl
-or-swap true false d = refl
-or-swap false true d = refl
-or-swap false false d = refl
+or-swap _ _ d = refl
 
 among-has : {k : List ℕ} {v : Plist} {others all : Pairs} (key : List ℕ) → StandsAmong k v others all → has_key key all ≡ (pointwise nat_eq key k || has_key key others)
 among-has key first = refl

@@ -29,16 +29,7 @@ use Rattle.ostep_text.proofs.SortingSteps.{reordered-has}
 
 pub tokens-stand : (octets : List ℕ) (fault : LexFault) → StandsInTokens octets fault → Stands octets (of_tokens fault)
 tokens-stand octets lexer.OutOfMemory s = tt
-tokens-stand octets (lexer.BadUtf8 at) s = s
-tokens-stand octets (lexer.XmlForm at) s = s
-tokens-stand octets (lexer.UnexpectedCharacter at) s = s
-tokens-stand octets (lexer.UnclosedString at) s = s
-tokens-stand octets (lexer.UnclosedComment at) s = s
-tokens-stand octets (lexer.BadEscape at) s = s
-tokens-stand octets (lexer.OctalRange at) s = s
-tokens-stand octets (lexer.OddData at) s = s
-tokens-stand octets (lexer.BadData at) s = s
-tokens-stand octets (lexer.BadUtf16 at) s = s
+tokens-stand octets _ s = s
 
 pub before-more : (tokens : List Placed) (token : Placed) (whole : Front) → AreBefore tokens whole → AreBefore (tokens ++ token ∷ []) (λ rest. whole (token.lexeme ∷ rest))
 before-more tokens token whole b rest =

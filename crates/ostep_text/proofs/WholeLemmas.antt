@@ -3,10 +3,10 @@
 use Rattle.std.proofs.Common.{◌≡◌, ℕ, ◌+◌, ◌*◌, ◌≤◌, Bool, true, false, ◌||◌, List, [], ◌∷◌, length, refl, ap, sym, subst, arith}
 use Rattle.std.specs.Prelude.{max, nat_eq}
 use Rattle.std.specs.Cmp.Lexicographic.{pointwise, bytes_decides}
-use Rattle.plist_value.specs.Plist.{text, Plist, scalar, list, table, Items, no_items, item, Pairs, no_pairs, pair}
+use Rattle.plist_value.specs.Plist.{text, Plist, scalar, Items, no_items, item, Pairs, no_pairs, pair}
 use Rattle.plist_value.specs.Limits.{nodes, nodes_of_items, nodes_of_pairs, depth, depth_of_items, depth_of_pairs, payload, payload_of_items, payload_of_pairs}
 use Rattle.ostep_lex.specs.Lexeme.{Lexeme, brace_open, paren_open, paren_close, semicolon, equals, text as string}
-use Rattle.ostep_text.specs.Phrase.{Phrase, a_string, some_data, a_list, a_table, ItemsPhrase, items_end, last_item, an_item, RowPhrase, with_value, key_alone, RowsPhrase, rows_end, a_row, TopPhrase, a_value, bare_table}
+use Rattle.ostep_text.specs.Phrase.{Phrase, a_string, a_list, a_table, ItemsPhrase, items_end, last_item, an_item, RowPhrase, with_value, key_alone, RowsPhrase, rows_end, a_row, TopPhrase, a_value, bare_table}
 use Rattle.ostep_text.specs.Sorting.{has_key}
 use Rattle.ostep_text.specs.Begun
 use Rattle.ostep_text.specs.Begun.{Before, nothing, opened, with_items, with_rows, with_key, ValueAt, RowsAt, NewKeyAt, NodeAt, begins_value}
@@ -259,19 +259,15 @@ pub record NodeWithin (b : Before) (at : List Lexeme) (v : Plist) : Type 0 where
 
 some-nodes : (v : Plist) → 1 ≤ nodes v
 some-nodes (scalar s) = omega arith
-some-nodes (list vs) = omega arith
-some-nodes (table ps) = omega arith
+some-nodes _ = omega arith
 
 some-depth : (v : Plist) → 1 ≤ depth v
 some-depth (scalar s) = omega arith
-some-depth (list vs) = omega arith
-some-depth (table ps) = omega arith
+some-depth _ = omega arith
 
 first-payload : {at rest : List Lexeme} {w : Plist} → Phrase at w rest → payload_at at ≤ payload w
 first-payload a_string = omega arith
-first-payload some_data = omega arith
-first-payload (a_list p) = omega arith
-first-payload (a_table p s) = omega arith
+first-payload _ = omega arith
 
 row-payload : {at rest : List Lexeme} {key : List ℕ} {w : Plist} → RowPhrase at key w rest → payload_at at ≡ 2 * length key
 row-payload (with_value p) = refl

@@ -51,8 +51,7 @@ abbrev mutual
 
 pub both : (x y : Bool) → (x && y) ≡ true → (x ≡ true) × (y ≡ true)
 both true true e = (refl, refl)
-both true false e = cc e
-both false y e = cc e
+both _ _ e = cc e
 
 ascending : (ps : Pairs) → ArePairs ps → IsAscending ps
 ascending no_pairs h = tt
@@ -65,11 +64,7 @@ as_they_are (pair key v ps) = Sorting.row (as_they_are ps) Sorting.first
 scalar-phrase : (s : Scalar) (rest : List Lexeme) → is_writable (scalar s) ≡ true → Phrase (scalar_tokens s rest) (scalar s) rest
 scalar-phrase (text units) rest e = a_string
 scalar-phrase (bytes xs) rest e = some_data
-scalar-phrase (whole z) rest e = cc e
-scalar-phrase (flag b) rest e = cc e
-scalar-phrase (real4 xs) rest e = cc e
-scalar-phrase (real8 xs) rest e = cc e
-scalar-phrase (moment xs) rest e = cc e
+scalar-phrase _ rest e = cc e
 
 mutual
   pub value-phrase : (v : Plist) (rest : List Lexeme) → IsPlist v → is_writable v ≡ true → Phrase (value_tokens v rest) v rest
@@ -120,11 +115,7 @@ data-long xs = simp length-append (omega (arith, digits-long xs))
 scalar-short : (s : Scalar) → is_writable (scalar s) ≡ true → length (written (scalar s)) + 2 ≤ 3 * payload (scalar s) + 5
 scalar-short (text units) e = omega (arith, text-short units)
 scalar-short (bytes xs) e = omega (arith, data-long xs)
-scalar-short (whole z) e = cc e
-scalar-short (flag b) e = cc e
-scalar-short (real4 xs) e = cc e
-scalar-short (real8 xs) e = cc e
-scalar-short (moment xs) e = cc e
+scalar-short _ e = cc e
 
 mutual
   pub value-short : (v : Plist) → is_writable v ≡ true → length (written v) + 2 ≤ 3 * payload v + 5 * nodes v

@@ -1,8 +1,7 @@
 -- A written text is ASCII, so its bytes are its characters. It does not begin like a binary file,
 -- and it is a text of its value.
-use Rattle.std.proofs.Common.{◌≡◌, ℕ, ◌+◌, ◌<◌, Bool, true, false, List, [], ◌∷◌, ◌++◌, length, take, get_or, refl, sym, subst, ◌&&◌, arith, ◌/◌, ◌%◌, ◌≤◌, not, ◌||◌, ap, ◌∙◌, if◌then◌else◌, suc, lit≤, Some, None, length-append}
+use Rattle.std.proofs.Common.{◌≡◌, ℕ, ◌<◌, Bool, true, false, List, [], ◌∷◌, ◌++◌, refl, sym, subst, ◌&&◌, arith, ◌/◌, ◌%◌, ◌≤◌, not, ◌||◌, ap, ◌∙◌, if◌then◌else◌, suc, lit≤, Some, None, length-append}
 use Rattle.std.proofs.lemmas.Bool.Decides.{nat_tests}
-use Rattle.std.proofs.lemmas.List.{take_more}
 use Rattle.std.specs.Char.{is_ascii_alphanumeric, digit_char}
 use Rattle.std.specs.Prelude.{◌==◌, codes, flat_map, nat_eq, nat_lt}
 use Rattle.std.specs.Int.{is_in_range}
@@ -12,8 +11,7 @@ use Rattle.std.proofs.lemmas.Str.{encode_ascii}
 use lib.Utf8.{scalar as is_scalar}
 use Rattle.ostep_text.specs.Written.{are_alphanumeric, is_plain, is_empty, quoted_unit, written_text, written, written_items, written_pairs, is_writable}
 use Rattle.plist_value.specs.Digits.{two_digits}
-use Rattle.ostep_text.specs.Ascii.{are_ascii}
-use Rattle.plist_value.specs.Plist.{Scalar, text, whole, flag, real4, real8, moment, bytes, Plist, scalar, list, table, Items, no_items, item, Pairs, no_pairs, pair, AreUnits, AreOctets, AreItems, ArePairs, IsPlist}
+use Rattle.plist_value.specs.Plist.{Scalar, text, bytes, Plist, scalar, list, table, Items, no_items, item, Pairs, no_pairs, pair, AreUnits, AreOctets, AreItems, ArePairs, IsPlist}
 use Rattle.ostep_lex.specs.Encoding.{Spells, utf8, octets_of, encoding_of, mark_of, places_of}
 use Rattle.plist_value.specs.Limits.{Fits}
 use Rattle.ostep_lex.specs.Gap
@@ -21,6 +19,11 @@ use Rattle.ostep_lex.specs.Lexing.{none}
 use Rattle.ostep_text.specs.Phrase.{TopPhrase, a_value}
 use Rattle.ostep_text.specs.Laws.{IsShortText, WrittenIsText}
 use Rattle.ostep_text.proofs.WrittenLexing.{both, value-phrase, value-short, Lexed, value-lexed}
+
+-- characters that UTF-8 encodes in one byte
+abbrev pub are_ascii : List ℕ → Bool
+are_ascii [] = true
+are_ascii (c ∷ cs) = nat_lt c 128 && are_ascii cs
 
 append-ascii : (xs ys : List ℕ) → are_ascii xs ≡ true → are_ascii ys ≡ true → are_ascii (xs ++ ys) ≡ true
 append-ascii [] ys h k = k
@@ -35,15 +38,8 @@ alphanumerics-ascii (unit ∷ units) e =
     let w = both (is_ascii_alphanumeric unit) (are_alphanumeric units) e in
     rw (alphanumeric-ascii unit w.0) (alphanumerics-ascii units w.1)
 
-pub plain-ascii : (units : List ℕ) → is_plain units ≡ true → are_ascii units ≡ true
+plain-ascii : (units : List ℕ) → is_plain units ≡ true → are_ascii units ≡ true
 plain-ascii units e = alphanumerics-ascii units (both _ _ (both _ _ e).0).1
-
-ascii-one : (unit : ℕ) → unit < 128 → are_ascii (unit ∷ []) ≡ true
-ascii-one unit h = grind (arith, nat_tests)
-
-pub ascii-more : (units : List ℕ) (i : ℕ) → i < length units → are_ascii (take i units) ≡ true → get_or units i 0 < 128 → are_ascii (take (i + 1) units) ≡ true
-ascii-more units i h e k =
-    subst (λ (us : List ℕ). are_ascii us ≡ true) (sym (take_more units i 0 h)) (append-ascii (take i units) (get_or units i 0 ∷ []) e (ascii-one (get_or units i 0) k))
 
 if-ascii : (b : Bool) (xs ys : List ℕ) → (b ≡ true → are_ascii xs ≡ true) → (b ≡ false → are_ascii ys ≡ true) → are_ascii (if b then xs else ys) ≡ true
 if-ascii true xs ys h k = h refl
@@ -79,11 +75,7 @@ octets-ascii (x ∷ xs) h = append-ascii (two_digits x) (flat_map two_digits xs)
 scalar-ascii : (s : Scalar) → IsPlist (scalar s) → are_ascii (written (scalar s)) ≡ true
 scalar-ascii (text units) h = text-ascii units h
 scalar-ascii (bytes xs) h = append-ascii (flat_map two_digits xs) (62 ∷ []) (octets-ascii xs h) refl
-scalar-ascii (whole z) h = refl
-scalar-ascii (flag x) h = refl
-scalar-ascii (real4 xs) h = refl
-scalar-ascii (real8 xs) h = refl
-scalar-ascii (moment xs) h = refl
+scalar-ascii _ h = refl
 
 mutual
   pub value-ascii : (v : Plist) → IsPlist v → are_ascii (written v) ≡ true
@@ -168,14 +160,7 @@ plain-binary units e =
 
 pub not-binary : (v : Plist) → starts_with nat_eq (written v ++ codes "\n") (codes "bplist") ≡ false
 not-binary (scalar (text units)) = if-binary (is_plain units) _ _ (plain-binary units) (λ e. refl)
-not-binary (scalar (bytes xs)) = refl
-not-binary (scalar (whole z)) = refl
-not-binary (scalar (flag x)) = refl
-not-binary (scalar (real4 xs)) = refl
-not-binary (scalar (real8 xs)) = refl
-not-binary (scalar (moment xs)) = refl
-not-binary (list vs) = refl
-not-binary (table ps) = refl
+not-binary _ = refl
 
 stated : (b : Bool) (xs octets : List ℕ) → (if b then Some xs else None) ≡ Some octets → (b ≡ true) × (xs ≡ octets)
 stated true xs octets e = (refl, cc e)

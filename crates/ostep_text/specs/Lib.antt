@@ -12,4 +12,3 @@ pub mod Reading
 pub mod Means
 pub mod Due
 pub mod WriteFault
-pub mod Ascii

@@ -23,4 +23,5 @@ mod writing;
 pub use fault::TextFault;
 pub use read::{judge_text, read_text};
 pub use write_fault::TextWriteFault;
+pub use write_scalars::{is_plain, put_quoted_unit};
 pub use writing::write_text;

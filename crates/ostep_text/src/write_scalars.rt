@@ -1,15 +1,15 @@
 //! Writing strings and data.
-ghost use Rattle.std.specs.Prelude.{◌≡◌, ◌<◌, ◌≤◌, [], ◌∷◌, ◌++◌, true, nat_eq};
-ghost use Rattle.std.specs.Prelude.{length, take, drop, codes, flat_map, OnOk, IfOk};
-ghost use Rattle.std.specs.Bool.{OnTrue};
+ghost use Rattle.std.specs.Prelude.{◌≡◌, ◌++◌, nat_eq, codes, flat_map, OnOk};
 ghost use Rattle.std.specs.List.{starts_with};
 ghost use Rattle.std.specs.Char.{is_ascii_alphanumeric};
-ghost use Rattle.ostep_text.specs.Ascii.{are_ascii};
+ghost use Rattle.plist_value.specs.Texts.{units_of};
 ghost use Rattle.ostep_text.specs.Written.{are_alphanumeric, is_plain, quoted_unit};
 ghost use Rattle.ostep_text.specs.Written.{written_data, written_text};
 
-use plist_value::{digits_of, put_digits};
+use plist_value::{TextRef, digits_of, put_digits};
 use std::alloc::AllocError;
+
+static BINARY: [u16; 6] = [0x62, 0x70, 0x6c, 0x69, 0x73, 0x74];
 
 /// Appends the bytes as data to `out`.
 pub(crate) fn put_data(out: &mut Vec<u8>, octets: &[u8]) -> Result<(), AllocError>
@@ -26,25 +26,30 @@ pub(crate) fn put_data(out: &mut Vec<u8>, octets: &[u8]) -> Result<(), AllocErro
 pub(crate) fn put_text(out: &mut Vec<u8>, units: &[u16]) -> Result<(), AllocError>
     ensures { OnOk result (out.new.items ≡ out.old.items ++ written_text units.now) }
 {
-    if is_plain(units) {
-        put_units(out, units)
-    } else {
-        put_quoted(out, units)
+    let text = TextRef::of_units(units);
+    if is_plain(&text) {
+        return put_units(out, &text);
     }
+    out.push(b'"')?;
+    put_units(out, &text)?;
+    out.push(b'"')?;
+    Ok(())
 }
 
-// Returns whether the string needs no quotes.
-fn is_plain(units: &[u16]) -> bool
-    ensures { result ≡ is_plain units.now }
+/// Returns whether the string is written without quotes: it has only ASCII letters and digits, at
+/// least one, and does not begin with `bplist`.
+pub fn is_plain(text: &TextRef) -> bool
+    ensures { result ≡ is_plain (units_of text.now) }
 {
-    !units.is_empty() && are_alphanumeric(units) && !begins_as_binary(units)
+    !text.is_empty() && are_alphanumeric(text) && !begins_as_binary(text)
 }
 
-fn are_alphanumeric(units: &[u16]) -> bool
-    ensures { result ≡ are_alphanumeric units.now }
+fn are_alphanumeric(text: &TextRef) -> bool
+    ensures { result ≡ are_alphanumeric (units_of text.now) }
 {
-    for unit in units {
-        if !is_alphanumeric(*unit) {
+    let text = *text;
+    for i in 0..text.len() {
+        if !is_alphanumeric(text.unit(i)) {
             return false;
         }
     }
@@ -59,85 +64,40 @@ fn is_alphanumeric(unit: u16) -> bool
 }
 
 // Returns whether the string begins with `bplist`, as a binary file does.
-fn begins_as_binary(units: &[u16]) -> bool
-    ensures { result ≡ starts_with nat_eq units.now (codes "bplist") }
+fn begins_as_binary(text: &TextRef) -> bool
+    ensures { result ≡ starts_with nat_eq (units_of text.now) (codes "bplist") }
 {
-    units.starts_with(&[0x62, 0x70, 0x6c, 0x69, 0x73, 0x74])
-}
-
-// Appends each unit as a byte.
-fn put_units(out: &mut Vec<u8>, units: &[u16]) -> Result<(), AllocError>
-    requires { are_ascii units.now ≡ true }
-    ensures { OnOk result (out.new.items ≡ out.old.items ++ units.now) }
-{
-    let start = out.len();
-    out.resize(start + units.len(), 0)?;
-    narrow(&mut out[start..], units);
-    Ok(())
-}
-
-// Copies each unit into its byte.
-fn narrow(octets: &mut [u8], units: &[u16])
-    requires long { length octets.old ≡ length units.now }
-    requires ascii { are_ascii units.now ≡ true }
-    ensures { octets.new ≡ units.now }
-{
-    for i in 0..units.len() {
-        octets[i] = units[i] as u8;
-    }
-}
-
-// Appends the string between quotes.
-fn put_quoted(out: &mut Vec<u8>, units: &[u16]) -> Result<(), AllocError>
-    ensures { OnOk result (out.new.items
-        ≡ out.old.items ++ codes "\"" ++ flat_map quoted_unit units.now ++ codes "\"") }
-{
-    out.push(b'"')?;
-    let mut left = put_stretch(out, units)?;
-    while let Some((unit, after)) = left.split_first() {
-        put_quoted_unit(out, *unit)?;
-        left = put_stretch(out, after)?;
-    }
-    out.push(b'"')?;
-    Ok(())
-}
-
-// Appends the longest prefix that needs no escapes and returns the rest.
-fn put_stretch<'a>(out: &mut Vec<u8>, units: &'a [u16]) -> Result<&'a [u16], AllocError>
-    ensures octets { IfOk result (λ left. out.new.items ++ flat_map quoted_unit left.now
-        ≡ out.old.items ++ flat_map quoted_unit units.entry.now) }
-    ensures shorter { IfOk result (λ left. length left.now ≤ length units.entry.now) }
-{
-    let (stretch, left) = units.split_at(stretch_length(units));
-    put_units(out, stretch)?;
-    Ok(left)
-}
-
-// Returns the length of the longest prefix that needs no escapes.
-fn stretch_length(units: &[u16]) -> usize
-    ensures within { result ≤ length units.now }
-    ensures ascii { are_ascii (take result units.now) ≡ true }
-    ensures quoted { flat_map quoted_unit units.now
-        ≡ take result units.now ++ flat_map quoted_unit (drop result units.now) }
-{
-    for (i, unit) in units.iter().enumerate() {
-        if !stands_itself(*unit) {
-            return i;
+    let text = *text;
+    for i in 0..6 {
+        if i >= text.len() {
+            return false;
+        }
+        if text.unit(i) != BINARY[i] {
+            return false;
         }
     }
-    units.len()
+    true
 }
 
-// Returns whether the unit needs no escape between quotes: printable ASCII, and neither `"` nor a
-// backslash.
-fn stands_itself(unit: u16) -> bool
-    ensures ascii { OnTrue result (unit < 128) }
-    ensures quoted { OnTrue result (quoted_unit unit ≡ unit ∷ []) }
+// Appends the units as they are between quotes.
+fn put_units(out: &mut Vec<u8>, text: &TextRef) -> Result<(), AllocError>
+    ensures { OnOk result
+        (out.new.items ≡ out.old.items ++ flat_map quoted_unit (units_of text.now)) }
 {
-    matches!(unit, 0x20..=0x7e) && unit != 0x22 && unit != 0x5c
+    let text = *text;
+    for i in 0..text.len() {
+        put_quoted_unit(out, text.unit(i))?;
+    }
+    Ok(())
 }
 
-fn put_quoted_unit(out: &mut Vec<u8>, unit: u16) -> Result<(), AllocError>
+/// Appends a UTF-16 unit of a string to `out`, as it is written between quotes: unchanged if it is
+/// printable ASCII, and otherwise an escape.
+///
+/// # Errors
+///
+/// [`AllocError`] if out of memory.
+pub fn put_quoted_unit(out: &mut Vec<u8>, unit: u16) -> Result<(), AllocError>
     ensures { OnOk result (out.new.items ≡ out.old.items ++ quoted_unit unit) }
 {
     match unit {

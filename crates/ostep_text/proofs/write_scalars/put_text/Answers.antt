@@ -1,5 +1,12 @@
-use Rattle.ostep_text.proofs.WrittenProof.{plain-ascii}
+use Rattle.std.proofs.Common.{◌≡◌, sym, ap, ◌∙◌}
+use Rattle.std.specs.Prelude.{flat_map}
+use Rattle.plist_value.specs.Texts.{units_of}
+use Rattle.ostep_text.specs.Written.{quoted_unit, written_text}
+use Rattle.ostep_text.proofs.PlainText.{plain_text}
 use Rattle.ostep_text.proofs.write_scalars.put_text.Goals as goal
 
-pub put_units-requires : goal.put_units-requires
-put_units-requires c = plain-ascii c.args.units.now (cc)
+pub returns-then-is_plain : goal.returns-then-is_plain
+returns-then-is_plain c =
+    let us = units_of c.of_units-text.result in
+    let same : flat_map quoted_unit us ≡ written_text c.args.units.now = plain_text us (sym c.is_plain.ensures ∙ c.if-is_plain.true) ∙ ap written_text c.of_units-text.ensures.text in
+    rw same at c.put_units.ensures
