@@ -1,3 +1,2 @@
 pub mod Marking
-pub mod Plain
-pub mod Joined
+pub mod Texts

@@ -1,10 +1,25 @@
--- What is written for an item, and for a key and its value.
-use Rattle.std.specs.Prelude.{ℕ, List, ◌++◌, codes}
-use Rattle.plist_value.specs.Plist.{Plist}
-use Rattle.ostep_text.specs.Written.{written, written_text}
+-- OpenStep texts as a notation.
+use Rattle.std.specs.Prelude.{ℕ, List, [], ◌++◌, codes}
+use Rattle.plist_engine.specs.declared.notation.Mark.{Mark}
+use Rattle.plist_engine.specs.declared.notation.Mark.TheVariants.{EmptyList, ListStart, ListEnd, ItemEnd, EmptyTable, TableStart, TableEnd, PairEnd, TextEnd}
+use Rattle.plist_engine.specs.Notation.{Parts}
+use Rattle.ostep_text.specs.Written.{written_scalar, written_text}
 
-abbrev pub item_text : Plist → List ℕ
-item_text v = written v ++ codes ",\n"
+abbrev pub written_mark : Mark → List ℕ
+written_mark EmptyList = codes "(\n)"
+written_mark ListStart = codes "(\n"
+written_mark ListEnd = codes ")"
+written_mark ItemEnd = codes ",\n"
+written_mark EmptyTable = codes "{\n}"
+written_mark TableStart = codes "{\n"
+written_mark TableEnd = codes "}"
+written_mark PairEnd = codes ";\n"
+written_mark TextEnd = codes "\n"
 
-abbrev pub pair_text : List ℕ → Plist → List ℕ
-pair_text key v = written_text key ++ codes " = " ++ written v ++ codes ";\n"
+abbrev pub written_parts : Parts
+written_parts = record {
+  scalar_text = λ level s. written_scalar s;
+  line_start = λ level. [];
+  pair_start = λ level key. written_text key ++ codes " = ";
+  mark_text = written_mark;
+}

@@ -1,21 +1,18 @@
 //! Writes strings.
-ghost use Rattle.std.specs.Prelude.{◌≡◌, ◌<◌, ◌≤◌, ◌++◌, [], ◌∷◌, nat_eq, length, take, drop};
-ghost use Rattle.std.specs.Prelude.{codes, flat_map, IfOk, OnOk};
+ghost use Rattle.std.specs.Prelude.{◌≡◌, ◌<◌, ◌≤◌, ◌++◌, [], ◌∷◌, length, take, drop};
+ghost use Rattle.std.specs.Prelude.{flat_map, IfOk};
 ghost use Rattle.std.specs.Bool.{OnTrue};
-ghost use Rattle.std.specs.List.{starts_with};
-ghost use Rattle.std.specs.Char.{is_ascii_alphanumeric};
 ghost use Rattle.plist_value.specs.Texts.{units_of};
 ghost use Rattle.plist_engine.specs.Output.{Goes, Puts, state_of};
-ghost use Rattle.ostep_text.specs.Written.{are_alphanumeric, is_plain, quoted_unit, written_text};
+ghost use Rattle.ostep_text.specs.Written.{quoted_unit, written_text};
 
+use ostep_text::{is_plain, put_quoted_unit};
 use plist_engine::{Output, Sink, WriteFault};
-use plist_value::{TextRef, digits_of};
+use plist_value::TextRef;
 use std::alloc::AllocError;
 
 // The maximum number of bytes that are appended at once.
 const RUN: usize = 4096;
-
-static BINARY: [u16; 6] = [0x62, 0x70, 0x6c, 0x69, 0x73, 0x74];
 
 /// Writes a string, without quotes if it is plain.
 ///
@@ -32,48 +29,6 @@ pub(crate) fn write_string<W: Sink>(text: &TextRef, out: &mut Output<W>) -> Resu
     out.put(b"\"")?;
     write_units(text, out)?;
     out.put(b"\"")
-}
-
-// Returns whether the string needs no quotes.
-fn is_plain(text: &TextRef) -> bool
-    ensures { result ≡ is_plain (units_of text.now) }
-{
-    !text.is_empty() && are_alphanumeric(text) && !begins_as_binary(text)
-}
-
-fn are_alphanumeric(text: &TextRef) -> bool
-    ensures { result ≡ are_alphanumeric (units_of text.now) }
-{
-    let text = *text;
-    for i in 0..text.len() {
-        if !is_alphanumeric(text.unit(i)) {
-            return false;
-        }
-    }
-    true
-}
-
-// Returns whether the unit is an ASCII letter or digit.
-fn is_alphanumeric(unit: u16) -> bool
-    ensures { result ≡ is_ascii_alphanumeric unit }
-{
-    matches!(unit, 0x30..=0x39 | 0x41..=0x5a | 0x61..=0x7a)
-}
-
-// Returns whether the string begins with `bplist`, as a binary file does.
-fn begins_as_binary(text: &TextRef) -> bool
-    ensures { result ≡ starts_with nat_eq (units_of text.now) (codes "bplist") }
-{
-    let text = *text;
-    for i in 0..6 {
-        if i >= text.len() {
-            return false;
-        }
-        if text.unit(i) != BINARY[i] {
-            return false;
-        }
-    }
-    true
 }
 
 // Writes the units as they are between quotes.
@@ -111,7 +66,7 @@ fn put_some(out: &mut Vec<u8>, text: &TextRef, place: usize) -> Result<usize, Al
         }
     }
     prove!(place < text.len());
-    put_unit(out, text.unit(place))?;
+    put_quoted_unit(out, text.unit(place))?;
     Ok(place + 1)
 }
 
@@ -134,23 +89,4 @@ fn needs_no_escape(octet: u8) -> bool
     ensures { OnTrue result (quoted_unit octet ≡ octet ∷ []) }
 {
     matches!(octet, 0x20..=0x7e) && octet != b'"' && octet != b'\\'
-}
-
-// Appends a unit as it is between quotes.
-fn put_unit(out: &mut Vec<u8>, unit: u16) -> Result<(), AllocError>
-    ensures { OnOk result (out.new.items ≡ out.old.items ++ quoted_unit unit) }
-{
-    match unit {
-        0x22 => out.extend_from_slice(b"\\\""),
-        0x5c => out.extend_from_slice(b"\\\\"),
-        0x0a => out.extend_from_slice(b"\\n"),
-        0x09 => out.extend_from_slice(b"\\t"),
-        0x0d => out.extend_from_slice(b"\\r"),
-        0x20..=0x7e => Ok(out.push(unit as u8)?),
-        _ => {
-            out.extend_from_slice(b"\\U")?;
-            out.extend_from_slice(&digits_of((unit / 256) as u8))?;
-            out.extend_from_slice(&digits_of((unit % 256) as u8))
-        }
-    }
 }

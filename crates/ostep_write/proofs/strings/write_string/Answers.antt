@@ -4,7 +4,7 @@ use Rattle.plist_value.specs.Texts.{units_of}
 use Rattle.plist_engine.proofs.Going.{Goes_same}
 use Rattle.plist_engine.proofs.Steps.{refused, brackets_unopened, brackets_unfilled, brackets_closed}
 use Rattle.ostep_text.specs.Written.{quoted_unit, written_text}
-use Rattle.ostep_write.proofs.Plain.{plain_text, quoted_text}
+use Rattle.ostep_text.proofs.PlainText.{plain_text, quoted_text}
 use Rattle.ostep_write.proofs.strings.write_string.Goals as goal
 
 pub returns-then-is_plain : goal.returns-then-is_plain
