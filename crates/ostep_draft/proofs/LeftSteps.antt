@@ -75,10 +75,6 @@ pub finds : {T : Type 0} (result : Result T NoDraft) (P Q : T → Type 0) → ((
 finds (Ok x) P Q then ok err = then x ok
 finds (Err e) P Q then ok err = err
 
-pub then-finds : {T : Type 0} (result : Result T NoDraft) (P Q : T → Type 0) → ((x : T) → P x → Q x) → UnlessMemory result P → UnlessMemory result Q
-then-finds (Ok x) P Q then found = then x found
-then-finds (Err e) P Q then found = found
-
 -- no value is the reason only if there is none
 pub no-text : {T : Type 0} (octets : List ℕ) (why : NoDraft) (result : Result T NoDraft) → IsErrAnd result (λ e. e ≡ why) → ((v : Plist) → IsText octets v → why ≡ OutOfMemory)
     → IfErr result (λ e. e ≡ NoValue → IsNoText octets)

@@ -28,14 +28,13 @@ first-moves x (y ∷ ys) zero d h = flip
 first-moves x (y ∷ ys) (suc j) d h = then flip (then (under (first-moves x ys j d (omega arith))) flip)
 
 swap-moves : {X : Type 0} (xs : List X) (i j : ℕ) → i < length xs → j < length xs → Moves xs (swap xs i j)
-swap-moves [] i j h k = still
-swap-moves (x ∷ xs) zero zero h k = still
 swap-moves (x ∷ xs) zero (suc j) h k = first-moves x xs j x (omega arith)
 swap-moves (x ∷ xs) (suc i) zero h k = first-moves x xs i x (omega arith)
 swap-moves (x ∷ xs) (suc i) (suc j) h k =
     let p : i < length xs = omega arith in
     let q : j < length xs = omega arith in
     subst (λ l. Moves (x ∷ xs) (x ∷ l)) (sym (swap_is xs i j x p q)) (under (swap-moves xs i j p q))
+swap-moves _ _ _ h k = still
 
 moves : {X : Type 0} (xs ys : List X) → IsPermutation xs ys → Moves xs ys
 moves xs ys p = IsPermutation-keeps xs (λ l. Moves xs l) still (λ l i j h k m. then m (swap-moves l i j h k)) ys p

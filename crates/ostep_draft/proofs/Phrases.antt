@@ -1,10 +1,10 @@
 -- What the tokens at the start of a phrase tell of it.
 use Rattle.std.proofs.Common.{◌≡◌, ℕ, ◌≤◌, true, false, List, [], ◌∷◌, refl, sym, ap, subst, ◌∙◌, arith}
 use Rattle.plist_value.specs.Plist.{Plist, scalar, text, bytes, list, table, Items, no_items, item, Pairs, no_pairs, pair}
-use Rattle.plist_value.specs.Limits.{depth}
+use Rattle.plist_value.specs.Limits.{depth, nodes}
 use Rattle.ostep_lex.specs.Lexeme.{Lexeme, brace_open, brace_close, paren_open, paren_close, comma, semicolon, equals, text as string, octets as data_token, lexeme_of}
 use Rattle.ostep_lex.specs.declared.token.TokenKind.{TokenKind}
-use Rattle.ostep_lex.specs.declared.token.TokenKind.TheVariants.{BraceOpen, BraceClose, ParenOpen, ParenClose, Comma, Semicolon, Equals, Text, Octets}
+use Rattle.ostep_lex.specs.declared.token.TokenKind.TheVariants.{ParenClose, Comma, Semicolon, Equals, Text}
 use Rattle.ostep_text.specs.Phrase.{Phrase, a_string, some_data, a_list, a_table, ItemsPhrase, items_end, last_item, an_item, RowPhrase, with_value, key_alone, RowsPhrase, rows_end, a_row, TopPhrase, a_value, bare_table}
 use Rattle.ostep_text.specs.Sorting.{AreSorted}
 use Rattle.ostep_text.specs.Begun.{begins_value}
@@ -16,20 +16,19 @@ use Rattle.ostep_draft.specs.Left.{is_bare}
 
 pub depth-some : (v : Plist) → 1 ≤ depth v
 depth-some (scalar s) = omega arith
-depth-some (list vs) = omega arith
-depth-some (table ps) = omega arith
+depth-some _ = omega arith
+
+pub nodes-some : (v : Plist) → 1 ≤ nodes v
+nodes-some (scalar s) = omega arith
+nodes-some _ = omega arith
 
 pub value-some : {tokens rest : List Lexeme} {v : Plist} → Phrase tokens v rest → ¬ (tokens ≡ [])
 value-some a_string e = cc e
-value-some some_data e = cc e
-value-some (a_list p) e = cc e
-value-some (a_table p s) e = cc e
+value-some _ e = cc e
 
 pub value-begins : {first : Lexeme} {tokens rest : List Lexeme} {v : Plist} → Phrase (first ∷ tokens) v rest → begins_value (first ∷ []) ≡ true
 value-begins a_string = refl
-value-begins some_data = refl
-value-begins (a_list p) = refl
-value-begins (a_table p s) = refl
+value-begins _ = refl
 
 -- a phrase that begins with a string, or with data
 pub string-is : {tokens rest : List Lexeme} {units : List ℕ} {v : Plist} → Phrase (string units ∷ tokens) v rest → (v ≡ scalar (text units)) × (tokens ≡ rest)
@@ -59,21 +58,12 @@ table-is (a_table {rows = rows} {pairs = pairs} p s) = record { rows = rows; pai
 
 -- the items of an array end here
 pub closes-list : (l : Lexeme) → ends_list l ≡ true → l ≡ paren_close
-closes-list brace_open e = cc e
-closes-list brace_close e = cc e
-closes-list paren_open e = cc e
 closes-list paren_close e = refl
-closes-list comma e = cc e
-closes-list semicolon e = cc e
-closes-list equals e = cc e
-closes-list (string units) e = cc e
-closes-list (data_token xs) e = cc e
+closes-list _ e = cc e
 
 no-item : {tokens rest behind : List Lexeme} {v : Plist} → Phrase tokens v behind → tokens ≡ paren_close ∷ rest → ⊥
 no-item a_string e = cc e
-no-item some_data e = cc e
-no-item (a_list p) e = cc e
-no-item (a_table p s) e = cc e
+no-item _ e = cc e
 
 pub items-end-here : {tokens rest behind : List Lexeme} {vs : Items} → ItemsPhrase tokens vs (paren_close ∷ behind) → tokens ≡ paren_close ∷ rest → (vs ≡ no_items) × (rest ≡ behind)
 items-end-here items_end e = (refl, cc e)
@@ -128,15 +118,8 @@ follows-none kind (more r) e n m =
 
 -- the rows of a dictionary
 pub closes-table : (l : Lexeme) → ends_table l ≡ true → l ≡ brace_close
-closes-table brace_open e = cc e
 closes-table brace_close e = refl
-closes-table paren_open e = cc e
-closes-table paren_close e = cc e
-closes-table comma e = cc e
-closes-table semicolon e = cc e
-closes-table equals e = cc e
-closes-table (string units) e = cc e
-closes-table (data_token xs) e = cc e
+closes-table _ e = cc e
 
 row-some : {tokens rest : List Lexeme} {key : List ℕ} {v : Plist} → RowPhrase tokens key v rest → ¬ (tokens ≡ [])
 row-some (with_value p) e = cc e
@@ -218,17 +201,9 @@ bare-is (bare_table {rows = rows} {pairs = pairs} p s) b = (rows, (pairs, (refl,
 
 pub value-is : {tokens : List Lexeme} {v : Plist} → TopPhrase tokens v → is_bare tokens ≡ false → Phrase tokens v []
 value-is (a_value p) b = p
-value-is (bare_table rows_end s) b = cc b
 value-is (bare_table (a_row (with_value p) r d) s) b = absurd (let some = value-some p in cc b)
-value-is (bare_table (a_row key_alone r d) s) b = cc b
+value-is _ b = cc b
 
 pub not-bare : (kind : TokenKind) (rest : List Lexeme) → ((units : List ℕ) → ¬ (kind ≡ Text units)) → is_bare (lexeme_of kind ∷ rest) ≡ false
-not-bare BraceOpen rest n = refl
-not-bare BraceClose rest n = refl
-not-bare ParenOpen rest n = refl
-not-bare ParenClose rest n = refl
-not-bare Comma rest n = refl
-not-bare Semicolon rest n = refl
-not-bare Equals rest n = refl
 not-bare (Text units) rest n = absurd (n units refl)
-not-bare (Octets xs) rest n = refl
+not-bare _ rest n = refl

@@ -109,6 +109,5 @@ last-row f (r ∷ refs) row (pair key v ps) s =
 
 pub zip-push : (keys values : List ℕ) (k v : ℕ) → length keys ≡ length values → zip (keys ++ k ∷ []) (values ++ v ∷ []) ≡ zip keys values ++ (k, v) ∷ []
 zip-push [] [] k v e = refl
-zip-push [] (w ∷ values) k v e = absurd (omega arith)
-zip-push (n ∷ keys) [] k v e = absurd (omega arith)
 zip-push (n ∷ keys) (w ∷ values) k v e = ap (λ l. (n, w) ∷ l) (zip-push keys values k v (omega arith))
+zip-push _ _ k v e = absurd (omega arith)

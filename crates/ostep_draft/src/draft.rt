@@ -9,6 +9,7 @@ use crate::reader::Reader;
 use crate::tokens::Tokens;
 use ostep_lex::open;
 use plist_draft::Draft;
+use plist_value::MAX_NODES;
 use std::alloc::Global;
 
 /// Converts a text to a binary file. The file encodes a property list within the limits if and only
@@ -16,14 +17,14 @@ use std::alloc::Global;
 /// after a byte order mark. At the top the braces of a dictionary may be missing, and a text
 /// without tokens is the empty dictionary.
 ///
-/// A dictionary in the file may have duplicate keys, and the nodes or the payload may exceed the
-/// limits: validate the file before you use it.
+/// A dictionary in the file may have duplicate keys, and the payload may exceed its limit: validate
+/// the file before you use it.
 ///
 /// # Errors
 ///
-/// [`NoDraft::NoValue`] if the bytes are not a text or a value is deeper than `MAX_DEPTH`, and only
-/// if they are not a text of any value within the limits; `ostep_text::read_text` says why, and
-/// where. [`NoDraft::OutOfMemory`] at any step.
+/// [`NoDraft::NoValue`] if the bytes are not a text, or of a value that exceeds `MAX_DEPTH` or
+/// `MAX_NODES`, and only if they are not a text of any value within the limits.
+/// `ostep_text::read_text` says why, and where. [`NoDraft::OutOfMemory`] at any step.
 pub fn draft_text(alloc: Global, octets: &[u8]) -> Result<Vec<u8>, NoDraft>
     // The text encodes whatever the file encodes, and the other way round.
     ensures only { IfOk result (λ file. (v : Plist) → IsBinary file.items v → IsText octets.now v) }
@@ -38,6 +39,7 @@ pub fn draft_text(alloc: Global, octets: &[u8]) -> Result<Vec<u8>, NoDraft>
         alloc,
         tokens,
         draft,
+        left: MAX_NODES,
     };
     let top = reader.text()?;
     Ok(reader.draft.finish(top)?)

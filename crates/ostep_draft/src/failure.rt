@@ -9,8 +9,8 @@ use std::alloc::{AllocError, AllocFailed};
 /// Why there is no draft.
 #[derive(Clone, Copy, Debug)]
 pub enum NoDraft {
-    /// The bytes are not a text, or the value is deeper than `MAX_DEPTH`. `ostep_text::read_text`
-    /// says which, and where.
+    /// The bytes are not a text, or the value is deeper than `MAX_DEPTH` or has more than
+    /// `MAX_NODES` nodes. `ostep_text::read_text` says which, and where.
     NoValue,
     /// Out of memory.
     OutOfMemory,

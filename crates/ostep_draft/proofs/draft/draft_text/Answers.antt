@@ -3,6 +3,7 @@ use Rattle.plist_object.specs.Spelled.{Spells}
 use Rattle.ostep_lex.specs.Cursor.{StandsBehind}
 use Rattle.ostep_text.specs.Text.{lexemes}
 use Rattle.ostep_draft.proofs.LeftSteps.{all-left, no-text, no-tokens}
+use Rattle.ostep_draft.proofs.FoundSteps.{whole-allows}
 use Rattle.ostep_draft.proofs.draft.draft_text.Goals as goal
 
 pub returns-in_err-cursor-clause-refused : goal.returns-in_err-cursor-clause-refused
@@ -13,7 +14,7 @@ returns-in_err-top-clause-refused c =
     let octets = c.args.octets.now in
     let begun : StandsBehind octets [] c.new-tokens.result.cursor = subst (λ x. StandsBehind octets [] x) (sym c.new-tokens.ensures) c.in_ok-cursor.ensures.ok in
     no-text octets c.in_err-top.field-0.0 c.from_residual-in_err-top.result c.from_residual-in_err-top.ensures.1
-    (λ v t. c.in_err-top.ensures.found octets (lexemes t.tokens) (all-left begun t) v t.phrase t.fits.depth_fits)
+    (λ v t. c.in_err-top.ensures.found octets (lexemes t.tokens) (all-left begun t) v t.phrase _ (whole-allows t.fits))
 
 pub returns-clause-only : goal.returns-clause-only
 returns-clause-only c = λ v b.
@@ -27,4 +28,4 @@ pub returns-clause-each : goal.returns-clause-each
 returns-clause-each c = λ v t.
     let octets = c.args.octets.now in
     let begun : StandsBehind octets [] c.new-tokens.result.cursor = subst (λ x. StandsBehind octets [] x) (sym c.new-tokens.ensures) c.in_ok-cursor.ensures.ok in
-    c.in_ok-finish.ensures.spells v t.is_plist t.fits (c.in_ok-top.ensures.found octets (lexemes t.tokens) (all-left begun t) v t.phrase t.fits.depth_fits)
+    c.in_ok-finish.ensures.spells v t.is_plist t.fits (c.in_ok-top.ensures.found octets (lexemes t.tokens) (all-left begun t) v t.phrase _ (whole-allows t.fits))

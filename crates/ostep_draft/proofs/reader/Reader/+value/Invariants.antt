@@ -1,7 +1,7 @@
 use Rattle.std.proofs.Common.{◌≡◌, ◌+◌, ◌*◌, ◌≤◌, ℕ, List, [], ◌∷◌, length}
 use Rattle.std.specs.List.{zip}
 use Rattle.plist_value.specs.Plist.{Items, Pairs}
-use Rattle.plist_value.specs.Limits.{depth_of_items, depth_of_pairs}
+use Rattle.plist_value.specs.Limits.{nodes_of_items, nodes_of_pairs, depth_of_items, depth_of_pairs}
 use Rattle.plist_draft.specs.View.{objects}
 use Rattle.ostep_lex.specs.Lexeme.{Lexeme, Placed, paren_close, brace_close}
 use Rattle.ostep_lex.specs.Cursor.{ahead, StandsBehind}
@@ -9,6 +9,7 @@ use Rattle.ostep_text.specs.Phrase.{ItemsPhrase, RowsPhrase}
 use Rattle.ostep_draft.specs.Held.{AllRemain}
 use Rattle.ostep_draft.specs.Left.{AreLeft}
 use Rattle.ostep_draft.specs.Drafted.{DraftsItems, DraftsRows}
+use Rattle.ostep_draft.specs.Found.{Allows}
 use Rattle.ostep_draft.proofs.FoundSteps.{ItemsLeft, RowsLeft}
 use Rattle.ostep_draft.proofs.reader.Reader.+value.Given as goal
 
@@ -45,8 +46,8 @@ invariant-items-loop-items l =
       read : (octets : List ℕ) (tokens : List Placed) → StandsBehind octets tokens l.initial.self.tokens.cursor
           → DraftsItems octets tokens [] l.items.items (objects l.self.draft) l.self.tokens.cursor;
       found : (octets : List ℕ) (rest : List Lexeme) → AreLeft octets l.initial.self.tokens.cursor rest → (vs : Items) (behind : List Lexeme)
-          → ItemsPhrase rest vs (paren_close ∷ behind) → depth_of_items vs ≤ l.levels
-          → ItemsLeft octets l.levels l.self.tokens.cursor (objects l.self.draft) l.items.items vs behind;
+          → ItemsPhrase rest vs (paren_close ∷ behind) → (spare : ℕ) → Allows l.levels l.initial.self.left (depth_of_items vs) (nodes_of_items vs) spare
+          → ItemsLeft octets l.levels l.self.left spare l.self.tokens.cursor (objects l.self.draft) l.items.items vs behind;
     }
 
 abbrev pub invariant-rows-loop-rows : goal.invariant-rows-loop-rows
@@ -58,6 +59,6 @@ invariant-rows-loop-rows l =
       read : (octets : List ℕ) (tokens : List Placed) → StandsBehind octets tokens l.initial.self.tokens.cursor
           → DraftsRows octets tokens [] l.rows.keys.items l.rows.values.items (objects l.self.draft) l.self.tokens.cursor;
       found : (octets : List ℕ) (rest : List Lexeme) → AreLeft octets l.initial.self.tokens.cursor rest → (ps : Pairs) (behind : List Lexeme)
-          → RowsPhrase rest ps (brace_close ∷ behind) → depth_of_pairs ps ≤ l.levels
-          → RowsLeft octets l.levels l.self.tokens.cursor (objects l.self.draft) (zip l.rows.keys.items l.rows.values.items) ps (brace_close ∷ behind);
+          → RowsPhrase rest ps (brace_close ∷ behind) → (spare : ℕ) → Allows l.levels l.initial.self.left (depth_of_pairs ps) (nodes_of_pairs ps) spare
+          → RowsLeft octets l.levels l.self.left spare l.self.tokens.cursor (objects l.self.draft) (zip l.rows.keys.items l.rows.values.items) ps (brace_close ∷ behind);
     }
