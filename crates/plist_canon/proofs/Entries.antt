@@ -82,9 +82,8 @@ key_texts-pairs_of (key ∷ keys) (item v vs) even = ap (λ rest. scalar (text k
 
 preorder_values-pairs_of : (keys : List (List ℕ)) (vs : Items) → item_count vs ≡ length keys → preorder_values (pairs_of keys vs) ≡ preorder_items vs
 preorder_values-pairs_of [] no_items even = refl
-preorder_values-pairs_of [] (item v vs) even = absurd (omega arith)
-preorder_values-pairs_of (key ∷ keys) no_items even = absurd (omega arith)
 preorder_values-pairs_of (key ∷ keys) (item v vs) even = ap (λ rest. preorder v ++ rest) (preorder_values-pairs_of keys vs (omega arith))
+preorder_values-pairs_of _ _ even = absurd (omega arith)
 
 -- the places of the pairs are those of the keys followed by those of the values
 pub preorder-pairs_of : (keys : List (List ℕ)) (vs : Items) → item_count vs ≡ length keys → preorder_items (put_texts keys vs) ≡ key_texts (pairs_of keys vs) ++ preorder_values (pairs_of keys vs)
@@ -101,9 +100,8 @@ key_places-pairs_of k (key ∷ keys) (item v vs) others even =
 
 value_places-pairs_of : (k : ℕ) (keys : List (List ℕ)) (vs : Items) → item_count vs ≡ length keys → value_places k (pairs_of keys vs) ≡ item_places k vs
 value_places-pairs_of k [] no_items even = refl
-value_places-pairs_of k [] (item v vs) even = absurd (omega arith)
-value_places-pairs_of k (key ∷ keys) no_items even = absurd (omega arith)
 value_places-pairs_of k (key ∷ keys) (item v vs) even = ap (λ rest. k ∷ rest) (value_places-pairs_of (k + nodes v) keys vs (omega arith))
+value_places-pairs_of k _ _ even = absurd (omega arith)
 
 -- the places of the keys precede those of the values
 pub places-pairs_of : (k : ℕ) (keys : List (List ℕ)) (vs : Items) → item_count vs ≡ length keys → item_places k (put_texts keys vs) ≡ key_places k (pairs_of keys vs) ++ value_places (k + length keys) (pairs_of keys vs)
@@ -122,8 +120,7 @@ IsKeyBelow-pairs_of key (next ∷ keys) (item v vs) sorted = (sorted.0.0, sorted
 
 -- with ascending keys the pairs are those of a dictionary
 pub ArePairs-pairs_of : (keys : List (List ℕ)) (vs others : Items) → AreItems (put_texts keys others) → AreItems vs → IsStrictlySortedBy (slice_cmp nat_cmp) keys → ArePairs (pairs_of keys vs)
-ArePairs-pairs_of [] vs others units valid sorted = tt
-ArePairs-pairs_of (key ∷ keys) no_items others units valid sorted = tt
 ArePairs-pairs_of (key ∷ keys) (item v vs) others units valid sorted =
     let order = IsKeyBelow-pairs_of key keys vs sorted in
     (units.0, valid.0, order.0, ArePairs-pairs_of keys vs others units.1 valid.1 order.1)
+ArePairs-pairs_of _ _ others units valid sorted = tt

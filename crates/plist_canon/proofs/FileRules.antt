@@ -26,21 +26,18 @@ octets_at-is f i p t octets at_table at_place behind before stands =
 
 -- where the next object begins
 starts-next : (k : ℕ) (objects : List (List ℕ)) (i : ℕ) → suc i < length objects → get_or (starts k objects) (suc i) 0 ≡ get_or (starts k objects) i 0 + length (get_or objects i [])
-starts-next k [] i h = absurd (omega arith)
-starts-next k (o ∷ []) i h = absurd (omega arith)
 starts-next k (o ∷ p ∷ os) zero h = refl
 starts-next k (o ∷ p ∷ os) (suc i) h = starts-next (k + length o) (p ∷ os) i (omega arith)
+starts-next k _ i h = absurd (omega arith)
 
 -- where the last object ends
 starts-last : (k : ℕ) (objects : List (List ℕ)) (i : ℕ) → suc i ≡ length objects → get_or (starts k objects) i 0 + length (get_or objects i []) ≡ k + length (concat objects)
-starts-last k [] i h = absurd (omega arith)
 starts-last k (o ∷ []) zero h = rw length-append (omega arith)
-starts-last k (o ∷ []) (suc i) h = absurd (omega arith)
-starts-last k (o ∷ p ∷ os) zero h = absurd (omega arith)
 starts-last k (o ∷ p ∷ os) (suc i) h =
     let others = starts-last (k + length o) (p ∷ os) i (omega arith) in
     let whole = length-append o (concat (p ∷ os)) in
     omega arith
+starts-last k _ _ h = absurd (omega arith)
 
 slack-ended : (front tail : List ℕ) → length tail ≡ 32 → slack_of (front ++ tail) ≡ take 6 tail
 slack-ended front tail long = ap (take 6) (drop-end front tail 32 long)

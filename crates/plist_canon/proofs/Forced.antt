@@ -81,8 +81,7 @@ module _ (f : List ℕ) (all : List Plist) (entry : ℕ → ℕ) (holds : (k : �
             no_repeat (entry k) here.listed s here.reads (entry first) (omega arith) there.reads)
         | inr late ↦ omega arith
       ]
-  own-first k (list vs) at below forced next = refl
-  own-first k (table ps) at below forced next = refl
+  own-first k _ at below forced next = refl
 
   -- the entry of a visited scalar is the number of its first place, which is earlier
   met-first : (k : ℕ) → k < length all → AreForced k → entry k < count_below k (kept_places all) → HoldsScalar f (entry k) → (first_place all k (value_at all k) < k) × (entry k ≡ number_in all k)

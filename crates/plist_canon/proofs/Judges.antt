@@ -38,10 +38,6 @@ each_from_all P [] all k below = absurd (omega arith)
 each_from_all P (x ∷ xs) all zero below = all.0
 each_from_all P (x ∷ xs) all (suc k) below = each_from_all P xs all.1 k (omega arith)
 
-pub all_front : (P : ℕ → Type 0) (xs ys : List ℕ) → AllByRecursion P (xs ++ ys) → AllByRecursion P xs
-all_front P [] ys all = tt
-all_front P (x ∷ xs) ys all = (all.0, all_front P xs ys all.1)
-
 pub all_rest : (P : ℕ → Type 0) (xs ys : List ℕ) → AllByRecursion P (xs ++ ys) → AllByRecursion P ys
 all_rest P [] ys all = all
 all_rest P (x ∷ xs) ys all = all_rest P xs ys all.1
@@ -116,10 +112,6 @@ HasAscendingKeys-turns f i keys values holds ascend others more texts reads hold
     let same : others ≡ keys = cc in
     sorted_from_turns f keys texts (subst (λ (refs : List ℕ). HoldTexts f refs texts) same hold) ascend
 
-pub HasAscendingKeys-other : (f : List ℕ) (i : ℕ) (held : Held) → Holds f i held → ((keys values : List ℕ) → held ≢ holds_table keys values) → HasAscendingKeys f i
-HasAscendingKeys-other f i held holds other keys values texts reads hold =
-    absurd (other keys values (let a = holds.reads in cc))
-
 -- an object that begins elsewhere breaks rule 3
 pub not-Adjoins : (f : List ℕ) (i place start end : ℕ) → IsEndBefore f i place → span_of f i ≡ Ok (start, end) → start ≢ place → ¬ Adjoins f i
 not-Adjoins f zero place start end before span other adjoins =
@@ -183,10 +175,6 @@ RefersWell-table f keys values below_keys below_values named = record {
   texts = all_from_each (HoldsText f) keys named;
 }
 
-pub keys_below : (f keys values : List ℕ) → RefersWell f (holds_table keys values) → EachIndex keys (λ k. slice_index keys k < (trailer_of f).count)
-keys_below f keys values refers =
-    each_from_all (λ i. i < (trailer_of f).count) keys (all_front (λ i. i < (trailer_of f).count) keys values refers.numbers)
-
 pub values_below : (f keys values : List ℕ) → RefersWell f (holds_table keys values) → EachIndex values (λ k. slice_index values k < (trailer_of f).count)
 values_below f keys values refers =
     each_from_all (λ i. i < (trailer_of f).count) values (all_rest (λ i. i < (trailer_of f).count) keys values refers.numbers)
@@ -196,8 +184,7 @@ keys_named f keys values refers = each_from_all (HoldsText f) keys refers.texts
 
 pub no_scalar : (object : Object) → ((x : ScalarRef) → object ≢ shown.Scalar x) → (s : Scalar) → held_of object ≢ holds_scalar s
 no_scalar (shown.Scalar x) other s e = other x refl
-no_scalar (shown.List items) other s e = absurd cc
-no_scalar (shown.Table keys values) other s e = absurd cc
+no_scalar _ other s e = absurd cc
 
 -- rule 3 is broken if the last object does not end at the offset table
 pub last-apart : (f : List ℕ) (n end : ℕ) → n ≡ (trailer_of f).count → 1 ≤ n → IsEndBefore f n end → end ≢ (trailer_of f).table → (n - 1 < (trailer_of f).count) × (¬ Adjoins f (n - 1))

@@ -12,9 +12,9 @@ use Rattle.plist_canon.specs.Met.{was_met, IsHeldBefore, HasMet}
 use Rattle.plist_value.specs.Plist.{Scalar}
 use Rattle.plist_object.specs.Objects.{holds_scalar}
 use Rattle.plist_canon.specs.Rules.{IsNoRepeat}
-use Rattle.plist_engine.specs.Sieve.{HasNoted, HoldsIt, MayRepeat}
-use Rattle.plist_engine.specs.declared.sieve.Sieve.{Sieve}
-use Rattle.plist_engine.proofs.Sifted.{earlier_may, later_may}
+use Rattle.plist_engine.specs.RepeatFilter.{HasAdded, HoldsIt, MayRepeat}
+use Rattle.plist_engine.specs.declared.repeat_filter.RepeatFilter.{RepeatFilter}
+use Rattle.plist_engine.proofs.RepeatFilters.{earlier_may, later_may}
 
 is_some-or : (had : Option ℕ) (same : Bool) (next : ℕ) → is_some (option_or had (cond same (Some next) None)) ≡ cond same true (is_some had)
 is_some-or None true next = refl
@@ -52,64 +52,64 @@ module _ {S H : Type 0} (s : ScalarRef) (next : ℕ) (old new : Scalars S H) (ha
 one_scalar : (f : List ℕ) (i : ℕ) (s t : Scalar) → HoldsIt f i s → HoldsIt f i t → s ≡ t
 one_scalar f i s t a b = let e : holds_scalar s ≡ holds_scalar t = cc in cc
 
-held_later : (sieve : Sieve) (f : List ℕ) (i : ℕ) (s : Scalar) → IsHeldBefore sieve f i s → IsHeldBefore sieve f (suc i) s
-held_later sieve f i s before = (before.0, (omega (arith, before.1.0), before.1.1))
+held_later : (filter : RepeatFilter) (f : List ℕ) (i : ℕ) (s : Scalar) → IsHeldBefore filter f i s → IsHeldBefore filter f (suc i) s
+held_later filter f i s before = (before.0, (omega (arith, before.1.0), before.1.1))
 
 -- entering object i, which may repeat another
-module _ {S H : Type 0} (sieve : Sieve) (f : List ℕ) (i next : ℕ) (s : ScalarRef) (old new : Scalars S H) (had : Option ℕ) (may : MayRepeat sieve i) (holds : HoldsIt f i (content_of s)) (met : HasMet sieve f i old) (enters : EntersScalar s next old new had) where
+module _ {S H : Type 0} (filter : RepeatFilter) (f : List ℕ) (i next : ℕ) (s : ScalarRef) (old new : Scalars S H) (had : Option ℕ) (may : MayRepeat filter i) (holds : HoldsIt f i (content_of s)) (met : HasMet filter f i old) (enters : EntersScalar s next old new had) where
   met_here : (q : ScalarRef) → HoldsIt f i (content_of q) → was_met new q ≡ true
   met_here q reads =
       met-same s next old new had enters q (one_scalar f i (content_of s) (content_of q) holds reads)
 
-  met_now : (q : ScalarRef) → IsHeldBefore sieve f (suc i) (content_of q) → was_met new q ≡ true
+  met_now : (q : ScalarRef) → IsHeldBefore filter f (suc i) (content_of q) → was_met new q ≡ true
   met_now q before = elim (cases_lt before.0 i) [
     | inl earlier ↦ met-kept s next old new had enters q ((met.each q).1 (before.0, (earlier, before.1.1)))
     | inr late ↦ (let below = before.1.0 in let is : before.0 ≡ i = omega arith in met_here q (subst (λ (k : ℕ). HoldsIt f k (content_of q)) is before.1.1.1))
   ]
 
-  pub HasMet-scalar : HasMet sieve f (suc i) new
+  pub HasMet-scalar : HasMet filter f (suc i) new
   HasMet-scalar = record {
     numbered = enters.numbered;
     each = λ q. (
       λ now. elim (met-other s next old new had enters q now) [
         | inl same ↦ (i, (omega arith, (may, subst (λ (t : Scalar). HoldsIt f i t) same holds)))
-        | inr before ↦ held_later sieve f i (content_of q) ((met.each q).0 before)
+        | inr before ↦ held_later filter f i (content_of q) ((met.each q).0 before)
       ],
       met_now q,
     );
   }
 
 -- an object that is not a scalar, or cannot repeat another, changes nothing
-pub HasMet-past : {S H : Type 0} → (sieve : Sieve) (f : List ℕ) (i : ℕ) (scalars : Scalars S H) → ((s : Scalar) → MayRepeat sieve i → HoldsIt f i s → ⊥) → HasMet sieve f i scalars → HasMet sieve f (suc i) scalars
-HasMet-past sieve f i scalars none met = record {
+pub HasMet-past : {S H : Type 0} → (filter : RepeatFilter) (f : List ℕ) (i : ℕ) (scalars : Scalars S H) → ((s : Scalar) → MayRepeat filter i → HoldsIt f i s → ⊥) → HasMet filter f i scalars → HasMet filter f (suc i) scalars
+HasMet-past filter f i scalars none met = record {
   numbered = met.numbered;
   each = λ q. (
-    λ now. held_later sieve f i (content_of q) ((met.each q).0 now),
+    λ now. held_later filter f i (content_of q) ((met.each q).0 now),
     λ before. elim (cases_lt before.0 i) [
       | inl earlier ↦ (met.each q).1 (before.0, (earlier, before.1.1))
       | inr late ↦ absurd (
           let below = before.1.0 in
           let is : before.0 ≡ i = omega arith in
           none (content_of q)
-          (subst (MayRepeat sieve) is before.1.1.0)
+          (subst (MayRepeat filter) is before.1.1.0)
           (subst (λ (k : ℕ). HoldsIt f k (content_of q)) is before.1.1.1))
     ],
   );
 }
 
-module _ (f : List ℕ) (n : ℕ) (sieve : Sieve) (noted : HasNoted f n sieve) where
-  pub IsNoRepeat-apart : (i : ℕ) → i < n → (MayRepeat sieve i → ⊥) → IsNoRepeat f i
+module _ (f : List ℕ) (n : ℕ) (filter : RepeatFilter) (added : HasAdded f n filter) where
+  pub IsNoRepeat-apart : (i : ℕ) → i < n → (MayRepeat filter i → ⊥) → IsNoRepeat f i
   IsNoRepeat-apart i below apart s reads earlier before again =
-      apart (later_may f n sieve noted earlier i s before below again reads)
+      apart (later_may f n filter added earlier i s before below again reads)
 
-  pub IsNoRepeat-new : {S H : Type 0} → (i : ℕ) (s : ScalarRef) (scalars : Scalars S H) → i < n → HoldsIt f i (content_of s) → HasMet sieve f i scalars → was_met scalars s ≡ false → IsNoRepeat f i
+  pub IsNoRepeat-new : {S H : Type 0} → (i : ℕ) (s : ScalarRef) (scalars : Scalars S H) → i < n → HoldsIt f i (content_of s) → HasMet filter f i scalars → was_met scalars s ≡ false → IsNoRepeat f i
   IsNoRepeat-new i s scalars below holds met unknown t reads earlier before again =
-      let may = earlier_may f n sieve noted earlier i t before below again reads in
+      let may = earlier_may f n filter added earlier i t before below again reads in
       let is : t ≡ content_of s = one_scalar f i t (content_of s) reads holds in
       let held : HoldsIt f earlier (content_of s) = subst (λ (u : Scalar). HoldsIt f earlier u) is again in
       true≢false (sym ((met.each s).1 (earlier, (before, (may, held)))) ∙ unknown)
 
-pub not-IsNoRepeat : {S H : Type 0} → (sieve : Sieve) (f : List ℕ) (i : ℕ) (s : ScalarRef) (scalars : Scalars S H) → HoldsIt f i (content_of s) → HasMet sieve f i scalars → was_met scalars s ≡ true → IsNoRepeat f i → ⊥
-not-IsNoRepeat sieve f i s scalars holds met known single =
+pub not-IsNoRepeat : {S H : Type 0} → (filter : RepeatFilter) (f : List ℕ) (i : ℕ) (s : ScalarRef) (scalars : Scalars S H) → HoldsIt f i (content_of s) → HasMet filter f i scalars → was_met scalars s ≡ true → IsNoRepeat f i → ⊥
+not-IsNoRepeat filter f i s scalars holds met known single =
     let before = (met.each s).0 known in
     single (content_of s) holds before.0 before.1.0 before.1.1.1

@@ -63,11 +63,6 @@ pub Stands-after : (f : List ℕ) (turns : ℕ) (left : Option Budget) (groups :
 Stands-after f zero left groups some stands = absurd (omega arith)
 Stands-after f (suc before) left groups some stands = stands
 
--- if groups are left, the first visit was made
-Stands-left : (f : List ℕ) (turns : ℕ) (left : Option Budget) (first : Group) (outer : List Group) → StandsAfter f turns left (first ∷ outer) → Stands f turns left (first ∷ outer)
-Stands-left f zero left first outer stands = absurd (let none = stands.0 in cc)
-Stands-left f (suc before) left first outer stands = stands
-
 module _ (frames : List Frame) (count : ℕ) (frame : Frame) (counted : length frames ≡ count) (some : 0 < count) where
   -- the next reference of the last frame, split off
   Stands-parted : (f : List ℕ) (met done i : ℕ) (left : Option Budget) → Stands f met left (grouped frame.owner frame.levels (i ∷ drop done (numbers_of frame.refs)) ∷ path_groups (take (count - 1) frames)) → Stands f met left (grouped frame.owner frame.levels (i ∷ []) ∷ path_groups (slice_set frames (count - 1) (record frame { done = done })))
@@ -79,15 +74,6 @@ module _ (frames : List Frame) (count : ℕ) (frame : Frame) (counted : length f
         walking = stands.walking;
         owed = λ octets ascending. Owes-parted f frame.owner frame.levels i rest outer left (stands.owed octets ascending);
       })
-
-  -- the next reference points to the next object
-  pub Awaits-here : (f : List ℕ) (turns : ℕ) (left : Option Budget) → frame ≡ slice_index_or frames (count - 1) frame → frame.done < length (numbers_of frame.refs) → slice_index (numbers_of frame.refs) frame.done ≡ turns → StandsAfter f turns left (path_groups frames) → Awaits f turns frame.levels left (path_groups (slice_set frames (count - 1) (record frame { done = frame.done + 1 })))
-  Awaits-here f turns left is below next stands =
-      let outer = path_groups (take (count - 1) frames) in
-      let rest = drop (frame.done + 1) (numbers_of frame.refs) in
-      let split : path_groups frames ≡ grouped frame.owner frame.levels (turns ∷ rest) ∷ outer = path_groups-last frames count frame counted some is ∙ ap (λ refs. grouped frame.owner frame.levels refs ∷ outer) (drop_more (numbers_of frame.refs) frame.done 0 below ∙ ap (λ i. i ∷ rest) next) in
-      let here = Stands-left f turns left (grouped frame.owner frame.levels (turns ∷ rest)) outer (subst (λ (gs : List Group). StandsAfter f turns left gs) split stands) in
-      Awaits-next f turns frame.owner frame.levels left _ (Stands-parted f turns (frame.done + 1) turns left here)
 
 module _ (weights : List Weight) (owner levels i : ℕ) (refs : List ℕ) (outer : List Group) (before after : Option Budget) where
   pub Stands-passed : Passes weights levels i before after → GoesOn weights (grouped owner levels (i ∷ refs) ∷ outer) before (grouped owner levels refs ∷ outer) after

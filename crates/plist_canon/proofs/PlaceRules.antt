@@ -148,8 +148,7 @@ module _ (f : List ℕ) (all : List Plist) (has : HasObjects f all) where
   -- a place whose object is a scalar contains that scalar
   scalar_from : (v : Plist) (k : ℕ) (s : Scalar) → held_at (number_in all) k v ≡ holds_scalar s → v ≡ scalar s
   scalar_from (scalar t) k s e = cc
-  scalar_from (list vs) k s e = absurd (cc)
-  scalar_from (table ps) k s e = absurd (cc)
+  scalar_from _ k s e = absurd (cc)
 
   scalar_at : (k : ℕ) (s : Scalar) → k < length all → what_holds f (number_in all k) ≡ Ok (holds_scalar s) → value_at all k ≡ scalar s
   scalar_at k s h reads =
@@ -246,8 +245,7 @@ module _ (f : List ℕ) (all : List Plist) (has : HasObjects f all) where
   -- a place that shares the object of an earlier one is a scalar
   shared_scalar : (v : Plist) (k : ℕ) → value_at all k ≡ v → k < length all → first_place all k v < k → HoldsScalar f (number_in all k)
   shared_scalar (scalar s) k at h before = (s, has.reads k (scalar s) at h)
-  shared_scalar (list vs) k at h before = absurd (omega arith)
-  shared_scalar (table ps) k at h before = absurd (omega arith)
+  shared_scalar _ k at h before = absurd (omega arith)
 
   number_at : (k : ℕ) (v : Plist) → value_at all k ≡ v → number_in all k ≡ count_below (first_place all k v) (kept_places all)
   number_at k v at = ap (λ u. count_below (first_place all k u) (kept_places all)) at

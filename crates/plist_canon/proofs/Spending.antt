@@ -1,5 +1,5 @@
 -- What the walk takes from the limits.
-use Rattle.std.proofs.Common.{◌≡◌, ℕ, suc, ◌+◌, ◌-◌, ◌≤◌, min, max, List, [], ◌∷◌, ◌++◌, length, refl, sym, ap, subst, ◌∙◌, arith, Some, None}
+use Rattle.std.proofs.Common.{◌≡◌, ℕ, ◌+◌, ◌-◌, ◌≤◌, min, max, List, [], ◌∷◌, ◌++◌, length, refl, sym, ap, subst, ◌∙◌, arith, Some, None}
 use Rattle.std.specs.Prelude.{Option}
 use Rattle.plist_value.specs.Plist.{AreOctets, Scalar, Plist, scalar, list, table, Items, no_items, item, Pairs, IsPlist, AreItems, ArePairs}
 use Rattle.plist_value.specs.Limits.{Fits, nodes, depth, payload, payload_of_scalar, nodes_of_items, depth_of_items, payload_of_items, nodes_of_pairs, depth_of_pairs, payload_of_pairs}
@@ -100,15 +100,14 @@ record ScalarCosts (weight : Weight) (v : Plist) : Type 0 where
 
 scalar_costs : (f : List ℕ) (i : ℕ) (weight : Weight) (s : Scalar) → Weighs f i weight → Holds f i (holds_scalar s) → payload_of_weight weight ≤ MAX_PAYLOAD → (v : Plist) → Spells f i v → ScalarCosts weight v
 scalar_costs f i weight s weighs holds most v spells =
-    let told : payload_of_weight weight ≡ suc (min (payload_of_scalar s) MOST_KEPT) - 1 = ap payload_of_weight (Weighs-held f i weight (holds_scalar s) weighs holds) in
+    let told : payload_of_weight weight ≡ min (payload_of_scalar s) MOST_KEPT = ap payload_of_weight (Weighs-held f i weight (holds_scalar s) weighs holds) in
     let same : payload_of_scalar s ≡ payload_of_weight weight = omega arith in
     by_scalar f i s (ScalarCosts weight) holds (record { nodes_are = refl; payload_is = same; depth_is = refl }) v spells
 
 held_least : (f : List ℕ) (i : ℕ) (held : Held) → Holds f i held → (v : Plist) → Spells f i v → payload_of_weight (weight_of held) ≤ payload v
 held_least f i (holds_scalar s) holds v spells =
     by_scalar f i s (λ v. payload_of_weight (weight_of (holds_scalar s)) ≤ payload v) holds (omega arith) v spells
-held_least f i (holds_list refs) holds v spells = omega arith
-held_least f i (holds_table keys values) holds v spells = omega arith
+held_least f i _ holds v spells = omega arith
 
 -- the value of an object takes at least its weight
 weight_least : (f : List ℕ) (i : ℕ) (weight : Weight) → Weighs f i weight → (v : Plist) → Spells f i v → payload_of_weight weight ≤ payload v

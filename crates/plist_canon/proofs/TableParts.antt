@@ -6,7 +6,7 @@ use Rattle.std.specs.List.{AllByRecursion, zip}
 use Rattle.std.specs.List.Sorted.{IsPermutation, IsStrictlySortedBy}
 use Rattle.std.proofs.lemmas.List.Elements.{All-from_recursion, recursion_from_All}
 use Rattle.std.proofs.lemmas.List.Sorted.{IsPermutation-refl, IsPermutation-sym, All-permutation}
-use Rattle.plist_value.specs.Plist.{text, Plist, scalar, list, table, Items, no_items, item, Pairs, no_pairs, pair, AreUnits, IsPlist, AreItems, ArePairs}
+use Rattle.plist_value.specs.Plist.{text, Plist, scalar, table, Items, no_items, item, Pairs, no_pairs, pair, AreUnits, IsPlist, AreItems, ArePairs}
 use Rattle.plist_value.specs.Limits.{nodes, nodes_of_items, depth_of_items, payload_of_items, nodes_of_pairs, depth_of_pairs, payload_of_pairs}
 use Rattle.plist_object.specs.Objects.{holds_scalar, holds_table}
 use Rattle.plist_object.specs.Places.{Holds}
@@ -18,8 +18,7 @@ use Rattle.plist_value.proofs.Items.{some_depth}
 
 pub some_nodes : (v : Plist) → 1 ≤ nodes v
 some_nodes (scalar s) = omega arith
-some_nodes (list vs) = omega arith
-some_nodes (table ps) = omega arith
+some_nodes _ = omega arith
 
 -- references to a key and to a value
 record SpellsRow (f : List ℕ) (row : ℕ × ℕ) : Type 0 where
@@ -67,8 +66,6 @@ parts f [] [] even all = record {
   depth_is = refl;
   keys_deep = omega arith;
 }
-parts f [] (v ∷ values) even all = absurd (omega arith)
-parts f (k ∷ keys) [] even all = absurd (omega arith)
 parts f (k ∷ keys) (v ∷ values) even all =
     let rest = parts f keys values (omega arith) all.1 in
     let row = all.0 in
@@ -91,6 +88,7 @@ parts f (k ∷ keys) (v ∷ values) even all =
       depth_is = omega arith;
       keys_deep = omega arith;
     }
+parts f _ _ even all = absurd (omega arith)
 
 pub record TableParts (f keys values : List ℕ) (ps : Pairs) : Type 0 where
   pub parts : Parts f keys values

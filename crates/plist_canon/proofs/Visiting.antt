@@ -1,12 +1,10 @@
 -- The weights of objects.
-use Rattle.std.proofs.Common.{◌≡◌, ℕ, suc, ◌+◌, min, List, [], ◌∷◌, ◌++◌, length, true, sym, ap, subst, ◌∙◌, arith, length-append, inl, inr, ◌<◌, refl, append_assoc}
-use Rattle.std.proofs.lemmas.Bool.{cases_lt, lt-ltb, true≢false}
+use Rattle.std.proofs.Common.{◌≡◌, ℕ, suc, ◌+◌, List, [], ◌∷◌, ◌++◌, length, true, sym, ap, subst, ◌∙◌, arith, length-append, inl, inr, ◌<◌, refl, append_assoc}
+use Rattle.std.proofs.lemmas.Bool.{cases_lt, true≢false}
 use Rattle.std.proofs.lemmas.List.{get_or_append_left, get_or_push, append-nil}
-use Rattle.plist_value.specs.Limits.{payload_of_scalar}
-use Rattle.plist_object.specs.Objects.{Held, holds_scalar, holds_list, holds_table}
+use Rattle.plist_object.specs.Objects.{Held, holds_scalar, holds_table}
 use Rattle.plist_object.specs.Places.{Holds, HoldsScalar}
 use Rattle.plist_object.proofs.Uniqueness.{same_held}
-use Rattle.plist_canon.specs.declared.weights.TheConstants.{MOST_KEPT}
 use Rattle.plist_canon.specs.declared.weights.Weight.{Weight}
 use Rattle.plist_canon.specs.Weights.{container, weight_of, is_scalar_weight, Weighs, AreWeights}
 use Rattle.std.specs.List.{Contains}
@@ -22,16 +20,14 @@ Weighs-held f i weight held weighs holds = weighs.is ∙ ap weight_of (same_held
 
 scalar-holds : (f : List ℕ) (i : ℕ) (held : Held) → Holds f i held → is_scalar_weight (weight_of held) ≡ true → HoldsScalar f i
 scalar-holds f i (holds_scalar s) holds is = (s, holds)
-scalar-holds f i (holds_list refs) holds is = absurd (true≢false (sym is))
-scalar-holds f i (holds_table keys values) holds is = absurd (true≢false (sym is))
+scalar-holds f i _ holds is = absurd (true≢false (sym is))
 
 pub Weighs-scalar : (f : List ℕ) (i : ℕ) (weight : Weight) → Weighs f i weight → is_scalar_weight weight ≡ true → HoldsScalar f i
 Weighs-scalar f i weight weighs is = scalar-holds f i weighs.held weighs.holds (ap is_scalar_weight (sym weighs.is) ∙ is)
 
 pub scalar-Weighs : (f : List ℕ) (i : ℕ) (weight : Weight) → Weighs f i weight → HoldsScalar f i → is_scalar_weight weight ≡ true
 scalar-Weighs f i weight weighs scalar =
-    let is = Weighs-held f i weight (holds_scalar scalar.0) weighs scalar.1 in
-    ap is_scalar_weight is ∙ lt-ltb 0 (suc (min (payload_of_scalar scalar.0) MOST_KEPT)) (omega arith)
+    ap is_scalar_weight (Weighs-held f i weight (holds_scalar scalar.0) weighs scalar.1)
 
 weights-more : (f : List ℕ) (weights : List Weight) (number : ℕ) (weight : Weight) → AreWeights f weights → length weights ≡ number → Weighs f number weight → AreWeights f (weights ++ (weight ∷ []))
 weights-more f weights number weight weighed counted weighs i below =
@@ -173,10 +169,9 @@ numbers-held holder (i ∷ refs) rest = ap (λ xs. i ∷ xs) (numbers-held holde
 
 -- the references of an object that is entered precede those that are left
 references-entered : (number levels : ℕ) (held : Held) (outer : List Group) → references_left (groups_of number levels held ++ outer) ≡ held_by number (references_of held) ++ references_left outer
-references-entered number levels (holds_scalar s) outer = refl
-references-entered number levels (holds_list refs) outer = refl
 references-entered number levels (holds_table keys values) outer =
     sym (ap (λ xs. xs ++ references_left outer) (held_by-append number keys values) ∙ append_assoc (held_by number keys) (held_by number values) (references_left outer))
+references-entered number levels _ outer = refl
 
 numbers-all : (holder : ℕ) (refs : List ℕ) → numbers (held_by holder refs) ≡ refs
 numbers-all holder refs = ap numbers (sym (append-nil (held_by holder refs))) ∙ numbers-held holder refs [] ∙ append-nil refs

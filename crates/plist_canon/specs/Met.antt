@@ -5,19 +5,19 @@ use Rattle.plist_value.specs.Plist.{Scalar}
 use Rattle.plist_value.specs.Scalars.{content_of}
 use Rattle.plist_value.specs.declared.scalar_ref.ScalarRef.{ScalarRef}
 use Rattle.plist_engine.specs.Scalars.{AreNumbered, number_stored}
-use Rattle.plist_engine.specs.Sieve.{HoldsIt, MayRepeat}
+use Rattle.plist_engine.specs.RepeatFilter.{HoldsIt, MayRepeat}
 use Rattle.plist_engine.specs.declared.scalars.Scalars.{Scalars}
-use Rattle.plist_engine.specs.declared.sieve.Sieve.{Sieve}
+use Rattle.plist_engine.specs.declared.repeat_filter.RepeatFilter.{RepeatFilter}
 
 -- whether an equal scalar was seen
 abbrev pub was_met : {S H : Type 0} → Scalars S H → ScalarRef → Bool
 was_met met r = is_some (number_stored met r)
 
 -- an object before i that may repeat another contains the scalar
-abbrev pub IsHeldBefore : Sieve → List ℕ → ℕ → Scalar → Type 0
-IsHeldBefore sieve f i s = (earlier : ℕ) × ((earlier < i) × (MayRepeat sieve earlier × HoldsIt f earlier s))
+abbrev pub IsHeldBefore : RepeatFilter → List ℕ → ℕ → Scalar → Type 0
+IsHeldBefore filter f i s = (earlier : ℕ) × ((earlier < i) × (MayRepeat filter earlier × HoldsIt f earlier s))
 
 -- the scalars of such objects, and no others, were seen
-pub record HasMet {S H : Type 0} (sieve : Sieve) (f : List ℕ) (i : ℕ) (met : Scalars S H) : Type 0 where
+pub record HasMet {S H : Type 0} (filter : RepeatFilter) (f : List ℕ) (i : ℕ) (met : Scalars S H) : Type 0 where
   pub numbered : AreNumbered met
-  pub each : (r : ScalarRef) → (was_met met r ≡ true) ↔ IsHeldBefore sieve f i (content_of r)
+  pub each : (r : ScalarRef) → (was_met met r ≡ true) ↔ IsHeldBefore filter f i (content_of r)

@@ -10,7 +10,7 @@ ghost use Rattle.plist_canon.specs.Rules.{HasPlainTrailer, HasLeastWidths, Adjoi
 ghost use Rattle.plist_canon.specs.Rules.{IsSpelledCanonically, IsNoRepeat};
 ghost use Rattle.plist_canon.specs.Checking.{IsFlaw, earlier, IsEndBefore};
 ghost use Rattle.plist_canon.specs.Checking.{Follows, IsJudged};
-ghost use Rattle.plist_engine.specs.Sieve.{AreNoted};
+ghost use Rattle.plist_engine.specs.RepeatFilter.{AreAdded};
 ghost use Rattle.plist_canon.specs.Steps.{Walked};
 
 use crate::preorder::Walk;
@@ -18,7 +18,7 @@ use crate::references::judge_references;
 use crate::repeats::judge_repeats;
 use crate::rule::Rule;
 use crate::visited::Visited;
-use plist_engine::Notes;
+use plist_engine::RepeatFilterBuilder;
 use plist_object::{BinFile, KeyOrder, Spanned, begins_canonically, width_of};
 use std::alloc::{AllocError, AllocFailed, Global};
 use std::hash::BuildHasher;
@@ -126,10 +126,10 @@ pub(crate) fn judge_objects<'a, S: BuildHasher + Copy>(
     for i in 0..file.count() {
         match judge_object(alloc, objects, file, &mut order, i, visited.end) {
             Ok(read) => visited.take(&read)?,
-            Err(flaw) => return Err(first_flaw(alloc, hasher, file, visited.notes, flaw)),
+            Err(flaw) => return Err(first_flaw(alloc, hasher, file, visited.builder, flaw)),
         }
     }
-    judge_repeats(alloc, hasher, file, visited.notes)?;
+    judge_repeats(alloc, hasher, file, visited.builder)?;
     judge_table(file, visited.end)?;
     Ok(visited.walk)
 }
@@ -139,15 +139,15 @@ fn first_flaw<S: BuildHasher + Copy>(
     alloc: Global,
     hasher: S,
     file: &BinFile,
-    notes: Notes,
+    builder: RepeatFilterBuilder,
     flaw: Flaw,
 ) -> Flaw
-    requires noted { AreNoted (octets_of file.now) (length notes.bits.items) notes }
-    requires listed { length notes.bits.items ≤ (trailer_of (octets_of file.now)).count }
+    requires added { AreAdded (octets_of file.now) (length builder.bits.items) builder }
+    requires listed { length builder.bits.items ≤ (trailer_of (octets_of file.now)).count }
     requires flaw { IsFlaw (octets_of file.now) flaw }
     ensures { IsFlaw (octets_of file.now) result }
 {
-    match judge_repeats(alloc, hasher, file, notes) {
+    match judge_repeats(alloc, hasher, file, builder) {
         Err(repeat) => flaw.or_earlier(repeat),
         Ok(()) => flaw,
     }

@@ -7,8 +7,8 @@ ghost use Rattle.plist_object.specs.Views.{held_of, numbers_of};
 ghost use Rattle.plist_canon.specs.Checking.{IsFlaw};
 ghost use Rattle.plist_canon.specs.Preorders.{IsNoneMet, grouped, groups_of, path_groups};
 ghost use Rattle.plist_canon.specs.Owing.{Pays};
-ghost use Rattle.plist_canon.specs.Steps.{Awaits, ComesToNext, FrameGoesOn, Passes, PathGoesOn};
-ghost use Rattle.plist_canon.specs.Steps.{StandsAfter, Walked, WalkedAll, WalksWithinLimits};
+ghost use Rattle.plist_canon.specs.Steps.{ComesToNext, FrameGoesOn, Passes, PathGoesOn};
+ghost use Rattle.plist_canon.specs.Steps.{Walked, WalkedAll, WalksWithinLimits};
 
 use crate::judging::Flaw;
 use crate::rule::Rule;
@@ -113,42 +113,9 @@ impl<'a> Walk<'a> {
 }
 
 // Returns the depth allowed for the next object if the walk reaches it next, else the container at
-// which rule 7 is broken.
+// which rule 7 is broken. Starts the walk at object 0.
 #[inline(always)]
 fn next_levels(
-    path: &mut Vec<Frame>,
-    left: &mut Option<Budget>,
-    weights: &[Weight],
-) -> Result<u64, u64>
-    ensures { ComesToNext weights.now path.old.items left.old result path.new.items left.new }
-{
-    match levels_at(path, weights.len() as u64) {
-        Some(levels) => Ok(levels),
-        None => levels_behind(path, left, weights),
-    }
-}
-
-// Like [`next_levels`] if the next reference points to object `number`, which is the common case.
-// Otherwise returns `None` and changes nothing.
-#[inline(always)]
-fn levels_at(path: &mut Vec<Frame>, number: u64) -> Option<u64>
-    ensures some { IfSome result (λ levels. (f : List ℕ) (left : Option Budget)
-        → StandsAfter f number left (path_groups path.old.items)
-        → Awaits f number levels left (path_groups path.new.items)) }
-    ensures none { IfNone result (path.new.items ≡ path.old.items) }
-{
-    let frame = path.last_mut()?;
-    if frame.done >= frame.refs.len() || frame.refs.get(frame.done) != number {
-        return None;
-    }
-    frame.done += 1;
-    Some(frame.levels)
-}
-
-// Like [`next_levels`], but first skips references to visited scalars. Also starts the walk at
-// object 0.
-#[inline(never)]
-fn levels_behind(
     path: &mut Vec<Frame>,
     left: &mut Option<Budget>,
     weights: &[Weight],

@@ -4,13 +4,13 @@ ghost use Rattle.plist_object.specs.Layout.{trailer_of};
 ghost use Rattle.plist_object.specs.Views.{octets_of};
 ghost use Rattle.plist_canon.specs.Rules.{IsNoRepeat};
 ghost use Rattle.plist_canon.specs.Checking.{IsFlaw};
-ghost use Rattle.plist_engine.specs.Sieve.{AreNoted, HasNoted};
+ghost use Rattle.plist_engine.specs.RepeatFilter.{AreAdded, HasAdded};
 ghost use Rattle.plist_canon.specs.Met.{HasMet};
 
 use crate::judging::Flaw;
 use crate::objects::scalar_of;
 use crate::rule::Rule;
-use plist_engine::{Notes, Scalars, Sieve};
+use plist_engine::{RepeatFilter, RepeatFilterBuilder, Scalars};
 use plist_object::BinFile;
 use std::alloc::Global;
 use std::hash::BuildHasher;
@@ -23,18 +23,18 @@ pub(crate) fn judge_repeats<S: BuildHasher + Copy>(
     alloc: Global,
     hasher: S,
     file: &BinFile,
-    notes: Notes,
+    builder: RepeatFilterBuilder,
 ) -> Result<(), Flaw>
-    requires noted { AreNoted (octets_of file.now) (length notes.bits.items) notes }
-    requires listed { length notes.bits.items ≤ (trailer_of (octets_of file.now)).count }
+    requires added { AreAdded (octets_of file.now) (length builder.bits.items) builder }
+    requires listed { length builder.bits.items ≤ (trailer_of (octets_of file.now)).count }
     ensures ok { OnOk result
-        ((i : ℕ) → i < length notes.bits.items → IsNoRepeat (octets_of file.now) i) }
+        ((i : ℕ) → i < length builder.bits.items → IsNoRepeat (octets_of file.now) i) }
     ensures err { IfErr result (IsFlaw (octets_of file.now)) }
 {
-    let sieve = notes.sieve(alloc)?;
-    let mut met = Scalars::new(alloc, hasher, sieve.len());
-    for i in 0..sieve.len() {
-        judge_repeat(file, &sieve, i, &mut met)?;
+    let filter = builder.build(alloc)?;
+    let mut met = Scalars::new(alloc, hasher, filter.len());
+    for i in 0..filter.len() {
+        judge_repeat(file, &filter, i, &mut met)?;
     }
     Ok(())
 }
@@ -43,19 +43,19 @@ pub(crate) fn judge_repeats<S: BuildHasher + Copy>(
 #[inline(always)]
 fn judge_repeat<'a, S: BuildHasher + Copy>(
     file: &BinFile<'a>,
-    sieve: &Sieve,
+    filter: &RepeatFilter,
     i: usize,
     met: &mut Scalars<'a, S>,
 ) -> Result<(), Flaw>
-    requires noted { HasNoted (octets_of file.now) (length sieve.now.bits.items) sieve.now }
-    requires among { i < length sieve.now.bits.items }
+    requires added { HasAdded (octets_of file.now) (length filter.now.bits.items) filter.now }
+    requires among { i < length filter.now.bits.items }
     requires listed { i < (trailer_of (octets_of file.now)).count }
-    requires met { HasMet sieve.now (octets_of file.now) i met.old }
+    requires met { HasMet filter.now (octets_of file.now) i met.old }
     ensures ok { OnOk result (IsNoRepeat (octets_of file.now) i) }
-    ensures met { OnOk result (HasMet sieve.now (octets_of file.now) (suc i) met.new) }
+    ensures met { OnOk result (HasMet filter.now (octets_of file.now) (suc i) met.new) }
     ensures err { IfErr result (IsFlaw (octets_of file.now)) }
 {
-    if !sieve.may_repeat(i) {
+    if !filter.may_repeat(i) {
         return Ok(());
     }
     let object = i as u64;

@@ -5,7 +5,7 @@ ghost use Rattle.plist_object.specs.Views.{held_of, octets_of};
 ghost use Rattle.plist_canon.specs.Visited.{AreVisited};
 
 use crate::preorder::Walk;
-use plist_engine::Notes;
+use plist_engine::RepeatFilterBuilder;
 use plist_object::{BinFile, Spanned};
 use std::alloc::{AllocError, Global};
 use std::hash::BuildHasher;
@@ -15,7 +15,7 @@ use std::hash::BuildHasher;
 pub(crate) struct Visited<'a> {
     // The end of the last object visited, or of the header.
     pub(crate) end: u64,
-    pub(crate) notes: Notes,
+    pub(crate) builder: RepeatFilterBuilder,
     pub(crate) walk: Walk<'a>,
 }
 
@@ -30,7 +30,7 @@ impl<'a> Visited<'a> {
     {
         Ok(Visited {
             end: 8,
-            notes: Notes::new(alloc, hasher, file.count()),
+            builder: RepeatFilterBuilder::new(alloc, hasher, file.count()),
             walk: Walk::new(alloc, file.count())?,
         })
     }
@@ -43,7 +43,7 @@ impl<'a> Visited<'a> {
             → AreVisited f i self.old → AreVisited f (i + 1) self.new) }
     {
         self.end = read.end;
-        self.notes.note(&read.object)?;
+        self.builder.add(&read.object)?;
         self.walk.meet(&read.object)?;
         Ok(())
     }

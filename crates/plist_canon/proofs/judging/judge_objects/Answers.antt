@@ -2,7 +2,7 @@ use Rattle.std.proofs.Common.{◌≡◌, ℕ, sym, subst, arith}
 use Rattle.plist_object.specs.Views.{octets_of}
 use Rattle.plist_object.specs.Layout.{trailer_of}
 use Rattle.plist_object.proofs.KeysInTurn.{below_or_last}
-use Rattle.plist_engine.specs.Sieve.{AreNoted}
+use Rattle.plist_engine.specs.RepeatFilter.{AreAdded}
 use Rattle.plist_canon.specs.Checking.{IsJudged, IsEndBefore}
 use Rattle.plist_canon.specs.Steps.{Walked}
 use Rattle.plist_canon.proofs.judging.judge_objects.Goals as goal
@@ -29,20 +29,20 @@ loop-i-preserved g c =
 pub first_flaw-requires : goal.first_flaw-requires
 first_flaw-requires g c =
     let f = octets_of c.args.file.now in
-    let before = c.loop-i.invariant.visited.noted in
+    let before = c.loop-i.invariant.visited.added in
     record {
-      noted = subst (λ (n : ℕ). AreNoted f n c.loop-i.visited.notes) (sym before.noted) before;
-      listed = omega (arith, before.noted, c.loop-i-test.true, c.count-i-end.ensures);
+      added = subst (λ (n : ℕ). AreAdded f n c.loop-i.visited.builder) (sym before.added) before;
+      listed = omega (arith, before.added, c.loop-i-test.true, c.count-i-end.ensures);
       flaw = c.in-Err.ensures.err;
     }
 
 pub judge_repeats-requires : goal.judge_repeats-requires
 judge_repeats-requires g c =
     let f = octets_of c.args.file.now in
-    let before = c.loop-i.invariant.visited.noted in
+    let before = c.loop-i.invariant.visited.added in
     record {
-      noted = subst (λ (n : ℕ). AreNoted f n c.loop-i.visited.notes) (sym before.noted) before;
-      listed = omega (arith, before.noted, c.loop-i.auto.i-end, c.count-i-end.ensures);
+      added = subst (λ (n : ℕ). AreAdded f n c.loop-i.visited.builder) (sym before.added) before;
+      listed = omega (arith, before.added, c.loop-i.auto.i-end, c.count-i-end.ensures);
     }
 
 pub judge_table-requires : goal.judge_table-requires
@@ -61,8 +61,8 @@ returns-clause-judged g c =
 
 pub returns-clause-single : goal.returns-clause-single
 returns-clause-single g c =
-    let noted = c.loop-i.invariant.visited.noted in
-    λ i below. c.in_ok-judge_repeats.ensures.ok i (omega (arith, below, noted.noted, c.loop-i-test.false, c.count-i-end.ensures))
+    let added = c.loop-i.invariant.visited.added in
+    λ i below. c.in_ok-judge_repeats.ensures.ok i (omega (arith, below, added.added, c.loop-i-test.false, c.count-i-end.ensures))
 
 pub returns-clause-walked : goal.returns-clause-walked
 returns-clause-walked g c =

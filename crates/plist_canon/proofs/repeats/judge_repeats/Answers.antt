@@ -2,7 +2,7 @@ use Rattle.std.proofs.Common.{ℕ, length, sym, ap, subst, ◌∙◌, arith, add
 use Rattle.std.specs.Option.{is_some}
 use Rattle.plist_object.specs.Views.{octets_of}
 use Rattle.plist_canon.specs.Rules.{IsNoRepeat}
-use Rattle.plist_engine.specs.Sieve.{HasNoted}
+use Rattle.plist_engine.specs.RepeatFilter.{HasAdded}
 use Rattle.plist_canon.specs.Met.{HasMet}
 use Rattle.plist_object.proofs.KeysInTurn.{below_or_last}
 use Rattle.plist_canon.proofs.repeats.judge_repeats.Goals as goal
@@ -19,12 +19,12 @@ loop-i-init g c = record {
 pub judge_repeat-requires : goal.judge_repeat-requires
 judge_repeat-requires g c =
     let f = octets_of c.args.file.now in
-    let sieve = c.in_ok-sieve.sieve in
-    let noted = c.in_ok-sieve.ensures f (length c.args.notes.bits.items) c.requires.noted in
+    let filter = c.in_ok-filter.filter in
+    let added = c.in_ok-filter.ensures f (length c.args.builder.bits.items) c.requires.added in
     record {
-      noted = subst (λ (n : ℕ). HasNoted f n sieve) (sym noted.noted) noted;
+      added = subst (λ (n : ℕ). HasAdded f n filter) (sym added.added) added;
       among = omega (arith, c.loop-i-test.true, c.len-i-end.ensures);
-      listed = omega (arith, c.loop-i-test.true, c.len-i-end.ensures, noted.noted, c.requires.listed);
+      listed = omega (arith, c.loop-i-test.true, c.len-i-end.ensures, added.added, c.requires.listed);
       met = c.loop-i.invariant.met;
     }
 
@@ -34,10 +34,10 @@ loop-i-preserved g c =
     let i = c.loop-i.i in
     record {
       single = below_or_last (λ j. IsNoRepeat f j) i c.loop-i.invariant.single c.in_ok-judge_repeat.ensures.ok;
-      met = subst (λ (n : ℕ). HasMet c.in_ok-sieve.sieve f n c.judge_repeat.new.met) (sym (add-one i)) c.in_ok-judge_repeat.ensures.met;
+      met = subst (λ (n : ℕ). HasMet c.in_ok-filter.filter f n c.judge_repeat.new.met) (sym (add-one i)) c.in_ok-judge_repeat.ensures.met;
     }
 
 pub returns-clause-ok : goal.returns-clause-ok
 returns-clause-ok g c =
-    let noted = c.in_ok-sieve.ensures (octets_of c.args.file.now) (length c.args.notes.bits.items) c.requires.noted in
-    λ i below. c.loop-i.invariant.single i (omega (arith, below, c.loop-i-test.false, c.len-i-end.ensures, noted.noted))
+    let added = c.in_ok-filter.ensures (octets_of c.args.file.now) (length c.args.builder.bits.items) c.requires.added in
+    λ i below. c.loop-i.invariant.single i (omega (arith, below, c.loop-i-test.false, c.len-i-end.ensures, added.added))

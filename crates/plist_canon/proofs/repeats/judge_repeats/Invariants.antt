@@ -9,5 +9,5 @@ invariant-loop-i g l =
     let f = octets_of l.file in
     record {
       single : (j : ℕ) → j < l.i → IsNoRepeat f j;
-      met : HasMet l.sieve f l.i l.met;
+      met : HasMet l.filter f l.i l.met;
     }
