@@ -25,7 +25,3 @@ goes_apart known piece count within apart rest same =
     let long : length front ≡ count = length-take-le count known within in
     let split : drop count known ≡ piece ++ rest = ap (drop count) (sym same ∙ append_assoc front piece rest) ∙ ap (λ n. drop n (front ++ (piece ++ rest))) (sym long) ∙ behind in
     false≢true (sym apart ∙ (starts_is Decides-eqb (drop count known) piece _ refl).1 rest split)
-
--- bytes that are not a prefix stay so with more after them
-pub stays_apart : (known octets piece : List ℕ) → ((rest : List ℕ) → octets ++ rest ≢ known) → (rest : List ℕ) → (octets ++ piece) ++ rest ≢ known
-stays_apart known octets piece apart rest same = apart (piece ++ rest) (sym (append_assoc octets piece rest) ∙ same)

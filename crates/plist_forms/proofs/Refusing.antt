@@ -15,27 +15,10 @@ use Rattle.plist_forms.specs.Fault.{code_of, fault_for, text_fault_for}
 use Rattle.plist_forms.specs.Refusals.{FaultStands, IsRefused}
 use Rattle.plist_forms.specs.declared.faults.Fault.{Fault}
 
-binary_stands : (octets : List ℕ) → begins_as_binary octets ≡ true → (fault : BinaryFault)
-    → of_binary.Stands octets fault → FaultStands octets (fault_for fault)
-binary_stands octets begins binary.OutOfMemory stands = refl
-binary_stands octets begins fault stands = (begins, stands)
-
 text_stands : (octets : List ℕ) → begins_as_binary octets ≡ false → (fault : TextFault)
     → of_text.Stands octets fault → FaultStands octets (text_fault_for fault)
 text_stands octets begins text.OutOfMemory stands = refl
 text_stands octets begins fault stands = (begins, stands)
-
-pub binary_refused : (octets : List ℕ) → begins_as_binary octets ≡ true → (fault : BinaryFault)
-    → of_binary.Stands octets fault → (fault ≢ binary.OutOfMemory → (v : Plist) → IsBinary octets v → ⊥)
-    → IsRefused octets (fault_for fault)
-binary_refused octets begins fault stands none = record {
-  stands = binary_stands octets begins fault stands;
-  none = λ other. go (λ e. other (ap (λ f. code_of (fault_for f)) e));
-}
-  where
-    go : fault ≢ binary.OutOfMemory → (v : Plist) → IsAccepted octets v → ⊥
-    go other v (inl accepted) = none other v accepted.1
-    go other v (inr accepted) = let no : true ≡ false = sym begins ∙ accepted.0 in cc
 
 pub text_refused : (octets : List ℕ) → begins_as_binary octets ≡ false → (fault : TextFault)
     → of_text.Stands octets fault → (fault ≢ text.OutOfMemory → IsNoText octets)

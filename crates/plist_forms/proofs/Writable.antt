@@ -25,10 +25,9 @@ reordered (row same stands) rows =
 
 mutual
   phrase : {tokens rest : List Lexeme} {v : Plist} → Phrase tokens v rest → is_writable v ≡ true
-  phrase a_string = refl
-  phrase some_data = refl
   phrase (a_list inside) = items inside
   phrase (a_table inside sorted) = reordered sorted.same (rows inside)
+  phrase _ = refl
 
   items : {tokens rest : List Lexeme} {vs : Items} → ItemsPhrase tokens vs rest → are_writable_items vs ≡ true
   items items_end = refl

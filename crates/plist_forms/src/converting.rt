@@ -11,7 +11,7 @@ use crate::faults::Fault;
 use crate::forms::Form;
 use crate::judged::{draft_of, judge_binary, judge_draft};
 use crate::loading::{MAX_INPUT, load};
-use crate::texts::write_openstep;
+use crate::openstep::write_openstep;
 use ostep_write::write_text_of;
 use plist_devices::{Sink, Source};
 use plist_engine::write_canonical_of;

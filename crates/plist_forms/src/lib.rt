@@ -10,11 +10,11 @@ mod judged;
 pub mod laws;
 pub mod lines;
 pub mod loading;
+pub mod openstep;
 pub mod pairs;
 pub mod printing;
 pub mod statuses;
 mod taken;
-pub mod texts;
 
 pub use canonicals::{
     begins_as_binary, canonicalise, canonicalise_with_hasher, judge_any, read_any, same_files,
@@ -25,7 +25,7 @@ pub use faults::Fault;
 pub use forms::Form;
 pub use lines::line;
 pub use loading::{MAX_INPUT, load, load_unless};
+pub use openstep::write_openstep;
 pub use pairs::PairFault;
 pub use printing::print;
 pub use statuses::Status;
-pub use texts::write_openstep;

@@ -31,11 +31,7 @@ front_fault octets fault (Err (write.OutOfMemory n)) is =
 refused_fault : (octets : List ℕ) (fault : Fault) → IsRefused octets fault → IsRefused octets (gathered_fault fault)
 refused_fault octets (WriteFailed sent) refused = absurd refused.stands
 refused_fault octets (OutOfMemory sent) refused = no_memory octets
-refused_fault octets (Binary fault) refused = refused
-refused_fault octets (Text fault) refused = refused
-refused_fault octets NotInOpenStep refused = refused
-refused_fault octets ReadFailed refused = refused
-refused_fault octets InputTooLarge refused = refused
+refused_fault octets _ refused = refused
 
 -- an incomplete print fails with this refusal
 pub gathered_refused : (octets : List ℕ) (old new : Option (List ℕ)) (before after : ℕ) (fault : Fault)

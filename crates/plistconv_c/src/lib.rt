@@ -13,16 +13,16 @@ mod inputs;
 mod keys;
 mod lines;
 mod linting;
+mod openstep;
 mod prints;
 mod refusals;
-mod texts;
 mod version;
 
 pub use checking::{Finding, plistconv_check};
 pub use files::{plistconv_canonical, plistconv_same};
 pub use lines::plistconv_line;
 pub use linting::plistconv_lint;
+pub use openstep::plistconv_text;
 pub use prints::plistconv_print;
 pub use refusals::Refusal;
-pub use texts::plistconv_text;
 pub use version::plistconv_version;

@@ -1,7 +1,7 @@
 use Rattle.std.proofs.Common.{◌∙◌, sym, ap, refl}
 use Rattle.plistconv_c.specs.declared.refusals.Refusal.{Refusal}
 use Rattle.plistconv_c.proofs.Gathered.{unwritten}
-use Rattle.plistconv_c.proofs.texts.plistconv_text.Goals as goal
+use Rattle.plistconv_c.proofs.openstep.plistconv_text.Goals as goal
 
 pub returns-in-Err-clause-refused : goal.returns-in-Err-clause-refused
 returns-in-Err-clause-refused c = λ _.

@@ -7,7 +7,7 @@ use Rattle.plist_forms.specs.Output.{IsOutputFault}
 use Rattle.plist_forms.specs.declared.forms.Form.TheVariants.{OpenStep}
 use Rattle.plist_forms.proofs.Answering.{after_put, failed_answer, openstep_sent, unsent, untouched}
 use Rattle.plist_forms.proofs.Writable.{draft_writable}
-use Rattle.plist_forms.proofs.texts.write_openstep.Goals as goal
+use Rattle.plist_forms.proofs.openstep.write_openstep.Goals as goal
 
 pub returns-in_err-file-clause-writes : goal.returns-in_err-file-clause-writes
 returns-in_err-file-clause-writes g c =

@@ -1,5 +1,5 @@
 use Rattle.plistconv_c.proofs.Gathered.{gathered_unwritten}
-use Rattle.plistconv_c.proofs.texts.written_text.Goals as goal
+use Rattle.plistconv_c.proofs.openstep.written_text.Goals as goal
 
 pub returns-in-Err-clause-refused : goal.returns-in-Err-clause-refused
 returns-in-Err-clause-refused c = rw c.unsent.ensures
