@@ -59,53 +59,18 @@ no_5 e = omega (arith, e)
 -- no refusal of the bytes has the status of a failed device
 
 binary_quiet : (fault : BinaryFault) → status_for (fault_code fault) ≢ 4
-binary_quiet binary.TooShort = no_2
-binary_quiet binary.BadHeader = no_2
-binary_quiet binary.BadTrailer = no_2
-binary_quiet (binary.BadOffset i) = no_2
-binary_quiet (binary.BadReference i) = no_2
-binary_quiet (binary.CutObject i) = no_2
-binary_quiet (binary.BadMarker i) = no_2
-binary_quiet (binary.NullObject i) = no_2
-binary_quiet (binary.UidObject i) = no_2
-binary_quiet (binary.SetObject i) = no_2
-binary_quiet (binary.NotAscii i) = no_2
-binary_quiet (binary.WideInteger i) = no_2
-binary_quiet (binary.KeyNotText i) = no_2
-binary_quiet (binary.DuplicateKey i) = no_2
-binary_quiet (binary.Cycle i) = no_2
-binary_quiet (binary.TooDeep i) = no_2
-binary_quiet (binary.TooManyNodes i) = no_2
-binary_quiet (binary.TooMuchPayload i) = no_2
 binary_quiet binary.OutOfMemory = no_5
+binary_quiet _ = no_2
 
 text_quiet : (fault : TextFault) → status_for (of_text.code_of fault) ≢ 4
-text_quiet (text.DuplicateKey octet) = no_2
-text_quiet (text.TooDeep octet) = no_2
-text_quiet (text.TooManyNodes octet) = no_2
-text_quiet (text.TooMuchPayload octet) = no_2
-text_quiet (text.BadUtf8 octet) = no_2
-text_quiet (text.XmlForm octet) = no_2
-text_quiet (text.UnexpectedCharacter octet) = no_2
-text_quiet (text.UnclosedString octet) = no_2
-text_quiet (text.UnclosedComment octet) = no_2
-text_quiet (text.BadEscape octet) = no_2
-text_quiet (text.OctalRange octet) = no_2
-text_quiet (text.OddData octet) = no_2
-text_quiet (text.BadData octet) = no_2
-text_quiet (text.Expected octet) = no_2
-text_quiet (text.Junk octet) = no_2
-text_quiet (text.BadUtf16 octet) = no_2
 text_quiet text.OutOfMemory = no_5
+text_quiet _ = no_2
 
 stands_quiet : (octets : List ℕ) (fault : Fault) → FaultStands octets fault → status_for (code_of fault) ≢ 4
 stands_quiet octets (Binary fault) stands = binary_quiet fault
 stands_quiet octets (OfText fault) stands = text_quiet fault
-stands_quiet octets NotInOpenStep stands = absurd stands
-stands_quiet octets ReadFailed stands = absurd stands
-stands_quiet octets (WriteFailed sent) stands = absurd stands
-stands_quiet octets InputTooLarge stands = absurd stands
 stands_quiet octets (OutOfMemory sent) stands = no_5
+stands_quiet octets _ stands = absurd stands
 
 -- no result for the bytes has the status of a failed device
 
@@ -120,10 +85,8 @@ verdict_quiet verdict.Canonical = no_0
 verdict_quiet (verdict.Broken rule i) = no_1
 
 check_fault_quiet : (fault : CheckFault) → status_for (code_of (check_fault_for fault)) ≢ 4
-check_fault_quiet check.TooShort = no_2
-check_fault_quiet check.BadHeader = no_2
-check_fault_quiet check.BadTrailer = no_2
 check_fault_quiet check.OutOfMemory = no_5
+check_fault_quiet _ = no_2
 
 check_quiet : (path octets : List ℕ) (s : Said) → IsCheckAnswer path octets s → s.status ≢ 4
 check_quiet path octets s (inl judged) = says_quiet s _ judged.says (verdict_quiet judged.verdict)

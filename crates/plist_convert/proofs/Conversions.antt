@@ -62,12 +62,7 @@ converted form octets from to before middle after n stands kept unfailed printed
 pub refused_under : (octets : List ℕ) (from to : FileName) (fault : Fault) → IsRefused octets fault
     → path_of_fault from to fault ≡ from
 refused_under octets from to (WriteFailed sent) refused = absurd refused.stands
-refused_under octets from to (Binary fault) refused = refl
-refused_under octets from to (Text fault) refused = refl
-refused_under octets from to NotInOpenStep refused = refl
-refused_under octets from to ReadFailed refused = refl
-refused_under octets from to InputTooLarge refused = refl
-refused_under octets from to (OutOfMemory sent) refused = refl
+refused_under octets from to _ refused = refl
 
 told_under : (form : Form) (octets : List ℕ) (from to : FileName) (fault : Fault) → IsOutputFault form octets fault
     → path_of_fault from to fault ≡ from

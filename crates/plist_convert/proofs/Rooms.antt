@@ -22,8 +22,6 @@ module _ (form : Form) (octets taken : List ℕ) (failures room : ℕ) (most : l
   -- it is full
   filled : (output : List ℕ) → IsOutput form octets output → (n : ℕ) (sent : Result ℕ WriteFault)
       → IsWritten output (Some []) (Some taken) 0 failures sent → Err (WriteFailed n) ≡ answer_of sent → IsFull form octets room n
-  filled output of n (Ok m) written is = absurd cc
-  filled output of n (Err (write.OutOfMemory m)) written is = absurd cc
   filled output of n (Err (write.WriteFailed m)) written is =
       let same : n ≡ m = cc in
       let short : m < length output = written.within in
@@ -31,19 +29,14 @@ module _ (form : Form) (octets taken : List ℕ) (failures room : ℕ) (most : l
       let whole : length taken ≡ room = reached (omega (arith, once)) in
       let went : length taken ≡ m = ap length written.front.0 ∙ length-take-le m output (omega (arith, short)) in
       record { output = output; of = of; long = omega (arith, short, whole, went); filled = omega (arith, same, whole, went) }
+  filled output of n _ written is = absurd cc
 
   pub is_full : (sent : Result ℕ Fault) → Writes form octets (Some []) (Some taken) 0 failures sent → IfErr sent (IsFullAt form octets room)
-  is_full (Ok n) writes = tt
   is_full (Err (WriteFailed n)) (inl unsent) =
       let same : unsent.fault ≡ WriteFailed n = (let is = unsent.is in cc) in
       absurd (no_device form octets n (rw same at unsent.cause))
   is_full (Err (WriteFailed n)) (inr goes) = filled goes.output goes.of n goes.sent goes.written goes.is
-  is_full (Err (Binary fault)) writes = tt
-  is_full (Err (Text fault)) writes = tt
-  is_full (Err NotInOpenStep) writes = tt
-  is_full (Err ReadFailed) writes = tt
-  is_full (Err InputTooLarge) writes = tt
-  is_full (Err (OutOfMemory n)) writes = tt
+  is_full _ writes = tt
 
   -- all of it was within the maximum size
   found_room : (output : List ℕ) (n : ℕ) (sent : Result ℕ WriteFault) → IsWritten output (Some []) (Some taken) 0 failures sent

@@ -53,12 +53,7 @@ unsent_count : (form : Form) (octets : List ℕ) (fault : Fault) (before after :
     → CountsFailure before after (Err fault) → after ≡ before
 unsent_count form octets (WriteFailed sent) before after (inl refused) counts = absurd refused.stands
 unsent_count form octets (WriteFailed sent) before after (inr none) counts = absurd (let is = none.is in cc)
-unsent_count form octets (Binary fault) before after cause counts = counts
-unsent_count form octets (Text fault) before after cause counts = counts
-unsent_count form octets NotInOpenStep before after cause counts = counts
-unsent_count form octets ReadFailed before after cause counts = counts
-unsent_count form octets InputTooLarge before after cause counts = counts
-unsent_count form octets (OutOfMemory sent) before after cause counts = counts
+unsent_count form octets _ before after cause counts = counts
 
 -- a failure of the device is counted
 pub sent_count : (sent : Result ℕ WriteFault) (before after : ℕ) → CountsFailure before after (answer_of sent)
