@@ -4,7 +4,7 @@ ghost use Rattle.plist_value.specs.Plist.{Plist};
 ghost use Rattle.plist_object.specs.Spelled.{IsBinary};
 
 use plist_binary::read;
-use plist_engine::{Notes, Scalars, canonical_of, natural_in};
+use plist_engine::{RepeatFilterBuilder, Scalars, canonical_of, natural_in};
 use plist_object::{BinFile, Object};
 use plist_value::{FixedHasher, ScalarRef, Whole};
 use std::alloc::{AllocError, Global};
@@ -118,16 +118,16 @@ fn many_scalars_share_objects_however_they_are_spelled(rt: HostRuntime) -> Resul
 }
 
 #[test]
-fn sieves_tell_what_may_repeat(rt: HostRuntime) -> Result<(), Fail> {
-    let mut notes = Notes::new(rt.alloc(), &FixedHasher::new(), 3);
+fn filters_tell_what_may_repeat(rt: HostRuntime) -> Result<(), Fail> {
+    let mut builder = RepeatFilterBuilder::new(rt.alloc(), &FixedHasher::new(), 3);
     for octets in [b"a", b"b", b"a"] {
-        notes.note(&Object::Scalar(ScalarRef::Bytes(octets)))?;
+        builder.add(&Object::Scalar(ScalarRef::Bytes(octets)))?;
     }
-    let sieve = notes.sieve(rt.alloc())?;
-    assert_eq!(rt; sieve.len(), 3);
-    assert_eq!(rt; sieve.may_repeat(0), true);
-    assert_eq!(rt; sieve.may_repeat(1), false);
-    assert_eq!(rt; sieve.may_repeat(2), true);
+    let filter = builder.build(rt.alloc())?;
+    assert_eq!(rt; filter.len(), 3);
+    assert_eq!(rt; filter.may_repeat(0), true);
+    assert_eq!(rt; filter.may_repeat(1), false);
+    assert_eq!(rt; filter.may_repeat(2), true);
     Ok(())
 }
 
