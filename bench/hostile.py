@@ -1,11 +1,20 @@
 #!/usr/bin/env python3
-"""Measures plistconv on files made to be slow, at three sizes, each twice the one before.
+"""Measures each command of `plistconv` on files made to be slow, at two sizes, the second twice the first.
 
-usage: bench/hostile.py [PLISTCONV]   (the program to measure, ./plistconv if not given)
+usage: bench/hostile.py [PLISTCONV] [--only NAME,..]   (the program to measure, ./plistconv if not given)
 
-Time is processor time, the least of three runs. If the work is linear in the size of the file, the last column is
-constant.
+Time is processor time, the least of three runs, or of six if that of three misses a limit. The sizes take turns, so
+that other work on the machine slows both alike. A command may take at most 0.5 s on a file of about 1 MB, and its time
+may grow at most 1.5 times as much as the file, where less than 0.02 s counts as 0.02 s. A print and an OpenStep text
+repeat each string that the value repeats, so they may be hundreds of times longer than the file. On such files these
+two commands run once, and may take 25 ns for each byte that they write; what they take for a byte may grow 1.5 times.
+
+Each cell has the seconds for the larger file and, if it is not too short, the growth of the time divided by that of the
+file, or the nanoseconds for each byte written and their growth. A cell that misses a limit says so, a line after the
+table has its figures, and the status is 1. The answer is that of `lint`, and must be the one listed here.
 """
+import argparse
+import collections
 import os
 import random
 import subprocess
@@ -14,9 +23,17 @@ import tempfile
 
 from measure import Measure
 
+SIZES = (500_000, 1_000_000)
+MOST_SECONDS, MOST_GROWTH, LEAST_SECONDS = 0.5, 1.5, 0.02
+MOST_NANOSECONDS = 25
+
 
 def number(value, width):
     return value.to_bytes(width, "big")
+
+
+def numbers(values, width):
+    return b"".join(number(value, width) for value in values)
 
 
 def head(kind, count):
@@ -30,12 +47,12 @@ def head(kind, count):
 def file(objects, places, width):
     """Returns the file of objects that begin at these offsets, with references of `width` bytes."""
     body = b"bplist00" + objects
-    entries = b"".join(number(place, 4) for place in places)
     trailer = bytes([0] * 6 + [4, width]) + number(len(places), 8) + number(0, 8) + number(len(body), 8)
-    return body + entries + trailer
+    return body + numbers(places, 4) + trailer
 
 
 def joined(objects, width):
+    """Returns the file of objects that follow each other."""
     places, place = [], 8
     for one in objects:
         places.append(place)
@@ -43,189 +60,299 @@ def joined(objects, width):
     return file(b"".join(objects), places, width)
 
 
+def array(items, width):
+    """Returns an array of these objects, given by their numbers."""
+    return head(0xA0, len(items)) + numbers(items, width)
+
+
+def dictionary(names, value, width):
+    """Returns a dictionary with these keys, given by their numbers, which all have the same value."""
+    return head(0xD0, len(names)) + numbers(names, width) + number(value, width) * len(names)
+
+
+def ascii_string(length, end=b""):
+    """Returns a string of `length` bytes with this end."""
+    return head(0x50, length) + b"a" * (length - len(end)) + end
+
+
+def wide_string(length, place):
+    """Returns a UTF-16 string of `length` units. Strings of other places differ in the last unit."""
+    return head(0x60, length) + b"\x00a" * (length - 1) + number(0x100 + place, 2)
+
+
+def overlapping_strings(count, length):
+    """Returns strings that all reach into the bytes of the last one. Each has about `length` bytes."""
+    start = b"\x5f\x12" + bytes(byte & 0x7F for byte in number(length, 4))
+    return [start] * (count - 1) + [start + b"a" * length]
+
+
 def shared_keys(size):
     """Returns an array of dictionaries that all have the same two long keys, which differ only in the last byte."""
-    tables, length = size // 40, size // 4
-    first = head(0xA0, tables) + b"".join(number(n, 2) for n in [1, *range(5, tables + 4)])
-    table = b"\xd2" + b"".join(number(n, 2) for n in (2, 3, 4, 4))
-    keys = [head(0x50, length) + b"a" * (length - 1) + last for last in (b"x", b"y")]
-    return joined([first, table, *keys, b"\x10\x00", *[table] * (tables - 1)], 2)
+    count, length = size // 40, size // 4
+    first, one = array([1, *range(5, count + 4)], 2), b"\xd2" + numbers((2, 3, 4, 4), 2)
+    keys = [ascii_string(length, end) for end in (b"x", b"y")]
+    return joined([first, one, *keys, b"\x10\x00", *[one] * (count - 1)], 2)
 
 
 def overlapping_keys(size):
-    """Returns a dictionary whose keys all overlap in one long sequence of bytes."""
-    keys = size // 40
-    length = size // 2
-    table = head(0xD0, keys) + b"".join(number(n, 2) for n in range(1, keys + 1)) + number(keys + 1, 2) * keys
-    heads = b"".join(b"\x5f\x12" + bytes(octet & 0x7F for octet in number(length, 4)) for _ in range(keys))
-    places = [8, *(8 + len(table) + 6 * n for n in range(keys)), 8 + len(table) + len(heads) + length]
-    return file(table + heads + b"a" * length + b"\x10\x00", places, 2)
+    """Returns a dictionary whose keys all overlap."""
+    count = size // 40
+    one = dictionary(range(1, count + 1), count + 1, 2)
+    return joined([one, *overlapping_strings(count, size // 2), b"\x10\x00"], 2)
 
 
 def unordered_keys(size):
-    """Returns a dictionary whose first two keys do not ascend, and whose other keys overlap in the same bytes."""
-    keys = size // 40
-    length = size // 2
-    width = 2 if keys + 3 < 1 << 16 else 4
-    names = b"".join(number(n, width) for n in range(1, keys + 3))
-    table = head(0xD0, keys + 2) + names + number(keys + 3, width) * (keys + 2)
-    heads = b"".join(b"\x5f\x12" + bytes(octet & 0x7F for octet in number(length, 4)) for _ in range(keys))
-    start = 8 + len(table)
-    places = [8, start, start + 2, *(start + 4 + 6 * n for n in range(keys)), start + 4 + len(heads) + length]
-    return file(table + b"QbQa" + heads + b"a" * length + b"\x10\x00", places, width)
+    """Returns a dictionary whose first two keys do not ascend, and whose other keys overlap."""
+    count = size // 40
+    keys = [b"Qb", b"Qa", *overlapping_strings(count, size // 2)]
+    return joined([dictionary(range(1, count + 3), count + 3, 2), *keys, b"\x10\x00"], 2)
 
 
-def one_table_often(size):
-    """Returns objects that are all the same dictionary, whose keys are all the same string."""
+def one_dictionary_often(size):
+    """Returns objects that are all the same dictionary, whose keys and values are all the same string."""
     count = size // 10
-    width = 2 if count + 1 < 1 << 16 else 4
-    table = head(0xD0, count) + number(count, width) * (2 * count)
-    return file(table + b"Qa", [8] * count + [8 + len(table)], width)
+    one = dictionary([count] * count, count, 3)
+    return file(one + b"Qa", [8] * count + [8 + len(one)], 3)
 
 
-def one_text_often(size):
+def one_string_often(size):
     """Returns an array with many references to one long string."""
-    length = size // 2
-    return joined([head(0xA0, size // 2) + b"\x01" * (size // 2), head(0x50, length) + b"a" * length], 1)
+    return joined([array([1] * (size // 2), 1), ascii_string(size // 2)], 1)
+
+
+def one_place(size):
+    """Returns an array of strings that all begin at one offset, so that they are the same bytes."""
+    count = size // 8
+    first = array(range(1, count + 1), 3)
+    return file(first + wide_string(size // 250, 0), [8] + [8 + len(first)] * count, 3)
 
 
 def one_key(size):
     """Returns an array of dictionaries that all have the same long key."""
-    tables, length = size // 12, 5000
-    first = head(0xA0, tables) + b"".join(number(n, 3) for n in range(3, tables + 3))
-    table = b"\xd1" + number(1, 3) + number(2, 3)
-    return joined([first, head(0x50, length) + b"a" * length, b"\x09", *[table] * tables], 3)
+    count = size // 14
+    one = dictionary([1], 2, 3)
+    return joined([array(range(3, count + 3), 3), ascii_string(5000), b"Qx", *[one] * count], 3)
 
 
-def wide(length, number_of_key):
-    """A string of UTF-16 that differs from others in its last unit."""
-    units = b"\x00a" * (length - 1) + number(0x100 + number_of_key, 2)
-    return head(0x60, length) + units
-
-
-def tables_of(lists, keys, size):
-    """Dictionaries up to this size whose keys are these lists of objects, in turn, with one value."""
-    width = 3
-    value, first = len(keys) + 1, len(keys) + 2
-    long = [head(0xD0, len(one)) + b"".join(number(n, width) for n in one) + number(value, width) * len(one)
-            for one in lists]
-    tables, total = [], 0
+def dictionaries_of(lists, keys, size, value=b"Qx", unreached=()):
+    """Returns an array of dictionaries of `size` bytes in total, whose keys are these lists of objects, in turn."""
+    width, at = 3, len(keys) + 1
+    each = [dictionary(one, at, width) for one in lists]
+    made, total = [], 0
     while total < size:
-        tables.append(long[len(tables) % len(long)])
-        total += len(tables[-1])
-    top = head(0xA0, len(tables)) + b"".join(number(n, width) for n in range(first, first + len(tables)))
-    return joined([top, *keys, b"\x09", *tables], width)
+        made.append(each[len(made) % len(each)])
+        total += len(made[-1])
+    return joined([array(range(at + 1, at + 1 + len(made)), width), *keys, value, *made, *unreached], width)
 
 
-def reordered(count, size):
-    """Dictionaries of the same long keys, each in another order."""
-    pick = random.Random(count)
-    keys = [wide(size // 4 // count, n) for n in range(count)]
-    lists = [pick.sample(range(1, count + 1), count) for _ in range(size // 2 // (6 * count) + 1)]
-    return tables_of(lists, keys, size // 2)
+def reordered(count, names, size, unreached=()):
+    """Returns dictionaries that all have the same `count` keys, of `names` bytes in total, each in another order."""
+    chance = random.Random(count)
+    keys = [wide_string(names // count // 2, place) for place in range(count)]
+    # (each dictionary also takes an offset and a reference, of 7 bytes)
+    size = (size - names) * count // (count + 1)
+    lists = [chance.sample(range(1, count + 1), count) for _ in range(size // (6 * count) + 1)]
+    return dictionaries_of(lists, keys, size, unreached=unreached)
 
 
 def reordered_16(size):
-    return reordered(16, size)
+    # (longer keys would have more bytes in all dictionaries than a value may have)
+    return reordered(16, size * 2 // 17, size)
 
 
 def reordered_256(size):
-    return reordered(256, size)
+    return reordered(256, size // 2, size)
+
+
+def overlapping_unreached(size):
+    """Returns `reordered` dictionaries, and 40 strings that overlap and that nothing refers to."""
+    part = size * 3 // 4
+    return reordered(16, part * 2 // 17, part, overlapping_strings(40, size // 4))
 
 
 def lists_in_turn(size):
-    """Two long lists of keys, in turn."""
-    return lists_of(4100, max(size - 400_000, 1))
+    """Returns dictionaries with two long lists of keys, in turn."""
+    return lists_of(size // 240, size * 3 // 5)
 
 
-def lists_of(count, size):
-    """Dictionaries up to this size whose keys are two lists, in turn."""
-    keys = [head(0x50, 40) + b"%040d" % n for n in range(2 * count)]
-    pick = random.Random(0)
-    lists = [pick.sample(range(1 + part, 1 + part + count), count) for part in (0, count)]
-    return tables_of(lists, keys, size)
+def lists_of(count, size, value=b"Qx"):
+    """Returns dictionaries of `size` bytes in total with two lists of `count` keys, in turn."""
+    keys = [head(0x50, 40) + b"%040d" % place for place in range(2 * count)]
+    chance = random.Random(0)
+    lists = [chance.sample(range(1 + part, 1 + part + count), count) for part in (0, count)]
+    return dictionaries_of(lists, keys, size, value)
 
 
 def three_in_turn(size):
-    """Three lists of long keys, in turn."""
-    keys = [wide(size // 4 // 48, n) for n in range(48)]
-    lists = [range(1 + part, 17 + part) for part in (0, 16, 32)]
-    return tables_of([[*reversed(one)] for one in lists], keys, size // 2)
+    """Returns dictionaries with three lists of long keys, in turn."""
+    keys = [wide_string(size // 4 // 48, place) for place in range(48)]
+    return dictionaries_of([range(part + 16, part, -1) for part in (0, 16, 32)], keys, size * 15 // 32)
 
 
 def overlapping_later(size):
-    """Dictionaries of the same long keys in many orders, and then one whose keys all reach into one run of bytes."""
-    count, many, length, width, tables = 16, size // 40, size // 2, 3, 40
-    first = tables + 2
-    value, over = first + count, first + count + 1
-    keys = [wide(size // 8 // count, n) for n in range(count)]
-
-    def table(names):
-        return head(0xD0, len(names)) + b"".join(number(n, width) for n in names) + number(value, width) * len(names)
-
-    top = head(0xA0, tables + 1) + b"".join(number(n, width) for n in range(1, tables + 2))
-    objects = [top, *(table([first + (i + turn) % count for i in range(count)]) for turn in range(1, tables + 1)),
-               table(range(over, over + many)), *keys, b"\x09",
-               *[b"\x5f\x12" + bytes(octet & 0x7F for octet in number(length, 4))] * many]
-    places, place = [], 8
-    for one in objects:
-        places.append(place)
-        place += len(one)
-    return file(b"".join(objects) + b"a" * (length + 100), places, width)
+    """Returns dictionaries with the same long keys in other orders, and then one whose keys all overlap."""
+    count, width, often = 16, 3, 40
+    first = often + 2
+    value, keys = first + count, [wide_string(size // 8 // count, place) for place in range(count)]
+    lists = [[first + (place + turn) % count for place in range(count)] for turn in range(1, often + 1)]
+    over = range(value + 1, value + 1 + size // 40)
+    made = [dictionary(one, value, width) for one in [*lists, over]]
+    return joined([array(range(1, often + 2), width), *made, *keys, b"\x09",
+                   *overlapping_strings(len(over), size // 2)], width)
 
 
 def quotes(size):
-    """A string of quotes."""
+    """Returns a string of quotes."""
     return joined([head(0x50, size) + b'"' * size], 1)
 
 
 def unseen_units(size):
-    """A string of UTF-16 that no print shows as it is."""
+    """Returns a UTF-16 string whose units are printed as escapes."""
     return joined([head(0x60, size // 2) + b"\x20\x0e" * (size // 2)], 1)
 
 
-COMMANDS = {
-    "check": ["check", "IN"],
-    "lint": ["lint", "IN"],
-    "print": ["print", "IN"],
-    "binary1": ["convert", "binary1", "IN", "/dev/null"],
-    "openstep": ["convert", "openstep", "IN", "/dev/null"],
-    # (the other file has an unused byte that differs, since equal files are compared alone)
-    "same": ["same", "IN", "OTHER"],
+# The answer of `lint` for each file.
+ROWS = {
+    shared_keys: "refused 18", overlapping_keys: "refused 18", unordered_keys: "refused 18",
+    one_dictionary_often: "refused 14", one_string_often: "refused 18", one_place: "OK", one_key: "OK",
+    reordered_16: "OK", reordered_256: "OK", lists_in_turn: "OK", three_in_turn: "OK", overlapping_later: "refused 18",
+    overlapping_unreached: "OK", quotes: "OK", unseen_units: "OK",
 }
 
-ROWS = [
-    ("check", shared_keys), ("check", overlapping_keys), ("check", unordered_keys), ("check", one_table_often),
-    ("check", one_text_often), ("lint", shared_keys), ("lint", one_key), ("lint", overlapping_later),
-    *((word, make) for make in (reordered_16, reordered_256, lists_in_turn, three_in_turn)
-      for word in ("lint", "check", "binary1", "openstep", "same")),
-    *((word, make) for make in (quotes, unseen_units) for word in ("print", "openstep")), ("print", lists_in_turn),
-]
+# Files of values that repeat long strings, and the commands that write these each time.
+REPEATING = (one_place, one_key, reordered_16, reordered_256, three_in_turn, overlapping_unreached)
+REPEATERS = ("print", "openstep")
+
+COMMANDS = {
+    "lint": ["lint", "IN"],
+    "check": ["check", "IN"],
+    "print": ["print", "IN"],
+    # (of two equal files only their bytes are compared, so the other one differs: see `write`)
+    "same": ["same", "IN", "OTHER"],
+    "binary1": ["convert", "binary1", "IN", "OUT"],
+    "openstep": ["convert", "openstep", "IN", "OUT"],
+    # (without arguments, from standard input to standard output)
+    "filter": [],
+    # (a check of any other file ends at the first rule that it breaks)
+    "check of its canonical file": ["check", "CANONICAL"],
+}
+
+Figure = collections.namedtuple("Figure", "size seconds status length")
+
+
+def words_of(command, path, out=os.devnull):
+    """Returns the arguments of a command."""
+    paths = {"IN": path, "OTHER": path + " other", "CANONICAL": path + " canonical", "OUT": out}
+    return [paths.get(word, word) for word in COMMANDS[command]]
+
+
+def write(made, path):
+    """Writes an input, and another one beside it: a file that differs in an unused byte, a text with a line more."""
+    other = made[:-32] + b"\x01" + made[-31:] if made.startswith(b"bplist00") else made + b"\n"
+    for name, content in ((path, made), (path + " other", other)):
+        with open(name, "wb") as target:
+            target.write(content)
+
+
+class Trial:
+    """Runs the program on a file and on what is made of it."""
+
+    def __init__(self, program, measure, path, made):
+        self.program, self.measure, self.path = program, measure, path
+        write(made, path)
+        run = self.run("lint", into=subprocess.PIPE)
+        self.answer = run.printed.replace(self.path + ": ", "")
+        if run.status == 0:
+            self.measure.run([program, *words_of("binary1", self.path, self.path + " canonical")])
+
+    def run(self, command, into=subprocess.DEVNULL):
+        return self.measure.run([self.program, *words_of(command, self.path)], into=into, source=self.path)
+
+    def counted(self, command):
+        """Returns the figure of a command whose output is measured too."""
+        run, length = self.measure.count([self.program, *words_of(command, self.path, "/dev/stdout")])
+        return Figure(self.size(command), run.processor, run.status, length)
+
+    def figure(self, command, runs):
+        return Figure(self.size(command), min(run.processor for run in runs), runs[0].status, None)
+
+    def size(self, command):
+        """Returns the size of the file that a command reads."""
+        return os.path.getsize(self.path + " canonical" * ("CANONICAL" in COMMANDS[command]))
+
+
+def statuses(command, answer):
+    """Returns the statuses with which a command may end."""
+    ends = (2,) if answer.startswith("refused") else (0,)
+    return (1, *ends) if command == "check" else ends
+
+
+def compared(half, whole):
+    """Returns the cell of a command, and the limits that it misses."""
+    if whole.length is not None:
+        each = [figure.seconds / max(figure.length, 1) * 1e9 for figure in (half, whole)]
+        growth = each[1] / each[0]
+        missed = [f"{each[1]:.1f} ns for each byte written"] * (each[1] > MOST_NANOSECONDS)
+        return f"{each[1]:.1f} ns ×{growth:.1f}", missed + [f"growth {growth:.2f}"] * (growth > MOST_GROWTH)
+    longer = max(whole.seconds, LEAST_SECONDS) / max(half.seconds, LEAST_SECONDS)
+    growth = longer / (whole.size / half.size)
+    missed = [f"more than {MOST_SECONDS} s"] * (whole.seconds > MOST_SECONDS)
+    shown = f" ×{growth:.1f}" if whole.seconds > LEAST_SECONDS else ""
+    return f"{whole.seconds:.3f}{shown}", missed + [f"growth {growth:.2f}"] * (growth > MOST_GROWTH)
+
+
+def figures(trials, command, repeats):
+    """Returns the figures of a command for the smaller and the larger file, which take turns."""
+    if repeats and command in REPEATERS:
+        return [trial.counted(command) for trial in trials]
+    turns = []
+    while len(turns) < 6:
+        turns.append([trial.run(command) for trial in trials])
+        found = [trial.figure(command, runs) for trial, runs in zip(trials, zip(*turns))]
+        if len(turns) >= 3 and not compared(*found)[1]:
+            break
+    return found
+
+
+def row(program, measure, make):
+    """Prints the row of a file, and returns a line for each limit that is missed."""
+    name, cells, faults = make.__name__.replace("_", " "), dict.fromkeys(COMMANDS, ""), []
+    with tempfile.TemporaryDirectory() as folder:
+        trials = [Trial(program, measure, os.path.join(folder, str(size)), make(size)) for size in SIZES]
+        size, answer = trials[1].size("lint"), trials[1].answer
+        if not all(trial.answer.startswith(ROWS[make]) for trial in trials):
+            faults.append(f"{name}: {trials[0].answer}, {answer}, not {ROWS[make]}")
+        accepted = all(trial.answer == "OK" for trial in trials)
+        for command in (command for command in COMMANDS if accepted or "CANONICAL" not in COMMANDS[command]):
+            half, whole = figures(trials, command, make in REPEATING)
+            cell, missed = compared(half, whole)
+            missed += [f"status {whole.status}"] * (whole.status not in statuses(command, ROWS[make]))
+            cells[command] = cell + " missed" * bool(missed)
+            lengths = "" if whole.length is None else f", {half.length:,} and {whole.length:,} bytes written"
+            faults += [f"{command} of {name}: {one} ({half.seconds:.3f} s of {half.size:,} bytes, "
+                       f"{whole.seconds:.3f} s of {whole.size:,}{lengths})" for one in missed]
+    print(f"| {name} | {size:,} | {answer} | {' | '.join(cells.values())} |", flush=True)
+    return faults
 
 
 def main():
-    program = os.path.abspath(sys.argv[1] if len(sys.argv) > 1 else "./plistconv")
-    print("| command | file | bytes | answer | seconds | seconds for each MB |")
-    print("|---|---|---|---|---|---|")
+    parser = argparse.ArgumentParser()
+    parser.add_argument("program", nargs="?", default="./plistconv")
+    parser.add_argument("--only", default="", help="names of files, with commas between")
+    arguments = parser.parse_args()
+    every = {make.__name__: make for make in ROWS}
+    names = arguments.only.split(",") if arguments.only else [*every]
+    if unknown := set(names).difference(every):
+        sys.exit(f"no such file: {', '.join(unknown)}")
+    print(f"| file | bytes | answer | {' | '.join(COMMANDS)} |\n|---|---|---|{'---|' * len(COMMANDS)}")
+    faults = []
     with tempfile.TemporaryDirectory() as folder:
-        path, measure = os.path.join(folder, "file"), Measure(folder)
-        for word, make in ROWS:
-            other = path + " other"
-            words = [{"IN": path, "OTHER": other}.get(part, part) for part in COMMANDS[word]]
-            into = subprocess.DEVNULL if word == "print" else subprocess.PIPE
-            for size in (250_000, 500_000, 1_000_000):
-                made = make(size)
-                with open(path, "wb") as target:
-                    target.write(made)
-                with open(other, "wb") as target:
-                    target.write(made[:-32] + b"\x01" + made[-31:])
-                runs = [measure.run([program, *words], into=into) for _ in range(3)]
-                least = min(run.processor for run in runs)
-                octets = os.path.getsize(path)
-                answer = runs[0].printed.replace(path, "IN")
-                print(f"| {word} | {make.__name__.replace('_', ' ')} | {octets:,} | {answer} | {least:.3f} "
-                      f"| {least / octets * 1_000_000:.3f} |", flush=True)
+        program, measure = os.path.abspath(arguments.program), Measure(folder)
+        for name in names:
+            faults += row(program, measure, every[name])
+    print("\n".join(["", *(f"missed: {fault}" for fault in faults)] if faults else ["", "No limit is missed."]))
+    return 1 if faults else 0
 
 
 if __name__ == "__main__":
-    main()
+    sys.exit(main())

@@ -1,13 +1,13 @@
 #!/usr/bin/env python3
 """Times two programs on fifteen inputs of other shapes than those of bench.py.
 
-usage: bench/shapes.py PROGRAM OTHER [--runs N] [--only NAME,..] [--scale S] [--command WORDS] [--bench]
+usage: bench/shapes.py PROGRAM OTHER [--runs N] [--only NAME,..] [--scale S] [--command ARGUMENTS] [--bench]
                        [--instructions]
 
-The programs take turns, N times (11 if not given), so that other work on the machine counts for both alike. Seconds
-are those of the processor, of the user and the system, the least of these runs. --bench measures the inputs of bench.py
-too, and --only names some of either. --command gives other words than `convert binary1`. --instructions counts by
-callgrind (Debian's valgrind), once each, in place of the time: no other work on the machine changes these.
+The programs take turns, N times (11 if not given), so that other work on the machine slows both alike. Seconds are
+processor time, of the user and the system, the least of these runs. --bench measures the inputs of bench.py too, and
+--only names some of either. --command gives other arguments than `convert binary1`. --instructions counts instructions
+by callgrind (Debian's valgrind), once each, in place of the time: no other work on the machine changes these.
 
 Each input is made anew, the same on every machine.
 """
@@ -41,14 +41,14 @@ def rotation(chance, scale):
     return [{key: number + at for at, key in enumerate(kinds[number % 100])} for number in range(int(40_000 * scale))]
 
 
-def long_tables(chance, scale):
-    """Two long tables with the same keys, each in an order of its own."""
+def long_dictionaries(chance, scale):
+    """Two long dictionaries with the same keys, each in its own order."""
     names = [f"entry {number:07d}" for number in range(int(120_000 * scale))]
     return [{name: len(name) + side for name in chance.sample(names, len(names))} for side in range(2)]
 
 
 def letters(chance, scale):
-    """A table of keys of 26 letters, in no order, which begin with the same twelve."""
+    """A dictionary of keys of 26 letters, in no order, which begin with the same twelve."""
     return {"com.example." + word(chance, string.ascii_lowercase, 14): True for _ in range(int(150_000 * scale))}
 
 
@@ -62,7 +62,7 @@ def hashes(chance, scale):
 
 
 def digests(chance, scale):
-    """Data of 20 octets, each twice."""
+    """Data of 20 bytes, each twice."""
     found = [chance.randbytes(20) for _ in range(int(80_000 * scale))]
     return found + chance.sample(found, len(found))
 
@@ -80,7 +80,7 @@ def dates(chance, scale):
 
 
 def few_strings(chance, scale):
-    """Short lists of a few hundred strings."""
+    """Short arrays of a few hundred strings."""
     tags = [word(chance, string.ascii_lowercase, chance.randrange(4, 16)) for _ in range(300)]
     return [{"tags": chance.sample(tags, 6), "kind": chance.choice(tags)} for _ in range(int(60_000 * scale))]
 
@@ -94,7 +94,7 @@ def plain_text(chance, scale):
 
 
 def wide_text(chance, scale):
-    """A strings file in UTF-16, its high octets first."""
+    """A strings file in UTF-16, big-endian."""
     rows = [f"\"item.{number}\" = \"{chinese(chance, 12)} (%@)\";\n" for number in range(int(90_000 * scale))]
     return ("\ufeff" + "".join(rows)).encode("utf-16-be")
 
@@ -106,20 +106,20 @@ def chinese_text(chance, scale):
 
 
 def data_text(chance, scale):
-    """Tables with data, in groups of eight digits, and unquoted strings."""
+    """Dictionaries with data, in groups of eight digits, and unquoted strings."""
     rows = "".join(f"\t{{ name = blob{number}; bytes = <{chance.randbytes(48).hex(' ', 4)}>; }},\n"
                    for number in range(int(50_000 * scale)))
     return f"(\n{rows})\n".encode()
 
 
 def coordinates_text(chance, scale):
-    """Lists of short unquoted strings."""
+    """Arrays of short unquoted strings."""
     rows = "".join(f"\t({chance.randrange(10**4)}, {chance.randrange(10**4)}, p{chance.randrange(100)}),\n"
                    for _ in range(int(200_000 * scale)))
     return f"(\n{rows})\n".encode()
 
 
-BINARY = {"rotation": rotation, "long tables": long_tables, "letters": letters, "chinese": chinese_strings,
+BINARY = {"rotation": rotation, "long dictionaries": long_dictionaries, "letters": letters, "chinese": chinese_strings,
           "hashes": hashes, "digests": digests, "reals": reals, "integers": integers, "dates": dates,
           "few strings": few_strings}
 TEXTS = {"plain text": plain_text, "wide text": wide_text, "chinese text": chinese_text, "data text": data_text,
@@ -127,7 +127,7 @@ TEXTS = {"plain text": plain_text, "wide text": wide_text, "chinese text": chine
 
 
 def made(name, scale):
-    """The octets of an input of this file or of bench.py."""
+    """Returns an input of this file or of bench.py."""
     if name in TEXTS:
         return TEXTS[name](random.Random(name), scale)
     if name in files.TEXTS:
@@ -137,7 +137,7 @@ def made(name, scale):
 
 
 def least_seconds(measure, commands, runs):
-    """The least seconds of each command, which take turns."""
+    """Returns the least seconds of each command. The commands take turns."""
     found = [[] for _ in commands]
     for _ in range(runs):
         for command, seconds in zip(commands, found):
@@ -145,41 +145,41 @@ def least_seconds(measure, commands, runs):
     return [min(seconds) for seconds in found]
 
 
-def read_words():
-    words = argparse.ArgumentParser()
-    words.add_argument("programs", nargs=2, metavar="PROGRAM")
-    words.add_argument("--runs", type=int, default=11)
-    words.add_argument("--only", default="", help="names of inputs, with commas between")
-    words.add_argument("--scale", type=float, default=1)
-    words.add_argument("--command", default="convert binary1")
-    words.add_argument("--bench", action="store_true")
-    words.add_argument("--instructions", action="store_true")
-    return words.parse_args()
+def read_arguments():
+    parser = argparse.ArgumentParser()
+    parser.add_argument("programs", nargs=2, metavar="PROGRAM")
+    parser.add_argument("--runs", type=int, default=11)
+    parser.add_argument("--only", default="", help="names of inputs, with commas between")
+    parser.add_argument("--scale", type=float, default=1)
+    parser.add_argument("--command", default="convert binary1")
+    parser.add_argument("--bench", action="store_true")
+    parser.add_argument("--instructions", action="store_true")
+    return parser.parse_args()
 
 
 def main():
-    words = read_words()
+    arguments = read_arguments()
     every = [*BINARY, *TEXTS, *files.BINARY, *files.TEXTS]
-    names = every if words.bench else [*BINARY, *TEXTS]
-    if words.only:
-        names = words.only.split(",")
+    names = every if arguments.bench else [*BINARY, *TEXTS]
+    if arguments.only:
+        names = arguments.only.split(",")
         if unknown := set(names).difference(every):
             sys.exit(f"no such input: {', '.join(unknown)}")
-    unit = "instructions, millions" if words.instructions else "seconds"
-    print(f"| input | octets | {unit} | of the other | other / first |\n|---|---|---|---|---|")
+    unit = "instructions, millions" if arguments.instructions else "seconds"
+    print(f"| input | bytes | {unit} | the other's | other / first |\n|---|---|---|---|---|")
     with tempfile.TemporaryDirectory() as folder:
         measure, source = Measure(folder), os.path.join(folder, "in")
-        target = [os.path.join(folder, "out")] * words.command.startswith("convert")
-        commands = [[os.path.abspath(it), *words.command.split(), source, *target] for it in words.programs]
+        target = [os.path.join(folder, "out")] * arguments.command.startswith("convert")
+        commands = [[os.path.abspath(it), *arguments.command.split(), source, *target] for it in arguments.programs]
         for name in names:
             with open(source, "wb") as file:
-                file.write(made(name, words.scale))
-            if words.instructions:
+                file.write(made(name, arguments.scale))
+            if arguments.instructions:
                 first, other = (instructions(command) / 1e6 for command in commands)
             else:
-                first, other = least_seconds(measure, commands, words.runs)
-            octets = os.path.getsize(source)
-            print(f"| {name} | {octets:,} | {first:.4g} | {other:.4g} | {other / first:.3f} |", flush=True)
+                first, other = least_seconds(measure, commands, arguments.runs)
+            size = os.path.getsize(source)
+            print(f"| {name} | {size:,} | {first:.4g} | {other:.4g} | {other / first:.3f} |", flush=True)
 
 
 if __name__ == "__main__":
