@@ -9,13 +9,13 @@ use Rattle.plist_value.specs.Scalars.{content_of}
 use Rattle.plist_value.specs.declared.scalar_ref.ScalarRef.{ScalarRef}
 use Rattle.plist_object.specs.Objects.{holds_scalar, holds_list, holds_table}
 use Rattle.plist_object.specs.Layout.{trailer_of}
-use Rattle.plist_object.specs.Places.{Holds, what_holds}
+use Rattle.plist_object.specs.Places.{Holds, what_holds, object_at, octets_at, place_of}
 use Rattle.plist_object.specs.Spelled.{Spells, SpellsWithin}
 use Rattle.plist_object.proofs.Uniqueness.{same_held}
 use Rattle.plist_engine.specs.declared.plan.Plan.{Plan}
 use Rattle.plist_engine.specs.declared.scalars.Scalars.{Scalars}
 use Rattle.plist_engine.specs.Scalars.{AreNew, EntersScalar, number_stored}
-use Rattle.plist_engine.specs.Memo.{no_number, single, kept, IsNumber, IsAlone, IsSingle, KeepsNumber, FindsSingles}
+use Rattle.plist_engine.specs.Memo.{no_number, single, kept, IsNumber, IsNumberAt, IsAlone, IsSingle, KeepsNumber, FindsSingles}
 use Rattle.plist_engine.specs.Plan.{is_held, number_from, number_met, IsRemembered, IsMet, IsUnmet, KnowsScalars, MeetsScalar, IsWalked, Begins}
 use Rattle.plist_engine.proofs.Meeting.{cases_Option, met-added, met-beside, met-now, met-still}
 use Rattle.plist_engine.proofs.Storing.{entered-had, entered-kept, entered-unknown, entered-added}
@@ -30,6 +30,11 @@ valid_at f i s (list vs) valid spells holds =
     absurd (let held = same_held f i (holds_list spells.0) (holds_scalar s) spells.1.0 holds in cc)
 valid_at f i s (table ps) valid spells holds =
     absurd (let held = same_held f i (holds_table spells.0 spells.1.0) (holds_scalar s) spells.1.1.1.0 holds in cc)
+
+-- objects at one offset have the same content
+same-at-place : (f : List ℕ) (i j : ℕ) → place_of f i ≡ place_of f j → what_holds f j ≡ what_holds f i
+unfolding what_holds object_at octets_at
+same-at-place f i j same = rw same refl
 
 -- an object whose number is known is walked
 pub walked-again : {S H : Type 0} → (f : List ℕ) (i levels : ℕ) (plan : Plan S H) (n : ℕ) → SpellsWithin f i levels → IsRemembered f plan i n → IsWalked f i plan plan n
@@ -140,6 +145,14 @@ unmet-searched {S} {H} f i s old new same_originals same_scalars sifts unmet =
             };
       };
     }
+
+-- a scalar with a number that another object at the same offset has
+pub met-at-place : {S H : Type 0} → (f : List ℕ) (i : ℕ) (s : Scalar) (plan : Plan S H) (n : ℕ) → IsUnmet f i s plan → IsNumberAt f i plan.memo n → number_met f plan s ≡ Some n
+met-at-place f i s plan n unmet at =
+    let one = number-remembered f plan at.first n at.is_kept at.some unmet.knows in
+    let same = same-at-place f at.first i at.at_place in
+    let shown : one.shown ≡ s = cc (same, one.holds.reads, unmet.holds.reads) in
+    subst (λ (t : Scalar). number_met f plan t ≡ Some n) shown one.met
 
 -- the scalar of an object that was not visited
 module _ {S H : Type 0} (f : List ℕ) (i : ℕ) (r : ScalarRef) (old : Plan S H) (unmet : IsUnmet f i (content_of r) old) where

@@ -4,8 +4,9 @@ use Rattle.std.specs.Prelude.{◌≡◌, ◌≢◌, ◌⊎◌, ℕ, ◌-◌, ◌
 use Rattle.plist_value.specs.Plist.{Scalar}
 use Rattle.plist_value.specs.Scalars.{content_of}
 use Rattle.plist_value.specs.declared.scalar_ref.ScalarRef.{ScalarRef}
+use Rattle.plist_object.specs.Layout.{trailer_of}
 use Rattle.plist_object.specs.Objects.{holds_scalar}
-use Rattle.plist_object.specs.Places.{Holds}
+use Rattle.plist_object.specs.Places.{Holds, place_of}
 use Rattle.plist_engine.specs.RepeatFilter.{IsUnlike}
 use Rattle.plist_engine.specs.declared.memo.Memo.{Memo}
 use Rattle.plist_engine.specs.declared.repeat_filter.RepeatFilter.{RepeatFilter}
@@ -28,6 +29,14 @@ kept_at numbers i = slice_index_or numbers i no_number
 -- what is known of object i
 abbrev pub kept : Memo → ℕ → ℕ
 kept memo i = kept_at memo.numbers.items i
+
+-- an object that has this number begins at the same offset as object i
+pub record IsNumberAt (f : List ℕ) (i : ℕ) (memo : Memo) (number : ℕ) : Type 0 where
+  pub first : ℕ
+  pub listed : first < (trailer_of f).count
+  pub at_place : place_of f first ≡ place_of f i
+  pub is_kept : kept memo first ≡ number
+  pub some : IsNumber number
 
 -- no other object of the file contains the scalar of object i
 abbrev pub IsAlone : List ℕ → ℕ → Type 0

@@ -1,6 +1,6 @@
-//! Writes the canonical binary file of a property list, into memory or piece by piece to a sink.
-//! The input is any binary file that encodes the list; the list itself is not built. Writes the text
-//! of such a file in any notation too.
+//! Writes the canonical binary file of a property list, into memory or piece by piece to a sink,
+//! and its text in any notation. The input is any binary file that encodes the list; the list is
+//! not built.
 #![tactic(auto)]
 
 mod bits;

@@ -1,11 +1,16 @@
 //! The object numbers of the objects that were visited as scalars.
-ghost use Rattle.std.specs.Prelude.{◌≡◌, ◌≤◌, ℕ, length, true, IfOk, IfSome, IfNone, OnOk};
+ghost use Rattle.std.specs.Prelude.{◌≡◌, ◌≤◌, ◌<◌, ℕ, length, true};
+ghost use Rattle.std.specs.Prelude.{IfOk, IfSome, IfNone, OnOk};
+ghost use Rattle.plist_object.specs.Layout.{trailer_of};
 ghost use Rattle.plist_object.specs.Views.{octets_of};
-ghost use Rattle.plist_engine.specs.Memo.{IsNumber, KeepsNumber, Marks, FindsSingles, kept};
+ghost use Rattle.plist_engine.specs.Memo.{IsNumber, IsNumberAt, KeepsNumber, Marks};
+ghost use Rattle.plist_engine.specs.Memo.{FindsSingles, kept};
 
 use crate::repeat_filter::{RepeatFilter, filter_of};
 use plist_object::BinFile;
+use plist_value::ScalarRef;
 use std::alloc::{AllocError, Global};
+use std::collections::BTreeMap;
 use std::hash::BuildHasher;
 
 // Marks an object that has no number.
@@ -18,12 +23,17 @@ pub(crate) const SINGLE: u32 = NO_NUMBER - 1;
 // With fewer scalars than this in the map, looking for single objects does not pay.
 const MANY: usize = 4_096;
 
+// Strings and data of at least this many units or bytes are long.
+const LONG: usize = 256;
+
 /// The number of each object of the file that was visited as a scalar.
 #[derive(Drop)]
 pub(crate) struct Memo {
     pub(crate) numbers: Vec<u32>,
     // Whether single objects were already looked for.
     pub(crate) is_searched: bool,
+    // For the offset of each long scalar that was visited, an object that begins there.
+    pub(crate) places: BTreeMap<u64, u64>,
 }
 
 impl Memo {
@@ -37,6 +47,7 @@ impl Memo {
         Ok(Memo {
             numbers,
             is_searched: false,
+            places: BTreeMap::new(alloc),
         })
     }
 
@@ -70,6 +81,44 @@ impl Memo {
         if place < self.numbers.len() {
             self.numbers[place] = number;
         }
+    }
+
+    /// Like [`keep`](Memo::keep), but later objects at the same offset are found if the scalar of
+    /// the object is long.
+    pub(crate) fn keep_scalar(
+        &mut self,
+        file: &BinFile,
+        object: u64,
+        scalar: &ScalarRef,
+        number: u32,
+    ) -> Result<(), AllocError>
+        requires { object < (trailer_of (octets_of file.now)).count }
+        ensures { OnOk result (KeepsNumber object number self.old self.new) }
+    {
+        self.keep(object, number);
+        if is_long(scalar) {
+            self.places.insert(file.place(object), object)?;
+        }
+        Ok(())
+    }
+
+    /// Returns the number of an object that was visited and begins at the same offset, if the
+    /// scalar is long. Many objects may be the same bytes, which are then hashed only once.
+    pub(crate) fn number_at(&self, file: &BinFile, object: u64, scalar: &ScalarRef) -> Option<u32>
+        requires { object < (trailer_of (octets_of file.now)).count }
+        ensures { IfSome result (IsNumberAt (octets_of file.now) object self.now) }
+    {
+        if !is_long(scalar) {
+            return None;
+        }
+        let place = file.place(object);
+        let first = *self.places.get(&place)?;
+        // (Tested, so that nothing has to be known about the map.)
+        if first >= file.count() || file.place(first) != place {
+            return None;
+        }
+        let number = self.number_of(first)?;
+        Some(number)
     }
 
     /// Looks for single objects, unless that was already done or there are too few scalars in the
@@ -115,5 +164,14 @@ fn mark_single(numbers: &mut Vec<u32>, filter: &RepeatFilter)
         if numbers[i] == NO_NUMBER && filter.is_unlike(i) {
             numbers[i] = SINGLE;
         }
+    }
+}
+
+// Returns whether the scalar takes longer to hash than its offset takes to look up.
+fn is_long(scalar: &ScalarRef) -> bool {
+    match scalar {
+        ScalarRef::Text(text) => text.len() >= LONG,
+        ScalarRef::Bytes(octets) => octets.len() >= LONG,
+        _ => false,
     }
 }

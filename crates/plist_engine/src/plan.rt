@@ -2,6 +2,7 @@
 ghost use Rattle.std.specs.Prelude.{◌≡◌, ◌↔◌, ◌<◌, ℕ, List, length, IsOk, IfOk, OnOk};
 ghost use Rattle.plist_value.specs.Scalars.{content_of};
 ghost use Rattle.plist_value.specs.Plist.{Pairs};
+ghost use Rattle.plist_object.specs.Layout.{trailer_of};
 ghost use Rattle.plist_object.specs.Views.{numbers_of, octets_of};
 ghost use Rattle.plist_engine.specs.Memo.{IsNumber, kept};
 ghost use Rattle.plist_object.specs.KeyOrder.{IsReady};
@@ -66,22 +67,26 @@ impl<'a, S: BuildHasher + Copy> Plan<'a, S> {
         object: u64,
         scalar: ScalarRef<'a>,
     ) -> Result<u32, AllocError>
+        requires { object < (trailer_of (octets_of file.now)).count }
         ensures numbers { IfOk result (NumbersScalar (octets_of file.now) object
             (content_of scalar.entry) self.old self.new) }
         ensures knows { OnOk result
             (IsUnmet (octets_of file.now) object (content_of scalar.entry) self.old
             → KnowsScalars (octets_of file.now) self.new) }
     {
+        if let Some(number) = self.memo.number_at(file, object, &scalar) {
+            return Ok(number);
+        }
         self.memo
             .find_singles(alloc, &self.hasher, file, self.scalars.len())?;
         let next = self.next_number()?;
         if let Some(number) = meet(&self.memo, &mut self.scalars, object, scalar, next)? {
-            self.memo.keep(object, number);
+            self.memo.keep_scalar(file, object, &scalar, number)?;
             return Ok(number);
         }
         let original = short(object)?;
         self.originals.push(original)?;
-        self.memo.keep(object, next);
+        self.memo.keep_scalar(file, object, &scalar, next)?;
         Ok(next)
     }
 

@@ -1,10 +1,11 @@
 //! Refused memory: each call that allocates returns 60, or the same as with ample memory.
 //! bench/growths.py runs a test once for each of its allocations, which it refuses from outside.
 use crate::files::numbers;
-use crate::worked_files::{TABLE, TABLE_TEXT, TWICE, WRITTEN_TEXT};
+use crate::worked_files::{TABLE, TABLE_TEXT, TWICE, UNSORTED, WRITTEN_TEXT};
 use ostep_text::{TextFault, TextWriteFault, judge_text, read_text, write_text};
 use plist_binary::{BinaryFault, read};
 use plist_canon::{CheckFault, ListSink, Verdict, WriteFault, canonical, check, write_canonical};
+use plist_convert::run;
 use plist_devices::ListSource;
 use plist_forms::{Fault, PairFault, canonicalise, line, load, read_any, same_files};
 use plist_value::{Utf16, Value, copy, fits, same};
@@ -222,5 +223,18 @@ fn a_value_of_many_strings_is_read(rt: HostRuntime) -> Result<(), Fail> {
         return Err(Fail::from("it is no array"));
     };
     assert_eq!(rt; items.len(), 255);
+    Ok(())
+}
+
+// The output has capacity for all that is printed, so only the program itself allocates.
+#[test]
+fn a_run_prints_into_reserved_space(rt: HostRuntime) -> Result<(), Fail> {
+    for octets in [TABLE_TEXT, UNSORTED] {
+        let mut output = Vec::with_capacity(rt.alloc(), 1_000)?;
+        let mut input = octets;
+        let status = run(&rt, rt.alloc(), &[], &mut input, &mut output);
+        let is_done = status == 0 && output.as_slice() == TABLE;
+        assert!(rt; is_done || status == 5);
+    }
     Ok(())
 }

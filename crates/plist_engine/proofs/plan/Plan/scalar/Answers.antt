@@ -3,7 +3,7 @@ use Rattle.plist_value.specs.Scalars.{content_of}
 use Rattle.plist_object.specs.Views.{octets_of}
 use Rattle.plist_engine.specs.declared.plan.Plan.{Plan}
 use Rattle.plist_engine.specs.declared.memo.Memo.{Memo}
-use Rattle.plist_engine.proofs.Remembering.{had-entered, had-met, new-entered, new-met, knows-again, knows-more, unmet-searched}
+use Rattle.plist_engine.proofs.Remembering.{met-at-place, had-entered, had-met, new-entered, new-met, knows-again, knows-more, unmet-searched}
 use Rattle.plist_engine.proofs.Walking.{Walks-known, Walks-new}
 use Rattle.plist_engine.proofs.plan.Plan.scalar.Goals as goal
 
@@ -20,34 +20,46 @@ with_memo plan memo = record {
 pub returns-in-Some-clause-numbers : goal.returns-in-Some-clause-numbers
 returns-in-Some-clause-numbers g c =
     let f = octets_of c.args.file.now in
-    let r = c.args.scalar in
-    let i = c.args.object in
     let old = c.args.self.now in
-    let mid = with_memo old c.find_singles.new.self in
-    let next = c.in_ok-next.next in
-    let n = c.in-Some.number in
-    let scalars = c.meet.new.scalars in
     record {
-      walks = λ unmet.
-          let sifted = unmet-searched f i (content_of r) old mid refl refl c.in_ok-find_singles.ensures unmet in
-          Walks-known f (content_of r) old _ n (had-met f i r mid sifted next n scalars (had-entered f i r mid sifted next n scalars (rw c.in-Some.is at c.in_ok-number.ensures))) refl refl;
+      walks = λ unmet. Walks-known f (content_of c.args.scalar) old old _ (met-at-place f c.args.object (content_of c.args.scalar) old _ unmet (rw c.in-Some.is at c.number_at.ensures)) refl refl;
       references_kept = refl;
     }
 
 pub returns-in-Some-clause-knows : goal.returns-in-Some-clause-knows
-returns-in-Some-clause-knows g c = λ unmet.
+returns-in-Some-clause-knows g c = λ unmet. unmet.knows
+
+pub returns-in-Some-2-clause-numbers : goal.returns-in-Some-2-clause-numbers
+returns-in-Some-2-clause-numbers g c =
     let f = octets_of c.args.file.now in
     let r = c.args.scalar in
     let i = c.args.object in
     let old = c.args.self.now in
     let mid = with_memo old c.find_singles.new.self in
     let next = c.in_ok-next.next in
-    let n = c.in-Some.number in
+    let n = c.in-Some-2.number in
+    let scalars = c.meet.new.scalars in
+    record {
+      walks = λ unmet.
+          let sifted = unmet-searched f i (content_of r) old mid refl refl c.in_ok-find_singles.ensures unmet in
+          Walks-known f (content_of r) old _ n (had-met f i r mid sifted next n scalars (had-entered f i r mid sifted next n scalars (rw c.in-Some-2.is at c.in_ok-number.ensures))) refl refl;
+      references_kept = refl;
+    }
+
+pub returns-in-Some-2-clause-knows : goal.returns-in-Some-2-clause-knows
+returns-in-Some-2-clause-knows g c = λ unmet.
+    let f = octets_of c.args.file.now in
+    let r = c.args.scalar in
+    let i = c.args.object in
+    let old = c.args.self.now in
+    let mid = with_memo old c.find_singles.new.self in
+    let next = c.in_ok-next.next in
+    let n = c.in-Some-2.number in
     let scalars = c.meet.new.scalars in
     let sifted = unmet-searched f i (content_of r) old mid refl refl c.in_ok-find_singles.ensures unmet in
-    let entered = had-entered f i r mid sifted next n scalars (rw c.in-Some.is at c.in_ok-number.ensures) in
+    let entered = had-entered f i r mid sifted next n scalars (rw c.in-Some-2.is at c.in_ok-number.ensures) in
     let met = sifted.knows.met (content_of r) n (had-met f i r mid sifted next n scalars entered) in
-    knows-again f i r mid sifted n _ met.some c.keep.ensures next entered refl
+    knows-again f i r mid sifted n _ met.some c.in_ok-keep_scalar.ensures next entered refl
 
 pub returns-clause-numbers : goal.returns-clause-numbers
 returns-clause-numbers g c =
@@ -61,7 +73,7 @@ returns-clause-numbers g c =
     record {
       walks = λ unmet.
           let sifted = unmet-searched f i (content_of r) old mid refl refl c.in_ok-find_singles.ensures unmet in
-          Walks-new f (content_of r) i old _ next unmet.holds (new-met f i r mid sifted next scalars (new-entered f i r mid sifted next scalars (rw c.in_default.is at c.in_ok-number.ensures))) c.in_ok-next.ensures.is (rw c.in_ok-original.ensures.value at c.in_ok-push.ensures.items) refl;
+          Walks-new f (content_of r) i old _ next unmet.holds (new-met f i r mid sifted next scalars (new-entered f i r mid sifted next scalars (rw c.in_default-2.is at c.in_ok-number.ensures))) c.in_ok-next.ensures.is (rw c.in_ok-original.ensures.value at c.in_ok-push.ensures.items) refl;
       references_kept = refl;
     }
 
@@ -75,4 +87,4 @@ returns-clause-knows g c = λ unmet.
     let next = c.in_ok-next.next in
     let scalars = c.meet.new.scalars in
     let sifted = unmet-searched f i (content_of r) old mid refl refl c.in_ok-find_singles.ensures unmet in
-    knows-more f i r mid sifted next _ c.in_ok-next.ensures.some c.keep-2.ensures c.in_ok-next.ensures.is (rw c.in_ok-original.ensures.value at c.in_ok-push.ensures.items) (new-entered f i r mid sifted next scalars (rw c.in_default.is at c.in_ok-number.ensures))
+    knows-more f i r mid sifted next _ c.in_ok-next.ensures.some c.in_ok-keep_scalar-2.ensures c.in_ok-next.ensures.is (rw c.in_ok-original.ensures.value at c.in_ok-push.ensures.items) (new-entered f i r mid sifted next scalars (rw c.in_default-2.is at c.in_ok-number.ensures))
