@@ -22,8 +22,8 @@ use std::alloc::Global;
 ///
 /// # Errors
 ///
-/// [`NoDraft::NoValue`] if the bytes are not a text, or of a value that exceeds `MAX_DEPTH` or
-/// `MAX_NODES`, and only if they are not a text of any value within the limits.
+/// [`NoDraft::NoValue`] if the bytes are not a text, or are the text of a value that exceeds
+/// `MAX_DEPTH` or `MAX_NODES`, and only if they are not a text of any value within the limits.
 /// `ostep_text::read_text` says why, and where. [`NoDraft::OutOfMemory`] at any step.
 pub fn draft_text(alloc: Global, octets: &[u8]) -> Result<Vec<u8>, NoDraft>
     // The text encodes whatever the file encodes, and the other way round.

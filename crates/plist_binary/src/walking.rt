@@ -154,8 +154,8 @@ impl<'a> Walker<'a> {
         refs: Refs,
         levels: u64,
     ) -> Result<u64, BinaryFault>
-        requires next { AreNext (walked self.now) (containers_of before.now) container (numbers_of
-            refs) progress.old.left }
+        requires next { AreNext (walked self.now) (containers_of before.now) container
+            (numbers_of refs) progress.old.left }
         requires depth { length (containers_of before.now) + 1 + levels ≡ MAX_DEPTH }
         requires progress { IsProgress (walked self.now) (container ∷ containers_of before.now)
             progress.old }
@@ -163,8 +163,8 @@ impl<'a> Walker<'a> {
             levels progress.old.left deep progress.new.left) }
         ensures refused { IfErr result (RefusesItems (walked self.now) (numbers_of refs.entry)
             levels progress.old.left) }
-        ensures progress { OnOk result (IsProgress (walked self.now) (container ∷ containers_of
-            before.now) progress.new) }
+        ensures progress { OnOk result (IsProgress (walked self.now)
+            (container ∷ containers_of before.now) progress.new) }
     {
         let path = Path::In(container, &*before);
         let mut deepest = 0;
@@ -196,8 +196,8 @@ impl<'a> Walker<'a> {
             progress.old.left progress.new.left) }
         ensures refused { IfErr result (RefusesTable (walked self.now) table (numbers_of refs.entry)
             levels progress.old.left) }
-        ensures progress { OnOk result (IsProgress (walked self.now) (table ∷ containers_of
-            before.now) progress.new) }
+        ensures progress { OnOk result (IsProgress (walked self.now)
+            (table ∷ containers_of before.now) progress.new) }
     {
         if let Some(rest) = recall_keys(&progress.last, &refs, levels, progress.left) {
             progress.left = rest;
@@ -227,8 +227,8 @@ impl<'a> Walker<'a> {
             progress.old.left progress.new.left) }
         ensures refused { IfErr result (RefusesTable (walked self.now) table (numbers_of refs.entry)
             levels progress.old.left) }
-        ensures progress { OnOk result (IsProgress (walked self.now) (table ∷ containers_of
-            before.now) progress.new) }
+        ensures progress { OnOk result (IsProgress (walked self.now)
+            (table ∷ containers_of before.now) progress.new) }
     {
         let whole = progress.left.payload;
         self.keys(&mut *progress, table, before, refs, levels)?;
@@ -259,8 +259,8 @@ impl<'a> Walker<'a> {
             (numbers_of refs.entry) levels progress.old.left (texts keys) progress.new.left) }
         ensures refused { IfErr result (RefusesKeys (walked self.now) (numbers_of refs.entry) levels
             progress.old.left) }
-        ensures progress { OnOk result (IsProgress (walked self.now) (table ∷ containers_of
-            before.now) progress.new) }
+        ensures progress { OnOk result (IsProgress (walked self.now)
+            (table ∷ containers_of before.now) progress.new) }
     {
         for i in 0..refs.len() {
             let object = self.visitor.referred(table, refs.get(i))?;

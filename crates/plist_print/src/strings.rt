@@ -1,5 +1,6 @@
 //! Prints strings.
-ghost use Rattle.std.specs.Prelude.{◌≡◌, ◌+◌, ◌*◌, ◌<◌, ◌≤◌, ◌∷◌, ◌++◌, ◌/◌, ◌%◌, ◌==◌, ℕ, List, codes};
+ghost use Rattle.std.specs.Prelude.{◌≡◌, ◌+◌, ◌*◌, ◌<◌, ◌≤◌, ◌∷◌, ◌++◌, ◌/◌, ◌%◌, ◌==◌};
+ghost use Rattle.std.specs.Prelude.{ℕ, List, codes};
 ghost use Rattle.std.specs.Prelude.{false, IsTrue, IfOk, OnOk, length, take, drop};
 ghost use Rattle.std.specs.Char.{encode_utf8};
 ghost use Rattle.plist_value.specs.Texts.{units_of};
