@@ -9,8 +9,9 @@ cd "$(dirname "$0")/.." || exit 2
 
 names=("$@")
 if [ ${#names[@]} -eq 0 ]; then
-    for folder in crates/*/must-fail; do
-        names+=("$(basename "$(dirname "$folder")")")
+    for folder in crates/*/; do
+        [ -d "$folder/must-fail" ] || [ -d "$folder/edits" ] || continue
+        names+=("$(basename "$folder")")
     done
 fi
 copied
