@@ -11,6 +11,7 @@ pub mod MachineLemmas
 pub mod PhraseSteps
 pub mod SortingSteps
 pub mod PlaceSteps
+pub mod KeySteps
 pub mod MeanSteps
 pub mod Standing
 pub mod DueSteps

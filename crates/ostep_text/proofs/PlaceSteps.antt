@@ -1,45 +1,46 @@
--- Looking a key up among the entries of a map, and inserting at its entry.
-use Rattle.std.proofs.Common.{◌≡◌, ℕ, Bool, true, false, List, Ordering, Less, Equal, Greater, nat_cmp, refl, sym, ap, ◌∙◌}
-use Rattle.std.specs.Prelude.{Option, None, Some, cond, ◌||◌}
-use Rattle.std.specs.Option.{is_some, unwrap_or}
+-- Values that are built, and the rows of a dictionary that is being read.
+use Rattle.std.proofs.Common.{◌≡◌, ℕ, Bool, true, false, List, [], ◌∷◌, Less, Greater, nat_cmp, refl, ap, ◌∙◌}
+use Rattle.std.specs.Prelude.{Option, Some, cond, ◌||◌}
+use Rattle.std.specs.Option.{is_some}
 use Rattle.std.specs.Map.{lookup}
-use Rattle.std.specs.BTreeMap.{BTreeMap, get, is_at, insert_entry}
+use Rattle.std.specs.BTreeMap.{is_at, insert_entry}
 use Rattle.std.specs.Cmp.Lexicographic.{slice_cmp}
-use Rattle.std.specs.Ordering.{match_ordering}
+use Rattle.std.specs.Ordering.{ordering_reverse}
+use Rattle.std.proofs.lemmas.Cmp.{nat_list_cmp_total}
 use Rattle.std.proofs.lemmas.Map.Text.{is_eq-slice_cmp}
-use Rattle.plist_value.specs.Plist.{Plist, Pairs}
-use Rattle.plist_value.proofs.Pairs.{put_pair}
-use Rattle.ostep_text.specs.Means.{MeanPairs, no_entry, an_entry}
-use Rattle.ostep_text.specs.Sorting.{has_key}
+use Rattle.plist_value.specs.Plist.{Plist, Pairs, no_pairs, pair}
+use Rattle.plist_value.specs.declared.value.Value.{Value}
+use Rattle.plist_value.specs.View.{view, view_pairs}
+use Rattle.plist_value.proofs.Shown.{view-text, view-bytes, view-list, view-table}
+use Rattle.plist_value.proofs.Pairs.{Entry, put_pair, view_pairs-insert_entry}
+use Rattle.ostep_text.specs.Sorting.{has_key, StandsAmong, first, later, IsAscending}
+use Rattle.ostep_text.proofs.MeanSteps.{viewed-items}
+use Rattle.ostep_text.proofs.SortedLemmas.{below_each}
+use Rattle.ostep_text.proofs.SortingSteps.{put-at}
 
 or-cond : {N : Type 0} (b c : Bool) (v : N) (r : Option N) → is_some r ≡ c → is_some (cond b (Some v) r) ≡ (b || c)
 or-cond true c v r e = refl
 or-cond false c v r e = e
 
 -- whether a pair has the key, as the map looks it up
-pub has_key-looked : {N : Type 0} {means : N → Plist → Type 0} {es : List (List ℕ × N)} {ps : Pairs} (key : List ℕ) → MeanPairs means es ps
-    → is_some (lookup (is_at (slice_cmp nat_cmp key)) es) ≡ has_key key ps
-has_key-looked key no_entry = refl
-has_key-looked key (an_entry {key = next} {node = node} {entries = es} {ps = ps} m ms) =
-    or-cond (is_at (slice_cmp nat_cmp key) next) (has_key key ps) node (lookup (is_at (slice_cmp nat_cmp key)) es) (has_key-looked key ms)
-    ∙ ap (λ b. b || has_key key ps) (is_eq-slice_cmp key next)
+pub has_key_looked : (key : List ℕ) (es : List Entry) → is_some (lookup (is_at (slice_cmp nat_cmp key)) es) ≡ has_key key (view_pairs es)
+has_key_looked key [] = refl
+has_key_looked key (e ∷ es) =
+    or-cond (is_at (slice_cmp nat_cmp key) e.0) (has_key key (view_pairs es)) e.1 (lookup (is_at (slice_cmp nat_cmp key)) es) (has_key_looked key es)
+    ∙ ap (λ b. b || has_key key (view_pairs es)) (is_eq-slice_cmp key e.0)
 
-pub known-has : {N : Type 0} {means : N → Plist → Type 0} {ps : Pairs} (known : Bool) (key : List ℕ) (rows : BTreeMap (List ℕ) N) → MeanPairs means rows.entries ps
-    → known ≡ is_some (get (slice_cmp nat_cmp) rows key) → has_key key ps ≡ known
-known-has known key rows m k = sym (k ∙ has_key-looked key m)
+-- ascending pairs that have one row more
+put-is : {key : List ℕ} {v : Plist} {all : Pairs} (ps : Pairs) → StandsAmong key v ps all → IsAscending all → put_pair key v ps ≡ all
+put-is no_pairs first a = refl
+put-is {key} {v = v} (pair next w ps) first a = put-at Less key next v w ps (a.0)
+put-is {key} {v = v} (pair next w ps) (later s) a =
+    put-at Greater key next v w ps (nat_list_cmp_total.antisymm key next ∙ ap ordering_reverse (below_each s next (a.0) (a.1)))
+    ∙ ap (pair next w) (put-is ps s (a.1))
 
--- inserting into an entry without a value
-pub new-value : {N : Type 0} (old : Option N) (value now : N) → is_some old ≡ false → now ≡ unwrap_or old value → now ≡ value
-new-value None value now n e = e
-new-value (Some v) value now n e = absurd (cc n)
+-- the entries of a map after one more
+pub row_added : (es : List Entry) (key : List ℕ) (value : Value) (v : Plist) (ps all : Pairs) → view_pairs es ≡ ps → view value ≡ v → StandsAmong key v ps all → IsAscending all
+    → view_pairs (insert_entry (slice_cmp nat_cmp) es key value) ≡ all
+row_added es key value v ps all h m s a = view_pairs-insert_entry es key value ∙ rw (m, h) (put-is ps s a)
 
-mean-ordering : {N : Type 0} {means : N → Plist → Type 0} {xs ys zs : List (List ℕ × N)} {ps qs rs : Pairs} (o : Ordering) → MeanPairs means xs ps → MeanPairs means ys qs → MeanPairs means zs rs
-    → MeanPairs means (match_ordering o xs ys zs) (match_ordering o ps qs rs)
-mean-ordering Less a b c = a
-mean-ordering Equal a b c = b
-mean-ordering Greater a b c = c
-
-pub mean-put : {N : Type 0} {means : N → Plist → Type 0} {es : List (List ℕ × N)} {ps : Pairs} {node : N} {v : Plist} (key : List ℕ) → MeanPairs means es ps → means node v
-    → MeanPairs means (insert_entry (slice_cmp nat_cmp) es key node) (put_pair key v ps)
-mean-put key no_entry n = an_entry n no_entry
-mean-put key (an_entry {key = next} m ms) n = mean-ordering (slice_cmp nat_cmp key next) (an_entry n (an_entry m ms)) (an_entry n ms) (an_entry m (mean-put key ms n))
+-- what is built is the value that was read
+pub ruleset built_value = (view-text, view-bytes, view-list, view-table, viewed-items, has_key_looked, row_added)

@@ -10,7 +10,7 @@ use Rattle.std.proofs.lemmas.Bool.{false_from_ne_true}
 use Rattle.plist_value.proofs.Keys.{below_next}
 
 -- a key below the first of ascending keys is below each of them
-below_each : {key : List ℕ} {v : Plist} {others all : Pairs} → StandsAmong key v others all → (low : List ℕ) → IsKeyBelow low all → IsAscending all
+pub below_each : {key : List ℕ} {v : Plist} {others all : Pairs} → StandsAmong key v others all → (low : List ℕ) → IsKeyBelow low all → IsAscending all
     → slice_cmp nat_cmp low key ≡ Less
 below_each first low b h = b
 below_each {key} (later {next = next} s) low b h = nat_list_cmp_total.trans low next key b (below_each s next h.0 h.1)

@@ -42,7 +42,7 @@ apart-by key next Equal e d = absurd (let same : pointwise nat_eq key next ≡ t
 apart : (key next : List ℕ) → pointwise nat_eq key next ≡ false → Apart key next
 apart key next d = apart-by key next (slice_cmp nat_cmp key next) refl d
 
-put-at : (o : Ordering) (key next : List ℕ) (v w : Plist) (ps : Pairs) → slice_cmp nat_cmp key next ≡ o
+pub put-at : (o : Ordering) (key next : List ℕ) (v w : Plist) (ps : Pairs) → slice_cmp nat_cmp key next ≡ o
     → put_pair key v (pair next w ps) ≡ match_ordering o (pair key v (pair next w ps)) (pair next v ps) (pair next w (put_pair key v ps))
 put-at o key next v w ps e = ap (λ (x : Ordering). match_ordering x (pair key v (pair next w ps)) (pair next v ps) (pair next w (put_pair key v ps))) e
 
@@ -89,14 +89,14 @@ or-swap : (b c d : Bool) → (b || (c || d)) ≡ (c || (b || d))
 or-swap true true d = refl
 or-swap _ _ d = refl
 
-among-has : {k : List ℕ} {v : Plist} {others all : Pairs} (key : List ℕ) → StandsAmong k v others all → has_key key all ≡ (pointwise nat_eq key k || has_key key others)
-among-has key first = refl
-among-has {k} key (later {next = next} {others = others} s) =
-    ap (λ b. pointwise nat_eq key next || b) (among-has key s) ∙ or-swap (pointwise nat_eq key next) (pointwise nat_eq key k) (has_key key others)
+pub among_has : {k : List ℕ} {v : Plist} {others all : Pairs} (key : List ℕ) → StandsAmong k v others all → has_key key all ≡ (pointwise nat_eq key k || has_key key others)
+among_has key first = refl
+among_has {k} key (later {next = next} {others = others} s) =
+    ap (λ b. pointwise nat_eq key next || b) (among_has key s) ∙ or-swap (pointwise nat_eq key next) (pointwise nat_eq key k) (has_key key others)
 
 pub reordered-has : {rows ps : Pairs} (key : List ℕ) → AreReordered rows ps → has_key key rows ≡ has_key key ps
 reordered-has key none = refl
-reordered-has key (row {key = k} {rows = rows} {others = others} {all = all} r s) = ap (λ b. pointwise nat_eq key k || b) (reordered-has key r) ∙ sym (among-has key s)
+reordered-has key (row {key = k} {rows = rows} {others = others} {all = all} r s) = ap (λ b. pointwise nat_eq key k || b) (reordered-has key r) ∙ sym (among_has key s)
 
 pub put-ascends : (key : List ℕ) (v : Plist) (ps : Pairs) → IsAscending ps → has_key key ps ≡ false → IsAscending (put_pair key v ps)
 put-ascends key v no_pairs a d = (tt, tt)

@@ -10,5 +10,6 @@ pub mod Machine
 pub mod Read
 pub mod Reading
 pub mod Means
+pub mod Keys
 pub mod Due
 pub mod WriteFault

@@ -1,6 +1,6 @@
 -- What the nodes mean that a reader builds.
 use Rattle.std.specs.Prelude.{ℕ, List, [], ◌∷◌}
-use Rattle.plist_value.specs.Plist.{Plist, Items, no_items, item, Pairs, no_pairs, pair}
+use Rattle.plist_value.specs.Plist.{Plist, Items, no_items, item}
 use Rattle.ostep_text.specs.Text.{IsText}
 
 -- each node means the item at its place
@@ -8,12 +8,6 @@ pub data MeanItems {N : Type 0} (means : N → Plist → Type 0) : List N → It
   no_node : MeanItems means [] no_items
   a_node : {node : N} {nodes : List N} {v : Plist} {vs : Items} → means node v → MeanItems means nodes vs
       → MeanItems means (node ∷ nodes) (item v vs)
-
--- the keys are those of the pairs, and each node means the value of its key
-pub data MeanPairs {N : Type 0} (means : N → Plist → Type 0) : List (List ℕ × N) → Pairs → Type 0 where
-  no_entry : MeanPairs means [] no_pairs
-  an_entry : {key : List ℕ} {node : N} {entries : List (List ℕ × N)} {v : Plist} {ps : Pairs} → means node v → MeanPairs means entries ps
-      → MeanPairs means ((key, node) ∷ entries) (pair key v ps)
 
 -- the nodes mean something of which both hold: what it takes of the limits, and what was read
 pub record IsBuilt {N V : Type 0} (means : N → V → Type 0) (nodes : N) (Takes Reads : V → Type 0) : Type 0 where

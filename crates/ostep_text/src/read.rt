@@ -13,7 +13,6 @@ use crate::tokens::Tokens;
 use ostep_lex::{TokenKind, open};
 use plist_value::{Budget, Value};
 use std::alloc::Global;
-use std::collections::BTreeMap;
 
 /// Reads a text: UTF-8, or UTF-16 of either byte order after its BOM. At the top level the braces
 /// of a dictionary may be missing, and a text without tokens is the empty dictionary.
@@ -73,7 +72,7 @@ fn read_into<N: Built>(alloc: Global, octets: &[u8]) -> Result<N, TextFault>
         left: Budget::whole(),
     };
     let Some(first) = reader.tokens.next()? else {
-        return Ok(N::of_rows(BTreeMap::new(alloc)));
+        return Ok(N::of_rows(N::no_rows(alloc)));
     };
     let start = first.start;
     match first.kind {

@@ -11,7 +11,7 @@ ghost use Rattle.ostep_lex.specs.Lexeme.{paren_close, brace_close};
 ghost use Rattle.ostep_lex.specs.Cursor.{ahead};
 ghost use Rattle.ostep_text.specs.Begun.{Before, nothing, opened, with_rows};
 ghost use Rattle.ostep_text.specs.Sorting.{has_key};
-ghost use Rattle.ostep_text.specs.Means.{MeanItems, MeanPairs, IsBuilt, IsBuiltOf};
+ghost use Rattle.ostep_text.specs.Means.{MeanItems, IsBuilt, IsBuiltOf};
 ghost use Rattle.ostep_text.specs.Stands.{Stands};
 ghost use Rattle.ostep_text.specs.Machine.{Around, at_front, begun, top};
 ghost use Rattle.ostep_text.specs.Reading.{Front, AreBefore, HasRead, IsLeft, MayRefuse};
@@ -21,13 +21,11 @@ ghost use Rattle.ostep_text.specs.Due.{ValueDue, RowValueDue, ListDue, TableDue,
 
 use crate::TextFault;
 use crate::built::Built;
-use crate::keys::is_known;
 use crate::payloads::{data_payload, text_payload};
 use crate::tokens::{Tokens, begins_value};
 use ostep_lex::{Token, TokenKind};
 use plist_value::{Budget, MAX_DEPTH, Utf16};
 use std::alloc::Global;
-use std::collections::BTreeMap;
 
 // The depth allowed inside a dictionary without braces.
 const BARE_LEVELS: u64 = MAX_DEPTH - 1;
@@ -141,16 +139,15 @@ impl<'a> Reader<'a> {
             → ReadsRow octets [] key v self.old.tokens
             → IfErr result (Stands octets) }
     {
-        let mut rows = BTreeMap::new(self.alloc);
-        drop(rows.insert(key, value)?);
+        let mut rows = N::no_rows(self.alloc);
+        N::add_row(&mut rows, key, value)?;
         while let Some(token) = self.tokens.next()? {
             let octet = token.start;
             match token.kind {
                 TokenKind::Text(key) => {
-                    let place = rows.entry(key)?;
-                    let known = is_known(&place);
-                    let value = self.row(place.key(), octet, BARE_LEVELS, known)?;
-                    place.or_insert(value);
+                    let known = N::has_row(&rows, &key);
+                    let value = self.row(&key, octet, BARE_LEVELS, known)?;
+                    N::add_row(&mut rows, key, value)?;
                 }
                 _ => {
                     return Err(self.tokens.refuse(TextFault::Junk { octet }));
@@ -193,7 +190,7 @@ impl<'a> Reader<'a> {
             }
             TokenKind::BraceOpen => {
                 self.charge(octet, levels, 0)?;
-                let rows = self.rows(levels - 1)?;
+                let rows = self.rows::<N>(levels - 1)?;
                 Ok(N::of_rows(rows))
             }
             _ => Err(self.tokens.refuse(TextFault::Expected { octet })),
@@ -236,10 +233,10 @@ impl<'a> Reader<'a> {
 
     // Reads the rows of a dictionary after its `{`, up to and with its `}`.
     #[cycle(value)]
-    fn rows<N: Built>(&mut self, levels: u64) -> Result<BTreeMap<Utf16, N>, TextFault>
+    fn rows<N: Built>(&mut self, levels: u64) -> Result<N::Rows, TextFault>
         ensures shorter { OnOk result
             (length (ahead self.new.tokens.cursor) ≤ length (ahead self.old.tokens.cursor)) }
-        ensures built { IfOk result (λ rows. IsBuilt (MeanPairs N.means) rows.entries
+        ensures built { IfOk result (λ rows. IsBuilt N.hold rows
             (λ ps. TakesPairs self.old.left levels ps self.new.left)
             (λ ps. (octets : List ℕ) (tokens : List Placed) → HasRead octets tokens self.old.tokens
             → ReadsRows octets tokens (brace_close ∷ []) ps self.new.tokens)) }
@@ -248,17 +245,16 @@ impl<'a> Reader<'a> {
             → TableDue whole b a → IsLeft self.old.left levels (opened b)
             → IfErr result (Stands octets) }
     {
-        let mut rows = BTreeMap::new(self.alloc);
+        let mut rows = N::no_rows(self.alloc);
         loop {
             let token = self.tokens.expect()?;
             let octet = token.start;
             match token.kind {
                 TokenKind::BraceClose => return Ok(rows),
                 TokenKind::Text(key) => {
-                    let place = rows.entry(key)?;
-                    let known = is_known(&place);
-                    let value = self.row(place.key(), octet, levels, known)?;
-                    place.or_insert(value);
+                    let known = N::has_row(&rows, &key);
+                    let value = self.row(&key, octet, levels, known)?;
+                    N::add_row(&mut rows, key, value)?;
                 }
                 _ => {
                     return Err(self.tokens.refuse(TextFault::Expected { octet }));

@@ -5,7 +5,6 @@ use Rattle.ostep_lex.specs.Lexeme.{placed}
 use Rattle.ostep_lex.specs.Lexing.{HasTokens}
 use Rattle.ostep_text.specs.Fault.{of_tokens}
 use Rattle.ostep_text.specs.Begun.{nothing}
-use Rattle.ostep_text.specs.Means.{no_entry}
 use Rattle.ostep_text.specs.Stands.{Stands}
 use Rattle.ostep_text.specs.Reading.{HasRead, IsLeft}
 use Rattle.ostep_lex.proofs.Exits.{passed_on}
@@ -40,7 +39,7 @@ pub returns-in_default-clause-read : goal.returns-in_default-clause-read
 returns-in_default-clause-read g c =
     let octets = c.args.octets.now in
     let all : HasTokens octets [] = rw c.in_default.is at (c.in_ok-first.ensures.read octets [] (record { after = c.in_ok-open.ensures.ok; ends = refl })) in
-    (table no_pairs, c.of_rows.ensures no_pairs (rw c.new.ensures.empty no_entry), empty-text all)
+    (table no_pairs, c.of_rows.ensures no_pairs c.no_rows.ensures, empty-text all)
 
 pub returns-in-Text-clause-read : goal.returns-in-Text-clause-read
 returns-in-Text-clause-read g c =

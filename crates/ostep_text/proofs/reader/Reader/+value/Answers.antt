@@ -1,4 +1,4 @@
-use Rattle.std.proofs.Common.{◌≡◌, ◌≤◌, ◌*◌, ◌∷◌, ◌++◌, [], true, false, length, refl, sym, ap, subst, ◌∙◌, append_assoc, nat_cmp, arith}
+use Rattle.std.proofs.Common.{◌≡◌, ◌≤◌, ◌*◌, ◌∷◌, ◌++◌, [], true, false, length, refl, ap, subst, ◌∙◌, append_assoc, arith}
 use Rattle.std.proofs.lemmas.Result.{IfOk-weaker}
 use Rattle.plist_value.specs.Budget.{Spends}
 use Rattle.plist_value.specs.Plist.{AreUnits, AreOctets, scalar, text, bytes, list, table, no_items, no_pairs}
@@ -6,22 +6,17 @@ use Rattle.plist_value.proofs.Pairs.{put_pair}
 use Rattle.ostep_lex.specs.Lexeme.{placed, lexeme_of, text as string, octets as data_token, paren_open, brace_open, equals}
 use Rattle.ostep_text.specs.Begun.{opened, with_items, with_rows, with_key}
 use Rattle.ostep_text.specs.Sorting.{has_key}
-use Rattle.ostep_text.specs.Means.{no_node, no_entry}
+use Rattle.ostep_text.specs.Means.{no_node}
 use Rattle.ostep_text.specs.Stands.{Stands}
 use Rattle.ostep_text.specs.Machine
 use Rattle.ostep_text.specs.Machine.{Around}
-use Rattle.ostep_text.specs.Reading.{Front, HasRead, ReadsRow, TakesRow}
+use Rattle.ostep_text.specs.Reading.{Front, HasRead}
 use Rattle.ostep_text.specs.Due.{ValueDue}
 use Rattle.ostep_lex.proofs.Exits.{passed_on, no_ok, none_ok, on_ok, both_ok}
 use Rattle.ostep_text.proofs.MachineLemmas.{leads-nowhere, item-begun, item-ended, row-ended, key-ended, table-ended, value-ended, value-none}
 use Rattle.plist_value.proofs.Items.{push}
 use Rattle.ostep_text.proofs.MeanSteps.{mean-push}
-use Rattle.ostep_text.proofs.PlaceSteps.{has_key-looked, known-has, new-value, mean-put}
-use Rattle.std.specs.Cmp.Lexicographic.{slice_cmp}
-use Rattle.std.specs.Option.{is_some}
-use Rattle.std.specs.BTreeMap.{insert_entry}
-use Rattle.std.specs.BTreeMap.Entry.{entry_value, map_with_value}
-use Rattle.std.proofs.lemmas.Map.Lookups.{exact_bytes}
+use Rattle.ostep_text.proofs.SortingSteps.{put-stands, put-ascends, pairs-ascend}
 use Rattle.ostep_text.proofs.Standing.{expected-at, same-read, value-refuses, before-at, before-key, key-refuses, alone-refuses, twice-stands}
 use Rattle.ostep_text.proofs.DueSteps.{list-due, items-open, item-due, item-leads, item-open, table-due, row-due, rows-open, key-open, row_value-due, row_value-first, row_value-open, row_value-leads, row_value-after, value-open, value-nowhere}
 use Rattle.ostep_text.proofs.TakeSteps.{no-items-taken, no-pairs-taken, item-taken, pair-taken, row-taken, scalar-taken, list-taken, table-taken, opened-left, items-left, rows-left, key-left, spends-same}
@@ -285,12 +280,12 @@ pub rows-loop-rows-init : goal.rows-loop-rows-init
 rows-loop-rows-init g t c =
     record {
       shorter = omega arith;
-      built = rw c.new-rows.ensures.empty (record {
+      built = record {
         meant = no_pairs;
-        means_it = no_entry;
+        means_it = c.no_rows-rows.ensures;
         taken = no-pairs-taken c.args.self.now.left c.args.levels;
         read = λ octets tokens h. no-pairs-read h;
-      });
+      };
     }
 
 pub rows-returns-in_err-token-clause-stands : goal.rows-returns-in_err-token-clause-stands
@@ -314,44 +309,31 @@ rows-returns-in-BraceClose-clause-built g t c =
 
 pub rows-returns-in_err-value-in-Text-clause-stands : goal.rows-returns-in_err-value-in-Text-clause-stands
 rows-returns-in_err-value-in-Text-clause-stands g t c octets tokens whole b a f h d i =
-    let r = c.loop-rows.invariant.built.read octets tokens h in
-    let rows = c.loop-rows.rows in
-    let place = c.in_ok-place-in-Text in
-    let same : c.in-Text.key ≡ c.key.result.now = exact_bytes c.in-Text.key _ (rw c.in-Text.is at place.ensures.same_key) ∙ sym c.key.ensures in
-    let known : has_key c.in-Text.key c.loop-rows.invariant.built.meant ≡ c.is_known-known.result = known-has c.is_known-known.result c.in-Text.key rows c.loop-rows.invariant.built.means_it (c.is_known-known.ensures rows c.in-Text.key (rw c.in-Text.is at place.ensures.found)) in
+    let built = c.loop-rows.invariant.built in
+    let r = built.read octets tokens h in
     passed_on (Stands octets) c.in_err-value-in-Text.field-0.0 c.from_residual-in_err-value-in-Text.result c.from_residual-in_err-value-in-Text.ensures.1
-    (c.in_err-value-in-Text.ensures.stands octets r.read.reads.all (placed c.in_ok-token.token) (λ rest. whole (r.read.inside rest)) (opened b) (Machine.in_braces a) r.rows c.loop-rows.invariant.built.meant
-    (ap lexeme_of c.in-Text.is ∙ ap string same) refl (r.read.reads.follow whole f) (c.in_ok-token.ensures.read octets r.read.reads.all r.read.reads.has)
-    (row-due r.read.inside d r.read.spells r.same c.loop-rows.invariant.built.taken.valid) (subst (λ x. has_key x c.loop-rows.invariant.built.meant ≡ c.is_known-known.result) same known)
-    (rows-left i c.loop-rows.invariant.built.taken r.same))
+    ((rw c.in-Text.is at c.in_err-value-in-Text.ensures.stands) octets r.read.reads.all (placed c.in_ok-token.token) (λ rest. whole (r.read.inside rest)) (opened b) (Machine.in_braces a) r.rows built.meant
+    (ap lexeme_of c.in-Text.is) refl (r.read.reads.follow whole f) (c.in_ok-token.ensures.read octets r.read.reads.all r.read.reads.has)
+    (row-due r.read.inside d r.read.spells r.same built.taken.valid) (rw c.in-Text.is at (c.has_row-known.ensures built.meant built.means_it))
+    (rows-left i built.taken r.same))
 
 pub rows-loop-rows-preserved : goal.rows-loop-rows-preserved
 rows-loop-rows-preserved g t c =
-    let rows = c.loop-rows.rows in
     let b = c.loop-rows.invariant.built in
-    let row = c.in_ok-value-in-Text.ensures.built in
+    let row = rw c.in-Text.is at c.in_ok-value-in-Text.ensures.built in
     let key = c.in-Text.key in
-    let place = c.in_ok-place-in-Text in
-    let value = c.in_ok-value-in-Text.value in
-    let same : key ≡ c.key.result.now = exact_bytes key _ (rw c.in-Text.is at place.ensures.same_key) ∙ sym c.key.ensures in
-    let once : has_key key b.meant ≡ false = known-has c.is_known-known.result key rows b.means_it (c.is_known-known.ensures rows key (rw c.in-Text.is at place.ensures.found)) ∙ c.in_ok-value-in-Text.ensures.once in
-    let now : c.or_insert.result.now ≡ value =
-    new-value (entry_value place.place) value c.or_insert.result.now (ap is_some (rw c.in-Text.is at place.ensures.value) ∙ (has_key-looked key b.means_it ∙ once)) c.or_insert.ensures.value in
-    let more = c.rows-in-Text-2-1.given.0 in
-    let back : more ≡ map_with_value place.place c.or_insert.result.now = c.rows-in-Text-2-1.given.1 (sym place.ensures.same_map) in
-    let put : more.entries ≡ insert_entry (slice_cmp nat_cmp) rows.entries key value =
-    ap (λ m. m.entries) back ∙ ((rw c.in-Text.is at place.ensures.update.1) c.or_insert.result.now ∙ ap (insert_entry (slice_cmp nat_cmp) rows.entries key) now) in
+    let once : has_key key b.meant ≡ false = (rw c.in-Text.is at (c.has_row-known.ensures b.meant b.means_it)) ∙ c.in_ok-value-in-Text.ensures.once in
     record {
       shorter = omega (arith, c.in_ok-value-in-Text.ensures.shorter, c.in_ok-token.ensures.shorter, c.loop-rows.invariant.shorter);
-      built = rw put (record {
+      built = record {
         meant = put_pair key row.meant b.meant;
-        means_it = mean-put key b.means_it row.means_it;
-        taken = pair-taken key row.meant b.meant b.taken (subst (λ x. TakesRow c.loop-rows.self.left c.args.levels x row.meant c.row.new.self.left) (sym same) row.taken) once;
+        means_it = (rw c.in-Text.is at c.in_ok-add_row-in-Text.ensures) b.meant (put_pair key row.meant b.meant) row.meant b.means_it row.means_it (put-stands key row.meant b.meant once)
+            (put-ascends key row.meant b.meant (pairs-ascend b.meant b.taken.valid) once);
+        taken = pair-taken key row.meant b.meant b.taken row.taken once;
         read = λ octets tokens h.
             let r = b.read octets tokens h in
-            pair-read r (subst (λ x. ReadsRow octets r.read.reads.all x row.meant c.row.new.self.tokens) (sym same)
-            (row.read octets r.read.reads.all (placed c.in_ok-token.token) (ap lexeme_of c.in-Text.is ∙ ap string same) (c.in_ok-token.ensures.read octets r.read.reads.all r.read.reads.has))) once;
-      });
+            pair-read r (row.read octets r.read.reads.all (placed c.in_ok-token.token) (ap lexeme_of c.in-Text.is) (c.in_ok-token.ensures.read octets r.read.reads.all r.read.reads.has)) once;
+      };
     }
 
 pub rows-returns-in_default : goal.rows-returns-in_default

@@ -1,7 +1,7 @@
 use Rattle.std.proofs.Common.{◌+◌, ◌*◌, ◌≤◌, ℕ, List, [], length}
 use Rattle.ostep_lex.specs.Lexeme.{Placed}
 use Rattle.ostep_lex.specs.Cursor.{ahead}
-use Rattle.ostep_text.specs.Means.{MeanItems, MeanPairs, IsBuilt}
+use Rattle.ostep_text.specs.Means.{MeanItems, IsBuilt}
 use Rattle.ostep_text.specs.Reading.{HasRead, ReadsItems, ReadsRows, TakesItems, TakesPairs}
 use Rattle.ostep_text.proofs.reader.Reader.+value.Given as goal
 
@@ -41,6 +41,6 @@ abbrev pub invariant-rows-loop-rows : goal.invariant-rows-loop-rows
 invariant-rows-loop-rows g l =
     record {
       shorter : length (ahead l.self.tokens.cursor) ≤ length (ahead l.initial.self.tokens.cursor);
-      built : IsBuilt (MeanPairs g.N.Built.means) l.rows.entries (λ ps. TakesPairs l.initial.self.left l.levels ps l.self.left)
+      built : IsBuilt g.N.Built.hold l.rows (λ ps. TakesPairs l.initial.self.left l.levels ps l.self.left)
           (λ ps. (octets : List ℕ) (tokens : List Placed) → HasRead octets tokens l.initial.self.tokens → ReadsRows octets tokens [] ps l.self.tokens);
     }

@@ -1,21 +1,14 @@
-use Rattle.std.proofs.Common.{◌≡◌, ◌∷◌, ◌++◌, [], false, nat_cmp, refl, sym, ap, subst, ◌∙◌}
+use Rattle.std.proofs.Common.{◌≡◌, ◌∷◌, ◌++◌, [], false, refl, ap, ◌∙◌}
 use Rattle.plist_value.specs.Plist.{no_pairs, pair, table}
 use Rattle.plist_value.proofs.Pairs.{put_pair}
-use Rattle.ostep_lex.specs.Lexeme.{placed, lexeme_of, text as string}
-use Rattle.ostep_text.specs.Sorting.{has_key}
-use Rattle.ostep_text.specs.Reading.{ReadsRow}
-use Rattle.ostep_text.proofs.PlaceSteps.{has_key-looked, known-has, new-value, mean-put}
-use Rattle.std.specs.Cmp.Lexicographic.{slice_cmp}
-use Rattle.std.specs.Option.{is_some}
-use Rattle.std.specs.BTreeMap.{insert_entry}
-use Rattle.std.specs.BTreeMap.Entry.{entry_value, map_with_value}
-use Rattle.std.proofs.lemmas.Map.Lookups.{exact_bytes}
+use Rattle.ostep_lex.specs.Lexeme.{placed, lexeme_of}
+use Rattle.ostep_text.specs.Sorting.{has_key, first}
+use Rattle.ostep_text.proofs.SortingSteps.{put-stands, put-ascends}
 use Rattle.ostep_lex.specs.Lexing.{HasTokens}
 use Rattle.ostep_text.specs.Begun.{nothing, opened}
-use Rattle.ostep_text.specs.Means.{no_entry, an_entry}
 use Rattle.ostep_text.specs.Stands.{Stands}
 use Rattle.ostep_text.specs.Machine
-use Rattle.ostep_text.specs.Reading.{HasRead, TakesRow}
+use Rattle.ostep_text.specs.Reading.{HasRead}
 use Rattle.ostep_lex.proofs.Exits.{passed_on}
 use Rattle.ostep_text.proofs.Standing.{junk-at}
 use Rattle.ostep_text.proofs.TakeSteps.{rows-left}
@@ -25,8 +18,7 @@ use Rattle.ostep_text.proofs.reader.Reader.bare_table.Goals as goal
 
 pub loop-rows-init : goal.loop-rows-init
 loop-rows-init g c octets left v m i t r =
-    let is : c.insert.new.self.entries ≡ (c.args.key, c.args.value) ∷ [] = rw c.new-rows.ensures.empty at c.in_ok-insert.ensures.entries in
-    (pair c.args.key v no_pairs, rw is (an_entry m no_entry), bare-first c.args.self.now t r)
+    (pair c.args.key v no_pairs, c.in_ok-add_row.ensures no_pairs (pair c.args.key v no_pairs) v c.no_rows-rows.ensures m first (tt, tt), bare-first c.args.self.now t r)
 
 pub returns-in_err-token-clause-stands : goal.returns-in_err-token-clause-stands
 returns-in_err-token-clause-stands g c octets left v m i t r =
@@ -40,13 +32,9 @@ returns-in_err-value-in-Text-clause-stands g c octets left v m i t r =
     let b = p.2 in
     let token = placed c.in-Some.token in
     let has : HasRead octets (b.tokens ++ token ∷ []) c.next.new.self = rw c.in-Some.is at (c.in_ok-token.ensures.read octets b.tokens b.has) in
-    let rows = c.loop-rows.rows in
-    let place = c.in_ok-place-in-Text in
-    let same : c.in-Text.key ≡ c.key.result.now = exact_bytes c.in-Text.key _ (rw c.in-Text.is at place.ensures.same_key) ∙ sym c.key.ensures in
-    let known : has_key c.in-Text.key p.0 ≡ c.is_known-known.result = known-has c.is_known-known.result c.in-Text.key rows p.1 (c.is_known-known.ensures rows c.in-Text.key (rw c.in-Text.is at place.ensures.found)) in
     passed_on (Stands octets) c.in_err-value-in-Text.field-0.0 c.from_residual-in_err-value-in-Text.result c.from_residual-in_err-value-in-Text.ensures.1
-    (c.in_err-value-in-Text.ensures.stands octets b.tokens token b.whole (opened nothing) Machine.bare b.rows p.0 (ap lexeme_of c.in-Text.is ∙ ap string same) refl b.before has b.due
-    (subst (λ x. has_key x p.0 ≡ c.is_known-known.result) same known) (rows-left i b.taken b.due.sorted.same))
+    ((rw c.in-Text.is at c.in_err-value-in-Text.ensures.stands) octets b.tokens token b.whole (opened nothing) Machine.bare b.rows p.0 (ap lexeme_of c.in-Text.is) refl b.before has b.due
+    (rw c.in-Text.is at (c.has_row-known.ensures p.0 p.1)) (rows-left i b.taken b.due.sorted.same))
 
 pub loop-rows-preserved : goal.loop-rows-preserved
 loop-rows-preserved g c octets left v m i t r =
@@ -54,24 +42,13 @@ loop-rows-preserved g c octets left v m i t r =
     let b = p.2 in
     let token = placed c.in-Some.token in
     let has : HasRead octets (b.tokens ++ token ∷ []) c.next.new.self = rw c.in-Some.is at (c.in_ok-token.ensures.read octets b.tokens b.has) in
-    let rows = c.loop-rows.rows in
     let key = c.in-Text.key in
-    let place = c.in_ok-place-in-Text in
-    let value = c.in_ok-value-in-Text.value in
-    let same : key ≡ c.key.result.now = exact_bytes key _ (rw c.in-Text.is at place.ensures.same_key) ∙ sym c.key.ensures in
-    let once : has_key key p.0 ≡ false = known-has c.is_known-known.result key rows p.1 (c.is_known-known.ensures rows key (rw c.in-Text.is at place.ensures.found)) ∙ c.in_ok-value-in-Text.ensures.once in
-    let now : c.or_insert.result.now ≡ value =
-    new-value (entry_value place.place) value c.or_insert.result.now (ap is_some (rw c.in-Text.is at place.ensures.value) ∙ (has_key-looked key p.1 ∙ once)) c.or_insert.ensures.value in
-    let more = c.rows-in-Text-3-1.given.0 in
-    let back : more ≡ map_with_value place.place c.or_insert.result.now = c.rows-in-Text-3-1.given.1 (sym place.ensures.same_map) in
-    let put : more.entries ≡ insert_entry (slice_cmp nat_cmp) rows.entries key value =
-    ap (λ m. m.entries) back ∙ ((rw c.in-Text.is at place.ensures.update.1) c.or_insert.result.now ∙ ap (insert_entry (slice_cmp nat_cmp) rows.entries key) now) in
-    let row = c.in_ok-value-in-Text.ensures.built in (
+    let once : has_key key p.0 ≡ false = (rw c.in-Text.is at (c.has_row-known.ensures p.0 p.1)) ∙ c.in_ok-value-in-Text.ensures.once in
+    let row = rw c.in-Text.is at c.in_ok-value-in-Text.ensures.built in (
       put_pair key row.meant p.0,
-      rw put (mean-put key p.1 row.means_it),
-      bare-more c.row.new.self b (subst (λ x. TakesRow c.loop-rows.self.left 511 x row.meant c.row.new.self.left) (sym same) row.taken) once
-          (subst (λ x. ReadsRow octets b.tokens x row.meant c.row.new.self.tokens) (sym same)
-          (row.read octets b.tokens token (ap lexeme_of c.in-Text.is ∙ ap string same) has)),
+      (rw c.in-Text.is at c.in_ok-add_row-in-Text.ensures) p.0 (put_pair key row.meant p.0) row.meant p.1 row.means_it (put-stands key row.meant p.0 once)
+          (put-ascends key row.meant p.0 b.due.sorted.ascending once),
+      bare-more c.row.new.self b row.taken once (row.read octets b.tokens token (ap lexeme_of c.in-Text.is) has),
     )
 
 pub returns-in_default-kind : goal.returns-in_default-kind

@@ -3,7 +3,6 @@ use Rattle.plist_value.specs.declared.budget.Budget.{Budget}
 use Rattle.plist_value.specs.Plist.{Plist, Pairs}
 use Rattle.ostep_lex.specs.Cursor.{ahead}
 use Rattle.ostep_text.specs.Begun.{nothing, opened}
-use Rattle.ostep_text.specs.Means.{MeanPairs}
 use Rattle.ostep_text.specs.Reading.{IsLeft, ReadsRow, TakesRow}
 use Rattle.ostep_text.proofs.BareSteps.{BareRead}
 use Rattle.ostep_text.proofs.reader.Reader.bare_table.Given as goal
@@ -15,4 +14,4 @@ decreases-loop-rows g l = length (ahead l.self.tokens.cursor)
 abbrev pub invariant-loop-rows : goal.invariant-loop-rows
 invariant-loop-rows g l =
     (octets : List ℕ) (left : Budget) (v : Plist) → g.N.Built.means l.fn.value v → IsLeft left 511 (opened nothing) → TakesRow left 511 l.fn.key v l.fn.self.left
-    → ReadsRow octets [] l.fn.key v l.fn.self.tokens → (ps : Pairs) × MeanPairs g.N.Built.means l.rows.entries ps × BareRead octets left ps l.self
+    → ReadsRow octets [] l.fn.key v l.fn.self.tokens → (ps : Pairs) × g.N.Built.hold l.rows ps × BareRead octets left ps l.self
