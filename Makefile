@@ -1,4 +1,4 @@
-## make                       proves, builds and runs ./plistconv: about 50 processor minutes the first time
+## make                       proves, builds and runs ./plistconv: about 40 processor minutes the first time
 ## make lib                   builds libplistconv.a and libplistconv.so: 4 processor minutes more
 ## make install               installs the program, commands, man pages, completions and pages (PREFIX=/usr/local DESTDIR=)
 ## make install-lib           installs the C library, its header and a file for pkg-config

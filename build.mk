@@ -15,7 +15,7 @@ files = $(shell find $(wildcard $(addprefix crates/$(1)/,src specs proofs)))
 FIRST = $(eval FIRST :=)$(if $(shell command -v $(RT) 2> /dev/null),,$(error \
   There is no $(RT) on the path: README.md, Set-up, says what it is))$(if $(wildcard out/plist_forms.proved),,$(info \
   The toolchain builds only what it has proved. The first build proves every crate below the program, which takes)$(info \
-  about 50 processor minutes. Interrupted, it resumes.)$(if \
+  about 40 processor minutes. Interrupted, it resumes.)$(if \
   $(shell RT='$(RT)' scripts/toolchain.sh > /dev/null 2>&1 || echo older),$(warning $(shell RT='$(RT)' scripts/toolchain.sh 2>&1))))
 
 define PROVING
