@@ -39,7 +39,7 @@ packed-below (x ∷ xs) (suc n) u h = let a : x < 65536 = u zero in omega (arith
 
 -- the number of all but the first of at most 7 units leaves space for one more
 pub packed_fits : (xs : List ℕ) (i : ℕ) → AreUnits xs → length xs ≤ 7 → 0 < i → packed (drop i xs) < 2 ^ 97
-packed_fits xs i u few some = (packed-below (drop i xs) 6 (λ k. rw (get_or-drop i xs k 0) (u (i + k))) (rw (length-drop i xs) (omega arith)))
+packed_fits xs i u few some = packed-below (drop i xs) 6 (λ k. rw (get_or-drop i xs k 0) (u (i + k))) (rw (length-drop i xs) (omega arith))
 
 -- the tests of both sets tell keys apart
 same-short : (key other : List ℕ) → AreUnits key → AreUnits other → is_at (nat_cmp (packed key)) (packed other) ≡ pointwise nat_eq other key
