@@ -14,11 +14,11 @@ use Rattle.plist_object.specs.Spelled.{Spells, SpellsWithin}
 use Rattle.plist_object.proofs.Uniqueness.{same_held}
 use Rattle.plist_engine.specs.declared.plan.Plan.{Plan}
 use Rattle.plist_engine.specs.declared.scalars.Scalars.{Scalars}
-use Rattle.plist_engine.specs.Scalars.{AreNew, EntersScalar, number_stored}
+use Rattle.plist_engine.specs.Scalars.{AreNew, AreNumbered, EntersScalar, number_stored}
 use Rattle.plist_engine.specs.Memo.{no_number, single, kept, IsNumber, IsNumberAt, IsAlone, IsSingle, KeepsNumber, FindsSingles}
 use Rattle.plist_engine.specs.Plan.{is_held, number_from, number_met, IsRemembered, IsMet, IsUnmet, KnowsScalars, MeetsScalar, IsWalked, Begins}
 use Rattle.plist_engine.proofs.Meeting.{cases_Option, met-added, met-beside, met-now, met-still}
-use Rattle.plist_engine.proofs.Storing.{entered-had, entered-kept, entered-unknown, entered-added}
+use Rattle.plist_engine.proofs.Storing.{entered-had, entered-unknown, entered-added}
 use Rattle.plist_engine.proofs.Walking.{Walks-known}
 
 pub valid_at : (f : List ℕ) (i : ℕ) (s : Scalar) (v : Plist) → IsPlist v → Spells f i v → Holds f i (holds_scalar s) → IsScalar s
@@ -236,15 +236,14 @@ module _ {S H : Type 0} (f : List ℕ) (i : ℕ) (r : ScalarRef) (old : Plan S H
     ]
 
     -- an equal scalar was visited
-    pub knows-again : (next : ℕ) → EntersScalar r next old.scalars new.scalars (Some n) → new.originals ≡ old.originals → KnowsScalars f new
-    knows-again next enters same_originals =
+    pub knows-again : number_met f old s ≡ Some n → AreNumbered new.scalars → ((q : ScalarRef) → number_stored new.scalars q ≡ number_stored old.scalars q) → new.originals ≡ old.originals → KnowsScalars f new
+    knows-again met numbered stored same_originals =
         let same : (q : Scalar) → number_met f new q ≡ number_met f old q = λ q. ap (λ originals. number_from f 0 originals.items q) same_originals in
-        let stored = entered-kept r next n old.scalars new.scalars enters in
         record {
           listed = keeps.as_many ∙ unmet.knows.listed;
           singles = singles_now;
-          numbered = enters.numbered;
-          each = each_now (same s ∙ had-met next n new.scalars enters) (λ q m had. same q ∙ had);
+          numbered = numbered;
+          each = each_now (same s ∙ met) (λ q m had. same q ∙ had);
           stored = λ q m has. same (content_of q) ∙ unmet.knows.stored q m (sym (stored q) ∙ has);
           met = λ q m has.
               let one = unmet.knows.met q m (sym (same q) ∙ has) in

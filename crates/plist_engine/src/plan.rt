@@ -75,6 +75,7 @@ impl<'a, S: BuildHasher + Copy> Plan<'a, S> {
             → KnowsScalars (octets_of file.now) self.new) }
     {
         if let Some(number) = self.memo.number_at(file, object, &scalar) {
+            self.memo.keep(object, number);
             return Ok(number);
         }
         self.memo

@@ -4,6 +4,7 @@ use Rattle.plist_object.specs.Views.{octets_of}
 use Rattle.plist_engine.specs.declared.plan.Plan.{Plan}
 use Rattle.plist_engine.specs.declared.memo.Memo.{Memo}
 use Rattle.plist_engine.proofs.Remembering.{met-at-place, had-entered, had-met, new-entered, new-met, knows-again, knows-more, unmet-searched}
+use Rattle.plist_engine.proofs.Storing.{entered-kept}
 use Rattle.plist_engine.proofs.Walking.{Walks-known, Walks-new}
 use Rattle.plist_engine.proofs.plan.Plan.scalar.Goals as goal
 
@@ -22,12 +23,19 @@ returns-in-Some-clause-numbers g c =
     let f = octets_of c.args.file.now in
     let old = c.args.self.now in
     record {
-      walks = λ unmet. Walks-known f (content_of c.args.scalar) old old _ (met-at-place f c.args.object (content_of c.args.scalar) old _ unmet (rw c.in-Some.is at c.number_at.ensures)) refl refl;
+      walks = λ unmet. Walks-known f (content_of c.args.scalar) old _ c.in-Some.number (met-at-place f c.args.object (content_of c.args.scalar) old _ unmet (rw c.in-Some.is at c.number_at.ensures)) refl refl;
       references_kept = refl;
     }
 
 pub returns-in-Some-clause-knows : goal.returns-in-Some-clause-knows
-returns-in-Some-clause-knows g c = λ unmet. unmet.knows
+returns-in-Some-clause-knows g c = λ unmet.
+    let f = octets_of c.args.file.now in
+    let r = c.args.scalar in
+    let i = c.args.object in
+    let old = c.args.self.now in
+    let n = c.in-Some.number in
+    let at = rw c.in-Some.is at c.number_at.ensures in
+    knows-again f i r old unmet n _ at.some c.keep.ensures (met-at-place f i (content_of r) old n unmet at) unmet.knows.numbered (λ q. refl) refl
 
 pub returns-in-Some-2-clause-numbers : goal.returns-in-Some-2-clause-numbers
 returns-in-Some-2-clause-numbers g c =
@@ -58,8 +66,9 @@ returns-in-Some-2-clause-knows g c = λ unmet.
     let scalars = c.meet.new.scalars in
     let sifted = unmet-searched f i (content_of r) old mid refl refl c.in_ok-find_singles.ensures unmet in
     let entered = had-entered f i r mid sifted next n scalars (rw c.in-Some-2.is at c.in_ok-number.ensures) in
-    let met = sifted.knows.met (content_of r) n (had-met f i r mid sifted next n scalars entered) in
-    knows-again f i r mid sifted n _ met.some c.in_ok-keep_scalar.ensures next entered refl
+    let had = had-met f i r mid sifted next n scalars entered in
+    let met = sifted.knows.met (content_of r) n had in
+    knows-again f i r mid sifted n _ met.some c.in_ok-keep_scalar.ensures had entered.numbered (entered-kept r next n mid.scalars scalars entered) refl
 
 pub returns-clause-numbers : goal.returns-clause-numbers
 returns-clause-numbers g c =
