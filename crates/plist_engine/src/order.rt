@@ -73,13 +73,13 @@ pub(crate) fn push_all(items: &Refs, references: &mut Vec<u32>) -> Result<(), Al
 }
 
 // Appends the references at these positions.
-fn push_at(refs: &Refs, places: &[u64], references: &mut Vec<u32>) -> Result<(), AllocError>
+fn push_at(refs: &Refs, places: &[u32], references: &mut Vec<u32>) -> Result<(), AllocError>
     requires { All (λ place. place < length (numbers_of refs.now)) places.now }
     ensures { OnOk result (references.new.items
         ≡ references.old.items ++ map (slice_index (numbers_of refs.now)) places.now) }
 {
     for place in places {
-        references.push(short(refs.get(*place))?)?;
+        references.push(short(refs.get(u64::from(*place)))?)?;
     }
     Ok(())
 }

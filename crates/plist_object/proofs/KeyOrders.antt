@@ -18,6 +18,7 @@ use Rattle.plist_object.specs.declared.ranks.Ranks.{Ranks}
 use Rattle.plist_object.specs.KeyOrder.{AreRows, HoldsRow, IsRankedRow, TellsOrder, by_number, place_of, units_at}
 use Rattle.plist_object.specs.Order.{IsInOrder, strings_at, units_in}
 use Rattle.plist_object.specs.Places.{what_holds}
+use Rattle.plist_object.specs.Prefixes.{NeverFall}
 use Rattle.plist_object.specs.Ranks.{AreRanks, texts_of}
 use Rattle.plist_object.proofs.Ranked.{below_from_ranks, irreflexive, less_from_lt}
 
@@ -38,9 +39,18 @@ pub AreRows-ranked : (f keys : List ℕ) (n : ℕ) (ranks : Ranks) (rows : List 
 AreRows-ranked f keys n ranks rows are long places held ranked =
     from_file f keys n rows long places held (λ i d h j e g. ranks_tell f ranks (get_or rows i d) (get_or rows j e) are (ranked i d h) (ranked j e g))
 
+-- no number tells anything of rows that are not numbered
+pub unnumbered-tell : (rows : List Row) → All (λ row. row.number ≡ 0) rows → All (λ row. All (TellsOrder row) rows) rows
+unnumbered-tell rows none i d h j e g below =
+    absurd (let first = none i d h in let second = none j e g in omega (arith, first, second, below))
+
+pub unnumbered-sorted : (rows : List Row) → All (λ row. row.number ≡ 0) rows → NeverFall rows
+unnumbered-sorted rows none k d h =
+    let first = none k d (omega (arith, h)) in let second = none (k + 1) d h in omega (arith, first, second)
+
 pub AreRows-unnumbered : (f keys : List ℕ) (n : ℕ) (rows : List Row) → length keys ≡ n → map place_of rows ≡ range_with_len 0 n → All (HoldsRow f keys) rows → All (λ row. row.number ≡ 0) rows → AreRows f keys rows
 AreRows-unnumbered f keys n rows long places held none =
-    from_file f keys n rows long places held (λ i d h j e g below. absurd (let first = none i d h in let second = none j e g in omega (arith, first, second, below)))
+    from_file f keys n rows long places held (unnumbered-tell rows none)
 
 map_self : (xs : List ℕ) → map (λ x. x) xs ≡ xs
 map_self [] = refl
@@ -55,15 +65,19 @@ pub places-push : (rows pushed : List Row) (row : Row) (k : ℕ) → pushed ≡ 
 places-push rows pushed row k is at so_far =
     ap (map place_of) is ∙ map-append place_of rows (row ∷ []) ∙ ap (λ ps. ps ++ place_of row ∷ []) so_far ∙ ap (λ p. range_with_len 0 k ++ p ∷ []) at ∙ sym (range-more k)
 
+-- permuted numbers still tell the order
+pub moved_tell : (rows sorted : List Row) → IsPermutation rows sorted → All (λ row. All (TellsOrder row) rows) rows → All (λ row. All (TellsOrder row) sorted) sorted
+moved_tell rows sorted moved tell =
+    let to_each : All (λ row. All (TellsOrder row) sorted) rows = λ k d h. All-permutation (TellsOrder (get_or rows k d)) rows sorted moved (tell k d h) in
+    All-permutation (λ row. All (TellsOrder row) sorted) rows sorted moved to_each
+
 -- permuted rows are still the rows of the keys
 pub moved_rows : (f keys : List ℕ) (rows sorted : List Row) → IsPermutation rows sorted → AreRows f keys rows → AreRows f keys sorted
-moved_rows f keys rows sorted moved are =
-    let to_each : All (λ row. All (TellsOrder row) sorted) rows = λ k d h. All-permutation (TellsOrder (get_or rows k d)) rows sorted moved (are.tell k d h) in
-    record {
-      moved = IsPermutation-trans (range_with_len 0 (length keys)) (map place_of rows) (map place_of sorted) are.moved (IsPermutation-map place_of rows sorted moved);
-      held = All-permutation (HoldsRow f keys) rows sorted moved are.held;
-      tell = All-permutation (λ row. All (TellsOrder row) sorted) rows sorted moved to_each;
-    }
+moved_rows f keys rows sorted moved are = record {
+  moved = IsPermutation-trans (range_with_len 0 (length keys)) (map place_of rows) (map place_of sorted) are.moved (IsPermutation-map place_of rows sorted moved);
+  held = All-permutation (HoldsRow f keys) rows sorted moved are.held;
+  tell = moved_tell rows sorted moved are.tell;
+}
 
 -- a row with a lower string comes first
 lower_first : (row other : Row) → TellsOrder other row → slice_cmp nat_cmp (units_at row) (units_at other) ≡ Less → is_lt (by_number row other) ≡ true

@@ -17,5 +17,6 @@ pub mod SameOctets
 pub mod Ranked
 pub mod KeyOrders
 pub mod PrefixSteps
+pub mod SortedRuns
 pub mod Ascents
 pub mod KeysInTurn

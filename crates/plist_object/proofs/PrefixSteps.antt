@@ -3,18 +3,15 @@ use Rattle.std.proofs.Common.{◌≡◌, ℕ, zero, suc, ◌+◌, ◌*◌, ◌^�
 use Rattle.std.proofs.Math.Nat.{pow-zero, pow-suc, mul-le-mul_right, mul-le-mul_left, one-le-pow}
 use Rattle.std.specs.declared.cmp.Ordering.{Ordering}
 use Rattle.std.specs.declared.cmp.Ordering.TheVariants.{Less, Greater, Equal}
-use Rattle.std.specs.Prelude.{All}
 use Rattle.std.specs.Ordering.{nat_cmp, ordering_then, ordering_reverse}
 use Rattle.std.specs.Cmp.Lexicographic.{slice_cmp}
-use Rattle.std.specs.List.{range_with_len}
-use Rattle.std.specs.List.Sorted.{IsPermutation}
 use Rattle.std.proofs.lemmas.Bool.{cases_lt}
 use Rattle.std.proofs.lemmas.Cmp.{ranked, by_ranked, nat_cmp_total, tied_itself, nat_list_cmp_total}
-use Rattle.std.proofs.lemmas.List.{get_or-map, length-map, take-append-drop}
+use Rattle.std.proofs.lemmas.List.{take-append-drop}
 use Rattle.std.proofs.lemmas.Map.Lookups.{exact_bytes}
 use Rattle.plist_object.specs.declared.order.Row.{Row}
-use Rattle.plist_object.specs.KeyOrder.{AreRows, HoldsRow, TellsOrder, place_of, units_at}
-use Rattle.plist_object.specs.Prefixes.{prefix_of, octet_of, behind, with_prefix}
+use Rattle.plist_object.specs.KeyOrder.{units_at}
+use Rattle.plist_object.specs.Prefixes.{prefix_of, octet_of, behind, in_run}
 
 prefix_none : (k : ℕ) → prefix_of k [] ≡ 0
 prefix_none zero = refl
@@ -114,9 +111,9 @@ changed_more f (suc i) (key ∷ before) now next d within is next_is =
     let one : suc i + 1 ≡ suc (i + 1) = omega arith in
     ap (λ (ks : List Row). set ks (suc i) next) is ∙ ap (λ (ks : List Row). f key ∷ ks) more ∙ ap (λ (n : ℕ). map f (take n (key ∷ before)) ++ drop n (key ∷ before)) (sym one)
 
--- the key with its sort prefix as its number
-pub with_prefix_is : (front : ℕ) (row : Row) (prefix : ℕ) → prefix ≡ prefix_of 8 (drop front (units_at row)) → record { number = prefix; text = row.text; place = row.place } ≡ with_prefix front row
-with_prefix_is front row prefix is =
+-- the row with its new number
+pub in_run_is : (start front : ℕ) (row : Row) (number : ℕ) → number ≡ 2 ^ 64 * start + prefix_of 8 (drop front (units_at row)) → record { number = number; text = row.text; place = row.place } ≡ in_run start front row
+in_run_is start front row number is =
     ap (λ (n : ℕ). record { number = n; text = row.text; place = row.place }) is
 
 step_of : (a b c p h i whole : ℕ) → b ≡ c → i ≡ h → a * (p * 256) + (c * p + h) ≡ whole → (256 * a + b) * p + i ≡ whole
@@ -183,19 +180,3 @@ lower_by_head front first us vs Equal shared_us shared_vs order below =
     absurd (let same = exact_bytes us vs order in let heads : prefix_of 8 (drop front us) ≡ prefix_of 8 (drop front vs) = ap (λ (ws : List ℕ). prefix_of 8 (drop front ws)) same in omega (arith, below, heads))
 lower_by_head front first us vs Greater shared_us shared_vs order below =
     absurd (let less : slice_cmp nat_cmp vs us ≡ Less = nat_list_cmp_total.antisymm vs us ∙ ap ordering_reverse order in let most = no_higher_head front first vs us shared_vs shared_us less in omega (arith, below, most))
-
-places_kept : (front : ℕ) (rows : List Row) → map place_of (map (with_prefix front) rows) ≡ map place_of rows
-places_kept front [] = refl
-places_kept front (row ∷ rows) = ap (λ (ps : List ℕ). place_of row ∷ ps) (places_kept front rows)
-
--- rows numbered by their sort prefixes are rows of the same keys
-pub AreRows-prefixed : (f keys : List ℕ) (front : ℕ) (first : List ℕ) (rows : List Row) → All (λ row. take front (units_at row) ≡ take front first) rows → AreRows f keys rows → AreRows f keys (map (with_prefix front) rows)
-AreRows-prefixed f keys front first rows shared are =
-    let now = map (with_prefix front) rows in
-    let long = length-map rows (with_prefix front) in
-    let at : (k : ℕ) (d : Row) → k < length now → get_or now k d ≡ with_prefix front (get_or rows k d) = λ k d h. get_or-map (with_prefix front) rows k d d (omega (arith, long, h)) in
-    record {
-      moved = subst (λ (ps : List ℕ). IsPermutation (range_with_len 0 (length keys)) ps) (sym (places_kept front rows)) are.moved;
-      held = λ k d h. subst (HoldsRow f keys) (sym (at k d h)) (are.held k d (omega (arith, long, h)));
-      tell = λ i d h j e g. subst (λ (row : Row). TellsOrder row (get_or now j e)) (sym (at i d h)) (subst (λ (other : Row). TellsOrder (with_prefix front (get_or rows i d)) other) (sym (at j e g)) (λ below. lower_by_head front first (units_at (get_or rows i d)) (units_at (get_or rows j e)) (slice_cmp nat_cmp (units_at (get_or rows i d)) (units_at (get_or rows j e))) (shared i d (omega (arith, long, h))) (shared j e (omega (arith, long, g))) refl below));
-    }

@@ -12,10 +12,12 @@ ghost use Rattle.plist_object.specs.Views.{numbers_of, octets_of};
 ghost use Rattle.plist_object.specs.Order.{Ascend, IsInOrder, NameTexts};
 ghost use Rattle.plist_object.specs.KeyOrder.{AreRows, IsRankedRow, IsReady, TellsOrder};
 ghost use Rattle.plist_object.specs.KeyOrder.{by_number, place_of, units_at};
+ghost use Rattle.plist_object.specs.Prefixes.{NeverFall};
 ghost use Rattle.plist_object.specs.Ranks.{AreRanks};
 
 use crate::keys::Keys;
 use crate::layout::BinFile;
+use crate::lengths::short;
 use crate::prefixes;
 use crate::ranks::Ranks;
 use crate::refs::Refs;
@@ -26,11 +28,14 @@ use std::cmp::Ordering;
 // Up to this number of keys are sorted by their strings alone.
 const FEW_KEYS: usize = 12;
 
+// How often more keys are sorted by sort prefixes, before strings are compared.
+const ROUNDS: u32 = 4;
+
 // A key of a dictionary with its position among the keys. Of two rows with different numbers, the
 // one with the lower number has the lower string.
 #[derive(Clone, Copy)]
 pub(crate) struct Row<'a> {
-    pub(crate) number: u64,
+    pub(crate) number: u128,
     pub(crate) text: TextRef<'a>,
     pub(crate) place: u64,
 }
@@ -43,7 +48,7 @@ pub(crate) struct Row<'a> {
 #[derive(Drop)]
 pub struct KeyOrder<'a> {
     last: Option<Refs<'a>>,
-    places: Vec<u64>,
+    places: Vec<u32>,
     // Whether no two of these keys are equal.
     distinct: bool,
     // The keys that were last found to ascend in the order of the file.
@@ -70,7 +75,7 @@ impl<'a> KeyOrder<'a> {
 
     /// Returns the positions of the keys sorted last, counted from 0, in ascending order of their
     /// strings by UTF-16 units.
-    pub fn places(&self) -> &[u64]
+    pub fn places(&self) -> &[u32]
         ensures { result.now ≡ self.now.places.items }
     {
         &self.places
@@ -81,7 +86,7 @@ impl<'a> KeyOrder<'a> {
     ///
     /// # Errors
     ///
-    /// [`AllocError`] if out of memory.
+    /// [`AllocError`] if out of memory, or if there are 2^32 keys.
     pub fn sort(
         &mut self,
         alloc: Global,
@@ -162,16 +167,16 @@ fn ranked_row<'a>(ranks: &Ranks<'a>, object: u64, place: u64) -> Option<Row<'a>>
         → Holds f object (holds_scalar (text (units_at row)))) }
     ensures ranked { IfSome result (IsRankedRow ranks.now) }
 {
-    let number = ranks.get(object)?;
-    let text = ranks.text(number)?;
+    let rank = ranks.get(object)?;
+    let text = ranks.text(rank)?;
     Some(Row {
-        number,
+        number: u128::from(rank),
         text,
         place,
     })
 }
 
-// Returns the keys with their strings, numbered by sort prefixes if they are many.
+// Returns the keys with their strings, sorted and numbered by sort prefixes if they are many.
 fn text_rows<'a>(alloc: Global, file: &BinFile<'a>, keys: &Refs) -> Result<Vec<Row<'a>>, AllocError>
     requires { NameTexts (octets_of file.now) (numbers_of keys.now) }
     ensures { IfOk result (λ rows. AreRows (octets_of file.now) (numbers_of keys.now) rows.items) }
@@ -185,21 +190,27 @@ fn text_rows<'a>(alloc: Global, file: &BinFile<'a>, keys: &Refs) -> Result<Vec<R
             place,
         })?;
     }
-    number(&mut rows);
+    sort_by_prefixes(rows.as_mut_slice());
     Ok(rows)
 }
 
-// Numbers the rows of a long dictionary by sort prefixes, so that most comparisons compare two
-// numbers.
-fn number(rows: &mut Vec<Row>)
-    ensures { (f keys : List ℕ) → AreRows f keys rows.old.items → AreRows f keys rows.new.items }
+// Sorts the rows of a long dictionary by sort prefixes, and then each run of rows with equal
+// prefixes by those that follow. Each row gets its number here.
+fn sort_by_prefixes(rows: &mut [Row])
+    requires tell { All (λ row. All (TellsOrder row) rows.old) rows.old }
+    requires sorted { NeverFall rows.old }
+    ensures rows { (f keys : List ℕ) → AreRows f keys rows.old → AreRows f keys rows.new }
+    ensures long { length rows.new ≡ length rows.old }
 {
     if rows.len() <= FEW_KEYS {
         return;
     }
-    let first = rows[0].text;
-    let front = prefixes::shared(&*rows, &first);
-    prefixes::fill(rows.as_mut_slice(), front);
+    for _ in 0..ROUNDS {
+        if numbers_ascend(&*rows) {
+            return;
+        }
+        prefixes::sort_runs(&mut *rows);
+    }
 }
 
 // Sorts the rows. The numbers of many keys usually suffice.
@@ -258,12 +269,12 @@ fn units_in(rows: &[Row]) -> u64 {
     units
 }
 
-fn places_in_turn(alloc: Global, rows: &[Row]) -> Result<Vec<u64>, AllocError>
+fn places_in_turn(alloc: Global, rows: &[Row]) -> Result<Vec<u32>, AllocError>
     ensures { IfOk result (λ places. places.items ≡ map place_of rows.now) }
 {
     let mut places = Vec::with_capacity(alloc, rows.len())?;
     for row in rows {
-        places.push(row.place)?;
+        places.push(short(row.place)?)?;
     }
     Ok(places)
 }

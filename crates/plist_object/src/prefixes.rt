@@ -1,29 +1,84 @@
 //! Sort prefixes: numbers by which most keys of a long dictionary are compared.
-ghost use Rattle.std.specs.Prelude.{◌≡◌, ◌≤◌, ◌+◌, All, map, take, drop, length};
+ghost use Rattle.std.specs.Prelude.{◌≡◌, ◌<◌, ◌≤◌, ◌+◌, ◌-◌, ℕ, List, All, map, take, drop, length};
+ghost use Rattle.std.specs.Prelude.{slice_index_or};
 ghost use Rattle.plist_value.specs.Texts.{units_of};
-ghost use Rattle.plist_object.specs.KeyOrder.{units_at};
-ghost use Rattle.plist_object.specs.Prefixes.{behind, prefix_of, octet_of, with_prefix};
+ghost use Rattle.plist_object.specs.KeyOrder.{AreRows, TellsOrder, units_at};
+ghost use Rattle.plist_object.specs.Prefixes.{behind, in_run, prefix_of, octet_of};
+ghost use Rattle.plist_object.specs.Prefixes.{IsRunSorted, NeverFall};
 
 use crate::order::Row;
 use plist_value::TextRef;
 
-// Returns the number of leading units that all keys share with the first string.
-pub(crate) fn shared(rows: &[Row], first: &TextRef) -> usize
-    ensures { All (λ row. take result (units_at row) ≡ take result (units_of first.now)) rows.now }
+// One more than the greatest sort prefix.
+const PREFIXES: u128 = 0x1_0000_0000_0000_0000;
+
+// Sorts each run of rows with equal numbers by sort prefixes of the units after those that the run
+// shares, and numbers the rows anew.
+pub(crate) fn sort_runs(rows: &mut [Row])
+    requires tell { All (λ row. All (TellsOrder row) rows.old) rows.old }
+    requires sorted { NeverFall rows.old }
+    ensures tell { All (λ row. All (TellsOrder row) rows.new) rows.new }
+    ensures sorted { NeverFall rows.new }
+    ensures rows { (f keys : List ℕ) → AreRows f keys rows.old → AreRows f keys rows.new }
+    ensures long { length rows.new ≡ length rows.old }
 {
-    let mut count = first.len();
-    for row in rows {
-        count = alike(first, &row.text, count);
+    let mut start = 0;
+    while start < rows.len() {
+        let end = run_end(&*rows, start);
+        sort_run(&mut rows[start..end], start);
+        start = end;
+    }
+}
+
+// Returns the index after the run that begins at `start`.
+fn run_end(rows: &[Row], start: usize) -> usize
+    requires { start < length rows.now }
+    ensures within { (start < result) × (result ≤ length rows.now) }
+    ensures rises { result < length rows.now → (d : Row)
+        → (slice_index_or rows.now (result - 1) d).number
+        < (slice_index_or rows.now result d).number }
+{
+    for end in start + 1..rows.len() {
+        if rows[end - 1].number < rows[end].number {
+            return end;
+        }
+    }
+    rows.len()
+}
+
+// Sorts the rows of the run that begins at index `start` of all rows.
+fn sort_run(rows: &mut [Row], start: usize)
+    ensures sorted { IsRunSorted start rows.old rows.new }
+    ensures long { length rows.new ≡ length rows.old }
+{
+    let front = shared(&*rows);
+    fill(&mut *rows, start, front);
+    // The rows differ in these bits alone, which are faster to compare.
+    rows.sort_unstable_by_key(|row| (row.number % PREFIXES) as u64);
+}
+
+// Returns the number of leading units that all strings share.
+fn shared(rows: &[Row]) -> usize
+    ensures { (first : List ℕ)
+        × All (λ row. take result (units_at row) ≡ take result first) rows.now }
+{
+    let [first, others @ ..] = rows else {
+        return 0;
+    };
+    let mut count = first.text.len();
+    for row in others {
+        count = alike(&first.text, &row.text, count);
     }
     count
 }
 
-// Numbers each row by the sort prefix of its units after the first `front`.
-pub(crate) fn fill(rows: &mut [Row], front: usize)
-    ensures { rows.new ≡ map (with_prefix front) rows.old }
+// Numbers each row by its run, and then by the sort prefix of its units after the first `front`.
+fn fill(rows: &mut [Row], start: usize, front: usize)
+    ensures { rows.new ≡ map (in_run start front) rows.old }
 {
+    let base = PREFIXES * start as u128;
     for row in rows.iter_mut() {
-        row.number = sort_prefix(&row.text, front);
+        row.number = base + u128::from(sort_prefix(&row.text, front));
     }
 }
 

@@ -7,15 +7,16 @@ use Rattle.plist_object.proofs.order.ranked_row.Goals as goal
 
 pub returns-clause-held : goal.returns-clause-held
 returns-clause-held c f are =
-    let first = sym c.get.ensures ∙ c.in_ok-number.was in
+    let first = sym c.get.ensures ∙ c.in_ok-rank.was in
     let second = sym c.text.ensures ∙ c.in_ok-text.was in
-    (ranked_holds f c.args.ranks.now c.args.object c.in_ok-number.number c.in_ok-text.text are first second).0
+    (ranked_holds f c.args.ranks.now c.args.object c.in_ok-rank.rank c.in_ok-text.text are first second).0
 
 pub returns-clause-ranked : goal.returns-clause-ranked
 returns-clause-ranked c =
     let items = c.args.ranks.now.texts.items in
-    let number = c.in_ok-number.number in
+    let rank = c.in_ok-rank.rank in
     let t = c.in_ok-text.text in
     let found = sym c.text.ensures ∙ c.in_ok-text.was in
-    let within = slice_get_within items number t found in
-    (omega (arith, within, length-map items units_of), get_or-map units_of items number t _ within ∙ ap units_of (get_or_from_slice_get items number t t found))
+    let within = slice_get_within items rank t found in
+    let number_is = c.from.ensures in
+    rw number_is (omega (arith, within, length-map items units_of), get_or-map units_of items rank t _ within ∙ ap units_of (get_or_from_slice_get items rank t t found))

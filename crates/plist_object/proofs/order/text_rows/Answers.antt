@@ -1,10 +1,12 @@
-use Rattle.std.proofs.Common.{◌≡◌, List, refl, sym, subst, arith}
+use Rattle.std.proofs.Common.{◌≡◌, ◌∙◌, List, ap, drop, length, refl, sym, subst, arith}
 use Rattle.std.specs.Prelude.{All}
+use Rattle.std.proofs.lemmas.List.{take_at}
 use Rattle.std.proofs.lemmas.List.Elements.{All-push}
 use Rattle.plist_object.specs.Views.{octets_of, numbers_of}
 use Rattle.plist_object.specs.declared.order.Row.{Row}
-use Rattle.plist_object.specs.KeyOrder.{HoldsRow}
-use Rattle.plist_object.proofs.KeyOrders.{AreRows-unnumbered, places-push}
+use Rattle.plist_object.specs.KeyOrder.{AreRows, HoldsRow, TellsOrder}
+use Rattle.plist_object.specs.Prefixes.{NeverFall}
+use Rattle.plist_object.proofs.KeyOrders.{AreRows-unnumbered, places-push, unnumbered-sorted, unnumbered-tell}
 use Rattle.plist_object.proofs.order.text_rows.Goals as goal
 
 pub loop-place-preserved : goal.loop-place-preserved
@@ -23,8 +25,23 @@ loop-place-preserved c =
 pub text_of-text-requires : goal.text_of-text-requires
 text_of-text-requires c = rw c.get.ensures (c.requires c.loop-place.place (omega arith))
 
+pub sort_by_prefixes-requires-clause-tell : goal.sort_by_prefixes-requires-clause-tell
+sort_by_prefixes-requires-clause-tell c =
+    subst (λ (rows : List Row). All (λ row. All (TellsOrder row) rows) rows) (sym c.as_mut_slice.ensures.value) (unnumbered-tell c.loop-place.rows.items c.loop-place.invariant.unnumbered)
+
+pub sort_by_prefixes-requires-clause-sorted : goal.sort_by_prefixes-requires-clause-sorted
+sort_by_prefixes-requires-clause-sorted c =
+    subst NeverFall (sym c.as_mut_slice.ensures.value) (unnumbered-sorted c.loop-place.rows.items c.loop-place.invariant.unnumbered)
+
 pub returns : goal.returns
 returns c =
     let f = octets_of c.args.file.now in
     let keys = numbers_of c.args.keys.now in
-    c.number.ensures f keys (AreRows-unnumbered f keys c.loop-place.place c.loop-place.rows.items (omega arith) c.loop-place.invariant.places c.loop-place.invariant.held c.loop-place.invariant.unnumbered)
+    let old = c.loop-place.rows.items in
+    let new = c.sort_by_prefixes.new.rows in
+    let value = c.as_mut_slice.ensures.value in
+    let are = AreRows-unnumbered f keys c.loop-place.place old (omega arith) c.loop-place.invariant.places c.loop-place.invariant.held c.loop-place.invariant.unnumbered in
+    let now = c.sort_by_prefixes.ensures.rows f keys (subst (AreRows f keys) (sym value) are) in
+    let long : length new ≡ length old = c.sort_by_prefixes.ensures.long ∙ ap length value in
+    let seen = take_at new (drop (length new) old) c.loop-place.rows.len (omega (arith, long, c.loop-place.rows.ok.0)) in
+    subst (AreRows f keys) (sym seen) now
