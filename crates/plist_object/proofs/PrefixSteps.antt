@@ -9,6 +9,7 @@ use Rattle.std.proofs.lemmas.Bool.{cases_lt}
 use Rattle.std.proofs.lemmas.Cmp.{ranked, by_ranked, nat_cmp_total, tied_itself, nat_list_cmp_total}
 use Rattle.std.proofs.lemmas.List.{take-append-drop}
 use Rattle.std.proofs.lemmas.Map.Lookups.{exact_bytes}
+use Rattle.plist_value.specs.declared.text_ref.TextRef.{TextRef}
 use Rattle.plist_object.specs.declared.order.Row.{Row}
 use Rattle.plist_object.specs.KeyOrder.{units_at}
 use Rattle.plist_object.specs.Prefixes.{prefix_of, octet_of, behind, in_run}
@@ -112,9 +113,9 @@ changed_more f (suc i) (key ∷ before) now next d within is next_is =
     ap (λ (ks : List Row). set ks (suc i) next) is ∙ ap (λ (ks : List Row). f key ∷ ks) more ∙ ap (λ (n : ℕ). map f (take n (key ∷ before)) ++ drop n (key ∷ before)) (sym one)
 
 -- the row with its new number
-pub in_run_is : (start front : ℕ) (row : Row) (number : ℕ) → number ≡ 2 ^ 64 * start + prefix_of 8 (drop front (units_at row)) → record { number = number; text = row.text; place = row.place } ≡ in_run start front row
-in_run_is start front row number is =
-    ap (λ (n : ℕ). record { number = n; text = row.text; place = row.place }) is
+pub in_run_is : (texts : List TextRef) (start front : ℕ) (row : Row) (prefix : ℕ) → prefix ≡ prefix_of 8 (drop front (units_at texts row)) → record { prefix = prefix; run = start; place = row.place } ≡ in_run texts start front row
+in_run_is texts start front row prefix is =
+    ap (λ (n : ℕ). record { prefix = n; run = start; place = row.place }) is
 
 step_of : (a b c p h i whole : ℕ) → b ≡ c → i ≡ h → a * (p * 256) + (c * p + h) ≡ whole → (256 * a + b) * p + i ≡ whole
 step_of a b c p h i whole same other sum =

@@ -1,122 +1,105 @@
 -- Runs of rows with equal numbers, each sorted by the sort prefixes of its strings.
-use Rattle.std.proofs.Common.{◌≡◌, ℕ, zero, suc, ◌+◌, ◌-◌, ◌*◌, ◌%◌, ◌^◌, ◌<◌, ◌≤◌, List, [], ◌∷◌, ◌++◌, length, get_or, map, take, drop, refl, sym, ap, ◌∙◌, subst, arith, inl, inr}
-use Rattle.std.specs.Prelude.{All, slice_index}
+use Rattle.std.proofs.Common.{◌≡◌, ℕ, zero, suc, ◌+◌, ◌-◌, ◌*◌, ◌^◌, ◌<◌, ◌≤◌, List, [], ◌∷◌, ◌++◌, length, get_or, map, take, drop, refl, sym, ap, ◌∙◌, subst, arith, inl, inr}
+use Rattle.std.specs.Prelude.{All}
 use Rattle.std.specs.declared.cmp.Ordering.TheVariants.{Less}
-use Rattle.std.specs.Ordering.{nat_cmp, is_lt}
-use Rattle.std.specs.Cmp.{nat_cmp_is}
+use Rattle.std.specs.Ordering.{nat_cmp}
 use Rattle.std.specs.Cmp.Lexicographic.{slice_cmp}
-use Rattle.std.specs.List.{range_with_len}
-use Rattle.std.specs.List.Sorted.{IsPermutation, IsSorted}
-use Rattle.std.proofs.lemmas.Bool.{cases_lt, true≢false}
-use Rattle.std.proofs.Math.Seq.{drop-append_seam, take-append_seam}
-use Rattle.std.proofs.lemmas.List.{append-nil, append_assoc, drop-drop, drop_all, get_or-drop, get_or-map, get_or-take, get_or_default, length-append, length-drop, length-map, length-take, length-take-le, map-append, take-append-drop}
+use Rattle.std.specs.List.Sorted.{IsNonDecreasingBy, IsPermutation, IsSorted}
+use Rattle.std.proofs.lemmas.Bool.{cases_lt}
+use Rattle.std.proofs.Math.ListN.{get_or-append}
+use Rattle.std.proofs.Math.Seq.{drop-append_seam, get_or-append_right, take-append_seam}
+use Rattle.std.proofs.lemmas.List.{append_assoc, drop-drop, get_or-drop, get_or-map, get_or-take, get_or_default, length-append, length-drop, length-map, length-take, length-take-le, map-append, take-take, take-append-drop}
 use Rattle.std.proofs.lemmas.List.Elements.{All-append, All-drop, All-map, All-take}
-use Rattle.std.proofs.lemmas.List.Sorted.{All-permutation, IsPermutation-append_left, IsPermutation-append_right, IsPermutation-map, IsPermutation-trans}
-use Rattle.plist_value.specs.Plist.{text}
-use Rattle.plist_value.specs.Texts.{units_of}
+use Rattle.std.proofs.lemmas.List.Sorted.{All-permutation, IsNonDecreasingBy-from_sort, IsPermutation-append_left, IsPermutation-append_right, IsPermutation-map, IsPermutation-trans}
 use Rattle.plist_value.specs.declared.text_ref.TextRef.{TextRef}
 use Rattle.plist_object.specs.declared.order.Row.{Row}
-use Rattle.plist_object.specs.KeyOrder.{AreRows, TellsOrder, place_of, units_at}
-use Rattle.plist_object.specs.Objects.{holds_scalar}
-use Rattle.plist_object.specs.Places.{Holds}
-use Rattle.plist_object.specs.Prefixes.{in_run, IsRunSorted, NeverFall}
+use Rattle.plist_object.specs.KeyOrder.{TellsOrder, number_of, place_of, units_at}
+use Rattle.plist_object.specs.Prefixes.{in_run, IsRunSorted}
 use Rattle.plist_object.proofs.KeyOrders.{moved_tell}
 use Rattle.plist_object.proofs.PrefixSteps.{lower_by_head, prefix_below}
 
 -- what the first string shares with the others, it shares with all
-pub shared_all : (rows : List Row) (count : ℕ) (first : Row) → get_or rows 0 first ≡ first → ((k : ℕ) (d : Row) → k + 1 < length rows → take count (units_at (get_or (take (length rows - 1) (drop 1 rows)) k d)) ≡ take count (units_at first)) → All (λ row. take count (units_at row) ≡ take count (units_at first)) rows
-shared_all [] count first is others k d h = absurd (omega (arith, h))
-shared_all (row ∷ rows) count first is others zero d h = ap (λ (r : Row). take count (units_at r)) is
-shared_all (row ∷ rows) count first is others (suc k) d h =
-    ap (λ (r : Row). take count (units_at r)) (sym (get_or-take (length (row ∷ rows) - 1) rows k d (omega (arith, h)))) ∙ others k d (omega (arith, h))
+pub shared_all : (texts : List TextRef) (rows : List Row) (count : ℕ) (first : List ℕ) (d : Row) → first ≡ units_at texts (get_or rows 0 d) → ((k : ℕ) (e : Row) → k + 1 < length rows → take count (units_at texts (get_or (take (length rows - 1) (drop 1 rows)) k e)) ≡ take count first) → All (λ row. take count (units_at texts row) ≡ take count first) rows
+shared_all texts [] count first d is others k e h = absurd (omega (arith, h))
+shared_all texts (row ∷ rows) count first d is others zero e h = ap (take count) (sym is)
+shared_all texts (row ∷ rows) count first d is others (suc k) e h =
+    ap (λ (r : Row). take count (units_at texts r)) (sym (get_or-take (length (row ∷ rows) - 1) rows k e (omega (arith, h)))) ∙ others k e (omega (arith, h))
 
--- numbers that never fall
-rising : (rows : List Row) (i k : ℕ) (d : Row) → NeverFall rows → i + k < length rows → (get_or rows i d).number ≤ (get_or rows (i + k) d).number
-rising rows i zero d sorted within =
-    let none : i ≡ i + 0 = omega arith in
-    subst (λ (n : ℕ). (get_or rows i d).number ≤ (get_or rows n d).number) none (omega arith)
-rising rows i (suc k) d sorted within =
-    let before = rising rows i k d sorted (omega (arith, within)) in
-    let one = sorted (i + k) d (omega (arith, within)) in
-    let next : i + k + 1 ≡ i + suc k = omega arith in
-    let last : (get_or rows (i + k) d).number ≤ (get_or rows (i + suc k) d).number = subst (λ (n : ℕ). (get_or rows (i + k) d).number ≤ (get_or rows n d).number) next one in
-    omega (arith, before, last)
+-- fewer units that one more string shares
+pub shared_more : (texts : List TextRef) (rows : List Row) (i count fewer : ℕ) (first next : List ℕ) (d : Row) → ((k : ℕ) (e : Row) → k < i → take count (units_at texts (get_or rows k e)) ≡ take count first) → fewer ≤ count → i < length rows → next ≡ units_at texts (get_or rows i d) → take fewer next ≡ take fewer first → (k : ℕ) (e : Row) → k < i + 1 → take fewer (units_at texts (get_or rows k e)) ≡ take fewer first
+shared_more texts rows i count fewer first next d before less within is shares k e h =
+    elim (cases_lt k i) [
+      | inl under ↦ sym (take-take fewer count (units_at texts (get_or rows k e)) less) ∙ ap (take fewer) (before k e under) ∙ take-take fewer count first less
+      | inr over ↦ (
+          let here : i ≡ k = omega (arith, h, over) in
+          let same : get_or rows k e ≡ get_or rows i d = ap (λ (n : ℕ). get_or rows n e) (sym here) ∙ get_or_default rows i e d within in
+          ap (λ (r : Row). take fewer (units_at texts r)) same ∙ ap (take fewer) (sym is) ∙ shares)
+    ]
 
-never_fall : (rows : List Row) (i j : ℕ) (d : Row) → NeverFall rows → i ≤ j → j < length rows → (get_or rows i d).number ≤ (get_or rows j d).number
-never_fall rows i j d sorted low within =
-    let up : i + (j - i) ≡ j = omega arith in
-    subst (λ (n : ℕ). (get_or rows i d).number ≤ (get_or rows n d).number) up (rising rows i (j - i) d sorted (omega arith))
-
--- the string and the position of a row
-abbrev bare : Row → TextRef × ℕ
-bare row = (row.text, row.place)
-
-abbrev IsLess : Row → Row → Type 0
-IsLess row other = slice_cmp nat_cmp (units_at row) (units_at other) ≡ Less
+abbrev IsLess : List TextRef → Row → Row → Type 0
+IsLess texts row other = slice_cmp nat_cmp (units_at texts row) (units_at texts other) ≡ Less
 
 -- The runs before index `start` were sorted.
-pub record AreRunsSorted (start : ℕ) (old now : List Row) : Type 0 where
+pub record AreRunsSorted (texts : List TextRef) (start : ℕ) (old now : List Row) : Type 0 where
   pub done : List Row
   pub is : now ≡ done ++ drop start old
   pub long : length done ≡ start
-  pub moved : IsPermutation (map bare old) (map bare now)
-  pub sorted : NeverFall done
-  pub below : All (λ row. row.number < 2 ^ 64 * start) done
-  pub tell : All (λ row. All (TellsOrder row) done) done
-  pub apart : All (λ row. All (IsLess row) (drop start old)) done
+  pub moved : IsPermutation (map place_of old) (map place_of now)
+  pub sorted : IsNonDecreasingBy number_of done
+  pub below : All (λ row. number_of row < 2 ^ 64 * start) done
+  pub tell : All (λ row. All (TellsOrder texts row) done) done
+  pub apart : All (λ row. All (IsLess texts row) (drop start old)) done
 
-bare_in_run : (start front : ℕ) (rows : List Row) → map bare (map (in_run start front) rows) ≡ map bare rows
-bare_in_run start front [] = refl
-bare_in_run start front (row ∷ rows) = ap (λ (ps : List (TextRef × ℕ)). bare row ∷ ps) (bare_in_run start front rows)
+places_in_run : (texts : List TextRef) (start front : ℕ) (rows : List Row) → map place_of (map (in_run texts start front) rows) ≡ map place_of rows
+places_in_run texts start front [] = refl
+places_in_run texts start front (row ∷ rows) = ap (λ (ps : List ℕ). place_of row ∷ ps) (places_in_run texts start front rows)
 
 -- numbers that never fall, followed by others that are no lower
-fall_append : (xs ys : List Row) (most : ℕ) → NeverFall xs → NeverFall ys → All (λ row. row.number < most) xs → All (λ row. most ≤ row.number) ys → NeverFall (xs ++ ys)
-fall_append [] ys most first second below above k d h = second k d h
-fall_append (x ∷ []) [] most first second below above k d h = absurd (omega (arith, h))
-fall_append (x ∷ []) (y ∷ ys) most first second below above zero d h =
-    let low = below 0 d (omega arith) in
-    let high = above 0 d (omega arith) in
-    omega (arith, low, high)
-fall_append (x ∷ []) (y ∷ ys) most first second below above (suc k) d h =
-    let one : suc (k + 1) ≡ suc k + 1 = omega arith in
-    subst (λ (n : ℕ). (get_or (y ∷ ys) k d).number ≤ (get_or (x ∷ y ∷ ys) n d).number) one (second k d (omega (arith, h)))
-fall_append (x ∷ z ∷ xs) ys most first second below above zero d h = first 0 d (omega arith)
-fall_append (x ∷ z ∷ xs) ys most first second below above (suc k) d h =
-    let one : suc (k + 1) ≡ suc k + 1 = omega arith in
-    let rest = fall_append (z ∷ xs) ys most (λ j e g. let two : suc j + 1 ≡ suc (j + 1) = omega arith in subst (λ (n : ℕ). (get_or (z ∷ xs) j e).number ≤ (get_or (x ∷ z ∷ xs) n e).number) two (first (suc j) e (omega (arith, g)))) second (λ j e g. below (suc j) e (omega (arith, g))) above k d (omega (arith, h)) in
-    subst (λ (n : ℕ). (get_or (z ∷ xs ++ ys) k d).number ≤ (get_or (x ∷ z ∷ xs ++ ys) n d).number) one rest
-
--- a number of the run that begins at index `start`
-number_within : (start front : ℕ) (row : Row) → (in_run start front row).number < 2 ^ 64 * (start + 1)
-number_within start front row =
-    let below = prefix_below 8 (drop front (units_at row)) in omega (arith, below)
-
--- rows of one run that are sorted by their sort prefixes
-pub sorted_by_prefix : (start front : ℕ) (old new : List Row) → IsPermutation (map (in_run start front) old) new → IsSorted (λ row other. nat_cmp (row.number % 2 ^ 64) (other.number % 2 ^ 64)) new → NeverFall new
-sorted_by_prefix start front old new moved sorted k d high =
-    let prefixed : All (λ row. row.number ≡ 2 ^ 64 * start + row.number % 2 ^ 64) new = All-permutation (λ (row : Row). row.number ≡ 2 ^ 64 * start + row.number % 2 ^ 64) (map (in_run start front) old) new moved (All-map (λ (row : Row). row.number ≡ 2 ^ 64 * start + row.number % 2 ^ 64) (in_run start front) old (λ j e g. let below = prefix_below 8 (drop front (units_at (get_or old j e))) in omega (arith, below))) in
-    let lower = prefixed k d (omega (arith, high)) in
-    let upper = prefixed (k + 1) d high in
-    elim (cases_lt ((get_or new (k + 1) d).number % 2 ^ 64) ((get_or new k d).number % 2 ^ 64)) [
-      | inl falls ↦ absurd (true≢false (ap is_lt (nat_cmp_is ((get_or new (k + 1) d).number % 2 ^ 64) ((get_or new k d).number % 2 ^ 64) Less falls) ∙ sorted k d (omega arith) high))
-      | inr rises ↦ omega (arith, lower, upper, rises)
+fall_append : (xs ys : List Row) (most : ℕ) → IsNonDecreasingBy number_of xs → IsNonDecreasingBy number_of ys → All (λ row. number_of row < most) xs → All (λ row. most ≤ number_of row) ys → IsNonDecreasingBy number_of (xs ++ ys)
+fall_append xs ys most first second below above i j d low high =
+    let n = length xs in
+    let long = length-append xs ys in
+    elim (cases_lt j n) [
+      | inl early ↦ rw (get_or-append xs ys d i (omega (arith, low, early)), get_or-append xs ys d j early) (first i j d low early)
+      | inr late ↦ (
+          let after : number_of (get_or (xs ++ ys) j d) ≡ number_of (get_or ys (j - n) d) = ap number_of (get_or-append_right xs ys j d late) in
+          elim (cases_lt i n) [
+            | inl early ↦ (
+                let before : number_of (get_or (xs ++ ys) i d) ≡ number_of (get_or xs i d) = ap number_of (get_or-append xs ys d i early) in
+                omega (arith, below i d early, above (j - n) d (omega (arith, long, late, high)), before, after))
+            | inr later ↦ (
+                let before : number_of (get_or (xs ++ ys) i d) ≡ number_of (get_or ys (i - n) d) = ap number_of (get_or-append_right xs ys i d later) in
+                omega (arith, second (i - n) (j - n) d (omega (arith, low)) (omega (arith, long, late, high)), before, after))
+          ])
     ]
 
+-- a number of the run that begins at index `start`
+number_within : (texts : List TextRef) (start front : ℕ) (row : Row) → number_of (in_run texts start front row) < 2 ^ 64 * (start + 1)
+number_within texts start front row =
+    let below = prefix_below 8 (drop front (units_at texts row)) in omega (arith, below)
+
+-- rows of one run that are sorted by their sort prefixes
+pub sorted_by_prefix : (texts : List TextRef) (start front : ℕ) (old new : List Row) → IsPermutation (map (in_run texts start front) old) new → IsSorted (λ row other. nat_cmp row.prefix other.prefix) new → IsNonDecreasingBy number_of new
+sorted_by_prefix texts start front old new moved sorted i j d low high =
+    let here : All (λ row. row.run ≡ start) new = All-permutation (λ (row : Row). row.run ≡ start) (map (in_run texts start front) old) new moved (All-map (λ (row : Row). row.run ≡ start) (in_run texts start front) old (λ j e g. refl)) in
+    let prefixes = IsNonDecreasingBy-from_sort (λ (row : Row). row.prefix) new sorted i j d low high in
+    omega (arith, here i d (omega (arith, low, high)), here j d high, prefixes)
+
 -- rows that share their first units, numbered in one run
-numbered_tell : (start front : ℕ) (first : List ℕ) (rows : List Row) → All (λ row. take front (units_at row) ≡ take front first) rows → All (λ row. All (TellsOrder row) (map (in_run start front) rows)) (map (in_run start front) rows)
-numbered_tell start front first rows shared i d h j e g =
-    let now = map (in_run start front) rows in
-    let long = length-map rows (in_run start front) in
-    let at : (k : ℕ) (b : Row) → k < length now → get_or now k b ≡ in_run start front (get_or rows k b) = λ k b within. get_or-map (in_run start front) rows k b b (omega (arith, long, within)) in
-    subst (λ (row : Row). TellsOrder row (get_or now j e)) (sym (at i d h)) (subst (λ (other : Row). TellsOrder (in_run start front (get_or rows i d)) other) (sym (at j e g)) (λ below. lower_by_head front first (units_at (get_or rows i d)) (units_at (get_or rows j e)) (slice_cmp nat_cmp (units_at (get_or rows i d)) (units_at (get_or rows j e))) (shared i d (omega (arith, long, h))) (shared j e (omega (arith, long, g))) refl (omega (arith, below))))
+numbered_tell : (texts : List TextRef) (start front : ℕ) (first : List ℕ) (rows : List Row) → All (λ row. take front (units_at texts row) ≡ take front first) rows → All (λ row. All (TellsOrder texts row) (map (in_run texts start front) rows)) (map (in_run texts start front) rows)
+numbered_tell texts start front first rows shared i d h j e g =
+    let now = map (in_run texts start front) rows in
+    let long = length-map rows (in_run texts start front) in
+    let at : (k : ℕ) (b : Row) → k < length now → get_or now k b ≡ in_run texts start front (get_or rows k b) = λ k b within. get_or-map (in_run texts start front) rows k b b (omega (arith, long, within)) in
+    subst (λ (row : Row). TellsOrder texts row (get_or now j e)) (sym (at i d h)) (subst (λ (other : Row). TellsOrder texts (in_run texts start front (get_or rows i d)) other) (sym (at j e g)) (λ below. lower_by_head front first (units_at texts (get_or rows i d)) (units_at texts (get_or rows j e)) (slice_cmp nat_cmp (units_at texts (get_or rows i d)) (units_at texts (get_or rows j e))) (shared i d (omega (arith, long, h))) (shared j e (omega (arith, long, g))) refl (omega (arith, below))))
 
 -- one more run is sorted
-module _ (start end : ℕ) (old now next : List Row) (some : start < end) (within : end ≤ length old) (rises : end < length now → (d : Row) → (get_or now (end - 1) d).number < (get_or now end d).number) (tells : All (λ row. All (TellsOrder row) old) old) (sorted : NeverFall old) (so_far : AreRunsSorted start old now) (run : IsRunSorted start (take (end - start) (drop start now)) next) (as_many : length next ≡ length (take (end - start) (drop start now))) where
+module _ (texts : List TextRef) (start end : ℕ) (old now next : List Row) (some : start < end) (within : end ≤ length old) (rises : end < length now → (d : Row) → number_of (get_or now (end - 1) d) < number_of (get_or now end d)) (tells : All (λ row. All (TellsOrder texts row) old) old) (sorted : IsNonDecreasingBy number_of old) (so_far : AreRunsSorted texts start old now) (run : IsRunSorted texts start (take (end - start) (drop start now)) next) (as_many : length next ≡ length (take (end - start) (drop start now))) where
   abbrev part : List Row
   part = take (end - start) (drop start old)
 
   abbrev numbered : List Row
-  numbered = map (in_run start run.front) part
+  numbered = map (in_run texts start run.front) part
 
   rest_is : drop start now ≡ drop start old
   rest_is =
@@ -138,10 +121,10 @@ module _ (start end : ℕ) (old now next : List Row) (some : start < end) (withi
   behind_now = ap (drop (end - start)) rest_is ∙ behind_is
 
   moved_run : IsPermutation numbered next
-  moved_run = subst (λ (rows : List Row). IsPermutation (map (in_run start run.front) rows) next) part_is run.moved
+  moved_run = subst (λ (rows : List Row). IsPermutation (map (in_run texts start run.front) rows) next) part_is run.moved
 
-  shared_run : All (λ row. take run.front (units_at row) ≡ take run.front run.first) part
-  shared_run = subst (λ (rows : List Row). All (λ row. take run.front (units_at row) ≡ take run.front run.first) rows) part_is run.shared
+  shared_run : All (λ row. take run.front (units_at texts row) ≡ take run.front run.first) part
+  shared_run = subst (λ (rows : List Row). All (λ row. take run.front (units_at texts row) ≡ take run.front run.first) rows) part_is run.shared
 
   abbrev done_now : List Row
   done_now = so_far.done ++ next
@@ -150,61 +133,61 @@ module _ (start end : ℕ) (old now next : List Row) (some : start < end) (withi
   is_now =
       ap (λ (rows : List Row). rows ++ (next ++ drop (end - start) (drop start now))) front_is ∙ ap (λ (rows : List Row). so_far.done ++ (next ++ rows)) behind_now ∙ sym (append_assoc so_far.done next (drop end old))
 
-  below_now : All (λ row. row.number < 2 ^ 64 * end) done_now
+  below_now : All (λ row. number_of row < 2 ^ 64 * end) done_now
   below_now =
-      let in_part : All (λ row. (in_run start run.front row).number < 2 ^ 64 * end) part = λ k d h. (let is = number_within start run.front (get_or part k d) in omega (arith, is, some)) in
-      All-append (λ (row : Row). row.number < 2 ^ 64 * end) so_far.done next (λ k d h. (let was = so_far.below k d h in omega (arith, was, some))) (All-permutation (λ (row : Row). row.number < 2 ^ 64 * end) numbered next moved_run (All-map (λ (row : Row). row.number < 2 ^ 64 * end) (in_run start run.front) part in_part))
+      let in_part : All (λ row. number_of (in_run texts start run.front row) < 2 ^ 64 * end) part = λ k d h. (let is = number_within texts start run.front (get_or part k d) in omega (arith, is, some)) in
+      All-append (λ (row : Row). number_of row < 2 ^ 64 * end) so_far.done next (λ k d h. (let was = so_far.below k d h in omega (arith, was, some))) (All-permutation (λ (row : Row). number_of row < 2 ^ 64 * end) numbered next moved_run (All-map (λ (row : Row). number_of row < 2 ^ 64 * end) (in_run texts start run.front) part in_part))
 
-  above_next : All (λ row. 2 ^ 64 * start ≤ row.number) next
+  above_next : All (λ row. 2 ^ 64 * start ≤ number_of row) next
   above_next =
-      All-permutation (λ (row : Row). 2 ^ 64 * start ≤ row.number) numbered next moved_run (All-map (λ (row : Row). 2 ^ 64 * start ≤ row.number) (in_run start run.front) part (λ k d h. omega arith))
+      All-permutation (λ (row : Row). 2 ^ 64 * start ≤ number_of row) numbered next moved_run (All-map (λ (row : Row). 2 ^ 64 * start ≤ number_of row) (in_run texts start run.front) part (λ k d h. omega arith))
 
-  less_next : (row : Row) → All (IsLess row) (drop start old) → All (IsLess row) next
+  less_next : (row : Row) → All (IsLess texts row) (drop start old) → All (IsLess texts row) next
   less_next row less =
-      All-permutation (IsLess row) numbered next moved_run (All-map (IsLess row) (in_run start run.front) part (All-take (IsLess row) (end - start) (drop start old) less))
+      All-permutation (IsLess texts row) numbered next moved_run (All-map (IsLess texts row) (in_run texts start run.front) part (All-take (IsLess texts row) (end - start) (drop start old) less))
 
-  tell_now : All (λ row. All (TellsOrder row) done_now) done_now
+  tell_now : All (λ row. All (TellsOrder texts row) done_now) done_now
   tell_now =
-      let next_tell = moved_tell numbered next moved_run (numbered_tell start run.front run.first part shared_run) in
-      All-append (λ row. All (TellsOrder row) done_now) so_far.done next
-      (λ i d h. All-append (TellsOrder (get_or so_far.done i d)) so_far.done next (so_far.tell i d h) (λ j e g below. less_next (get_or so_far.done i d) (so_far.apart i d h) j e g))
-      (λ i d h. All-append (TellsOrder (get_or next i d)) so_far.done next (λ j e g below. absurd (let low = so_far.below j e g in let high = above_next i d h in omega (arith, low, high, below))) (next_tell i d h))
+      let next_tell = moved_tell texts numbered next moved_run (numbered_tell texts start run.front run.first part shared_run) in
+      All-append (λ row. All (TellsOrder texts row) done_now) so_far.done next
+      (λ i d h. All-append (TellsOrder texts (get_or so_far.done i d)) so_far.done next (so_far.tell i d h) (λ j e g below. less_next (get_or so_far.done i d) (so_far.apart i d h) j e g))
+      (λ i d h. All-append (TellsOrder texts (get_or next i d)) so_far.done next (λ j e g below. absurd (let low = so_far.below j e g in let high = above_next i d h in omega (arith, low, high, below))) (next_tell i d h))
 
-  part_apart : All (λ row. All (IsLess row) (drop end old)) part
+  part_apart : All (λ row. All (IsLess texts row) (drop end old)) part
   part_apart i d h j e g =
       let most : length part ≤ end - start = (let e = length-take (end - start) (drop start old) in omega (arith, e)) in
       let last = length-drop end old in
       let first_is : get_or part i d ≡ get_or old (start + i) d = get_or-take (end - start) (drop start old) i d (omega (arith, most, h)) ∙ get_or-drop start old i d in
       let other_is : get_or (drop end old) j e ≡ get_or old (end + j) e = get_or-drop end old j e in
       let far : end + j < length old = omega (arith, last, g, within) in
-      let low = never_fall old (start + i) (end - 1) d sorted (omega (arith, most, h)) (omega (arith, some, within)) in
-      let high = never_fall old end (end + j) d sorted (omega arith) far in
+      let low = sorted (start + i) (end - 1) d (omega (arith, most, h)) (omega (arith, some, within)) in
+      let high = sorted end (end + j) d (omega arith) far in
       let at : (k : ℕ) → start ≤ k → get_or now k d ≡ get_or old k d = λ k from.
       let e : start + (k - start) ≡ k = omega (arith, from) in
       ap (λ (n : ℕ). get_or now n d) (sym e) ∙ sym (get_or-drop start now (k - start) d) ∙ ap (λ (rows : List Row). get_or rows (k - start) d) rest_is ∙ get_or-drop start old (k - start) d ∙ ap (λ (n : ℕ). get_or old n d) e in
       let as_long : length old ≤ length now = (
       let a = ap length rest_is in let b = length-drop start now in let c = length-drop start old in omega (arith, a, b, c, within, some)) in
       let rise = rises (omega (arith, as_long, far)) d in
-      let lower = ap (λ (row : Row). row.number) (at (end - 1) (omega (arith, some))) in
-      let upper = ap (λ (row : Row). row.number) (at end (omega (arith, some))) in
-      let same = ap (λ (row : Row). row.number) (get_or_default old (end + j) d e far) in
-      subst (λ (row : Row). IsLess row (get_or (drop end old) j e)) (sym first_is) (subst (IsLess (get_or old (start + i) d)) (sym other_is) (tells (start + i) d (omega (arith, most, h, within)) (end + j) e far (omega (arith, low, high, rise, lower, upper, same))))
+      let lower = ap (λ (row : Row). number_of row) (at (end - 1) (omega (arith, some))) in
+      let upper = ap (λ (row : Row). number_of row) (at end (omega (arith, some))) in
+      let same = ap (λ (row : Row). number_of row) (get_or_default old (end + j) d e far) in
+      subst (λ (row : Row). IsLess texts row (get_or (drop end old) j e)) (sym first_is) (subst (IsLess texts (get_or old (start + i) d)) (sym other_is) (tells (start + i) d (omega (arith, most, h, within)) (end + j) e far (omega (arith, low, high, rise, lower, upper, same))))
 
-  apart_now : All (λ row. All (IsLess row) (drop end old)) done_now
+  apart_now : All (λ row. All (IsLess texts row) (drop end old)) done_now
   apart_now =
-      All-append (λ row. All (IsLess row) (drop end old)) so_far.done next
-      (λ i d h. subst (λ (rows : List Row). All (IsLess (get_or so_far.done i d)) rows) behind_is (All-drop (IsLess (get_or so_far.done i d)) (end - start) (drop start old) (so_far.apart i d h)))
-      (All-permutation (λ row. All (IsLess row) (drop end old)) numbered next moved_run (All-map (λ row. All (IsLess row) (drop end old)) (in_run start run.front) part part_apart))
+      All-append (λ row. All (IsLess texts row) (drop end old)) so_far.done next
+      (λ i d h. subst (λ (rows : List Row). All (IsLess texts (get_or so_far.done i d)) rows) behind_is (All-drop (IsLess texts (get_or so_far.done i d)) (end - start) (drop start old) (so_far.apart i d h)))
+      (All-permutation (λ row. All (IsLess texts row) (drop end old)) numbered next moved_run (All-map (λ row. All (IsLess texts row) (drop end old)) (in_run texts start run.front) part part_apart))
 
-  moved_now : IsPermutation (map bare old) (map bare (done_now ++ drop end old))
+  moved_now : IsPermutation (map place_of old) (map place_of (done_now ++ drop end old))
   moved_now =
       let rest = drop end old in
       let now_is : now ≡ so_far.done ++ (part ++ rest) = so_far.is ∙ ap (λ (rows : List Row). so_far.done ++ rows) (sym (ap (λ (rows : List Row). part ++ rows) (sym behind_is) ∙ take-append-drop (end - start) (drop start old))) in
-      let one : IsPermutation (map bare part) (map bare next) = subst (λ (ps : List (TextRef × ℕ)). IsPermutation ps (map bare next)) (bare_in_run start run.front part) (IsPermutation-map bare numbered next moved_run) in
-      let all = IsPermutation-append_right (map bare so_far.done) (map bare part ++ map bare rest) (map bare next ++ map bare rest) (IsPermutation-append_left (map bare rest) (map bare part) (map bare next) one) in
-      let before : map bare now ≡ map bare so_far.done ++ (map bare part ++ map bare rest) = ap (map bare) now_is ∙ map-append bare so_far.done (part ++ rest) ∙ ap (λ (ps : List (TextRef × ℕ)). map bare so_far.done ++ ps) (map-append bare part rest) in
-      let after : map bare (done_now ++ rest) ≡ map bare so_far.done ++ (map bare next ++ map bare rest) = ap (map bare) (append_assoc so_far.done next rest) ∙ map-append bare so_far.done (next ++ rest) ∙ ap (λ (ps : List (TextRef × ℕ)). map bare so_far.done ++ ps) (map-append bare next rest) in
-      IsPermutation-trans (map bare old) (map bare now) (map bare (done_now ++ rest)) so_far.moved (subst (λ (ps : List (TextRef × ℕ)). IsPermutation (map bare now) ps) (sym after) (subst (λ (ps : List (TextRef × ℕ)). IsPermutation ps (map bare so_far.done ++ (map bare next ++ map bare rest))) (sym before) all))
+      let one : IsPermutation (map place_of part) (map place_of next) = subst (λ (ps : List ℕ). IsPermutation ps (map place_of next)) (places_in_run texts start run.front part) (IsPermutation-map place_of numbered next moved_run) in
+      let all = IsPermutation-append_right (map place_of so_far.done) (map place_of part ++ map place_of rest) (map place_of next ++ map place_of rest) (IsPermutation-append_left (map place_of rest) (map place_of part) (map place_of next) one) in
+      let before : map place_of now ≡ map place_of so_far.done ++ (map place_of part ++ map place_of rest) = ap (map place_of) now_is ∙ map-append place_of so_far.done (part ++ rest) ∙ ap (λ (ps : List ℕ). map place_of so_far.done ++ ps) (map-append place_of part rest) in
+      let after : map place_of (done_now ++ rest) ≡ map place_of so_far.done ++ (map place_of next ++ map place_of rest) = ap (map place_of) (append_assoc so_far.done next rest) ∙ map-append place_of so_far.done (next ++ rest) ∙ ap (λ (ps : List ℕ). map place_of so_far.done ++ ps) (map-append place_of next rest) in
+      IsPermutation-trans (map place_of old) (map place_of now) (map place_of (done_now ++ rest)) so_far.moved (subst (λ (ps : List ℕ). IsPermutation (map place_of now) ps) (sym after) (subst (λ (ps : List ℕ). IsPermutation ps (map place_of so_far.done ++ (map place_of next ++ map place_of rest))) (sym before) all))
 
   long_now : length done_now ≡ end
   long_now =
@@ -215,45 +198,20 @@ module _ (start end : ℕ) (old now next : List Row) (some : start < end) (withi
       let e = length-take-le (end - start) (drop start old) (omega (arith, d, within, some)) in
       omega (arith, a, b, c, e, as_many, some)
 
-  pub run_sorted : AreRunsSorted end old (take start now ++ (next ++ drop (end - start) (drop start now)))
+  pub run_sorted : AreRunsSorted texts end old (take start now ++ (next ++ drop (end - start) (drop start now)))
   run_sorted = record {
     done = done_now;
     is = is_now;
     long = long_now;
-    moved = subst (λ (rows : List Row). IsPermutation (map bare old) (map bare rows)) (sym is_now) moved_now;
+    moved = subst (λ (rows : List Row). IsPermutation (map place_of old) (map place_of rows)) (sym is_now) moved_now;
     sorted = fall_append so_far.done next (2 ^ 64 * start) so_far.sorted run.sorted so_far.below above_next;
     below = below_now;
     tell = tell_now;
     apart = apart_now;
   }
 
-HoldsBare : List ℕ → List ℕ → TextRef × ℕ → Type 0
-HoldsBare f keys one = Holds f (slice_index keys one.1) (holds_scalar (text (units_of one.0)))
-
-places_bare : (rows : List Row) → map (λ (one : TextRef × ℕ). one.1) (map bare rows) ≡ map place_of rows
-places_bare [] = refl
-places_bare (row ∷ rows) = ap (λ (ps : List ℕ). place_of row ∷ ps) (places_bare rows)
-
--- all rows whose runs are sorted
-pub all_sorted : (start : ℕ) (old now : List Row) → length old ≤ start → (are : AreRunsSorted start old now) → now ≡ are.done
-all_sorted start old now all are =
-    are.is ∙ ap (λ (rows : List Row). are.done ++ rows) (drop_all start old all) ∙ append-nil are.done
-
--- they are rows of the same keys
-pub AreRows-sorted : (f keys : List ℕ) (start : ℕ) (old now : List Row) → length old ≤ start → AreRunsSorted start old now → AreRows f keys old → AreRows f keys now
-unfolding HoldsBare
-AreRows-sorted f keys start old now all are rows =
-    let places = IsPermutation-map (λ (one : TextRef × ℕ). one.1) (map bare old) (map bare now) are.moved in
-    let held = All-permutation (HoldsBare f keys) (map bare old) (map bare now) are.moved (All-map (HoldsBare f keys) bare old rows.held) in
-    let long = length-map now bare in
-    record {
-      moved = IsPermutation-trans (range_with_len 0 (length keys)) (map place_of old) (map place_of now) rows.moved (subst (λ (ps : List ℕ). IsPermutation (map place_of old) ps) (places_bare now) (subst (λ (ps : List ℕ). IsPermutation ps (map (λ (one : TextRef × ℕ). one.1) (map bare now))) (places_bare old) places));
-      held = λ k d h. subst (HoldsBare f keys) (get_or-map bare now k d (bare d) h) (held k (bare d) (omega (arith, long, h)));
-      tell = subst (λ (all : List Row). All (λ row. All (TellsOrder row) all) all) (sym (all_sorted start old now all are)) are.tell;
-    }
-
-pub long_sorted : (start : ℕ) (old now : List Row) → start ≤ length old → AreRunsSorted start old now → length now ≡ length old
-long_sorted start old now within are =
+pub long_sorted : (texts : List TextRef) (start : ℕ) (old now : List Row) → start ≤ length old → AreRunsSorted texts start old now → length now ≡ length old
+long_sorted texts start old now within are =
     let a = ap length are.is in
     let b = length-append are.done (drop start old) in
     let c = length-drop start old in

@@ -1,8 +1,10 @@
 //! The order of the keys of dictionaries.
 ghost use Rattle.std.specs.Ordering.{nat_cmp};
 ghost use Rattle.std.specs.Cmp.Lexicographic.{slice_cmp};
-ghost use Rattle.std.specs.List.Sorted.{IsPermutation, IsSorted, IsStrictlySortedBy};
-ghost use Rattle.std.specs.Prelude.{◌≡◌, ◌↔◌, IsTrue, ℕ, List, All, map, length};
+ghost use Rattle.std.specs.List.{AllAdjacentBelow};
+ghost use Rattle.std.specs.List.Sorted.{IsNonDecreasingBy, IsPermutation, IsSorted};
+ghost use Rattle.std.specs.List.Sorted.{IsStrictlySortedBy};
+ghost use Rattle.std.specs.Prelude.{◌≡◌, ◌↔◌, ◌<◌, ◌≤◌, ◌^◌, IsTrue, ℕ, List, All, map, length};
 ghost use Rattle.std.specs.Prelude.{IfOk, OnOk, IfSome};
 ghost use Rattle.plist_value.specs.Plist.{text};
 ghost use Rattle.plist_value.specs.Texts.{units_of};
@@ -10,9 +12,8 @@ ghost use Rattle.plist_object.specs.Objects.{holds_scalar};
 ghost use Rattle.plist_object.specs.Places.{Holds, HoldsText};
 ghost use Rattle.plist_object.specs.Views.{numbers_of, octets_of};
 ghost use Rattle.plist_object.specs.Order.{Ascend, IsInOrder, NameTexts};
-ghost use Rattle.plist_object.specs.KeyOrder.{AreRows, IsRankedRow, IsReady, TellsOrder};
-ghost use Rattle.plist_object.specs.KeyOrder.{by_number, place_of, units_at};
-ghost use Rattle.plist_object.specs.Prefixes.{NeverFall};
+ghost use Rattle.plist_object.specs.KeyOrder.{AreRows, AreTexts, IsRankOf, IsReady, TellsOrder};
+ghost use Rattle.plist_object.specs.KeyOrder.{by_number, number_of, place_of, units_at};
 ghost use Rattle.plist_object.specs.Ranks.{AreRanks};
 
 use crate::keys::Keys;
@@ -28,16 +29,35 @@ use std::cmp::Ordering;
 // Up to this number of keys are sorted by their strings alone.
 const FEW_KEYS: usize = 12;
 
-// How often more keys are sorted by sort prefixes, before strings are compared.
+// The most times that the rows of more keys are sorted by sort prefixes. Strings that are still
+// tied are compared in full.
 const ROUNDS: u32 = 4;
 
-// A key of a dictionary with its position among the keys. Of two rows with different numbers, the
-// one with the lower number has the lower string.
+// One more than the greatest sort prefix.
+const PREFIXES: u128 = 0x1_0000_0000_0000_0000;
+
+// A key of a dictionary, by its position among the keys. Of two rows with different numbers, the
+// one with the lower number has the lower string. A row is small, so that it can be moved quickly.
 #[derive(Clone, Copy)]
-pub(crate) struct Row<'a> {
-    pub(crate) number: u128,
-    pub(crate) text: TextRef<'a>,
-    pub(crate) place: u64,
+pub(crate) struct Row {
+    pub(crate) prefix: u64,
+    pub(crate) run: u32,
+    pub(crate) place: u32,
+}
+
+impl Row {
+    pub(crate) fn number(&self) -> u128
+        ensures { result ≡ number_of self.now }
+    {
+        PREFIXES * u128::from(self.run) + u128::from(self.prefix)
+    }
+}
+
+// The keys of a dictionary: their strings by position, and a row for each.
+#[derive(Drop)]
+struct Rows<'a> {
+    texts: Vec<TextRef<'a>>,
+    list: Vec<Row>,
 }
 
 /// Sorts the keys of a file's dictionaries.
@@ -106,32 +126,33 @@ impl<'a> KeyOrder<'a> {
         {
             return Ok(self.distinct);
         }
-        let mut rows = self.rows(alloc, file, keys)?;
-        sort_rows(&mut rows);
-        self.distinct = ascend(&rows);
-        self.places = places_in_turn(alloc, &rows)?;
+        let Rows { texts, mut list } = self.rows(alloc, file, keys)?;
+        sort_rows(&mut list, &texts);
+        self.distinct = ascend(&list, &texts);
+        self.places = places_in_turn(alloc, &list)?;
         self.last = Some(*keys);
         Ok(self.distinct)
     }
 
-    // Returns the keys as they are in the file, with numbers that agree with their order.
+    // Returns the keys of a dictionary, with numbers that agree with their order.
     fn rows(
         &mut self,
         alloc: Global,
         file: &BinFile<'a>,
         keys: &Refs,
-    ) -> Result<Vec<Row<'a>>, AllocError>
+    ) -> Result<Rows<'a>, AllocError>
         requires names { NameTexts (octets_of file.now) (numbers_of keys.now) }
         requires ready { IsReady (octets_of file.now) self.old }
-        ensures rows { IfOk result (λ rows. AreRows (octets_of file.now) (numbers_of keys.now)
-            rows.items) }
+        ensures texts { IfOk result (λ rows. AreTexts (octets_of file.now) (numbers_of keys.now)
+            rows.texts.items) }
+        ensures rows { IfOk result (λ rows. AreRows rows.texts.items rows.list.items) }
         ensures ready { OnOk result (IsReady (octets_of file.now) self.new) }
     {
         if let Some(left) = self.left {
-            let rows = text_rows(alloc, file, keys)?;
-            self.left = left.checked_sub(units_in(&rows));
+            let texts = texts_of(alloc, file, keys)?;
+            self.left = left.checked_sub(units_in(&texts));
             if self.left.is_some() {
-                return Ok(rows);
+                return text_rows(alloc, texts);
             }
             self.ranks = Keys::of_reached(alloc, file)?.ranks(alloc, file)?;
         }
@@ -145,94 +166,133 @@ fn ranked_rows<'a>(
     file: &BinFile<'a>,
     ranks: &Ranks<'a>,
     keys: &Refs,
-) -> Result<Vec<Row<'a>>, AllocError>
+) -> Result<Rows<'a>, AllocError>
     requires names { NameTexts (octets_of file.now) (numbers_of keys.now) }
     requires ranks { AreRanks (octets_of file.now) ranks.now }
-    ensures { IfOk result (λ rows. AreRows (octets_of file.now) (numbers_of keys.now) rows.items) }
+    ensures texts { IfOk result (λ rows. AreTexts (octets_of file.now) (numbers_of keys.now)
+        rows.texts.items) }
+    ensures rows { IfOk result (λ rows. AreRows rows.texts.items rows.list.items) }
 {
-    let mut rows = Vec::with_capacity(alloc, keys.len() as usize)?;
+    let mut texts = Vec::with_capacity(alloc, keys.len() as usize)?;
+    let mut list = Vec::with_capacity(alloc, keys.len() as usize)?;
     for place in 0..keys.len() {
-        let Some(row) = ranked_row(ranks, keys.get(place), place) else {
-            return text_rows(alloc, file, keys);
+        let Some((prefix, text)) = ranked(ranks, keys.get(place)) else {
+            return text_rows(alloc, texts_of(alloc, file, keys)?);
         };
-        rows.push(row)?;
-    }
-    Ok(rows)
-}
-
-// Returns the row of the key that the object contains, if it has a rank.
-fn ranked_row<'a>(ranks: &Ranks<'a>, object: u64, place: u64) -> Option<Row<'a>>
-    ensures place { IfSome result (λ row. row.place ≡ place) }
-    ensures held { IfSome result (λ row. (f : List ℕ) → AreRanks f ranks.now
-        → Holds f object (holds_scalar (text (units_at row)))) }
-    ensures ranked { IfSome result (IsRankedRow ranks.now) }
-{
-    let rank = ranks.get(object)?;
-    let text = ranks.text(rank)?;
-    Some(Row {
-        number: u128::from(rank),
-        text,
-        place,
-    })
-}
-
-// Returns the keys with their strings, sorted and numbered by sort prefixes if they are many.
-fn text_rows<'a>(alloc: Global, file: &BinFile<'a>, keys: &Refs) -> Result<Vec<Row<'a>>, AllocError>
-    requires { NameTexts (octets_of file.now) (numbers_of keys.now) }
-    ensures { IfOk result (λ rows. AreRows (octets_of file.now) (numbers_of keys.now) rows.items) }
-{
-    let mut rows = Vec::with_capacity(alloc, keys.len() as usize)?;
-    for place in 0..keys.len() {
-        let text = text_of(file, keys.get(place));
-        rows.push(Row {
-            number: 0,
-            text,
-            place,
+        texts.push(text)?;
+        list.push(Row {
+            prefix,
+            run: 0,
+            place: short(place)?,
         })?;
     }
-    sort_by_prefixes(rows.as_mut_slice());
-    Ok(rows)
+    Ok(Rows { texts, list })
+}
+
+// Returns the rank of the key that the object contains, if it has one, and its string.
+fn ranked<'a>(ranks: &Ranks<'a>, object: u64) -> Option<(u64, TextRef<'a>)>
+    ensures held { IfSome result (λ found. (f : List ℕ) → AreRanks f ranks.now
+        → Holds f object (holds_scalar (text (units_of found.1)))) }
+    ensures ranked { IfSome result (λ found. IsRankOf ranks.now found.0 (units_of found.1)) }
+{
+    let rank = ranks.get(object)?;
+    Some((rank, ranks.text(rank)?))
+}
+
+fn texts_of<'a>(
+    alloc: Global,
+    file: &BinFile<'a>,
+    keys: &Refs,
+) -> Result<Vec<TextRef<'a>>, AllocError>
+    requires { NameTexts (octets_of file.now) (numbers_of keys.now) }
+    ensures { IfOk result (λ texts. AreTexts (octets_of file.now) (numbers_of keys.now)
+        texts.items) }
+{
+    let mut texts = Vec::with_capacity(alloc, keys.len() as usize)?;
+    for place in 0..keys.len() {
+        texts.push(text_of(file, keys.get(place)))?;
+    }
+    Ok(texts)
+}
+
+// Returns the total length of the strings, in units.
+fn units_in(texts: &[TextRef]) -> u64 {
+    let mut units: u64 = 0;
+    for text in texts {
+        units = units.saturating_add(text.len() as u64);
+    }
+    units
+}
+
+// Returns the keys with these strings, sorted and numbered by sort prefixes if they are many.
+fn text_rows<'a>(alloc: Global, texts: Vec<TextRef<'a>>) -> Result<Rows<'a>, AllocError>
+    ensures texts { IfOk result (λ rows. rows.texts.items ≡ texts.entry.items) }
+    ensures rows { IfOk result (λ rows. AreRows texts.entry.items rows.list.items) }
+{
+    let mut list = Vec::with_capacity(alloc, texts.len())?;
+    for place in 0..texts.len() {
+        list.push(Row {
+            prefix: 0,
+            run: 0,
+            place: short(place as u64)?,
+        })?;
+    }
+    sort_by_prefixes(list.as_mut_slice(), &texts);
+    Ok(Rows { texts, list })
 }
 
 // Sorts the rows of a long dictionary by sort prefixes, and then each run of rows with equal
 // prefixes by those that follow. Each row gets its number here.
-fn sort_by_prefixes(rows: &mut [Row])
-    requires tell { All (λ row. All (TellsOrder row) rows.old) rows.old }
-    requires sorted { NeverFall rows.old }
-    ensures rows { (f keys : List ℕ) → AreRows f keys rows.old → AreRows f keys rows.new }
+fn sort_by_prefixes(rows: &mut [Row], texts: &[TextRef])
+    requires tell { All (λ row. All (TellsOrder texts.now row) rows.old) rows.old }
+    requires sorted { IsNonDecreasingBy number_of rows.old }
+    requires small { length rows.old ≤ 2 ^ 32 }
+    ensures tell { All (λ row. All (TellsOrder texts.now row) rows.new) rows.new }
+    ensures moved { IsPermutation (map place_of rows.old) (map place_of rows.new) }
     ensures long { length rows.new ≡ length rows.old }
 {
     if rows.len() <= FEW_KEYS {
         return;
     }
     for _ in 0..ROUNDS {
-        if numbers_ascend(&*rows) {
+        if numbers_rise(&*rows) {
             return;
         }
-        prefixes::sort_runs(&mut *rows);
+        prefixes::sort_runs(&mut *rows, texts);
     }
 }
 
 // Sorts the rows. The numbers of many keys usually suffice.
-fn sort_rows(rows: &mut Vec<Row>)
+fn sort_rows(rows: &mut Vec<Row>, texts: &[TextRef])
     ensures moved { IsPermutation rows.old.items rows.new.items }
-    ensures sorted { IsSorted by_number rows.new.items }
+    ensures sorted { IsSorted (by_number texts.now) rows.new.items }
 {
     if rows.len() > FEW_KEYS {
-        rows.sort_unstable_by_key(|row| row.number);
-        if numbers_ascend(&*rows) {
+        rows.sort_unstable_by_key(|row| row.number());
+        if numbers_rise(&*rows) {
             return;
         }
     }
-    rows.sort_unstable_by_key(|row| (row.number, row.text));
+    rows.sort_unstable_by(|row, other| compare(texts, row, other));
+}
+
+// Compares two rows by their numbers, and by their strings if these are equal.
+fn compare(texts: &[TextRef], row: &Row, other: &Row) -> Ordering
+    ensures { result ≡ by_number texts.now row.now other.now }
+{
+    match row.number().cmp(&other.number()) {
+        Ordering::Equal => text_at(texts, row).cmp(&text_at(texts, other)),
+        order => order,
+    }
 }
 
 // Returns whether each number is below the next.
-fn numbers_ascend(rows: &[Row]) -> bool
-    ensures { IsTrue result → IsSorted by_number rows.now }
+fn numbers_rise(rows: &[Row]) -> bool
+    ensures { IsTrue result → AllAdjacentBelow (λ row next. number_of row < number_of next)
+        rows.now (length rows.now) }
 {
     for i in 1..rows.len() {
-        if rows[i - 1].number >= rows[i].number {
+        if rows[i - 1].number() >= rows[i].number() {
             return false;
         }
     }
@@ -240,33 +300,35 @@ fn numbers_ascend(rows: &[Row]) -> bool
 }
 
 // Returns whether each string is below the next.
-fn ascend(rows: &[Row]) -> bool
-    requires { All (λ row. All (TellsOrder row) rows.now) rows.now }
-    ensures { IsTrue result ↔ IsStrictlySortedBy (slice_cmp nat_cmp) (map units_at rows.now) }
+fn ascend(rows: &[Row], texts: &[TextRef]) -> bool
+    requires { All (λ row. All (TellsOrder texts.now row) rows.now) rows.now }
+    ensures { IsTrue result
+        ↔ IsStrictlySortedBy (slice_cmp nat_cmp) (map (units_at texts.now) rows.now) }
 {
     for i in 1..rows.len() {
-        if !is_below(&rows[i - 1], &rows[i]) {
+        if !is_below(texts, &rows[i - 1], &rows[i]) {
             return false;
         }
     }
     true
 }
 
-fn is_below(row: &Row, next: &Row) -> bool
-    requires { TellsOrder row.now next.now }
-    ensures { IsTrue result
-        ↔ (slice_cmp nat_cmp (units_at row.now) (units_at next.now) ≡ Ordering.Less) }
+fn is_below(texts: &[TextRef], row: &Row, next: &Row) -> bool
+    requires { TellsOrder texts.now row.now next.now }
+    ensures { IsTrue result ↔ (slice_cmp nat_cmp (units_at texts.now row.now)
+        (units_at texts.now next.now) ≡ Ordering.Less) }
 {
-    row.number < next.number || row.text < next.text
+    row.number() < next.number() || text_at(texts, row) < text_at(texts, next)
 }
 
-// Returns the total length of the strings, in units.
-fn units_in(rows: &[Row]) -> u64 {
-    let mut units: u64 = 0;
-    for row in rows {
-        units = units.saturating_add(row.text.len() as u64);
+// Returns the string of the key.
+pub(crate) fn text_at<'a>(texts: &[TextRef<'a>], row: &Row) -> TextRef<'a>
+    ensures { units_of result ≡ units_at texts.now row.now }
+{
+    match texts.get(row.place as usize) {
+        Some(text) => *text,
+        None => TextRef::of_units(&[]),
     }
-    units
 }
 
 fn places_in_turn(alloc: Global, rows: &[Row]) -> Result<Vec<u32>, AllocError>
@@ -274,7 +336,7 @@ fn places_in_turn(alloc: Global, rows: &[Row]) -> Result<Vec<u32>, AllocError>
 {
     let mut places = Vec::with_capacity(alloc, rows.len())?;
     for row in rows {
-        places.push(short(row.place)?)?;
+        places.push(row.place)?;
     }
     Ok(places)
 }

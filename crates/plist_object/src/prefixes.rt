@@ -1,31 +1,30 @@
 //! Sort prefixes: numbers by which most keys of a long dictionary are compared.
-ghost use Rattle.std.specs.Prelude.{◌≡◌, ◌<◌, ◌≤◌, ◌+◌, ◌-◌, ℕ, List, All, map, take, drop, length};
-ghost use Rattle.std.specs.Prelude.{slice_index_or};
+ghost use Rattle.std.specs.List.Sorted.{IsNonDecreasingBy, IsPermutation};
+ghost use Rattle.std.specs.Prelude.{◌≡◌, ◌<◌, ◌≤◌, ◌+◌, ◌-◌, ◌^◌, ℕ, List, All, map, take, drop};
+ghost use Rattle.std.specs.Prelude.{length, slice_index_or};
 ghost use Rattle.plist_value.specs.Texts.{units_of};
-ghost use Rattle.plist_object.specs.KeyOrder.{AreRows, TellsOrder, units_at};
+ghost use Rattle.plist_object.specs.KeyOrder.{TellsOrder, number_of, place_of, units_at};
 ghost use Rattle.plist_object.specs.Prefixes.{behind, in_run, prefix_of, octet_of};
-ghost use Rattle.plist_object.specs.Prefixes.{IsRunSorted, NeverFall};
+ghost use Rattle.plist_object.specs.Prefixes.{IsRunSorted};
 
-use crate::order::Row;
+use crate::order::{Row, text_at};
 use plist_value::TextRef;
-
-// One more than the greatest sort prefix.
-const PREFIXES: u128 = 0x1_0000_0000_0000_0000;
 
 // Sorts each run of rows with equal numbers by sort prefixes of the units after those that the run
 // shares, and numbers the rows anew.
-pub(crate) fn sort_runs(rows: &mut [Row])
-    requires tell { All (λ row. All (TellsOrder row) rows.old) rows.old }
-    requires sorted { NeverFall rows.old }
-    ensures tell { All (λ row. All (TellsOrder row) rows.new) rows.new }
-    ensures sorted { NeverFall rows.new }
-    ensures rows { (f keys : List ℕ) → AreRows f keys rows.old → AreRows f keys rows.new }
+pub(crate) fn sort_runs(rows: &mut [Row], texts: &[TextRef])
+    requires tell { All (λ row. All (TellsOrder texts.now row) rows.old) rows.old }
+    requires sorted { IsNonDecreasingBy number_of rows.old }
+    requires small { length rows.old ≤ 2 ^ 32 }
+    ensures tell { All (λ row. All (TellsOrder texts.now row) rows.new) rows.new }
+    ensures sorted { IsNonDecreasingBy number_of rows.new }
+    ensures moved { IsPermutation (map place_of rows.old) (map place_of rows.new) }
     ensures long { length rows.new ≡ length rows.old }
 {
     let mut start = 0;
     while start < rows.len() {
         let end = run_end(&*rows, start);
-        sort_run(&mut rows[start..end], start);
+        sort_run(&mut rows[start..end], texts, start as u32);
         start = end;
     }
 }
@@ -35,11 +34,11 @@ fn run_end(rows: &[Row], start: usize) -> usize
     requires { start < length rows.now }
     ensures within { (start < result) × (result ≤ length rows.now) }
     ensures rises { result < length rows.now → (d : Row)
-        → (slice_index_or rows.now (result - 1) d).number
-        < (slice_index_or rows.now result d).number }
+        → number_of (slice_index_or rows.now (result - 1) d)
+        < number_of (slice_index_or rows.now result d) }
 {
     for end in start + 1..rows.len() {
-        if rows[end - 1].number < rows[end].number {
+        if rows[end - 1].number() < rows[end].number() {
             return end;
         }
     }
@@ -47,38 +46,38 @@ fn run_end(rows: &[Row], start: usize) -> usize
 }
 
 // Sorts the rows of the run that begins at index `start` of all rows.
-fn sort_run(rows: &mut [Row], start: usize)
-    ensures sorted { IsRunSorted start rows.old rows.new }
+fn sort_run(rows: &mut [Row], texts: &[TextRef], start: u32)
+    ensures sorted { IsRunSorted texts.now start rows.old rows.new }
     ensures long { length rows.new ≡ length rows.old }
 {
-    let front = shared(&*rows);
-    fill(&mut *rows, start, front);
-    // The rows differ in these bits alone, which are faster to compare.
-    rows.sort_unstable_by_key(|row| (row.number % PREFIXES) as u64);
+    let front = shared(&*rows, texts);
+    fill(&mut *rows, texts, start, front);
+    rows.sort_unstable_by_key(|row| row.prefix);
 }
 
 // Returns the number of leading units that all strings share.
-fn shared(rows: &[Row]) -> usize
+fn shared(rows: &[Row], texts: &[TextRef]) -> usize
     ensures { (first : List ℕ)
-        × All (λ row. take result (units_at row) ≡ take result first) rows.now }
+        × All (λ row. take result (units_at texts.now row) ≡ take result first) rows.now }
 {
     let [first, others @ ..] = rows else {
         return 0;
     };
-    let mut count = first.text.len();
+    let first = text_at(texts, first);
+    let mut count = first.len();
     for row in others {
-        count = alike(&first.text, &row.text, count);
+        count = alike(&first, &text_at(texts, row), count);
     }
     count
 }
 
 // Numbers each row by its run, and then by the sort prefix of its units after the first `front`.
-fn fill(rows: &mut [Row], start: usize, front: usize)
-    ensures { rows.new ≡ map (in_run start front) rows.old }
+fn fill(rows: &mut [Row], texts: &[TextRef], start: u32, front: usize)
+    ensures { rows.new ≡ map (in_run texts.now start front) rows.old }
 {
-    let base = PREFIXES * start as u128;
     for row in rows.iter_mut() {
-        row.number = base + u128::from(sort_prefix(&row.text, front));
+        row.run = start;
+        row.prefix = sort_prefix(&text_at(texts, row), front);
     }
 }
 

@@ -1,21 +1,23 @@
 use Rattle.std.proofs.Common.{◌-◌, map, refl, arith}
-use Rattle.std.proofs.lemmas.List.{length-map}
+use Rattle.std.proofs.lemmas.List.{get_or_default, length-map}
 use Rattle.plist_object.specs.KeyOrder.{units_at}
-use Rattle.plist_object.proofs.Ascents.{ascend_more, not_ascending, sorted_from_ascent}
+use Rattle.plist_object.proofs.Ascents.{ascend_next, not_ascending, sorted_from_ascent}
 use Rattle.plist_object.proofs.order.ascend.Goals as goal
 
 pub returns-then-not-is_below : goal.returns-then-not-is_below
 returns-then-not-is_below c =
-    (λ wrong. absurd (cc), λ sorted. absurd (not_ascending units_at c.args.rows.now c.loop-i.i _ _ c.is_below.result (omega arith) (omega arith) c.index-rows-i.is c.index-rows-i-in-loop-i.is c.is_below.ensures c.if-not-is_below.true sorted))
+    let rows = c.args.rows.now in
+    let i = c.loop-i.i in
+    (λ wrong. absurd (cc), λ sorted. absurd (not_ascending (units_at c.args.texts.now) rows i _ _ c.is_below.result (omega arith) (omega arith) (get_or_default rows (i - 1) _ _ (omega arith)) (get_or_default rows i _ _ (omega arith)) c.is_below.ensures c.if-not-is_below.true sorted))
 
 pub loop-i-preserved : goal.loop-i-preserved
 loop-i-preserved c =
-    ascend_more units_at c.args.rows.now c.loop-i.i _ _ c.is_below.result (omega arith) (omega arith) c.index-rows-i.is c.index-rows-i-in-loop-i.is c.is_below.ensures c.if-not-is_below.false c.loop-i.invariant
+    ascend_next (units_at c.args.texts.now) c.args.rows.now c.loop-i.i _ _ (omega arith) (omega arith) (c.is_below.ensures.0 c.if-not-is_below.false) c.loop-i.invariant
 
 pub returns : goal.returns
 returns c =
-    let keys = map units_at c.args.rows.now in
-    (λ _. sorted_from_ascent keys (λ k h. c.loop-i.invariant k (omega (arith, length-map c.args.rows.now units_at))), λ _. refl)
+    let strings = units_at c.args.texts.now in
+    (λ _. sorted_from_ascent (map strings c.args.rows.now) (λ k h. c.loop-i.invariant k (omega (arith, length-map c.args.rows.now strings))), λ _. refl)
 
 pub is_below-requires : goal.is_below-requires
-is_below-requires c = rw (c.index-rows-i.is, c.index-rows-i-in-loop-i.is) (c.requires (c.loop-i.i - 1) _ (omega arith) c.loop-i.i _ (omega arith))
+is_below-requires c = c.requires (c.loop-i.i - 1) _ (omega arith) c.loop-i.i _ (omega arith)

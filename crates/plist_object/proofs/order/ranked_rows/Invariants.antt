@@ -1,13 +1,15 @@
-use Rattle.std.proofs.Common.{◌≡◌, map}
+use Rattle.std.proofs.Common.{◌≡◌, ◌<◌, ℕ, length, map}
 use Rattle.std.specs.Prelude.{All}
 use Rattle.std.specs.List.{range_with_len}
 use Rattle.plist_object.specs.Views.{octets_of, numbers_of}
-use Rattle.plist_object.specs.KeyOrder.{HoldsRow, IsRankedRow, place_of}
+use Rattle.plist_object.specs.KeyOrder.{HoldsString, place_of}
+use Rattle.plist_object.proofs.KeyOrders.{IsRankedRow}
 use Rattle.plist_object.proofs.order.ranked_rows.Given as goal
 
 abbrev pub invariant-loop-place : goal.invariant-loop-place
 invariant-loop-place l = record {
-  places : map place_of l.rows.items ≡ range_with_len 0 l.place;
-  held : All (HoldsRow (octets_of l.file) (numbers_of l.keys)) l.rows.items;
-  ranked : All (IsRankedRow l.ranks) l.rows.items;
+  long : length l.texts.items ≡ l.place;
+  held : (k : ℕ) → k < l.place → HoldsString (octets_of l.file) (numbers_of l.keys) l.texts.items k;
+  places : map place_of l.list.items ≡ range_with_len 0 l.place;
+  ranked : All (IsRankedRow l.ranks l.texts.items) l.list.items;
 }

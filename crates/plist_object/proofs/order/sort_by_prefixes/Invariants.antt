@@ -1,13 +1,13 @@
-use Rattle.std.proofs.Common.{◌≡◌, ℕ, List, length}
+use Rattle.std.proofs.Common.{◌≡◌, length, map}
 use Rattle.std.specs.Prelude.{All}
-use Rattle.plist_object.specs.KeyOrder.{AreRows, TellsOrder}
-use Rattle.plist_object.specs.Prefixes.{NeverFall}
+use Rattle.std.specs.List.Sorted.{IsNonDecreasingBy, IsPermutation}
+use Rattle.plist_object.specs.KeyOrder.{TellsOrder, number_of, place_of}
 use Rattle.plist_object.proofs.order.sort_by_prefixes.Given as goal
 
 abbrev pub invariant-loop : goal.invariant-loop
 invariant-loop l = record {
-  tell : All (λ row. All (TellsOrder row) l.rows) l.rows;
-  sorted : NeverFall l.rows;
-  rows : (f keys : List ℕ) → AreRows f keys l.initial.rows → AreRows f keys l.rows;
+  tell : All (λ row. All (TellsOrder l.texts row) l.rows) l.rows;
+  sorted : IsNonDecreasingBy number_of l.rows;
+  moved : IsPermutation (map place_of l.initial.rows) (map place_of l.rows);
   long : length l.rows ≡ length l.initial.rows;
 }

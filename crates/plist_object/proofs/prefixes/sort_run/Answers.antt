@@ -1,4 +1,4 @@
-use Rattle.std.proofs.Common.{rules, ◌%◌, ◌^◌, List, map, subst}
+use Rattle.std.proofs.Common.{rules, List, map, subst}
 use Rattle.std.specs.List.Sorted.{IsPermutation}
 use Rattle.std.proofs.lemmas.List.Sorted.{answers_always}
 use Rattle.plist_object.specs.declared.order.Row.{Row}
@@ -8,12 +8,13 @@ use Rattle.plist_object.proofs.prefixes.sort_run.Goals as goal
 
 pub returns-clause-sorted : goal.returns-clause-sorted
 returns-clause-sorted c =
+    let texts = c.args.texts.now in
     let now = c.sort_unstable_by_key.new.self in
-    let moved : IsPermutation (map (in_run c.args.start c.shared-front.result) c.args.rows.now) now = subst (λ (rows : List Row). IsPermutation rows now) c.fill.ensures c.sort_unstable_by_key.ensures.permutation in
+    let moved : IsPermutation (map (in_run texts c.args.start c.shared-front.result) c.args.rows.now) now = subst (λ (rows : List Row). IsPermutation rows now) c.fill.ensures c.sort_unstable_by_key.ensures.permutation in
     record {
       front = c.shared-front.result;
       first = c.shared-front.ensures.0;
       shared = c.shared-front.ensures.1;
       moved = moved;
-      sorted = sorted_by_prefix c.args.start c.shared-front.result c.args.rows.now now moved (c.sort_unstable_by_key.ensures.sorted (λ row. row.number % 2 ^ 64) (answers_always _ _ _ (λ f a r g h. search rules)));
+      sorted = sorted_by_prefix texts c.args.start c.shared-front.result c.args.rows.now now moved (c.sort_unstable_by_key.ensures.sorted (λ row. row.prefix) (answers_always _ _ _ (λ f a r g h. search rules)));
     }

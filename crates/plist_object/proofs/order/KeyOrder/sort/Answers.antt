@@ -2,39 +2,49 @@ use Rattle.std.proofs.Common.{◌≡◌, ℕ, List, map, subst, sym, ap, ◌∙�
 use Rattle.std.specs.Prelude.{All, IsTrue, ◌↔◌}
 use Rattle.std.specs.Ordering.{nat_cmp}
 use Rattle.std.specs.Cmp.Lexicographic.{slice_cmp}
-use Rattle.std.specs.List.Sorted.{IsStrictlySortedBy}
+use Rattle.std.specs.List.Sorted.{IsSorted, IsStrictlySortedBy}
+use Rattle.plist_value.specs.declared.text_ref.TextRef.{TextRef}
 use Rattle.plist_object.specs.Views.{octets_of, numbers_of}
 use Rattle.plist_object.specs.declared.order.Row.{Row}
 use Rattle.plist_object.specs.Order.{Ascend, IsInOrder}
-use Rattle.plist_object.specs.KeyOrder.{TellsOrder, place_of, units_at}
+use Rattle.plist_object.specs.KeyOrder.{TellsOrder, by_number, place_of, units_at}
 use Rattle.plist_object.proofs.KeyOrders.{IsInOrder-rows, moved_rows, strings-rows}
 use Rattle.plist_object.proofs.order.KeyOrder.sort.Goals as goal
+
+pub ascend-self-requires : goal.ascend-self-requires
+ascend-self-requires c =
+    let rows = c.in_ok-texts.field-0 in
+    let sorted = c.sort_rows.new.rows.items in
+    let now = moved_rows rows.texts.items rows.list.items sorted c.sort_rows.ensures.moved c.in_ok-texts.ensures.rows in
+    subst (λ (ts : List TextRef). All (λ row. All (TellsOrder ts row) c.deref-2.result.now) c.deref-2.result.now) (sym c.deref-3.ensures.value) (subst (λ (rs : List Row). All (λ row. All (TellsOrder rows.texts.items row) rs) rs) (sym c.deref-2.ensures.value) now.tell)
 
 pub returns-2-clause-order : goal.returns-2-clause-order
 returns-2-clause-order c =
     let f = octets_of c.args.file.now in
     let keys = numbers_of c.args.keys.now in
+    let rows = c.in_ok-texts.field-0 in
     let sorted = c.sort_rows.new.rows.items in
-    let order = IsInOrder-rows f keys c.in_ok-rows.rows.items sorted c.in_ok-rows.ensures.rows c.sort_rows.ensures.moved c.sort_rows.ensures.sorted in
-    subst (λ (ps : List ℕ). IsInOrder f keys ps) (sym (c.in_ok-self.ensures ∙ ap (map place_of) c.deref-2.ensures.value)) order
-
-pub ascend-self-requires : goal.ascend-self-requires
-ascend-self-requires c =
-    subst (λ (rows : List Row). All (λ row. All (TellsOrder row) rows) rows) (sym c.deref.ensures.value) (moved_rows (octets_of c.args.file.now) (numbers_of c.args.keys.now) c.in_ok-rows.rows.items c.sort_rows.new.rows.items c.sort_rows.ensures.moved c.in_ok-rows.ensures.rows).tell
+    let by : IsSorted (by_number rows.texts.items) sorted = subst (λ (ts : List TextRef). IsSorted (by_number ts) sorted) c.deref.ensures.value c.sort_rows.ensures.sorted in
+    let order = IsInOrder-rows f keys rows.texts.items rows.list.items sorted c.in_ok-texts.ensures.texts c.in_ok-texts.ensures.rows c.sort_rows.ensures.moved by in
+    subst (λ (ps : List ℕ). IsInOrder f keys ps) (sym (c.in_ok-self.ensures ∙ ap (map place_of) c.deref-4.ensures.value)) order
 
 pub returns-2-clause-distinct : goal.returns-2-clause-distinct
 returns-2-clause-distinct c =
     let f = octets_of c.args.file.now in
     let keys = numbers_of c.args.keys.now in
+    let rows = c.in_ok-texts.field-0 in
+    let texts = rows.texts.items in
     let sorted = c.sort_rows.new.rows.items in
-    let places : c.in_ok-self.field-0.items ≡ map place_of sorted = c.in_ok-self.ensures ∙ ap (map place_of) c.deref-2.ensures.value in
-    let rows : IsTrue c.ascend-self.result ↔ IsStrictlySortedBy (slice_cmp nat_cmp) (map units_at sorted) = subst (λ (rs : List Row). IsTrue c.ascend-self.result ↔ IsStrictlySortedBy (slice_cmp nat_cmp) (map units_at rs)) c.deref.ensures.value c.ascend-self.ensures in
-    let strings : IsTrue c.ascend-self.result ↔ Ascend f keys (map place_of sorted) = subst (λ (ts : List (List ℕ)). IsTrue c.ascend-self.result ↔ IsStrictlySortedBy (slice_cmp nat_cmp) ts) (sym (strings-rows f keys sorted (moved_rows (octets_of c.args.file.now) (numbers_of c.args.keys.now) c.in_ok-rows.rows.items c.sort_rows.new.rows.items c.sort_rows.ensures.moved c.in_ok-rows.ensures.rows).held)) rows in
-    subst (λ (ps : List ℕ). IsTrue c.ascend-self.result ↔ Ascend f keys ps) (sym places) strings
+    let distinct = c.ascend-self.result in
+    let now = moved_rows texts rows.list.items sorted c.sort_rows.ensures.moved c.in_ok-texts.ensures.rows in
+    let places : c.in_ok-self.field-0.items ≡ map place_of sorted = c.in_ok-self.ensures ∙ ap (map place_of) c.deref-4.ensures.value in
+    let strings : map (units_at c.deref-3.result.now) c.deref-2.result.now ≡ map (units_at texts) sorted = ap (λ (ts : List TextRef). map (units_at ts) c.deref-2.result.now) c.deref-3.ensures.value ∙ ap (map (units_at texts)) c.deref-2.ensures.value in
+    let at : IsTrue distinct ↔ Ascend f keys (map place_of sorted) = subst (λ (ts : List (List ℕ)). IsTrue distinct ↔ IsStrictlySortedBy (slice_cmp nat_cmp) ts) (strings ∙ sym (strings-rows f keys texts sorted c.in_ok-texts.ensures.texts now)) c.ascend-self.ensures in
+    subst (λ (ps : List ℕ). IsTrue distinct ↔ Ascend f keys ps) (sym places) at
 
 pub returns-2-clause-ready : goal.returns-2-clause-ready
 returns-2-clause-ready c = record {
   last = record { order = returns-2-clause-order c; tells = returns-2-clause-distinct c };
-  ascending = c.in_ok-rows.ensures.ready.ascending;
-  ranks = c.in_ok-rows.ensures.ready.ranks;
+  ascending = c.in_ok-texts.ensures.ready.ascending;
+  ranks = c.in_ok-texts.ensures.ready.ranks;
 }
