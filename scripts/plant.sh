@@ -17,9 +17,16 @@ fi
 copied
 proved_below "${names[@]}" || exit 1
 
-# Tries wrong bodies in one crate, and prints those that its contracts accept.
+# Tries wrong bodies in one crate, and prints those that its contracts accept. The toolchain locks a crate and all below
+# it, and some of those may be planted too, so each crate is planted in a copy of its own. All but the crate are links.
 plant() {
-    (cd "$copy/crates/$1" && rt plant --minutes "${MINUTES:-4}" --jobs 1) > "$copy/$1.log" 2>&1 || {
+    local own=$copy/apart/$1
+    mkdir -p "$own"
+    cp "$copy"/crates.txt "$copy"/HANDLES "$own/"
+    cp -al "$copy/crates" "$own/"
+    rm -rf "$own/crates/$1"
+    cp -a "$copy/crates/$1" "$own/crates/"
+    (cd "$own/crates/$1" && rt plant --minutes "${MINUTES:-4}" --jobs 1) > "$copy/$1.log" 2>&1 || {
         echo "$1: not planted"
         tail -n 5 "$copy/$1.log" | sed 's/^/    /'
         return 1
