@@ -1,20 +1,20 @@
 -- What a draft contains for the tokens read, built from its parts.
-use Rattle.std.proofs.Common.{◌≡◌, ℕ, List, [], ◌∷◌, ◌++◌, length, refl, sym, ap, subst, ◌∙◌, arith, length-append}
+use Rattle.std.proofs.Common.{◌≡◌, ℕ, List, [], ◌∷◌, ◌++◌, length, refl, sym, ap, subst, arith, length-append}
 use Rattle.std.specs.List.{zip}
 use Rattle.plist_value.specs.Plist.{text, bytes, Items, no_items, item, Pairs, no_pairs, pair, IsPlist, AreItems, ArePairs}
 use Rattle.plist_object.specs.Objects.{Held, holds_scalar, holds_list, holds_table}
 use Rattle.plist_object.specs.Spelled.{SpellItems, SpellPairs}
-use Rattle.ostep_lex.specs.Lexeme.{Lexeme, Placed, brace_open, brace_close, paren_open, paren_close, comma, semicolon, equals, text as string, octets as data_token}
+use Rattle.ostep_lex.specs.Lexeme.{Lexeme, Placed, brace_open, brace_close, paren_open, paren_close, semicolon, equals, text as string, octets as data_token}
 use Rattle.ostep_lex.specs.Lexing.{HasTokens}
 use Rattle.ostep_lex.specs.Cursor.{StandsBehind}
 use Rattle.ostep_lex.specs.declared.cursor.Cursor.{Cursor}
 use Rattle.ostep_text.proofs.SortingSteps.{pairs-ascend}
-use Rattle.ostep_text.proofs.ReadSteps.{string-read, data-read, list-read, table-read, no-items-read, item-read, last_item-read, items-read, ended-read, row-read, alone-read, no-rows-read, row-more-read, rows-read, whole-phrase, rows-phrase}
+use Rattle.ostep_text.proofs.ReadSteps.{string-read, data-read, list-read, table-read, no-items-read, EndsItem, item-read, items-read, ended-read, row-read, alone-read, no-rows-read, row-more-read, rows-read, whole-phrase, rows-phrase}
 use Rattle.ostep_draft.specs.Held.{AllRemain, Puts}
 use Rattle.ostep_draft.specs.Read.{ReadsValue, ReadsItems, ReadsRow, ReadsRows, Says, AreRows}
 use Rattle.ostep_draft.specs.Drafted.{DraftsValue, DraftsEnded, DraftsItems, DraftsRow, DraftsRows, DraftsText}
 use Rattle.ostep_draft.proofs.Orders.{in-turn, turned-rows, push-rows}
-use Rattle.ostep_draft.proofs.Spelling.{holds-old, scalar-spelled, list-spelled, table-spelled, key-spelled, last-item, push-items, LastRow, last-row, zip-push}
+use Rattle.ostep_draft.proofs.Spelling.{holds-old, scalar-spelled, list-spelled, table-spelled, key-spelled, last-item, push-items, last-row, zip-more}
 
 pub more-even : {all_keys all_values : List ℕ} (keys values : List ℕ) (k v : ℕ) → all_keys ≡ keys ++ k ∷ [] → all_values ≡ values ++ v ∷ [] → length keys ≡ length values
     → length all_keys ≡ length all_values
@@ -71,21 +71,13 @@ module _ {octets : List ℕ} {tokens : List Placed} {begin first_read value_read
     (is : all_refs ≡ refs ++ number ∷ []) (kept : AllRemain old new) (before : DraftsItems octets tokens [] refs old begin) (steps : StepsBy octets begin first first_read)
     (value : (all : List Placed) → StandsBehind octets (all ++ first ∷ []) first_read → DraftsValue octets all first.lexeme number new value_read)
     (behind : StepsBy octets value_read token after) where
-  pub drafts-more : token.lexeme ≡ comma → DraftsItems octets tokens [] all_refs new after
-  drafts-more e f holds vs valid s =
+  pub drafts-more : {l : Lexeme} {end : List Lexeme} → EndsItem l end → token.lexeme ≡ l → DraftsItems octets tokens end all_refs new after
+  drafts-more {end = end} ends e f holds vs valid s =
       let l = last-item f refs number vs (subst (λ x. SpellItems f x vs) is s) in
       let are = push-items l.before l.last (subst AreItems l.is valid) in
       let r = before f (holds-old old new kept holds) l.before are.0 l.spell in
       let v = value r.reads.all (steps r.reads.all r.reads.has) f holds l.last are.1 l.spell_last in
-      subst (λ x. ReadsItems octets tokens [] x after) (sym l.is) (item-read r v token e (behind v.reads.all v.reads.has))
-
-  pub drafts-last : token.lexeme ≡ paren_close → DraftsItems octets tokens (paren_close ∷ []) all_refs new after
-  drafts-last e f holds vs valid s =
-      let l = last-item f refs number vs (subst (λ x. SpellItems f x vs) is s) in
-      let are = push-items l.before l.last (subst AreItems l.is valid) in
-      let r = before f (holds-old old new kept holds) l.before are.0 l.spell in
-      let v = value r.reads.all (steps r.reads.all r.reads.has) f holds l.last are.1 l.spell_last in
-      subst (λ x. ReadsItems octets tokens (paren_close ∷ []) x after) (sym l.is) (last_item-read r v token e (behind v.reads.all v.reads.has))
+      subst (λ x. ReadsItems octets tokens end x after) (sym l.is) (item-read r v token ends e (behind v.reads.all v.reads.has))
 
 pub drafts-ended : {octets : List ℕ} {mid after : Cursor} (helds : List Held) (tokens : List Placed) (first : Placed) (number : ℕ) (token : Placed) → token.lexeme ≡ semicolon
     → DraftsValue octets tokens first.lexeme number helds mid → StepsBy octets mid token after → DraftsEnded octets tokens number helds after
@@ -124,15 +116,9 @@ module _ {octets : List ℕ} {tokens : List Placed} {begin key_read after : Curs
     (keys_are : all_keys ≡ keys ++ row.0 ∷ []) (values_are : all_values ≡ values ++ row.1 ∷ []) (even : length keys ≡ length values) (kept : AllRemain old new)
     (before : DraftsRows octets tokens [] keys values old begin) (steps : StepsBy octets begin at key_read)
     (reads : (all : List Placed) → StandsBehind octets (all ++ at ∷ []) key_read → DraftsRow octets all row new after) where
-  zipped : zip all_keys all_values ≡ zip keys values ++ row ∷ []
-  zipped = ap (λ l. zip l all_values) keys_are ∙ ap (λ l. zip (keys ++ row.0 ∷ []) l) values_are ∙ zip-push keys values row.0 row.1 even
-
-  the-last : (f : List ℕ) (rows : Pairs) → SpellPairs f (zip all_keys all_values) rows → LastRow f (zip keys values) row rows
-  the-last f rows s = last-row f (zip keys values) row rows (subst (λ x. SpellPairs f x rows) zipped s)
-
   pub drafts-row-more : DraftsRows octets tokens [] all_keys all_values new after
   drafts-row-more f holds rows valid s =
-      let l = the-last f rows s in
+      let l = last-row f (zip keys values) row rows (subst (λ x. SpellPairs f x rows) (zip-more keys all_keys values all_values row keys_are values_are even) s) in
       let are = push-rows l.before l.key l.last (subst AreRows l.is valid) in
       let r = before f (holds-old old new kept holds) l.before are.2 l.spell in
       let w = reads r.reads.all (steps r.reads.all r.reads.has) f holds l.key l.last are.0 l.spell_key l.spell_last in

@@ -20,7 +20,7 @@ use Rattle.ostep_draft.specs.First.{ends_list, ends_table}
 use Rattle.ostep_draft.specs.Held.{AllRemain, Puts, PutsString}
 use Rattle.ostep_draft.specs.Left.{AreLeft, IsFirst}
 use Rattle.ostep_draft.specs.Found.{Allows, SpellsRow}
-use Rattle.ostep_draft.proofs.Spelling.{zip-push}
+use Rattle.ostep_draft.proofs.Spelling.{zip-more}
 use Rattle.ostep_draft.proofs.Phrases.{string-is, data-is, closes-list, items-end-here, ItemsBegin, items-begin, follows-last, follows-more, closes-table, rows-end-here, rows-none, RowsBegin, rows-begin}
 
 -- what is allowed at first
@@ -237,9 +237,8 @@ rows-next {ps = ps} row old new keys all_keys values all_values i b keys_are val
   spells = λ helds more k s.
       let one : SpellPairsIn helds (row ∷ more) i.others =
       subst (λ x. SpellPairsIn helds (row ∷ more) x) (sym b.is) (k row.0 (holds_scalar (text b.key)) r.0.0, SpellsBy-told (Tells new) (Tells helds) k row.1 b.value r.0.1, s) in
-      let zipped : zip all_keys all_values ≡ zip keys values ++ row ∷ [] =
-      ap (λ x. zip x all_values) keys_are ∙ ap (λ x. zip (keys ++ row.0 ∷ []) x) values_are ∙ zip-push keys values row.0 row.1 even in
-      let same : zip keys values ++ row ∷ more ≡ zip all_keys all_values ++ more = sym (append_assoc (zip keys values) (row ∷ []) more) ∙ ap (λ x. x ++ more) (sym zipped) in
+      let same : zip keys values ++ row ∷ more ≡ zip all_keys all_values ++ more =
+      sym (append_assoc (zip keys values) (row ∷ []) more) ∙ ap (λ x. x ++ more) (sym (zip-more keys all_keys values all_values row keys_are values_are even)) in
       subst (λ x. SpellPairsIn helds x ps) same (i.spells helds (row ∷ more) (λ n held h. k n held (kept n held h)) one);
 }
 

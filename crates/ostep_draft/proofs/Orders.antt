@@ -1,5 +1,5 @@
 -- The rows of a dictionary in the order of the text: the same entries, without duplicate keys.
-use Rattle.std.proofs.Common.{◌≡◌, ℕ, zero, suc, ◌<◌, false, List, [], ◌∷◌, length, get_or, set, refl, sym, subst, ◌∙◌, arith}
+use Rattle.std.proofs.Common.{◌≡◌, ℕ, zero, suc, ◌<◌, false, List, [], ◌∷◌, length, get_or, set, sym, subst, ◌∙◌, arith}
 use Rattle.std.specs.Prelude.{nat_eq}
 use Rattle.std.specs.List.{swap, zip}
 use Rattle.std.specs.List.Sorted.{IsPermutation}
@@ -11,7 +11,7 @@ use Rattle.plist_object.specs.Spelled.{SpellPairs}
 use Rattle.ostep_text.specs.Sorting.{has_key, StandsAmong, first, later, AreReordered, none, row}
 use Rattle.ostep_text.proofs.PhraseSteps.{push_row, has_key-head, has_key-tail, or-none, apart-sym}
 use Rattle.ostep_text.proofs.SortedLemmas.{low_key}
-use Rattle.ostep_text.proofs.SortingSteps.{reordered-has, pairs-ascend, exchange}
+use Rattle.ostep_text.proofs.SortingSteps.{as-they-are, reordered-has, pairs-ascend, exchange}
 use Rattle.ostep_draft.specs.Read.{AreRows}
 
 -- the same elements in another order
@@ -45,10 +45,6 @@ record Turned (f : List ℕ) (refs : List (ℕ × ℕ)) (ps : Pairs) : Type 0 wh
   spell : SpellPairs f refs rows
   same : AreReordered rows ps
 
-turn-same : (ps : Pairs) → AreReordered ps ps
-turn-same no_pairs = none
-turn-same (pair key v ps) = row (turn-same ps) first
-
 turn : {f : List ℕ} {refs moved : List (ℕ × ℕ)} {ps : Pairs} → Moves refs moved → (rows : Pairs) → SpellPairs f refs rows → AreReordered rows ps → Turned f moved ps
 turn still rows s r = record { rows = rows; spell = s; same = r }
 turn (then m n) rows s r = let t = turn m rows s r in turn n t.rows t.spell t.same
@@ -70,7 +66,7 @@ pub record InTurn (f keys values : List ℕ) (ps : Pairs) : Type 0 where
 
 pub in-turn : (f keys values : List ℕ) (refs : List (ℕ × ℕ)) (ps : Pairs) → IsPermutation (zip keys values) refs → SpellPairs f refs ps → InTurn f keys values ps
 in-turn f keys values refs ps p s =
-    let t = turn (moves refs (zip keys values) (IsPermutation-sym (zip keys values) refs p)) ps s (turn-same ps) in
+    let t = turn (moves refs (zip keys values) (IsPermutation-sym (zip keys values) refs p)) ps s (as-they-are ps) in
     record { rows = t.rows; spell = t.spell; same = t.same }
 
 -- if no row has a key, then neither one of the rows nor the others have it
@@ -103,18 +99,10 @@ pairs-rows (pair key v ps) a = (a.1, low_key key ps a.2 (pairs-ascend ps a.3), p
 pub turned-rows : {rows ps : Pairs} → AreReordered rows ps → ArePairs ps → AreRows rows
 turned-rows {ps = ps} r a = reordered-rows r (pairs-rows ps a)
 
--- the last of some rows
-push-head : (next key : List ℕ) (v : Plist) (rows : Pairs) → has_key next (push_row rows key v) ≡ false → pointwise nat_eq next key ≡ false
-push-head next key v no_pairs e = has_key-head next key v no_pairs e
-push-head next key v (pair n w rows) e = push-head next key v rows (has_key-tail next n w (push_row rows key v) e)
-
-push-tail : (next key : List ℕ) (v : Plist) (rows : Pairs) → has_key next (push_row rows key v) ≡ false → has_key next rows ≡ false
-push-tail next key v no_pairs e = refl
-push-tail next key v (pair n w rows) e =
-    or-none (pointwise nat_eq next n) (has_key next rows) (has_key-head next n w (push_row rows key v) e) (push-tail next key v rows (has_key-tail next n w (push_row rows key v) e))
+-- the last of some rows stands among them
+push-among : (rows : Pairs) (key : List ℕ) (v : Plist) → StandsAmong key v rows (push_row rows key v)
+push-among no_pairs key v = first
+push-among (pair n w rows) key v = later (push-among rows key v)
 
 pub push-rows : (rows : Pairs) (key : List ℕ) (v : Plist) → AreRows (push_row rows key v) → IsPlist v × (has_key key rows ≡ false) × AreRows rows
-push-rows no_pairs key v a = (a.0, refl, tt)
-push-rows (pair n w rows) key v a =
-    let r = push-rows rows key v a.2 in
-    (r.0, or-none (pointwise nat_eq key n) (has_key key rows) (apart-sym n key (push-head n key v rows a.1)) r.1, (a.0, push-tail n key v rows a.1, r.2))
+push-rows rows key v a = among-rows (push-among rows key v) a

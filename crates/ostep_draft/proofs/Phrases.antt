@@ -1,7 +1,6 @@
 -- What the tokens at the start of a phrase tell of it.
-use Rattle.std.proofs.Common.{◌≡◌, ℕ, ◌≤◌, true, false, List, [], ◌∷◌, refl, sym, ap, subst, ◌∙◌, arith}
+use Rattle.std.proofs.Common.{◌≡◌, ℕ, true, false, List, [], ◌∷◌, refl, sym, ap, subst, ◌∙◌}
 use Rattle.plist_value.specs.Plist.{Plist, scalar, text, bytes, list, table, Items, no_items, item, Pairs, no_pairs, pair}
-use Rattle.plist_value.specs.Limits.{depth, nodes}
 use Rattle.ostep_lex.specs.Lexeme.{Lexeme, brace_open, brace_close, paren_open, paren_close, comma, semicolon, equals, text as string, octets as data_token, lexeme_of}
 use Rattle.ostep_lex.specs.declared.token.TokenKind.{TokenKind}
 use Rattle.ostep_lex.specs.declared.token.TokenKind.TheVariants.{ParenClose, Comma, Semicolon, Equals, Text}
@@ -13,14 +12,6 @@ use Rattle.ostep_text.specs.Machine.{ended, after_key, in_list, in_braces, top, 
 use Rattle.ostep_text.proofs.MachineLemmas.{item-ended, row-ended, key-ended}
 use Rattle.ostep_draft.specs.First.{ends_list, ends_table}
 use Rattle.ostep_draft.specs.Left.{is_bare}
-
-pub depth-some : (v : Plist) → 1 ≤ depth v
-depth-some (scalar s) = omega arith
-depth-some _ = omega arith
-
-pub nodes-some : (v : Plist) → 1 ≤ nodes v
-nodes-some (scalar s) = omega arith
-nodes-some _ = omega arith
 
 pub value-some : {tokens rest : List Lexeme} {v : Plist} → Phrase tokens v rest → ¬ (tokens ≡ [])
 value-some a_string e = cc e
@@ -129,14 +120,19 @@ pub rows-some : {l : Lexeme} {tokens behind : List Lexeme} {rows : Pairs} → Ro
 rows-some rows_end e = cc e
 rows-some (a_row p r d) e = row-some p e
 
-row-first : {first : Lexeme} {tokens rest : List Lexeme} {key : List ℕ} {v : Plist} → RowPhrase (first ∷ tokens) key v rest → first ≡ string key
-row-first (with_value p) = refl
-row-first key_alone = refl
+-- what follows a key: `=` and a value, or `;`
+pub data BehindKey (key : List ℕ) (v : Plist) (behind : List Lexeme) : List Lexeme → Type 0 where
+  with_equals : {rest : List Lexeme} → Phrase rest v (semicolon ∷ behind) → BehindKey key v behind (equals ∷ rest)
+  key_only : v ≡ scalar (text key) → BehindKey key v behind (semicolon ∷ behind)
+
+pub row-begins : {first : Lexeme} {tokens behind : List Lexeme} {key : List ℕ} {v : Plist} → RowPhrase (first ∷ tokens) key v behind → (first ≡ string key) × BehindKey key v behind tokens
+row-begins (with_value p) = (refl, with_equals p)
+row-begins key_alone = (refl, key_only refl)
 
 pub rows-end-here : {tokens rest behind : List Lexeme} {rows : Pairs} → RowsPhrase tokens rows (brace_close ∷ behind) → tokens ≡ brace_close ∷ rest → (rows ≡ no_pairs) × (rest ≡ behind)
 rows-end-here rows_end e = (refl, cc e)
 rows-end-here (a_row {key = key} {v = v} {others = others} p r d) e =
-    let b : brace_close ≡ string key = row-first (subst (λ x. RowPhrase x key v others) e p) in cc b
+    let b : brace_close ≡ string key = (row-begins (subst (λ x. RowPhrase x key v others) e p)).0 in cc b
 
 pub rows-none : {tokens : List Lexeme} {rows : Pairs} → RowsPhrase tokens rows [] → tokens ≡ [] → rows ≡ no_pairs
 rows-none rows_end e = refl
@@ -155,15 +151,6 @@ pub rows-begin : {tokens begin end : List Lexeme} {rows : Pairs} → RowsPhrase 
 rows-begin rows_end e n = absurd (n (sym e))
 rows-begin (a_row {key = key} {v = v} {rows = rows} {others = others} p r d) e n =
     record { key = key; value = v; others = rows; is = refl; after = others; phrase = subst (λ x. RowPhrase x key v others) e p; follow = r }
-
--- what follows a key: `=` and a value, or `;`
-pub data BehindKey (key : List ℕ) (v : Plist) (behind : List Lexeme) : List Lexeme → Type 0 where
-  with_equals : {rest : List Lexeme} → Phrase rest v (semicolon ∷ behind) → BehindKey key v behind (equals ∷ rest)
-  key_only : v ≡ scalar (text key) → BehindKey key v behind (semicolon ∷ behind)
-
-pub row-begins : {first : Lexeme} {tokens behind : List Lexeme} {key : List ℕ} {v : Plist} → RowPhrase (first ∷ tokens) key v behind → (first ≡ string key) × BehindKey key v behind tokens
-row-begins (with_value p) = (refl, with_equals p)
-row-begins key_alone = (refl, key_only refl)
 
 pub key-some : {tokens behind : List Lexeme} {key : List ℕ} {v : Plist} → BehindKey key v behind tokens → ¬ (tokens ≡ [])
 key-some (with_equals p) e = cc e

@@ -107,7 +107,12 @@ last-row f (r ∷ refs) row (pair key v ps) s =
     let l = last-row f refs row ps s.2 in
     record { before = pair key v l.before; key = l.key; last = l.last; is = ap (pair key v) l.is; spell = (s.0, s.1, l.spell); spell_key = l.spell_key; spell_last = l.spell_last }
 
-pub zip-push : (keys values : List ℕ) (k v : ℕ) → length keys ≡ length values → zip (keys ++ k ∷ []) (values ++ v ∷ []) ≡ zip keys values ++ (k, v) ∷ []
+zip-push : (keys values : List ℕ) (k v : ℕ) → length keys ≡ length values → zip (keys ++ k ∷ []) (values ++ v ∷ []) ≡ zip keys values ++ (k, v) ∷ []
 zip-push [] [] k v e = refl
 zip-push (n ∷ keys) (w ∷ values) k v e = ap (λ l. (n, w) ∷ l) (zip-push keys values k v (omega arith))
 zip-push _ _ k v e = absurd (omega arith)
+
+pub zip-more : (keys all_keys values all_values : List ℕ) (row : ℕ × ℕ) → all_keys ≡ keys ++ row.0 ∷ [] → all_values ≡ values ++ row.1 ∷ [] → length keys ≡ length values
+    → zip all_keys all_values ≡ zip keys values ++ row ∷ []
+zip-more keys all_keys values all_values row e g even =
+    ap (λ l. zip l all_values) e ∙ ap (λ l. zip (keys ++ row.0 ∷ []) l) g ∙ zip-push keys values row.0 row.1 even

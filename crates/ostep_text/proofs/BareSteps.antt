@@ -31,7 +31,7 @@ use Rattle.ostep_text.proofs.PhraseSteps.{push_row, rows-more}
 use Rattle.ostep_text.proofs.SortingSteps.{reordered-has}
 use Rattle.ostep_text.proofs.Standing.{before-are, string-refuses}
 use Rattle.ostep_text.proofs.DueSteps.{row-more, bare-due}
-use Rattle.ostep_text.proofs.TakeSteps.{no-pairs-taken, pair-taken}
+use Rattle.ostep_text.proofs.TakeSteps.{left-after, no-pairs-taken, pair-taken}
 
 -- the rows so far, at least one
 pub record BareRead (octets : List ℕ) (left : Budget) (pairs : Pairs) (reader : Reader) : Type 0 where
@@ -120,11 +120,7 @@ first_value-due key = record {
 
 pub first_key-left : {left mid : Budget} (key : List ℕ) → IsLeft left MAX_DEPTH nothing → Spends left 2 (2 * length key) mid
     → IsLeft mid 511 (with_key key (with_rows no_pairs (opened nothing)))
-first_key-left key i s = record {
-  nodes_left = omega (arith, i.nodes_left, s.nodes_left);
-  payload_left = omega (arith, i.payload_left, s.payload_left);
-  levels_left = omega (arith, i.levels_left);
-}
+first_key-left key i s = left-after i s (omega arith) (omega arith) (omega arith)
 
 pub first_alone-refuses : {octets : List ℕ} {source : Tokens} (at after : Placed) (octet : ℕ) (key : List ℕ) (levels : ℕ) (left : Budget) → at.lexeme ≡ string key → at.start ≡ octet
     → after.lexeme ≡ semicolon → HasRead octets (at ∷ after ∷ []) source → IsLeft left levels (with_key key (with_rows no_pairs (opened nothing)))
@@ -133,15 +129,16 @@ first_alone-refuses at after octet key levels left l s e h i =
     string-refuses [] (after ∷ []) at octet key (λ rest. rest) levels (2 * length key) left l s (λ rest. refl) h
     (λ others. rw e (Begun.value (Begun.at_key (Begun.new_key Begun.bare rows_end refl)) refl)) (omega arith) i
 
--- what the first row took, without the node of its dictionary
-pub record FirstTaken (key : List ℕ) (v : Plist) (after : Budget) : Type 0 where
+-- the first row, and what it took, without the node of its dictionary
+pub record FirstRow (octets key : List ℕ) (v : Plist) (reader : Reader) : Type 0 where
   pub left : Budget
   pub is_left : IsLeft left 511 (opened nothing)
-  pub taken : TakesRow left 511 key v after
+  pub taken : TakesRow left 511 key v reader.left
+  pub row : ReadsRow octets [] key v reader.tokens
 
-pub first-taken : {left mid after : Budget} (key : List ℕ) (v : Plist) → IsLeft left MAX_DEPTH nothing → Spends left 2 (2 * length key) mid → Takes mid 511 v after → AreUnits key
-    → FirstTaken key v after
-first-taken {mid = mid} key v i s t u = record {
+pub first-row : {octets : List ℕ} {left mid : Budget} (key : List ℕ) (v : Plist) (reader : Reader) → IsLeft left MAX_DEPTH nothing → Spends left 2 (2 * length key) mid
+    → Takes mid 511 v reader.left → AreUnits key → ReadsRow octets [] key v reader.tokens → FirstRow octets key v reader
+first-row {mid = mid} key v reader i s t u r = record {
   left = record { nodes = mid.nodes + 1; payload = mid.payload + 2 * length key };
   is_left = record {
     nodes_left = omega (arith, i.nodes_left, s.nodes_left);
@@ -158,6 +155,7 @@ first-taken {mid = mid} key v i s t u = record {
     valid_key = u;
     valid = t.valid;
   };
+  row = r;
 }
 
 -- a string alone

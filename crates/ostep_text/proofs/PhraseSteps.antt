@@ -24,22 +24,18 @@ abbrev pub push_row : Pairs → List ℕ → Plist → Pairs
 push_row no_pairs key v = pair key v no_pairs
 push_row (pair next w rows) key v = pair next w (push_row rows key v)
 
-or-first : (b c : Bool) → (b || c) ≡ false → b ≡ false
-or-first true c e = cc e
-or-first false c e = refl
-
-or-second : (b c : Bool) → (b || c) ≡ false → c ≡ false
-or-second true c e = cc e
-or-second false c e = e
+pub neither : (b c : Bool) → (b || c) ≡ false → (b ≡ false) × (c ≡ false)
+neither true c e = cc e
+neither false c e = (refl, e)
 
 pub or-none : (b c : Bool) → b ≡ false → c ≡ false → (b || c) ≡ false
 or-none b c e f = rw e f
 
 pub has_key-head : (key next : List ℕ) (w : Plist) (rows : Pairs) → has_key key (pair next w rows) ≡ false → pointwise nat_eq key next ≡ false
-has_key-head key next w rows e = or-first (pointwise nat_eq key next) (has_key key rows) e
+has_key-head key next w rows e = (neither (pointwise nat_eq key next) (has_key key rows) e).0
 
 pub has_key-tail : (key next : List ℕ) (w : Plist) (rows : Pairs) → has_key key (pair next w rows) ≡ false → has_key key rows ≡ false
-has_key-tail key next w rows e = or-second (pointwise nat_eq key next) (has_key key rows) e
+has_key-tail key next w rows e = (neither (pointwise nat_eq key next) (has_key key rows) e).1
 
 pub apart-sym : (key next : List ℕ) → pointwise nat_eq key next ≡ false → pointwise nat_eq next key ≡ false
 apart-sym key next e =

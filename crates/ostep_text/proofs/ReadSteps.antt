@@ -3,7 +3,7 @@ use Rattle.std.proofs.Common.{◌≡◌, ℕ, false, List, [], ◌∷◌, ◌++�
 use Rattle.plist_value.specs.Plist.{Plist, scalar, text, bytes, list, table, Items, no_items, Pairs, no_pairs, ArePairs}
 use Rattle.plist_value.proofs.Pairs.{put_pair}
 use Rattle.ostep_lex.specs.Lexeme.{Lexeme, Placed, brace_open, brace_close, paren_open, paren_close, comma, semicolon, equals, text as string, octets as data_token}
-use Rattle.ostep_text.specs.Phrase.{Phrase, a_string, some_data, a_list, a_table, items_end, rows_end, with_value, key_alone, a_value, bare_table, TopPhrase}
+use Rattle.ostep_text.specs.Phrase.{Phrase, ItemsPhrase, a_string, some_data, a_list, a_table, items_end, rows_end, with_value, key_alone, a_value, bare_table, TopPhrase}
 use Rattle.ostep_text.specs.Sorting.{has_key, none, AreSorted}
 use Rattle.ostep_text.specs.Text.{lexemes}
 use Rattle.ostep_text.specs.declared.tokens.Tokens.{Tokens}
@@ -78,21 +78,22 @@ table-read {ps = ps} tokens first e r s = record {
 pub no-items-read : {known : Known} {tokens : List Placed} → known tokens → ReadsItems known tokens [] no_items
 no-items-read h = record { inside = λ rest. rest; spells = λ rest. items_end; reads = reads-none h }
 
-pub item-read : {old mid known : Known} {tokens : List Placed} {first : Lexeme} {vs : Items} {w : Plist} (i : ReadsItems old tokens [] vs)
-    (v : ReadsValue mid i.reads.all first w) (token : Placed) → token.lexeme ≡ comma → known (v.reads.all ++ token ∷ []) → ReadsItems known tokens [] (push vs w)
-item-read {first = first} i v token e h = record {
-  inside = λ rest. i.inside (first ∷ v.inside (comma ∷ rest));
-  spells = λ rest. items-more (i.spells (first ∷ v.inside (comma ∷ rest))) (v.spells (comma ∷ rest));
-  reads = reads-then i.reads (reads-then v.reads (reads-token v.reads.all token comma e h));
-}
+-- the token after an item, and what is left of the end
+pub data EndsItem : Lexeme → List Lexeme → Type 0 where
+  continued : EndsItem comma []
+  closed : EndsItem paren_close (paren_close ∷ [])
 
-pub last_item-read : {old mid known : Known} {tokens : List Placed} {first : Lexeme} {vs : Items} {w : Plist} (i : ReadsItems old tokens [] vs)
-    (v : ReadsValue mid i.reads.all first w) (token : Placed) → token.lexeme ≡ paren_close → known (v.reads.all ++ token ∷ [])
-    → ReadsItems known tokens (paren_close ∷ []) (push vs w)
-last_item-read {first = first} i v token e h = record {
-  inside = λ rest. i.inside (first ∷ v.inside (paren_close ∷ rest));
-  spells = λ rest. items-last (i.spells (first ∷ v.inside (paren_close ∷ rest))) (v.spells (paren_close ∷ rest));
-  reads = reads-then i.reads (reads-then v.reads (reads-token v.reads.all token paren_close e h));
+ended-items : {l : Lexeme} {tokens more rest end : List Lexeme} {vs : Items} {w : Plist} → EndsItem l end → ItemsPhrase tokens vs more → Phrase more w (l ∷ rest)
+    → ItemsPhrase tokens (push vs w) (end ++ rest)
+ended-items continued p q = items-more p q
+ended-items closed p q = items-last p q
+
+pub item-read : {old mid known : Known} {tokens : List Placed} {first l : Lexeme} {end : List Lexeme} {vs : Items} {w : Plist} (i : ReadsItems old tokens [] vs)
+    (v : ReadsValue mid i.reads.all first w) (token : Placed) → EndsItem l end → token.lexeme ≡ l → known (v.reads.all ++ token ∷ []) → ReadsItems known tokens end (push vs w)
+item-read {first = first} {l = l} i v token ends e h = record {
+  inside = λ rest. i.inside (first ∷ v.inside (l ∷ rest));
+  spells = λ rest. ended-items ends (i.spells (first ∷ v.inside (l ∷ rest))) (v.spells (l ∷ rest));
+  reads = reads-then i.reads (reads-then v.reads (reads-token v.reads.all token l e h));
 }
 
 pub items-read : {old known : Known} {tokens : List Placed} {vs : Items} (i : ReadsItems old tokens [] vs) (token : Placed) → token.lexeme ≡ paren_close

@@ -25,52 +25,44 @@ exchange (later {next = n} {w = u} t) (later s) =
     let e = exchange t s in
     record { middle = pair n u e.middle; outer = later e.outer; inner = later e.inner }
 
+pub as-they-are : (ps : Pairs) → AreReordered ps ps
+as-they-are no_pairs = none
+as-they-are (pair key v ps) = row (as-they-are ps) first
+
 pub reordered-more : {rows ps all : Pairs} {key : List ℕ} {v : Plist} → AreReordered rows ps → StandsAmong key v ps all → AreReordered (push_row rows key v) all
 reordered-more none s = row none s
 reordered-more (row r t) s = let e = exchange t s in row (reordered-more r e.outer) e.inner
-
--- a different key is below or above
-data Apart (key next : List ℕ) : Type 0 where
-  below : slice_cmp nat_cmp key next ≡ Less → Apart key next
-  above : slice_cmp nat_cmp key next ≡ Greater → slice_cmp nat_cmp next key ≡ Less → Apart key next
-
-apart-by : (key next : List ℕ) (o : Ordering) → slice_cmp nat_cmp key next ≡ o → pointwise nat_eq key next ≡ false → Apart key next
-apart-by key next Less e d = below e
-apart-by key next Greater e d = above e (nat_list_cmp_total.antisymm next key ∙ ap ordering_reverse e)
-apart-by key next Equal e d = absurd (let same : pointwise nat_eq key next ≡ true = (bytes_decides key next).1 (exact_bytes key next e) in cc (same, d))
-
-apart : (key next : List ℕ) → pointwise nat_eq key next ≡ false → Apart key next
-apart key next d = apart-by key next (slice_cmp nat_cmp key next) refl d
 
 pub put-at : (o : Ordering) (key next : List ℕ) (v w : Plist) (ps : Pairs) → slice_cmp nat_cmp key next ≡ o
     → put_pair key v (pair next w ps) ≡ match_ordering o (pair key v (pair next w ps)) (pair next v ps) (pair next w (put_pair key v ps))
 put-at o key next v w ps e = ap (λ (x : Ordering). match_ordering x (pair key v (pair next w ps)) (pair next v ps) (pair next w (put_pair key v ps))) e
 
+-- a new row stands before the first one or behind it
+put-by : (P : Pairs → Type 0) (key next : List ℕ) (v w : Plist) (ps : Pairs) (o : Ordering) → slice_cmp nat_cmp key next ≡ o → pointwise nat_eq key next ≡ false
+    → (slice_cmp nat_cmp key next ≡ Less → P (pair key v (pair next w ps))) → (slice_cmp nat_cmp next key ≡ Less → P (pair next w (put_pair key v ps))) → P (put_pair key v (pair next w ps))
+put-by P key next v w ps Less e d before behind = subst P (sym (put-at Less key next v w ps e)) (before e)
+put-by P key next v w ps Greater e d before behind = subst P (sym (put-at Greater key next v w ps e)) (behind (nat_list_cmp_total.antisymm next key ∙ ap ordering_reverse e))
+put-by P key next v w ps Equal e d before behind = absurd (let same : pointwise nat_eq key next ≡ true = (bytes_decides key next).1 (exact_bytes key next e) in cc (same, d))
+
+put-either : (P : Pairs → Type 0) (key next : List ℕ) (v w : Plist) (ps : Pairs) → has_key key (pair next w ps) ≡ false → (slice_cmp nat_cmp key next ≡ Less → P (pair key v (pair next w ps)))
+    → (slice_cmp nat_cmp next key ≡ Less → P (pair next w (put_pair key v ps))) → P (put_pair key v (pair next w ps))
+put-either P key next v w ps d = put-by P key next v w ps (slice_cmp nat_cmp key next) refl (has_key-head key next w ps d)
+
 pub put-stands : (key : List ℕ) (v : Plist) (ps : Pairs) → has_key key ps ≡ false → StandsAmong key v ps (put_pair key v ps)
 put-stands key v no_pairs d = first
 put-stands key v (pair next w ps) d =
-    elim (apart key next (has_key-head key next w ps d)) [
-      | below e ↦ subst (λ x. StandsAmong key v (pair next w ps) x) (sym (put-at Less key next v w ps e)) first
-      | above e f ↦ subst (λ x. StandsAmong key v (pair next w ps) x) (sym (put-at Greater key next v w ps e)) (later (put-stands key v ps (has_key-tail key next w ps d)))
-    ]
+    put-either (λ x. StandsAmong key v (pair next w ps) x) key next v w ps d (λ e. first) (λ f. later (put-stands key v ps (has_key-tail key next w ps d)))
 
 -- a key that is below the pairs and below the new key
 below-put : (low key : List ℕ) (v : Plist) (ps : Pairs) → slice_cmp nat_cmp low key ≡ Less → IsKeyBelow low ps → has_key key ps ≡ false → IsKeyBelow low (put_pair key v ps)
 below-put low key v no_pairs b h d = b
-below-put low key v (pair next w ps) b h d =
-    elim (apart key next (has_key-head key next w ps d)) [
-      | below e ↦ subst (λ x. IsKeyBelow low x) (sym (put-at Less key next v w ps e)) b
-      | above e f ↦ subst (λ x. IsKeyBelow low x) (sym (put-at Greater key next v w ps e)) h
-    ]
+below-put low key v (pair next w ps) b h d = put-either (λ x. IsKeyBelow low x) key next v w ps d (λ e. b) (λ f. h)
 
 pub put-pairs : (key : List ℕ) (v : Plist) (ps : Pairs) → AreUnits key → IsPlist v → ArePairs ps → has_key key ps ≡ false → ArePairs (put_pair key v ps)
 put-pairs key v no_pairs u i a d = (u, i, tt, tt)
 put-pairs key v (pair next w ps) u i a d =
-    elim (apart key next (has_key-head key next w ps d)) [
-      | below e ↦ subst (λ x. ArePairs x) (sym (put-at Less key next v w ps e)) (u, i, e, a)
-      | above e f ↦ subst (λ x. ArePairs x) (sym (put-at Greater key next v w ps e))
-          (a.0, a.1, below-put next key v ps f (a.2) (has_key-tail key next w ps d), put-pairs key v ps u i (a.3) (has_key-tail key next w ps d))
-    ]
+    let others = has_key-tail key next w ps d in
+    put-either (λ x. ArePairs x) key next v w ps d (λ e. (u, i, e, a)) (λ f. (a.0, a.1, below-put next key v ps f (a.2) others, put-pairs key v ps u i (a.3) others))
 
 pub pairs-ascend : (ps : Pairs) → ArePairs ps → IsAscending ps
 pairs-ascend no_pairs a = tt
@@ -101,8 +93,5 @@ reordered-has key (row {key = k} {rows = rows} {others = others} {all = all} r s
 pub put-ascends : (key : List ℕ) (v : Plist) (ps : Pairs) → IsAscending ps → has_key key ps ≡ false → IsAscending (put_pair key v ps)
 put-ascends key v no_pairs a d = (tt, tt)
 put-ascends key v (pair next w ps) a d =
-    elim (apart key next (has_key-head key next w ps d)) [
-      | below e ↦ subst (λ x. IsAscending x) (sym (put-at Less key next v w ps e)) (e, a)
-      | above e f ↦ subst (λ x. IsAscending x) (sym (put-at Greater key next v w ps e))
-          (below-put next key v ps f (a.0) (has_key-tail key next w ps d), put-ascends key v ps (a.1) (has_key-tail key next w ps d))
-    ]
+    let others = has_key-tail key next w ps d in
+    put-either (λ x. IsAscending x) key next v w ps d (λ e. (e, a)) (λ f. (below-put next key v ps f (a.0) others, put-ascends key v ps (a.1) others))

@@ -3,16 +3,17 @@
 use Rattle.std.proofs.Common.{◌≡◌, ℕ, ◌+◌, ◌*◌, ◌≤◌, Bool, true, false, ◌||◌, List, [], ◌∷◌, length, refl, ap, sym, subst, arith}
 use Rattle.std.specs.Prelude.{max, nat_eq}
 use Rattle.std.specs.Cmp.Lexicographic.{pointwise, bytes_decides}
-use Rattle.plist_value.specs.Plist.{text, Plist, scalar, Items, no_items, item, Pairs, no_pairs, pair}
+use Rattle.plist_value.specs.Plist.{text, Plist, scalar, table, Items, no_items, item, Pairs, no_pairs, pair}
 use Rattle.plist_value.specs.Limits.{nodes, nodes_of_items, nodes_of_pairs, depth, depth_of_items, depth_of_pairs, payload, payload_of_items, payload_of_pairs}
 use Rattle.ostep_lex.specs.Lexeme.{Lexeme, brace_open, paren_open, paren_close, semicolon, equals, text as string}
 use Rattle.ostep_text.specs.Phrase.{Phrase, a_string, a_list, a_table, ItemsPhrase, items_end, last_item, an_item, RowPhrase, with_value, key_alone, RowsPhrase, rows_end, a_row, TopPhrase, a_value, bare_table}
-use Rattle.ostep_text.specs.Sorting.{has_key}
+use Rattle.ostep_text.specs.Sorting.{has_key, AreReordered}
 use Rattle.ostep_text.specs.Begun
 use Rattle.ostep_text.specs.Begun.{Before, nothing, opened, with_items, with_rows, with_key, ValueAt, RowsAt, NewKeyAt, NodeAt, begins_value}
 use Rattle.ostep_text.specs.Stands.{payload_at}
 use Rattle.std.proofs.lemmas.Bool.{false_from_ne_true}
 use Rattle.ostep_text.proofs.SizeLemmas.{reordered-nodes, reordered-depth, reordered-payload}
+use Rattle.ostep_text.proofs.PhraseSteps.{or-none}
 use Rattle.ostep_text.proofs.PhraseLemmas.{begins_row, row-begins, no-phrase, Phrase-same, Row-same, value-or-row}
 
 -- what comes before, together with this much more, is within the value
@@ -20,6 +21,23 @@ pub record Within (b : Before) (deep more load : ℕ) (v : Plist) : Type 0 where
   pub nodes_within : b.nodes + more ≤ nodes v
   pub depth_within : b.open_containers + deep ≤ depth v
   pub payload_within : b.payload + load ≤ payload v
+
+-- a part of what is within the value
+within-part : {b c : Before} {deep more load d n l : ℕ} {v : Plist} → Within b deep more load v → c.nodes + n ≤ b.nodes + more → c.open_containers + d ≤ b.open_containers + deep
+    → c.payload + l ≤ b.payload + load → Within c d n l v
+within-part w n d l = record {
+  nodes_within = omega (arith, n, w.nodes_within);
+  depth_within = omega (arith, d, w.depth_within);
+  payload_within = omega (arith, l, w.payload_within);
+}
+
+within-all : {v : Plist} → Within nothing (depth v) (nodes v) (payload v) v
+within-all = record { nodes_within = omega arith; depth_within = omega arith; payload_within = omega arith }
+
+-- the rows of a dictionary
+within-table : {b : Before} {v : Plist} {all ps : Pairs} → AreReordered all ps → Within b (depth (table ps)) (nodes (table ps)) (payload (table ps)) v
+    → Within (opened b) (depth_of_pairs all) (nodes_of_pairs all) (payload_of_pairs all) v
+within-table r w = within-part w (omega (arith, reordered-nodes r)) (omega (arith, reordered-depth r)) (omega (arith, reordered-payload r))
 
 -- an item among all items
 record ItemThere (at : List Lexeme) (vs all : Items) : Type 0 where
@@ -84,9 +102,6 @@ or-same : (b c : Bool) → c ≡ true → (b || c) ≡ true
 or-same true c e = refl
 or-same false c e = e
 
-or-neither : (b c : Bool) → b ≡ false → c ≡ false → (b || c) ≡ false
-or-neither b c e f = rw e f
-
 other_key : (key next : List ℕ) (all : Pairs) → has_key next all ≡ false → has_key key all ≡ true → pointwise nat_eq key next ≡ false
 other_key key next all e f =
     false_from_ne_true (pointwise nat_eq key next) (λ same. let is : key ≡ next = (bytes_decides key next).0 same in
@@ -98,7 +113,7 @@ after-row {key} {next = next} {rows = rows} {all = all} d r = record {
   value = r.value;
   after = r.after;
   row = r.row;
-  once = or-neither (pointwise nat_eq key next) (has_key key rows) (other_key key next all d r.among) r.once;
+  once = or-none (pointwise nat_eq key next) (has_key key rows) (other_key key next all d r.among) r.once;
   among = or-same (pointwise nat_eq key next) (has_key key all) r.among;
   nodes_are = omega (arith, r.nodes_are);
   depth_is = omega (arith, r.depth_is);
@@ -150,20 +165,12 @@ pub data KeyThere (b : Before) (v : Plist) (key : List ℕ) (rest : List Lexeme)
   nothing_after : rest ≡ [] → KeyThere b v key rest
 
 front-there : {whole : List Lexeme} {v : Plist} → TopPhrase whole v → ValueThere nothing v whole
-front-there (a_value p) = stands p (record { nodes_within = omega arith; depth_within = omega arith; payload_within = omega arith })
-front-there (bare_table r s) = rows r (record {
-  nodes_within = omega (arith, reordered-nodes s.same);
-  depth_within = omega (arith, reordered-depth s.same);
-  payload_within = omega (arith, reordered-payload s.same);
-})
+front-there (a_value p) = stands p within-all
+front-there (bare_table r s) = rows r (within-part (within-table s.same within-all) (omega arith) (omega arith) (omega arith))
 
 bare-there : {whole : List Lexeme} {v : Plist} → TopPhrase whole v → RowsThere (opened nothing) v whole
 bare-there (a_value p) = value p refl
-bare-there (bare_table r s) = rows r refl (record {
-  nodes_within = omega (arith, reordered-nodes s.same);
-  depth_within = omega (arith, reordered-depth s.same);
-  payload_within = omega (arith, reordered-payload s.same);
-})
+bare-there (bare_table r s) = rows r refl (within-table s.same within-all)
 
 no-row : {l : Lexeme} {tokens : List Lexeme} {all : Pairs} → RowsPhrase (l ∷ tokens) all [] → begins_row (l ∷ tokens) ≡ false → ⊥
 no-row (a_row p r d) h = cc (h, row-begins p)
@@ -172,19 +179,11 @@ items-there : {b : Before} {v : Plist} {vs : Items} {inside at : List Lexeme} �
     → begins_value at ≡ true → ValueThere (with_items vs (opened b)) v at
 items-there (stands (a_list p) w) q h =
     let i = item-there p q h in
-    stands i.phrase (record {
-      nodes_within = omega (arith, i.nodes_are, w.nodes_within);
-      depth_within = omega (arith, i.depth_is, w.depth_within);
-      payload_within = omega (arith, i.payload_is, w.payload_within);
-    })
+    stands i.phrase (within-part w (omega (arith, i.nodes_are)) (omega (arith, i.depth_is)) (omega (arith, i.payload_is)))
 items-there (rows p w) q h = absurd (no-row p refl)
 
 inside-there : {b : Before} {v : Plist} {inside : List Lexeme} → ValueThere b v (brace_open ∷ inside) → RowsThere (opened b) v inside
-inside-there (stands (a_table r s) w) = rows r refl (record {
-  nodes_within = omega (arith, reordered-nodes s.same, w.nodes_within);
-  depth_within = omega (arith, reordered-depth s.same, w.depth_within);
-  payload_within = omega (arith, reordered-payload s.same, w.payload_within);
-})
+inside-there (stands (a_table r s) w) = rows r refl (within-table s.same w)
 inside-there (rows p w) = absurd (no-row p refl)
 
 alone : {inside rest : List Lexeme} {key : List ℕ} {v : Plist} {before : Pairs} → Phrase inside v [] → RowsPhrase inside before (string key ∷ rest)
@@ -192,15 +191,15 @@ alone : {inside rest : List Lexeme} {key : List ℕ} {v : Plist} {before : Pairs
 alone a_string rows_end = (refl, refl, refl)
 alone p (a_row r s d) = absurd (value-or-row r p)
 
+-- a row among all of them
+within-row : {b : Before} {v : Plist} {key : List ℕ} {rest : List Lexeme} {rows all : Pairs} (r : RowThere key rest rows all)
+    → Within b (depth_of_pairs all) (nodes_of_pairs all) (payload_of_pairs all) v
+    → Within (with_rows rows b) (max 1 (depth r.value)) (1 + nodes r.value) (2 * length key + payload r.value) v
+within-row r w = within-part w (omega (arith, r.nodes_are)) (omega (arith, r.depth_is)) (omega (arith, r.payload_is))
+
 key-there : {b : Before} {v : Plist} {inside rest : List Lexeme} {key : List ℕ} {before : Pairs} → RowsThere b v inside
     → RowsPhrase inside before (string key ∷ rest) → KeyThere (with_rows before b) v key rest
-key-there {before = before} (rows p h w) q =
-    let r = row-there p h q in
-    row r.row (record {
-      nodes_within = omega (arith, r.nodes_are, w.nodes_within);
-      depth_within = omega (arith, r.depth_is, w.depth_within);
-      payload_within = omega (arith, r.payload_is, w.payload_within);
-    })
+key-there (rows p h w) q = let r = row-there p h q in row r.row (within-row r w)
 key-there (value p e) q = nothing_after ((alone p q).0)
 
 value_of : {key next : List ℕ} {at after : List Lexeme} {w : Plist} → RowPhrase (string key ∷ equals ∷ at) next w after → Phrase at w (semicolon ∷ after)
@@ -210,11 +209,7 @@ same_text : {key next : List ℕ} {rest after : List Lexeme} {w : Plist} → Row
 same_text key_alone = refl
 
 key_value-there : {b : Before} {v : Plist} {key : List ℕ} {at : List Lexeme} → KeyThere b v key (equals ∷ at) → ValueThere (with_key key b) v at
-key_value-there (row r w) = stands (value_of r) (record {
-  nodes_within = omega (arith, w.nodes_within);
-  depth_within = omega (arith, w.depth_within);
-  payload_within = omega (arith, w.payload_within);
-})
+key_value-there (row r w) = stands (value_of r) (within-part w (omega arith) (omega arith) (omega arith))
 key_value-there (nothing_after e) = cc e
 
 key_alone-there : {b : Before} {v : Plist} {key : List ℕ} {rest : List Lexeme} → KeyThere b v key (semicolon ∷ rest)
@@ -223,11 +218,7 @@ key_alone-there {b} {v} {key} (row r w) =
     let u : Within b (max 1 1) (1 + 1) (2 * length key + 2 * length key) v =
     subst (λ x. Within b (max 1 (depth x)) (1 + nodes x) (2 * length key + payload x) v) (same_text r) w
     in
-    stands a_string (record {
-      nodes_within = omega (arith, u.nodes_within);
-      depth_within = omega (arith, u.depth_within);
-      payload_within = omega (arith, u.payload_within);
-    })
+    stands a_string (within-part u (omega arith) (omega arith) (omega arith))
 key_alone-there (nothing_after e) = cc e
 
 mutual
@@ -257,11 +248,11 @@ pub record NodeWithin (b : Before) (at : List Lexeme) (v : Plist) : Type 0 where
   pub depth_within : b.open_containers + 1 ≤ max 2 (depth v)
   pub payload_within : b.payload + payload_at at ≤ payload v
 
-some-nodes : (v : Plist) → 1 ≤ nodes v
+pub some-nodes : (v : Plist) → 1 ≤ nodes v
 some-nodes (scalar s) = omega arith
 some-nodes _ = omega arith
 
-some-depth : (v : Plist) → 1 ≤ depth v
+pub some-depth : (v : Plist) → 1 ≤ depth v
 some-depth (scalar s) = omega arith
 some-depth _ = omega arith
 
@@ -273,32 +264,25 @@ row-payload : {at rest : List Lexeme} {key : List ℕ} {w : Plist} → RowPhrase
 row-payload (with_value p) = refl
 row-payload key_alone = refl
 
+node-part : {b : Before} {deep more load : ℕ} {at : List Lexeme} {v : Plist} → Within b deep more load v → 1 ≤ more → 1 ≤ deep → payload_at at ≤ load → NodeWithin b at v
+node-part w n d l = record {
+  nodes_within = omega (arith, w.nodes_within, n);
+  depth_within = omega (arith, w.depth_within, d);
+  payload_within = omega (arith, w.payload_within, l);
+}
+
 rows-node : {b : Before} {at : List Lexeme} {all : Pairs} {v : Plist} → RowsPhrase at all [] → begins_value at ≡ true
     → Within b (depth_of_pairs all) (nodes_of_pairs all) (payload_of_pairs all) v → NodeWithin b at v
 rows-node rows_end h w = cc h
-rows-node (a_row r s d) h w = record {
-  nodes_within = omega (arith, w.nodes_within);
-  depth_within = omega (arith, w.depth_within);
-  payload_within = omega (arith, w.payload_within, row-payload r);
-}
+rows-node (a_row r s d) h w = node-part w (omega arith) (omega arith) (omega (arith, row-payload r))
 
 value-node : {b : Before} {at : List Lexeme} {v : Plist} → ValueThere b v at → begins_value at ≡ true → NodeWithin b at v
-value-node (stands {w = x} p w) h = record {
-  nodes_within = omega (arith, w.nodes_within, some-nodes x);
-  depth_within = omega (arith, w.depth_within, some-depth x);
-  payload_within = omega (arith, w.payload_within, first-payload p);
-}
+value-node (stands {w = x} p w) h = node-part w (some-nodes x) (some-depth x) (first-payload p)
 value-node (rows p w) h = rows-node p h w
 
 key-node : {b : Before} {inside rest : List Lexeme} {key : List ℕ} {before : Pairs} {v : Plist} → RowsThere b v inside
     → RowsPhrase inside before (string key ∷ rest) → NodeWithin (with_rows before b) (string key ∷ rest) v
-key-node (rows p h w) q =
-    let r = row-there p h q in
-    record {
-      nodes_within = omega (arith, r.nodes_are, w.nodes_within);
-      depth_within = omega (arith, r.depth_is, w.depth_within);
-      payload_within = omega (arith, r.payload_is, w.payload_within);
-    }
+key-node (rows p h w) q = node-part (within-row (row-there p h q) w) (omega arith) (omega arith) (omega arith)
 key-node {b} {key = key} {before = before} {v = v} (value p e) q =
     let a = alone p q in
     record {

@@ -10,8 +10,6 @@ use Rattle.std.specs.List.{starts_with}
 use Rattle.plist_value.specs.Plist.{Scalar, text, whole, flag, real4, real8, moment, bytes, Plist, scalar, list, table, Items, no_items, item, Pairs, no_pairs, pair, AreItems, ArePairs, IsPlist, AreUnits, AreOctets}
 use Rattle.plist_value.specs.Limits.{nodes, nodes_of_items, nodes_of_pairs, payload, payload_of_items, payload_of_pairs}
 use Rattle.ostep_lex.specs.Lexeme.{Lexeme, brace_open, brace_close, paren_open, paren_close, comma, semicolon, equals, text as string, octets as data_token, IsToken, Placed, mark_token}
-use Rattle.ostep_text.specs.Sorting
-use Rattle.ostep_text.specs.Sorting.{AreReordered, IsAscending}
 use Rattle.ostep_text.specs.Phrase.{Phrase, a_string, some_data, a_list, a_table, ItemsPhrase, items_end, an_item, RowsPhrase, with_value, rows_end, a_row}
 use Rattle.ostep_text.specs.Written.{is_writable, are_writable_items, are_writable_pairs, written_data, is_plain, quoted_unit, written_text, written, written_items, written_pairs, are_alphanumeric}
 use Rattle.plist_value.specs.Digits.{two_digits}
@@ -28,6 +26,7 @@ use Rattle.ostep_lex.specs.Lexeme
 use Rattle.ostep_lex.specs.Lexing.{Lexes, none, next}
 use Rattle.ostep_text.specs.Text.{lexemes}
 use Rattle.ostep_text.proofs.SortedLemmas.{low_key}
+use Rattle.ostep_text.proofs.SortingSteps.{as-they-are, pairs-ascend}
 
 -- the tokens of a written value, followed by the others
 abbrev pub scalar_tokens : Scalar → List Lexeme → List Lexeme
@@ -53,14 +52,6 @@ pub both : (x y : Bool) → (x && y) ≡ true → (x ≡ true) × (y ≡ true)
 both true true e = (refl, refl)
 both _ _ e = cc e
 
-ascending : (ps : Pairs) → ArePairs ps → IsAscending ps
-ascending no_pairs h = tt
-ascending (pair key v ps) h = (h.2, ascending ps h.3)
-
-as_they_are : (ps : Pairs) → AreReordered ps ps
-as_they_are no_pairs = Sorting.none
-as_they_are (pair key v ps) = Sorting.row (as_they_are ps) Sorting.first
-
 scalar-phrase : (s : Scalar) (rest : List Lexeme) → is_writable (scalar s) ≡ true → Phrase (scalar_tokens s rest) (scalar s) rest
 scalar-phrase (text units) rest e = a_string
 scalar-phrase (bytes xs) rest e = some_data
@@ -70,7 +61,7 @@ mutual
   pub value-phrase : (v : Plist) (rest : List Lexeme) → IsPlist v → is_writable v ≡ true → Phrase (value_tokens v rest) v rest
   value-phrase (scalar s) rest h e = scalar-phrase s rest e
   value-phrase (list vs) rest h e = a_list (items-phrase vs rest h e)
-  value-phrase (table ps) rest h e = a_table (rows-phrase ps (brace_close ∷ rest) h e) (record { same = as_they_are ps; ascending = ascending ps h })
+  value-phrase (table ps) rest h e = a_table (rows-phrase ps (brace_close ∷ rest) h e) (record { same = as-they-are ps; ascending = pairs-ascend ps h })
 
   items-phrase : (vs : Items) (rest : List Lexeme) → AreItems vs → are_writable_items vs ≡ true → ItemsPhrase (item_tokens vs (paren_close ∷ rest)) vs (paren_close ∷ rest)
   items-phrase no_items rest h e = items_end
@@ -82,7 +73,7 @@ mutual
   rows-phrase no_pairs rest h e = rows_end
   rows-phrase (pair key v ps) rest h e =
       let w = both (is_writable v) (are_writable_pairs ps) e in
-      a_row (with_value (value-phrase v _ h.1 w.0)) (rows-phrase ps rest h.3 w.1) (low_key key ps h.2 (ascending ps h.3))
+      a_row (with_value (value-phrase v _ h.1 w.0)) (rows-phrase ps rest h.3 w.1) (low_key key ps h.2 (pairs-ascend ps h.3))
 
 -- at most six bytes for a unit, and two quotes
 if-short : (b : Bool) (most : ℕ) (xs ys : List ℕ) → length xs ≤ most → length ys ≤ most → length (if b then xs else ys) ≤ most

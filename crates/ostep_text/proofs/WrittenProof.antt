@@ -18,6 +18,7 @@ use Rattle.ostep_lex.specs.Gap
 use Rattle.ostep_lex.specs.Lexing.{none}
 use Rattle.ostep_text.specs.Phrase.{TopPhrase, a_value}
 use Rattle.ostep_text.specs.Laws.{IsShortText, WrittenIsText}
+use Rattle.ostep_text.proofs.PhraseSteps.{neither}
 use Rattle.ostep_text.proofs.WrittenLexing.{both, value-phrase, value-short, Lexed, value-lexed}
 
 -- characters that UTF-8 encodes in one byte
@@ -132,17 +133,10 @@ abbrev has_newline : List ℕ → Bool
 has_newline [] = false
 has_newline (c ∷ rest) = (c == 10) || has_newline rest
 
-or_false : (a b : Bool) → (a || b) ≡ false → (a ≡ false) × (b ≡ false)
-or_false true b e = cc e
-or_false false b e = (refl, e)
-
-not_newline : (c : ℕ) (rest : List ℕ) → has_newline (c ∷ rest) ≡ false → (nat_eq c 10 ≡ false) × (has_newline rest ≡ false)
-not_newline c rest h = or_false (c == 10) (has_newline rest) h
-
 newline-after : (needle xs : List ℕ) → has_newline needle ≡ false → starts_with nat_eq (xs ++ 10 ∷ []) needle ≡ starts_with nat_eq xs needle
 newline-after [] xs h = refl
-newline-after (n ∷ needle) [] h = rw (not_newline n needle h).0 refl
-newline-after (n ∷ needle) (x ∷ xs) h = ap (λ b. nat_eq n x && b) (newline-after needle xs (not_newline n needle h).1)
+newline-after (n ∷ needle) [] h = rw (neither (n == 10) (has_newline needle) h).0 refl
+newline-after (n ∷ needle) (x ∷ xs) h = ap (λ b. nat_eq n x && b) (newline-after needle xs (neither (n == 10) (has_newline needle) h).1)
 
 if-binary : (b : Bool) (xs ys : List ℕ) → (b ≡ true → starts_with nat_eq (xs ++ 10 ∷ []) (codes "bplist") ≡ false) → (b ≡ false → starts_with nat_eq (ys ++ 10 ∷ []) (codes "bplist") ≡ false)
     → starts_with nat_eq ((if b then xs else ys) ++ 10 ∷ []) (codes "bplist") ≡ false

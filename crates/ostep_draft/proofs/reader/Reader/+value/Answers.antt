@@ -1,4 +1,4 @@
-use Rattle.std.proofs.Common.{◌≡◌, ◌∷◌, ◌++◌, [], List, length, refl, sym, ap, subst, ◌∙◌, arith}
+use Rattle.std.proofs.Common.{◌≡◌, ◌∷◌, ◌++◌, [], ℕ, List, length, refl, sym, ap, subst, ◌∙◌, arith}
 use Rattle.std.specs.Prelude.{IfOk}
 use Rattle.std.proofs.lemmas.Result.{IfOk-weaker}
 use Rattle.plist_value.specs.Plist.{text, bytes}
@@ -7,19 +7,22 @@ use Rattle.plist_value.specs.Texts.{units_of}
 use Rattle.plist_object.specs.Objects.{holds_scalar, holds_list, holds_table}
 use Rattle.plist_draft.specs.View.{objects}
 use Rattle.plist_draft.specs.Told.{SpellsIn}
-use Rattle.ostep_lex.specs.Lexeme.{Placed, placed, lexeme_of, semicolon, equals}
+use Rattle.ostep_lex.specs.Lexeme.{Lexeme, Placed, placed, lexeme_of, semicolon, equals}
 use Rattle.ostep_lex.specs.Cursor.{StandsBehind}
 use Rattle.ostep_draft.specs.First.{first_lexeme}
 use Rattle.ostep_draft.specs.Held.{Puts}
-use Rattle.ostep_draft.specs.Drafted.{DraftsValue, DraftsRow}
-use Rattle.ostep_draft.proofs.DraftSteps.{more-even, drafts-text, drafts-data, drafts-list, drafts-table, drafts-none, drafts-end, drafts-more, drafts-last, drafts-ended, drafts-row, drafts-alone, drafts-no-rows, drafts-rows-end, drafts-row-more}
+use Rattle.ostep_draft.specs.Drafted.{DraftsValue, DraftsItems, DraftsRow}
+use Rattle.ostep_draft.proofs.DraftSteps.{more-even, drafts-text, drafts-data, drafts-list, drafts-table, drafts-none, drafts-end, drafts-more, drafts-ended, drafts-row, drafts-alone, drafts-no-rows, drafts-rows-end, drafts-row-more}
 use Rattle.ostep_text.specs.Phrase.{Phrase}
 use Rattle.ostep_text.proofs.MachineLemmas.{value-none}
+use Rattle.ostep_text.proofs.ReadSteps.{EndsItem, continued, closed}
 use Rattle.ostep_draft.specs.Left.{AreLeft, IsFirst}
 use Rattle.ostep_draft.proofs.LeftSteps.{passed, lacks, finds}
-use Rattle.ostep_draft.proofs.Phrases.{depth-some, nodes-some, value-some, value-begins, list-is, table-is, closes-list, items-some, follows-some, follows-none, closes-table, rows-some, row-begins, key-some, key-value, key-ends, key-none, ended-none}
+use Rattle.ostep_text.proofs.WholeLemmas.{some-depth, some-nodes}
+use Rattle.ostep_draft.proofs.Phrases.{value-some, value-begins, list-is, table-is, closes-list, items-some, follows-some, follows-none, closes-table, rows-some, row-begins, key-some, key-value, key-ends, key-none, ended-none}
 use Rattle.ostep_draft.proofs.FoundSteps.{text-found, data-found, list-found, in-list, table-found, in-table, items-start, items-done, next-item, of-item, item-last, item-more, rows-start, rows-done, next-row, of-row, after-key, rows-next, key-tells}
 use Rattle.ostep_draft.proofs.reader.Reader.+value.Goals as goal
+use Rattle.ostep_draft.proofs.reader.Reader.+value.Goals.{items-In_ok-behind}
 
 pub value-returns-in-Plain-clause-read : goal.value-returns-in-Plain-clause-read
 value-returns-in-Plain-clause-read t c octets tokens at l h =
@@ -82,25 +85,27 @@ items-returns-then-ends_list-clause-read t c octets tokens h =
     drafts-end (objects c.loop-items.self.draft) c.loop-items.items.items c.in_ok-first.ensures.read.token (c.in_ok-first.ensures.read.is ∙ closes-list (first_lexeme c.in_ok-first.first) (sym c.ends_list.ensures ∙ c.if-ends_list.true)) (c.loop-items.invariant.read octets tokens h)
     (c.in_ok-first.ensures.read.stands octets)
 
-pub items-returns-in-ParenClose : goal.items-returns-in-ParenClose
-items-returns-in-ParenClose t c =
-    let kept = c.in_ok-item.ensures.kept in
-    record {
-      shorter = omega (arith, c.in_ok-behind.ensures.shorter, c.in_ok-item.ensures.shorter, c.in_ok-first.ensures.shorter, c.loop-items.invariant.shorter);
-      kept = λ i held h. kept i held (c.loop-items.invariant.kept i held h);
-      read = λ octets tokens h.
-          drafts-last (objects c.loop-items.self.draft) (objects c.value.new.self.draft) c.loop-items.items.items c.push.new.self.items c.in_ok-item.item c.in_ok-first.ensures.read.token (placed c.in_ok-behind.behind)
-          c.in_ok-push.ensures.items kept (c.loop-items.invariant.read octets tokens h) (c.in_ok-first.ensures.read.stands octets)
-          (λ all stands. c.in_ok-item.ensures.read octets all c.in_ok-first.ensures.read.token c.in_ok-first.ensures.read.is stands)
-          (c.in_ok-behind.ensures.read octets) (ap lexeme_of c.in-ParenClose.is);
-      found = λ octets rest l vs behind p more d.
-          let i = c.loop-items.invariant.found octets rest l vs behind p more d in
-          let f = c.in_ok-first.ensures.found octets i.rest i.left (items-some i.phrase) in
-          let b = next-item (first_lexeme c.in_ok-first.first) i f (sym c.ends_list.ensures ∙ c.if-ends_list.false) in
-          let r = c.in_ok-item.ensures.found octets f.rest f.left b.first b.after b.phrase _ (of-item b.is i.allows).0 in
-          let m = c.in_ok-behind.ensures.found octets b.after r.1 (follows-some b.follows) in
-          item-last c.in_ok-item.item (objects c.loop-items.self.draft) (objects c.value.new.self.draft) i b c.in_ok-push.ensures.items kept r.0 r.2 (subst (λ x. IsFirst octets (lexeme_of x) b.after c.expect_mark.new.self.cursor) c.in-ParenClose.is m);
-    }
+-- what is drafted of the items and one more, up to the token after it
+item-drafted : (t : ℕ) (c : items-In_ok-behind t) {l : Lexeme} {end : List Lexeme} → EndsItem l end → lexeme_of c.in_ok-behind.behind.kind ≡ l → (octets : List ℕ) (tokens : List Placed)
+    → StandsBehind octets tokens c.args.self.now.tokens.cursor → DraftsItems octets tokens end c.push.new.self.items (objects c.value.new.self.draft) c.expect_mark.new.self.cursor
+item-drafted t c ends is octets tokens h =
+    let first = c.in_ok-first.ensures.read in
+    drafts-more (objects c.loop-items.self.draft) (objects c.value.new.self.draft) c.loop-items.items.items c.push.new.self.items c.in_ok-item.item first.token (placed c.in_ok-behind.behind)
+    c.in_ok-push.ensures.items c.in_ok-item.ensures.kept (c.loop-items.invariant.read octets tokens h) (first.stands octets)
+    (λ all stands. c.in_ok-item.ensures.read octets all first.token first.is stands) (c.in_ok-behind.ensures.read octets) ends is
+
+pub items-returns-in-ParenClose-clause-read : goal.items-returns-in-ParenClose-clause-read
+items-returns-in-ParenClose-clause-read t c = item-drafted t (goal.at.items-returns-in-ParenClose-clause-read t c).In_ok-behind closed (ap lexeme_of c.in-ParenClose.is)
+
+pub items-returns-in-ParenClose-clause-found : goal.items-returns-in-ParenClose-clause-found
+items-returns-in-ParenClose-clause-found t c octets rest l vs behind p more d =
+    let i = c.loop-items.invariant.found octets rest l vs behind p more d in
+    let f = c.in_ok-first.ensures.found octets i.rest i.left (items-some i.phrase) in
+    let b = next-item (first_lexeme c.in_ok-first.first) i f (sym c.ends_list.ensures ∙ c.if-ends_list.false) in
+    let r = c.in_ok-item.ensures.found octets f.rest f.left b.first b.after b.phrase _ (of-item b.is i.allows).0 in
+    let m = c.in_ok-behind.ensures.found octets b.after r.1 (follows-some b.follows) in
+    item-last c.in_ok-item.item (objects c.loop-items.self.draft) (objects c.value.new.self.draft) i b c.in_ok-push.ensures.items c.in_ok-item.ensures.kept r.0 r.2
+    (subst (λ x. IsFirst octets (lexeme_of x) b.after c.expect_mark.new.self.cursor) c.in-ParenClose.is m)
 
 pub items-loop-items-preserved : goal.items-loop-items-preserved
 items-loop-items-preserved t c =
@@ -108,11 +113,7 @@ items-loop-items-preserved t c =
     record {
       shorter = omega (arith, c.in_ok-behind.ensures.shorter, c.in_ok-item.ensures.shorter, c.in_ok-first.ensures.shorter, c.loop-items.invariant.shorter);
       kept = λ i held h. kept i held (c.loop-items.invariant.kept i held h);
-      read = λ octets tokens h.
-          drafts-more (objects c.loop-items.self.draft) (objects c.value.new.self.draft) c.loop-items.items.items c.push.new.self.items c.in_ok-item.item c.in_ok-first.ensures.read.token (placed c.in_ok-behind.behind)
-          c.in_ok-push.ensures.items kept (c.loop-items.invariant.read octets tokens h) (c.in_ok-first.ensures.read.stands octets)
-          (λ all stands. c.in_ok-item.ensures.read octets all c.in_ok-first.ensures.read.token c.in_ok-first.ensures.read.is stands)
-          (c.in_ok-behind.ensures.read octets) (ap lexeme_of c.in-Comma.is);
+      read = item-drafted t (goal.at.items-loop-items-preserved t c).In_ok-behind continued (ap lexeme_of c.in-Comma.is);
       found = λ octets rest l vs behind p more d.
           let i = c.loop-items.invariant.found octets rest l vs behind p more d in
           let f = c.in_ok-first.ensures.found octets i.rest i.left (items-some i.phrase) in
@@ -181,10 +182,10 @@ rows-loop-rows-preserved t c =
     }
 
 pub value-returns-then-levels-eq0-clause-found : goal.value-returns-then-levels-eq0-clause-found
-value-returns-then-levels-eq0-clause-found t c octets rest l v behind p more d = absurd (omega (arith, d.deep_enough, depth-some v, c.if-levels-eq0.true))
+value-returns-then-levels-eq0-clause-found t c octets rest l v behind p more d = absurd (omega (arith, d.deep_enough, some-depth v, c.if-levels-eq0.true))
 
 pub value-returns-in_err-take_node-clause-found : goal.value-returns-in_err-take_node-clause-found
-value-returns-in_err-take_node-clause-found t c octets rest l v behind p more d = absurd (omega (arith, d.nodes_left, nodes-some v, c.in_err-take_node.ensures.none))
+value-returns-in_err-take_node-clause-found t c octets rest l v behind p more d = absurd (omega (arith, d.nodes_left, some-nodes v, c.in_err-take_node.ensures.none))
 
 pub value-returns-in-Plain-clause-found : goal.value-returns-in-Plain-clause-found
 value-returns-in-Plain-clause-found t c octets rest l v behind p more d =
@@ -359,7 +360,7 @@ row-returns-in-Equals-clause-found t c octets rest l key v behind p more d =
 
 pub row-returns-in_err-take_node-in-Semicolon-clause-found : goal.row-returns-in_err-take_node-in-Semicolon-clause-found
 row-returns-in_err-take_node-in-Semicolon-clause-found t c octets rest l key v behind p more d =
-    absurd (omega (arith, d.nodes_left, nodes-some v, c.in_ok-take_node.ensures.taken, c.in_err-take_node-in-Semicolon.ensures.none))
+    absurd (omega (arith, d.nodes_left, some-nodes v, c.in_ok-take_node.ensures.taken, c.in_err-take_node-in-Semicolon.ensures.none))
 
 pub row-returns-in-Semicolon-clause-found : goal.row-returns-in-Semicolon-clause-found
 row-returns-in-Semicolon-clause-found t c octets rest l key v behind p more d =

@@ -1,18 +1,18 @@
-use Rattle.std.proofs.Common.{◌≡◌, ◌≤◌, ◌*◌, ◌∷◌, ◌++◌, [], true, false, length, refl, ap, subst, ◌∙◌, append_assoc, arith}
+use Rattle.std.proofs.Common.{◌≡◌, ℕ, List, ◌≤◌, ◌*◌, ◌∷◌, ◌++◌, [], true, false, length, refl, ap, subst, ◌∙◌, append_assoc, arith}
 use Rattle.std.proofs.lemmas.Result.{IfOk-weaker}
 use Rattle.plist_value.specs.Budget.{Spends}
 use Rattle.plist_value.specs.Plist.{AreUnits, AreOctets, scalar, text, bytes, list, table, no_items, no_pairs}
 use Rattle.plist_value.proofs.Pairs.{put_pair}
-use Rattle.ostep_lex.specs.Lexeme.{placed, lexeme_of, text as string, octets as data_token, paren_open, brace_open, equals}
+use Rattle.ostep_lex.specs.Lexeme.{Lexeme, Placed, placed, lexeme_of, text as string, octets as data_token, paren_open, brace_open, equals}
 use Rattle.ostep_text.specs.Begun.{opened, with_items, with_rows, with_key}
 use Rattle.ostep_text.specs.Sorting.{has_key}
-use Rattle.ostep_text.specs.Means.{no_node}
+use Rattle.ostep_text.specs.Means.{no_node, MeanItems, IsBuilt}
 use Rattle.ostep_text.specs.Stands.{Stands}
 use Rattle.ostep_text.specs.Machine
 use Rattle.ostep_text.specs.Machine.{Around}
-use Rattle.ostep_text.specs.Reading.{Front, HasRead}
+use Rattle.ostep_text.specs.Reading.{Front, HasRead, ReadsItems, TakesItems}
 use Rattle.ostep_text.specs.Due.{ValueDue}
-use Rattle.ostep_lex.proofs.Exits.{passed_on, no_ok, none_ok, on_ok, both_ok}
+use Rattle.ostep_lex.proofs.Exits.{passed_on, on_ok, both_ok}
 use Rattle.ostep_text.proofs.MachineLemmas.{leads-nowhere, item-begun, item-ended, row-ended, key-ended, table-ended, value-ended, value-none}
 use Rattle.plist_value.proofs.Items.{push}
 use Rattle.ostep_text.proofs.MeanSteps.{mean-push}
@@ -20,8 +20,10 @@ use Rattle.ostep_text.proofs.SortingSteps.{put-stands, put-ascends, pairs-ascend
 use Rattle.ostep_text.proofs.Standing.{expected-at, same-read, value-refuses, before-at, before-key, key-refuses, alone-refuses, twice-stands}
 use Rattle.ostep_text.proofs.DueSteps.{list-due, items-open, item-due, item-leads, item-open, table-due, row-due, rows-open, key-open, row_value-due, row_value-first, row_value-open, row_value-leads, row_value-after, value-open, value-nowhere}
 use Rattle.ostep_text.proofs.TakeSteps.{no-items-taken, no-pairs-taken, item-taken, pair-taken, row-taken, scalar-taken, list-taken, table-taken, opened-left, items-left, rows-left, key-left, spends-same}
-use Rattle.ostep_text.proofs.ReadSteps.{string-read, data-read, list-read, no-items-read, item-read, last_item-read, items-read, ended-read, row-read, alone-read, no-pairs-read, pair-read, pairs-read, pairs-table}
+use Rattle.ostep_text.proofs.ReadSteps.{string-read, data-read, list-read, no-items-read, EndsItem, continued, closed, item-read, items-read, ended-read, row-read, alone-read, no-pairs-read, pair-read, pairs-read, pairs-table}
+use Rattle.ostep_text.proofs.reader.Reader.+value.Given as given
 use Rattle.ostep_text.proofs.reader.Reader.+value.Goals as goal
+use Rattle.ostep_text.proofs.reader.Reader.+value.Goals.{items-In_ok-after}
 
 pub items-loop-items-init : goal.items-loop-items-init
 items-loop-items-init g t c = record {
@@ -52,84 +54,64 @@ items-returns-in-ParenClose-clause-built g t c =
           items-read r (placed c.in_ok-first.first) (ap lexeme_of c.in-ParenClose.is) (c.in_ok-first.ensures.read octets r.reads.all r.reads.has);
     }
 
-pub items-returns-in_err-item : goal.items-returns-in_err-item
-items-returns-in_err-item g t c = record {
-  shorter = none_ok _ _ c.from_residual-in_err-item.result c.from_residual-in_err-item.ensures.1;
-  built = no_ok _ _ c.from_residual-in_err-item.result c.from_residual-in_err-item.ensures.1;
-  stands = λ octets tokens whole b a f h d i.
-      let r = c.loop-items.invariant.built.read octets tokens h in
-      let first = c.in_ok-first.first in
-      passed_on (Stands octets) c.in_err-item.field-0.0 c.from_residual-in_err-item.result c.from_residual-in_err-item.ensures.1
-      (c.in_err-item.ensures.stands octets r.reads.all (λ rest. whole (r.inside rest)) (with_items c.loop-items.invariant.built.meant (opened b)) (Machine.in_list a)
-      (r.reads.follow whole f) (c.in_ok-first.ensures.read octets r.reads.all r.reads.has)
-      (item-due r.inside d r.spells (item-begun a first.kind c.in_default.not-ParenClose))
-      (items-left b c.loop-items.invariant.built.meant i c.loop-items.invariant.built.taken));
-}
+pub items-returns-in_err-item-clause-stands : goal.items-returns-in_err-item-clause-stands
+items-returns-in_err-item-clause-stands g t c octets tokens whole b a f h d i =
+    let r = c.loop-items.invariant.built.read octets tokens h in
+    let first = c.in_ok-first.first in
+    passed_on (Stands octets) c.in_err-item.field-0.0 c.from_residual-in_err-item.result c.from_residual-in_err-item.ensures.1
+    (c.in_err-item.ensures.stands octets r.reads.all (λ rest. whole (r.inside rest)) (with_items c.loop-items.invariant.built.meant (opened b)) (Machine.in_list a)
+    (r.reads.follow whole f) (c.in_ok-first.ensures.read octets r.reads.all r.reads.has)
+    (item-due r.inside d r.spells (item-begun a first.kind c.in_default.not-ParenClose))
+    (items-left b c.loop-items.invariant.built.meant i c.loop-items.invariant.built.taken))
 
-pub items-returns-in_err-after : goal.items-returns-in_err-after
-items-returns-in_err-after g t c = record {
-  shorter = none_ok _ _ c.from_residual-in_err-after.result c.from_residual-in_err-after.ensures.1;
-  built = no_ok _ _ c.from_residual-in_err-after.result c.from_residual-in_err-after.ensures.1;
-  stands = λ octets tokens whole b a f h d i.
-      let r = c.loop-items.invariant.built.read octets tokens h in
-      let v = c.in_ok-item.ensures.built.read octets r.reads.all (c.in_ok-first.ensures.read octets r.reads.all r.reads.has) in
-      let more : Front = λ rest. lexeme_of c.in_ok-first.first.kind ∷ v.inside rest in
-      passed_on (Stands octets) c.in_err-after.field-0.0 c.from_residual-in_err-after.result c.from_residual-in_err-after.ensures.1
-      (c.in_err-after.ensures.stands octets v.reads.all (λ rest. whole (r.inside (more rest))) (v.reads.follow (λ rest. whole (r.inside rest)) (r.reads.follow whole f)) v.reads.has
-      (item-open r.inside more d r.spells v.spells));
-}
+pub items-returns-in_err-after-clause-stands : goal.items-returns-in_err-after-clause-stands
+items-returns-in_err-after-clause-stands g t c octets tokens whole b a f h d i =
+    let r = c.loop-items.invariant.built.read octets tokens h in
+    let v = c.in_ok-item.ensures.built.read octets r.reads.all (c.in_ok-first.ensures.read octets r.reads.all r.reads.has) in
+    let more : Front = λ rest. lexeme_of c.in_ok-first.first.kind ∷ v.inside rest in
+    passed_on (Stands octets) c.in_err-after.field-0.0 c.from_residual-in_err-after.result c.from_residual-in_err-after.ensures.1
+    (c.in_err-after.ensures.stands octets v.reads.all (λ rest. whole (r.inside (more rest))) (v.reads.follow (λ rest. whole (r.inside rest)) (r.reads.follow whole f)) v.reads.has
+    (item-open r.inside more d r.spells v.spells))
 
-pub items-returns-in-ParenClose-kind : goal.items-returns-in-ParenClose-kind
-items-returns-in-ParenClose-kind g t c =
+-- the items and one more, up to the token after it
+item-built : (g : given.Over) (t : ℕ) (c : items-In_ok-after g t) {l : Lexeme} {end : List Lexeme} → EndsItem l end → lexeme_of c.in_ok-after.after.kind ≡ l
+    → IsBuilt (MeanItems g.N.Built.means) (c.loop-items.items.items ++ c.in_ok-item.item ∷ []) (λ vs. TakesItems c.args.self.now.left c.args.levels vs c.value.new.self.left)
+    (λ vs. (octets : List ℕ) (tokens : List Placed) → HasRead octets tokens c.args.self.now.tokens → ReadsItems octets tokens end vs c.expect_mark.new.self)
+item-built g t c ends is =
     let b = c.loop-items.invariant.built in
     let i = c.in_ok-item.ensures.built in
     record {
-      shorter = omega (arith, c.in_ok-after.ensures.shorter, c.in_ok-item.ensures.shorter, c.in_ok-first.ensures.shorter, c.loop-items.invariant.shorter);
-      built = rw c.in_ok-push.ensures.items (record {
-        meant = push b.meant i.meant;
-        means_it = mean-push b.means_it i.means_it;
-        taken = item-taken b.meant i.meant b.taken i.taken;
-        read = λ octets tokens h.
-            let r = b.read octets tokens h in
-            let v = i.read octets r.reads.all (c.in_ok-first.ensures.read octets r.reads.all r.reads.has) in
-            last_item-read r v (placed c.in_ok-after.after) (ap lexeme_of c.in-ParenClose-kind.is) (c.in_ok-after.ensures.read octets v.reads.all v.reads.has);
-      });
-      stands = λ octets tokens whole b a f h d i. tt;
+      meant = push b.meant i.meant;
+      means_it = mean-push b.means_it i.means_it;
+      taken = item-taken b.meant i.meant b.taken i.taken;
+      read = λ octets tokens h.
+          let r = b.read octets tokens h in
+          let v = i.read octets r.reads.all (c.in_ok-first.ensures.read octets r.reads.all r.reads.has) in
+          item-read r v (placed c.in_ok-after.after) ends is (c.in_ok-after.ensures.read octets v.reads.all v.reads.has);
     }
 
-pub items-returns-in_default-kind : goal.items-returns-in_default-kind
-items-returns-in_default-kind g t c = record {
-  shorter = tt;
-  built = tt;
-  stands = λ octets tokens whole b a f h d i.
-      let r = c.loop-items.invariant.built.read octets tokens h in
-      let v = c.in_ok-item.ensures.built.read octets r.reads.all (c.in_ok-first.ensures.read octets r.reads.all r.reads.has) in
-      let more : Front = λ rest. lexeme_of c.in_ok-first.first.kind ∷ v.inside rest in
-      let token = placed c.in_ok-after.after in
-      let has = c.in_ok-after.ensures.read octets v.reads.all v.reads.has in
-      c.refuse.ensures octets (v.reads.all ++ token ∷ []) has
-      (expected-at v.reads.all token (λ rest. whole (r.inside (more rest))) (v.reads.follow (λ rest. whole (r.inside rest)) (r.reads.follow whole f)) has
-      (item-open r.inside more d r.spells v.spells)
-      (leads-nowhere (λ rest. whole (r.inside (more rest))) (Machine.after (Machine.in_list a)) token.lexeme (item-leads r.inside more d r.spells v.spells)
-      (item-ended a c.in_ok-after.after.kind c.in_default-kind.not-ParenClose c.in_default-kind.not-Comma)));
-}
+pub items-returns-in-ParenClose-kind-clause-built : goal.items-returns-in-ParenClose-kind-clause-built
+items-returns-in-ParenClose-kind-clause-built g t c =
+    rw c.in_ok-push.ensures.items (item-built g t (goal.at.items-returns-in-ParenClose-kind-clause-built g t c).In_ok-after closed (ap lexeme_of c.in-ParenClose-kind.is))
+
+pub items-returns-in_default-kind-clause-stands : goal.items-returns-in_default-kind-clause-stands
+items-returns-in_default-kind-clause-stands g t c octets tokens whole b a f h d i =
+    let r = c.loop-items.invariant.built.read octets tokens h in
+    let v = c.in_ok-item.ensures.built.read octets r.reads.all (c.in_ok-first.ensures.read octets r.reads.all r.reads.has) in
+    let more : Front = λ rest. lexeme_of c.in_ok-first.first.kind ∷ v.inside rest in
+    let token = placed c.in_ok-after.after in
+    let has = c.in_ok-after.ensures.read octets v.reads.all v.reads.has in
+    c.refuse.ensures octets (v.reads.all ++ token ∷ []) has
+    (expected-at v.reads.all token (λ rest. whole (r.inside (more rest))) (v.reads.follow (λ rest. whole (r.inside rest)) (r.reads.follow whole f)) has
+    (item-open r.inside more d r.spells v.spells)
+    (leads-nowhere (λ rest. whole (r.inside (more rest))) (Machine.after (Machine.in_list a)) token.lexeme (item-leads r.inside more d r.spells v.spells)
+    (item-ended a c.in_ok-after.after.kind c.in_default-kind.not-ParenClose c.in_default-kind.not-Comma)))
 
 pub items-loop-items-preserved : goal.items-loop-items-preserved
-items-loop-items-preserved g t c =
-    let b = c.loop-items.invariant.built in
-    let i = c.in_ok-item.ensures.built in
-    record {
-      shorter = omega (arith, c.in_ok-after.ensures.shorter, c.in_ok-item.ensures.shorter, c.in_ok-first.ensures.shorter, c.loop-items.invariant.shorter);
-      built = rw c.in_ok-push.ensures.items (record {
-        meant = push b.meant i.meant;
-        means_it = mean-push b.means_it i.means_it;
-        taken = item-taken b.meant i.meant b.taken i.taken;
-        read = λ octets tokens h.
-            let r = b.read octets tokens h in
-            let v = i.read octets r.reads.all (c.in_ok-first.ensures.read octets r.reads.all r.reads.has) in
-            item-read r v (placed c.in_ok-after.after) (ap lexeme_of c.in-Comma.is) (c.in_ok-after.ensures.read octets v.reads.all v.reads.has);
-      });
-    }
+items-loop-items-preserved g t c = record {
+  shorter = omega (arith, c.in_ok-after.ensures.shorter, c.in_ok-item.ensures.shorter, c.in_ok-first.ensures.shorter, c.loop-items.invariant.shorter);
+  built = rw c.in_ok-push.ensures.items (item-built g t (goal.at.items-loop-items-preserved g t c).In_ok-after continued (ap lexeme_of c.in-Comma.is));
+}
 
 pub row-returns-in_err-charge-clause-stands : goal.row-returns-in_err-charge-clause-stands
 row-returns-in_err-charge-clause-stands g t c octets tokens at whole b around before pairs l s f h d k i =
@@ -214,23 +196,17 @@ row-returns-in-Semicolon-clause-stands g t c octets tokens at whole b around bef
     c.key_alone.ensures.stands octets ((tokens ++ at ∷ []) ++ token ∷ []) has_after
     (alone-refuses tokens at token c.args.octet key whole c.args.levels c.charge.new.self.left l s (ap lexeme_of c.in-Semicolon.is) f two d once (key-left key i spent))
 
-pub row-returns : goal.row-returns
-row-returns g t c =
-    record {
-      shorter = tt;
-      once = tt;
-      built = tt;
-      stands = λ octets tokens at whole b around before pairs l s f h d k i.
-          let has : HasRead octets (tokens ++ at ∷ []) c.charge.new.self.tokens = same-read h c.in_ok-charge.ensures.tokens in
-          let token = placed c.in_ok-after.after in
-          let key = c.args.key.now in
-          let has_after = c.in_ok-after.ensures.read octets (tokens ++ at ∷ []) has in
-          let once : has_key key pairs ≡ false = k ∙ c.if-known.false in
-          c.refuse-in_default.ensures octets ((tokens ++ at ∷ []) ++ token ∷ []) has_after
-          (expected-at (tokens ++ at ∷ []) token (λ rest. whole (string key ∷ rest)) (before-key tokens at key whole l f) has_after (key-open key d once)
-          (leads-nowhere (λ rest. whole (string key ∷ rest)) (Machine.key around) token.lexeme (λ rest. d.leads (string key ∷ rest))
-          (key-ended around c.in_ok-after.after.kind c.in_default.not-Equals c.in_default.not-Semicolon)));
-    }
+pub row-returns-clause-stands : goal.row-returns-clause-stands
+row-returns-clause-stands g t c octets tokens at whole b around before pairs l s f h d k i =
+    let has : HasRead octets (tokens ++ at ∷ []) c.charge.new.self.tokens = same-read h c.in_ok-charge.ensures.tokens in
+    let token = placed c.in_ok-after.after in
+    let key = c.args.key.now in
+    let has_after = c.in_ok-after.ensures.read octets (tokens ++ at ∷ []) has in
+    let once : has_key key pairs ≡ false = k ∙ c.if-known.false in
+    c.refuse-in_default.ensures octets ((tokens ++ at ∷ []) ++ token ∷ []) has_after
+    (expected-at (tokens ++ at ∷ []) token (λ rest. whole (string key ∷ rest)) (before-key tokens at key whole l f) has_after (key-open key d once)
+    (leads-nowhere (λ rest. whole (string key ∷ rest)) (Machine.key around) token.lexeme (λ rest. d.leads (string key ∷ rest))
+    (key-ended around c.in_ok-after.after.kind c.in_default.not-Equals c.in_default.not-Semicolon)))
 
 pub row_value-returns-in_err-first-clause-stands : goal.row_value-returns-in_err-first-clause-stands
 row_value-returns-in_err-first-clause-stands g t c octets tokens whole b around f h d i =
@@ -261,20 +237,16 @@ row_value-returns-in-Semicolon-clause-built g t c =
           ended-read tokens (placed c.in_ok-first.first) v (placed c.in_ok-after.after) (ap lexeme_of c.in-Semicolon.is) (c.in_ok-after.ensures.read octets v.reads.all v.reads.has);
     }
 
-pub row_value-returns-in_default : goal.row_value-returns-in_default
-row_value-returns-in_default g t c = record {
-  shorter = tt;
-  built = tt;
-  stands = λ octets tokens whole b around f h d i.
-      let v = c.in_ok-value.ensures.built.read octets tokens (c.in_ok-first.ensures.read octets tokens h) in
-      let more : Front = λ rest. lexeme_of c.in_ok-first.first.kind ∷ v.inside rest in
-      let token = placed c.in_ok-after.after in
-      let has = c.in_ok-after.ensures.read octets v.reads.all v.reads.has in
-      c.refuse.ensures octets (v.reads.all ++ token ∷ []) has
-      (expected-at v.reads.all token (λ rest. whole (more rest)) (v.reads.follow whole f) has (row_value-after more d v.spells)
-      (leads-nowhere (λ rest. whole (more rest)) (Machine.after around) token.lexeme (row_value-leads more d v.spells)
-      (row-ended d.table c.in_ok-after.after.kind c.in_default.not-Semicolon)));
-}
+pub row_value-returns-in_default-clause-stands : goal.row_value-returns-in_default-clause-stands
+row_value-returns-in_default-clause-stands g t c octets tokens whole b around f h d i =
+    let v = c.in_ok-value.ensures.built.read octets tokens (c.in_ok-first.ensures.read octets tokens h) in
+    let more : Front = λ rest. lexeme_of c.in_ok-first.first.kind ∷ v.inside rest in
+    let token = placed c.in_ok-after.after in
+    let has = c.in_ok-after.ensures.read octets v.reads.all v.reads.has in
+    c.refuse.ensures octets (v.reads.all ++ token ∷ []) has
+    (expected-at v.reads.all token (λ rest. whole (more rest)) (v.reads.follow whole f) has (row_value-after more d v.spells)
+    (leads-nowhere (λ rest. whole (more rest)) (Machine.after around) token.lexeme (row_value-leads more d v.spells)
+    (row-ended d.table c.in_ok-after.after.kind c.in_default.not-Semicolon)))
 
 pub rows-loop-rows-init : goal.rows-loop-rows-init
 rows-loop-rows-init g t c =
@@ -336,21 +308,16 @@ rows-loop-rows-preserved g t c =
       };
     }
 
-pub rows-returns-in_default : goal.rows-returns-in_default
-rows-returns-in_default g t c =
-    record {
-      shorter = tt;
-      built = tt;
-      stands = λ octets tokens whole b a f h d i.
-          let r = c.loop-rows.invariant.built.read octets tokens h in
-          let token = placed c.in_ok-token.token in
-          let has = c.in_ok-token.ensures.read octets r.read.reads.all r.read.reads.has in
-          let due = row-due r.read.inside d r.read.spells r.same c.loop-rows.invariant.built.taken.valid in
-          c.refuse.ensures octets (r.read.reads.all ++ token ∷ []) has
-          (expected-at r.read.reads.all token (λ rest. whole (r.read.inside rest)) (r.read.reads.follow whole f) has (rows-open due)
-          (leads-nowhere (λ rest. whole (r.read.inside rest)) (Machine.rows (Machine.in_braces a)) token.lexeme due.leads
-          (table-ended a c.in_ok-token.token.kind c.in_default.not-BraceClose c.in_default.not-Text)));
-    }
+pub rows-returns-in_default-clause-stands : goal.rows-returns-in_default-clause-stands
+rows-returns-in_default-clause-stands g t c octets tokens whole b a f h d i =
+    let r = c.loop-rows.invariant.built.read octets tokens h in
+    let token = placed c.in_ok-token.token in
+    let has = c.in_ok-token.ensures.read octets r.read.reads.all r.read.reads.has in
+    let due = row-due r.read.inside d r.read.spells r.same c.loop-rows.invariant.built.taken.valid in
+    c.refuse.ensures octets (r.read.reads.all ++ token ∷ []) has
+    (expected-at r.read.reads.all token (λ rest. whole (r.read.inside rest)) (r.read.reads.follow whole f) has (rows-open due)
+    (leads-nowhere (λ rest. whole (r.read.inside rest)) (Machine.rows (Machine.in_braces a)) token.lexeme due.leads
+    (table-ended a c.in_ok-token.token.kind c.in_default.not-BraceClose c.in_default.not-Text)))
 
 pub value-returns-in_err-charge-in-Text-clause-stands : goal.value-returns-in_err-charge-in-Text-clause-stands
 value-returns-in_err-charge-in-Text-clause-stands g t c octets tokens whole b a f h d i =
@@ -447,15 +414,11 @@ value-returns-in_ok-rows-in-BraceOpen-clause-built g t c =
           pairs-table tokens (placed c.args.first) (ap lexeme_of c.in-BraceOpen.is) (b.read octets (tokens ++ placed c.args.first ∷ []) has) b.taken.valid;
     }
 
-pub value-returns-in_default : goal.value-returns-in_default
-value-returns-in_default g t c = record {
-  shorter = tt;
-  built = tt;
-  stands = λ octets tokens whole b a f h d i.
-      let token = placed c.args.first in
-      let kind = c.args.first.kind in
-      let n = c.in_default in
-      c.refuse.ensures octets (tokens ++ token ∷ []) h
-      (expected-at tokens token whole f h (value-open d (value-none kind n.not-Text n.not-Octets n.not-ParenOpen n.not-BraceOpen))
-      (value-nowhere d (value-ended a kind n.not-Text n.not-Octets n.not-ParenOpen n.not-BraceOpen)));
-}
+pub value-returns-in_default-clause-stands : goal.value-returns-in_default-clause-stands
+value-returns-in_default-clause-stands g t c octets tokens whole b a f h d i =
+    let token = placed c.args.first in
+    let kind = c.args.first.kind in
+    let n = c.in_default in
+    c.refuse.ensures octets (tokens ++ token ∷ []) h
+    (expected-at tokens token whole f h (value-open d (value-none kind n.not-Text n.not-Octets n.not-ParenOpen n.not-BraceOpen))
+    (value-nowhere d (value-ended a kind n.not-Text n.not-Octets n.not-ParenOpen n.not-BraceOpen)))

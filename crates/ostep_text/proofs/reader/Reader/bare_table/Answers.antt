@@ -51,18 +51,15 @@ loop-rows-preserved g c octets left v m i t r =
       bare-more c.row.new.self b row.taken once (row.read octets b.tokens token (ap lexeme_of c.in-Text.is) has),
     )
 
-pub returns-in_default-kind : goal.returns-in_default-kind
-returns-in_default-kind g c = record {
-  read = λ octets left v m i t r. tt;
-  stands = λ octets left v m i t r.
-      let p = c.loop-rows.invariant octets left v m i t r in
-      let b = p.2 in
-      let token = placed c.in-Some.token in
-      let has : HasRead octets (b.tokens ++ token ∷ []) c.next.new.self = rw c.in-Some.is at (c.in_ok-token.ensures.read octets b.tokens b.has) in
-      c.refuse.ensures octets (b.tokens ++ token ∷ []) has
-      (junk-at b.tokens token b.whole b.before has b.some (table p.0, bare-phrase b)
-      (bare-ends b token.lexeme (bare-ended c.in-Some.token.kind c.in_default-kind.not-Text)));
-}
+pub returns-in_default-kind-clause-stands : goal.returns-in_default-kind-clause-stands
+returns-in_default-kind-clause-stands g c octets left v m i t r =
+    let p = c.loop-rows.invariant octets left v m i t r in
+    let b = p.2 in
+    let token = placed c.in-Some.token in
+    let has : HasRead octets (b.tokens ++ token ∷ []) c.next.new.self = rw c.in-Some.is at (c.in_ok-token.ensures.read octets b.tokens b.has) in
+    c.refuse.ensures octets (b.tokens ++ token ∷ []) has
+    (junk-at b.tokens token b.whole b.before has b.some (table p.0, bare-phrase b)
+    (bare-ends b token.lexeme (bare-ended c.in-Some.token.kind c.in_default-kind.not-Text)))
 
 pub returns-clause-read : goal.returns-clause-read
 returns-clause-read g c octets left v m i t r =

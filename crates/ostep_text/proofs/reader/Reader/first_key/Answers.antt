@@ -6,6 +6,7 @@ use Rattle.ostep_text.specs.Stands.{Stands}
 use Rattle.ostep_text.specs.Reading.{HasRead, IsLeft}
 use Rattle.ostep_lex.proofs.Exits.{passed_on}
 use Rattle.ostep_text.proofs.Standing.{same-read, front-refuses, first_key-refuses}
+use Rattle.ostep_text.proofs.TakeSteps.{left-after}
 use Rattle.ostep_text.proofs.reader.Reader.first_key.Goals as goal
 
 pub returns-in_err-charge-clause-stands : goal.returns-in_err-charge-clause-stands
@@ -17,9 +18,5 @@ pub returns-clause-stands : goal.returns-clause-stands
 returns-clause-stands c octets at after l s h i =
     let read : HasRead octets (at ∷ after ∷ []) c.charge.new.self.tokens = same-read h c.in_ok-charge.ensures.tokens in
     let few : c.text_payload.result ≤ 2 * length c.args.key.now = omega (arith, c.text_payload.ensures.payload) in
-    let left : IsLeft c.charge.new.self.left 511 (with_rows no_pairs (opened nothing)) = record {
-      nodes_left = omega (arith, i.nodes_left, c.in_ok-charge.ensures.spent.nodes_left);
-      payload_left = omega (arith, i.payload_left, c.in_ok-charge.ensures.spent.payload_left);
-      levels_left = omega (arith, i.levels_left);
-    } in
+    let left : IsLeft c.charge.new.self.left 511 (with_rows no_pairs (opened nothing)) = left-after i c.in_ok-charge.ensures.spent (omega arith) (omega arith) (omega arith) in
     c.charge-2.ensures.stands octets (at ∷ after ∷ []) read (first_key-refuses (after ∷ []) at c.args.octet c.args.key.now 511 c.text_payload.result c.charge.new.self.left l s read few left)
