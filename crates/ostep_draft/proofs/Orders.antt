@@ -99,7 +99,7 @@ pairs-rows (pair key v ps) a = (a.1, low_key key ps a.2 (pairs-ascend ps a.3), p
 pub turned-rows : {rows ps : Pairs} → AreReordered rows ps → ArePairs ps → AreRows rows
 turned-rows {ps = ps} r a = reordered-rows r (pairs-rows ps a)
 
--- the last of some rows stands among them
+-- the last of some rows is one of them
 push-among : (rows : Pairs) (key : List ℕ) (v : Plist) → StandsAmong key v rows (push_row rows key v)
 push-among no_pairs key v = first
 push-among (pair n w rows) key v = later (push-among rows key v)

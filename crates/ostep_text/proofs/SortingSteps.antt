@@ -37,7 +37,7 @@ pub put-at : (o : Ordering) (key next : List ℕ) (v w : Plist) (ps : Pairs) →
     → put_pair key v (pair next w ps) ≡ match_ordering o (pair key v (pair next w ps)) (pair next v ps) (pair next w (put_pair key v ps))
 put-at o key next v w ps e = ap (λ (x : Ordering). match_ordering x (pair key v (pair next w ps)) (pair next v ps) (pair next w (put_pair key v ps))) e
 
--- a new row stands before the first one or behind it
+-- a new row comes before the first one or after it
 put-by : (P : Pairs → Type 0) (key next : List ℕ) (v w : Plist) (ps : Pairs) (o : Ordering) → slice_cmp nat_cmp key next ≡ o → pointwise nat_eq key next ≡ false
     → (slice_cmp nat_cmp key next ≡ Less → P (pair key v (pair next w ps))) → (slice_cmp nat_cmp next key ≡ Less → P (pair next w (put_pair key v ps))) → P (put_pair key v (pair next w ps))
 put-by P key next v w ps Less e d before behind = subst P (sym (put-at Less key next v w ps e)) (before e)

@@ -14,6 +14,7 @@ use Rattle.std.proofs.lemmas.Bool.{eqb-false}
 use Rattle.std.proofs.lemmas.List.{map-append, get_or_default, get_or-set_other}
 use Rattle.std.proofs.lemmas.List.Elements.{All-tail}
 use Rattle.std.proofs.lemmas.List.Sorted.{IsPermutation-map, IsPermutation-to_front, All-permutation}
+use Rattle.std.proofs.lemmas.Map.Made.{keys_of-zip}
 use Rattle.std.proofs.lemmas.Map.Keys.{sorted_head, sorted_tail, IsDistinct-head, IsDistinct-tail, IsDistinct-IsPermutation}
 pub use Rattle.plist_object.proofs.Ascents.{AscendTo, ascend_next, ascend_more, not_ascending, sorted_from_ascent, same_key, ascent_from_distinct, distinct_from_ascent, distinct_moved}
 use Rattle.plist_value.specs.declared.value.Value.{Value}
@@ -22,9 +23,7 @@ use Rattle.plist_binary.specs.declared.dictionary.Key.{Key}
 use Rattle.plist_binary.specs.Keys.{units_at, place_of, pair_at}
 
 pub zip-firsts : {A B : Type 0} (xs : List A) (ys : List B) → length xs ≡ length ys → map (λ (p : A × B). p.0) (zip xs ys) ≡ xs
-zip-firsts [] ys long = refl
-zip-firsts (x ∷ xs) [] long = absurd (omega arith)
-zip-firsts (x ∷ xs) (y ∷ ys) long = ap (λ l. x ∷ l) (zip-firsts xs ys (omega arith))
+zip-firsts xs ys long = keys_of-zip xs ys (sym long)
 
 pub zip-seconds : {A B : Type 0} (xs : List A) (ys : List B) → length xs ≡ length ys → map (λ (p : A × B). p.1) (zip xs ys) ≡ ys
 zip-seconds [] [] long = refl

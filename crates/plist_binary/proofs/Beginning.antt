@@ -1,31 +1,28 @@
 -- What comes before an object, from what comes before its container and from the references before
 -- it.
-use Rattle.std.proofs.Common.{◌≡◌, ℕ, suc, ◌+◌, ◌-◌, ◌<◌, List, [], ◌∷◌, ◌++◌, ◌≤◌, length, take, drop, slice_index, refl, sym, ap, ◌∙◌, subst, inl, inr, arith}
-use Rattle.std.proofs.lemmas.List.{append_assoc}
-use Rattle.plist_value.specs.Plist.{Items, no_items}
+use Rattle.std.proofs.Common.{◌≡◌, ℕ, suc, ◌+◌, ◌-◌, ◌<◌, List, [], ◌∷◌, ◌++◌, ◌≤◌, length, take, drop, slice_index, refl, sym, ap, ◌∙◌, subst, arith}
+use Rattle.std.proofs.lemmas.List.{append_assoc, append-nil}
+use Rattle.std.proofs.lemmas.List.Elements.{Contains-append_left, Contains-append_right}
+use Rattle.plist_value.specs.Plist.{Items, no_items, AreItems}
 use Rattle.std.specs.List.{Contains}
 use Rattle.plist_value.specs.Limits.{nodes_of_items, depth_of_items, payload_of_items}
 use Rattle.plist_value.specs.declared.TheConstants.{MAX_DEPTH}
 use Rattle.plist_value.specs.Budget.{Spends}
 use Rattle.plist_value.specs.declared.budget.Budget.{Budget}
-use Rattle.plist_object.specs.Objects.{holds_list, holds_table}
+use Rattle.plist_object.specs.Objects.{Held, holds_list, holds_table}
 use Rattle.plist_object.specs.Places.{Holds}
 use Rattle.plist_object.specs.References.{references_of}
-use Rattle.plist_object.proofs.Ascending.{Among, Among-contains, Contains-among}
+use Rattle.plist_object.specs.Spelled.{SpellItems}
 use Rattle.plist_binary.specs.Begins.{Comes, Begins, IsBegun, IsEntered, AreNext}
 use Rattle.plist_binary.specs.Paths.{Refers, Leads, HasKeys}
 use Rattle.plist_binary.specs.Readings.{ReadsItems}
-use Rattle.plist_binary.proofs.ItemSteps.{among_left, among_right, around, join, SpellItems-join, AreItems-join, nodes-join, payload-join, depth-join}
-
-among_middle : (i : ℕ) (front behind : List ℕ) → Among i (front ++ i ∷ behind)
-among_middle i [] behind = inl refl
-among_middle i (x ∷ front) behind = inr (among_middle i front behind)
+use Rattle.plist_binary.proofs.ItemSteps.{around, join, Spends-then, Spends-none, SpellItems-join, AreItems-join, nodes-join, payload-join, depth-join}
 
 pub Comes-refers : (f : List ℕ) (j i : ℕ) (vs : Items) → Comes f j i vs → Refers f j i
 Comes-refers f j i vs comes = record {
   held = comes.held;
   holds = comes.holds;
-  among = Contains-among i (references_of comes.held) (subst (Among i) (sym comes.all) (among_middle i comes.front comes.behind));
+  among = subst (λ (refs : List ℕ). Contains refs i) (sym comes.all) (Contains-append_right comes.front (i ∷ comes.behind) i (0, (omega arith), refl));
 }
 
 -- the path to an object leads to it
@@ -47,82 +44,43 @@ IsEntered-begun f before j left after begun new shallow node = record {
   begins = begun.begins;
   new = new;
   shallow = shallow;
-  spent = record {
-    nodes_left = omega (arith, begun.spent.nodes_left, node.nodes_left);
-    payload_left = omega (arith, begun.spent.payload_left, node.payload_left);
-  };
+  spent = Spends-then begun.spent node (omega arith) (omega arith);
 }
 
 pub IsEntered-leads : (f before : List ℕ) (j : ℕ) (left : Budget) → IsEntered f before j left → Leads f before j
 IsEntered-leads f before j left entered = Begins-leads f before j entered.nodes entered.payload entered.begins
 
-no_more : (xs : List ℕ) → xs ≡ xs ++ []
-no_more [] = refl
-no_more (x ∷ xs) = ap (λ l. x ∷ l) (no_more xs)
+-- the references of a container that was entered, after those that were followed
+AreNext-part : (f before : List ℕ) (j : ℕ) (held : Held) (front refs behind : List ℕ) (left after : Budget) (vs : Items) → IsEntered f before j left → Holds f j held → references_of held ≡ front ++ (refs ++ behind) → SpellItems f front vs → AreItems vs → length before + 1 + depth_of_items vs ≤ MAX_DEPTH → Spends left (nodes_of_items vs) (payload_of_items vs) after → AreNext f before j refs after
+AreNext-part f before j held front refs behind left after vs entered holds all spell valid deep spent = record {
+  nodes = entered.nodes;
+  payload = entered.payload;
+  begins = entered.begins;
+  new = entered.new;
+  held = held;
+  holds = holds;
+  front = front;
+  behind = behind;
+  all = all;
+  values = vs;
+  spell = spell;
+  valid = valid;
+  deep = deep;
+  spent = Spends-then entered.spent spent (omega arith) refl;
+}
 
 pub AreNext-items : (f before : List ℕ) (j : ℕ) (refs : List ℕ) (left : Budget) → IsEntered f before j left → Holds f j (holds_list refs) → AreNext f before j refs left
-AreNext-items f before j refs left entered holds = record {
-  nodes = entered.nodes;
-  payload = entered.payload;
-  begins = entered.begins;
-  new = entered.new;
-  held = holds_list refs;
-  holds = holds;
-  front = [];
-  behind = [];
-  all = no_more refs;
-  values = no_items;
-  spell = refl;
-  valid = tt;
-  deep = omega (arith, entered.shallow);
-  spent = record {
-    nodes_left = omega (arith, entered.spent.nodes_left);
-    payload_left = omega (arith, entered.spent.payload_left);
-  };
-}
+AreNext-items f before j refs left entered holds =
+    AreNext-part f before j (holds_list refs) [] refs [] left left no_items entered holds (sym (append-nil refs)) refl tt (omega (arith, entered.shallow)) (Spends-none left)
 
 pub AreNext-keys : (f before : List ℕ) (j : ℕ) (keys : List ℕ) (left : Budget) → IsEntered f before j left → HasKeys f j keys → AreNext f before j keys left
-AreNext-keys f before j keys left entered table = record {
-  nodes = entered.nodes;
-  payload = entered.payload;
-  begins = entered.begins;
-  new = entered.new;
-  held = holds_table keys table.values;
-  holds = table.holds;
-  front = [];
-  behind = table.values;
-  all = refl;
-  values = no_items;
-  spell = refl;
-  valid = tt;
-  deep = omega (arith, entered.shallow);
-  spent = record {
-    nodes_left = omega (arith, entered.spent.nodes_left);
-    payload_left = omega (arith, entered.spent.payload_left);
-  };
-}
+AreNext-keys f before j keys left entered table =
+    AreNext-part f before j (holds_table keys table.values) [] keys table.values left left no_items entered table.holds refl refl tt (omega (arith, entered.shallow)) (Spends-none left)
 
 -- the values of a dictionary, after its keys
 pub AreNext-values : (f before : List ℕ) (j : ℕ) (keys values : List ℕ) (levels : ℕ) (left after : Budget) (vs : Items) → IsEntered f before j left → Holds f j (holds_table keys values) → length before + 1 + levels ≡ MAX_DEPTH → ReadsItems f keys levels left vs after → AreNext f before j values after
-AreNext-values f before j keys values levels left after vs entered holds levels_are read = record {
-  nodes = entered.nodes;
-  payload = entered.payload;
-  begins = entered.begins;
-  new = entered.new;
-  held = holds_table keys values;
-  holds = holds;
-  front = keys;
-  behind = [];
-  all = ap (λ (l : List ℕ). keys ++ l) (no_more values);
-  values = vs;
-  spell = read.spell;
-  valid = read.valid;
-  deep = omega (arith, read.deep, levels_are);
-  spent = record {
-    nodes_left = omega (arith, entered.spent.nodes_left, read.spent.nodes_left);
-    payload_left = omega (arith, entered.spent.payload_left, read.spent.payload_left);
-  };
-}
+AreNext-values f before j keys values levels left after vs entered holds levels_are read =
+    AreNext-part f before j (holds_table keys values) keys values [] left after vs entered holds (ap (λ (l : List ℕ). keys ++ l) (sym (append-nil values))) read.spell read.valid (omega (arith, read.deep, levels_are)) read.spent
 
 pub AreNext-leads : (f before : List ℕ) (j : ℕ) (refs : List ℕ) (left : Budget) → AreNext f before j refs left → Leads f before j
 AreNext-leads f before j refs left next = Begins-leads f before j next.nodes next.payload next.begins
@@ -163,10 +121,7 @@ IsBegun-next f before j refs k i levels left after vs next levels_are within is 
         nodes_sum = refl;
         payload_sum = refl;
       };
-      spent = record {
-        nodes_left = omega (arith, next.spent.nodes_left, read.spent.nodes_left, nodes_sum);
-        payload_left = omega (arith, next.spent.payload_left, read.spent.payload_left, payload_sum);
-      };
+      spent = Spends-then next.spent read.spent (omega arith) (omega arith);
     }
 
 -- the container contains each of them
@@ -174,5 +129,5 @@ pub Refers-next : (f before : List ℕ) (j i : ℕ) (refs : List ℕ) (left : Bu
 Refers-next f before j i refs left next among = record {
   held = next.held;
   holds = next.holds;
-  among = Contains-among i (references_of next.held) (subst (Among i) (sym next.all) (among_right i next.front (refs ++ next.behind) (among_left i refs next.behind (Among-contains i refs among))));
+  among = subst (λ (all : List ℕ). Contains all i) (sym next.all) (Contains-append_right next.front (refs ++ next.behind) i (Contains-append_left refs next.behind i among));
 }

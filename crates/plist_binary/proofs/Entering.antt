@@ -1,8 +1,9 @@
 -- A dictionary has as many references to values as to keys; and the content of an object that is
 -- entered.
-use Rattle.std.proofs.Common.{◌≡◌, ℕ, ◌+◌, ◌*◌, ◌/◌, ◌%◌, ◌==◌, List, [], ◌∷◌, length, drop, Ok, Err, Result, Bool, true, false, sym, ◌∙◌, subst, suc, ◌≤◌, ◌++◌, ap, ⊎_elim, inl, inr, arith, ◌-◌, ◌<◌}
-use Rattle.std.specs.Prelude.{⊤, nat_lt, if◌then◌else◌, ◌⊎◌}
+use Rattle.std.proofs.Common.{◌≡◌, ℕ, ◌+◌, ◌*◌, ◌/◌, ◌%◌, ◌==◌, List, [], ◌∷◌, length, drop, get_or, zero, refl, Ok, Err, Result, Bool, true, false, sym, ◌∙◌, subst, suc, ◌≤◌, ⊎_elim, inl, inr, arith, ◌-◌, ◌<◌}
+use Rattle.std.specs.Prelude.{⊤, nat_lt, if◌then◌else◌}
 use Rattle.std.specs.List.{list_all, Contains, zip}
+use Rattle.std.proofs.lemmas.List.Elements.{Contains-append_cases}
 use Rattle.plist_value.specs.Plist.{text, Plist, scalar, list, table, Items, no_items, item, Pairs, no_pairs, pair, IsPlist, AreItems, ArePairs}
 use Rattle.plist_object.specs.declared.object.ObjectFault.{ObjectFault}
 use Rattle.plist_object.specs.declared.object.ObjectFault.TheVariants.{NotAscii}
@@ -10,7 +11,7 @@ use Rattle.plist_object.specs.Layout.{trailer_of, IsLaid}
 use Rattle.plist_object.specs.Objects.{Held, holds_scalar, holds_list, holds_table, ◌>>=◌, cut, content, integer_length, whole_in, simple_object, whole_object, real_object, moment_object, data_object, ascii_object, wide_object, list_object, table_object, marked_object, object_in}
 use Rattle.plist_object.specs.Places.{Holds, object_at, octets_at, what_holds}
 use Rattle.plist_object.proofs.Listed.{length-numbers}
-use Rattle.plist_value.specs.Limits.{nodes, nodes_of_items, nodes_of_pairs, depth}
+use Rattle.plist_value.specs.Limits.{nodes, nodes_of_items, nodes_of_pairs}
 use Rattle.plist_object.specs.Spelled.{Spells, SpellItems, SpellPairs}
 use Rattle.plist_object.proofs.Ascending.{Among, Among-contains, Among-permutation, Contains-among}
 use Rattle.plist_object.proofs.Uniqueness.{same_held, same_value}
@@ -26,6 +27,7 @@ use Rattle.plist_binary.specs.Begins.{Begins, IsBegun}
 use Rattle.plist_binary.specs.Faults.{IsFaulty, StandsWithin}
 use Rattle.plist_binary.specs.Readings.{Refuses}
 use Rattle.plist_binary.proofs.ItemSteps.{Spells-held}
+use Rattle.plist_value.proofs.Items.{some_depth}
 
 abbrev IsPaired : Held → Type 0
 IsPaired (holds_scalar s) = ⊤
@@ -155,63 +157,38 @@ among_items f i (j ∷ refs) (item v vs) valid spell among =
     among
 
 -- a row among those of the pairs: its key, and its value
-among_keys : (f : List ℕ) (row : ℕ × ℕ) (rows : List (ℕ × ℕ)) (ps : Pairs) → ArePairs ps → SpellPairs f rows ps → Among row rows → SpellsBelow f row.0 (nodes_of_pairs ps)
-among_keys f row [] ps valid spell among = absurd among
-among_keys f row (r ∷ rows) no_pairs valid spell among =
+among_rows : (f : List ℕ) (row : ℕ × ℕ) (rows : List (ℕ × ℕ)) (ps : Pairs) → ArePairs ps → SpellPairs f rows ps → Among row rows → SpellsBelow f row.0 (nodes_of_pairs ps) × SpellsBelow f row.1 (nodes_of_pairs ps)
+among_rows f row [] ps valid spell among = absurd among
+among_rows f row (r ∷ rows) no_pairs valid spell among =
     absurd (let none : r ∷ rows ≡ [] = spell in cc)
-among_keys f row (r ∷ rows) (pair key v ps) valid spell among =
+among_rows f row (r ∷ rows) (pair key v ps) valid spell among =
     ⊎_elim
-    (λ (same : row ≡ r). record {
-      value = scalar (text key);
-      valid = valid.0;
-      spells = subst (λ (k : ℕ × ℕ). Holds f k.0 (holds_scalar (text key))) (sym same) spell.0;
-      few = omega arith;
-    })
-    (λ (later : Among row rows). wider f row.0 (nodes_of_pairs ps) (1 + nodes v + nodes_of_pairs ps) (omega arith) (among_keys f row rows ps valid.3 spell.2 later))
+    (λ (same : row ≡ r). (
+      record {
+        value = scalar (text key);
+        valid = valid.0;
+        spells = subst (λ (k : ℕ × ℕ). Holds f k.0 (holds_scalar (text key))) (sym same) spell.0;
+        few = omega arith;
+      },
+      record {
+        value = v;
+        valid = valid.1;
+        spells = subst (λ (k : ℕ × ℕ). Spells f k.1 v) (sym same) spell.1;
+        few = omega arith;
+      },
+    ))
+    (λ (later : Among row rows).
+    let both = among_rows f row rows ps valid.3 spell.2 later in
+    let most = 1 + nodes v + nodes_of_pairs ps in
+    (wider f row.0 (nodes_of_pairs ps) most (omega arith) both.0, wider f row.1 (nodes_of_pairs ps) most (omega arith) both.1))
     among
 
-among_values : (f : List ℕ) (row : ℕ × ℕ) (rows : List (ℕ × ℕ)) (ps : Pairs) → ArePairs ps → SpellPairs f rows ps → Among row rows → SpellsBelow f row.1 (nodes_of_pairs ps)
-among_values f row [] ps valid spell among = absurd among
-among_values f row (r ∷ rows) no_pairs valid spell among =
-    absurd (let none : r ∷ rows ≡ [] = spell in cc)
-among_values f row (r ∷ rows) (pair key v ps) valid spell among =
-    ⊎_elim
-    (λ (same : row ≡ r). record {
-      value = v;
-      valid = valid.1;
-      spells = subst (λ (k : ℕ × ℕ). Spells f k.1 v) (sym same) spell.1;
-      few = omega arith;
-    })
-    (λ (later : Among row rows). wider f row.1 (nodes_of_pairs ps) (1 + nodes v + nodes_of_pairs ps) (omega arith) (among_values f row rows ps valid.3 spell.2 later))
-    among
-
--- each member of one of two equally long lists is in a row of both
-key_among : (i : ℕ) (keys values : List ℕ) → length keys ≡ length values → Among i keys → (j : ℕ) × Among (i, j) (zip keys values)
-key_among i [] values long among = absurd among
-key_among i (k ∷ keys) [] long among = absurd (omega arith)
-key_among i (k ∷ keys) (v ∷ values) long among =
-    ⊎_elim
-    (λ (same : i ≡ k). (v, inl (ap (λ (n : ℕ). (n, v)) same)))
-    (λ (later : Among i keys). let at = key_among i keys values (omega arith) later in (at.0, inr at.1))
-    among
-
-value_among : (i : ℕ) (keys values : List ℕ) → length keys ≡ length values → Among i values → (j : ℕ) × Among (j, i) (zip keys values)
-value_among i keys [] long among = absurd among
-value_among i [] (v ∷ values) long among = absurd (omega arith)
-value_among i (k ∷ keys) (v ∷ values) long among =
-    ⊎_elim
-    (λ (same : i ≡ v). (k, inl (ap (λ (n : ℕ). (k, n)) same)))
-    (λ (later : Among i values). let at = value_among i keys values (omega arith) later in (at.0, inr at.1))
-    among
-
-among_both : (i : ℕ) (xs ys : List ℕ) → Among i (xs ++ ys) → Among i xs ⊎ Among i ys
-among_both i [] ys among = inr among
-among_both i (x ∷ xs) ys among =
-    ⊎_elim
-    (λ (same : i ≡ x). inl (inl same))
-    (λ (later : Among i (xs ++ ys)).
-    ⊎_elim (λ (m : Among i xs). inl (inr m)) (λ (m : Among i ys). inr m) (among_both i xs ys later))
-    among
+-- two equally long lists have their members at one place in a row of both
+in_row : (keys values : List ℕ) (k d e : ℕ) → length keys ≡ length values → k < length keys → Among (get_or keys k d, get_or values k e) (zip keys values)
+in_row [] values k d e long within = absurd (omega arith)
+in_row (i ∷ keys) [] k d e long within = absurd (omega arith)
+in_row (i ∷ keys) (j ∷ values) zero d e long within = inl refl
+in_row (i ∷ keys) (j ∷ values) (suc k) d e long within = inr (in_row keys values k d e (omega arith) (omega arith))
 
 -- an object that refers to i encodes more than i does
 pub descends : (f : List ℕ) (j i : ℕ) (v : Plist) → IsPlist v → Spells f j v → Refers f j i → (most : ℕ) → nodes v ≤ suc most → SpellsBelow f i most
@@ -231,16 +208,16 @@ descends f j i (table ps) valid spells refers most few =
     let spell = spells.1.1.1.1.1 in
     let long = length-values f j keys values holds in
     let held = same_held f j refers.held (holds_table keys values) refers.holds holds in
-    let among = Among-contains i (keys ++ values) (subst (λ (h : Held). Contains (references_of h) i) held refers.among) in
+    let among = subst (λ (h : Held). Contains (references_of h) i) held refers.among in
+    let row : ℕ → ℕ × ℕ = λ k. (get_or keys k i, get_or values k i) in
+    let spelled : (k : ℕ) → k < length keys → SpellsBelow f (row k).0 (nodes_of_pairs ps) × SpellsBelow f (row k).1 (nodes_of_pairs ps) = λ k within. (
+    let there = Among-permutation (row k) (zip keys values) rows moved (in_row keys values k i i long within) in
+    among_rows f (row k) rows ps valid spell there) in
     wider f i (nodes_of_pairs ps) most (omega arith)
     (⊎_elim
-    (λ (m : Among i keys).
-    let row = key_among i keys values long m in
-    among_keys f (i, row.0) rows ps valid spell (Among-permutation (i, row.0) (zip keys values) rows moved row.1))
-    (λ (m : Among i values).
-    let row = value_among i keys values long m in
-    among_values f (row.0, i) rows ps valid spell (Among-permutation (row.0, i) (zip keys values) rows moved row.1))
-    (among_both i keys values among))
+    (λ (at : Contains keys i). subst (λ (n : ℕ). SpellsBelow f n (nodes_of_pairs ps)) at.2 (spelled at.0 at.1).0)
+    (λ (at : Contains values i). subst (λ (n : ℕ). SpellsBelow f n (nodes_of_pairs ps)) at.2 (spelled at.0 (omega (arith, long, at.1))).1)
+    (Contains-append_cases keys values i among))
 
 -- Why a reference to an object is refused before the object is decoded, or for the object's own
 -- fault.
@@ -248,10 +225,6 @@ descends f j i (table ps) valid spells refers most few =
 pub some_node : (v : Plist) → 1 ≤ nodes v
 some_node (scalar s) = omega arith
 some_node _ = omega arith
-
-pub some_level : (v : Plist) → 1 ≤ depth v
-some_level (scalar s) = omega arith
-some_level _ = omega arith
 
 -- an object on the path to i encodes more than i does
 path_descends : (f containers : List ℕ) (i j : ℕ) (v : Plist) → IsPlist v → Spells f j v → Leads f containers i → Among j containers → (most : ℕ) → nodes v ≤ suc most → SpellsBelow f i most
@@ -318,7 +291,7 @@ Refuses-depth f before i levels left laid leads depth_left none_left =
         };
         long = omega arith;
       };
-      none = λ _ v valid spells deep affords. omega (arith, some_level v);
+      none = λ _ v valid spells deep affords. omega (arith, some_depth v);
     }
 
 faulty_spells_none : (f : List ℕ) (i : ℕ) (e : ObjectFault) (v : Plist) → what_holds f i ≡ Err e → Spells f i v → ⊥

@@ -1,5 +1,5 @@
 -- The items and keys that references point to, and the first of them that is refused.
-use Rattle.std.proofs.Common.{ℕ, List, ◌≡◌, ◌+◌, ◌≤◌, [], ◌∷◌, ◌++◌, refl, arith, ◌<◌, subst, ◌*◌, length, Ok, sym, ap, ⊎_elim, inl, inr, suc, take, drop, drop-cons, slice_index, ◌∙◌}
+use Rattle.std.proofs.Common.{ℕ, List, ◌≡◌, ◌+◌, ◌≤◌, [], ◌∷◌, ◌++◌, refl, arith, ◌<◌, subst, ◌*◌, length, Ok, sym, ap, suc, take, drop, drop-cons, slice_index, ◌∙◌}
 use Rattle.plist_value.specs.Plist.{Plist, scalar, list, table, Items, no_items, item, AreItems, IsPlist, text}
 use Rattle.plist_object.specs.Objects.{Held, holds_scalar, holds_list, holds_table}
 use Rattle.plist_object.specs.Places.{Holds, what_holds}
@@ -11,13 +11,13 @@ use Rattle.plist_object.proofs.Uniqueness.{same_items, same_held}
 use Rattle.plist_value.specs.declared.budget.Budget.{Budget}
 use Rattle.plist_binary.specs.declared.fault.BinaryFault.{BinaryFault}
 use Rattle.plist_binary.specs.declared.fault.BinaryFault.TheVariants.{BadReference, KeyNotText}
-use Rattle.plist_value.specs.Budget.{Affords}
+use Rattle.plist_value.specs.Budget.{Spends, Affords}
 use Rattle.plist_binary.specs.Paths.{Refers, Leads, IsKeyOf, HasKeys}
 use Rattle.plist_binary.specs.Readings.{Reads, Refuses, ReadsItems, RefusesItems, texts, RefusesKey, RefusesKeys}
-use Rattle.plist_object.proofs.Ascending.{Among, Among-contains, Contains-among}
 use Rattle.plist_binary.specs.Faults.{IsText}
 use Rattle.std.proofs.lemmas.List.{take_more, take-append-drop, get_or_default}
 use Rattle.std.specs.List.{Contains}
+use Rattle.std.proofs.lemmas.List.Elements.{Contains-append_left}
 
 -- an object that encodes a value can be decoded
 pub Spells-held : (f : List ℕ) (i : ℕ) (v : Plist) → Spells f i v → (held : Held) × Holds f i held
@@ -103,50 +103,60 @@ take_apart f (x ∷ xs) ys (item w ws) spell valid =
       deep_back = omega (arith, rest.deep_back);
     }
 
+-- what two parts take of a budget, one after the other
+pub Spends-then : {before mid after : Budget} {n p m q nodes payload : ℕ} → Spends before n p mid → Spends mid m q after → nodes ≡ n + m → payload ≡ p + q → Spends before nodes payload after
+Spends-then first second nodes_sum payload_sum = record {
+  nodes_left = omega (arith, first.nodes_left, second.nodes_left);
+  payload_left = omega (arith, first.payload_left, second.payload_left);
+}
+
+pub Spends-none : (left : Budget) → Spends left 0 0 left
+Spends-none left = record { nodes_left = omega arith; payload_left = omega arith }
+
+-- what fits in a budget still does after a part of it was taken
+pub Affords-rest : {before left : Budget} {n p nodes payload most load : ℕ} → Spends before n p left → Affords before most load → n + nodes ≤ most → p + payload ≤ load → Affords left nodes payload
+Affords-rest spent affords few small = record {
+  nodes_there = omega (arith, spent.nodes_left, affords.nodes_there);
+  payload_there = omega (arith, spent.payload_left, affords.payload_there);
+}
+
 -- The items of a container, reference by reference.
 
 pub ReadsItems-push : (f refs : List ℕ) (i levels : ℕ) (before left after : Budget) (vs : Items) (v : Plist) → i < (trailer_of f).count → ReadsItems f refs levels before vs left → Reads f i levels left v after → ReadsItems f (refs ++ i ∷ []) levels before (push vs v) after
 ReadsItems-push f refs i levels before left after vs v listed items one =
-    let nodes_sum = nodes-push vs v in
-    let payload_sum = payload-push vs v in
     record {
       spell = SpellItems-push f refs vs i v items.spell one.spells;
       valid = AreItems-push vs v items.valid one.valid;
       deep = depth-push vs v levels items.deep one.deep;
-      spent = record {
-        nodes_left = omega (arith, nodes_sum, items.spent.nodes_left, one.spent.nodes_left);
-        payload_left = omega (arith, payload_sum, items.spent.payload_left, one.spent.payload_left);
-      };
+      spent = Spends-then items.spent one.spent (nodes-push vs v) (payload-push vs v);
     }
 
-first_refused : (f : List ℕ) (i : ℕ) (rest : List ℕ) (levels : ℕ) (left : Budget) (ws : Items) → ((v : Plist) → IsPlist v → Spells f i v → depth v ≤ levels → Affords left (nodes v) (payload v) → ⊥) → SpellItems f (i ∷ rest) ws → AreItems ws → depth_of_items ws ≤ levels → Affords left (nodes_of_items ws) (payload_of_items ws) → ⊥
+-- no items that these references point to fit
+abbrev Misfit : List ℕ → ℕ → List ℕ → Budget → Items → Type 0
+Misfit f levels refs left ws =
+    SpellItems f refs ws → AreItems ws → depth_of_items ws ≤ levels → Affords left (nodes_of_items ws) (payload_of_items ws) → ⊥
+
+first_refused : (f : List ℕ) (i : ℕ) (rest : List ℕ) (levels : ℕ) (left : Budget) (ws : Items) → ((v : Plist) → IsPlist v → Spells f i v → depth v ≤ levels → Affords left (nodes v) (payload v) → ⊥) → Misfit f levels (i ∷ rest) left ws
 first_refused f i rest levels left no_items none spell valid deep affords =
     let empty : i ∷ rest ≡ [] = spell in cc
 first_refused f i rest levels left (item w ws) none spell valid deep affords =
-    none w valid.0 spell.0 (omega arith) record {
-      nodes_there = omega (arith, affords.nodes_there);
-      payload_there = omega (arith, affords.payload_there);
-    }
+    none w valid.0 spell.0 (omega arith) (Affords-rest (Spends-none left) affords (omega arith) (omega arith))
 
--- the references before i point to what was read, and i to nothing that fits
-refused_at : (f refs : List ℕ) (i : ℕ) (rest : List ℕ) (levels : ℕ) (before left : Budget) (vs ws : Items) → ReadsItems f refs levels before vs left → AreItems ws → SpellItems f (refs ++ i ∷ rest) ws → depth_of_items ws ≤ levels → Affords before (nodes_of_items ws) (payload_of_items ws) → ((v : Plist) → IsPlist v → Spells f i v → depth v ≤ levels → Affords left (nodes v) (payload v) → ⊥) → ⊥
+-- the references before i point to what was read, and those from i on to nothing that fits
+refused_at : (f refs : List ℕ) (i : ℕ) (rest : List ℕ) (levels : ℕ) (before left : Budget) (vs ws : Items) → ReadsItems f refs levels before vs left → (valid : AreItems ws) (spell : SpellItems f (refs ++ i ∷ rest) ws) → depth_of_items ws ≤ levels → Affords before (nodes_of_items ws) (payload_of_items ws) → Misfit f levels (i ∷ rest) left (take_apart f refs (i ∷ rest) ws spell valid).back → ⊥
 refused_at f refs i rest levels before left vs ws items valid spell deep affords none =
     let parts = take_apart f refs (i ∷ rest) ws spell valid in
     let same = same_items f refs parts.front vs parts.valid_front items.valid parts.spell_front items.spell in
     let nodes_sum : nodes_of_items ws ≡ nodes_of_items vs + nodes_of_items parts.back = subst (λ (us : Items). nodes_of_items ws ≡ nodes_of_items us + nodes_of_items parts.back) same parts.nodes_sum in
     let payload_sum : payload_of_items ws ≡ payload_of_items vs + payload_of_items parts.back = subst (λ (us : Items). payload_of_items ws ≡ payload_of_items us + payload_of_items parts.back) same parts.payload_sum in
-    first_refused f i rest levels left parts.back none parts.spell_back parts.valid_back (omega (arith, parts.deep_back))
-    record {
-      nodes_there = omega (arith, affords.nodes_there, items.spent.nodes_left);
-      payload_there = omega (arith, affords.payload_there, items.spent.payload_left);
-    }
+    none parts.spell_back parts.valid_back (omega (arith, parts.deep_back)) (Affords-rest items.spent affords (omega arith) (omega arith))
 
 -- if one reference points to nothing that fits, the items do not fit
 pub RefusesItems-at : (f refs : List ℕ) (i : ℕ) (rest : List ℕ) (levels : ℕ) (before left : Budget) (vs : Items) (fault : BinaryFault) → i < (trailer_of f).count → ReadsItems f refs levels before vs left → Refuses f i levels left fault → RefusesItems f (refs ++ i ∷ rest) levels before fault
 RefusesItems-at f refs i rest levels before left vs fault listed items one =
     record {
       stands = one.stands;
-      none = λ unless ws valid spell deep affords. refused_at f refs i rest levels before left vs ws items valid spell deep affords (one.none unless);
+      none = λ unless ws valid spell deep affords. refused_at f refs i rest levels before left vs ws items valid spell deep affords (first_refused f i rest levels left (take_apart f refs (i ∷ rest) ws spell valid).back (one.none unless));
     }
 
 first_nowhere : (f : List ℕ) (i : ℕ) (rest : List ℕ) (ws : Items) → (trailer_of f).count ≤ i → SpellItems f (i ∷ rest) ws → ⊥
@@ -171,20 +181,11 @@ RefusesItems-nowhere f before refs container i rest levels left laid leads refer
 
 -- The keys of a dictionary, reference by reference.
 
-pub among_left : (i : ℕ) (xs ys : List ℕ) → Among i xs → Among i (xs ++ ys)
-among_left i [] ys among = absurd among
-among_left i (x ∷ xs) ys among =
-    ⊎_elim (λ (same : i ≡ x). inl same) (λ (later : Among i xs). inr (among_left i xs ys later)) among
-
-pub among_right : (i : ℕ) (xs ys : List ℕ) → Among i ys → Among i (xs ++ ys)
-among_right i [] ys among = among
-among_right i (x ∷ xs) ys among = inr (among_right i xs ys among)
-
 pub Refers-key : (f : List ℕ) (j i : ℕ) → IsKeyOf f j i → Refers f j i
 Refers-key f j i key = record {
   held = holds_table key.keys key.table.values;
   holds = key.table.holds;
-  among = Contains-among i (key.keys ++ key.table.values) (among_left i key.keys key.table.values (Among-contains i key.keys key.among));
+  among = Contains-append_left key.keys key.table.values i key.among;
 }
 
 -- what refuses every value refuses every string
@@ -230,35 +231,19 @@ texts_behind f (x ∷ xs) ys [] spell valid =
     absurd (let none : x ∷ (xs ++ ys) ≡ [] = spell in cc)
 texts_behind f (x ∷ xs) ys (key ∷ keys) spell valid = texts_behind f xs ys keys spell.1 valid.1
 
-first_key_refused : (f : List ℕ) (i : ℕ) (rest : List ℕ) (levels : ℕ) (left : Budget) (keys : List (List ℕ)) → ((units : List ℕ) → IsPlist (scalar (text units)) → Spells f i (scalar (text units)) → 1 ≤ levels → Affords left 1 (2 * length units) → ⊥) → SpellItems f (i ∷ rest) (texts keys) → AreItems (texts keys) → depth_of_items (texts keys) ≤ levels → Affords left (nodes_of_items (texts keys)) (payload_of_items (texts keys)) → ⊥
+first_key_refused : (f : List ℕ) (i : ℕ) (rest : List ℕ) (levels : ℕ) (left : Budget) (keys : List (List ℕ)) → ((units : List ℕ) → IsPlist (scalar (text units)) → Spells f i (scalar (text units)) → 1 ≤ levels → Affords left 1 (2 * length units) → ⊥) → Misfit f levels (i ∷ rest) left (texts keys)
 first_key_refused f i rest levels left [] none spell valid deep affords =
     let empty : i ∷ rest ≡ [] = spell in cc
 first_key_refused f i rest levels left (key ∷ keys) none spell valid deep affords =
-    none key valid.0 spell.0 (omega arith) record {
-      nodes_there = omega (arith, affords.nodes_there);
-      payload_there = omega (arith, affords.payload_there);
-    }
-
-refused_key_at : (f refs : List ℕ) (i : ℕ) (rest : List ℕ) (levels : ℕ) (before left : Budget) (vs : Items) (keys : List (List ℕ)) → ReadsItems f refs levels before vs left → AreItems (texts keys) → SpellItems f (refs ++ i ∷ rest) (texts keys) → depth_of_items (texts keys) ≤ levels → Affords before (nodes_of_items (texts keys)) (payload_of_items (texts keys)) → ((units : List ℕ) → IsPlist (scalar (text units)) → Spells f i (scalar (text units)) → 1 ≤ levels → Affords left 1 (2 * length units) → ⊥) → ⊥
-refused_key_at f refs i rest levels before left vs keys items valid spell deep affords none =
-    let ws = texts keys in
-    let parts = take_apart f refs (i ∷ rest) ws spell valid in
-    let behind = texts_behind f refs (i ∷ rest) keys spell valid in
-    let same = same_items f refs parts.front vs parts.valid_front items.valid parts.spell_front items.spell in
-    let nodes_sum : nodes_of_items ws ≡ nodes_of_items vs + nodes_of_items (texts behind.keys) = subst (λ (us : Items). nodes_of_items ws ≡ nodes_of_items vs + nodes_of_items us) behind.same (subst (λ (us : Items). nodes_of_items ws ≡ nodes_of_items us + nodes_of_items parts.back) same parts.nodes_sum) in
-    let payload_sum : payload_of_items ws ≡ payload_of_items vs + payload_of_items (texts behind.keys) = subst (λ (us : Items). payload_of_items ws ≡ payload_of_items vs + payload_of_items us) behind.same (subst (λ (us : Items). payload_of_items ws ≡ payload_of_items us + payload_of_items parts.back) same parts.payload_sum) in
-    let deeper : depth_of_items (texts behind.keys) ≤ depth_of_items ws = subst (λ (us : Items). depth_of_items us ≤ depth_of_items ws) behind.same parts.deep_back in
-    first_key_refused f i rest levels left behind.keys none (subst (λ (us : Items). SpellItems f (i ∷ rest) us) behind.same parts.spell_back) (subst AreItems behind.same parts.valid_back) (omega arith)
-    record {
-      nodes_there = omega (arith, affords.nodes_there, items.spent.nodes_left);
-      payload_there = omega (arith, affords.payload_there, items.spent.payload_left);
-    }
+    none key valid.0 spell.0 (omega arith) (Affords-rest (Spends-none left) affords (omega arith) (omega arith))
 
 pub RefusesKeys-at : (f refs : List ℕ) (i : ℕ) (rest : List ℕ) (levels : ℕ) (before left : Budget) (vs : Items) (fault : BinaryFault) → i < (trailer_of f).count → ReadsItems f refs levels before vs left → RefusesKey f i levels left fault → RefusesKeys f (refs ++ i ∷ rest) levels before fault
 RefusesKeys-at f refs i rest levels before left vs fault listed items one =
     record {
       stands = one.stands;
-      none = λ unless keys valid spell deep affords. refused_key_at f refs i rest levels before left vs keys items valid spell deep affords (one.none unless);
+      none = λ unless keys valid spell deep affords.
+          let behind = texts_behind f refs (i ∷ rest) keys spell valid in
+          refused_at f refs i rest levels before left vs (texts keys) items valid spell deep affords (subst (Misfit f levels (i ∷ rest) left) (sym behind.same) (first_key_refused f i rest levels left behind.keys (one.none unless)));
     }
 
 -- what refuses all items refuses strings

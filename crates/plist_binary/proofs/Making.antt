@@ -23,6 +23,10 @@ use Rattle.plist_binary.specs.declared.memos.State.{State}
 use Rattle.plist_binary.specs.declared.memos.State.TheVariants.{Unseen, Open}
 use Rattle.plist_binary.specs.Memos.{IsState, state_of, AreStates, AreStatesBut, IsMarked}
 use Rattle.plist_value.specs.declared.TheConstants.{MAX_DEPTH}
+use Rattle.plist_binary.specs.Passing.{IsWithinLimits}
+use Rattle.plist_binary.specs.Progress.{IsProgress, IsProgressBut}
+use Rattle.plist_binary.specs.declared.progress.Progress.{Progress}
+use Rattle.plist_binary.proofs.ItemSteps.{Spends-then, Affords-rest}
 
 pub Reads-scalar : (f : List ℕ) (i levels : ℕ) (before left after : Budget) (s : Scalar) → i < (trailer_of f).count → what_holds f i ≡ Ok (holds_scalar s) → IsScalar s → 1 ≤ levels → Spends before 1 0 left → Spends left 0 (payload_of_scalar s) after → Reads f i levels before (scalar s) after
 Reads-scalar f i levels before left after s listed reads valid deep node spent =
@@ -30,10 +34,7 @@ Reads-scalar f i levels before left after s listed reads valid deep node spent =
       spells = record { listed = listed; reads = reads };
       valid = valid;
       deep = deep;
-      spent = record {
-        nodes_left = omega (arith, node.nodes_left, spent.nodes_left);
-        payload_left = omega (arith, node.payload_left, spent.payload_left);
-      };
+      spent = Spends-then node spent (omega arith) (omega arith);
     }
 
 scalar_refused : (f : List ℕ) (i levels : ℕ) (before left : Budget) (s : Scalar) (v : Plist) → Holds f i (holds_scalar s) → Spends before 1 0 left → left.payload < payload_of_scalar s → Spells f i v → Affords before (nodes v) (payload v) → ⊥
@@ -72,10 +73,7 @@ Reads-list f refs i levels below before left after vs levels_is listed reads nod
       spells = (refs, (record { listed = listed; reads = reads }, items.spell));
       valid = items.valid;
       deep = omega (arith, items.deep);
-      spent = record {
-        nodes_left = omega (arith, node.nodes_left, items.spent.nodes_left);
-        payload_left = omega (arith, node.payload_left, items.spent.payload_left);
-      };
+      spent = Spends-then node items.spent (omega arith) (omega arith);
     }
 
 list_refused : (f refs : List ℕ) (i levels below : ℕ) (before left : Budget) (fault : BinaryFault) (v : Plist) → 1 + below ≡ levels → Holds f i (holds_list refs) → Spends before 1 0 left → RefusesItems f refs below left fault → (fault ≡ OutOfMemory → ⊥) → IsPlist v → Spells f i v → depth v ≤ levels → Affords before (nodes v) (payload v) → ⊥
@@ -84,11 +82,7 @@ list_refused f refs i levels below before left fault (scalar s) levels_is holds 
 list_refused f refs i levels below before left fault (list ws) levels_is holds node refused unless valid spells deep affords =
     let held = same_held f i (holds_list refs) (holds_list spells.0) holds spells.1.0 in
     let same : spells.0 ≡ refs = cc in
-    refused.none unless ws valid (subst (λ (r : List ℕ). SpellItems f r ws) same spells.1.1) (omega arith)
-    record {
-      nodes_there = omega (arith, node.nodes_left, affords.nodes_there);
-      payload_there = omega (arith, node.payload_left, affords.payload_there);
-    }
+    refused.none unless ws valid (subst (λ (r : List ℕ). SpellItems f r ws) same spells.1.1) (omega arith) (Affords-rest node affords (omega arith) (omega arith))
 list_refused f refs i levels below before left fault (table ps) levels_is holds node refused unless valid spells deep affords =
     let held = same_held f i (holds_list refs) (holds_table spells.0 spells.1.0) holds spells.1.1.1.0 in cc
 
@@ -106,10 +100,7 @@ Reads-table f keys values i levels below before left after ps levels_is listed r
       spells = (keys, (values, (pairs.rows, (record { listed = listed; reads = reads }, (pairs.moved, pairs.spell)))));
       valid = pairs.valid;
       deep = omega (arith, pairs.deep);
-      spent = record {
-        nodes_left = omega (arith, node.nodes_left, pairs.spent.nodes_left);
-        payload_left = omega (arith, node.payload_left, pairs.spent.payload_left);
-      };
+      spent = Spends-then node pairs.spent (omega arith) (omega arith);
     }
 
 table_refused : (f keys values : List ℕ) (i levels below : ℕ) (before left : Budget) (fault : BinaryFault) (v : Plist) → 1 + below ≡ levels → Holds f i (holds_table keys values) → Spends before 1 0 left → RefusesPairs f keys values below left fault → (fault ≡ OutOfMemory → ⊥) → IsPlist v → Spells f i v → depth v ≤ levels → Affords before (nodes v) (payload v) → ⊥
@@ -120,11 +111,7 @@ table_refused f keys values i levels below before left fault (list ws) levels_is
 table_refused f keys values i levels below before left fault (table ps) levels_is holds node refused unless valid spells deep affords =
     let held = same_held f i (holds_table keys values) (holds_table spells.0 spells.1.0) holds spells.1.1.1.0 in
     let same : zip spells.0 spells.1.0 ≡ zip keys values = cc in
-    refused.none unless spells.1.1.0 ps (subst (λ (rows : List (ℕ × ℕ)). IsPermutation rows spells.1.1.0) same spells.1.1.1.1.0) spells.1.1.1.1.1 valid (omega arith)
-    record {
-      nodes_there = omega (arith, node.nodes_left, affords.nodes_there);
-      payload_there = omega (arith, node.payload_left, affords.payload_there);
-    }
+    refused.none unless spells.1.1.0 ps (subst (λ (rows : List (ℕ × ℕ)). IsPermutation rows spells.1.1.0) same spells.1.1.1.1.0) spells.1.1.1.1.1 valid (omega arith) (Affords-rest node affords (omega arith) (omega arith))
 
 pub Refuses-table : (f keys values : List ℕ) (i levels below : ℕ) (before left : Budget) (fault : BinaryFault) → 1 + below ≡ levels → i < (trailer_of f).count → what_holds f i ≡ Ok (holds_table keys values) → Spends before 1 0 left → RefusesPairs f keys values below left fault → Refuses f i levels before fault
 Refuses-table f keys values i levels below before left fault levels_is listed reads node refused =
@@ -189,11 +176,23 @@ AreStates-visited f path before after j state mark is new are = record {
 pub AreStates-but : (f path : List ℕ) (states : List State) (j : ℕ) → AreStates f path states → AreStatesBut f path j states
 AreStates-but f path states j are = record { each = λ i _. are.each i; opened = λ i _ among. are.opened i among }
 
--- the last container is the object itself
-pub AreStates-last : (f path : List ℕ) (states : List State) (j : ℕ) → AreStates f (j ∷ path) states → AreStatesBut f path j states
-AreStates-last f path states j are = record {
-  each = λ i apart. narrower f path j i (state_of states i) apart (are.each i);
-  opened = λ i apart among. are.opened i (Contains-among i (j ∷ path) (inr (Among-contains i path among)));
+-- after the content of the last container, whose own state is not known yet
+pub IsProgress-last : (f path : List ℕ) (j : ℕ) (progress : Progress) → IsProgress f (j ∷ path) progress → IsProgressBut f path j progress
+IsProgress-last f path j progress so_far = record {
+  states = record {
+    each = λ i apart. narrower f path j i (state_of progress.states.items i) apart (so_far.states.each i);
+    opened = λ i apart among. so_far.states.opened i (Contains-among i (j ∷ path) (inr (Among-contains i path among)));
+  };
+  last = so_far.last;
+  ready = so_far.ready;
+  within = so_far.within;
+}
+
+-- what is left of a budget within the limits is within them
+pub IsWithinLimits-spent : {before after : Budget} {n p : ℕ} → IsWithinLimits before → Spends before n p after → IsWithinLimits after
+IsWithinLimits-spent within spent = record {
+  nodes_most = omega (arith, within.nodes_most, spent.nodes_left);
+  payload_most = omega (arith, within.payload_most, spent.payload_left);
 }
 
 -- an open object is on the path

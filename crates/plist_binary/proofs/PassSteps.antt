@@ -17,7 +17,7 @@ use Rattle.plist_binary.specs.Memos.{IsKey, IsMemo}
 use Rattle.plist_binary.specs.Passing.{Passes, PassesItems, PassesPairs}
 use Rattle.plist_binary.specs.Readings.{Reads, ReadsItems, ReadsKey, texts}
 use Rattle.plist_binary.proofs.Ascents.{zip-firsts}
-use Rattle.plist_binary.proofs.ItemSteps.{ReadsItems-next}
+use Rattle.plist_binary.proofs.ItemSteps.{ReadsItems-next, Spends-then, Spends-none}
 use Rattle.plist_binary.proofs.Making.{Reads-scalar, Reads-list, Reads-table}
 use Rattle.plist_binary.proofs.Rows.{pull}
 use Rattle.plist_value.proofs.Items.{items_of-push, depth-push}
@@ -32,10 +32,7 @@ Passes-memo f i levels before after memo is fits spent =
         spells = is.spells;
         valid = is.valid;
         deep = omega (arith, is.deep);
-        spent = record {
-          nodes_left = omega (arith, spent.nodes_left, is.nodes_are);
-          payload_left = omega (arith, spent.payload_left, is.payload_is);
-        };
+        spent = Spends-then spent (Spends-none after) (omega (arith, is.nodes_are)) (omega (arith, is.payload_is));
       };
       depth_is = is.deep;
       within = fits;
@@ -129,9 +126,6 @@ ReadsKey-known f i levels size before after key deep spent = record {
     spells = key.spells;
     valid = key.valid;
     deep = deep;
-    spent = record {
-      nodes_left = omega (arith, spent.nodes_left);
-      payload_left = omega (arith, spent.payload_left, key.payload_is);
-    };
+    spent = Spends-then spent (Spends-none after) (omega arith) (omega (arith, key.payload_is));
   };
 }

@@ -16,6 +16,7 @@ use Rattle.plist_object.specs.Order.{Ascend, IsInOrder, NameTexts, strings_at, u
 use Rattle.plist_object.specs.Places.{what_holds}
 use Rattle.plist_object.specs.Spelled.{SpellItems}
 use Rattle.plist_object.proofs.Ascents.{same_key, strict_from_distinct}
+use Rattle.plist_binary.proofs.ItemSteps.{Spends-then, Spends-none}
 use Rattle.plist_binary.specs.Readings.{ReadsItems, texts}
 use Rattle.plist_binary.specs.Recalls.{SpellApart, ReadsApart}
 use Rattle.plist_binary.proofs.TableSteps.{length-texts, key_held}
@@ -40,10 +41,7 @@ ReadsApart-known f refs levels payload before after known some spent =
         spell = known.spell;
         valid = known.valid;
         deep = omega arith;
-        spent = record {
-          nodes_left = omega (arith, spent.nodes_left);
-          payload_left = omega (arith, spent.payload_left, known.payload_is);
-        };
+        spent = Spends-then spent (Spends-none after) (omega arith) (omega (arith, known.payload_is));
       };
       apart = known.apart;
     }

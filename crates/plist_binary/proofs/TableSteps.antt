@@ -1,9 +1,8 @@
 -- A dictionary, from its keys and its values separately.
 use Rattle.std.proofs.Common.{◌≡◌, ℕ, zero, suc, ◌+◌, ◌<◌, ◌≤◌, max, List, [], ◌∷◌, length, get_or, slice_index, map, true, false, refl, sym, ap, ◌∙◌, subst, ⊎_elim, inl, inr, arith}
 use Rattle.std.specs.Prelude.{◌⊎◌}
-use Rattle.std.specs.declared.cmp.Ordering.{Ordering}
-use Rattle.std.specs.declared.cmp.Ordering.TheVariants.{Equal}
-use Rattle.std.specs.Ordering.{is_eq, nat_cmp}
+use Rattle.std.specs.Ordering.{nat_cmp}
+use Rattle.std.specs.Cmp.{Equal-is}
 use Rattle.std.specs.Cmp.Lexicographic.{slice_cmp}
 use Rattle.std.specs.List.{AllByRecursion, IsDistinct, zip}
 use Rattle.std.specs.List.Sorted.{IsPermutation, IsStrictlySortedBy}
@@ -26,7 +25,8 @@ use Rattle.plist_binary.specs.Paths.{Leads}
 use Rattle.plist_binary.specs.Readings.{ReadsItems, RefusesItems, texts, RefusesKeys, ReadsPairs, RefusesPairs}
 use Rattle.plist_binary.specs.Building.{PairsSpelled}
 use Rattle.plist_binary.proofs.Ascents.{distinct_moved, same_key, zip-firsts, zip-seconds}
-use Rattle.plist_binary.proofs.Entering.{some_level}
+use Rattle.plist_binary.proofs.ItemSteps.{Spends-then, Spends-none, Affords-rest}
+use Rattle.plist_value.proofs.Items.{some_depth}
 use Rattle.plist_binary.proofs.Rows.{pull, Row, AreRows-moved, listed, nodes_of_pair, payload_of_pair, length-listed, AreRows-listed, nodes-listed, payload-listed, keys_distinct, row_keys, row_values, key_refs, value_refs, SpellItems-keys, SpellItems-values, nodes-rows, payload-rows, AreRows-items, SpellPairs-rows, ArePairs-rows, nodes-pairs_of, payload-pairs_of}
 
 -- the keys and the values of pairs, in the order of the file
@@ -77,10 +77,7 @@ RefusesPairs-keys f keys values levels left fault long refused = record {
   stands = refused.stands;
   none = λ unless rows ps moved spell valid deep affords.
       let apart = unsort f keys values levels rows ps long moved spell valid deep in
-      refused.none unless apart.us apart.valid_keys apart.spell_keys apart.deep_keys record {
-        nodes_there = omega (arith, affords.nodes_there, apart.nodes_sum);
-        payload_there = omega (arith, affords.payload_there, apart.payload_sum);
-      };
+      refused.none unless apart.us apart.valid_keys apart.spell_keys apart.deep_keys (Affords-rest (Spends-none left) affords (omega (arith, apart.nodes_sum)) (omega (arith, apart.payload_sum)));
 }
 
 -- the values are refused, after keys that were read
@@ -93,10 +90,7 @@ RefusesPairs-values f keys values levels before left us fault long read refused 
           let same = same_items f keys (texts apart.us) (texts us) apart.valid_keys read.valid apart.spell_keys read.spell in
           let nodes_same = ap nodes_of_items same in
           let payload_same = ap payload_of_items same in
-          refused.none unless (items_of apart.vs) apart.valid_values apart.spell_values apart.deep_values record {
-            nodes_there = omega (arith, affords.nodes_there, apart.nodes_sum, nodes_same, read.spent.nodes_left);
-            payload_there = omega (arith, affords.payload_there, apart.payload_sum, payload_same, read.spent.payload_left);
-          };
+          refused.none unless (items_of apart.vs) apart.valid_values apart.spell_values apart.deep_values (Affords-rest read.spent affords (omega (arith, apart.nodes_sum, nodes_same)) (omega (arith, apart.payload_sum, payload_same)));
     }
 
 -- two of the keys are equal
@@ -107,15 +101,11 @@ record Twice (us : List (List ℕ)) : Type 0 where
   within : second < length us
   same : get_or us first [] ≡ get_or us second []
 
-tied : (o : Ordering) → is_eq o ≡ true → o ≡ Equal
-tied Equal is = refl
-tied _ is = absurd (cc)
-
 occurs : (u : List ℕ) (us : List (List ℕ)) → AllByRecursion (λ w. same_key u w ≡ false) us ⊎ ((k : ℕ) × ((k < length us) × (get_or us k [] ≡ u)))
 occurs u [] = inl tt
 occurs u (w ∷ us) =
     elim (same_key u w) as (λ b. same_key u w ≡ b → AllByRecursion (λ w. same_key u w ≡ false) (w ∷ us) ⊎ ((k : ℕ) × ((k < length (w ∷ us)) × (get_or (w ∷ us) k [] ≡ u)))) [
-      | true ↦ λ is. inr (zero, (omega arith, sym (exact_bytes u w (tied (slice_cmp nat_cmp u w) is))))
+      | true ↦ λ is. inr (zero, (omega arith, sym (exact_bytes u w ((Equal-is (slice_cmp nat_cmp u w)).0 is))))
       | false ↦ λ is.
           ⊎_elim
           (λ (none : AllByRecursion (λ w. same_key u w ≡ false) us). inl (is, none))
@@ -234,7 +224,7 @@ pairs_sorted f keys values levels us vs ps spell_keys spell_values valid_keys va
 pub depth-texts : (us : List (List ℕ)) (vs : List Plist) → length us ≡ length vs → depth_of_items (texts us) ≤ depth_of_items (items_of vs)
 depth-texts [] vs long = omega arith
 depth-texts (u ∷ us) [] long = absurd (omega arith)
-depth-texts (u ∷ us) (v ∷ vs) long = omega (arith, some_level v, depth-texts us vs (omega arith))
+depth-texts (u ∷ us) (v ∷ vs) long = omega (arith, some_depth v, depth-texts us vs (omega arith))
 
 -- keys and values that were read, and the pairs in the order of the keys
 pub ReadsPairs-sorted : (f keys values : List ℕ) (levels : ℕ) (before left after : Budget) (us : List (List ℕ)) (vs : List Plist) (ps : List (List ℕ × Plist)) → length keys ≡ length values → ReadsItems f keys levels before (texts us) left → ReadsItems f values levels left (items_of vs) after → IsPermutation (zip us vs) ps → IsStrictlySortedBy (slice_cmp nat_cmp) (keys_of ps) → ReadsPairs f keys values levels before (pairs_of ps) after
@@ -249,10 +239,7 @@ ReadsPairs-sorted f keys values levels before left after us vs ps long read_keys
       spell = pairs.spell;
       valid = pairs.valid;
       deep = pairs.deep;
-      spent = record {
-        nodes_left = omega (arith, nodes_all, read_keys.spent.nodes_left, read_values.spent.nodes_left);
-        payload_left = omega (arith, payload_all, read_keys.spent.payload_left, read_values.spent.payload_left);
-      };
+      spent = Spends-then read_keys.spent read_values.spent nodes_all payload_all;
     }
 
 zip-view : (us : List (List ℕ)) (vs : List Value) → map (λ (p : List ℕ × Value). (p.0, view p.1)) (zip us vs) ≡ zip us (map view vs)

@@ -1,6 +1,6 @@
 -- Replacing references by numbers, one after another.
 use Rattle.std.proofs.Common.{◌≡◌, ℕ, ◌+◌, ◌<◌, ◌≤◌, List, [], ◌∷◌, ◌++◌, length, get_or, drop, take, set, sym, ap, ◌∙◌, arith, length-append, append_assoc}
-use Rattle.std.proofs.lemmas.List.{drop_more, set_at, get_or_at, take-append-drop, length-take-le, drop_all, append-nil, length-drop, drop-set-lt}
+use Rattle.std.proofs.lemmas.List.{drop_more, set_at, get_or_at, take-append-drop, length-take-le, drop_all, append-nil, length-drop}
 
 -- The indices from `first` to i have these numbers. Then come the references that were there at the
 -- start, and then others.
@@ -58,7 +58,3 @@ module _ (first i : ℕ) (start now done : List ℕ) (h : first ≤ length start
   pub filling-end : length start ≤ i → now ≡ take first start ++ (done ++ filling.behind)
   filling-end past =
       filling.now_is ∙ ap (λ xs. (take first start ++ done) ++ (xs ++ filling.behind)) (drop_all i start past) ∙ append_assoc (take first start) done filling.behind
-
--- setting an earlier reference does not change the later ones
-pub kept-behind : (i end : ℕ) (grown : List ℕ) (n : ℕ) → i < end → drop end (set grown i n) ≡ drop end grown
-kept-behind i end grown n h = drop-set-lt end grown i n h

@@ -3,6 +3,7 @@ use Rattle.std.proofs.Common.{◌≡◌, ℕ, suc, ◌+◌, ◌≤◌, List, [],
 use Rattle.std.specs.List.{zip}
 use Rattle.std.specs.List.Sorted.{IsPermutation}
 use Rattle.std.proofs.lemmas.List.Sorted.{length_permutation}
+use Rattle.std.proofs.lemmas.Slice.Zip.{length-zip}
 use Rattle.plist_value.specs.Plist.{text, scalar, Items, no_items, item, Pairs, no_pairs, pair, AreItems, ArePairs}
 use Rattle.plist_value.specs.Limits.{nodes, depth_of_items, depth_of_pairs}
 use Rattle.plist_object.specs.Spelled.{SpellItems, SpellPairs}
@@ -91,12 +92,8 @@ length-rows f (row ∷ rows) no_pairs h = absurd (let none : row ∷ rows ≡ []
 length-rows f [] (pair key v ps) h = absurd h
 length-rows f (row ∷ rows) (pair key v ps) h = ap suc (length-rows f rows ps h.2)
 
-length-zipped : (keys values : List ℕ) → length keys ≡ length values → length (zip keys values) ≡ length keys
-length-zipped [] values h = refl
-length-zipped (x ∷ keys) [] h = absurd (omega arith)
-length-zipped (x ∷ keys) (y ∷ values) h = ap suc (length-zipped keys values (omega arith))
-
 -- a dictionary has as many keys as its object
 pub length-keys : (f keys values : List ℕ) (rows : List (ℕ × ℕ)) (ps : Pairs) → length keys ≡ length values → IsPermutation (zip keys values) rows → SpellPairs f rows ps → length (key_texts ps) ≡ length keys
 length-keys f keys values rows ps pairs moved spell =
-    sym (length-rows f rows ps spell) ∙ length_permutation (zip keys values) rows moved ∙ length-zipped keys values pairs
+    let zipped = length-zip keys values in
+    sym (length-rows f rows ps spell) ∙ length_permutation (zip keys values) rows moved ∙ omega (arith, zipped, pairs)

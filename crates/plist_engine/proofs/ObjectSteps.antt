@@ -19,26 +19,23 @@ sound-next f start i x numbers h is sound =
     let both = subst (λ (os : List ℕ). AreSound f os numbers) split sound in
     record { read = both.0; enough = both.1.0 }
 
--- object i can be encoded
-pub spellable-next : (width : ℕ) (f start : List ℕ) (i x : ℕ) (numbers : List ℕ) → i < length start → x ≡ get_or start i x → CanSpellAll width (helds_of f (drop i start) numbers) → CanSpell width (renumbered (held_in f x) numbers)
-spellable-next width f start i x numbers h is spellable =
-    let split : drop i start ≡ x ∷ drop (i + 1) start = drop_more start i x h ∙ ap (λ y. y ∷ drop (i + 1) start) (sym is) in
-    let can = subst (λ (os : List ℕ). CanSpellAll width (helds_of f os numbers)) split spellable in
-    can.0
-
--- what remains after object i
-pub record Step (width : ℕ) (f start : List ℕ) (i : ℕ) (numbers behind octets : List ℕ) : Type 0 where
+-- object i, which is x, can be encoded, and what remains after it
+pub record Step (width : ℕ) (f start : List ℕ) (i x : ℕ) (numbers behind octets : List ℕ) : Type 0 where
+  pub below : i < length start
+  pub here : CanSpell width (renumbered (held_in f x) numbers)
   pub sound : AreSound f (drop (i + 1) start) behind
   pub spellable : CanSpellAll width (helds_of f (drop (i + 1) start) behind)
   pub split : octets_for width f (drop i start) numbers ≡ octets ∷ octets_for width f (drop (i + 1) start) behind
 
-pub step : (width : ℕ) (f start : List ℕ) (i x : ℕ) (numbers behind octets : List ℕ) → i < length start → x ≡ get_or start i x → octets ≡ spelling_of width (renumbered (held_in f x) numbers) → behind ≡ drop (reference_count (held_in f x)) numbers → AreSound f (drop i start) numbers → CanSpellAll width (helds_of f (drop i start) numbers) → Step width f start i numbers behind octets
+pub step : (width : ℕ) (f start : List ℕ) (i x : ℕ) (numbers behind octets : List ℕ) → i < length start → x ≡ get_or start i x → octets ≡ spelling_of width (renumbered (held_in f x) numbers) → behind ≡ drop (reference_count (held_in f x)) numbers → AreSound f (drop i start) numbers → CanSpellAll width (helds_of f (drop i start) numbers) → Step width f start i x numbers behind octets
 step width f start i x numbers behind octets h is is_part is_behind sound spellable =
     let split : drop i start ≡ x ∷ drop (i + 1) start = drop_more start i x h ∙ ap (λ y. y ∷ drop (i + 1) start) (sym is) in
     let left = drop (i + 1) start in
     let both = subst (λ (os : List ℕ). AreSound f os numbers) split sound in
     let can = subst (λ (os : List ℕ). CanSpellAll width (helds_of f os numbers)) split spellable in
     record {
+      below = h;
+      here = can.0;
       sound = subst (λ (rs : List ℕ). AreSound f left rs) (sym is_behind) both.1.1;
       spellable = subst (λ (rs : List ℕ). CanSpellAll width (helds_of f left rs)) (sym is_behind) can.1;
       split = ap (λ os. octets_for width f os numbers) split ∙ ap (λ rs. spelling_of width (renumbered (held_in f x) numbers) ∷ octets_for width f left rs) (sym is_behind) ∙ ap (λ os. os ∷ octets_for width f left behind) (sym is_part);

@@ -64,32 +64,53 @@ knows-none f plan none new listed unmet = record {
   met = λ s n has. absurd (let e : None ≡ Some n = sym (ap (λ originals. number_from f 0 originals s) none) ∙ has in cc);
 }
 
--- a plan whose scalars, with their numbers, did not change
-knows-as : {S H : Type 0} → (f : List ℕ) (old new : Plan S H) → ((s : Scalar) → number_met f new s ≡ number_met f old s) → new.scalars ≡ old.scalars → new.memo ≡ old.memo → KnowsScalars f old → KnowsScalars f new
-knows-as {S} {H} f old new same same_scalars same_memo was =
-    let memo : (i : ℕ) → kept new.memo i ≡ kept old.memo i = λ i. ap (λ m. kept m i) same_memo in
+-- an object whose number did not change, in a plan that still knows its scalar
+remembered-as : {S H : Type 0} → (f : List ℕ) (old new : Plan S H) (i : ℕ) → kept new.memo i ≡ kept old.memo i → (one : IsRemembered f old i (kept old.memo i)) → (number_met f old one.shown ≡ Some (kept old.memo i) → number_met f new one.shown ≡ Some (kept old.memo i)) → IsRemembered f new i (kept new.memo i)
+remembered-as f old new i same one still =
+    record { shown = one.shown; holds = one.holds; met = still one.met ∙ ap Some (sym same) }
+
+-- a scalar whose object kept its number, and whose stored number is still found
+met-as : {S H : Type 0} → (f : List ℕ) (old new : Plan S H) (s : Scalar) (n : ℕ) (one : IsMet f old s n) → kept new.memo one.object ≡ kept old.memo one.object → ((r : ScalarRef) → number_stored old.scalars r ≡ Some n → number_stored new.scalars r ≡ Some n) → IsMet f new s n
+met-as f old new s n one same stored = record {
+  object = one.object;
+  holds = one.holds;
+  is_kept = same ∙ one.is_kept;
+  some = one.some;
+  found = elim one.found [
+    | inl all ↦ inl (λ r is. stored r (all r is))
+    | inr single ↦ inr single
+  ];
+}
+
+-- a plan whose scalars, with their numbers, did not change, after a search for single objects
+knows-searched : {S H : Type 0} → (f : List ℕ) (old new : Plan S H) → ((s : Scalar) → number_met f new s ≡ number_met f old s) → new.scalars ≡ old.scalars → FindsSingles f old.memo new.memo → KnowsScalars f old → KnowsScalars f new
+knows-searched {S} {H} f old new same same_scalars sifts was =
     let stored : (r : ScalarRef) → number_stored new.scalars r ≡ number_stored old.scalars r = λ r. ap (λ (k : Scalars S H). number_stored k r) same_scalars in
     record {
-      listed = rw same_memo was.listed;
+      listed = sifts.as_many ∙ was.listed;
       numbered = rw same_scalars was.numbered;
-      each = λ i some.
-          let one = was.each i (subst IsNumber (memo i) some) in
-          record { shown = one.shown; holds = one.holds; met = same one.shown ∙ one.met ∙ ap Some (sym (memo i)) };
-      singles = λ i e. was.singles i (sym (memo i) ∙ e);
+      each = λ j some. elim (sifts.each j) [
+        | inl is ↦ remembered-as f old new j is (was.each j (subst IsNumber is some)) (λ met. same _ ∙ met)
+        | inr marked ↦ absurd (let is = marked.1.0 in omega (arith, is, some))
+      ];
+      singles = λ j e. elim (sifts.each j) [
+        | inl is ↦ was.singles j (sym is ∙ e)
+        | inr marked ↦ marked.1.1
+      ];
       stored = λ r n has. same (content_of r) ∙ was.stored r n (sym (stored r) ∙ has);
       met = λ s n has.
           let one = was.met s n (sym (same s) ∙ has) in
-          record {
-            object = one.object;
-            holds = one.holds;
-            is_kept = memo one.object ∙ one.is_kept;
-            some = one.some;
-            found = elim one.found [
-              | inl all ↦ inl (λ r is. stored r ∙ all r is)
-              | inr single ↦ inr single
-            ];
-          };
+          let still : kept new.memo one.object ≡ kept old.memo one.object = elim (sifts.each one.object) [
+            | inl is ↦ is
+            | inr marked ↦ absurd (let no = marked.0 in let is = one.is_kept in let some = one.some in omega (arith, no, is, some))
+          ] in
+          met-as f old new s n one still (λ r had. stored r ∙ had);
     }
+
+-- a plan whose memo did not change either
+knows-as : {S H : Type 0} → (f : List ℕ) (old new : Plan S H) → ((s : Scalar) → number_met f new s ≡ number_met f old s) → new.scalars ≡ old.scalars → new.memo ≡ old.memo → KnowsScalars f old → KnowsScalars f new
+knows-as f old new same same_scalars same_memo was =
+    knows-searched f old new same same_scalars (record { as_many = ap (λ m. length m.numbers.items) same_memo; each = λ i. inl (ap (λ m. kept m i) same_memo) }) was
 
 -- a plan of which only references changed
 pub knows-same : {S H : Type 0} → (f : List ℕ) (old new : Plan S H) → new.originals ≡ old.originals → new.scalars ≡ old.scalars → new.memo ≡ old.memo → KnowsScalars f old → KnowsScalars f new
@@ -103,48 +124,14 @@ knows-begun f i refs old new n apart begins was =
 
 -- a plan after the search for single objects
 pub unmet-searched : {S H : Type 0} → (f : List ℕ) (i : ℕ) (s : Scalar) (old new : Plan S H) → new.originals ≡ old.originals → new.scalars ≡ old.scalars → FindsSingles f old.memo new.memo → IsUnmet f i s old → IsUnmet f i s new
-unmet-searched {S} {H} f i s old new same_originals same_scalars sifts unmet =
-    let was = unmet.knows in
-    let same : (q : Scalar) → number_met f new q ≡ number_met f old q = λ q. ap (λ originals. number_from f 0 originals.items q) same_originals in
-    let stored : (r : ScalarRef) → number_stored new.scalars r ≡ number_stored old.scalars r = λ r. ap (λ (k : Scalars S H). number_stored k r) same_scalars in
-    record {
-      holds = unmet.holds;
-      unmet = elim (sifts.each i) [
-        | inl is ↦ subst (λ (n : ℕ). single ≤ n) (sym is) unmet.unmet
-        | inr marked ↦ (let is = marked.1.0 in omega (arith, is))
-      ];
-      knows = record {
-        listed = sifts.as_many ∙ was.listed;
-        numbered = rw same_scalars was.numbered;
-        each = λ j some. elim (sifts.each j) [
-          | inl is ↦ (
-              let one = was.each j (subst IsNumber is some) in
-              record { shown = one.shown; holds = one.holds; met = same one.shown ∙ one.met ∙ ap Some (sym is) }
-              )
-          | inr marked ↦ absurd (let is = marked.1.0 in omega (arith, is, some))
-        ];
-        singles = λ j e. elim (sifts.each j) [
-          | inl is ↦ was.singles j (sym is ∙ e)
-          | inr marked ↦ marked.1.1
-        ];
-        stored = λ r n has. same (content_of r) ∙ was.stored r n (sym (stored r) ∙ has);
-        met = λ q n has.
-            let one = was.met q n (sym (same q) ∙ has) in
-            record {
-              object = one.object;
-              holds = one.holds;
-              is_kept = elim (sifts.each one.object) [
-                | inl is ↦ is ∙ one.is_kept
-                | inr marked ↦ absurd (let no = marked.0 in let is = one.is_kept in let some = one.some in omega (arith, no, is, some))
-              ];
-              some = one.some;
-              found = elim one.found [
-                | inl all ↦ inl (λ r is. stored r ∙ all r is)
-                | inr alone ↦ inr alone
-              ];
-            };
-      };
-    }
+unmet-searched f i s old new same_originals same_scalars sifts unmet = record {
+  holds = unmet.holds;
+  unmet = elim (sifts.each i) [
+    | inl is ↦ subst (λ (n : ℕ). single ≤ n) (sym is) unmet.unmet
+    | inr marked ↦ (let is = marked.1.0 in omega (arith, is))
+  ];
+  knows = knows-searched f old new (λ q. ap (λ originals. number_from f 0 originals.items q) same_originals) same_scalars sifts unmet.knows;
+}
 
 -- a scalar with a number that another object at the same offset has
 pub met-at-place : {S H : Type 0} → (f : List ℕ) (i : ℕ) (s : Scalar) (plan : Plan S H) (n : ℕ) → IsUnmet f i s plan → IsNumberAt f i plan.memo n → number_met f plan s ≡ Some n
@@ -212,8 +199,8 @@ module _ {S H : Type 0} (f : List ℕ) (i : ℕ) (r : ScalarRef) (old : Plan S H
     here : kept new.memo i ≡ n
     here = keeps.here (rw unmet.knows.listed unmet.holds.listed)
 
-    beside : (q : Scalar) (m : ℕ) (one : IsMet f old q m) → kept new.memo one.object ≡ m
-    beside q m one = keeps.others one.object (apart_here q m one) ∙ one.is_kept
+    beside : (q : Scalar) (m : ℕ) (one : IsMet f old q m) → kept new.memo one.object ≡ kept old.memo one.object
+    beside q m one = keeps.others one.object (apart_here q m one)
 
     each_now : number_met f new s ≡ Some n → ((q : Scalar) (m : ℕ) → number_met f old q ≡ Some m → number_met f new q ≡ Some m) → (j : ℕ) → IsNumber (kept new.memo j) → IsRemembered f new j (kept new.memo j)
     each_now met still j number = elim (cases_eq j i) [
@@ -222,11 +209,7 @@ module _ {S H : Type 0} (f : List ℕ) (i : ℕ) (r : ScalarRef) (old : Plan S H
         holds = subst (λ (k : ℕ). Holds f k (holds_scalar s)) (sym is) unmet.holds;
         met = met ∙ ap Some (sym (ap (kept new.memo) is ∙ here));
       }
-      | inr apart ↦ (
-          let same = keeps.others j apart in
-          let one = unmet.knows.each j (subst IsNumber same number) in
-          record { shown = one.shown; holds = one.holds; met = still one.shown _ one.met ∙ ap Some (sym same) }
-          )
+      | inr apart ↦ (let same = keeps.others j apart in remembered-as f old new j same (unmet.knows.each j (subst IsNumber same number)) (still _ _))
     ]
 
     singles_now : (j : ℕ) → kept new.memo j ≡ single → IsSingle f j
@@ -247,16 +230,7 @@ module _ {S H : Type 0} (f : List ℕ) (i : ℕ) (r : ScalarRef) (old : Plan S H
           stored = λ q m has. same (content_of q) ∙ unmet.knows.stored q m (sym (stored q) ∙ has);
           met = λ q m has.
               let one = unmet.knows.met q m (sym (same q) ∙ has) in
-              record {
-                object = one.object;
-                holds = one.holds;
-                is_kept = beside q m one;
-                some = one.some;
-                found = elim one.found [
-                  | inl all ↦ inl (λ t is. stored t ∙ all t is)
-                  | inr single ↦ inr single
-                ];
-              };
+              met-as f old new q m one (beside q m one) (λ t had. stored t ∙ had);
         }
 
     -- no equal scalar was visited
@@ -304,16 +278,7 @@ module _ {S H : Type 0} (f : List ℕ) (i : ℕ) (r : ScalarRef) (old : Plan S H
       met_now q m has = elim (cases_Option (number_met f old q)) [
         | inr had ↦ (
             let one = unmet.knows.met q m (had.1 ∙ sym (still q had.0 had.1) ∙ has) in
-            record {
-              object = one.object;
-              holds = one.holds;
-              is_kept = beside q m one;
-              some = one.some;
-              found = elim one.found [
-                | inl all ↦ inl (λ t is. found_still t m (all t is))
-                | inr single ↦ inr single
-              ];
-            }
+            met-as f old new q m one (beside q m one) (λ t had. found_still t m had)
             )
         | inl none ↦ (
             let is = met-added f i old new added s unmet.holds unknown q in

@@ -61,8 +61,7 @@ length-item_places k (item v vs) = ap suc (length-item_places (k + nodes v) vs)
 pub item_count-nodes : (vs : Items) → item_count vs ≤ nodes_of_items vs
 item_count-nodes no_items = omega arith
 item_count-nodes (item (scalar s) vs) = let others = item_count-nodes vs in omega arith
-item_count-nodes (item (list us) vs) = let others = item_count-nodes vs in omega arith
-item_count-nodes (item (table ps) vs) = let others = item_count-nodes vs in omega arith
+item_count-nodes (item _ vs) = let others = item_count-nodes vs in omega arith
 
 pub key_count-nodes : (ps : Pairs) → length (key_texts ps) ≤ nodes_of_pairs ps
 key_count-nodes no_pairs = omega arith
@@ -160,10 +159,8 @@ length-kept all k (v ∷ rest) =
 
 head_size-most : (n : ℕ) → head_size n ≤ 10
 head_size-most n =
-    elim (ltb n 15) as (λ short. cond short 1 (2 + least_width n) ≤ 10) [
-      | true ↦ omega arith
-      | false ↦ (let most = least_width-most n in omega arith)
-    ]
+    let width = least_width-most n in
+    cond_both (ltb n 15) 1 (2 + least_width n) (λ k. k ≤ 10) (λ _. omega arith) (λ _. omega arith)
 
 pub head-most : (kind n : ℕ) → length (head kind n) ≤ 10
 head-most kind n =

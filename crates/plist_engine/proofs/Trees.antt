@@ -1,5 +1,5 @@
 -- The places of a tree, and the values there.
-use Rattle.std.proofs.Common.{◌≡◌, ℕ, suc, ◌+◌, ◌<◌, List, [], ◌∷◌, ◌++◌, length, refl, sym, ap, ◌∙◌, arith, length-append, append_assoc}
+use Rattle.std.proofs.Common.{◌≡◌, ℕ, suc, ◌+◌, ◌<◌, List, [], ◌∷◌, ◌++◌, length, refl, sym, ap, subst, ◌∙◌, arith, add-one, length-append, append_assoc}
 use Rattle.std.proofs.lemmas.List.{get_or_at, append-nil}
 use Rattle.plist_value.specs.Plist.{Plist, scalar, list, table, Items, no_items, item, Pairs, no_pairs, pair}
 use Rattle.plist_value.specs.Limits.{nodes, nodes_of_items, nodes_of_pairs}
@@ -47,13 +47,8 @@ Stands-rest xs ys n long h =
     }
 
 pub Stands-tail : {X : Type 0} {all : List X} {k : ℕ} (x : X) (xs : List X) → Stands all k (x ∷ xs) → Stands all (suc k) xs
-Stands-tail x xs h =
-    record {
-      before = h.before ++ (x ∷ []);
-      after = h.after;
-      whole = h.whole ∙ sym (append_assoc h.before (x ∷ []) (xs ++ h.after));
-      place = rw length-append (omega arith);
-    }
+Stands-tail {X} {all} {k} x xs h =
+    subst (λ (n : ℕ). Stands all n xs) (add-one k) (Stands-rest (x ∷ []) xs 1 refl h)
 
 pub Stands-all : {X : Type 0} (xs : List X) → Stands xs 0 xs
 Stands-all xs = record { before = []; after = []; whole = sym (append-nil xs); place = refl }

@@ -9,31 +9,33 @@ use Rattle.plist_engine.specs.Renumbering.{AreSound, helds_of, octets_for, octet
 use Rattle.plist_engine.specs.Sending.{Allows}
 use Rattle.plist_engine.specs.Output.{state_of}
 use Rattle.plist_engine.proofs.Going.{Goes_put, Goes_then, Goes_rest, Goes_stop, Goes_same, room_then}
-use Rattle.plist_engine.proofs.ObjectSteps.{sound-next, spellable-next, step, measured-next, none-left, split-next, split-end, placed-next, placed-end}
+use Rattle.plist_engine.proofs.ObjectSteps.{sound-next, Step, step, measured-next, none-left, split-next, split-end, placed-next, placed-end}
+use Rattle.plist_engine.proofs.sending.send_objects.Given as given
 use Rattle.plist_engine.proofs.sending.send_objects.Goals as goal
+use Rattle.plist_engine.proofs.sending.send_objects.Goals.{After-renumbered_object}
 
 pub renumbered_object-requires : goal.renumbered_object-requires
 renumbered_object-requires g c =
-    let f = octets_of c.args.file.now in
     let start = c.args.objects.now.originals.items in
     let l = c.loop-original in
-    let i = l.original-index in
     let original = c.from.result in
-    let below : i < length start = search rules in
-    let is : original ≡ get_or start i original = search rules in
-    let sound = sound-next f start i original l.numbers.now below is l.invariant.sound in
+    let is : original ≡ get_or start l.original-index original = search rules in
+    let sound = sound-next (octets_of c.args.file.now) start l.original-index original l.numbers.now (search rules) is l.invariant.sound in
     record { read = sound.read; numbers = sound.enough }
+
+-- the object at the index, and what remains after it
+next : (g : given.Over) (c : After-renumbered_object g) → Step c.args.width (octets_of c.args.file.now) c.args.objects.now.originals.items c.loop-original.original-index c.from.result c.loop-original.numbers.now c.renumbered_object.result.1.now (octets_in_object c.args.width c.renumbered_object.result.0)
+next g c =
+    let start = c.args.objects.now.originals.items in
+    let l = c.loop-original in
+    let original = c.from.result in
+    let is : original ≡ get_or start l.original-index original = search rules in
+    step c.args.width (octets_of c.args.file.now) start l.original-index original l.numbers.now c.renumbered_object.result.1.now (octets_in_object c.args.width c.renumbered_object.result.0) (search rules) is (c.renumbered_object.ensures.spelled c.args.width) c.renumbered_object.ensures.behind l.invariant.sound l.invariant.spellable
 
 pub object_length-size-requires-clause-spellable : goal.object_length-size-requires-clause-spellable
 object_length-size-requires-clause-spellable g c =
-    let f = octets_of c.args.file.now in
-    let start = c.args.objects.now.originals.items in
-    let l = c.loop-original in
-    let i = l.original-index in
-    let original = c.from.result in
-    let below : i < length start = search rules in
-    let is : original ≡ get_or start i original = search rules in
-    c.renumbered_object.ensures.spellable c.args.width (spellable-next c.args.width f start i original l.numbers.now below is l.invariant.spellable)
+    let one = next g (goal.at.object_length-size-requires-clause-spellable g c).After-renumbered_object in
+    c.renumbered_object.ensures.spellable c.args.width one.here
 
 pub push_reserved-requires : goal.push_reserved-requires
 push_reserved-requires g c =
@@ -44,94 +46,60 @@ push_reserved-requires g c =
 
 pub send_object-requires-clause-spellable : goal.send_object-requires-clause-spellable
 send_object-requires-clause-spellable g c =
-    let f = octets_of c.args.file.now in
-    let start = c.args.objects.now.originals.items in
-    let l = c.loop-original in
-    let i = l.original-index in
-    let original = c.from.result in
-    let below : i < length start = search rules in
-    let is : original ≡ get_or start i original = search rules in
-    c.renumbered_object.ensures.spellable c.args.width (spellable-next c.args.width f start i original l.numbers.now below is l.invariant.spellable)
+    let one = next g (goal.at.send_object-requires-clause-spellable g c).After-renumbered_object in
+    c.renumbered_object.ensures.spellable c.args.width one.here
 
 pub send_object-requires-clause-room : goal.send_object-requires-clause-room
 send_object-requires-clause-room g c =
     let f = octets_of c.args.file.now in
     let start = c.args.objects.now.originals.items in
     let l = c.loop-original in
-    let i = l.original-index in
-    let original = c.from.result in
-    let object = c.renumbered_object.result.0 in
-    let below : i < length start = search rules in
-    let is : original ≡ get_or start i original = search rules in
-    let one = step c.args.width f start i original l.numbers.now c.renumbered_object.result.1.now (octets_in_object c.args.width object) below is (c.renumbered_object.ensures.spelled c.args.width) c.renumbered_object.ensures.behind l.invariant.sound l.invariant.spellable in
-    let octets = octets_in_object c.args.width object in
-    let later = concat (octets_for c.args.width f (drop (i + 1) start) c.renumbered_object.result.1.now) in
-    let all = concat (octets_planned c.args.width f c.args.objects.now) in
-    let rest = concat (octets_for c.args.width f (drop i start) l.numbers.now) in
+    let one = next g (goal.at.send_object-requires-clause-room g c).After-renumbered_object in
+    let later = concat (octets_for c.args.width f (drop (l.original-index + 1) start) c.renumbered_object.result.1.now) in
+    let rest = concat (octets_for c.args.width f (drop l.original-index start) l.numbers.now) in
     let whole = ap length l.invariant.split in
     let left = room_then l.invariant.done rest (state_of g.W.Sink c.args.out.now) (state_of g.W.Sink l.out) tt (2 ^ 64 - 8) l.invariant.goes (omega (arith, whole, c.requires.room)) in
-    let sizes = ap (λ os. length (concat os)) one.split ∙ length-append octets later in
+    let sizes = ap (λ os. length (concat os)) one.split ∙ length-append (octets_in_object c.args.width c.renumbered_object.result.0) later in
     omega (arith, left, sizes)
 
 pub returns-in_err-send_object-clause-goes : goal.returns-in_err-send_object-clause-goes
 returns-in_err-send_object-clause-goes g c =
     let p = err_from_is_err_and c.from_residual.result c.from_residual.ensures.1 in
-    let f = octets_of c.args.file.now in
-    let start = c.args.objects.now.originals.items in
     let l = c.loop-original in
-    let i = l.original-index in
-    let original = c.from.result in
-    let object = c.renumbered_object.result.0 in
-    let below : i < length start = search rules in
-    let is : original ≡ get_or start i original = search rules in
-    let one = step c.args.width f start i original l.numbers.now c.renumbered_object.result.1.now (octets_in_object c.args.width object) below is (c.renumbered_object.ensures.spelled c.args.width) c.renumbered_object.ensures.behind l.invariant.sound l.invariant.spellable in
-    let octets = octets_in_object c.args.width object in
-    let later = concat (octets_for c.args.width f (drop (i + 1) start) c.renumbered_object.result.1.now) in
-    let all = concat (octets_planned c.args.width f c.args.objects.now) in
-    let whole : l.invariant.done ++ (octets ++ later) ≡ all = ap (λ os. l.invariant.done ++ concat os) (sym one.split) ∙ l.invariant.split in
+    let one = next g (goal.at.returns-in_err-send_object-clause-goes g c).After-renumbered_object in
+    let octets = octets_in_object c.args.width c.renumbered_object.result.0 in
+    let later = concat (octets_for c.args.width (octets_of c.args.file.now) (drop (l.original-index + 1) c.args.objects.now.originals.items) c.renumbered_object.result.1.now) in
+    let whole = ap (λ os. l.invariant.done ++ concat os) (sym one.split) ∙ l.invariant.split in
     let q = state_of g.W.Sink l.out in
     let r = state_of g.W.Sink c.send_object.new.out in
-    rw (p.1, p.2) (Goes_rest l.invariant.done (octets ++ later) all (state_of g.W.Sink c.args.out.now) q r tt _ whole l.invariant.goes (Goes_stop octets later q r _ c.in_err-send_object.ensures.goes))
+    rw (p.1, p.2) (Goes_rest l.invariant.done (octets ++ later) (concat (octets_planned c.args.width (octets_of c.args.file.now) c.args.objects.now)) (state_of g.W.Sink c.args.out.now) q r tt _ whole l.invariant.goes (Goes_stop octets later q r _ c.in_err-send_object.ensures.goes))
 
 pub overflow_add-place : goal.overflow_add-place
 overflow_add-place g c =
-    let f = octets_of c.args.file.now in
-    let start = c.args.objects.now.originals.items in
     let l = c.loop-original in
-    let i = l.original-index in
-    let original = c.from.result in
-    let object = c.renumbered_object.result.0 in
-    let below : i < length start = search rules in
-    let is : original ≡ get_or start i original = search rules in
-    let one = step c.args.width f start i original l.numbers.now c.renumbered_object.result.1.now (octets_in_object c.args.width object) below is (c.renumbered_object.ensures.spelled c.args.width) c.renumbered_object.ensures.behind l.invariant.sound l.invariant.spellable in
-    let all = concat (octets_planned c.args.width f c.args.objects.now) in
-    let measured = measured-next l.place c.object_length-size.result (8 + length all) (octets_in_object c.args.width object) _ _ c.object_length-size.ensures one.split l.invariant.measured in
+    let one = next g (goal.at.overflow_add-place g c).After-renumbered_object in
+    let all = concat (octets_planned c.args.width (octets_of c.args.file.now) c.args.objects.now) in
+    let measured = measured-next l.place c.object_length-size.result (8 + length all) _ _ _ c.object_length-size.ensures one.split l.invariant.measured in
     let bound = measured.0 in
     let room = c.requires.room in
     omega (arith, bound, room)
 
 pub loop-original-preserved : goal.loop-original-preserved
 loop-original-preserved g c =
-    let f = octets_of c.args.file.now in
     let start = c.args.objects.now.originals.items in
     let l = c.loop-original in
     let i = l.original-index in
-    let original = c.from.result in
-    let object = c.renumbered_object.result.0 in
-    let below : i < length start = search rules in
-    let is : original ≡ get_or start i original = search rules in
-    let one = step c.args.width f start i original l.numbers.now c.renumbered_object.result.1.now (octets_in_object c.args.width object) below is (c.renumbered_object.ensures.spelled c.args.width) c.renumbered_object.ensures.behind l.invariant.sound l.invariant.spellable in
-    let octets = octets_in_object c.args.width object in
-    let later = octets_for c.args.width f (drop (i + 1) start) c.renumbered_object.result.1.now in
-    let all = octets_planned c.args.width f c.args.objects.now in
+    let one = next g (goal.at.loop-original-preserved g c).After-renumbered_object in
+    let octets = octets_in_object c.args.width c.renumbered_object.result.0 in
+    let later = octets_for c.args.width (octets_of c.args.file.now) (drop (i + 1) start) c.renumbered_object.result.1.now in
+    let all = octets_planned c.args.width (octets_of c.args.file.now) c.args.objects.now in
     let size = c.object_length-size.result in
-    let measured = measured-next l.place size (8 + length (concat all)) octets _ _ c.object_length-size.ensures one.split l.invariant.measured in
     record {
       sound = one.sound;
       spellable = one.spellable;
-      measured = measured.0;
+      measured = (measured-next l.place size (8 + length (concat all)) octets _ _ c.object_length-size.ensures one.split l.invariant.measured).0;
       places = placed-next l.places.items c.push_reserved.new.self.items l.place size octets _ later all c.push_reserved.ensures.items c.object_length-size.ensures one.split l.invariant.places;
-      room = omega (arith, c.push_reserved.ensures.len, c.push_reserved.ensures.capacity, l.invariant.room, below, length-drop i start, length-drop (i + 1) start);
+      room = omega (arith, c.push_reserved.ensures.len, c.push_reserved.ensures.capacity, l.invariant.room, one.below, length-drop i start, length-drop (i + 1) start);
       done = l.invariant.done ++ octets;
       split = split-next l.invariant.done octets (concat all) _ later one.split l.invariant.split;
       goes = Goes_then l.invariant.done octets (state_of g.W.Sink c.args.out.now) (state_of g.W.Sink l.out) (state_of g.W.Sink c.send_object.new.out) tt _ l.invariant.goes c.in_ok-send_object.ensures.goes;
@@ -164,15 +132,8 @@ returns-clause-places g c =
 pub returns-in_err-send_object-clause-pieces : goal.returns-in_err-send_object-clause-pieces
 returns-in_err-send_object-clause-pieces g c = λ most allows fits before.
     let p = err_from_is_err_and c.from_residual.result c.from_residual.ensures.1 in
-    let f = octets_of c.args.file.now in
-    let start = c.args.objects.now.originals.items in
     let l = c.loop-original in
-    let i = l.original-index in
-    let original = c.from.result in
-    let object = c.renumbered_object.result.0 in
-    let below : i < length start = search rules in
-    let is : original ≡ get_or start i original = search rules in
-    let one = step c.args.width f start i original l.numbers.now c.renumbered_object.result.1.now (octets_in_object c.args.width object) below is (c.renumbered_object.ensures.spelled c.args.width) c.renumbered_object.ensures.behind l.invariant.sound l.invariant.spellable in
+    let one = next g (goal.at.returns-in_err-send_object-clause-pieces g c).After-renumbered_object in
     let here = rw one.split at (l.invariant.allowed most allows) in
     let now = l.invariant.short most allows before in
     let sent = c.in_err-send_object.ensures.pieces most (record { least = here.least; each = (here.each.0, tt) }) (omega arith) now in

@@ -1,27 +1,30 @@
-use Rattle.std.proofs.Common.{◌≡◌, ℕ, ◌+◌, ◌-◌, ◌<◌, ◌≤◌, List, [], ◌∷◌, ◌++◌, length, drop, get_or, rules, refl, sym, ap, subst, ◌∙◌, arith, length-append, append_assoc}
-use Rattle.std.proofs.lemmas.List.{append-nil, drop_at, get_or-drop, length-drop}
+use Rattle.std.proofs.Common.{◌≡◌, ℕ, ◌+◌, ◌-◌, ◌<◌, ◌≤◌, List, [], ◌∷◌, false, ◌++◌, length, drop, get_or, rules, refl, sym, ap, subst, ◌∙◌, arith, length-append, append_assoc}
+use Rattle.std.proofs.lemmas.List.{append-nil, drop_at, get_or-drop, length-drop, drop-set-lt}
 use Rattle.std.proofs.lemmas.Result.{IfOk-weaker, on_ok_weaker}
+use Rattle.plist_value.specs.Plist.{Scalar}
 use Rattle.plist_value.specs.Scalars.{content_of}
 use Rattle.plist_object.specs.Views.{octets_of, numbers_of}
 use Rattle.plist_value.specs.declared.scalar_ref.ScalarRef.{ScalarRef}
 use Rattle.plist_object.specs.Objects.{holds_scalar}
-use Rattle.plist_object.specs.Places.{Holds}
+use Rattle.plist_object.specs.Places.{Holds, what_holds}
 use Rattle.plist_engine.specs.Memo.{kept, single}
 use Rattle.plist_engine.specs.declared.plan.Plan.{Plan}
-use Rattle.plist_engine.specs.Plan.{ItemsWalked, IsUnmet, KnowsScalars}
+use Rattle.plist_engine.specs.Plan.{is_held, Begins, ItemsWalked, IsUnmet, KnowsScalars}
 use Rattle.plist_engine.specs.Spelling.{SpellWithin, in_turn}
 use Rattle.plist_object.specs.Spelled.{SpellsWithin}
-use Rattle.plist_engine.proofs.Filling.{filling-start, filling-long, filling-object, filling-next, filling-end, kept-behind}
+use Rattle.plist_engine.proofs.Filling.{filling-start, filling-long, filling-object, filling-next, filling-end}
 use Rattle.plist_engine.proofs.Within.{read_within, levels_within, items_within, table_within, is_table, flat_within, value_within}
 use Rattle.plist_engine.proofs.Walked.{walked-scalar, walked-list, walked-table, walked-next, walked-none}
 use Rattle.plist_engine.proofs.Meeting.{list-apart, table-apart}
 use Rattle.plist_engine.proofs.Remembering.{knows-begun, knows-same, number-remembered, valid_at, walked-again}
 use Rattle.plist_engine.proofs.walk.+walk.Goals as goal
 
--- a bound on the references to which others were appended
-behind_old : (old objects new : List ℕ) (first : ℕ) → first ≡ length old → new ≡ old ++ objects → first ≤ length new
-behind_old old objects new first at_end added =
-    let e = ap length added in let size = length-append old objects in omega arith
+-- what the walk of the children requires of a plan that begins their container
+children : {S H : Type 0} → (f : List ℕ) (i : ℕ) (objects : List ℕ) (levels first : ℕ) (old new : Plan S H) (number : ℕ) → first ≡ length old.references.items → ((s : Scalar) → is_held s (what_holds f i) ≡ false) → Begins i objects old new number → SpellWithin f objects levels → KnowsScalars f old → (first ≤ length new.references.items) × (SpellWithin f (drop first new.references.items) levels × KnowsScalars f new)
+children f i objects levels first old new number at_end apart begins within knows =
+    let begun : drop first new.references.items ≡ objects = ap (drop first) begins.references_added ∙ drop_at old.references.items objects first (sym at_end) in
+    let added = ap length begins.references_added ∙ length-append old.references.items objects in
+    (omega arith, (subst (λ (refs : List ℕ). SpellWithin f refs levels) (sym begun) within, knows-begun f i objects old new number apart begins knows))
 
 pub walk-returns-in-Some-clause-walked : goal.walk-returns-in-Some-clause-walked
 walk-returns-in-Some-clause-walked g t c =
@@ -66,15 +69,13 @@ walk_object-overflow_sub-levels g t c = levels_within (octets_of c.args.file.now
 pub walk_object-walk_children-requires : goal.walk_object-walk_children-requires
 walk_object-walk_children-requires g t c =
     let f = octets_of c.args.file.now in
-    let old = c.args.plan.now.references.items in
     let objects = numbers_of c.in-List.items in
-    let first = c.len-first.result in
     let some = levels_within f c.args.object c.args.levels c.requires.spells in
-    let at_end : first ≡ length old = search rules in
-    let added = c.in_ok-number-in-List.ensures.references_added in
-    let begun : drop first c.begin_list.new.self.references.items ≡ objects = ap (drop first) added ∙ drop_at old objects first (sym at_end) in
+    let at_end : c.len-first.result ≡ length c.args.plan.now.references.items = search rules in
     let within = items_within f c.args.object c.args.levels objects c.requires.spells c.in-List.ensures.holds in
-    λ κs lives. (omega (arith, c.decreases), (lives.0, (lives.1, (behind_old old objects c.begin_list.new.self.references.items first at_end added, (subst (λ (refs : List ℕ). SpellWithin f refs (c.args.levels - 1)) (sym begun) within, (knows-begun f c.args.object objects c.args.plan.now c.begin_list.new.self c.in_ok-number-in-List.number (list-apart f c.args.object objects c.in-List.ensures.holds) c.in_ok-number-in-List.ensures c.requires.knows, c.requires.ready))))))
+    let apart = list-apart f c.args.object objects c.in-List.ensures.holds in
+    let begun = children f c.args.object objects (c.args.levels - 1) c.len-first.result c.args.plan.now c.begin_list.new.self c.in_ok-number-in-List.number at_end apart c.in_ok-number-in-List.ensures within c.requires.knows in
+    λ κs lives. (omega (arith, c.decreases), (lives.0, (lives.1, (begun.0, (begun.1.0, (begun.1.1, c.requires.ready))))))
 
 pub walk_object-begin_table-requires : goal.walk_object-begin_table-requires
 walk_object-begin_table-requires g t c = record {
@@ -89,17 +90,15 @@ walk_object-overflow_sub-levels-in-Table g t c =
 pub walk_object-walk_children-requires-in-Table : goal.walk_object-walk_children-requires-in-Table
 walk_object-walk_children-requires-in-Table g t c =
     let f = octets_of c.args.file.now in
-    let old = c.args.plan.now.references.items in
     let keys = numbers_of c.in-Table.keys in
     let values = numbers_of c.in-Table.values in
-    let first = c.len-first-in-Table.result in
     let some = levels_within f c.args.object c.args.levels c.requires.spells in
-    let at_end : first ≡ length old = search rules in
+    let at_end : c.len-first-in-Table.result ≡ length c.args.plan.now.references.items = search rules in
     let within = table_within f c.args.object c.args.levels keys values c.in-Table.ensures.valid c.requires.spells c.in-Table.ensures.holds in
-    let objects = in_turn within.rows in
-    let added = (c.in_ok-number-in-Table.ensures.begins within.rows within.pairs within.spell).references_added in
-    let begun : drop first c.begin_table.new.self.references.items ≡ objects = ap (drop first) added ∙ drop_at old objects first (sym at_end) in
-    λ κs lives. (omega (arith, c.decreases), (lives.0, (lives.1, (behind_old old objects c.begin_table.new.self.references.items first at_end added, (subst (λ (refs : List ℕ). SpellWithin f refs (c.args.levels - 1)) (sym begun) (flat_within f keys values (c.args.levels - 1) within), (knows-begun f c.args.object objects c.args.plan.now c.begin_table.new.self c.in_ok-number-in-Table.number (table-apart f c.args.object keys values c.in-Table.ensures.holds) (c.in_ok-number-in-Table.ensures.begins within.rows within.pairs within.spell) c.requires.knows, c.in_ok-number-in-Table.ensures.ready))))))
+    let begins = c.in_ok-number-in-Table.ensures.begins within.rows within.pairs within.spell in
+    let apart = table-apart f c.args.object keys values c.in-Table.ensures.holds in
+    let begun = children f c.args.object (in_turn within.rows) (c.args.levels - 1) c.len-first-in-Table.result c.args.plan.now c.begin_table.new.self c.in_ok-number-in-Table.number at_end apart begins (flat_within f keys values (c.args.levels - 1) within) c.requires.knows in
+    λ κs lives. (omega (arith, c.decreases), (lives.0, (lives.1, (begun.0, (begun.1.0, (begun.1.1, c.in_ok-number-in-Table.ensures.ready))))))
 
 pub walk_object-returns-in-Scalar-clause-walked : goal.walk_object-returns-in-Scalar-clause-walked
 walk_object-returns-in-Scalar-clause-walked g t c =
@@ -191,7 +190,7 @@ walk_children-loop-i-preserved g t c =
       done = done ++ (n ∷ []);
       filling = filling-next first i start now done c.requires.first filling mid.references.items one.references n below one.references_added;
       more = λ new numbers w.
-          let all = c.loop-i.invariant.more new (n ∷ numbers) (walked-next f start i c.from.result c.loop-i.plan mid _ new n numbers below (c.from.ensures ∙ object ∙ stands) long one refl (kept-behind i (length start) mid.references.items n below) w) in
+          let all = c.loop-i.invariant.more new (n ∷ numbers) (walked-next f start i c.from.result c.loop-i.plan mid _ new n numbers below (c.from.ensures ∙ object ∙ stands) long one refl (drop-set-lt (length start) mid.references.items i n below) w) in
           subst (λ (ns : List ℕ). ItemsWalked f (length start) (drop first start) c.args.plan.now new ns) (sym (append_assoc done (n ∷ []) numbers)) all;
       knows = knows-same f mid _ refl refl refl c.in_ok-number.ensures.knows;
       ready = c.in_ok-number.ensures.ready;

@@ -19,7 +19,7 @@ use Rattle.plist_binary.specs.declared.dictionary.Key.{Key}
 use Rattle.plist_binary.specs.Keys.{units_at, pair_at}
 use Rattle.plist_binary.specs.Readings.{texts}
 use Rattle.plist_binary.proofs.BuildSteps.{HoldsSome-within, AllSpellWithin-list, SpellsPairsWithin-table, AllSpellTexts-keys, AllSpellWithin-values, IsSpelled-table, AreSpelled-next, distinct_texts, valid_texts}
-use Rattle.plist_binary.proofs.Entering.{some_level}
+use Rattle.plist_value.proofs.Items.{some_depth}
 use Rattle.plist_binary.proofs.Ascents.{same_key}
 use Rattle.plist_binary.proofs.Placed.{distinct_places_moved, places_within_moved, pairs_moved}
 use Rattle.plist_value.proofs.Items.{push, view_items-push}
@@ -27,15 +27,19 @@ use Rattle.plist_value.proofs.Shown.{view-table}
 use Rattle.plist_binary.proofs.Sorting.{seen_sorted}
 use Rattle.plist_binary.proofs.TableSteps.{length-texts, length-items, PairsSpelled-entries}
 use Rattle.plist_binary.proofs.building.Builder.+build.Goals as goal
+use Rattle.plist_binary.proofs.building.Builder.+build.Goals.{pairs-After-sort-distinct}
 
 IfOk_both : {T E : Type 0} (r : Result T E) (P Q R : T → Type 0) → ((x : T) → P x → Q x → R x) → IfOk r P → IfOk r Q → IfOk r R
 IfOk_both (Ok x) P Q R then p q = then x p q
 IfOk_both (Err e) P Q R then p q = tt
 
--- a list that was sorted in place
-moved_between : (keys written sorted seen : List Key) → written ≡ keys → IsPermutation written sorted → seen ≡ sorted → IsPermutation keys seen
-moved_between keys written sorted seen first moved last =
-    subst (λ (xs : List Key). IsPermutation xs seen) first (subst (λ (xs : List Key). IsPermutation written xs) (sym last) moved)
+-- the keys, after they were sorted in place
+keys_moved : (t : _) (c : pairs-After-sort-distinct t) → IsPermutation c.in_ok-keys.keys.items (take c.in_ok-keys.keys.len (c.sort-distinct.new.keys ++ drop (length c.sort-distinct.new.keys) c.in_ok-keys.keys.items))
+keys_moved t c =
+    let keys = c.in_ok-keys.keys.items in
+    let after = c.sort-distinct.new.keys in
+    let seen = seen_sorted c.in_ok-keys.keys.len keys c.as_mut_slice.result.now after _ (omega (arith, c.in_ok-keys.keys.ok.0)) c.as_mut_slice.ensures.value c.sort-distinct.ensures.moved refl in
+    subst (λ (xs : List Key). IsPermutation keys xs) (sym seen) (subst (λ (xs : List Key). IsPermutation xs after) c.as_mut_slice.ensures.value c.sort-distinct.ensures.moved)
 
 as_many : (f refs others : List ℕ) (keys : List Key) (values : List Value) → length refs ≡ length others → SpellItems f refs (texts (map units_at keys)) → SpellItems f others (view_items values) → length keys ≡ length values
 as_many f refs others keys values long spell_keys spell_values =
@@ -70,16 +74,14 @@ pairs-table-requires-clause-within t c =
     let keys = numbers_of c.args.keys in
     let values = numbers_of c.args.values in
     let sorted = take c.in_ok-keys.keys.len (c.sort-distinct.new.keys ++ drop (length c.sort-distinct.new.keys) c.in_ok-keys.keys.items) in
-    let seen = seen_sorted c.in_ok-keys.keys.len c.in_ok-keys.keys.items c.as_mut_slice.result.now c.sort-distinct.new.keys sorted (omega (arith, c.in_ok-keys.keys.ok.0)) c.as_mut_slice.ensures.value c.sort-distinct.ensures.moved refl in
-    let moved = moved_between c.in_ok-keys.keys.items c.as_mut_slice.result.now c.sort-distinct.new.keys sorted c.as_mut_slice.ensures.value c.sort-distinct.ensures.moved seen in
+    let moved = keys_moved t (goal.at.pairs-table-requires-clause-within t c).After-sort-distinct in
     let both = as_many f keys values c.in_ok-keys.keys.items c.in_ok-values.values.items c.requires.long c.in_ok-keys.ensures.texts.spell c.in_ok-values.ensures.spell in
     places_within_moved c.in_ok-keys.keys.items sorted (length c.in_ok-values.values.items) both c.in_ok-keys.ensures.placed moved
 
 pub pairs-table-requires-clause-apart : goal.pairs-table-requires-clause-apart
 pairs-table-requires-clause-apart t c =
     let sorted = take c.in_ok-keys.keys.len (c.sort-distinct.new.keys ++ drop (length c.sort-distinct.new.keys) c.in_ok-keys.keys.items) in
-    let seen = seen_sorted c.in_ok-keys.keys.len c.in_ok-keys.keys.items c.as_mut_slice.result.now c.sort-distinct.new.keys sorted (omega (arith, c.in_ok-keys.keys.ok.0)) c.as_mut_slice.ensures.value c.sort-distinct.ensures.moved refl in
-    let moved = moved_between c.in_ok-keys.keys.items c.as_mut_slice.result.now c.sort-distinct.new.keys sorted c.as_mut_slice.ensures.value c.sort-distinct.ensures.moved seen in
+    let moved = keys_moved t (goal.at.pairs-table-requires-clause-apart t c).After-sort-distinct in
     distinct_places_moved c.in_ok-keys.keys.items sorted c.in_ok-keys.ensures.placed moved
 
 pub pairs-returns : goal.pairs-returns
@@ -89,8 +91,7 @@ pairs-returns t c =
     let values = numbers_of c.args.values in
     let us = map units_at c.in_ok-keys.keys.items in
     let sorted = take c.in_ok-keys.keys.len (c.sort-distinct.new.keys ++ drop (length c.sort-distinct.new.keys) c.in_ok-keys.keys.items) in
-    let seen = seen_sorted c.in_ok-keys.keys.len c.in_ok-keys.keys.items c.as_mut_slice.result.now c.sort-distinct.new.keys sorted (omega (arith, c.in_ok-keys.keys.ok.0)) c.as_mut_slice.ensures.value c.sort-distinct.ensures.moved refl in
-    let moved = moved_between c.in_ok-keys.keys.items c.as_mut_slice.result.now c.sort-distinct.new.keys sorted c.as_mut_slice.ensures.value c.sort-distinct.ensures.moved seen in
+    let moved = keys_moved t (goal.at.pairs-returns t c).After-sort-distinct in
     let both = as_many f keys values c.in_ok-keys.keys.items c.in_ok-values.values.items c.requires.long c.in_ok-keys.ensures.texts.spell c.in_ok-values.ensures.spell in
     let many : length us ≡ length (map view c.in_ok-values.values.items) = omega (arith, both, length-map c.in_ok-keys.keys.items units_at, length-map c.in_ok-values.values.items view) in
     IfOk_both c.table.result (λ pairs. pairs.entries ≡ map (pair_at c.in_ok-values.values.items) sorted) (λ pairs. IsStrictlySortedBy (slice_cmp nat_cmp) (keys_of pairs.entries)) (λ pairs. PairsSpelled f keys values (view_pairs pairs.entries))
@@ -102,16 +103,16 @@ value-held-requires t c =
     HoldsSome-within (octets_of c.args.self.now.file) c.args.object c.args.levels c.requires
 
 pub value-overflow_sub-levels : goal.value-overflow_sub-levels
-value-overflow_sub-levels t c = omega (arith, some_level c.requires.value, c.requires.deep)
+value-overflow_sub-levels t c = omega (arith, some_depth c.requires.value, c.requires.deep)
 
 pub value-overflow_sub-levels-in-Table : goal.value-overflow_sub-levels-in-Table
-value-overflow_sub-levels-in-Table t c = omega (arith, some_level c.requires.value, c.requires.deep)
+value-overflow_sub-levels-in-Table t c = omega (arith, some_depth c.requires.value, c.requires.deep)
 
 pub value-items-requires : goal.value-items-requires
 value-items-requires t c =
     let f = octets_of c.args.self.now.file in
     let refs = numbers_of c.in-List.items in
-    let some : 1 ≤ c.args.levels = omega (arith, some_level c.requires.value, c.requires.deep) in
+    let some : 1 ≤ c.args.levels = omega (arith, some_depth c.requires.value, c.requires.deep) in
     let holds : Holds f c.args.object (holds_list refs) = rw c.in-List.is at c.held.ensures.held in
     (search rules, AllSpellWithin-list f refs c.args.object c.args.levels holds c.requires)
 
@@ -120,7 +121,7 @@ value-pairs-requires t c =
     let f = octets_of c.args.self.now.file in
     let keys = numbers_of c.in-Table.keys in
     let values = numbers_of c.in-Table.values in
-    let some : 1 ≤ c.args.levels = omega (arith, some_level c.requires.value, c.requires.deep) in
+    let some : 1 ≤ c.args.levels = omega (arith, some_depth c.requires.value, c.requires.deep) in
     let holds : Holds f c.args.object (holds_table keys values) = rw c.in-Table.is at c.held.ensures.held in
     (search rules, SpellsPairsWithin-table f keys values c.args.object c.args.levels holds c.requires)
 

@@ -12,7 +12,7 @@ use Rattle.plist_binary.specs.Paths.{containers_of}
 use Rattle.plist_binary.specs.Readings.{RefusesKey}
 use Rattle.plist_binary.proofs.Beginning.{IsBegun-leads}
 use Rattle.plist_binary.proofs.ItemSteps.{RefusesKey-value, RefusesKey-other}
-use Rattle.plist_binary.proofs.Making.{AreStates-but, AreStates-visited, Reads-scalar, Refuses-payload}
+use Rattle.plist_binary.proofs.Making.{IsWithinLimits-spent, AreStates-but, AreStates-visited, Reads-scalar, Refuses-payload}
 use Rattle.plist_binary.proofs.PassSteps.{IsKey-read}
 use Rattle.plist_binary.proofs.visiting.Visitor.key.Goals as goal
 
@@ -50,10 +50,7 @@ returns-in-Some-clause-progress c =
       states = so_far.states;
       last = so_far.last;
       ready = so_far.ready;
-      within = record {
-        nodes_most = omega (arith, so_far.within.nodes_most, spent.nodes_left);
-        payload_most = omega (arith, so_far.within.payload_most, spent.payload_left);
-      };
+      within = IsWithinLimits-spent so_far.within spent;
     }
 
 pub returns-clause-read : goal.returns-clause-read
@@ -85,8 +82,5 @@ returns-clause-progress c =
       states = AreStates-visited f path states after object (Key size) marked known c.in_ok-enter.ensures.new (AreStates-but f path states object so_far.states);
       last = so_far.last;
       ready = so_far.ready;
-      within = record {
-        nodes_most = omega (arith, so_far.within.nodes_most, spent.nodes_left);
-        payload_most = omega (arith, so_far.within.payload_most, spent.payload_left);
-      };
+      within = IsWithinLimits-spent so_far.within spent;
     }

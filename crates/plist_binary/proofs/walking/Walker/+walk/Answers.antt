@@ -14,7 +14,7 @@ use Rattle.plist_binary.specs.Paths.{containers_of}
 use Rattle.plist_binary.specs.Readings.{Refuses, RefusesItems, texts}
 use Rattle.plist_binary.proofs.Beginning.{AreNext-items, AreNext-leads, AreNext-values, IsBegun-next, IsEntered-begun, Refers-next}
 use Rattle.plist_binary.proofs.ItemSteps.{Contains-at, RefusesItems-next, RefusesItems-none}
-use Rattle.plist_binary.proofs.Making.{Refuses-payload, Refuses-list, Refuses-table, AreStates-open, AreStates-visited, AreStates-but, AreStates-last}
+use Rattle.plist_binary.proofs.Making.{IsWithinLimits-spent, IsProgress-last, Refuses-payload, Refuses-list, Refuses-table, AreStates-open, AreStates-visited, AreStates-but}
 use Rattle.plist_binary.proofs.Entering.{length-values}
 use Rattle.plist_binary.proofs.PassSteps.{IsMemo-passed, Passes-scalar, Passes-list, Passes-table, PassesItems-next, PassesPairs-sorted}
 use Rattle.plist_binary.proofs.TableSteps.{RefusesPairs-values}
@@ -47,10 +47,7 @@ content-returns-in_ok-take_payload-in-Scalar-clause-progress t c =
       states = AreStates-but (octets_of c.args.self.now.visitor.file) (containers_of c.args.path.now) c.enter.new.progress.states.items c.args.object so_far.states;
       last = so_far.last;
       ready = so_far.ready;
-      within = record {
-        nodes_most = omega (arith, so_far.within.nodes_most, spent.nodes_left);
-        payload_most = omega (arith, so_far.within.payload_most, spent.payload_left);
-      };
+      within = IsWithinLimits-spent so_far.within spent;
     }
 
 pub content-items-requires : goal.content-items-requires
@@ -195,20 +192,8 @@ walk-returns-clause-passed t c = c.in_ok-deep.ensures.passed
 
 pub content-returns-in_ok-deep-in-List-clause-progress : goal.content-returns-in_ok-deep-in-List-clause-progress
 content-returns-in_ok-deep-in-List-clause-progress t c =
-    let so_far = c.in_ok-deep-in-List.ensures.progress in
-    record {
-      states = AreStates-last (octets_of c.args.self.now.visitor.file) (containers_of c.args.path.now) c.items.new.progress.states.items c.args.object so_far.states;
-      last = so_far.last;
-      ready = so_far.ready;
-      within = so_far.within;
-    }
+    IsProgress-last (octets_of c.args.self.now.visitor.file) (containers_of c.args.path.now) c.args.object c.items.new.progress c.in_ok-deep-in-List.ensures.progress
 
 pub content-returns-in_ok-deep-in-Table-clause-progress : goal.content-returns-in_ok-deep-in-Table-clause-progress
 content-returns-in_ok-deep-in-Table-clause-progress t c =
-    let so_far = c.in_ok-deep-in-Table.ensures.progress in
-    record {
-      states = AreStates-last (octets_of c.args.self.now.visitor.file) (containers_of c.args.path.now) c.items-in-Table.new.progress.states.items c.args.object so_far.states;
-      last = so_far.last;
-      ready = so_far.ready;
-      within = so_far.within;
-    }
+    IsProgress-last (octets_of c.args.self.now.visitor.file) (containers_of c.args.path.now) c.args.object c.items-in-Table.new.progress c.in_ok-deep-in-Table.ensures.progress

@@ -10,13 +10,7 @@ use Rattle.plist_engine.proofs.plan.Plan.scalar.Goals as goal
 
 -- the plan with another memo
 abbrev with_memo : {S H : Type 0} → Plan S H → Memo → Plan S H
-with_memo plan memo = record {
-  hasher = plan.hasher;
-  scalars = plan.scalars;
-  memo = memo;
-  originals = plan.originals;
-  references = plan.references;
-}
+with_memo plan memo = record plan { memo = memo }
 
 pub returns-in-Some-clause-numbers : goal.returns-in-Some-clause-numbers
 returns-in-Some-clause-numbers g c =
